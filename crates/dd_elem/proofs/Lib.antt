@@ -1,0 +1,9 @@
+mod Source
+pub mod Cleaning
+pub mod FileIdForms
+pub mod Keys
+pub mod Known
+pub mod Letters
+pub mod SetIdForm
+pub mod SixDigits
+pub mod UidForm

@@ -1,0 +1,29 @@
+-- A reader over bytes in memory, as its callers see it, and what a read of it does.
+use Rattle.std.specs.Prelude.{ℕ, min, List, ◌++◌, length, take, drop, Option, Result, Ok, Err, true, false}
+use Rattle.dd_elem.specs.Counts.{counts_after}
+use Rattle.dd_elem.specs.Device.{IsLive, IsBeforeFail, passing}
+use Rattle.dd_elem.specs.declared.counts.Counts.{Counts}
+
+-- a reader over bytes in memory
+pub record Source : Type 0 where
+  -- the bytes that it gave, and those that are still to come
+  pub given : List ℕ
+  pub left : List ℕ
+  -- the most bytes that one read gives
+  pub piece : ℕ
+  -- after how many bytes it fails for good
+  pub fails : Option ℕ
+  pub counts : Counts
+
+-- a read of it succeeds
+abbrev pub IsReadable : Source → Type 0
+IsReadable s = IsLive s.counts.calls s.counts.failures × IsBeforeFail s.fails (length s.given)
+
+-- how many bytes the next read gives, with room for `room`
+abbrev pub next_len : Source → ℕ → ℕ
+next_len s room = passing s.fails (length s.given) (min (min room s.piece) (length s.left))
+
+-- it after a read with this result
+abbrev pub after_read : {E : Type 0} → Source → Result ℕ E → Source
+after_read s (Ok n) = record s { given = s.given ++ take n s.left; left = drop n s.left; counts = counts_after s.counts true }
+after_read s (Err e) = record s { counts = counts_after s.counts false }

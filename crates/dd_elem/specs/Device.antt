@@ -1,0 +1,49 @@
+-- How a device counts its calls and its failures, and what one read or write does to it.
+use Rattle.std.specs.Prelude.{◌≡◌, ℕ, ◌+◌, ◌-◌, ◌<◌, ◌≤◌, min, List, [], ◌++◌, length, take, Option, None, Some, Result, Ok, Err, MatchResult, ⊤}
+
+-- the value at which a count stays
+abbrev pub last_count : ℕ
+last_count = 18446744073709551615
+
+-- a count after one more
+abbrev pub counted : ℕ → ℕ
+counted n = min (n + 1) last_count
+
+-- the device failed, where its failures were `old` and are `new`
+abbrev pub HasFailed : ℕ → ℕ → Type 0
+HasFailed old new = counted old ≤ new
+
+-- the device was called and did not fail, where its failures were `old` and are `new`
+abbrev pub HasWorked : ℕ → ℕ → Type 0
+HasWorked old new = (new ≡ old) × (old < last_count)
+
+-- neither the calls nor the failures are at the last value
+abbrev pub IsLive : ℕ → ℕ → Type 0
+IsLive calls failures = (calls < last_count) × (failures < last_count)
+
+-- the bytes that a read put to the front of its buffer
+abbrev pub read_piece : {E : Type 0} → Result ℕ E → List ℕ → List ℕ
+read_piece (Ok n) buf = take n buf
+read_piece (Err e) buf = []
+
+-- a reader that had given some bytes has now given them and then `bytes`
+pub record Gives {S : Type 0} (has_given : S → List ℕ → Type 0) (old new : S) (bytes : List ℕ) : Type 0 where
+  pub then : (before : List ℕ) → has_given old before → has_given new (before ++ bytes)
+
+-- a write took a byte, or there was none to take
+abbrev pub TakesSome : {E : Type 0} → Result ℕ E → List ℕ → Type 0
+TakesSome r bytes = MatchResult r (λ n. n ≡ 0 → length bytes ≡ 0) (λ _. ⊥)
+
+-- a write took nothing where there was a byte to take, or it gave an error
+abbrev pub TakesNone : {E : Type 0} → Result ℕ E → List ℕ → Type 0
+TakesNone r bytes = MatchResult r (λ n. (n ≡ 0) × (0 < length bytes)) (λ _. ⊤)
+
+-- a device that is to fail for good after so many bytes, where that is wanted, has not come there
+abbrev pub IsBeforeFail : Option ℕ → ℕ → Type 0
+IsBeforeFail None passed = ⊤
+IsBeforeFail (Some fails) passed = passed < fails
+
+-- how many of `wanted` bytes such a device lets pass
+abbrev pub passing : Option ℕ → ℕ → ℕ → ℕ
+passing None passed wanted = wanted
+passing (Some fails) passed wanted = min wanted (fails - passed)

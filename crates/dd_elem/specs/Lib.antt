@@ -1,0 +1,14 @@
+pub mod ByteSource
+pub mod Clean
+pub mod Counts
+pub mod Device
+pub mod FileId
+pub mod FileIdForm
+pub mod InPlace
+pub mod Key
+pub mod Ordered
+pub mod SetId
+pub mod Sink
+pub mod Tag
+pub mod Uid
+pub mod Vr

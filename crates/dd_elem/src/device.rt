@@ -1,0 +1,64 @@
+//! Readers and writers that count their calls and their failures.
+ghost use Rattle.std.specs.Prelude.{◌≡◌, ℕ, List, Option, ◌<◌, IsOk, IsErr};
+ghost use Rattle.std.specs.Io.{ReadsAtMost, WritesAtMost};
+ghost use Rattle.std.specs.Io.KnownBytes.{ReadConsumes, WriteAppends};
+ghost use Rattle.dd_elem.specs.Device.{counted, last_count, HasWorked, Gives, read_piece, TakesSome, TakesNone};
+
+use std::io;
+
+/// A reader that counts its calls and its failures, each up to `u64::MAX`. A call of a reader with a
+/// count there fails.
+pub trait Read {
+    // How often `read` was called.
+    ghost calls: { Self → ℕ };
+
+    // How many of these calls failed.
+    ghost failures: { Self → ℕ };
+
+    // The bytes that are still to come, where the reader tells them.
+    ghost remaining: { Self → Option (List ℕ) };
+
+    // The reader has given these bytes since it was made.
+    ghost has_given: { Self → List ℕ → Type 0 };
+
+    /// Reads at most `buf.len()` bytes to the front of `buf`, and answers how many. 0 says that the
+    /// bytes are at their end, unless `buf` is empty.
+    fn read(&mut self, buf: &mut [u8]) -> io::Result<usize>
+        ensures bound { ReadsAtMost result buf.new }
+
+        // Each call counts, and so does each that fails. No count of one that works was at its last value.
+        ensures called { calls self.new ≡ counted (calls self.old) }
+        ensures live { IsOk result → calls self.old < last_count }
+        ensures worked { IsOk result → HasWorked (failures self.old) (failures self.new) }
+        ensures failed { IsErr result → failures self.new ≡ counted (failures self.old) }
+
+        // A failure gives nothing.
+        ensures left { ReadConsumes (remaining self.old) (remaining self.new) result buf.new }
+        ensures gives { Gives has_given self.old self.new (read_piece result buf.new) };
+}
+
+/// A writer that counts its calls and its failures, each up to `u64::MAX`. A call of a writer with a
+/// count there fails, and so does a call that takes nothing of a piece that is not empty.
+pub trait Write {
+    // How often `write` was called.
+    ghost calls: { Self → ℕ };
+
+    // How many of these calls failed.
+    ghost failures: { Self → ℕ };
+
+    // The bytes that the writer holds, where it tells them.
+    ghost contents: { Self → Option (List ℕ) };
+
+    /// Takes some bytes from the front of `bytes`, and answers how many.
+    fn write(&mut self, bytes: &[u8]) -> io::Result<usize>
+        ensures bound { WritesAtMost result bytes.now }
+
+        // Each call counts, and so does each that fails. No count of one that works was at its last value.
+        ensures called { calls self.new ≡ counted (calls self.old) }
+        ensures live { TakesSome result bytes.now → calls self.old < last_count }
+        ensures worked { TakesSome result bytes.now → HasWorked (failures self.old) (failures self.new) }
+        ensures failed { TakesNone result bytes.now → failures self.new ≡ counted (failures self.old) }
+
+        // A failure adds nothing.
+        ensures appends { WriteAppends (contents self.old) (contents self.new) result bytes.now };
+}

@@ -1,0 +1,46 @@
+//! The form that File IDs have, whoever wrote them.
+
+ghost use Rattle.std.specs.Prelude.{◌≡◌, ◌==◌, ◌↔◌, IsTrue, count_by};
+ghost use Rattle.std.specs.List.{list_all, slice_split};
+ghost use Rattle.dd_elem.specs.SetId.{is_id_character};
+ghost use Rattle.dd_elem.specs.FileIdForm.{IsFileId, is_file_id_component, is_file_id_form};
+
+/// Are the bytes a File ID: 1 to 8 components joined by `\`, each of 1 to 8 characters of `A` to `Z`,
+/// `0` to `9` and `_` (PS3.10 sections 8.2 and 8.5)?
+#[tactic(auto, using(crate::proofs::FileIdForms::is_file_id_form_decides), unfolding(crate::specs::FileIdForm::is_file_id_form))]
+pub fn is_file_id(bytes: &[u8]) -> bool
+    ensures form { IsTrue result ↔ IsFileId bytes.now }
+    ensures test { result ≡ is_file_id_form bytes.now }
+{
+    separators(bytes) < 8 && are_components(bytes)
+}
+
+/// How many separators stand in the bytes?
+fn separators(bytes: &[u8]) -> usize
+    ensures { result ≡ count_by (λ byte. byte == 92) bytes.now }
+{
+    bytes.iter().filter(|byte| **byte == b'\\').count()
+}
+
+/// Is each part between separators a component?
+fn are_components(bytes: &[u8]) -> bool
+    ensures { result ≡ list_all is_file_id_component (slice_split (λ byte. byte == 92) bytes.now) }
+{
+    bytes.split(|byte| *byte == b'\\').all(is_component)
+}
+
+/// Are the bytes one component of a File ID?
+fn is_component(bytes: &[u8]) -> bool
+    ensures { result ≡ is_file_id_component bytes.now }
+{
+    (1..=8).contains(&bytes.len()) && are_id_characters(bytes)
+}
+
+/// May each of the bytes stand in a File ID?
+fn are_id_characters(bytes: &[u8]) -> bool
+    ensures { result ≡ list_all is_id_character bytes.now }
+{
+    bytes
+        .iter()
+        .all(|byte| matches!(byte, b'A'..=b'Z' | b'0'..=b'9' | b'_'))
+}

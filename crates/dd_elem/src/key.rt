@@ -1,0 +1,110 @@
+//! Values of elements that are kept.
+
+ghost use Rattle.std.specs.Prelude.{◌≡◌, ◌<◌, ◌↔◌, List, ℕ, length, IfOk};
+ghost use Rattle.dd_elem.specs.Clean.{clean_of};
+ghost use Rattle.dd_elem.specs.Key.{IsKey};
+
+use crate::memory::Memory;
+use crate::ordered::Ordered;
+use crate::padding::clean;
+use std::alloc::Global;
+use std::cmp::Ordering;
+use std::marker::Model;
+use thiserror::Error;
+
+/// A value of an element that is kept: at most 1,024 bytes that do not end in a NUL or a space.
+#[derive(Debug, Drop)]
+pub struct Key {
+    bytes: Vec<u8>,
+}
+
+impl Model for Key {
+    ghost Value = { List ℕ };
+
+    ghost view = { λ key. key.bytes.items };
+
+    ghost invariant = { λ key. IsKey key.bytes.items };
+}
+
+/// No key is made of the bytes.
+#[derive(Clone, Copy, Debug, PartialEq, Eq, Error)]
+pub enum KeyRefused {
+    /// More than 1,024 bytes are left without padding.
+    #[error("a key has at most 1024 bytes")]
+    TooLong,
+    /// A growth was refused.
+    #[error("91 Memory")]
+    Memory,
+}
+
+impl Key {
+    /// How many bytes a key has at most.
+    pub const MAX_LEN: usize = 1024;
+
+    /// The key that these bytes are without their padding (PS3.5 section 6.2). TooLong where more than
+    /// 1,024 bytes are left; Memory where a growth was refused.
+    #[tactic(auto, using(crate::proofs::Keys::IsKey_from_clean_of))]
+    pub fn copy_of(alloc: Global, bytes: &[u8]) -> Result<Key, KeyRefused>
+        ensures value { IfOk result (λ key. key ≡ clean_of bytes.now) }
+        ensures too_long { (result ≡ Err KeyRefused.TooLong) ↔ (1024 < length (clean_of bytes.now)) }
+    {
+        let kept = clean(bytes);
+        if kept.len() > Key::MAX_LEN {
+            return Err(KeyRefused::TooLong);
+        }
+        let mut bytes = Vec::new(alloc);
+        bytes
+            .extend_from_slice(kept)
+            .map_err(|_| KeyRefused::Memory)?;
+        Ok(Key { bytes })
+    }
+
+    /// The bytes, without padding.
+    pub fn as_bytes(&self) -> &[u8]
+        ensures value { result.now ≡ self.now }
+        ensures valid { IsKey self.now }
+    {
+        self.bytes.as_slice()
+    }
+
+    /// An equal key. Memory where a growth was refused.
+    pub fn copy(&self, alloc: Global) -> Result<Key, Memory>
+        ensures value { IfOk result (λ key. key ≡ self.now) }
+    {
+        let mut bytes = Vec::new(alloc);
+        bytes.extend_from_slice(&self.bytes)?;
+        Ok(Key { bytes })
+    }
+}
+
+/// Keys are equal where their bytes are.
+impl PartialEq for Key {
+    ghost use Rattle.std.specs.Str.{bytes_eq};
+    ghost use Rattle.std.proofs.Common.{rules};
+    ghost use Rattle.std.specs.Cmp.Rules.{comparing};
+
+    ghost eq = { bytes_eq };
+
+    ghost laws = { Prim.search (comparing, rules) };
+
+    fn eq(&self, other: &Key) -> bool {
+        self.bytes == other.bytes
+    }
+}
+
+/// The dictionary order of the bytes, in which a proper prefix is smaller.
+impl Ordered for Key {
+    ghost use Rattle.std.proofs.lemmas.Cmp.{nat_list_cmp_total};
+    ghost use Rattle.std.proofs.lemmas.Map.Lookups.{exact_bytes};
+    ghost use Rattle.dd_elem.specs.Ordered.{bytes_cmp};
+
+    ghost order = { bytes_cmp };
+
+    ghost total = { nat_list_cmp_total };
+
+    ghost apart = { exact_bytes };
+
+    fn compare(&self, other: &Self) -> Ordering {
+        self.as_bytes().cmp(other.as_bytes())
+    }
+}

@@ -1,0 +1,39 @@
+//! The values that every layer of `dicomdir` speaks of: tags, value representations, UIDs, file-set
+//! and File IDs, keys and their order, and values without their padding (PS3.5 sections 6, 7.1 and 9,
+//! PS3.10 section 8); and the devices that bytes come from and go to.
+//!
+//! Its one promise: a value of one of its types meets the rule of that type, and no reader or writer
+//! fails without counting it.
+#![tactic(auto)]
+
+mod byte_source;
+mod counts;
+mod device;
+mod file_id;
+mod file_id_form;
+mod in_place;
+mod key;
+mod memory;
+mod ordered;
+mod padding;
+mod set_id;
+mod sink;
+mod tag;
+mod uid;
+mod uid_text;
+mod vr;
+
+pub use byte_source::ByteSource;
+pub use counts::Counts;
+pub use device::{Read, Write};
+pub use file_id::FileId;
+pub use file_id_form::is_file_id;
+pub use key::{Key, KeyRefused};
+pub use memory::Memory;
+pub use ordered::Ordered;
+pub use padding::clean;
+pub use set_id::{BadSetId, SetId};
+pub use sink::Sink;
+pub use tag::Tag;
+pub use uid::{BadUid, Uid};
+pub use vr::Vr;

@@ -1,0 +1,26 @@
+//! Want of memory.
+ghost use Rattle.std.specs.Prelude.{◌≡◌};
+
+use std::alloc::{AllocError, AllocFailed};
+use thiserror::Error;
+
+/// Want of memory: a growth was refused. Fault 91.
+#[derive(Clone, Copy, Debug, PartialEq, Eq, Error)]
+#[error("91 Memory")]
+pub struct Memory;
+
+impl From<AllocError> for Memory {
+    ghost from_gives = { λ _ e. e ≡ record {} };
+
+    fn from(_refused: AllocError) -> Memory {
+        Memory
+    }
+}
+
+impl<T: Drop> From<AllocFailed<T>> for Memory {
+    ghost from_gives = { λ _ e. e ≡ record {} };
+
+    fn from(_refused: AllocFailed<T>) -> Memory {
+        Memory
+    }
+}

@@ -1,0 +1,9 @@
+pub mod Fronts
+pub mod Alone
+pub mod Steps
+pub mod Tags
+pub mod Found
+pub mod Only
+pub mod Whole
+pub mod Heads
+pub mod HeadLaw

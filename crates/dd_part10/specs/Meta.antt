@@ -1,0 +1,42 @@
+-- Group 0002 of a file: the file meta information (PS3.10 section 7.1).
+use Rattle.std.specs.Prelude.{◌≡◌, ◌≢◌, ℕ, List, All, Contains, Option}
+use Rattle.dd_elem.specs.Clean.{IsCleanOf}
+use Rattle.dd_elem.specs.Uid.{IsUid}
+use Rattle.dd_elem.specs.declared.tag.Tag.{Tag}
+use Rattle.dd_elem.specs.declared.vr.Vr.{Vr}
+use Rattle.dd_set.specs.Elements.{Elements, bytes}
+use Rattle.dd_set.specs.Find.{entries_of}
+use Rattle.dd_part10.specs.declared.meta.Meta.{Meta}
+
+-- its group number
+abbrev pub meta_group : ℕ
+meta_group = 0x0002
+
+-- File Meta Information Group Length, Media Storage SOP Class UID, Media Storage SOP Instance UID, Transfer Syntax UID
+abbrev pub group_length_tag : Tag
+group_length_tag = record { group = meta_group; element = 0x0000 }
+
+abbrev pub class_tag : Tag
+class_tag = record { group = meta_group; element = 0x0002 }
+
+abbrev pub instance_tag : Tag
+instance_tag = record { group = meta_group; element = 0x0003 }
+
+abbrev pub transfer_tag : Tag
+transfer_tag = record { group = meta_group; element = 0x0010 }
+
+-- an element with this tag holds bytes, which are this UID and padding
+pub record HasUid (group : Elements) (tag : Tag) (uid : List ℕ) : Type 0 where
+  pub vr : Option Vr
+  pub value : List ℕ
+  pub holds : Contains (entries_of group) (record { tag = tag; vr = vr; content = bytes value })
+  pub is : IsCleanOf value uid
+  pub valid : IsUid uid
+
+-- the elements behind the group length are of group 0002 alone, none is the group length again, and they hold the meta
+-- information
+pub record IsMeta (group : Elements) (meta : Meta) : Type 0 where
+  pub alone : All (λ e. (e.tag.group ≡ meta_group) × (e.tag.element ≢ 0x0000)) (entries_of group)
+  pub class : HasUid group class_tag meta.class
+  pub instance : HasUid group instance_tag meta.instance
+  pub transfer : HasUid group transfer_tag meta.transfer

@@ -1,0 +1,109 @@
+-- Reading a file from left to right, check by check: what it holds, or the first check that fails (PS3.10 section 7).
+use Rattle.std.specs.Prelude.{ℕ, ◌+◌, List, [], ◌∷◌, length, take, drop, Bool, true, ◌&&◌, not, Option, Some, None, Result, Ok, Err, nat_lt, ◌==◌, if◌then◌else◌}
+use Rattle.std.specs.Int.{w32, from_le_bytes}
+use Rattle.std.specs.List.{list_all}
+use Rattle.std.specs.Option.{ok_or}
+use Rattle.dd_elem.specs.Clean.{clean_of}
+use Rattle.dd_elem.specs.Uid.{is_uid}
+use Rattle.dd_elem.specs.declared.tag.Tag.{Tag}
+use Rattle.dd_elem.specs.declared.vr.Vr.TheVariants.{UL}
+use Rattle.dd_set.specs.declared.fault.SetFault.{SetFault}
+use Rattle.dd_set.specs.declared.syntax.Syntax.{Syntax}
+use Rattle.dd_set.specs.declared.syntax.Syntax.TheVariants.{Explicit}
+use Rattle.dd_set.specs.Elements.{Elements, no_elements, element, Content, bytes, items}
+use Rattle.dd_set.specs.Find.{entries_of, find_in}
+use Rattle.dd_set.specs.Reading.{read_all}
+use Rattle.dd_set.specs.Spelling.{header_text}
+use Rattle.dd_part10.specs.declared.fault.FileFault.{FileFault}
+use Rattle.dd_part10.specs.declared.fault.FileFault.TheVariants.{NotPart10, GroupLength, MetaMissing, MetaUid, OtherSyntax}
+use Rattle.dd_part10.specs.declared.fault.FileFault.TheVariants as faults
+use Rattle.dd_part10.specs.declared.meta.Meta.{Meta}
+use Rattle.dd_part10.specs.File.{preamble_length, prefix, group_at, max_group_length}
+use Rattle.dd_part10.specs.Meta.{meta_group, group_length_tag, class_tag, instance_tag, transfer_tag}
+use Rattle.dd_part10.specs.Syntaxes.{syntax_of}
+
+-- what a file holds: its meta information, its data set, and the place of the data set's first byte
+pub record FileParts : Type 0 where
+  pub meta : Meta
+  pub set : Elements
+  pub set_at : ℕ
+
+-- one step and then the next
+infixl 10 ◌>>=◌
+abbrev pub ◌>>=◌ : {A B : Type 0} → Result A FileFault → (A → Result B FileFault) → Result B FileFault
+(Ok x) >>= f = f x
+(Err e) >>= f = Err e
+
+-- what reading a data set gives, with its fault as one of the file
+abbrev pub with_fault : {A : Type 0} → (SetFault → FileFault) → Result A SetFault → Result A FileFault
+with_fault fault (Ok x) = Ok x
+with_fault fault (Err e) = Err (fault e)
+
+-- what stands behind a front that the bytes begin with
+abbrev pub behind : List ℕ → List ℕ → Option (List ℕ)
+behind [] bs = Some bs
+behind (first ∷ front) [] = None
+behind (first ∷ front) (byte ∷ bs) = if first == byte then behind front bs else None
+
+-- ---- the preamble and the prefix
+
+-- what stands behind them
+unfoldable pub behind_prefix : List ℕ → Result (List ℕ) FileFault
+behind_prefix bs = ok_or (behind prefix (drop preamble_length bs)) NotPart10
+
+-- ---- the group length
+
+-- the n bytes that it counts, and the others behind them
+abbrev pub group_and_set : ℕ → List ℕ → Result (List ℕ × List ℕ) FileFault
+group_and_set n bs = if nat_lt max_group_length n then Err GroupLength else (if nat_lt (length bs) n then Err GroupLength else Ok (take n bs, drop n bs))
+
+-- the same behind the group length at the front
+unfoldable pub behind_length : List ℕ → Result (List ℕ × List ℕ) FileFault
+behind_length bs = ok_or (behind (header_text group_length_tag (Some UL) 4) bs) GroupLength
+    >>= λ rest. if nat_lt (length rest) 4 then Err GroupLength else group_and_set (from_le_bytes w32 rest) (drop 4 rest)
+
+-- ---- the meta information
+
+-- the elements are of group 0002 alone, and none is the group length
+abbrev pub is_meta_tag : Tag → Bool
+is_meta_tag tag = (tag.group == meta_group) && not (tag.element == 0x0000)
+
+abbrev pub is_alone : Elements → Bool
+is_alone group = list_all (λ e. is_meta_tag e.tag) (entries_of group)
+
+-- the UID that the first element with a tag holds
+abbrev pub uid_of : Tag → Content → Result (List ℕ) FileFault
+uid_of tag (bytes v) = if is_uid (clean_of v) then Ok (clean_of v) else Err (MetaUid tag)
+uid_of tag (items form parts) = Err (MetaUid tag)
+
+-- the element is there, and holds a UID
+unfoldable pub uid_at : Tag → Elements → Result (List ℕ) FileFault
+uid_at tag group = ok_or (find_in tag group) (MetaMissing tag) >>= λ e. uid_of tag e.content
+
+-- the three UIDs, in turn
+unfoldable pub uids_in : Elements → Result Meta FileFault
+uids_in group = uid_at class_tag group >>= λ class. uid_at instance_tag group >>= λ instance. uid_at transfer_tag group
+    >>= λ transfer. Ok (record { class = class; instance = instance; transfer = transfer })
+
+-- the meta information in the bytes behind the group length
+unfoldable pub meta_in : List ℕ → Result Meta FileFault
+meta_in text = with_fault faults.Meta (read_all Explicit text) >>= λ group. if is_alone group then uids_in group else Err GroupLength
+
+-- ---- the data set
+
+-- the first element, if there is one, is of a higher group
+abbrev pub starts_above : Elements → Bool
+starts_above no_elements = true
+starts_above (element tag vr content rest) = nat_lt meta_group tag.group
+
+-- the data set in the bytes behind group 0002
+unfoldable pub set_in : Syntax → List ℕ → Result Elements FileFault
+set_in syntax text = with_fault faults.Set (read_all syntax text) >>= λ set. if starts_above set then Ok set else Err GroupLength
+
+-- ---- the whole
+
+-- a file
+unfoldable pub read_file : List ℕ → Result FileParts FileFault
+read_file file = behind_prefix file >>= λ rest. behind_length rest >>= λ parts. meta_in parts.0
+    >>= λ meta. ok_or (syntax_of meta.transfer) (OtherSyntax meta.transfer) >>= λ syntax. set_in syntax parts.1
+    >>= λ set. Ok (record { meta = meta; set = set; set_at = group_at + length parts.0 })

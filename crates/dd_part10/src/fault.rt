@@ -1,0 +1,36 @@
+//! Why bytes are no DICOM file.
+
+use dd_elem::{Tag, Uid};
+use dd_set::SetFault;
+use thiserror::Error;
+
+/// The first check that bytes fail as a DICOM file (PS3.10 section 7), in the order of these
+/// variants except where one says otherwise; or want of memory, which is a `Meta` or a `Set` with
+/// `SetFault::Memory`.
+#[derive(Clone, Copy, Debug, PartialEq, Eq, Error)]
+pub enum FileFault {
+    /// There are not 128 bytes and then `DICM`.
+    #[error("21 NotPart10")]
+    NotPart10,
+    /// Behind `DICM` stands no group length (0002,0000), or it is above 65,536 or counts more bytes
+    /// than there are; these bytes hold an element of another group, or (0002,0000) again; or the data
+    /// set behind them begins with group 0002 or a lower one.
+    #[error("22 GroupLength")]
+    GroupLength,
+    /// The element with this tag is not there.
+    #[error("23 MetaMissing {0}")]
+    MetaMissing(Tag),
+    /// The element with this tag holds items, or its value without padding is no UID.
+    #[error("24 MetaUid {0}")]
+    MetaUid(Tag),
+    /// The data set has this transfer syntax, which is none of those that are read.
+    #[error("25 OtherSyntax {0}")]
+    OtherSyntax(Uid),
+    /// The bytes that the group length counts are no data set. This comes before every check of what
+    /// they hold.
+    #[error("26 Meta {0}")]
+    Meta(SetFault),
+    /// The bytes behind group 0002 are no data set.
+    #[error("27 Set {0}")]
+    Set(SetFault),
+}

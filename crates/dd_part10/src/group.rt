@@ -1,0 +1,126 @@
+//! Group 0002: the group length and the meta information.
+
+ghost use Rattle.std.specs.Prelude.{◌≡◌, option_map};
+ghost use Rattle.dd_set.specs.Views.{set_view};
+ghost use Rattle.dd_part10.specs.Gives.{Gives};
+ghost use Rattle.dd_part10.specs.Reading.{behind, behind_length, is_meta_tag, is_alone, uid_at, uids_in, meta_in};
+
+use crate::fault::FileFault;
+use crate::meta::Meta;
+use dd_elem::{Tag, Uid, clean};
+use dd_set::{DataSet, Syntax, Value, parse};
+use std::alloc::Global;
+
+/// The most bytes that group 0002 may have behind its group length.
+const MAX_GROUP_LENGTH: u32 = 65_536;
+
+/// The group of the file meta information.
+pub const META_GROUP: u16 = 0x0002;
+
+/// The place of the first byte behind the group length: 128 bytes of preamble, the prefix of 4 and
+/// the group length of 12 stand before it.
+pub const GROUP_AT: u64 = 144;
+
+/// Media Storage SOP Class UID.
+pub const CLASS: Tag = Tag {
+    group: META_GROUP,
+    element: 0x0002,
+};
+
+/// Media Storage SOP Instance UID.
+pub const INSTANCE: Tag = Tag {
+    group: META_GROUP,
+    element: 0x0003,
+};
+
+/// Transfer Syntax UID.
+pub const TRANSFER: Tag = Tag {
+    group: META_GROUP,
+    element: 0x0010,
+};
+
+/// What stands behind `front`, where the bytes begin with it.
+pub fn behind<'a>(front: &[u8], bytes: &'a [u8]) -> Option<&'a [u8]>
+    ensures { option_map (λ rest. rest.now) result ≡ behind front.now bytes.now }
+{
+    bytes.strip_prefix(front)
+}
+
+/// The bytes that the group length at the front counts, and the others behind them.
+#[tactic(auto, unfolding(crate::specs::Reading::behind_length))]
+pub fn split_group(bytes: &[u8]) -> Result<(&[u8], &[u8]), FileFault>
+    ensures { Gives (λ x. (x.0.now, x.1.now)) result (behind_length bytes.now) }
+{
+    let Some(rest) = behind(b"\x02\0\0\0UL\x04\0", bytes) else {
+        return Err(FileFault::GroupLength);
+    };
+    if rest.len() < 4 {
+        return Err(FileFault::GroupLength);
+    }
+    let (count, rest) = rest.split_at(4);
+    let count = u32::from_le_bytes([count[0], count[1], count[2], count[3]]);
+    if count > MAX_GROUP_LENGTH || rest.len() < count as usize {
+        return Err(FileFault::GroupLength);
+    }
+    Ok(rest.split_at(count as usize))
+}
+
+/// The meta information in the bytes that the group length counts.
+#[tactic(auto, unfolding(crate::specs::Reading::meta_in))]
+pub fn read_meta(alloc: Global, bytes: &[u8]) -> Result<Meta, FileFault>
+    ensures { Gives (λ meta. meta) result (meta_in bytes.now) }
+{
+    let group = parse(alloc, Syntax::Explicit, bytes).map_err(FileFault::Meta)?;
+    if !is_alone(&group) {
+        return Err(FileFault::GroupLength);
+    }
+    uids_in(&group)
+}
+
+/// Are all elements of group 0002, and none a group length?
+fn is_alone(group: &DataSet<'_>) -> bool
+    ensures { result ≡ is_alone (set_view group.now) }
+{
+    group
+        .elements
+        .iter()
+        .all(|element| is_meta_tag(element.tag))
+}
+
+/// Is the tag one of group 0002, and not that of the group length?
+fn is_meta_tag(tag: Tag) -> bool
+    ensures { result ≡ is_meta_tag tag }
+{
+    tag.group == META_GROUP && tag.element != 0x0000
+}
+
+#[tactic(auto, unfolding(crate::specs::Reading::uids_in))]
+fn uids_in(group: &DataSet<'_>) -> Result<Meta, FileFault>
+    ensures { Gives (λ meta. meta) result (uids_in (set_view group.now)) }
+{
+    let class = uid_at(CLASS, group)?;
+    let instance = uid_at(INSTANCE, group)?;
+    let transfer = uid_at(TRANSFER, group)?;
+    Ok(Meta {
+        class,
+        instance,
+        transfer,
+    })
+}
+
+/// The UID that the element with this tag holds.
+#[tactic(auto, unfolding(crate::specs::Reading::uid_at))]
+fn uid_at(tag: Tag, group: &DataSet<'_>) -> Result<Uid, FileFault>
+    ensures { Gives (λ uid. uid) result (uid_at tag (set_view group.now)) }
+{
+    let Some(element) = group.find(tag) else {
+        return Err(FileFault::MetaMissing(tag));
+    };
+    let Value::Bytes(bytes) = element.value else {
+        return Err(FileFault::MetaUid(tag));
+    };
+    match Uid::new(clean(bytes)) {
+        Ok(uid) => Ok(uid),
+        Err(_) => Err(FileFault::MetaUid(tag)),
+    }
+}

@@ -1,0 +1,126 @@
+//! The head of a file: all that stands before its data set.
+
+ghost use Rattle.std.specs.Prelude.{◌≡◌, ℕ, ◌+◌, ◌++◌, ◌≤◌, ◌^◌, List, length, IfOk, Some};
+ghost use Rattle.dd_elem.specs.Uid.{IsUid};
+ghost use Rattle.dd_set.specs.declared.syntax.Syntax.{Syntax};
+ghost use Rattle.dd_set.specs.Elements.{Elements};
+ghost use Rattle.dd_set.specs.Sends.{Sends};
+ghost use Rattle.dd_set.specs.Spelling.{Spells};
+ghost use Rattle.dd_part10.specs.declared.meta.Meta.{Meta};
+ghost use Rattle.dd_part10.specs.File.{prefix, group_length_text, StartsAbove, IsFile};
+ghost use Rattle.dd_part10.specs.Head.{head_text, group_text, uids_text, uid_text, version_text, padded, padding_of};
+ghost use Rattle.dd_part10.specs.Syntaxes.{syntax_of};
+
+use crate::group::{CLASS, GROUP_AT, INSTANCE, META_GROUP, TRANSFER};
+use crate::meta::Meta;
+use byteorder::{ByteOrder, LittleEndian};
+use dd_elem::{Tag, Uid, Vr, Write};
+use dd_set::{WriteFault, send, send_header};
+
+/// Implementation Class UID.
+const IMPLEMENTATION: Tag = Tag {
+    group: META_GROUP,
+    element: 0x0012,
+};
+
+/// The Implementation Class UID of this software.
+const IMPLEMENTATION_UID: &[u8] = b"2.25.604472133179352588043346";
+
+/// How many bytes the version, the headers of three UIDs and the Implementation Class UID have.
+const FIXED_SIZE: u32 = 14 + 3 * 8 + 38;
+
+/// How many bytes the head of a file with this meta information has.
+pub fn head_size(meta: &Meta) -> u64
+    ensures { result ≡ length (head_text meta.now) }
+{
+    GROUP_AT + u64::from(group_size(meta))
+}
+
+/// Sends the head of a file with this meta information, and answers how many bytes it has: 128 bytes
+/// of zeros, `DICM`, the group length, the version, the three UIDs and the Implementation Class UID
+/// (PS3.10 section 7.1). 12 Write where the writer failed, with how many of the bytes went before.
+pub fn write_head<W: Write>(meta: &Meta, writer: &mut W) -> Result<u64, WriteFault>
+    ensures { Sends (head_text meta.now) 0 result
+        (W.contents writer.old) (W.contents writer.new)
+        (W.failures writer.old) (W.failures writer.new) }
+{
+    let sent = send(&[0; 128], writer, 0)?;
+    let sent = send(&group_start(group_size(meta)), writer, sent)?;
+    send_uids(meta, writer, sent)
+}
+
+/// A head with a data set behind it is a file with its meta information and that data set. This
+/// states a law, and does nothing.
+pub fn head_makes_file()
+    ensures { (meta : Meta) (syntax : Syntax) (set : Elements) (text : List ℕ)
+        → IsUid meta.class → IsUid meta.instance → IsUid meta.transfer → syntax_of meta.transfer ≡ Some syntax
+        → Spells syntax set text → StartsAbove set → IsFile (head_text meta ++ text) meta set (length (head_text meta)) }
+{}
+
+/// How many bytes of group 0002 stand behind the group length.
+#[tactic(auto, using(crate::proofs::Heads::length_group))]
+fn group_size(meta: &Meta) -> u32
+    ensures exact { result ≡ length (group_text meta.now) }
+    ensures few { result ≤ 268 }
+{
+    FIXED_SIZE
+        + padded_size(&meta.class)
+        + padded_size(&meta.instance)
+        + padded_size(&meta.transfer)
+}
+
+/// How many bytes the value of a UID has, padding included.
+#[tactic(auto, using(crate::proofs::Heads::length_padded))]
+fn padded_size(uid: &Uid) -> u32
+    ensures exact { result ≡ length (padded uid.now) }
+    ensures few { result ≤ 64 }
+{
+    let size = uid.as_bytes().len();
+    (size + size % 2) as u32
+}
+
+/// What stands between the preamble and the UIDs.
+fn group_start(count: u32) -> [u8; 30]
+    ensures { result ≡ prefix ++ (group_length_text count ++ version_text) }
+{
+    let mut start = *b"DICM\x02\0\0\0UL\x04\0\0\0\0\0\x02\0\x01\0OB\0\0\x02\0\0\0\0\x01";
+    LittleEndian::write_u32(&mut start[12..], count);
+    start
+}
+
+/// Sends the UIDs of group 0002.
+fn send_uids<W: Write>(meta: &Meta, writer: &mut W, sent: u64) -> Result<u64, WriteFault>
+    requires { sent ≤ 2 ^ 16 }
+    ensures { Sends (uids_text meta.now) sent result
+        (W.contents writer.old) (W.contents writer.new)
+        (W.failures writer.old) (W.failures writer.new) }
+{
+    let sent = send_uid(CLASS, meta.class.as_bytes(), writer, sent)?;
+    let sent = send_uid(INSTANCE, meta.instance.as_bytes(), writer, sent)?;
+    let sent = send_uid(TRANSFER, meta.transfer.as_bytes(), writer, sent)?;
+    send_uid(IMPLEMENTATION, IMPLEMENTATION_UID, writer, sent)
+}
+
+/// Sends an element with a UID.
+fn send_uid<W: Write>(tag: Tag, uid: &[u8], writer: &mut W, sent: u64) -> Result<u64, WriteFault>
+    requires short { length uid.now ≤ 64 }
+    requires fits { sent ≤ 2 ^ 32 }
+    ensures sends { Sends (uid_text tag uid.now) sent result
+        (W.contents writer.old) (W.contents writer.new)
+        (W.failures writer.old) (W.failures writer.new) }
+    ensures few { IfOk result (λ n. n ≤ sent + 73) }
+{
+    let padding = padding_for(uid);
+    let value_length = (uid.len() + padding.len()) as u32;
+    let sent = send_header(tag, Vr::UI, value_length, writer, sent)?;
+    let sent = send(uid, writer, sent)?;
+    send(padding, writer, sent)
+}
+
+/// What is put behind a UID, so that its length is even (PS3.5 section 9.1).
+fn padding_for(uid: &[u8]) -> &'static [u8]
+    ensures exact { result.now ≡ padding_of (length uid.now) }
+    ensures few { length result.now ≤ 1 }
+{
+    if uid.len() % 2 == 1 { b"\0" } else { b"" }
+}

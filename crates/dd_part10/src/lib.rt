@@ -1,0 +1,18 @@
+//! DICOM files: the preamble, the prefix `DICM`, group 0002 and the data set (PS3.10 section 7).
+//!
+//! Its one promise: what is read as a file is one, what is one is read, and a refusal names the first
+//! check that the bytes fail. A head that is written is the head of a file with its meta information.
+#![tactic(auto)]
+
+mod fault;
+mod file;
+mod group;
+mod head;
+mod meta;
+mod reading;
+
+pub use fault::FileFault;
+pub use file::DicomFile;
+pub use head::{head_makes_file, head_size, write_head};
+pub use meta::Meta;
+pub use reading::parse_file;

@@ -1,0 +1,32 @@
+//! The file meta information.
+
+use dd_elem::Uid;
+use dd_set::Syntax;
+
+/// What group 0002 of a file says of its data set (PS3.10 section 7.1).
+#[derive(Clone, Copy, Debug, PartialEq, Eq)]
+pub struct Meta {
+    /// Media Storage SOP Class UID (0002,0002): what kind of object the data set is.
+    pub class: Uid,
+    /// Media Storage SOP Instance UID (0002,0003): which object it is.
+    pub instance: Uid,
+    /// Transfer Syntax UID (0002,0010): how it is encoded.
+    pub transfer: Uid,
+}
+
+impl Meta {
+    ghost use Rattle.std.specs.Prelude.{◌≡◌};
+    ghost use Rattle.dd_part10.specs.Syntaxes.{syntax_of};
+
+    /// The syntax of the data set, and None where the transfer syntax is none of those that are read
+    /// (PS3.5 annex A.1 and A.2).
+    pub fn syntax(&self) -> Option<Syntax>
+        ensures { result ≡ syntax_of self.now.transfer }
+    {
+        match self.transfer.as_bytes() {
+            b"1.2.840.10008.1.2" => Some(Syntax::Implicit),
+            b"1.2.840.10008.1.2.1" => Some(Syntax::Explicit),
+            _ => None,
+        }
+    }
+}

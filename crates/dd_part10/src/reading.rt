@@ -1,0 +1,91 @@
+//! Reading a DICOM file from its bytes.
+
+ghost use Rattle.std.specs.Prelude.{◌≡◌, ℕ, ◌<◌, ◌^◌, IfOk, Ok, length};
+ghost use Rattle.dd_set.specs.Elements.{Elements};
+ghost use Rattle.dd_set.specs.Views.{set_view};
+ghost use Rattle.dd_part10.specs.declared.meta.Meta.{Meta};
+ghost use Rattle.dd_part10.specs.File.{IsFile};
+ghost use Rattle.dd_part10.specs.Gives.{Gives, file_view};
+ghost use Rattle.dd_part10.specs.Reading.{behind_prefix, set_in, starts_above, read_file};
+
+use crate::fault::FileFault;
+use crate::file::DicomFile;
+use crate::group::{GROUP_AT, META_GROUP, behind, read_meta, split_group};
+use dd_set::{DataSet, Syntax, parse};
+use std::alloc::Global;
+
+const PREAMBLE_LENGTH: usize = 128;
+
+/// The DICOM file that the bytes are (PS3.10 section 7): 128 bytes of any preamble, `DICM`, the group
+/// length (0002,0000) with at most 65,536, group 0002 in Explicit VR with the UIDs of `Meta`, and a
+/// data set above group 0002 in the transfer syntax that they name. Otherwise the first check that the
+/// bytes fail, which `FileFault` names; or `Meta` or `Set` with `SetFault::Memory`, where a growth was
+/// refused.
+pub fn parse_file<'a>(alloc: Global, bytes: &'a [u8]) -> Result<DicomFile<'a>, FileFault>
+    // What is answered is a file.
+    ensures found { IfOk result (λ f. IsFile bytes.now f.meta (set_view f.set) f.set_at) }
+    // A file is answered, unless memory runs out.
+    ensures only { (meta : Meta) (set : Elements) (set_at : ℕ) → IsFile bytes.now meta set set_at
+        → Gives file_view result (Ok (record { meta = meta; set = set; set_at = set_at })) }
+    // A refusal for other than memory is the first check that fails.
+    ensures fault { Gives file_view result (read_file bytes.now) }
+{
+    whole(alloc, bytes)
+}
+
+/// The file, by the reading function alone.
+#[tactic(auto, unfolding(crate::specs::Reading::read_file))]
+fn whole<'a>(alloc: Global, bytes: &'a [u8]) -> Result<DicomFile<'a>, FileFault>
+    ensures exact { Gives file_view result (read_file bytes.now) }
+    ensures room { length bytes.now < 2 ^ 64 }
+{
+    let rest = behind_prefix(bytes)?;
+    let (group, rest) = split_group(rest)?;
+    let meta = read_meta(alloc, group)?;
+    let Some(syntax) = meta.syntax() else {
+        return Err(FileFault::OtherSyntax(meta.transfer));
+    };
+    let set = read_set(alloc, syntax, rest)?;
+    Ok(DicomFile {
+        meta,
+        set,
+        set_at: GROUP_AT + group.len() as u64,
+    })
+}
+
+/// What stands behind the preamble and the prefix.
+#[tactic(auto, unfolding(crate::specs::Reading::behind_prefix))]
+fn behind_prefix(bytes: &[u8]) -> Result<&[u8], FileFault>
+    ensures exact { Gives (λ rest. rest.now) result (behind_prefix bytes.now) }
+    ensures room { length bytes.now < 2 ^ 64 }
+{
+    if bytes.len() < PREAMBLE_LENGTH {
+        return Err(FileFault::NotPart10);
+    }
+    match behind(b"DICM", &bytes[PREAMBLE_LENGTH..]) {
+        Some(rest) => Ok(rest),
+        None => Err(FileFault::NotPart10),
+    }
+}
+
+/// The data set that follows group 0002.
+#[tactic(auto, unfolding(crate::specs::Reading::set_in))]
+fn read_set<'a>(alloc: Global, syntax: Syntax, bytes: &'a [u8]) -> Result<DataSet<'a>, FileFault>
+    ensures { Gives set_view result (set_in syntax bytes.now) }
+{
+    let set = parse(alloc, syntax, bytes).map_err(FileFault::Set)?;
+    if !starts_above(&set) {
+        return Err(FileFault::GroupLength);
+    }
+    Ok(set)
+}
+
+/// Is the first element, if there is one, of a higher group than 0002?
+fn starts_above(set: &DataSet<'_>) -> bool
+    ensures { result ≡ starts_above (set_view set.now) }
+{
+    match set.elements.first() {
+        None => true,
+        Some(first) => first.tag.group > META_GROUP,
+    }
+}

@@ -1,0 +1,17 @@
+pub mod Again
+pub mod Before
+pub mod Counting
+pub mod Entries
+pub mod Even
+pub mod Fronts
+pub mod Going
+pub mod HeaderLaws
+pub mod Laws
+pub mod Loops
+pub mod Looser
+pub mod Parts
+pub mod Places
+pub mod Seen
+pub mod Sound
+pub mod Steps
+pub mod Taken

@@ -1,0 +1,11 @@
+pub mod Bytes
+pub mod Elements
+pub mod Find
+pub mod Gives
+pub mod Places
+pub mod Reading
+pub mod Sends
+pub mod Single
+pub mod Spelling
+pub mod Starts
+pub mod Views

@@ -1,0 +1,137 @@
+-- The bytes of a data set, and which data sets have bytes (PS3.5 sections 6.2, 7.1 and 7.5).
+use Rattle.std.specs.Prelude.{◌≡◌, ◌≢◌, ℕ, zero, suc, ◌+◌, ◌^◌, ◌<◌, ◌≤◌, ◌%◌, List, [], ◌∷◌, ◌++◌, length, Bool, true, false, Option, Some, None, IsSomeAnd, if◌then◌else◌}
+use Rattle.byteorder.specs.Endian.{little_bytes}
+use Rattle.dd_elem.specs.declared.tag.Tag.{Tag}
+use Rattle.dd_elem.specs.declared.vr.Vr.{Vr}
+use Rattle.dd_elem.specs.declared.vr.Vr.TheVariants.{SQ, UN}
+use Rattle.dd_elem.specs.Tag.{number_of}
+use Rattle.dd_elem.specs.Vr.{letters_of, is_long_of}
+use Rattle.dd_set.specs.declared.syntax.Length.{Length}
+use Rattle.dd_set.specs.declared.syntax.Length.TheVariants.{Defined, Undefined}
+use Rattle.dd_set.specs.declared.syntax.Syntax.{Syntax}
+use Rattle.dd_set.specs.declared.syntax.Syntax.TheVariants.{Explicit, Implicit}
+use Rattle.dd_set.specs.Elements.{Elements, no_elements, element, Content, bytes, items, Items, no_items, item}
+
+-- ---- the bytes
+
+-- what stands in place of a length that is not defined
+abbrev pub undefined_length : ℕ
+undefined_length = 0xffffffff
+
+-- the group of items and delimiters, which no element has
+abbrev pub delimiter_group : ℕ
+delimiter_group = 0xfffe
+
+-- a tag: its two numbers, little endian
+abbrev pub tag_text : Tag → List ℕ
+tag_text t = little_bytes 2 t.group ++ little_bytes 2 t.element
+
+-- what a header has behind the tag. Implicit: a length of 32 bits. Explicit: two letters and a length, of 16 bits, or
+-- behind two reserved bytes of 32.
+abbrev pub shape_text : Option Vr → ℕ → List ℕ
+shape_text None n = little_bytes 4 n
+shape_text (Some vr) n = letters_of vr ++ (if is_long_of vr then 0 ∷ 0 ∷ little_bytes 4 n else little_bytes 2 n)
+
+-- a whole header
+abbrev pub header_text : Tag → Option Vr → ℕ → List ℕ
+header_text t vr n = tag_text t ++ shape_text vr n
+
+-- the tag of an item (FFFE,E000), the end of an item (FFFE,E00D) and the end of a sequence (FFFE,E0DD), both of length 0
+abbrev pub item_tag_text : List ℕ
+item_tag_text = 0xfe ∷ 0xff ∷ 0x00 ∷ 0xe0 ∷ []
+
+abbrev pub item_end_text : List ℕ
+item_end_text = 0xfe ∷ 0xff ∷ 0x0d ∷ 0xe0 ∷ 0 ∷ 0 ∷ 0 ∷ 0 ∷ []
+
+abbrev pub sequence_end_text : List ℕ
+sequence_end_text = 0xfe ∷ 0xff ∷ 0xdd ∷ 0xe0 ∷ 0 ∷ 0 ∷ 0 ∷ 0 ∷ []
+
+-- the length that a header gives to these contents, and the contents with the mark that ends them where they want one
+abbrev pub length_of : Length → List ℕ → ℕ
+length_of Defined text = length text
+length_of Undefined text = undefined_length
+
+abbrev pub closed : Length → List ℕ → List ℕ → List ℕ
+closed Defined mark text = text
+closed Undefined mark text = text ++ mark
+
+abbrev mutual
+  -- the elements of a set, one after the other: tag, then the rest of the header and the value
+  pub elements_text : Elements → List ℕ
+  elements_text no_elements = []
+  elements_text (element tag vr content rest) = tag_text tag ++ (content_text vr content ++ elements_text rest)
+
+  -- the header behind its tag, and the value
+  pub content_text : Option Vr → Content → List ℕ
+  content_text vr (bytes v) = shape_text vr (length v) ++ v
+  content_text vr (items form parts) = shape_text vr (length_of form (items_text parts)) ++ closed form sequence_end_text (items_text parts)
+
+  -- the items of a sequence, one after the other
+  pub items_text : Items → List ℕ
+  items_text no_items = []
+  items_text (item form set rest) = item_tag_text ++ (little_bytes 4 (length_of form (elements_text set)) ++ (closed form item_end_text (elements_text set) ++ items_text rest))
+
+-- ---- which sets have bytes
+
+-- a length of an item or a sequence fits 32 bits and is not the mark of an undefined one
+abbrev pub FitsLong : Length → List ℕ → Type 0
+FitsLong Defined text = length text < undefined_length
+FitsLong Undefined text = Unit {0}
+
+-- the lengths that a header has room for are below this
+abbrev pub length_limit : Option Vr → ℕ
+length_limit None = undefined_length
+length_limit (Some vr) = if is_long_of vr then undefined_length else 2 ^ 16
+
+-- The syntax in which the items of a sequence are spelled, where an element of this value representation may hold a
+-- sequence of this form. Explicit: SQ, of either form, and UN of undefined length, whose items are Implicit. Implicit: of
+-- undefined length alone.
+abbrev pub explicit_item_syntax : Vr → Length → Option Syntax
+explicit_item_syntax SQ form = Some Explicit
+explicit_item_syntax UN Undefined = Some Implicit
+explicit_item_syntax UN Defined = None
+explicit_item_syntax _ form = None
+
+abbrev pub item_syntax : Syntax → Option Vr → Length → Option Syntax
+item_syntax Explicit (Some vr) form = explicit_item_syntax vr form
+item_syntax Explicit None form = None
+item_syntax Implicit None Undefined = Some Implicit
+item_syntax Implicit None Defined = None
+item_syntax Implicit (Some vr) form = None
+
+-- an element of this value representation may hold bytes. Explicit: of each but SQ. Implicit: where there is none.
+abbrev pub HoldsBytes : Syntax → Option Vr → Type 0
+HoldsBytes Explicit (Some vr) = vr ≢ SQ
+HoldsBytes Explicit None = ⊥
+HoldsBytes Implicit None = Unit {0}
+HoldsBytes Implicit (Some vr) = ⊥
+
+-- how deep items may nest: 32 levels
+abbrev pub max_levels : ℕ
+max_levels = 32
+
+abbrev mutual
+  -- These are elements of a set in this syntax: no tag is below the number `low`, tags rise strictly, none is of the
+  -- group of delimiters, and below them items nest in at most so many levels.
+  pub AreElements : Syntax → ℕ → ℕ → Elements → Type 0
+  AreElements syntax levels low no_elements = Unit {0}
+  AreElements syntax levels low (element tag vr content rest) =
+      (low ≤ number_of tag) × (tag.group < 2 ^ 16) × (tag.element < 2 ^ 16) × (tag.group ≢ delimiter_group)
+      × IsContent syntax levels vr content × AreElements syntax levels (number_of tag + 1) rest
+
+  -- a value: bytes of even length, or items, with a length that fits
+  pub IsContent : Syntax → ℕ → Option Vr → Content → Type 0
+  IsContent syntax levels vr (bytes v) = HoldsBytes syntax vr × (length v % 2 ≡ 0) × (length v < length_limit vr)
+  IsContent syntax levels vr (items form parts) = IsSomeAnd (item_syntax syntax vr form) (λ inner. AreItems inner levels parts) × FitsLong form (items_text parts)
+
+  -- items, each one level further in
+  pub AreItems : Syntax → ℕ → Items → Type 0
+  AreItems syntax levels no_items = Unit {0}
+  AreItems syntax zero (item form set rest) = ⊥
+  AreItems syntax (suc levels) (item form set rest) = AreElements syntax levels 0 set × FitsLong form (elements_text set) × AreItems syntax (suc levels) rest
+
+-- The bytes spell the set in this syntax. Both length forms are part of the set, so it has one spelling at most.
+pub record Spells (syntax : Syntax) (set : Elements) (text : List ℕ) : Type 0 where
+  pub valid : AreElements syntax max_levels 0 set
+  pub whole : text ≡ elements_text set
+  pub fits : length text < 2 ^ 64

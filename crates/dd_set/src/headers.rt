@@ -1,0 +1,113 @@
+//! What stands before a value, and which values may stand there.
+
+ghost use Rattle.std.specs.Prelude.{◌≡◌, ◌≤◌, ◌<◌, ◌^◌, ◌↔◌, ℕ, length, IsTrue, IsSome, Some, None, true, false};
+ghost use Rattle.dd_elem.specs.Vr.{is_long_of};
+ghost use Rattle.dd_set.specs.Spelling.{item_syntax, length_limit, HoldsBytes, shape_text, header_text};
+
+use crate::syntax::{Length, Syntax};
+use byteorder::{ByteOrder, LittleEndian};
+use dd_elem::{Tag, Vr};
+
+/// What stands in place of a length that is not defined.
+pub const UNDEFINED_LENGTH: u32 = 0xffff_ffff;
+
+/// The group of items and delimiters, which no element has.
+pub const DELIMITER_GROUP: u16 = 0xfffe;
+
+/// How deep items may nest.
+pub const MAX_LEVELS: u32 = 32;
+
+/// The tag that an item begins with (PS3.5 section 7.5).
+pub const ITEM: Tag = Tag {
+    group: 0xfffe,
+    element: 0xe000,
+};
+
+/// The end of an item whose length is undefined: a tag and the length 0.
+pub const ITEM_END: [u8; 8] = [0xfe, 0xff, 0x0d, 0xe0, 0, 0, 0, 0];
+
+/// The end of a sequence whose length is undefined.
+pub const SEQUENCE_END: [u8; 8] = [0xfe, 0xff, 0xdd, 0xe0, 0, 0, 0, 0];
+
+/// The syntax of the items that a sequence of this form has under this value representation, where
+/// it may stand there (PS3.5 sections 6.2.2 and 7.5.1).
+pub fn item_syntax(syntax: Syntax, vr: Option<Vr>, form: Length) -> Option<Syntax>
+    ensures { result ≡ item_syntax syntax vr form }
+{
+    match (syntax, vr, form) {
+        (Syntax::Explicit, Some(Vr::SQ), _) => Some(Syntax::Explicit),
+        (Syntax::Explicit, Some(Vr::UN), Length::Undefined) => Some(Syntax::Implicit),
+        (Syntax::Explicit, _, _) => None,
+        (Syntax::Implicit, None, Length::Undefined) => Some(Syntax::Implicit),
+        (Syntax::Implicit, _, _) => None,
+    }
+}
+
+/// Whether bytes may stand under this value representation.
+pub fn holds_bytes(syntax: Syntax, vr: Option<Vr>) -> bool
+    ensures { IsTrue result ↔ HoldsBytes syntax vr }
+{
+    match (syntax, vr) {
+        (Syntax::Explicit, Some(vr)) => vr != Vr::SQ,
+        (Syntax::Explicit, None) => false,
+        (Syntax::Implicit, vr) => vr.is_none(),
+    }
+}
+
+/// The lengths that a header of this value representation has room for are below this.
+pub fn length_limit(vr: Option<Vr>) -> u64
+    ensures { result ≡ length_limit vr }
+{
+    match vr {
+        Some(vr) if !vr.is_long() => 0x1_0000,
+        _ => u64::from(UNDEFINED_LENGTH),
+    }
+}
+
+/// How many bytes a header of this value representation has behind the tag.
+pub fn shape_size(vr: Option<Vr>) -> u64
+    ensures exact { (n : ℕ) → result ≡ length (shape_text vr n) }
+    ensures few { result ≤ 8 }
+{
+    match vr {
+        Some(vr) if vr.is_long() => 8,
+        _ => 4,
+    }
+}
+
+/// A tag and a length of 32 bits: a header in Implicit VR, and that of an item or a delimiter.
+pub fn plain_header(tag: Tag, value_length: u32) -> [u8; 8]
+    ensures { result ≡ header_text tag None value_length }
+{
+    let mut header = [0; 8];
+    LittleEndian::write_u16(&mut header, tag.group);
+    LittleEndian::write_u16(&mut header[2..], tag.element);
+    LittleEndian::write_u32(&mut header[4..], value_length);
+    header
+}
+
+/// A header in Explicit VR with a length of 16 bits.
+pub fn short_header(tag: Tag, vr: Vr, value_length: u16) -> [u8; 8]
+    requires { is_long_of vr ≡ false }
+    ensures { result ≡ header_text tag (Some vr) value_length }
+{
+    let mut header = [0; 8];
+    LittleEndian::write_u16(&mut header, tag.group);
+    LittleEndian::write_u16(&mut header[2..], tag.element);
+    header[4..6].copy_from_slice(&vr.letters());
+    LittleEndian::write_u16(&mut header[6..], value_length);
+    header
+}
+
+/// A header in Explicit VR with two reserved bytes and a length of 32 bits.
+pub fn long_header(tag: Tag, vr: Vr, value_length: u32) -> [u8; 12]
+    requires { is_long_of vr ≡ true }
+    ensures { result ≡ header_text tag (Some vr) value_length }
+{
+    let mut header = [0; 12];
+    LittleEndian::write_u16(&mut header, tag.group);
+    LittleEndian::write_u16(&mut header[2..], tag.element);
+    header[4..6].copy_from_slice(&vr.letters());
+    LittleEndian::write_u32(&mut header[8..], value_length);
+    header
+}

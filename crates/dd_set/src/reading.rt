@@ -1,0 +1,261 @@
+//! Reading a data set from its bytes.
+
+ghost use Rattle.std.specs.Prelude.{◌≡◌, ◌+◌, ◌<◌, ◌≤◌, length, IfOk, Ok, OnSome, option_map};
+ghost use Rattle.dd_set.specs.Elements.{Elements};
+ghost use Rattle.dd_set.specs.Gives.{Gives};
+ghost use Rattle.dd_set.specs.Places.{at_view, shape_view};
+ghost use Rattle.dd_set.specs.Reading.{item_reader, sequence_with, set_with, content_at, body_at, element_at, item_at, part_at, read_all};
+ghost use Rattle.dd_set.specs.Spelling.{Spells};
+ghost use Rattle.dd_set.specs.Views.{set_view, element_view, value_view, item_view, items_view};
+
+use crate::cursor::{Cursor, Shape, ends_sequence, ends_set, header_shape, is_item, long_in, tag_in};
+use crate::fault::SetFault;
+use crate::headers::{DELIMITER_GROUP, MAX_LEVELS, UNDEFINED_LENGTH, item_syntax};
+use crate::set::{DataSet, Element, Item, Value};
+use crate::syntax::{Length, Syntax};
+use std::alloc::Global;
+
+/// The value behind a header.
+#[cycle(parser)]
+#[tactic(auto, unfolding(crate::specs::Reading::content_at))]
+fn content<'a>(
+    alloc: Global,
+    levels: u32,
+    syntax: Syntax,
+    shape: Shape,
+    at: Cursor<'a>,
+) -> Result<(Value<'a>, Cursor<'a>), SetFault>
+    ensures exact { Gives (λ x. (value_view x.0, at_view x.1)) result
+        (content_at (sequence_with (item_reader levels)) syntax (shape_view shape) (at_view at.entry)) }
+    ensures shorter { IfOk result (λ x. length x.1.rest.now ≤ length at.entry.rest.now) }
+{
+    let n = u64::from(shape.length);
+    if shape.length == UNDEFINED_LENGTH {
+        let Some(inner) = item_syntax(syntax, shape.vr, Length::Undefined) else {
+            return Err(SetFault::UndefinedLength);
+        };
+        let (items, end) = sequence(alloc, levels, inner, Length::Undefined, at)?;
+        let length = Length::Undefined;
+        return Ok((Value::Items { length, items }, end));
+    }
+    if shape.length % 2 == 1 {
+        return Err(SetFault::OddLength);
+    }
+    if at.leaves_fewer(n) {
+        return Err(SetFault::Overrun);
+    }
+    let Some(inner) = item_syntax(syntax, shape.vr, Length::Defined) else {
+        let (bytes, end) = at.take(n)?;
+        return Ok((Value::Bytes(bytes), end));
+    };
+    let (items, end) = sequence(alloc, levels, inner, Length::Defined, at.within(n))?;
+    let length = Length::Defined;
+    Ok((Value::Items { length, items }, at.behind(n, end)))
+}
+
+/// An element whose header begins with `head`, with a tag not below the number `low`.
+#[cycle(parser)]
+#[tactic(auto, unfolding(crate::specs::Reading::body_at))]
+fn body<'a>(
+    alloc: Global,
+    levels: u32,
+    syntax: Syntax,
+    low: u64,
+    head: &[u8],
+    at: Cursor<'a>,
+) -> Result<(Element<'a>, Cursor<'a>), SetFault>
+    requires { length head.now ≡ 8 }
+    ensures exact { Gives (λ x. (element_view x.0, at_view x.1)) result
+        (body_at (sequence_with (item_reader levels)) syntax low head.now (at_view at.entry)) }
+    ensures shorter { IfOk result (λ x. length x.1.rest.now ≤ length at.entry.rest.now) }
+{
+    let tag = tag_in(head);
+    if tag.group == DELIMITER_GROUP {
+        return Err(SetFault::UnexpectedTag);
+    }
+    if u64::from(tag.number()) < low {
+        return Err(SetFault::Order);
+    }
+    let (shape, at) = header_shape(syntax, head, at)?;
+    let vr = shape.vr;
+    let (value, at) = content(alloc, levels, syntax, shape, at)?;
+    Ok((Element { tag, vr, value }, at))
+}
+
+/// The next element of a set, or None at its end.
+#[cycle(parser)]
+#[tactic(auto, unfolding(crate::specs::Reading::element_at))]
+fn element<'a>(
+    alloc: Global,
+    levels: u32,
+    syntax: Syntax,
+    form: Length,
+    low: u64,
+    at: Cursor<'a>,
+) -> Result<(Option<Element<'a>>, Cursor<'a>), SetFault>
+    ensures exact { Gives (λ x. (option_map element_view x.0, at_view x.1)) result
+        (element_at (sequence_with (item_reader levels)) syntax form low (at_view at.entry)) }
+    ensures shorter { IfOk result (λ x. OnSome x.0 (length x.1.rest.now < length at.entry.rest.now)) }
+    ensures not_longer { IfOk result (λ x. length x.1.rest.now ≤ length at.entry.rest.now) }
+{
+    if at.is_over(form) {
+        return Ok((None, at));
+    }
+    let (head, at) = at.take(8)?;
+    if ends_set(form, head) {
+        if long_in(head) != 0 {
+            return Err(SetFault::BadDelimiter);
+        }
+        return Ok((None, at));
+    }
+    let (element, at) = body(alloc, levels, syntax, low, head, at)?;
+    Ok((Some(element), at))
+}
+
+/// The elements of a set, to its end.
+#[cycle(parser)]
+fn set<'a>(
+    alloc: Global,
+    levels: u32,
+    syntax: Syntax,
+    form: Length,
+    at: Cursor<'a>,
+) -> Result<(DataSet<'a>, Cursor<'a>), SetFault>
+    ensures exact { Gives (λ x. (set_view x.0, at_view x.1)) result
+        (set_with (item_reader levels) syntax form (at_view at.entry)) }
+    ensures shorter { IfOk result (λ x. length x.1.rest.now ≤ length at.entry.rest.now) }
+{
+    let mut elements = Vec::new(alloc);
+    let mut place = at;
+    let mut low = 0u64;
+    'elements: loop {
+        let (found, behind) = element(alloc, levels, syntax, form, low, place)?;
+        place = behind;
+        match found {
+            None => return Ok((DataSet { elements }, place)),
+            Some(next) => {
+                low = u64::from(next.tag.number()) + 1;
+                elements.push(next)?;
+            }
+        }
+    }
+}
+
+/// The next item of a sequence, or None at its end.
+#[cycle(parser)]
+#[tactic(auto, unfolding(crate::specs::Reading::item_at))]
+fn item<'a>(
+    alloc: Global,
+    levels: u32,
+    syntax: Syntax,
+    form: Length,
+    at: Cursor<'a>,
+) -> Result<(Option<Item<'a>>, Cursor<'a>), SetFault>
+    ensures exact { Gives (λ x. (option_map item_view x.0, at_view x.1)) result
+        (item_at (item_reader levels) syntax form (at_view at.entry)) }
+    ensures shorter { IfOk result (λ x. OnSome x.0 (length x.1.rest.now < length at.entry.rest.now)) }
+    ensures not_longer { IfOk result (λ x. length x.1.rest.now ≤ length at.entry.rest.now) }
+{
+    if at.is_over(form) {
+        return Ok((None, at));
+    }
+    let (head, at) = at.take(8)?;
+    if ends_sequence(form, head) {
+        if long_in(head) != 0 {
+            return Err(SetFault::BadDelimiter);
+        }
+        return Ok((None, at));
+    }
+    if !is_item(head) {
+        return Err(SetFault::UnexpectedTag);
+    }
+    let (item, at) = part(alloc, levels, syntax, long_in(head), at)?;
+    Ok((Some(item), at))
+}
+
+/// The items of a sequence, to its end.
+#[cycle(parser)]
+fn sequence<'a>(
+    alloc: Global,
+    levels: u32,
+    syntax: Syntax,
+    form: Length,
+    at: Cursor<'a>,
+) -> Result<(Vec<Item<'a>>, Cursor<'a>), SetFault>
+    ensures exact { Gives (λ x. (items_view x.0.items, at_view x.1)) result
+        (sequence_with (item_reader levels) syntax form (at_view at.entry)) }
+    ensures shorter { IfOk result (λ x. length x.1.rest.now ≤ length at.entry.rest.now) }
+{
+    let mut items = Vec::new(alloc);
+    let mut place = at;
+    'items: loop {
+        let (found, behind) = item(alloc, levels, syntax, form, place)?;
+        place = behind;
+        match found {
+            None => return Ok((items, place)),
+            Some(next) => items.push(next)?,
+        }
+    }
+}
+
+/// An item behind its tag, with the length that its header gives, where so many levels may still
+/// nest.
+#[cycle(parser)]
+#[tactic(auto, unfolding(crate::specs::Reading::part_at))]
+fn part<'a>(
+    alloc: Global,
+    levels: u32,
+    syntax: Syntax,
+    n: u32,
+    at: Cursor<'a>,
+) -> Result<(Item<'a>, Cursor<'a>), SetFault>
+    ensures exact { Gives (λ x. (item_view x.0, at_view x.1)) result (item_reader levels syntax n (at_view at.entry)) }
+    ensures shorter { IfOk result (λ x. length x.1.rest.now ≤ length at.entry.rest.now) }
+{
+    if levels == 0 {
+        return Err(SetFault::TooDeep);
+    }
+    let inner = levels - 1;
+    if n == UNDEFINED_LENGTH {
+        let length = Length::Undefined;
+        let (set, end) = set(alloc, inner, syntax, length, at)?;
+        return Ok((Item { length, set }, end));
+    }
+    if n % 2 == 1 {
+        return Err(SetFault::OddLength);
+    }
+    let n = u64::from(n);
+    if at.leaves_fewer(n) {
+        return Err(SetFault::Overrun);
+    }
+    let length = Length::Defined;
+    let (set, end) = set(alloc, inner, syntax, length, at.within(n))?;
+    Ok((Item { length, set }, at.behind(n, end)))
+}
+
+/// The whole of the bytes as one set.
+#[tactic(auto, unfolding(crate::specs::Reading::read_all))]
+fn whole<'a>(alloc: Global, syntax: Syntax, bytes: &'a [u8]) -> Result<DataSet<'a>, SetFault>
+    ensures { Gives set_view result (read_all syntax bytes.now) }
+{
+    let at = Cursor {
+        left: None,
+        rest: bytes,
+    };
+    let (set, _end) = set(alloc, MAX_LEVELS, syntax, Length::Defined, at)?;
+    Ok(set)
+}
+
+/// The data set that the bytes spell, all of them, in this syntax (PS3.5 section 7). Its values are
+/// slices of the bytes. Refused by the first check that the bytes fail, or by Memory where a growth
+/// was refused.
+pub fn parse<'a>(alloc: Global, syntax: Syntax, bytes: &'a [u8]) -> Result<DataSet<'a>, SetFault>
+    // What is answered is spelled so, each byte of it.
+    ensures found { IfOk result (λ set. Spells syntax (set_view set) bytes.now) }
+    // What is spelled so is answered, unless memory runs out.
+    ensures only { (set : Elements) → Spells syntax set bytes.now → Gives set_view result (Ok set) }
+    // A refusal is the first check that fails, unless memory ran out.
+    ensures exact { Gives set_view result (read_all syntax bytes.now) }
+{
+    whole(alloc, syntax, bytes)
+}

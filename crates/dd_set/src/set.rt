@@ -1,0 +1,50 @@
+//! Data sets as values: elements, sequences and items.
+
+use crate::syntax::Length;
+use dd_elem::{Tag, Vr};
+
+/// A data set: its elements in the order of their bytes (PS3.5 section 7). The values are slices of
+/// the bytes that it was read from.
+#[cycle(data_set)]
+#[derive(Debug, Drop, PartialEq)]
+pub struct DataSet<'a> {
+    /// The elements.
+    pub elements: Vec<Element<'a>>,
+}
+
+/// A data element (PS3.5 section 7.1).
+#[cycle(data_set)]
+#[derive(Debug, Drop, PartialEq)]
+pub struct Element<'a> {
+    /// Its tag.
+    pub tag: Tag,
+    /// Its value representation: there in Explicit VR alone.
+    pub vr: Option<Vr>,
+    /// Its value.
+    pub value: Value<'a>,
+}
+
+/// The value of an element.
+#[cycle(data_set)]
+#[derive(Debug, Drop, PartialEq)]
+pub enum Value<'a> {
+    /// The bytes of a value that is no sequence, padding included.
+    Bytes(&'a [u8]),
+    /// A sequence of items (PS3.5 section 7.5).
+    Items {
+        /// How its end is told.
+        length: Length,
+        /// Its items.
+        items: Vec<Item<'a>>,
+    },
+}
+
+/// An item of a sequence, which holds a data set.
+#[cycle(data_set)]
+#[derive(Debug, Drop, PartialEq)]
+pub struct Item<'a> {
+    /// How its end is told.
+    pub length: Length,
+    /// What it holds.
+    pub set: DataSet<'a>,
+}

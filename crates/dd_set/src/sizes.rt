@@ -1,0 +1,141 @@
+//! How long the bytes of a data set are.
+
+ghost use Rattle.std.specs.Prelude.{◌≡◌, ℕ, List, ◌+◌, ◌≤◌, ◌<◌, ◌^◌, length, OnSome};
+ghost use Rattle.std.specs.Option.{SomeIff};
+ghost use Rattle.dd_set.specs.Elements.{bytes};
+ghost use Rattle.dd_set.specs.Single.{entry_text, part_text, IsEntry, IsPart};
+ghost use Rattle.dd_set.specs.Spelling.{elements_text, content_text, items_text, AreElements, IsContent, AreItems, FitsLong, closed};
+ghost use Rattle.dd_set.specs.Views.{set_view, element_view, value_view, items_view, item_view};
+
+use crate::headers::{
+    DELIMITER_GROUP, MAX_LEVELS, UNDEFINED_LENGTH, holds_bytes, item_syntax, length_limit,
+    shape_size,
+};
+use crate::set::{DataSet, Element, Item, Value};
+use crate::syntax::{Length, Syntax};
+use dd_elem::Vr;
+
+impl DataSet<'_> {
+    ghost use Rattle.dd_set.specs.Spelling.{Spells};
+
+    /// How many bytes spell the set, and None where none do: where tags do not rise, a value
+    /// representation is wanting or stands where none may, a length is odd or has no room in its
+    /// header, items nest deeper than 32 levels, or there would be 2^64 bytes or more (PS3.5
+    /// sections 7.1 and 7.5).
+    pub fn size(&self, syntax: Syntax) -> Option<u64>
+        ensures { let text = elements_text (set_view self.now)
+            in SomeIff result (Spells syntax (set_view self.now) text) (length text) }
+    {
+        set_size(self, syntax, MAX_LEVELS)
+    }
+}
+
+/// The size of a data set, below which so many levels may nest.
+#[cycle(sizes)]
+pub fn set_size(set: &DataSet<'_>, syntax: Syntax, levels: u32) -> Option<u64>
+    ensures { let text = elements_text (set_view set.now)
+        in SomeIff result
+        (AreElements syntax levels 0 (set_view set.now) × (length text < 2 ^ 64))
+        (length text) }
+{
+    let mut low: u64 = 0;
+    let mut total: u64 = 0;
+    for element in &set.elements {
+        let size = element_size(element, syntax, levels, low)?;
+        total = total.checked_add(size)?;
+        low = u64::from(element.tag.number()) + 1;
+    }
+    Some(total)
+}
+
+/// The size of an element whose tag is not below the number `low`.
+#[cycle(sizes)]
+pub fn element_size(element: &Element<'_>, syntax: Syntax, levels: u32, low: u64) -> Option<u64>
+    ensures { let text = entry_text (element_view element.now)
+        in SomeIff result
+        (IsEntry syntax levels low (element_view element.now) × (length text < 2 ^ 64))
+        (length text) }
+{
+    let number = u64::from(element.tag.number());
+    if number < low || element.tag.group == DELIMITER_GROUP {
+        return None;
+    }
+    let size = value_size(&element.value, element.vr, syntax, levels)?;
+    size.checked_add(4)
+}
+
+/// The size of a value with what its header has behind the tag.
+#[cycle(sizes)]
+fn value_size(value: &Value<'_>, vr: Option<Vr>, syntax: Syntax, levels: u32) -> Option<u64>
+    ensures { let text = content_text vr (value_view value.now)
+        in SomeIff result
+        (IsContent syntax levels vr (value_view value.now) × (length text < 2 ^ 64))
+        (length text) }
+{
+    match value {
+        Value::Bytes(bytes) => bytes_size(bytes, vr, syntax),
+        Value::Items { length, items } => {
+            let inner = item_syntax(syntax, vr, *length)?;
+            let size = items_size(items, inner, levels)?;
+            closed_size(shape_size(vr), *length, size)
+        }
+    }
+}
+
+/// The size of a value that is bytes with what its header has behind the tag.
+fn bytes_size(value: &[u8], vr: Option<Vr>, syntax: Syntax) -> Option<u64>
+    ensures { let text = content_text vr (bytes value.now)
+        in (levels : ℕ) → SomeIff result
+        (IsContent syntax levels vr (bytes value.now) × (length text < 2 ^ 64))
+        (length text) }
+{
+    let size = value.len() as u64;
+    if !holds_bytes(syntax, vr) || size % 2 == 1 || size >= length_limit(vr) {
+        return None;
+    }
+    Some(shape_size(vr) + size)
+}
+
+/// The size of the items of a sequence, where so many levels may nest, theirs included.
+#[cycle(sizes)]
+pub fn items_size(items: &Vec<Item<'_>>, syntax: Syntax, levels: u32) -> Option<u64>
+    ensures { let text = items_text (items_view items.now.items)
+        in SomeIff result
+        (AreItems syntax levels (items_view items.now.items) × (length text < 2 ^ 64))
+        (length text) }
+{
+    let mut total: u64 = 0;
+    for item in items {
+        let size = item_size(item, syntax, levels)?;
+        total = total.checked_add(size)?;
+    }
+    Some(total)
+}
+
+/// The size of an item, where so many levels may nest, itself included.
+#[cycle(sizes)]
+pub fn item_size(item: &Item<'_>, syntax: Syntax, levels: u32) -> Option<u64>
+    ensures { let text = part_text (item_view item.now)
+        in SomeIff result
+        (IsPart syntax levels (item_view item.now) × (length text < 2 ^ 64))
+        (length text) }
+{
+    let below = levels.checked_sub(1)?;
+    let size = set_size(&item.set, syntax, below)?;
+    closed_size(8, item.length, size)
+}
+
+/// The size of the contents of an item or a sequence with `front` bytes before them and the mark of
+/// their end behind them, where they want one.
+fn closed_size(front: u64, form: Length, size: u64) -> Option<u64>
+    requires { front ≤ 8 }
+    ensures { (text mark : List ℕ) → length text ≡ size → length mark ≡ 8
+        → let whole = front + length (closed form mark text)
+        in SomeIff result (FitsLong form text × (whole < 2 ^ 64)) whole }
+{
+    match form {
+        Length::Defined if size < u64::from(UNDEFINED_LENGTH) => Some(front + size),
+        Length::Defined => None,
+        Length::Undefined => size.checked_add(front + 8),
+    }
+}

@@ -1,0 +1,119 @@
+//! Where the items of a sequence start.
+
+ghost use Rattle.std.specs.Prelude.{◌≡◌, ℕ, List, [], ◌+◌, ◌<◌, ◌^◌, length, Option, Some, None, option_map, IfOk};
+ghost use Rattle.dd_set.specs.Spelling.{elements_text, items_text, max_levels, AreItems, IsContent};
+ghost use Rattle.dd_set.specs.Single.{entry_text};
+ghost use Rattle.dd_set.specs.Starts.{places_in, content_places, item_places};
+ghost use Rattle.dd_set.specs.Views.{element_view, value_view, items_view};
+
+use crate::headers::{MAX_LEVELS, item_syntax, shape_size};
+use crate::set::{DataSet, Element, Item, Value};
+use crate::sizes::{element_size, item_size};
+use crate::syntax::Syntax;
+use dd_elem::{Memory, Tag};
+use std::alloc::Global;
+
+impl DataSet<'_> {
+    ghost use Rattle.dd_set.specs.Spelling.{Spells};
+    ghost use Rattle.dd_set.specs.Views.{set_view};
+
+    /// The places of the Item tags of the items of the element with this tag, in bytes from the
+    /// first byte that spells the set (PS3.5 section 7.5). None where nothing spells the set, where
+    /// no element has the tag and where its value is bytes. Memory where a growth is refused.
+    pub fn item_starts(
+        &self,
+        alloc: Global,
+        syntax: Syntax,
+        tag: Tag,
+    ) -> Result<Option<Vec<u64>>, Memory>
+        ensures spelled { Spells syntax (set_view self.now) (elements_text (set_view self.now))
+            → IfOk result (λ starts. option_map (λ v. v.items) starts
+            ≡ places_in tag [] (set_view self.now)) }
+        ensures unspelled { ¬ Spells syntax (set_view self.now) (elements_text (set_view self.now))
+            → IfOk result (λ starts. starts ≡ None) }
+    {
+        self.item_starts_from(alloc, syntax, tag, 0)
+    }
+
+    /// The same places, where `first` bytes stand before those of the set.
+    pub fn item_starts_from(
+        &self,
+        alloc: Global,
+        syntax: Syntax,
+        tag: Tag,
+        first: u64,
+    ) -> Result<Option<Vec<u64>>, Memory>
+        requires { let text = elements_text (set_view self.now)
+            in Spells syntax (set_view self.now) text → first + length text < 2 ^ 64 }
+        ensures spelled { Spells syntax (set_view self.now) (elements_text (set_view self.now))
+            → (front : List ℕ) → length front ≡ first
+            → IfOk result (λ starts. option_map (λ v. v.items) starts
+            ≡ places_in tag front (set_view self.now)) }
+        ensures unspelled { ¬ Spells syntax (set_view self.now) (elements_text (set_view self.now))
+            → IfOk result (λ starts. starts ≡ None) }
+    {
+        if self.size(syntax).is_none() {
+            return Ok(None);
+        }
+        let mut at = first;
+        for element in &self.elements {
+            if element.tag == tag {
+                return starts_of(alloc, element, syntax, at);
+            }
+            match element_size(element, syntax, MAX_LEVELS, 0) {
+                Some(size) => at += size,
+                None => unreachable!(),
+            }
+        }
+        Ok(None)
+    }
+}
+
+/// The places of the items of an element behind `at` bytes, or None where its value is bytes.
+fn starts_of(
+    alloc: Global,
+    element: &Element<'_>,
+    syntax: Syntax,
+    at: u64,
+) -> Result<Option<Vec<u64>>, Memory>
+    requires valid { IsContent syntax max_levels element.now.vr (value_view element.now.value) }
+    requires fits { at + length (entry_text (element_view element.now)) < 2 ^ 64 }
+    ensures { (front : List ℕ) → length front ≡ at
+        → IfOk result (λ starts. option_map (λ v. v.items) starts
+        ≡ content_places front element.now.tag element.now.vr (value_view element.now.value)) }
+{
+    match &element.value {
+        Value::Bytes(_) => Ok(None),
+        Value::Items { length, items } => match item_syntax(syntax, element.vr, *length) {
+            Some(inner) => {
+                let first = at + 4 + shape_size(element.vr);
+                Ok(Some(items_starts(alloc, items, inner, first)?))
+            }
+            None => unreachable!(),
+        },
+    }
+}
+
+/// The places of items behind `first` bytes.
+fn items_starts(
+    alloc: Global,
+    items: &Vec<Item<'_>>,
+    syntax: Syntax,
+    first: u64,
+) -> Result<Vec<u64>, Memory>
+    requires valid { AreItems syntax max_levels (items_view items.now.items) }
+    requires fits { first + length (items_text (items_view items.now.items)) < 2 ^ 64 }
+    ensures { (front : List ℕ) → length front ≡ first → IfOk result (λ starts. starts.items
+        ≡ item_places front (items_view items.now.items)) }
+{
+    let mut starts = Vec::new(alloc);
+    let mut at = first;
+    for item in items {
+        starts.push(at)?;
+        match item_size(item, syntax, MAX_LEVELS) {
+            Some(size) => at += size,
+            None => unreachable!(),
+        }
+    }
+    Ok(starts)
+}

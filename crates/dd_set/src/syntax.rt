@@ -1,0 +1,19 @@
+//! How a data set is encoded.
+
+/// An uncompressed little endian transfer syntax (PS3.5 section 10.1 and annex A).
+#[derive(Clone, Copy, Debug, PartialEq, Eq, Hash)]
+pub enum Syntax {
+    /// Each header names the value representation of its value.
+    Explicit,
+    /// A header is a tag and a length.
+    Implicit,
+}
+
+/// How the end of a sequence or of an item is told (PS3.5 section 7.5).
+#[derive(Clone, Copy, Debug, PartialEq, Eq, Hash)]
+pub enum Length {
+    /// The header counts the bytes.
+    Defined,
+    /// The header has FFFFFFFFH in place of a length, and a delimiter stands at the end.
+    Undefined,
+}

@@ -1,0 +1,191 @@
+//! Data sets sent to a writer.
+
+ghost use Rattle.std.specs.Prelude.{◌≡◌, ℕ, ◌+◌, ◌++◌, ◌≤◌, ◌<◌, ◌^◌, length, Some, None, Err, IsSomeAnd};
+ghost use Rattle.dd_set.specs.Elements.{bytes, items};
+ghost use Rattle.dd_set.specs.Sends.{SendsTo};
+ghost use Rattle.dd_set.specs.Single.{entry_text, part_text, mark_text, IsPart};
+ghost use Rattle.dd_set.specs.Spelling.{Spells, elements_text, items_text, header_text, tag_text, content_text, length_of, length_limit, closed, sequence_end_text, AreElements, IsContent, AreItems, FitsLong};
+ghost use Rattle.dd_set.specs.Views.{set_view, element_view, value_view, items_view, item_view};
+
+use crate::headers::{
+    ITEM, ITEM_END, MAX_LEVELS, SEQUENCE_END, UNDEFINED_LENGTH, item_syntax, plain_header,
+};
+use crate::sending::{send, send_front};
+use crate::set::{DataSet, Element, Item, Value};
+use crate::sizes::{items_size, set_size};
+use crate::syntax::{Length, Syntax};
+use crate::write_fault::WriteFault;
+use dd_elem::{Tag, Vr, Write};
+
+/// Sends the bytes that spell the set, and answers how many they are. 13 NotWritable exactly where
+/// there are none, which is where `size` is None; nothing is sent then. 12 Write where the writer
+/// failed, with how many of the bytes went before.
+pub fn write_set<W: Write>(
+    set: &DataSet<'_>,
+    syntax: Syntax,
+    writer: &mut W,
+) -> Result<u64, WriteFault>
+    ensures sends { let text = elements_text (set_view set.now)
+        in Spells syntax (set_view set.now) text
+        → SendsTo W.contents W.failures text 0 result writer.old writer.new }
+    ensures refused { ¬ Spells syntax (set_view set.now) (elements_text (set_view set.now))
+        → (result ≡ Err WriteFault.NotWritable) × (writer.new ≡ writer.old) }
+{
+    match set.size(syntax) {
+        Some(_) => send_set(set, syntax, MAX_LEVELS, writer, 0),
+        None => Err(WriteFault::NotWritable),
+    }
+}
+
+/// Sends a data set, below which so many levels may nest.
+#[cycle(writing)]
+fn send_set<W: Write>(
+    set: &DataSet<'_>,
+    syntax: Syntax,
+    levels: u32,
+    writer: &mut W,
+    mut sent: u64,
+) -> Result<u64, WriteFault>
+    requires valid { AreElements syntax levels 0 (set_view set.now) }
+    requires fits { sent + length (elements_text (set_view set.now)) < 2 ^ 64 }
+    ensures { let text = elements_text (set_view set.now)
+        in SendsTo W.contents W.failures text sent result writer.old writer.new }
+{
+    for element in &set.elements {
+        sent = send_element(element, syntax, levels, writer, sent)?;
+    }
+    Ok(sent)
+}
+
+/// Sends an element.
+#[cycle(writing)]
+fn send_element<W: Write>(
+    element: &Element<'_>,
+    syntax: Syntax,
+    levels: u32,
+    writer: &mut W,
+    sent: u64,
+) -> Result<u64, WriteFault>
+    requires valid { IsContent syntax levels element.now.vr (value_view element.now.value) }
+    requires fits { sent + length (entry_text (element_view element.now)) < 2 ^ 64 }
+    ensures { let text = entry_text (element_view element.now)
+        in SendsTo W.contents W.failures text sent result writer.old writer.new }
+{
+    match &element.value {
+        Value::Bytes(bytes) => send_bytes(element.tag, element.vr, bytes, writer, sent),
+        Value::Items { length, items } => {
+            let Some(inner) = item_syntax(syntax, element.vr, *length) else {
+                unreachable!()
+            };
+            let count = items_length(items, *length, inner, levels);
+            let sent = send_front(element.tag, element.vr, count, writer, sent)?;
+            let sent = send_items(items, inner, levels, writer, sent)?;
+            send_end(*length, &SEQUENCE_END, writer, sent)
+        }
+    }
+}
+
+/// Sends an element whose value is bytes.
+fn send_bytes<W: Write>(
+    tag: Tag,
+    vr: Option<Vr>,
+    value: &[u8],
+    writer: &mut W,
+    sent: u64,
+) -> Result<u64, WriteFault>
+    requires room { length value.now < length_limit vr }
+    requires fits { sent + length (tag_text tag ++ content_text vr (bytes value.now)) < 2 ^ 64 }
+    ensures { let text = tag_text tag ++ content_text vr (bytes value.now)
+        in SendsTo W.contents W.failures text sent result writer.old writer.new }
+{
+    let sent = send_front(tag, vr, value.len() as u32, writer, sent)?;
+    send(value, writer, sent)
+}
+
+/// The length that the header of a sequence gives.
+fn items_length(items: &Vec<Item<'_>>, form: Length, syntax: Syntax, levels: u32) -> u32
+    requires valid { AreItems syntax levels (items_view items.now.items) }
+    requires fits { FitsLong form (items_text (items_view items.now.items)) }
+    ensures { result ≡ length_of form (items_text (items_view items.now.items)) }
+{
+    match form {
+        Length::Undefined => UNDEFINED_LENGTH,
+        Length::Defined => match items_size(items, syntax, levels) {
+            Some(size) => size as u32,
+            None => unreachable!(),
+        },
+    }
+}
+
+/// The length that the header of an item gives.
+fn set_length(set: &DataSet<'_>, form: Length, syntax: Syntax, levels: u32) -> u32
+    requires valid { AreElements syntax levels 0 (set_view set.now) }
+    requires fits { FitsLong form (elements_text (set_view set.now)) }
+    ensures { result ≡ length_of form (elements_text (set_view set.now)) }
+{
+    match form {
+        Length::Undefined => UNDEFINED_LENGTH,
+        Length::Defined => match set_size(set, syntax, levels) {
+            Some(size) => size as u32,
+            None => unreachable!(),
+        },
+    }
+}
+
+/// Sends the items of a sequence, where so many levels may nest, theirs included.
+#[cycle(writing)]
+fn send_items<W: Write>(
+    items: &Vec<Item<'_>>,
+    syntax: Syntax,
+    levels: u32,
+    writer: &mut W,
+    mut sent: u64,
+) -> Result<u64, WriteFault>
+    requires valid { AreItems syntax levels (items_view items.now.items) }
+    requires fits { sent + length (items_text (items_view items.now.items)) < 2 ^ 64 }
+    ensures { let text = items_text (items_view items.now.items)
+        in SendsTo W.contents W.failures text sent result writer.old writer.new }
+{
+    for item in items {
+        sent = send_item(item, syntax, levels, writer, sent)?;
+    }
+    Ok(sent)
+}
+
+/// Sends an item, where so many levels may nest, itself included.
+#[cycle(writing)]
+fn send_item<W: Write>(
+    item: &Item<'_>,
+    syntax: Syntax,
+    levels: u32,
+    writer: &mut W,
+    sent: u64,
+) -> Result<u64, WriteFault>
+    requires valid { IsPart syntax levels (item_view item.now) }
+    requires fits { sent + length (part_text (item_view item.now)) < 2 ^ 64 }
+    ensures { let text = part_text (item_view item.now)
+        in SendsTo W.contents W.failures text sent result writer.old writer.new }
+{
+    let below = levels - 1;
+    let count = set_length(&item.set, item.length, syntax, below);
+    let sent = send(&plain_header(ITEM, count), writer, sent)?;
+    let sent = send_set(&item.set, syntax, below, writer, sent)?;
+    send_end(item.length, &ITEM_END, writer, sent)
+}
+
+/// Sends the mark of an end where the form wants one.
+fn send_end<W: Write>(
+    form: Length,
+    mark: &[u8],
+    writer: &mut W,
+    sent: u64,
+) -> Result<u64, WriteFault>
+    requires { sent + length (mark_text form mark.now) < 2 ^ 64 }
+    ensures { let text = mark_text form mark.now
+        in SendsTo W.contents W.failures text sent result writer.old writer.new }
+{
+    match form {
+        Length::Defined => Ok(sent),
+        Length::Undefined => send(mark, writer, sent),
+    }
+}
