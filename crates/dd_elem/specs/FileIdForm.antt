@@ -1,5 +1,5 @@
 -- Which bytes are a File ID, whoever wrote it (PS3.10 sections 8.2 and 8.5).
-use Rattle.std.specs.Prelude.{◌≡◌, ◌≤◌, ◌<◌, ℕ, Bool, ◌&&◌, ◌==◌, nat_le, nat_lt, List, length, count_by, All}
+use Rattle.std.specs.Prelude.{◌≡◌, ◌≤◌, ℕ, Bool, ◌&&◌, ◌==◌, nat_le, nat_lt, List, length, count_by, All}
 use Rattle.std.specs.List.{list_all, slice_split, join_with_byte}
 use Rattle.dd_elem.specs.SetId.{IsIdCharacter, is_id_character}
 

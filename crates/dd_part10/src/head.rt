@@ -31,7 +31,9 @@ const FIXED_SIZE: u32 = 14 + 3 * 8 + 38;
 
 /// How many bytes the head of a file with this meta information has.
 pub fn head_size(meta: &Meta) -> u64
-    ensures { result ≡ length (head_text meta.now) }
+    ensures exact { result ≡ length (head_text meta.now) }
+    ensures few { result ≤ 412 }
+    ensures valid { IsUid meta.now.class × IsUid meta.now.instance × IsUid meta.now.transfer }
 {
     GROUP_AT + u64::from(group_size(meta))
 }
@@ -62,6 +64,7 @@ pub fn head_makes_file()
 fn group_size(meta: &Meta) -> u32
     ensures exact { result ≡ length (group_text meta.now) }
     ensures few { result ≤ 268 }
+    ensures valid { IsUid meta.now.class × IsUid meta.now.instance × IsUid meta.now.transfer }
 {
     FIXED_SIZE
         + padded_size(&meta.class)
@@ -74,6 +77,7 @@ fn group_size(meta: &Meta) -> u32
 fn padded_size(uid: &Uid) -> u32
     ensures exact { result ≡ length (padded uid.now) }
     ensures few { result ≤ 64 }
+    ensures valid { IsUid uid.now }
 {
     let size = uid.as_bytes().len();
     (size + size % 2) as u32

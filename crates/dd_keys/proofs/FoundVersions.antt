@@ -1,0 +1,190 @@
+-- What is read of a file that passes the checks is its version, and a file of a version passes them and gives it.
+use Rattle.std.proofs.Common.{◌≡◌, ◌≢◌, ◌<◌, ◌^◌, ◌⊎◌, length, ⊎_elim, ℕ, true, List, [], ◌∷◌, Some, None, Result, Ok, Err, is_some, refl, sym, ap, ◌∙◌}
+use Rattle.std.specs.Prelude.{Contains, unwrap_or, IsErr, IfErr, MatchResult}
+use Rattle.std.proofs.lemmas.Bool.{cond-true}
+use Rattle.sha2.specs.Sha256.{sha256}
+use Rattle.dd_set.specs.Elements.{Elements}
+use Rattle.dd_part10.specs.File.{IsFile}
+use Rattle.dd_part10.specs.Reading.{FileParts, read_file}
+use Rattle.dd_part10.specs.declared.fault.FileFault.{FileFault}
+use Rattle.dd_part10.proofs.Found.{file_found}
+use Rattle.dd_set.specs.Bytes.{AreBytes}
+use Rattle.dd_part10.proofs.Only.{file_only}
+use Rattle.dd_keys.specs.declared.fault.KeyFault.{KeyFault}
+use Rattle.dd_keys.specs.declared.fault.KeyFault.TheVariants.{NotImage}
+use Rattle.dd_keys.specs.Classes.{image_classes, is_image_class}
+use Rattle.dd_keys.specs.Faults.{table_fault, fault_of, first_fault, IsWantOfMemory}
+use Rattle.dd_keys.specs.Fitting.{Fits}
+use Rattle.dd_keys.specs.Table.{charset_row, class_row, instance_row, study_date_row, study_time_row, accession_row, modality_row, description_row, patient_name_row, patient_id_row, study_row, series_row, study_id_row, series_number_row, instance_number_row}
+use Rattle.dd_keys.specs.Values.{or_other, value_at, parts_in, patient_in, study_in, series_in}
+use Rattle.dd_keys.specs.Versions.{HasPatient, HasStudy, HasSeries, IsVersion}
+use Rattle.dd_keys.specs.declared.keys.PatientKeys.{PatientKeys}
+use Rattle.dd_keys.specs.declared.keys.StudyKeys.{StudyKeys}
+use Rattle.dd_keys.specs.declared.keys.SeriesKeys.{SeriesKeys}
+use Rattle.dd_keys.specs.declared.parts.Parts.{Parts}
+use Rattle.dd_keys.proofs.Held.{continues, has_key, has_uid, has_wanted_uid, key_passes, key_in-is, uid_passes, uid_in-is}
+use Rattle.dd_keys.proofs.ImageClasses.{is_image_class_decides}
+use Rattle.dd_keys.proofs.Passes.{passes, table_fault_none}
+
+-- ---- what is read is the version
+
+pub found_version : (file : List ℕ) (f : FileParts) → IsFile file f.meta f.set f.set_at → Contains image_classes f.meta.class → table_fault f ≡ None → IsVersion file (parts_in (sha256 file) f)
+found_version file f is_file image none =
+    let p = passes f none in
+    record {
+      meta = f.meta;
+      set = f.set;
+      set_at = f.set_at;
+      is_file = is_file;
+      image = image;
+      digest = refl;
+      patient = record {
+        id = has_key patient_id_row f.set p.patient_id;
+        name = has_key patient_name_row f.set p.patient_name;
+        charset = has_key charset_row f.set p.charset;
+      };
+      study = record {
+        uid = has_uid study_row f.meta f.set p.study;
+        date = has_key study_date_row f.set p.study_date;
+        time = has_key study_time_row f.set p.study_time;
+        accession = has_key accession_row f.set p.accession;
+        description = has_key description_row f.set p.description;
+        id = has_key study_id_row f.set p.study_id;
+        charset = has_key charset_row f.set p.charset;
+      };
+      series = record {
+        uid = has_uid series_row f.meta f.set p.series;
+        modality = has_key modality_row f.set p.modality;
+        number = has_key series_number_row f.set p.series_number;
+      };
+      number = has_key instance_number_row f.set p.instance_number;
+      class = refl;
+      class_again = has_wanted_uid class_row f.meta f.set f.meta.class p.class refl;
+      transfer = refl;
+      instance = refl;
+      instance_again = has_wanted_uid instance_row f.meta f.set f.meta.instance p.instance refl;
+    }
+
+-- ---- its parts fit
+
+or_other_some : (value : List ℕ) (byte : ℕ) (other : List ℕ) → or_other value (byte ∷ other) ≢ []
+or_other_some [] byte other = λ none. absurd (cc)
+or_other_some (first ∷ value) byte other = λ none. absurd (cc)
+
+pub parts_fit : (file digest : List ℕ) (f : FileParts) → IsFile file f.meta f.set f.set_at → Contains image_classes f.meta.class → Fits (parts_in digest f)
+parts_fit file digest f is_file image = record {
+  transfer = ap is_some is_file.known;
+  class = image;
+  study_date = or_other_some (unwrap_or (value_at study_date_row.tag f.set) []) _ _;
+  study_time = or_other_some (unwrap_or (value_at study_time_row.tag f.set) []) _ _;
+  modality = or_other_some (unwrap_or (value_at modality_row.tag f.set) []) _ _;
+  patient_id = or_other_some (unwrap_or (value_at patient_id_row.tag f.set) []) _ _;
+  study_id = or_other_some (unwrap_or (value_at study_id_row.tag f.set) []) _ _;
+  series_number = or_other_some (unwrap_or (value_at series_number_row.tag f.set) []) _ _;
+  instance_number = or_other_some (unwrap_or (value_at instance_number_row.tag f.set) []) _ _;
+}
+
+-- ---- a file of a version passes, and gives it
+
+patient_is : (set : Elements) (patient : PatientKeys) → HasPatient set patient → patient_in set ≡ patient
+patient_is set patient h =
+    let id = key_in-is set patient_id_row patient.id h.id in
+    let name = key_in-is set patient_name_row patient.name h.name in
+    let charset = key_in-is set charset_row patient.charset h.charset in
+    λ i. record { id = id i; name = name i; charset = charset i }
+
+study_is : (set : Elements) (study : StudyKeys) → HasStudy set study → study_in set ≡ study
+study_is set study h =
+    let uid = uid_in-is set study_row.tag study.uid h.uid in
+    let date = key_in-is set study_date_row study.date h.date in
+    let time = key_in-is set study_time_row study.time h.time in
+    let accession = key_in-is set accession_row study.accession h.accession in
+    let description = key_in-is set description_row study.description h.description in
+    let id = key_in-is set study_id_row study.id h.id in
+    let charset = key_in-is set charset_row study.charset h.charset in
+    λ i. record { uid = uid i; date = date i; time = time i; accession = accession i; description = description i; id = id i; charset = charset i }
+
+series_is : (set : Elements) (series : SeriesKeys) → HasSeries set series → series_in set ≡ series
+series_is set series h =
+    let uid = uid_in-is set series_row.tag series.uid h.uid in
+    let modality = key_in-is set modality_row series.modality h.modality in
+    let number = key_in-is set series_number_row series.number h.number in
+    λ i. record { uid = uid i; modality = modality i; number = number i }
+
+-- the file that a version is of
+abbrev pub file_of : (file : List ℕ) (version : Parts) → IsVersion file version → FileParts
+file_of file version h = record { meta = h.meta; set = h.set; set_at = h.set_at }
+
+pub version_image : (file : List ℕ) (version : Parts) (h : IsVersion file version) → is_image_class h.meta.class ≡ true
+version_image file version h = (is_image_class_decides h.meta.class).1 h.image
+
+pub version_passes : (file : List ℕ) (version : Parts) (h : IsVersion file version) → table_fault (file_of file version h) ≡ None
+version_passes file version h = table_fault_none (file_of file version h) (record {
+  charset = key_passes h.set charset_row version.patient.charset h.patient.charset;
+  class = uid_passes h.set class_row h.meta h.meta.class h.class_again (λ other is. cc);
+  instance = uid_passes h.set instance_row h.meta h.meta.instance h.instance_again (λ other is. cc);
+  study_date = key_passes h.set study_date_row version.study.date h.study.date;
+  study_time = key_passes h.set study_time_row version.study.time h.study.time;
+  accession = key_passes h.set accession_row version.study.accession h.study.accession;
+  modality = key_passes h.set modality_row version.series.modality h.series.modality;
+  description = key_passes h.set description_row version.study.description h.study.description;
+  patient_name = key_passes h.set patient_name_row version.patient.name h.patient.name;
+  patient_id = key_passes h.set patient_id_row version.patient.id h.patient.id;
+  study = uid_passes h.set study_row h.meta version.study.uid h.study.uid (λ other is. absurd (cc));
+  series = uid_passes h.set series_row h.meta version.series.uid h.series.uid (λ other is. absurd (cc));
+  study_id = key_passes h.set study_id_row version.study.id h.study.id;
+  series_number = key_passes h.set series_number_row version.series.number h.series.number;
+  instance_number = key_passes h.set instance_number_row version.number h.number;
+})
+
+pub version_parts : (file : List ℕ) (version : Parts) (h : IsVersion file version) → parts_in (sha256 file) (file_of file version h) ≡ version
+version_parts file version h =
+    let digest = h.digest in
+    let patient = patient_is h.set version.patient h.patient in
+    let study = study_is h.set version.study h.study in
+    let series = series_is h.set version.series h.series in
+    let number = key_in-is h.set instance_number_row version.number h.number in
+    let class = h.class in
+    let transfer = h.transfer in
+    let instance = h.instance in
+    let back : version ≡ parts_in (sha256 file) (file_of file version h) =
+    λ i. record { digest = digest i; patient = sym patient i; study = sym study i; series = sym series i; number = sym number i; class = class i; transfer = transfer i; instance = instance i } in
+    sym back
+
+-- a file of a version fails no check
+pub first_fault_none : (file : List ℕ) (version : Parts) → IsVersion file version → first_fault file ≡ None
+first_fault_none file version h =
+    ap fault_of (file_only file h.meta h.set h.set_at h.is_file)
+    ∙ cond-true (is_image_class h.meta.class) _ _ (version_image file version h)
+    ∙ version_passes file version h
+
+-- so a refusal of it is want of memory
+pub refusal_is_memory : (file : List ℕ) (version : Parts) (fault : KeyFault) → IsVersion file version → IsWantOfMemory fault ⊎ (first_fault file ≡ Some fault) → IsWantOfMemory fault
+refusal_is_memory file version fault h refused =
+    let none = first_fault_none file version h in
+    ⊎_elim (λ memory. memory) (λ is. absurd (cc)) refused
+
+pub refused_for_memory : (file : List ℕ) (version : Parts) (answer : Result Parts KeyFault) → IsVersion file version → IsErr answer
+    → IfErr answer (λ fault. IsWantOfMemory fault ⊎ (first_fault file ≡ Some fault)) → MatchResult answer (λ parts. parts ≡ version) IsWantOfMemory
+refused_for_memory file version (Ok parts) h refused fault = absurd (cc)
+refused_for_memory file version (Err e) h refused fault = refusal_is_memory file version e h fault
+
+-- ---- one version, or a check that fails
+
+pub one_version : (file : List ℕ) (version other : Parts) → IsVersion file version → IsVersion file other → version ≡ other
+one_version file version other h k =
+    let same : ◌≡◌ {A = Result FileParts FileFault} (Ok (file_of file version h)) (Ok (file_of file other k)) =
+    sym (file_only file h.meta h.set h.set_at h.is_file) ∙ file_only file k.meta k.set k.set_at k.is_file in
+    let files : file_of file version h ≡ file_of file other k = cc in
+    sym (version_parts file version h) ∙ ap (λ (f : FileParts). parts_in (sha256 file) f) files ∙ version_parts file other k
+
+-- no check of what was read fails
+version_in : (file : List ℕ) (read : Result FileParts FileFault) → AreBytes file → length file < 2 ^ 64 → read_file file ≡ read → fault_of read ≡ None → (version : Parts) × IsVersion file version
+version_in file (Err fault) fits room is none = absurd (cc)
+version_in file (Ok f) fits room is none =
+    let next = continues (is_image_class f.meta.class) (table_fault f) (NotImage f.meta.class) none in
+    let image = (is_image_class_decides f.meta.class).0 next.passes in
+    (parts_in (sha256 file) f, found_version file f (file_found file f is fits room) image next.rest_none)
+
+pub version_exists : (file : List ℕ) → AreBytes file → length file < 2 ^ 64 → first_fault file ≡ None → (version : Parts) × IsVersion file version
+version_exists file fits room none = version_in file (read_file file) fits room refl none

@@ -1,0 +1,5 @@
+pub mod FoundVersions
+pub mod Held
+pub mod ImageClasses
+pub mod Misfits
+pub mod Passes

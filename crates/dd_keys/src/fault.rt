@@ -1,0 +1,53 @@
+//! Why bytes are no file of a version.
+
+ghost use Rattle.std.specs.Prelude.{◌≡◌};
+ghost use Rattle.dd_keys.specs.declared.fault.KeyFault.TheVariants as faults;
+
+use dd_elem::{self, Tag, Uid};
+use dd_part10::FileFault;
+use thiserror::Error;
+
+/// The first check that bytes fail as a file of a version, or want of memory.
+#[derive(Clone, Copy, Debug, PartialEq, Eq, Error)]
+pub enum KeyFault {
+    /// The bytes are no file; or a growth was refused while they were parsed.
+    #[error("31 File {0}")]
+    File(FileFault),
+    /// The file is of this SOP class, which is no image class that is taken.
+    #[error("32 NotImage {0}")]
+    NotImage(Uid),
+    /// There is no element with this tag, or its value is empty.
+    #[error("33 MissingKey {0}")]
+    MissingKey(Tag),
+    /// The value of the element with this tag is no UID.
+    #[error("34 BadKeyUid {0}")]
+    BadKeyUid(Tag),
+    /// The value of the element with this tag has more than 1,024 bytes without its padding.
+    #[error("35 KeyTooLong {0}")]
+    KeyTooLong(Tag),
+    /// The element with this tag is a sequence.
+    #[error("36 KeyIsSequence {0}")]
+    KeyIsSequence(Tag),
+    /// The element with this tag has another UID than group 0002.
+    #[error("37 MetaMismatch {0}")]
+    MetaMismatch(Tag),
+    /// A growth was refused after the bytes were parsed.
+    #[error("91 Memory")]
+    Memory,
+}
+
+impl From<FileFault> for KeyFault {
+    ghost from_gives = { λ fault e. e ≡ faults.File fault };
+
+    fn from(fault: FileFault) -> KeyFault {
+        KeyFault::File(fault)
+    }
+}
+
+impl From<dd_elem::Memory> for KeyFault {
+    ghost from_gives = { λ _ e. e ≡ faults.Memory };
+
+    fn from(_refused: dd_elem::Memory) -> KeyFault {
+        KeyFault::Memory
+    }
+}

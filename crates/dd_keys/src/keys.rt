@@ -1,0 +1,144 @@
+//! The keys of patients, studies and series.
+
+ghost use Rattle.std.specs.Prelude.{◌≡◌, IfOk};
+ghost use Rattle.dd_keys.specs.Orders.{patient_cmp, patient_total, patient_apart, study_cmp, study_total, study_apart, series_cmp, series_total, series_apart};
+
+use dd_elem::{Key, Memory, Ordered, Uid};
+use std::alloc::Global;
+use std::cmp::Ordering;
+
+/// The keys of a PATIENT record (PS3.3 section F.5.1), compared in this order.
+#[derive(Debug, Drop, PartialEq)]
+pub struct PatientKeys {
+    /// Patient ID (0010,0020).
+    pub id: Key,
+    /// Patient's Name (0010,0010).
+    pub name: Key,
+    /// Specific Character Set (0008,0005).
+    pub charset: Key,
+}
+
+/// The keys of a STUDY record (PS3.3 section F.5.2), compared in this order.
+#[derive(Debug, Drop, PartialEq)]
+pub struct StudyKeys {
+    /// Study Instance UID (0020,000D).
+    pub uid: Uid,
+    /// Study Date (0008,0020).
+    pub date: Key,
+    /// Study Time (0008,0030).
+    pub time: Key,
+    /// Accession Number (0008,0050).
+    pub accession: Key,
+    /// Study Description (0008,1030).
+    pub description: Key,
+    /// Study ID (0020,0010).
+    pub id: Key,
+    /// Specific Character Set (0008,0005).
+    pub charset: Key,
+}
+
+/// The keys of a SERIES record (PS3.3 section F.5.3), compared in this order.
+#[derive(Debug, Drop, PartialEq)]
+pub struct SeriesKeys {
+    /// Series Instance UID (0020,000E).
+    pub uid: Uid,
+    /// Modality (0008,0060).
+    pub modality: Key,
+    /// Series Number (0020,0011).
+    pub number: Key,
+}
+
+impl PatientKeys {
+    /// Equal keys. Memory where a growth was refused.
+    pub fn copy(&self, alloc: Global) -> Result<PatientKeys, Memory>
+        ensures { IfOk result (λ keys. keys ≡ self.now) }
+    {
+        Ok(PatientKeys {
+            id: self.id.copy(alloc)?,
+            name: self.name.copy(alloc)?,
+            charset: self.charset.copy(alloc)?,
+        })
+    }
+}
+
+impl StudyKeys {
+    /// Equal keys. Memory where a growth was refused.
+    pub fn copy(&self, alloc: Global) -> Result<StudyKeys, Memory>
+        ensures { IfOk result (λ keys. keys ≡ self.now) }
+    {
+        Ok(StudyKeys {
+            uid: self.uid,
+            date: self.date.copy(alloc)?,
+            time: self.time.copy(alloc)?,
+            accession: self.accession.copy(alloc)?,
+            description: self.description.copy(alloc)?,
+            id: self.id.copy(alloc)?,
+            charset: self.charset.copy(alloc)?,
+        })
+    }
+}
+
+impl SeriesKeys {
+    /// Equal keys. Memory where a growth was refused.
+    pub fn copy(&self, alloc: Global) -> Result<SeriesKeys, Memory>
+        ensures { IfOk result (λ keys. keys ≡ self.now) }
+    {
+        Ok(SeriesKeys {
+            uid: self.uid,
+            modality: self.modality.copy(alloc)?,
+            number: self.number.copy(alloc)?,
+        })
+    }
+}
+
+/// The dictionary order of the fields.
+impl Ordered for PatientKeys {
+    ghost order = { patient_cmp };
+
+    ghost total = { patient_total };
+
+    ghost apart = { patient_apart };
+
+    fn compare(&self, other: &Self) -> Ordering {
+        self.id
+            .compare(&other.id)
+            .then_with(|| self.name.compare(&other.name))
+            .then_with(|| self.charset.compare(&other.charset))
+    }
+}
+
+/// The dictionary order of the fields.
+impl Ordered for StudyKeys {
+    ghost order = { study_cmp };
+
+    ghost total = { study_total };
+
+    ghost apart = { study_apart };
+
+    fn compare(&self, other: &Self) -> Ordering {
+        self.uid
+            .compare(&other.uid)
+            .then_with(|| self.date.compare(&other.date))
+            .then_with(|| self.time.compare(&other.time))
+            .then_with(|| self.accession.compare(&other.accession))
+            .then_with(|| self.description.compare(&other.description))
+            .then_with(|| self.id.compare(&other.id))
+            .then_with(|| self.charset.compare(&other.charset))
+    }
+}
+
+/// The dictionary order of the fields.
+impl Ordered for SeriesKeys {
+    ghost order = { series_cmp };
+
+    ghost total = { series_total };
+
+    ghost apart = { series_apart };
+
+    fn compare(&self, other: &Self) -> Ordering {
+        self.uid
+            .compare(&other.uid)
+            .then_with(|| self.modality.compare(&other.modality))
+            .then_with(|| self.number.compare(&other.number))
+    }
+}

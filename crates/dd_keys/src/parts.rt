@@ -1,0 +1,69 @@
+//! What a version is made of.
+
+ghost use Rattle.std.specs.Prelude.{◌≡◌, IfOk};
+ghost use Rattle.dd_keys.specs.Orders.{parts_cmp, parts_total, parts_apart};
+
+use crate::keys::{PatientKeys, SeriesKeys, StudyKeys};
+use dd_elem::{Key, Memory, Ordered, Uid};
+use std::alloc::Global;
+use std::cmp::Ordering;
+
+/// The digest of a file and the keys of its image, compared in this order.
+#[derive(Debug, Drop, PartialEq)]
+pub struct Parts {
+    /// SHA-256 of the whole file.
+    pub digest: [u8; 32],
+    /// The keys of its patient.
+    pub patient: PatientKeys,
+    /// The keys of its study.
+    pub study: StudyKeys,
+    /// The keys of its series.
+    pub series: SeriesKeys,
+    /// Instance Number (0020,0013).
+    pub number: Key,
+    /// SOP Class UID (0008,0016).
+    pub class: Uid,
+    /// Transfer Syntax UID (0002,0010).
+    pub transfer: Uid,
+    /// SOP Instance UID (0008,0018).
+    pub instance: Uid,
+}
+
+impl Parts {
+    /// Equal parts. Memory where a growth was refused.
+    pub fn copy(&self, alloc: Global) -> Result<Parts, Memory>
+        ensures { IfOk result (λ parts. parts ≡ self.now) }
+    {
+        Ok(Parts {
+            digest: self.digest,
+            patient: self.patient.copy(alloc)?,
+            study: self.study.copy(alloc)?,
+            series: self.series.copy(alloc)?,
+            number: self.number.copy(alloc)?,
+            class: self.class,
+            transfer: self.transfer,
+            instance: self.instance,
+        })
+    }
+}
+
+/// The dictionary order of the fields.
+impl Ordered for Parts {
+    ghost order = { parts_cmp };
+
+    ghost total = { parts_total };
+
+    ghost apart = { parts_apart };
+
+    fn compare(&self, other: &Self) -> Ordering {
+        self.digest[..]
+            .cmp(&other.digest[..])
+            .then_with(|| self.patient.compare(&other.patient))
+            .then_with(|| self.study.compare(&other.study))
+            .then_with(|| self.series.compare(&other.series))
+            .then_with(|| self.number.compare(&other.number))
+            .then_with(|| self.class.compare(&other.class))
+            .then_with(|| self.transfer.compare(&other.transfer))
+            .then_with(|| self.instance.compare(&other.instance))
+    }
+}

@@ -1,0 +1,148 @@
+//! Versions of image instances.
+
+ghost use Rattle.std.specs.Prelude.{◌≡◌, ◌↔◌, IsOk, IfOk, IfErr, is_some};
+ghost use Rattle.dd_keys.specs.Fitting.{Fits, IsLeastMisfit, is_empty, least_misfit};
+ghost use Rattle.dd_part10.specs.Syntaxes.{syntax_of};
+
+use crate::classes::is_image_class;
+use crate::parts::Parts;
+use crate::rows::{
+    CLASS, INSTANCE_NUMBER, MODALITY, PATIENT_ID, SERIES_NUMBER, STUDY_DATE, STUDY_ID, STUDY_TIME,
+};
+use dd_elem::{Key, Memory, Ordered, Tag};
+use dd_part10::Meta;
+use std::alloc::Global;
+use std::cmp::Ordering;
+use std::marker::Model;
+use thiserror::Error;
+
+/// The tag of the Transfer Syntax UID.
+const TRANSFER: Tag = Tag {
+    group: 0x0002,
+    element: 0x0010,
+};
+
+/// A version of an image instance: parts of which the keys that the records of a directory must have
+/// (PS3.3 section F.5) are not empty, whose class is one of those that are taken and whose transfer
+/// syntax is one of those that are read.
+#[derive(Debug, Drop)]
+pub struct Version {
+    parts: Parts,
+}
+
+impl Model for Version {
+    ghost use Rattle.dd_keys.specs.declared.parts.Parts.{Parts};
+    ghost use Rattle.dd_keys.specs.Fitting.{Fits};
+
+    ghost Value = { Parts };
+
+    ghost view = { λ version. version.parts };
+
+    ghost invariant = { λ version. Fits version.parts };
+}
+
+/// Parts that are no version.
+#[derive(Debug, Drop, Error)]
+#[error("{tag} does not fit")]
+pub struct Misfit {
+    /// The least tag whose part does not fit: (0002,0010) for the transfer syntax, (0008,0016) for the
+    /// class.
+    pub tag: Tag,
+    /// The parts.
+    pub parts: Parts,
+}
+
+impl Version {
+    /// The version of these parts. Refused where one does not fit: where the transfer syntax is
+    /// neither Implicit nor Explicit VR Little Endian, the class is no image class that is taken, or
+    /// study date, study time, modality, Patient ID, study ID, series number or instance number is
+    /// empty.
+    pub fn of(parts: Parts) -> Result<Version, Misfit>
+        ensures accepted { IsOk result ↔ Fits parts }
+        ensures value { IfOk result (λ version. version ≡ parts) }
+        ensures least { IfErr result (λ misfit. IsLeastMisfit parts misfit.tag) }
+        ensures back { IfErr result (λ misfit. misfit.parts ≡ parts) }
+    {
+        match least_misfit(&parts) {
+            Some(tag) => Err(Misfit { tag, parts }),
+            None => Ok(Version { parts }),
+        }
+    }
+
+    /// The version of parts that fit.
+    pub(crate) fn fitting(parts: Parts) -> Version
+        requires { Fits parts }
+        ensures { result ≡ parts }
+    {
+        Version { parts }
+    }
+
+    /// What the version is made of.
+    pub fn parts(&self) -> &Parts
+        ensures value { result.now ≡ self.now }
+        ensures fits { Fits self.now }
+    {
+        &self.parts
+    }
+
+    /// An equal version. Memory where a growth was refused.
+    pub fn copy(&self, alloc: Global) -> Result<Version, Memory>
+        ensures { IfOk result (λ version. version ≡ self.now) }
+    {
+        let parts = self.parts.copy(alloc)?;
+        Ok(Version { parts })
+    }
+}
+
+/// The dictionary order of the parts: digest, patient, study, series, instance number, class, transfer
+/// syntax, instance.
+impl Ordered for Version {
+    ghost use Rattle.dd_keys.specs.Orders.{parts_cmp, parts_total, parts_apart};
+
+    ghost order = { parts_cmp };
+
+    ghost total = { parts_total };
+
+    ghost apart = { parts_apart };
+
+    fn compare(&self, other: &Self) -> Ordering {
+        self.parts.compare(&other.parts)
+    }
+}
+
+/// The least tag whose part does not fit.
+fn least_misfit(parts: &Parts) -> Option<Tag>
+    ensures { result ≡ least_misfit parts.now }
+{
+    let fitting = [
+        (TRANSFER, has_known_syntax(parts)),
+        (CLASS.tag, is_image_class(&parts.class)),
+        (STUDY_DATE.tag, !is_empty(&parts.study.date)),
+        (STUDY_TIME.tag, !is_empty(&parts.study.time)),
+        (MODALITY.tag, !is_empty(&parts.series.modality)),
+        (PATIENT_ID.tag, !is_empty(&parts.patient.id)),
+        (STUDY_ID.tag, !is_empty(&parts.study.id)),
+        (SERIES_NUMBER.tag, !is_empty(&parts.series.number)),
+        (INSTANCE_NUMBER.tag, !is_empty(&parts.number)),
+    ];
+    fitting.iter().find(|(_, fits)| !*fits).map(|(tag, _)| *tag)
+}
+
+/// Has the key no bytes?
+fn is_empty(key: &Key) -> bool
+    ensures { result ≡ is_empty key.now }
+{
+    key.as_bytes().is_empty()
+}
+
+/// Is the transfer syntax one of those that are read?
+fn has_known_syntax(parts: &Parts) -> bool
+    ensures { result ≡ is_some (syntax_of parts.now.transfer) }
+{
+    let meta = Meta {
+        class: parts.class,
+        instance: parts.instance,
+        transfer: parts.transfer,
+    };
+    meta.syntax().is_some()
+}

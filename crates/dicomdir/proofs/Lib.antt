@@ -1,0 +1,10 @@
+mod LineLemmas
+mod Rest
+mod Stored
+mod TextLemmas
+pub mod Delivering
+pub mod Lengths
+pub mod Planned
+pub mod Pushing
+pub mod RecordSizes
+pub mod Valid

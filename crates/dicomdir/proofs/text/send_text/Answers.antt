@@ -1,0 +1,13 @@
+-- A write that takes bytes does not fail, and the writer then took the bytes before the new `at`.
+use Rattle.std.proofs.Common.{rules, arith, ◌∙◌}
+use Rattle.dicomdir.proofs.TextLemmas.{appends_rest}
+use Rattle.dicomdir.proofs.text.send_text.Goals as goal
+
+pub loop-at-preserved : goal.loop-at-preserved
+loop-at-preserved g c = record {
+  within = search rules;
+  taken = (
+    (c.in-Ok.ensures.worked (λ none. absurd (omega arith))).0 ∙ c.loop-at.invariant.taken.0,
+    appends_rest _ _ _ _ _ _ c.loop-at.invariant.taken.1 c.in-Ok.ensures.appends,
+  );
+}

@@ -1,0 +1,16 @@
+pub mod Bounds
+pub mod Directory
+pub mod Entries
+pub mod Fields
+pub mod Limits
+pub mod Line
+pub mod MemFiles
+pub mod MemReader
+pub mod Paths
+pub mod Records
+pub mod Sending
+pub mod Short
+pub mod Sizes
+pub mod Text
+pub mod Trouble
+pub mod Whole

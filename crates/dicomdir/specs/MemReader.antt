@@ -1,0 +1,16 @@
+-- A reader of a file in memory, as its callers see it, and what a read of it does.
+use Rattle.std.specs.Prelude.{ℕ, List, ◌++◌, take, drop, Result, Ok, Err, true, false}
+use Rattle.dd_elem.specs.Counts.{counts_after}
+use Rattle.dd_elem.specs.declared.counts.Counts.{Counts}
+
+-- a reader of a file
+pub record Opened : Type 0 where
+  -- the bytes that it gave, and those that are still to come
+  pub given : List ℕ
+  pub left : List ℕ
+  pub counts : Counts
+
+-- it after a read with this result
+abbrev pub after_read : {E : Type 0} → Opened → Result ℕ E → Opened
+after_read s (Ok n) = record { given = s.given ++ take n s.left; left = drop n s.left; counts = counts_after s.counts true }
+after_read s (Err e) = record s { counts = counts_after s.counts false }

@@ -1,0 +1,30 @@
+//! Paths.
+ghost use Rattle.std.specs.Prelude.{◌≡◌, ◌≢◌, ◌++◌, ◌↔◌, [], codes, IfOk, IsTrue, string_bytes};
+ghost use Rattle.dicomdir.specs.Paths.{EndsInSlash};
+
+use dd_elem::Memory;
+use std::alloc::Global;
+
+/// The path of a name in a folder: one `/` stands between them, none is added where the folder's text
+/// ends in `/`, and in an empty folder it is the bare name. Memory where a growth is refused.
+pub fn path_in(alloc: Global, folder: &str, name: &str) -> Result<String, Memory>
+    ensures bare { IfOk result (λ path. folder.now ≡ [] → string_bytes path ≡ name.now) }
+    ensures ended { IfOk result (λ path. EndsInSlash folder.now
+        → string_bytes path ≡ folder.now ++ name.now) }
+    ensures apart { IfOk result (λ path. folder.now ≢ [] → ¬ EndsInSlash folder.now
+        → string_bytes path ≡ folder.now ++ codes "/" ++ name.now) }
+{
+    let mut path = String::from_str(alloc, folder)?;
+    if !folder.is_empty() && !ends_in_slash(folder) {
+        path.push_str("/")?;
+    }
+    path.push_str(name)?;
+    Ok(path)
+}
+
+/// Does the text end in `/`?
+fn ends_in_slash(text: &str) -> bool
+    ensures { IsTrue result ↔ EndsInSlash text.now }
+{
+    text.as_bytes().ends_with(b"/")
+}

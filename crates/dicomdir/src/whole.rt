@@ -1,0 +1,60 @@
+//! A source read whole.
+ghost use Rattle.std.specs.Prelude.{ℕ, List, ◌+◌, ◌≤◌};
+ghost use Rattle.std.specs.Io.KnownBytes.{Consumes};
+ghost use Rattle.dd_elem.specs.Device.{Gives};
+ghost use Rattle.dicomdir.specs.Whole.{IsWholeAnswer};
+
+use dd_elem::Read;
+use std::alloc::Global;
+use thiserror::Error;
+
+/// Why a source was not read whole.
+#[derive(Clone, Copy, Debug, PartialEq, Eq, Error)]
+pub enum ReadFault {
+    /// The reader failed.
+    #[error("Unread")]
+    Unread,
+    /// It gave more bytes than the limit.
+    #[error("TooLong")]
+    TooLong,
+    /// Want of memory.
+    #[error("Memory")]
+    Memory,
+}
+
+// The most bytes of one read.
+const PIECE: usize = 8192;
+
+/// Reads a source to its end, and gives its bytes, of which there may be `limit`.
+///
+/// Unread where the reader fails, TooLong where it gives `limit` bytes and one more, and Memory where
+/// a growth is refused. It makes at most `limit` + 1 reads.
+pub fn read_whole<R: Read>(alloc: Global, reader: &mut R, limit: u64) -> Result<Vec<u8>, ReadFault>
+    ensures gave { (given : List ℕ) × Gives R.has_given reader.old reader.new given
+        × Consumes (R.remaining reader.old) (R.remaining reader.new) given
+        × IsWholeAnswer result limit given (R.remaining reader.new)
+        (R.failures reader.old) (R.failures reader.new) }
+    ensures calls { R.calls reader.new ≤ R.calls reader.old + limit + 1 }
+{
+    let mut all = Vec::new(alloc);
+    let mut left = limit;
+    let mut buffer = [0u8; PIECE];
+    loop {
+        let wanted = left.min(PIECE as u64 - 1) as usize + 1;
+        let room = &mut buffer[..wanted];
+        match reader.read(room) {
+            Err(_) => return Err(ReadFault::Unread),
+            Ok(0) => return Ok(all),
+            Ok(n) => {
+                if n as u64 > left {
+                    return Err(ReadFault::TooLong);
+                }
+                let piece = &room[..n];
+                if all.extend_from_slice(piece).is_err() {
+                    return Err(ReadFault::Memory);
+                }
+                left -= n as u64;
+            }
+        }
+    }
+}

@@ -1,0 +1,117 @@
+//! A reader or writer of the system, with its counts.
+ghost use Rattle.std.specs.Prelude.{◌≡◌, None, MatchResult};
+ghost use Rattle.std.specs.Io.{ReadsAtMost, WritesAtMost};
+
+use dd_elem::{Counts, Read, Write};
+use std::io::{self, ErrorKind};
+
+/// A reader or writer of the system, which counts its calls and its failures. It tells no bytes.
+#[derive(Drop)]
+pub struct Counted<T: Drop> {
+    /// The reader or writer.
+    pub device: T,
+    counts: Counts,
+}
+
+impl<T: Drop> Counted<T> {
+    /// The device, not called yet.
+    pub fn new(device: T) -> Self
+        ensures { result ≡ record { device = device; counts = record { calls = 0; failures = 0 } } }
+    {
+        Counted {
+            device,
+            counts: Counts::new(),
+        }
+    }
+}
+
+impl<T: io::Read + Drop> Read for Counted<T> {
+    ghost calls = { λ s. s.counts.calls };
+
+    ghost failures = { λ s. s.counts.failures };
+
+    ghost remaining = { λ _. None };
+
+    ghost has_given = { λ _ _. Unit {0} };
+
+    fn read(&mut self, buf: &mut [u8]) -> io::Result<usize> {
+        let is_live = self.counts.is_live();
+        self.counts.call();
+        if !is_live {
+            self.counts.fail();
+            return Err(io::Error::other("the reader was called or failed too often"));
+        }
+        match read_again(&mut self.device, buf) {
+            Ok(n) => Ok(n),
+            Err(error) => {
+                self.counts.fail();
+                Err(error)
+            }
+        }
+    }
+}
+
+impl<T: io::Write + Drop> Write for Counted<T> {
+    ghost calls = { λ s. s.counts.calls };
+
+    ghost failures = { λ s. s.counts.failures };
+
+    ghost contents = { λ _. None };
+
+    fn write(&mut self, bytes: &[u8]) -> io::Result<usize> {
+        let is_live = self.counts.is_live();
+        self.counts.call();
+        if !is_live {
+            self.counts.fail();
+            return Err(io::Error::other("the writer was called or failed too often"));
+        }
+        match write_again(&mut self.device, bytes) {
+            Ok(0) if !bytes.is_empty() => {
+                self.counts.fail();
+                Ok(0)
+            }
+            Ok(n) => Ok(n),
+            Err(error) => {
+                self.counts.fail();
+                Err(error)
+            }
+        }
+    }
+}
+
+// How often a call is made again that a signal interrupts.
+const TRIES: u32 = 1000;
+
+/// One read, made again where a signal interrupts it.
+fn read_again<T: io::Read>(reader: &mut T, buf: &mut [u8]) -> io::Result<usize>
+    ensures { ReadsAtMost result buf.new }
+{
+    for _ in 0..TRIES {
+        match reader.read(buf) {
+            Ok(n) => return Ok(n),
+            Err(error) => {
+                if error.kind() != ErrorKind::Interrupted {
+                    return Err(error);
+                }
+            }
+        }
+    }
+    Err(io::Error::from(ErrorKind::Interrupted))
+}
+
+/// One write, made again where a signal interrupts it.
+fn write_again<T: io::Write>(writer: &mut T, bytes: &[u8]) -> io::Result<usize>
+    ensures { WritesAtMost result bytes.now }
+{
+    for _ in 0..TRIES {
+        match writer.write(bytes) {
+            Ok(n) => return Ok(n),
+            Err(error) => {
+                if error.kind() != ErrorKind::Interrupted {
+                    return Err(error);
+                }
+            }
+        }
+    }
+    Err(io::Error::from(ErrorKind::Interrupted))
+}
