@@ -148,8 +148,8 @@ unfoldable pub element_at : SequenceReader → Syntax → Length → ℕ → At 
 element_at sequence syntax form low at =
     if is_over form at then Ok (None, at)
     else (take_at 8 at >>= λ head. if ends_set form head.0
-      then (if long_of head.0 == 0 then Ok (None, head.1) else Err BadDelimiter)
-      else (body_at sequence syntax low head.0 head.1 >>= λ x. Ok (Some x.0, x.1)))
+    then (if long_of head.0 == 0 then Ok (None, head.1) else Err BadDelimiter)
+    else (body_at sequence syntax low head.0 head.1 >>= λ x. Ok (Some x.0, x.1)))
 
 -- ---- a set
 
@@ -174,8 +174,8 @@ unfoldable pub item_at : ItemReader → Syntax → Length → At → Reads (Opti
 item_at part syntax form at =
     if is_over form at then Ok (None, at)
     else (take_at 8 at >>= λ head. if ends_sequence form head.0
-      then (if long_of head.0 == 0 then Ok (None, head.1) else Err BadDelimiter)
-      else (if is_item head.0 then (part syntax (long_of head.0) head.1 >>= λ x. Ok (Some x.0, x.1)) else Err UnexpectedTag))
+    then (if long_of head.0 == 0 then Ok (None, head.1) else Err BadDelimiter)
+    else (if is_item head.0 then (part syntax (long_of head.0) head.1 >>= λ x. Ok (Some x.0, x.1)) else Err UnexpectedTag))
 
 abbrev pub next_items : (At → Reads Items) → Option Part × At → Reads Items
 next_items others (None, at) = Ok (no_items, at)

@@ -159,6 +159,7 @@ const ITEM_END: Tag = Tag {
     group: 0xfffe,
     element: 0xe00d,
 };
+
 const SEQUENCE_END: Tag = Tag {
     group: 0xfffe,
     element: 0xe0dd,
@@ -202,11 +203,7 @@ pub fn header_shape<'a>(
 }
 
 #[tactic(auto, unfolding(crate::specs::Reading::long_at))]
-fn long_shape<'a>(
-    vr: Vr,
-    head: &[u8],
-    at: Cursor<'a>,
-) -> Result<(Shape, Cursor<'a>), SetFault>
+fn long_shape<'a>(vr: Vr, head: &[u8], at: Cursor<'a>) -> Result<(Shape, Cursor<'a>), SetFault>
     requires { length head.now ≡ 8 }
     ensures exact { Gives (λ x. (shape_view x.0, at_view x.1)) result (long_at vr head.now (at_view at.entry)) }
     ensures shorter { IfOk result (λ x. length x.1.rest.now ≤ length at.entry.rest.now) }
@@ -216,5 +213,11 @@ fn long_shape<'a>(
     }
     let (bytes, at) = at.take(4)?;
     let length = u32::from_le_bytes([bytes[0], bytes[1], bytes[2], bytes[3]]);
-    Ok((Shape { vr: Some(vr), length }, at))
+    Ok((
+        Shape {
+            vr: Some(vr),
+            length,
+        },
+        at,
+    ))
 }

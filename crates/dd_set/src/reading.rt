@@ -8,7 +8,9 @@ ghost use Rattle.dd_set.specs.Reading.{item_reader, sequence_with, set_with, con
 ghost use Rattle.dd_set.specs.Spelling.{Spells};
 ghost use Rattle.dd_set.specs.Views.{set_view, element_view, value_view, item_view, items_view};
 
-use crate::cursor::{Cursor, Shape, ends_sequence, ends_set, header_shape, is_item, long_in, tag_in};
+use crate::cursor::{
+    Cursor, Shape, ends_sequence, ends_set, header_shape, is_item, long_in, tag_in,
+};
 use crate::fault::SetFault;
 use crate::headers::{DELIMITER_GROUP, MAX_LEVELS, UNDEFINED_LENGTH, item_syntax};
 use crate::set::{DataSet, Element, Item, Value};

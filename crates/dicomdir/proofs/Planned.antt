@@ -89,7 +89,7 @@ plan_is_plan label parts short uid id fits =
     let c = links_same Series 0 i None parts in
     let d = links_same Image 0 0 (Some only_image) parts in
     let each : AllByRecursion (λ es. AreElements Explicit 31 0 (elements_of es)) records =
-        (record_valid 31 Patient 0 s None parts short refl, (record_valid 31 Study 0 e None parts short refl, (record_valid 31 Series 0 i None parts short refl, (record_valid 31 Image 0 0 (Some only_image) parts short only_ranks, tt)))) in
+    (record_valid 31 Patient 0 s None parts short refl, (record_valid 31 Study 0 e None parts short refl, (record_valid 31 Series 0 i None parts short refl, (record_valid 31 Image 0 0 (Some only_image) parts short only_ranks, tt)))) in
     let small : AllByRecursion (λ es. entries_size es < undefined_length) records = (omega arith, (omega arith, (omega arith, (omega arith, tt)))) in
     let below : length (items_text (items_of (map record_part records))) < undefined_length = omega arith in
     record {
@@ -105,10 +105,24 @@ plan_is_plan label parts short uid id fits =
 -- the keys of all levels
 pub all_short : (parts : Parts) → LevelIsShort Patient parts → LevelIsShort Study parts → LevelIsShort Series parts → LevelIsShort Image parts → AreShort parts
 all_short parts p s e i = record {
-  name = p.1; patient_id = p.0; patient_charset = p.2;
-  study_uid = s.0; date = s.1; time = s.2; accession = s.3; description = s.4; study_id = s.5; study_charset = s.6;
-  series_uid = e.0; modality = e.1; series_number = e.2;
-  number = i.0; class = i.1; transfer = i.2; instance = i.3; digest = i.4;
+  name = p.1;
+  patient_id = p.0;
+  patient_charset = p.2;
+  study_uid = s.0;
+  date = s.1;
+  time = s.2;
+  accession = s.3;
+  description = s.4;
+  study_id = s.5;
+  study_charset = s.6;
+  series_uid = e.0;
+  modality = e.1;
+  series_number = e.2;
+  number = i.0;
+  class = i.1;
+  transfer = i.2;
+  instance = i.3;
+  digest = i.4;
 }
 
 abbrev pub laid : Label → List Parts → List PlanRecord → ℕ → Layout

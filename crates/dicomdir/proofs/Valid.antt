@@ -151,7 +151,7 @@ record_valid levels Patient next lower file parts short is_file =
     link_valid levels next lower (kind_of Patient) (patient_entries parts.patient) (omega arith) (patient_valid levels parts.patient short.patient_charset short.name short.patient_id)
 record_valid levels Study next lower file parts short is_file =
     link_valid levels next lower (kind_of Study) (study_entries parts.study) (omega arith)
-      (study_valid levels parts.study short.study_charset short.date short.time short.accession short.description short.study_uid short.study_id)
+    (study_valid levels parts.study short.study_charset short.date short.time short.accession short.description short.study_uid short.study_id)
 record_valid levels Series next lower file parts short is_file =
     link_valid levels next lower (kind_of Series) (series_entries parts.series) (omega arith) (series_valid levels parts.series short.modality short.series_uid short.series_number)
 record_valid levels Image next lower None parts short is_file = absurd is_file

@@ -62,11 +62,7 @@ pub fn write_directory<W: Write>(
 }
 
 /// Makes the data set of the plan, and then sends it.
-fn send_plan<W: Write>(
-    alloc: Global,
-    plan: &Plan,
-    writer: &mut W,
-) -> Result<u64, DirectoryFault>
+fn send_plan<W: Write>(alloc: Global, plan: &Plan, writer: &mut W) -> Result<u64, DirectoryFault>
     ensures delivers { Delivers (directory_text plan.now) result (W.contents writer.old) (W.contents writer.new) (W.failures writer.old) (W.failures writer.new) }
     ensures memory { result ≡ Err DirectoryFault.Memory → writer.new ≡ writer.old }
 {

@@ -35,11 +35,7 @@ pub fn rows_fields(
 }
 
 /// The elements of a record, of the version that it names.
-fn row_fields(
-    alloc: Global,
-    versions: &[Version],
-    row: &PlanRecord,
-) -> Result<Vec<Field>, Memory>
+fn row_fields(alloc: Global, versions: &[Version], row: &PlanRecord) -> Result<Vec<Field>, Memory>
     ensures { IfOk result (λ fields. fields_entries fields ≡ entries_for (slice_get versions.now row.now.of) row.now) }
 {
     match versions.get(row.of) {
@@ -63,17 +59,18 @@ pub fn record_items<'a>(alloc: Global, rows: &'a [Vec<Field>]) -> Result<Vec<Ite
 
 /// The elements before the records: File-set ID, the offsets of the first and of the last root
 /// record, and the consistency flag (PS3.3 section F.3.2.2).
-pub fn front_fields(
-    alloc: Global,
-    id: &SetId,
-    first: u32,
-    last: u32,
-) -> Result<Vec<Field>, Memory>
+pub fn front_fields(alloc: Global, id: &SetId, first: u32, last: u32) -> Result<Vec<Field>, Memory>
     ensures { IfOk result (λ fields. fields_entries fields ≡ text_entry (tag 0x0004 0x1130) CS id.now ∷ long_entry (tag 0x0004 0x1200) first
         ∷ long_entry (tag 0x0004 0x1202) last ∷ short_entry (tag 0x0004 0x1212) 0x0000 ∷ []) }
 {
     let mut fields = Vec::new(alloc);
-    push_text(alloc, &mut fields, tag_of(0x0004, 0x1130), Vr::CS, id.as_bytes())?;
+    push_text(
+        alloc,
+        &mut fields,
+        tag_of(0x0004, 0x1130),
+        Vr::CS,
+        id.as_bytes(),
+    )?;
     push_long(alloc, &mut fields, tag_of(0x0004, 0x1200), first)?;
     push_long(alloc, &mut fields, tag_of(0x0004, 0x1202), last)?;
     push_short(alloc, &mut fields, tag_of(0x0004, 0x1212), 0x0000)?;

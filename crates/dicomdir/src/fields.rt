@@ -20,6 +20,7 @@ pub struct Field {
 }
 
 const SPACE: u8 = b' ';
+
 const NUL: u8 = 0;
 
 /// Adds text, with a space behind it where its length is odd.
@@ -38,12 +39,7 @@ pub fn push_text(
 }
 
 /// Adds a UID, with a NUL behind it where its length is odd.
-pub fn push_uid(
-    alloc: Global,
-    fields: &mut Vec<Field>,
-    tag: Tag,
-    uid: &[u8],
-) -> Result<(), Memory>
+pub fn push_uid(alloc: Global, fields: &mut Vec<Field>, tag: Tag, uid: &[u8]) -> Result<(), Memory>
     ensures { OnOk result (entries_of fields.new.items ≡ entries_of fields.old.items ++ uid_entry tag uid.now ∷ []) }
 {
     let bytes = even(alloc, uid, NUL)?;

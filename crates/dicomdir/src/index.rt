@@ -81,11 +81,7 @@ fn refuse_taken<F: Files>(directory: &str, files: &mut F) -> Result<(), Trouble>
 }
 
 /// The bytes of the source.
-fn source_bytes<F: Files>(
-    alloc: Global,
-    source: &str,
-    files: &mut F,
-) -> Result<Vec<u8>, Trouble>
+fn source_bytes<F: Files>(alloc: Global, source: &str, files: &mut F) -> Result<Vec<u8>, Trouble>
     ensures opened { IsOk result → HasWorked (F.refusals files.old) (F.refusals files.new) }
     ensures absent { IfErr result (λ trouble. trouble.fault ≡ ProgramFault.Absent
         → F.refusals files.new ≡ counted (F.refusals files.old)) }
@@ -123,11 +119,7 @@ fn unread(fault: ReadFault) -> Trouble
 }
 
 /// The plan of the directory that has the file with these bytes.
-fn plan_of(
-    alloc: Global,
-    bytes: &[u8],
-    label: &Label,
-) -> Result<Plan, Trouble>
+fn plan_of(alloc: Global, bytes: &[u8], label: &Label) -> Result<Plan, Trouble>
     ensures line { IfErr result (λ trouble. ¬ IsBadLine trouble.fault) }
 {
     let version = match version_of(alloc, bytes) {
@@ -173,11 +165,7 @@ fn start_directory<F: Files>(directory: &str, files: &mut F) -> Result<(), Troub
 }
 
 /// Writes the directory.
-fn send_directory<F: Files>(
-    alloc: Global,
-    plan: &Plan,
-    files: &mut F,
-) -> Result<(), Trouble>
+fn send_directory<F: Files>(alloc: Global, plan: &Plan, files: &mut F) -> Result<(), Trouble>
     ensures sent { IsOk result → F.Write.failures files.new ≡ F.Write.failures files.old }
     ensures unsent { IfErr result (λ trouble. trouble.fault ≡ ProgramFault.Unsent
         → HasFailed (F.Write.failures files.old) (F.Write.failures files.new)) }

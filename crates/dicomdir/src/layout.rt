@@ -5,7 +5,6 @@ ghost use Rattle.dicomdir.specs.Directory.{IsPlan, plan_of};
 ghost use Rattle.dicomdir.specs.Limits.{refusal};
 
 use crate::places::{only_records, places_of};
-
 use dd_elem::{FileId, Memory, SetId, Uid};
 use dd_keys::Version;
 use std::alloc::{AllocError, AllocFailed, Global};

@@ -75,36 +75,86 @@ fn push_charset(alloc: Global, fields: &mut Vec<Field>, charset: &Key) -> Result
     push_text(alloc, fields, tag_of(0x0008, 0x0005), Vr::CS, charset)
 }
 
-fn push_patient(
-    alloc: Global,
-    fields: &mut Vec<Field>,
-    keys: &PatientKeys,
-) -> Result<(), Memory>
+fn push_patient(alloc: Global, fields: &mut Vec<Field>, keys: &PatientKeys) -> Result<(), Memory>
     ensures { OnOk result (entries_of fields.new.items ≡ entries_of fields.old.items ++ patient_entries keys.now) }
 {
     push_charset(alloc, fields, &keys.charset)?;
-    push_text(alloc, fields, tag_of(0x0010, 0x0010), Vr::PN, keys.name.as_bytes())?;
-    push_text(alloc, fields, tag_of(0x0010, 0x0020), Vr::LO, keys.id.as_bytes())
+    push_text(
+        alloc,
+        fields,
+        tag_of(0x0010, 0x0010),
+        Vr::PN,
+        keys.name.as_bytes(),
+    )?;
+    push_text(
+        alloc,
+        fields,
+        tag_of(0x0010, 0x0020),
+        Vr::LO,
+        keys.id.as_bytes(),
+    )
 }
 
 fn push_study(alloc: Global, fields: &mut Vec<Field>, keys: &StudyKeys) -> Result<(), Memory>
     ensures { OnOk result (entries_of fields.new.items ≡ entries_of fields.old.items ++ study_entries keys.now) }
 {
     push_charset(alloc, fields, &keys.charset)?;
-    push_text(alloc, fields, tag_of(0x0008, 0x0020), Vr::DA, keys.date.as_bytes())?;
-    push_text(alloc, fields, tag_of(0x0008, 0x0030), Vr::TM, keys.time.as_bytes())?;
-    push_text(alloc, fields, tag_of(0x0008, 0x0050), Vr::SH, keys.accession.as_bytes())?;
-    push_text(alloc, fields, tag_of(0x0008, 0x1030), Vr::LO, keys.description.as_bytes())?;
+    push_text(
+        alloc,
+        fields,
+        tag_of(0x0008, 0x0020),
+        Vr::DA,
+        keys.date.as_bytes(),
+    )?;
+    push_text(
+        alloc,
+        fields,
+        tag_of(0x0008, 0x0030),
+        Vr::TM,
+        keys.time.as_bytes(),
+    )?;
+    push_text(
+        alloc,
+        fields,
+        tag_of(0x0008, 0x0050),
+        Vr::SH,
+        keys.accession.as_bytes(),
+    )?;
+    push_text(
+        alloc,
+        fields,
+        tag_of(0x0008, 0x1030),
+        Vr::LO,
+        keys.description.as_bytes(),
+    )?;
     push_uid(alloc, fields, tag_of(0x0020, 0x000d), keys.uid.as_bytes())?;
-    push_text(alloc, fields, tag_of(0x0020, 0x0010), Vr::SH, keys.id.as_bytes())
+    push_text(
+        alloc,
+        fields,
+        tag_of(0x0020, 0x0010),
+        Vr::SH,
+        keys.id.as_bytes(),
+    )
 }
 
 fn push_series(alloc: Global, fields: &mut Vec<Field>, keys: &SeriesKeys) -> Result<(), Memory>
     ensures { OnOk result (entries_of fields.new.items ≡ entries_of fields.old.items ++ series_entries keys.now) }
 {
-    push_text(alloc, fields, tag_of(0x0008, 0x0060), Vr::CS, keys.modality.as_bytes())?;
+    push_text(
+        alloc,
+        fields,
+        tag_of(0x0008, 0x0060),
+        Vr::CS,
+        keys.modality.as_bytes(),
+    )?;
     push_uid(alloc, fields, tag_of(0x0020, 0x000e), keys.uid.as_bytes())?;
-    push_text(alloc, fields, tag_of(0x0020, 0x0011), Vr::IS, keys.number.as_bytes())
+    push_text(
+        alloc,
+        fields,
+        tag_of(0x0020, 0x0011),
+        Vr::IS,
+        keys.number.as_bytes(),
+    )
 }
 
 fn push_file(alloc: Global, fields: &mut Vec<Field>, file: Option<FileId>) -> Result<(), Memory>
@@ -125,15 +175,36 @@ fn push_reference(
     ensures { OnOk result (entries_of fields.new.items ≡ entries_of fields.old.items ++ reference_entries (file_text file) parts.now) }
 {
     push_file(alloc, fields, file)?;
-    push_uid(alloc, fields, tag_of(0x0004, 0x1510), parts.class.as_bytes())?;
-    push_uid(alloc, fields, tag_of(0x0004, 0x1511), parts.instance.as_bytes())?;
-    push_uid(alloc, fields, tag_of(0x0004, 0x1512), parts.transfer.as_bytes())
+    push_uid(
+        alloc,
+        fields,
+        tag_of(0x0004, 0x1510),
+        parts.class.as_bytes(),
+    )?;
+    push_uid(
+        alloc,
+        fields,
+        tag_of(0x0004, 0x1511),
+        parts.instance.as_bytes(),
+    )?;
+    push_uid(
+        alloc,
+        fields,
+        tag_of(0x0004, 0x1512),
+        parts.transfer.as_bytes(),
+    )
 }
 
 fn push_digest(alloc: Global, fields: &mut Vec<Field>, digest: &[u8]) -> Result<(), Memory>
     ensures { OnOk result (entries_of fields.new.items ≡ entries_of fields.old.items ++ digest_entries digest.now) }
 {
-    push_text(alloc, fields, tag_of(0x0009, 0x0010), Vr::LO, b"DD FILESET 1")?;
+    push_text(
+        alloc,
+        fields,
+        tag_of(0x0009, 0x0010),
+        Vr::LO,
+        b"DD FILESET 1",
+    )?;
     push_bytes(alloc, fields, tag_of(0x0009, 0x1001), Vr::OB, digest)
 }
 
@@ -147,5 +218,11 @@ fn push_image(
 {
     push_reference(alloc, fields, file, parts)?;
     push_digest(alloc, fields, &parts.digest)?;
-    push_text(alloc, fields, tag_of(0x0020, 0x0013), Vr::IS, parts.number.as_bytes())
+    push_text(
+        alloc,
+        fields,
+        tag_of(0x0020, 0x0013),
+        Vr::IS,
+        parts.number.as_bytes(),
+    )
 }

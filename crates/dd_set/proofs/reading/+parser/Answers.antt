@@ -53,9 +53,13 @@ sequence-items-preserved t c =
     let next = c.in-Some.next in
     let found : item_at (item_reader c.args.levels) c.args.syntax c.args.form (at_view c.items.place) ≡ Ok (Some (item_view next), at_view c.in_ok-found.behind) = rw c.in-Some.is at c.in_ok-found.ensures.exact in
     let shorter : length c.in_ok-found.behind.rest.now < length c.items.place.rest.now = rw c.in-Some.is at c.in_ok-found.ensures.shorter in
-    let pushed : map item_view c.push.new.self.items ≡ map item_view c.items.items.items ++ item_view next ∷ [] = rw c.in_ok-push-in-Some.ensures.items (map_push _ c.items.items.items next) in
-    (at.0 - 1, omega arith, omega arith, rw pushed (items_more (item_reader c.args.levels) c.args.syntax c.args.form (length c.items.place.rest.now) at.0 (map item_view c.items.items.items) (at_view c.items.place) (at_view c.in_ok-found.behind) (item_view next)
-    (sequence_with (item_reader c.args.levels) c.args.syntax c.args.form (at_view c.args.at)) at.1 found at.3))
+    let pushed : map item_view c.push.new.self.items ≡ map item_view c.items.items.items ++ item_view next ∷ [] = rw c.in_ok-push-in-Some.ensures.items (map_push _ c.items.items.items next) in (
+      at.0 - 1,
+      omega arith,
+      omega arith,
+      rw pushed (items_more (item_reader c.args.levels) c.args.syntax c.args.form (length c.items.place.rest.now) at.0 (map item_view c.items.items.items) (at_view c.items.place) (at_view c.in_ok-found.behind) (item_view next)
+          (sequence_with (item_reader c.args.levels) c.args.syntax c.args.form (at_view c.args.at)) at.1 found at.3),
+    )
 
 pub set-returns-in_err-found-clause-exact : goal.set-returns-in_err-found-clause-exact
 set-returns-in_err-found-clause-exact t c =
@@ -80,6 +84,10 @@ set-elements-preserved t c =
     let shorter : length c.in_ok-found.behind.rest.now < length c.elements.place.rest.now = rw c.in-Some.is at c.in_ok-found.ensures.shorter in
     let pushed : map element_view c.push.new.self.items ≡ map element_view c.elements.elements.items ++ element_view next ∷ [] = rw c.in_ok-push-in-Some.ensures.items (map_push _ c.elements.elements.items next) in
     let seen : (element_view next).tag ≡ next.tag = search (rules, the_lemmas) in
-    let low : c.from-low.result + 1 ≡ number_of (element_view next).tag + 1 = ap (λ (k : ℕ). k + 1) (c.from-low.ensures ∙ c.number.ensures.value ∙ ap number_of (sym seen)) in
-    (at.0 - 1, omega arith, omega arith, rw (pushed, low) (elements_more (sequence_with (item_reader c.args.levels)) c.args.syntax c.args.form (length c.elements.place.rest.now) at.0 c.elements.low (map element_view c.elements.elements.items) (at_view c.elements.place) (at_view c.in_ok-found.behind) (element_view next)
-    (set_with (item_reader c.args.levels) c.args.syntax c.args.form (at_view c.args.at)) at.1 found at.3))
+    let low : c.from-low.result + 1 ≡ number_of (element_view next).tag + 1 = ap (λ (k : ℕ). k + 1) (c.from-low.ensures ∙ c.number.ensures.value ∙ ap number_of (sym seen)) in (
+      at.0 - 1,
+      omega arith,
+      omega arith,
+      rw (pushed, low) (elements_more (sequence_with (item_reader c.args.levels)) c.args.syntax c.args.form (length c.elements.place.rest.now) at.0 c.elements.low (map element_view c.elements.elements.items) (at_view c.elements.place) (at_view c.in_ok-found.behind) (element_view next)
+          (set_with (item_reader c.args.levels) c.args.syntax c.args.form (at_view c.args.at)) at.1 found at.3),
+    )
