@@ -36,7 +36,7 @@ impl DataSet<'_> {
     }
 
     /// The same places, where `first` bytes stand before those of the set.
-    pub fn item_starts_from(
+    fn item_starts_from(
         &self,
         alloc: Global,
         syntax: Syntax,

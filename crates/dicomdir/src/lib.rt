@@ -24,8 +24,6 @@ mod text;
 mod trouble;
 mod whole;
 
-pub use dd_keys as keys;
-pub use dd_part10 as part10;
 pub use files::{Files, NotDone, NotThere};
 pub use line::{Asked, LineFault, Verb, read_words};
 pub use mem_files::MemFiles;
