@@ -5,6 +5,8 @@
 #[cfg(test)]
 mod bytes;
 #[cfg(test)]
+mod catalogues;
+#[cfg(test)]
 mod data_sets;
 #[cfg(test)]
 mod devices;
@@ -20,6 +22,8 @@ mod first_run;
 mod kept_keys;
 #[cfg(test)]
 mod line;
+#[cfg(test)]
+mod made_versions;
 #[cfg(test)]
 mod sending;
 #[cfg(test)]

@@ -1,6 +1,7 @@
 //! Versions read from the bytes of their files.
 
 use crate::bytes::{from_hex, tag, words};
+use crate::made_versions::{parts_of, read};
 use crate::source_file::{Row, v1_implicit, v1_with, v1_without};
 use dd_elem::Vr;
 use dd_keys::{KeyFault, Parts, PatientKeys, StudyKeys, version_of};
@@ -72,27 +73,47 @@ fn answer(alloc: Global, bytes: &[u8]) -> Result<String, Fail> {
     }
 }
 
+/// Are the keys of the version of these bytes those of V1, and its UIDs these? Is its digest that of
+/// V1?
+fn is_v1(alloc: Global, bytes: &[u8], transfer: &[u8], is_same_file: bool) -> Result<bool, Fail> {
+    let digest = from_hex(alloc, V1_DIGEST)?;
+    let version = read(alloc, bytes)?;
+    Ok(has_parts_of_v1(parts_of(&version), transfer, &digest, is_same_file))
+}
+
+fn has_parts_of_v1(parts: &Parts, transfer: &[u8], digest: &[u8], is_same_file: bool) -> bool {
+    let uids: [&[u8]; 3] = [CT_IMAGE, transfer, b"1.2.3.4.5"];
+    let has_digest = parts.digest.as_slice() == digest;
+    has_keys_of_v1(parts) && uids_of(parts) == uids && has_digest == is_same_file
+}
+
 #[test]
 fn keys_of_v1(rt: HostRuntime) -> Result<(), Fail> {
-    let version = version_of(rt.alloc(), &v1_with(rt.alloc(), &[])?)?;
-    let uids: [&[u8]; 3] = [CT_IMAGE, b"1.2.840.10008.1.2.1", b"1.2.3.4.5"];
-    assert!(rt; has_keys_of_v1(version.parts()));
-    assert_eq!(rt; uids_of(version.parts()), uids);
-    let digest = from_hex(rt.alloc(), V1_DIGEST)?;
-    assert_eq!(rt; version.parts().digest.as_slice(), digest.as_slice());
+    let bytes = v1_with(rt.alloc(), &[])?;
+    assert!(rt; is_v1(rt.alloc(), &bytes, b"1.2.840.10008.1.2.1", true)?);
     Ok(())
 }
 
 /// The Study Instance UID within the sequence is none of the keys.
 #[test]
 fn keys_of_v1_in_implicit_vr(rt: HostRuntime) -> Result<(), Fail> {
-    let version = version_of(rt.alloc(), &v1_implicit(rt.alloc())?)?;
-    let uids: [&[u8]; 3] = [CT_IMAGE, b"1.2.840.10008.1.2", b"1.2.3.4.5"];
-    assert!(rt; has_keys_of_v1(version.parts()));
-    assert_eq!(rt; uids_of(version.parts()), uids);
-    let digest = from_hex(rt.alloc(), V1_DIGEST)?;
-    assert!(rt; version.parts().digest.as_slice() != digest.as_slice());
+    let bytes = v1_implicit(rt.alloc())?;
+    assert!(rt; is_v1(rt.alloc(), &bytes, b"1.2.840.10008.1.2", false)?);
     Ok(())
+}
+
+/// Does the version of these bytes have the replacements of empty keys, and the name of V1?
+fn has_replacements(alloc: Global, bytes: &[u8]) -> Result<bool, Fail> {
+    let version = read(alloc, bytes)?;
+    let parts = parts_of(&version);
+    let found: [&[u8]; 4] = [
+        parts.patient.id.as_bytes(),
+        parts.study.id.as_bytes(),
+        parts.number.as_bytes(),
+        parts.patient.name.as_bytes(),
+    ];
+    let wanted: [&[u8]; 4] = [b"NOID", b"0", b"0", b"DOE^JOHN"];
+    Ok(found == wanted)
 }
 
 #[test]
@@ -102,13 +123,22 @@ fn empty_keys_are_replaced(rt: HostRuntime) -> Result<(), Fail> {
         Row::new(0x0020, 0x0013, Vr::IS, b"  "),
     ];
     let bytes = v1_without(rt.alloc(), &[tag(0x0020, 0x0010)], &changes)?;
-    let version = version_of(rt.alloc(), &bytes)?;
-    let parts = version.parts();
-    assert_eq!(rt; parts.patient.id.as_bytes(), b"NOID".as_slice());
-    assert_eq!(rt; parts.study.id.as_bytes(), b"0".as_slice());
-    assert_eq!(rt; parts.number.as_bytes(), b"0".as_slice());
-    assert_eq!(rt; parts.patient.name.as_bytes(), b"DOE^JOHN".as_slice());
+    assert!(rt; has_replacements(rt.alloc(), &bytes)?);
     Ok(())
+}
+
+/// Does the version of these bytes have the replacements of all keys that have one, and no name?
+fn has_all_replacements(alloc: Global, bytes: &[u8]) -> Result<bool, Fail> {
+    let version = read(alloc, bytes)?;
+    let parts = parts_of(&version);
+    let patient: [&[u8]; 3] = [b"NOID", b"", b""];
+    let study: [&[u8]; 7] = [b"1.2.3", b"19000101", b"000000", b"", b"", b"0", b""];
+    let series: [&[u8]; 4] = [b"1.2.3.4", b"OT", b"0", b"0"];
+    Ok(
+        of_patient(&parts.patient) == patient
+            && of_study(&parts.study) == study
+            && of_series(parts) == series,
+    )
 }
 
 #[test]
@@ -124,14 +154,7 @@ fn absent_keys_are_replaced(rt: HostRuntime) -> Result<(), Fail> {
         tag(0x0020, 0x0013),
     ];
     let bytes = v1_without(rt.alloc(), &absent, &[])?;
-    let version = version_of(rt.alloc(), &bytes)?;
-    let parts = version.parts();
-    let patient: [&[u8]; 3] = [b"NOID", b"", b""];
-    let study: [&[u8]; 7] = [b"1.2.3", b"19000101", b"000000", b"", b"", b"0", b""];
-    let series: [&[u8]; 4] = [b"1.2.3.4", b"OT", b"0", b"0"];
-    assert_eq!(rt; of_patient(&parts.patient), patient);
-    assert_eq!(rt; of_study(&parts.study), study);
-    assert_eq!(rt; of_series(parts), series);
+    assert!(rt; has_all_replacements(rt.alloc(), &bytes)?);
     Ok(())
 }
 
@@ -259,13 +282,19 @@ fn keys_of_1025_bytes_are_refused(rt: HostRuntime) -> Result<(), Fail> {
     Ok(())
 }
 
+/// Does the version of these bytes have this Patient ID?
+fn has_patient_id(alloc: Global, bytes: &[u8], id: &[u8]) -> Result<bool, Fail> {
+    let version = read(alloc, bytes)?;
+    Ok(parts_of(&version).patient.id.as_bytes() == id)
+}
+
 #[test]
 fn keys_of_1024_bytes_are_taken(rt: HostRuntime) -> Result<(), Fail> {
     let value = long_value(rt.alloc(), 1024, b"  ")?;
     let change = Row::new(0x0010, 0x0020, Vr::LO, &value);
-    let version = version_of(rt.alloc(), &v1_with(rt.alloc(), &[change])?)?;
+    let bytes = v1_with(rt.alloc(), &[change])?;
     let wanted = long_value(rt.alloc(), 1024, b"")?;
-    assert_eq!(rt; version.parts().patient.id.as_bytes(), wanted.as_slice());
+    assert!(rt; has_patient_id(rt.alloc(), &bytes, &wanted)?);
     Ok(())
 }
 

@@ -1,0 +1,5 @@
+pub mod Harmonies
+pub mod Joined
+pub mod Merging
+pub mod Places
+pub mod Torn

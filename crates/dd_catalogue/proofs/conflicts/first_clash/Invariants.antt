@@ -1,0 +1,13 @@
+use Rattle.std.proofs.Common.{◌≡◌, length}
+use Rattle.dd_catalogue.specs.Clash.{clash}
+use Rattle.dd_catalogue.specs.BestLaws.{Member}
+use Rattle.dd_catalogue.proofs.conflicts.first_clash.Given as goal
+
+abbrev pub invariant-loop-later : goal.invariant-loop-later
+invariant-loop-later l = record {
+  same : clash l.later ≡ clash l.versions;
+  within : (v : _) → Member v l.later → Member v l.versions;
+}
+
+abbrev pub decreases-loop-later : goal.decreases-loop-later
+decreases-loop-later l = length l.later

@@ -1,0 +1,6 @@
+use Rattle.std.proofs.Common.{◌≡◌, drop, find}
+use Rattle.dd_catalogue.specs.Clash.{conflicts}
+use Rattle.dd_catalogue.proofs.conflicts.pair_with.Given as goal
+
+abbrev pub invariant-loop-other : goal.invariant-loop-other
+invariant-loop-other l = find (conflicts l.version) (drop l.other-index l.others) ≡ find (conflicts l.version) l.others

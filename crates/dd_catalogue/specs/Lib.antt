@@ -1,0 +1,15 @@
+pub mod Agreeing
+pub mod Best
+pub mod BestLaws
+pub mod BestMembers
+pub mod CatalogueJoin
+pub mod Clash
+pub mod Harmony
+pub mod Histories
+pub mod Joins
+pub mod Owners
+pub mod Rising
+pub mod Table
+pub mod Taking
+pub mod VersionJoin
+pub mod Versions

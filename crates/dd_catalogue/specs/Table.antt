@@ -1,0 +1,19 @@
+-- What a table of the greatest values does with one more value.
+use Rattle.std.specs.Prelude.{◌≡◌, ◌<◌, ◌≤◌, ℕ, List, Option, Some, None, Result, Ok, Err, length, if◌then◌else◌}
+use Rattle.std.specs.List.{AllWithin, HoldsAt}
+use Rattle.std.specs.Ordering.{is_lt}
+use Rattle.std.specs.declared.cmp.Ordering.{Ordering}
+use Rattle.std.specs.declared.cmp.Ordering.TheVariants.{Less, Equal, Greater}
+use Rattle.dd_elem.specs.Ordered.{bytes_cmp}
+use Rattle.dd_catalogue.specs.declared.table.Took.{Took}
+use Rattle.dd_catalogue.specs.declared.table.Took.TheVariants.{New, Replaced, Kept}
+
+-- a place of the value with this key, or the place between the smaller and the greater keys
+abbrev pub IsPlace : {V : Type 0} → (V → List ℕ) → List ℕ → List V → Result ℕ ℕ → Type 0
+IsPlace key k m (Ok i) = (i < length m) × HoldsAt (λ w. bytes_cmp (key w) k ≡ Equal) m i
+IsPlace key k m (Err i) = (i ≤ length m) × AllWithin (λ w. bytes_cmp (key w) k ≡ Less) m 0 i × AllWithin (λ w. bytes_cmp (key w) k ≡ Greater) m i (length m)
+
+-- what becomes of a value where this one is held
+abbrev pub took_by : {V : Type 0} → (V → V → Ordering) → V → Option V → Took V
+took_by values v None = New
+took_by values v (Some w) = if is_lt (values w v) then Replaced w else Kept v

@@ -1,0 +1,163 @@
+//! Catalogues of versions.
+
+ghost use Rattle.std.specs.Prelude.{◌≡◌, [], ◌∷◌, ◌++◌, length, option_copied, IsOk, IfOk, IfErr, OnOk, OnErr, IsSome};
+ghost use Rattle.dd_catalogue.specs.Clash.{clash};
+ghost use Rattle.dd_catalogue.specs.Harmony.{harmonised};
+ghost use Rattle.dd_catalogue.specs.Versions.{IsCatalogue, best_of, kept};
+ghost use Rattle.dd_catalogue.specs.Taking.{took_of};
+
+use crate::conflicts::first_clash;
+use crate::harmony::in_harmony;
+use crate::join::Join;
+use crate::table::{Copied, Keyed, Refused, Table, Took, lent};
+use dd_elem::{Memory, Uid};
+use dd_keys::Version;
+use std::alloc::Global;
+use std::marker::Model;
+
+/// A catalogue of image instances: of each SOP Instance UID (PS3.3 section C.12.1) that it has taken,
+/// the greatest version.
+#[derive(Debug, Drop)]
+pub struct Catalogue {
+    table: Table<Version>,
+}
+
+impl Model for Catalogue {
+    ghost use Rattle.std.specs.Prelude.{List};
+    ghost use Rattle.dd_keys.specs.declared.parts.Parts.{Parts};
+
+    ghost Value = { List Parts };
+
+    ghost view = { λ catalogue. catalogue.table };
+}
+
+/// A version has its SOP Instance UID as key.
+impl Keyed for Version {
+    ghost use Rattle.dd_catalogue.specs.Versions.{instance_of};
+
+    ghost key_of = { instance_of };
+
+    fn key(&self) -> &[u8] {
+        self.parts().instance.as_bytes()
+    }
+}
+
+impl Copied for Version {
+    fn copy_in(&self, alloc: Global) -> Result<Version, Memory> {
+        self.copy(alloc)
+    }
+}
+
+impl Catalogue {
+    /// The catalogue that has taken no version.
+    pub fn new(alloc: Global) -> Catalogue
+        ensures { result ≡ [] }
+    {
+        Catalogue {
+            table: Table::new(alloc),
+        }
+    }
+
+    /// The best of these versions.
+    pub(crate) fn of(alloc: Global, versions: &[Version]) -> Result<Catalogue, Memory>
+        ensures { IfOk result (λ catalogue. catalogue ≡ best_of versions.now) }
+    {
+        Ok(Catalogue {
+            table: Table::of(alloc, lent(alloc, versions)?)?,
+        })
+    }
+
+    /// How many instances it holds.
+    pub fn len(&self) -> usize
+        ensures { result ≡ length self.now }
+    {
+        self.table.values().len()
+    }
+
+    /// The version that it keeps of this instance.
+    pub fn get(&self, instance: &Uid) -> Option<&Version>
+        ensures { option_copied result ≡ kept self.now instance.now }
+    {
+        self.table.get(instance.as_bytes())
+    }
+
+    /// The versions that it keeps, rising by SOP Instance UID.
+    pub fn versions(&self) -> &[Version]
+        ensures all { result.now ≡ self.now }
+        ensures rising { IsCatalogue self.now }
+    {
+        self.table.values()
+    }
+
+    /// Takes a version. It is kept where none of its instance is there, or one that is smaller, which
+    /// is handed back; else it is handed back itself. Refused where a growth was: the version is
+    /// handed back and nothing has changed. No memory is taken where the instance is held.
+    pub fn take(&mut self, version: Version) -> Result<Took<Version>, Refused<Version>>
+        ensures ok { OnOk result (self.new ≡ best_of (version ∷ self.old)) }
+        ensures took { IfOk result (λ took. took ≡ took_of self.old version) }
+        ensures err { OnErr result (self.new ≡ self.old) }
+        ensures back { IfErr result (λ refused. refused.back ≡ version) }
+        ensures held { IsSome (kept self.old version.instance) → IsOk result }
+    {
+        self.table.take(version)
+    }
+
+    /// Takes copies of all versions of the other catalogue. Memory where a growth was refused; then
+    /// nothing has changed.
+    pub fn merge(&mut self, other: &Catalogue) -> Result<(), Memory>
+        ensures ok { OnOk result (self.new ≡ best_of (self.old ++ other.now)) }
+        ensures err { OnErr result (self.new ≡ self.old) }
+    {
+        self.table.merge(&other.table)
+    }
+
+    /// The least instance that conflicts with a greater one, and the least greater one with which it
+    /// conflicts: two versions conflict where they have one study and different Patient IDs, or one
+    /// series and different studies. Memory where a growth was refused.
+    pub fn conflict(&self) -> Result<Option<(Uid, Uid)>, Memory>
+        ensures { IfOk result (λ pair. pair ≡ clash self.now) }
+    {
+        first_clash(self.table.allocator(), self.versions())
+    }
+
+    /// The same instances, each with the greatest keys of its patient, its study and its series among
+    /// all versions here. The keys of a patient, a study or a series are taken whole. Memory where a
+    /// growth was refused.
+    pub fn harmonise(&self) -> Result<Catalogue, Memory>
+        ensures { IfOk result (λ catalogue. catalogue ≡ harmonised self.now) }
+    {
+        let alloc = self.table.allocator();
+        Ok(Catalogue {
+            table: in_harmony(alloc, self.versions())?,
+        })
+    }
+
+    /// An equal catalogue. Memory where a growth was refused.
+    pub fn copy(&self) -> Result<Catalogue, Memory>
+        ensures { IfOk result (λ catalogue. catalogue ≡ self.now) }
+    {
+        Ok(Catalogue {
+            table: self.table.copy()?,
+        })
+    }
+}
+
+/// The join of two catalogues is the best of both.
+impl Join for Catalogue {
+    ghost use Rattle.dd_catalogue.specs.Versions.{IsCatalogue};
+    ghost use Rattle.dd_catalogue.specs.CatalogueJoin.{both, catalogue_laws};
+
+    ghost is_value = { IsCatalogue };
+
+    ghost joined = { both };
+
+    fn known(&self) {
+        let _versions = self.versions();
+    }
+
+    fn join(&mut self, other: &Catalogue) -> Result<(), Memory> {
+        self.merge(other)
+    }
+
+    ghost laws = { catalogue_laws };
+}

@@ -1,0 +1,63 @@
+//! Conflicts among versions.
+
+ghost use Rattle.std.specs.Prelude.{◌≡◌, ◌||◌, None, find, is_some, IfOk};
+ghost use Rattle.dd_elem.specs.Ordered.{bytes_cmp};
+ghost use Rattle.dd_catalogue.specs.Best.{at};
+ghost use Rattle.dd_catalogue.specs.Clash.{clash, conflicts, pair_or};
+ghost use Rattle.dd_catalogue.specs.Owners.{part_of};
+
+use crate::owners::{Owned, series_owners, study_owners, torn};
+use crate::table::Table;
+use dd_elem::{Memory, Ordered, Uid};
+use dd_keys::Version;
+use std::alloc::Global;
+
+/// The first version that conflicts with a later one, and the first later one with which it does.
+pub(crate) fn first_clash(alloc: Global, versions: &[Version]) -> Result<Option<(Uid, Uid)>, Memory>
+    ensures { IfOk result (λ pair. pair ≡ clash versions.now) }
+{
+    let studies = torn(alloc, &study_owners(alloc, versions)?)?;
+    let series = torn(alloc, &series_owners(alloc, versions)?)?;
+    let mut later = versions;
+    while let [version, rest @ ..] = later {
+        if is_torn(version, &studies, &series) {
+            if let Some(pair) = pair_with(version, rest) {
+                return Ok(Some(pair));
+            }
+        }
+        later = rest;
+    }
+    Ok(None)
+}
+
+/// Has the version a study of two patients, or a series of two studies?
+fn is_torn(version: &Version, studies: &Table<Owned>, series: &Table<Owned>) -> bool
+    ensures { result ≡ (is_some (at part_of bytes_cmp studies.now version.now.study.uid) || is_some (at part_of bytes_cmp series.now version.now.series.uid)) }
+{
+    let parts = version.parts();
+    studies.get(parts.study.uid.as_bytes()).is_some()
+        || series.get(parts.series.uid.as_bytes()).is_some()
+}
+
+/// The version and the first of these with which it conflicts.
+fn pair_with(version: &Version, others: &[Version]) -> Option<(Uid, Uid)>
+    ensures { result ≡ pair_or version.now (find (conflicts version.now) others.now) None }
+{
+    for other in others {
+        if conflicts(version, other) {
+            return Some((version.parts().instance, other.parts().instance));
+        }
+    }
+    None
+}
+
+/// Do the versions have one study and different patients, or one series and different studies?
+fn conflicts(one: &Version, other: &Version) -> bool
+    ensures { result ≡ conflicts one.now other.now }
+{
+    let (one, other) = (one.parts(), other.parts());
+    let same_study = one.study.uid.compare(&other.study.uid).is_eq();
+    let same_patient = one.patient.id.compare(&other.patient.id).is_eq();
+    let same_series = one.series.uid.compare(&other.series.uid).is_eq();
+    (same_study && !same_patient) || (same_series && !same_study)
+}

@@ -1,0 +1,59 @@
+//! Harmony among the versions of one patient, study or series.
+
+ghost use Rattle.std.specs.Prelude.{◌≡◌, IfOk};
+ghost use Rattle.dd_keys.specs.Fitting.{Fits};
+ghost use Rattle.dd_catalogue.specs.Agreeing.{agreed_by};
+ghost use Rattle.dd_catalogue.specs.Harmony.{harmonised};
+ghost use Rattle.dd_catalogue.specs.Versions.{IsCatalogue};
+
+use crate::table::Table;
+use crate::tuples::{patients, series, studies};
+use dd_elem::Memory;
+use dd_keys::{Parts, PatientKeys, SeriesKeys, StudyKeys, Version};
+use std::alloc::Global;
+
+/// The versions with the greatest keys of each patient, study and series among them.
+pub(crate) fn in_harmony(alloc: Global, versions: &[Version]) -> Result<Table<Version>, Memory>
+    requires { IsCatalogue versions.now }
+    ensures { IfOk result (λ table. table ≡ harmonised versions.now) }
+{
+    let patients = patients(alloc, versions)?;
+    let studies = studies(alloc, versions)?;
+    let series = series(alloc, versions)?;
+    let mut held = Vec::with_capacity(alloc, versions.len())?;
+    for version in versions {
+        let parts = agreed(alloc, version.parts(), &patients, &studies, &series)?;
+        held.push(fitting(parts))?;
+    }
+    Ok(Table::rising(held))
+}
+
+/// The parts with the keys that the tables have for their patient, study and series.
+fn agreed(
+    alloc: Global,
+    parts: &Parts,
+    patients: &Table<PatientKeys>,
+    studies: &Table<StudyKeys>,
+    series: &Table<SeriesKeys>,
+) -> Result<Parts, Memory>
+    ensures { IfOk result (λ agreed. agreed ≡ agreed_by patients.now studies.now series.now parts.now) }
+{
+    Ok(Parts {
+        digest: parts.digest,
+        patient: patients.like(&parts.patient).copy(alloc)?,
+        study: studies.like(&parts.study).copy(alloc)?,
+        series: series.like(&parts.series).copy(alloc)?,
+        number: parts.number.copy(alloc)?,
+        class: parts.class,
+        transfer: parts.transfer,
+        instance: parts.instance,
+    })
+}
+
+/// The version of parts that fit.
+fn fitting(parts: Parts) -> Version
+    requires { Fits parts }
+    ensures { result ≡ parts }
+{
+    Version::of(parts).unwrap()
+}

@@ -1,0 +1,70 @@
+//! Values that can be joined.
+
+ghost use Rattle.std.specs.Prelude.{◌≡◌, ◌<◌, ℕ, length, take, OnOk, OnErr};
+ghost use Rattle.std.specs.List.{fold};
+ghost use Rattle.dd_catalogue.specs.Joins.{JoinLaws, OrderIsFree};
+
+use dd_elem::{Memory, Ordered};
+use dd_keys::Version;
+
+/// A type whose values can be joined: what is joined, in whatever order and however often, gives the
+/// same.
+pub trait Join {
+    ghost is_value: { Self → Type 0 };
+
+    ghost joined: { Self → Self → Self };
+
+    /// Shows that this is a value, over which the laws of joining hold.
+    fn known(&self)
+        ensures { is_value self.now };
+
+    /// Joins the other value to this one. Memory where a growth was refused; then nothing has changed.
+    fn join(&mut self, other: &Self) -> Result<(), Memory>
+        ensures ok { OnOk result (self.new ≡ joined self.old other.now) }
+        ensures err { OnErr result (self.new ≡ self.old) };
+
+    ghost laws: { JoinLaws is_value joined };
+}
+
+/// Joins each of `rest` to `first`, in turn. Memory where a growth was refused; then `first` holds its
+/// join with those before.
+pub fn gather<J: Join>(first: &mut J, rest: &[J]) -> Result<(), Memory>
+    ensures ok { OnOk result (first.new ≡ fold J.joined first.old rest.now) }
+    ensures err { OnErr result ((n : ℕ) × (n < length rest.now) × (first.new ≡ fold J.joined first.old (take n rest.now))) }
+{
+    for value in rest {
+        first.join(value)?;
+    }
+    Ok(())
+}
+
+/// Lists of values with the same members, in any order and with repeats, give the same when joined.
+pub fn join_order_is_free<J: Join>()
+    ensures { OrderIsFree J.is_value J.joined }
+{}
+
+/// The join of two versions is the greater one.
+impl Join for Version {
+    ghost use Rattle.dd_keys.specs.Fitting.{Fits};
+    ghost use Rattle.dd_keys.specs.Orders.{parts_cmp};
+    ghost use Rattle.dd_catalogue.specs.Best.{greater};
+    ghost use Rattle.dd_catalogue.specs.VersionJoin.{version_laws};
+
+    ghost is_value = { Fits };
+
+    ghost joined = { greater parts_cmp };
+
+    fn known(&self) {
+        let _parts = self.parts();
+    }
+
+    fn join(&mut self, other: &Version) -> Result<(), Memory> {
+        if self.compare(other).is_lt() {
+            let alloc = other.parts().patient.id.allocator();
+            *self = other.copy(alloc)?;
+        }
+        Ok(())
+    }
+
+    ghost laws = { version_laws };
+}

@@ -1,0 +1,22 @@
+//! The catalogue of image instances: of each SOP Instance UID (PS3.3 section C.12.1) the greatest
+//! version that was taken.
+//!
+//! Its one promise: a catalogue is the best of the set of all versions taken, so that neither the order
+//! of arrival nor repeats nor merges change it.
+#![tactic(auto)]
+
+mod catalogue;
+mod conflicts;
+mod harmony;
+mod history;
+mod join;
+mod laws;
+mod owners;
+mod table;
+mod tuples;
+
+pub use catalogue::Catalogue;
+pub use history::{History, build, build_order_is_free};
+pub use join::{Join, gather, join_order_is_free};
+pub use laws::{best_is_best, best_is_one, best_of_bests};
+pub use table::{Refused, Took};
