@@ -38,6 +38,11 @@ pub fn gather<J: Join>(first: &mut J, rest: &[J]) -> Result<(), Memory>
     Ok(())
 }
 
+/// The join of two values is a value, and joining is commutative, associative and idempotent.
+pub fn join_is_lawful<J: Join>()
+    ensures { JoinLaws J.is_value J.joined }
+{}
+
 /// Lists of values with the same members, in any order and with repeats, give the same when joined.
 pub fn join_order_is_free<J: Join>()
     ensures { OrderIsFree J.is_value J.joined }

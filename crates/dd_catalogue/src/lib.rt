@@ -17,6 +17,6 @@ mod tuples;
 
 pub use catalogue::Catalogue;
 pub use history::{History, build, build_order_is_free};
-pub use join::{Join, gather, join_order_is_free};
+pub use join::{Join, gather, join_is_lawful, join_order_is_free};
 pub use laws::{best_is_best, best_is_one, best_of_bests};
 pub use table::{Refused, Took};

@@ -5,7 +5,8 @@ use crate::made_versions::{
     STUDY_TIME, STUDY_UID, are_equal, digest_byte, fitting, parts_of,
 };
 use dd_catalogue::{
-    Catalogue, History, Join, Took, build, build_order_is_free, gather, join_order_is_free,
+    Catalogue, History, Join, Took, build, build_order_is_free, gather, join_is_lawful,
+    join_order_is_free,
 };
 use dd_elem::Uid;
 use dd_keys::Version;
@@ -222,6 +223,8 @@ fn gathers_versions_and_catalogues(rt: HostRuntime) -> Result<(), Fail> {
     ];
     gather(&mut catalogue, &rest)?;
     assert!(rt; holds(&catalogue, &FOUR));
+    join_is_lawful::<Version>();
+    join_is_lawful::<Catalogue>();
     join_order_is_free::<Version>();
     join_order_is_free::<Catalogue>();
     Ok(())
