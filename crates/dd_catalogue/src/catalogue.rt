@@ -43,8 +43,8 @@ impl Keyed for Version {
 }
 
 impl Copied for Version {
-    fn copy_in(&self, alloc: Global) -> Result<Version, Memory> {
-        self.copy(alloc)
+    fn copied(&self) -> Result<Version, Memory> {
+        self.copy()
     }
 }
 

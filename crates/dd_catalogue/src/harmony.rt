@@ -22,7 +22,7 @@ pub(crate) fn in_harmony(alloc: Global, versions: &[Version]) -> Result<Table<Ve
     let series = series(alloc, versions)?;
     let mut held = Vec::with_capacity(alloc, versions.len())?;
     for version in versions {
-        let parts = agreed(alloc, version.parts(), &patients, &studies, &series)?;
+        let parts = agreed(version.parts(), &patients, &studies, &series)?;
         held.push(fitting(parts))?;
     }
     Ok(Table::rising(held))
@@ -30,7 +30,6 @@ pub(crate) fn in_harmony(alloc: Global, versions: &[Version]) -> Result<Table<Ve
 
 /// The parts with the keys that the tables have for their patient, study and series.
 fn agreed(
-    alloc: Global,
     parts: &Parts,
     patients: &Table<PatientKeys>,
     studies: &Table<StudyKeys>,
@@ -40,10 +39,10 @@ fn agreed(
 {
     Ok(Parts {
         digest: parts.digest,
-        patient: patients.like(&parts.patient).copy(alloc)?,
-        study: studies.like(&parts.study).copy(alloc)?,
-        series: series.like(&parts.series).copy(alloc)?,
-        number: parts.number.copy(alloc)?,
+        patient: patients.like(&parts.patient).copy()?,
+        study: studies.like(&parts.study).copy()?,
+        series: series.like(&parts.series).copy()?,
+        number: parts.number.copy()?,
         class: parts.class,
         transfer: parts.transfer,
         instance: parts.instance,

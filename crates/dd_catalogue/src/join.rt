@@ -65,8 +65,7 @@ impl Join for Version {
 
     fn join(&mut self, other: &Version) -> Result<(), Memory> {
         if self.compare(other).is_lt() {
-            let alloc = other.parts().patient.id.allocator();
-            *self = other.copy(alloc)?;
+            *self = other.copy()?;
         }
         Ok(())
     }

@@ -34,6 +34,13 @@ impl Bytes {
         })
     }
 
+    /// Equal bytes.
+    fn copy(&self) -> Result<Bytes, Memory>
+        ensures { IfOk result (λ copy. copy ≡ self.now) }
+    {
+        Bytes::of(*self.bytes.allocator(), self.as_slice())
+    }
+
     /// The bytes.
     fn as_slice(&self) -> &[u8]
         ensures { result.now ≡ self.now }
@@ -50,10 +57,10 @@ pub(crate) struct Owned {
 }
 
 impl Copied for Owned {
-    fn copy_in(&self, alloc: Global) -> Result<Owned, Memory> {
+    fn copied(&self) -> Result<Owned, Memory> {
         Ok(Owned {
             part: self.part,
-            whole: Bytes::of(alloc, self.whole.as_slice())?,
+            whole: self.whole.copy()?,
         })
     }
 }

@@ -18,7 +18,7 @@ use thiserror::Error;
 /// A value that can be copied where memory is found.
 pub(crate) trait Copied {
     /// An equal value.
-    fn copy_in(&self, alloc: Global) -> Result<Self, Memory>
+    fn copied(&self) -> Result<Self, Memory>
         ensures { IfOk result (λ value. value ≡ self.now) };
 }
 
@@ -120,11 +120,10 @@ impl<T: Keyed> Table<T> {
     pub(crate) fn copy(&self) -> Result<Table<T>, Memory>
         ensures { IfOk result (λ table. table ≡ self.now) }
     {
-        let alloc = self.allocator();
         let values = self.values();
-        let mut held = Vec::with_capacity(alloc, values.len())?;
+        let mut held = Vec::with_capacity(self.allocator(), values.len())?;
         for value in values {
-            held.push(value.copy_in(alloc)?)?;
+            held.push(value.copied()?)?;
         }
         Ok(Table { held })
     }
@@ -149,8 +148,7 @@ impl<T: Keyed> Table<T> {
         if self.has_none_below(value) {
             return Ok(());
         }
-        let alloc = self.allocator();
-        match self.take(value.copy_in(alloc)?) {
+        match self.take(value.copied()?) {
             Ok(_) => Ok(()),
             Err(_) => Err(Memory),
         }

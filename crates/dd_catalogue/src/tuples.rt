@@ -13,20 +13,20 @@ use dd_keys::{PatientKeys, SeriesKeys, StudyKeys, Version};
 use std::alloc::Global;
 
 impl Copied for PatientKeys {
-    fn copy_in(&self, alloc: Global) -> Result<PatientKeys, Memory> {
-        self.copy(alloc)
+    fn copied(&self) -> Result<PatientKeys, Memory> {
+        self.copy()
     }
 }
 
 impl Copied for StudyKeys {
-    fn copy_in(&self, alloc: Global) -> Result<StudyKeys, Memory> {
-        self.copy(alloc)
+    fn copied(&self) -> Result<StudyKeys, Memory> {
+        self.copy()
     }
 }
 
 impl Copied for SeriesKeys {
-    fn copy_in(&self, alloc: Global) -> Result<SeriesKeys, Memory> {
-        self.copy(alloc)
+    fn copied(&self) -> Result<SeriesKeys, Memory> {
+        self.copy()
     }
 }
 

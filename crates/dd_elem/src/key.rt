@@ -67,16 +67,11 @@ impl Key {
         self.bytes.as_slice()
     }
 
-    /// What the key takes its memory from.
-    pub fn allocator(&self) -> Global {
-        *self.bytes.allocator()
-    }
-
     /// An equal key. Memory where a growth was refused.
-    pub fn copy(&self, alloc: Global) -> Result<Key, Memory>
+    pub fn copy(&self) -> Result<Key, Memory>
         ensures value { IfOk result (λ key. key ≡ self.now) }
     {
-        let mut bytes = Vec::new(alloc);
+        let mut bytes = Vec::new(*self.bytes.allocator());
         bytes.extend_from_slice(&self.bytes)?;
         Ok(Key { bytes })
     }

@@ -61,11 +61,11 @@ parts_total =
 -- ---- values that compare equal are equal
 
 -- both orders tell no difference
-record BothTie (a b : Ordering) : Type 0 where
-  first : a ≡ Equal
-  second : b ≡ Equal
+pub record BothTie (a b : Ordering) : Type 0 where
+  pub first : a ≡ Equal
+  pub second : b ≡ Equal
 
-both_tie : (a b : Ordering) → ordering_then a b ≡ Equal → BothTie a b
+pub both_tie : (a b : Ordering) → ordering_then a b ≡ Equal → BothTie a b
 both_tie Less b e = absurd (cc)
 both_tie Equal b e = record { first = refl; second = e }
 both_tie Greater b e = absurd (cc)

@@ -4,7 +4,6 @@ ghost use Rattle.std.specs.Prelude.{◌≡◌, IfOk};
 ghost use Rattle.dd_keys.specs.Orders.{patient_cmp, patient_total, patient_apart, study_cmp, study_total, study_apart, series_cmp, series_total, series_apart};
 
 use dd_elem::{Key, Memory, Ordered, Uid};
-use std::alloc::Global;
 use std::cmp::Ordering;
 
 /// The keys of a PATIENT record (PS3.3 section F.5.1), compared in this order.
@@ -50,43 +49,43 @@ pub struct SeriesKeys {
 
 impl PatientKeys {
     /// Equal keys. Memory where a growth was refused.
-    pub fn copy(&self, alloc: Global) -> Result<PatientKeys, Memory>
+    pub fn copy(&self) -> Result<PatientKeys, Memory>
         ensures { IfOk result (λ keys. keys ≡ self.now) }
     {
         Ok(PatientKeys {
-            id: self.id.copy(alloc)?,
-            name: self.name.copy(alloc)?,
-            charset: self.charset.copy(alloc)?,
+            id: self.id.copy()?,
+            name: self.name.copy()?,
+            charset: self.charset.copy()?,
         })
     }
 }
 
 impl StudyKeys {
     /// Equal keys. Memory where a growth was refused.
-    pub fn copy(&self, alloc: Global) -> Result<StudyKeys, Memory>
+    pub fn copy(&self) -> Result<StudyKeys, Memory>
         ensures { IfOk result (λ keys. keys ≡ self.now) }
     {
         Ok(StudyKeys {
             uid: self.uid,
-            date: self.date.copy(alloc)?,
-            time: self.time.copy(alloc)?,
-            accession: self.accession.copy(alloc)?,
-            description: self.description.copy(alloc)?,
-            id: self.id.copy(alloc)?,
-            charset: self.charset.copy(alloc)?,
+            date: self.date.copy()?,
+            time: self.time.copy()?,
+            accession: self.accession.copy()?,
+            description: self.description.copy()?,
+            id: self.id.copy()?,
+            charset: self.charset.copy()?,
         })
     }
 }
 
 impl SeriesKeys {
     /// Equal keys. Memory where a growth was refused.
-    pub fn copy(&self, alloc: Global) -> Result<SeriesKeys, Memory>
+    pub fn copy(&self) -> Result<SeriesKeys, Memory>
         ensures { IfOk result (λ keys. keys ≡ self.now) }
     {
         Ok(SeriesKeys {
             uid: self.uid,
-            modality: self.modality.copy(alloc)?,
-            number: self.number.copy(alloc)?,
+            modality: self.modality.copy()?,
+            number: self.number.copy()?,
         })
     }
 }

@@ -5,7 +5,6 @@ ghost use Rattle.dd_keys.specs.Orders.{parts_cmp, parts_total, parts_apart};
 
 use crate::keys::{PatientKeys, SeriesKeys, StudyKeys};
 use dd_elem::{Key, Memory, Ordered, Uid};
-use std::alloc::Global;
 use std::cmp::Ordering;
 
 /// The digest of a file and the keys of its image, compared in this order.
@@ -31,15 +30,15 @@ pub struct Parts {
 
 impl Parts {
     /// Equal parts. Memory where a growth was refused.
-    pub fn copy(&self, alloc: Global) -> Result<Parts, Memory>
+    pub fn copy(&self) -> Result<Parts, Memory>
         ensures { IfOk result (λ parts. parts ≡ self.now) }
     {
         Ok(Parts {
             digest: self.digest,
-            patient: self.patient.copy(alloc)?,
-            study: self.study.copy(alloc)?,
-            series: self.series.copy(alloc)?,
-            number: self.number.copy(alloc)?,
+            patient: self.patient.copy()?,
+            study: self.study.copy()?,
+            series: self.series.copy()?,
+            number: self.number.copy()?,
             class: self.class,
             transfer: self.transfer,
             instance: self.instance,

@@ -11,7 +11,6 @@ use crate::rows::{
 };
 use dd_elem::{Key, Memory, Ordered, Tag};
 use dd_part10::Meta;
-use std::alloc::Global;
 use std::cmp::Ordering;
 use std::marker::Model;
 use thiserror::Error;
@@ -86,10 +85,10 @@ impl Version {
     }
 
     /// An equal version. Memory where a growth was refused.
-    pub fn copy(&self, alloc: Global) -> Result<Version, Memory>
+    pub fn copy(&self) -> Result<Version, Memory>
         ensures { IfOk result (λ version. version ≡ self.now) }
     {
-        let parts = self.parts.copy(alloc)?;
+        let parts = self.parts.copy()?;
         Ok(Version { parts })
     }
 }

@@ -32,30 +32,10 @@ impl DataSet<'_> {
         ensures unspelled { ¬ Spells syntax (set_view self.now) (elements_text (set_view self.now))
             → IfOk result (λ starts. starts ≡ None) }
     {
-        self.item_starts_from(alloc, syntax, tag, 0)
-    }
-
-    /// The same places, where `first` bytes stand before those of the set.
-    fn item_starts_from(
-        &self,
-        alloc: Global,
-        syntax: Syntax,
-        tag: Tag,
-        first: u64,
-    ) -> Result<Option<Vec<u64>>, Memory>
-        requires { let text = elements_text (set_view self.now)
-            in Spells syntax (set_view self.now) text → first + length text < 2 ^ 64 }
-        ensures spelled { Spells syntax (set_view self.now) (elements_text (set_view self.now))
-            → (front : List ℕ) → length front ≡ first
-            → IfOk result (λ starts. option_map (λ v. v.items) starts
-            ≡ places_in tag front (set_view self.now)) }
-        ensures unspelled { ¬ Spells syntax (set_view self.now) (elements_text (set_view self.now))
-            → IfOk result (λ starts. starts ≡ None) }
-    {
         if self.size(syntax).is_none() {
             return Ok(None);
         }
-        let mut at = first;
+        let mut at = 0;
         for element in &self.elements {
             if element.tag == tag {
                 return starts_of(alloc, element, syntax, at);

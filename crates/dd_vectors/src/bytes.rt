@@ -20,6 +20,15 @@ pub(crate) fn words<T: Display>(alloc: Global, value: &T) -> Result<String, Allo
     format!(in alloc; "{value}")
 }
 
+/// The words of a command line.
+pub(crate) fn words_from(alloc: Global, line: &str) -> Result<Vec<String>, AllocError> {
+    let mut words = Vec::new(alloc);
+    for word in line.split(' ') {
+        words.push(String::from_str(alloc, word)?)?;
+    }
+    Ok(words)
+}
+
 /// The tag of these two numbers.
 pub(crate) fn tag(group: u16, element: u16) -> Tag {
     Tag { group, element }

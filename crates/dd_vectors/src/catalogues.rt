@@ -2,7 +2,7 @@
 
 use crate::made_versions::{
     Changes, DESCRIPTION, INSTANCE, PATIENT_ID, PATIENT_NAME, SERIES_NUMBER, SERIES_UID,
-    STUDY_TIME, STUDY_UID, are_equal, digest_byte, fitting, parts_of,
+    STUDY_TIME, STUDY_UID, are_equal, digest_of, fitting, parts_of, versions,
 };
 use dd_catalogue::{
     Catalogue, History, Join, Took, build, build_order_is_free, gather, join_is_lawful,
@@ -38,17 +38,13 @@ const FOURTH: Changes<'static> = &[
     (INSTANCE, "1.2.9.1.1"),
 ];
 
+/// Digests of 32 equal bytes.
+const ONES: &[u8] = &[1; 32];
+
+const TWOS: &[u8] = &[2; 32];
+
 /// The instances of all four, rising.
 const FOUR: [&[u8]; 4] = [b"1.2.3.4.5", b"1.2.3.4.6", b"1.2.3.5.1", b"1.2.9.1.1"];
-
-/// Each with that digest.
-fn all_of(alloc: Global, images: &[Changes<'_>]) -> Result<Vec<Version>, Fail> {
-    let mut versions = Vec::new(alloc);
-    for changes in images {
-        versions.push(fitting(alloc, DIGEST, changes)?)?;
-    }
-    Ok(versions)
-}
 
 /// The catalogue that took these in turn.
 fn taken(alloc: Global, images: &[Changes<'_>]) -> Result<Catalogue, Fail> {
@@ -110,47 +106,44 @@ fn an_instance_is_new_once(rt: HostRuntime) -> Result<(), Fail> {
     Ok(())
 }
 
-/// Of a version that was handed back: was it there before, and the first byte of its digest.
-fn handed_back(took: &Took<Version>) -> Option<(bool, Option<u8>)> {
+/// Was a version with this digest handed back, the one that was there or else the one given?
+fn hands_back(took: &Took<Version>, was_there: bool, digest: &[u8]) -> bool {
     match took {
-        Took::New => None,
-        Took::Replaced(old) => Some((true, digest_byte(old))),
-        Took::Kept(given) => Some((false, digest_byte(given))),
+        Took::New => false,
+        Took::Replaced(old) => was_there && digest_of(old) == digest,
+        Took::Kept(given) => !was_there && digest_of(given) == digest,
     }
 }
 
-/// Takes a version of the first image.
-fn take_first(
+/// Takes a version of the first image with this digest. Does that hand the other one back?
+fn taking_hands_back(
     alloc: Global,
     catalogue: &mut Catalogue,
     digest: u8,
-) -> Result<Option<(bool, Option<u8>)>, Fail> {
+    wanted: (bool, &[u8]),
+) -> Result<bool, Fail> {
     let took = take(catalogue, fitting(alloc, digest, FIRST)?)?;
-    Ok(handed_back(&took))
+    Ok(hands_back(&took, wanted.0, wanted.1))
 }
 
 /// The version with the greater digest stays, and the other is handed back.
 #[test]
 fn the_greater_version_stays(rt: HostRuntime) -> Result<(), Fail> {
     let alloc = rt.alloc();
-    for (first, second, is_replaced) in [(1, 2, true), (2, 1, false)] {
+    for (first, second, was_there) in [(1, 2, true), (2, 1, false)] {
         let mut catalogue = Catalogue::new(alloc);
-        assert_eq!(rt; take_first(alloc, &mut catalogue, first)?, None);
-        let took = take_first(alloc, &mut catalogue, second)?;
-        assert_eq!(rt; took, Some((is_replaced, Some(1))));
+        let wanted = (was_there, ONES);
+        assert!(rt; !taking_hands_back(alloc, &mut catalogue, first, wanted)?);
+        assert!(rt; taking_hands_back(alloc, &mut catalogue, second, wanted)?);
         let kept = catalogue.versions().first().ok_or("it is empty")?;
-        assert_eq!(rt; digest_byte(kept), Some(2));
+        assert_eq!(rt; digest_of(kept), TWOS);
         assert_eq!(rt; catalogue.len(), 1);
     }
     Ok(())
 }
 
-/// Versions with these study descriptions, the first joined with the others in turn.
-fn gathered(alloc: Global, descriptions: &[&'static str]) -> Result<Vec<Version>, Fail> {
-    let mut versions = Vec::new(alloc);
-    for description in descriptions {
-        versions.push(fitting(alloc, DIGEST, &[(DESCRIPTION, *description)])?)?;
-    }
+/// These versions, the first joined with the others in turn.
+fn gathered(mut versions: Vec<Version>) -> Result<Vec<Version>, Fail> {
     let (first, rest) = versions.split_first_mut().ok_or("there is none")?;
     gather(first, rest)?;
     Ok(versions)
@@ -171,7 +164,8 @@ fn the_greater_description_stays(rt: HostRuntime) -> Result<(), Fail> {
         let images: [Changes<'_>; 2] = [&[(DESCRIPTION, first)], &[(DESCRIPTION, second)]];
         let catalogue = taken(alloc, &images)?;
         assert!(rt; has_description(catalogue.versions(), b"B"));
-        let versions = gathered(alloc, &[first, second])?;
+        let [one, other] = images;
+        let versions = gathered(versions(alloc, &[(DIGEST, one), (DIGEST, other)])?)?;
         assert!(rt; has_description(&versions, b"B"));
     }
     Ok(())
@@ -199,12 +193,23 @@ fn joins_have_no_order(rt: HostRuntime) -> Result<(), Fail> {
 fn histories_give_the_best_that_they_took(rt: HostRuntime) -> Result<(), Fail> {
     let alloc = rt.alloc();
     let four = taken(alloc, &[FIRST, SECOND, THIRD, FOURTH])?;
-    let batch = History::Batch(all_of(alloc, &[FOURTH, SECOND, THIRD, FIRST])?);
+    let batch = History::Batch(versions(
+        alloc,
+        &[
+            (DIGEST, FOURTH),
+            (DIGEST, SECOND),
+            (DIGEST, THIRD),
+            (DIGEST, FIRST),
+        ],
+    )?);
     assert!(rt; hold_the_same(&build(alloc, &batch)?, &four));
     let mut parts = Vec::new(alloc);
-    parts.push(History::Batch(all_of(alloc, &[SECOND, FIRST, SECOND])?))?;
+    parts.push(History::Batch(versions(
+        alloc,
+        &[(DIGEST, SECOND), (DIGEST, FIRST), (DIGEST, SECOND)],
+    )?))?;
     parts.push(History::Merge(Vec::new(alloc)))?;
-    parts.push(History::Batch(all_of(alloc, &[FOURTH, THIRD])?))?;
+    parts.push(History::Batch(versions(alloc, &[(DIGEST, FOURTH), (DIGEST, THIRD)])?))?;
     assert!(rt; hold_the_same(&build(alloc, &History::Merge(parts))?, &four));
     build_order_is_free();
     Ok(())
@@ -213,7 +218,9 @@ fn histories_give_the_best_that_they_took(rt: HostRuntime) -> Result<(), Fail> {
 #[test]
 fn gathers_versions_and_catalogues(rt: HostRuntime) -> Result<(), Fail> {
     let alloc = rt.alloc();
-    let versions = gathered(alloc, &["A", "B", "A"])?;
+    let a: Changes<'_> = &[(DESCRIPTION, "A")];
+    let b: Changes<'_> = &[(DESCRIPTION, "B")];
+    let versions = gathered(versions(alloc, &[(DIGEST, a), (DIGEST, b), (DIGEST, a)])?)?;
     assert!(rt; has_description(&versions, b"B"));
     let mut catalogue = Catalogue::new(alloc);
     let rest = [

@@ -1,11 +1,12 @@
 //! The program's run over files in memory: `index` of one image, and each way in which it ends.
 
+use crate::bytes::words_from;
 use crate::empty_directory::v2;
 use crate::first_directory::with_records;
 use crate::source_file::v1_with;
 use dd_elem::Sink;
 use dicomdir::{MemFiles, run};
-use std::alloc::{AllocError, Global};
+use std::alloc::Global;
 use std::test::Fail;
 
 /// What a run came to.
@@ -14,14 +15,6 @@ struct End {
     status: u8,
     out: Vec<u8>,
     err: Vec<u8>,
-}
-
-fn words_from(alloc: Global, line: &str) -> Result<Vec<String>, AllocError> {
-    let mut words = Vec::new(alloc);
-    for word in line.split(' ') {
-        words.push(String::from_str(alloc, word)?)?;
-    }
-    Ok(words)
 }
 
 fn run_line(alloc: Global, line: &str, files: &mut MemFiles) -> Result<End, Fail> {

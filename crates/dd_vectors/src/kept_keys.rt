@@ -15,7 +15,7 @@ fn keys_have_no_padding(rt: HostRuntime) -> Result<(), Fail> {
     for (bytes, kept) in table {
         let key = Key::copy_of(rt.alloc(), bytes)?;
         assert_eq!(rt; key.as_bytes(), kept);
-        let copy = key.copy(rt.alloc())?;
+        let copy = key.copy()?;
         assert_eq!(rt; copy, key);
         assert_eq!(rt; copy.as_bytes(), kept);
     }

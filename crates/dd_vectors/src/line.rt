@@ -1,4 +1,6 @@
 //! What lines are taken, and the status and output of those that are not.
+
+use crate::bytes::words_from;
 use dicomdir::{LineFault, Verb, read_words};
 use std::alloc::{AllocError, Global};
 use std::test::Fail;
@@ -12,14 +14,6 @@ enum End {
     Refused(i32, bool),
     /// Memory ran out.
     Memory,
-}
-
-fn words_from(alloc: Global, line: &str) -> Result<Vec<String>, AllocError> {
-    let mut words = Vec::new(alloc);
-    for word in line.split(' ') {
-        words.push(String::from_str(alloc, word)?)?;
-    }
-    Ok(words)
 }
 
 fn end_of(alloc: Global, line: &str) -> Result<End, AllocError> {

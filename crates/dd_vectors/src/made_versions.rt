@@ -176,8 +176,8 @@ pub(crate) fn versions(alloc: Global, all: &[(u8, Changes<'_>)]) -> Result<Vec<V
 }
 
 /// An equal version.
-pub(crate) fn copy_of(alloc: Global, version: &Version) -> Result<Version, Fail> {
-    Ok(version.copy(alloc)?)
+pub(crate) fn copy_of(version: &Version) -> Result<Version, Fail> {
+    Ok(version.copy()?)
 }
 
 /// Are the versions equal? Those are that compare equal.
@@ -185,7 +185,7 @@ pub(crate) fn are_equal(one: &Version, other: &Version) -> bool {
     one.compare(other).is_eq()
 }
 
-/// The first byte of the digest.
-pub(crate) fn digest_byte(version: &Version) -> Option<u8> {
-    parts_of(version).digest.as_slice().first().copied()
+/// The digest.
+pub(crate) fn digest_of(version: &Version) -> &[u8] {
+    parts_of(version).digest.as_slice()
 }

@@ -97,11 +97,11 @@ fn parts_that_fit(rt: HostRuntime) -> Result<(), Fail> {
 /// Does the version of these bytes equal its copy?
 fn read_equals_its_copy(alloc: Global, bytes: &[u8]) -> Result<bool, Fail> {
     let version = read(alloc, bytes)?;
-    equals_its_copy(alloc, &version)
+    equals_its_copy(&version)
 }
 
-fn equals_its_copy(alloc: Global, version: &Version) -> Result<bool, Fail> {
-    let copy = copy_of(alloc, version)?;
+fn equals_its_copy(version: &Version) -> Result<bool, Fail> {
+    let copy = copy_of(version)?;
     Ok(are_equal(version, &copy))
 }
 

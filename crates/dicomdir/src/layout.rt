@@ -216,7 +216,7 @@ pub fn lay_out(
         return Err(PlanFault::TooLarge);
     }
     let mut versions = Vec::new(alloc);
-    versions.push(version.copy(alloc)?)?;
+    versions.push(version.copy()?)?;
     let records = only_records(alloc, &at)?;
     Ok(Plan {
         label: *label,
