@@ -17,7 +17,7 @@ use std::marker::Model;
 
 /// A catalogue of image instances: of each SOP Instance UID (PS3.3 section C.12.1) that it has taken,
 /// the greatest version.
-#[derive(Debug, Drop)]
+#[derive(Debug)]
 pub struct Catalogue {
     table: Table<Version>,
 }
@@ -29,6 +29,13 @@ impl Model for Catalogue {
     ghost Value = { List Parts };
 
     ghost view = { λ catalogue. catalogue.table };
+}
+
+// By hand, so that letting go of a catalogue is one call.
+impl Drop for Catalogue {
+    fn drop(self) {
+        let Catalogue { table: _table } = self;
+    }
 }
 
 /// A version has its SOP Instance UID as key.

@@ -7,7 +7,7 @@ use dd_elem::{Key, Memory, Ordered, Uid};
 use std::cmp::Ordering;
 
 /// The keys of a PATIENT record (PS3.3 section F.5.1), compared in this order.
-#[derive(Debug, Drop, PartialEq)]
+#[derive(Debug, PartialEq)]
 pub struct PatientKeys {
     /// Patient ID (0010,0020).
     pub id: Key,
@@ -18,7 +18,7 @@ pub struct PatientKeys {
 }
 
 /// The keys of a STUDY record (PS3.3 section F.5.2), compared in this order.
-#[derive(Debug, Drop, PartialEq)]
+#[derive(Debug, PartialEq)]
 pub struct StudyKeys {
     /// Study Instance UID (0020,000D).
     pub uid: Uid,
@@ -37,7 +37,7 @@ pub struct StudyKeys {
 }
 
 /// The keys of a SERIES record (PS3.3 section F.5.3), compared in this order.
-#[derive(Debug, Drop, PartialEq)]
+#[derive(Debug, PartialEq)]
 pub struct SeriesKeys {
     /// Series Instance UID (0020,000E).
     pub uid: Uid,
@@ -45,6 +45,42 @@ pub struct SeriesKeys {
     pub modality: Key,
     /// Series Number (0020,0011).
     pub number: Key,
+}
+
+// Each drop is written by hand, as one call: a derived one is proved anew at each exit of a function that
+// owns the value.
+impl Drop for PatientKeys {
+    fn drop(self) {
+        let PatientKeys {
+            id: _id,
+            name: _name,
+            charset: _charset,
+        } = self;
+    }
+}
+
+impl Drop for StudyKeys {
+    fn drop(self) {
+        let StudyKeys {
+            uid: _,
+            date: _date,
+            time: _time,
+            accession: _accession,
+            description: _description,
+            id: _id,
+            charset: _charset,
+        } = self;
+    }
+}
+
+impl Drop for SeriesKeys {
+    fn drop(self) {
+        let SeriesKeys {
+            uid: _,
+            modality: _modality,
+            number: _number,
+        } = self;
+    }
 }
 
 impl PatientKeys {

@@ -8,7 +8,7 @@ use dd_elem::{Key, Memory, Ordered, Uid};
 use std::cmp::Ordering;
 
 /// The digest of a file and the keys of its image, compared in this order.
-#[derive(Debug, Drop, PartialEq)]
+#[derive(Debug, PartialEq)]
 pub struct Parts {
     /// SHA-256 of the whole file.
     pub digest: [u8; 32],
@@ -26,6 +26,22 @@ pub struct Parts {
     pub transfer: Uid,
     /// SOP Instance UID (0008,0018).
     pub instance: Uid,
+}
+
+// By hand, so that letting go of parts is one call.
+impl Drop for Parts {
+    fn drop(self) {
+        let Parts {
+            digest: _,
+            patient: _patient,
+            study: _study,
+            series: _series,
+            number: _number,
+            class: _,
+            transfer: _,
+            instance: _,
+        } = self;
+    }
 }
 
 impl Parts {

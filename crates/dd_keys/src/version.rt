@@ -24,7 +24,7 @@ const TRANSFER: Tag = Tag {
 /// A version of an image instance: parts of which the keys that the records of a directory must have
 /// (PS3.3 section F.5) are not empty, whose class is one of those that are taken and whose transfer
 /// syntax is one of those that are read.
-#[derive(Debug, Drop)]
+#[derive(Debug)]
 pub struct Version {
     parts: Parts,
 }
@@ -38,6 +38,13 @@ impl Model for Version {
     ghost view = { λ version. version.parts };
 
     ghost invariant = { λ version. Fits version.parts };
+}
+
+// By hand, so that letting go of a version is one call.
+impl Drop for Version {
+    fn drop(self) {
+        let Version { parts: _parts } = self;
+    }
 }
 
 /// Parts that are no version.
