@@ -4,6 +4,7 @@ pub mod Counts
 pub mod Device
 pub mod FileId
 pub mod FileIdForm
+pub mod Held
 pub mod InPlace
 pub mod Key
 pub mod Ordered

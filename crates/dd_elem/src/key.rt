@@ -1,9 +1,11 @@
 //! Values of elements that are kept.
 
-ghost use Rattle.std.specs.Prelude.{◌≡◌, ◌<◌, ◌↔◌, List, ℕ, length, IfOk};
+ghost use Rattle.std.specs.Prelude.{◌≡◌, ◌<◌, ◌↔◌, List, ℕ, length, IfOk, IsErr};
 ghost use Rattle.dd_elem.specs.Clean.{clean_of};
+ghost use Rattle.dd_elem.specs.Held.{most_in_place};
 ghost use Rattle.dd_elem.specs.Key.{IsKey};
 
+use crate::held::Held;
 use crate::memory::Memory;
 use crate::ordered::Ordered;
 use crate::padding::clean;
@@ -12,18 +14,23 @@ use std::cmp::Ordering;
 use std::marker::Model;
 use thiserror::Error;
 
-/// A value of an element that is kept: at most 1,024 bytes that do not end in a NUL or a space.
+/// A value of an element that is kept: at most 1,024 bytes that do not end in a NUL or a space. Up to
+/// 22 bytes are held in place and take no memory; copies of a longer key share its bytes.
 #[derive(Debug, Drop)]
 pub struct Key {
-    bytes: Vec<u8>,
+    held: Held,
 }
 
 impl Model for Key {
+    ghost use Rattle.std.specs.Prelude.{List, ℕ};
+    ghost use Rattle.dd_elem.specs.Held.{held_bytes, IsHeld};
+    ghost use Rattle.dd_elem.specs.Key.{IsKey};
+
     ghost Value = { List ℕ };
 
-    ghost view = { λ key. key.bytes.items };
+    ghost view = { λ key. held_bytes key.held };
 
-    ghost invariant = { λ key. IsKey key.bytes.items };
+    ghost invariant = { λ key. IsHeld key.held × IsKey (held_bytes key.held) };
 }
 
 /// No key is made of the bytes.
@@ -42,21 +49,21 @@ impl Key {
     pub const MAX_LEN: usize = 1024;
 
     /// The key that these bytes are without their padding (PS3.5 section 6.2). TooLong where more than
-    /// 1,024 bytes are left; Memory where a growth was refused.
+    /// 1,024 bytes are left; Memory where a growth was refused, which at most 22 bytes do not want.
     #[tactic(auto, using(crate::proofs::Keys::IsKey_from_clean_of))]
     pub fn copy_of(alloc: Global, bytes: &[u8]) -> Result<Key, KeyRefused>
         ensures value { IfOk result (λ key. key ≡ clean_of bytes.now) }
         ensures too_long { (result ≡ Err KeyRefused.TooLong) ↔ (1024 < length (clean_of bytes.now)) }
+        ensures memory { result ≡ Err KeyRefused.Memory → most_in_place < length (clean_of bytes.now) }
     {
         let kept = clean(bytes);
         if kept.len() > Key::MAX_LEN {
             return Err(KeyRefused::TooLong);
         }
-        let mut bytes = Vec::new(alloc);
-        bytes
-            .extend_from_slice(kept)
-            .map_err(|_| KeyRefused::Memory)?;
-        Ok(Key { bytes })
+        match Held::of(alloc, kept) {
+            Ok(held) => Ok(Key { held }),
+            Err(_) => Err(KeyRefused::Memory),
+        }
     }
 
     /// The bytes, without padding.
@@ -64,16 +71,17 @@ impl Key {
         ensures value { result.now ≡ self.now }
         ensures valid { IsKey self.now }
     {
-        self.bytes.as_slice()
+        self.held.as_slice()
     }
 
-    /// An equal key. Memory where a growth was refused.
+    /// An equal key. Memory where it was refused, which a key of at most 22 bytes does not want.
     pub fn copy(&self) -> Result<Key, Memory>
         ensures value { IfOk result (λ key. key ≡ self.now) }
+        ensures memory { IsErr result → most_in_place < length self.now }
     {
-        let mut bytes = Vec::new(*self.bytes.allocator());
-        bytes.extend_from_slice(&self.bytes)?;
-        Ok(Key { bytes })
+        Ok(Key {
+            held: self.held.copy()?,
+        })
     }
 }
 
@@ -88,7 +96,7 @@ impl PartialEq for Key {
     ghost laws = { Prim.search (comparing, rules) };
 
     fn eq(&self, other: &Key) -> bool {
-        self.bytes == other.bytes
+        self.as_bytes() == other.as_bytes()
     }
 }
 

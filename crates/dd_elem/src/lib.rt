@@ -11,6 +11,7 @@ mod counts;
 mod device;
 mod file_id;
 mod file_id_form;
+mod held;
 mod in_place;
 mod key;
 mod memory;

@@ -14,7 +14,7 @@ use thiserror::Error;
 #[derive(Clone, Copy, Debug, PartialEq, Eq)]
 pub struct Uid {
     bytes: [u8; 64],
-    len: usize,
+    len: u8,
 }
 
 impl Model for Uid {
@@ -49,7 +49,7 @@ impl Uid {
         }
         Ok(Uid {
             bytes: fill(bytes),
-            len: bytes.len(),
+            len: bytes.len() as u8,
         })
     }
 
@@ -59,7 +59,7 @@ impl Uid {
         ensures value { result.now ≡ self.now }
         ensures valid { IsUid self.now }
     {
-        &self.bytes[..self.len]
+        &self.bytes[..usize::from(self.len)]
     }
 }
 
