@@ -15,3 +15,4 @@ pub mod Seen
 pub mod Sound
 pub mod Steps
 pub mod Taken
+pub mod Unkept

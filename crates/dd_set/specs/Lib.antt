@@ -2,6 +2,7 @@ pub mod Bytes
 pub mod Elements
 pub mod Find
 pub mod Gives
+pub mod Memory
 pub mod Places
 pub mod Reading
 pub mod Sends

@@ -1,6 +1,7 @@
 //! Taking bytes, tags and numbers from where reading stands.
 
-ghost use Rattle.std.specs.Prelude.{◌≡◌, ◌+◌, ◌≤◌, length, take, drop, IfOk};
+ghost use Rattle.std.specs.Prelude.{◌≡◌, ◌≢◌, ◌+◌, ◌≤◌, length, take, drop, IfOk, Err};
+ghost use Rattle.dd_set.specs.declared.fault.SetFault.TheVariants.{Memory};
 ghost use Rattle.dd_set.specs.Gives.{Gives};
 ghost use Rattle.dd_set.specs.Places.{at_view, shape_view};
 ghost use Rattle.dd_set.specs.Reading.{take_at, tag_of, long_of, short_of, is_over, leaves_fewer, less, shape_at, long_at, explicit_at, ends_set, ends_sequence, is_item};
@@ -71,6 +72,7 @@ impl<'a> Cursor<'a> {
         ensures exact { Gives (λ x. (x.0.now, at_view x.1)) result (take_at n (at_view self.entry)) }
         ensures whole { IfOk result (λ x. length x.0.now ≡ n) }
         ensures shorter { IfOk result (λ x. length x.1.rest.now + n ≡ length self.entry.rest.now) }
+        ensures no_memory { result ≢ Err Memory }
     {
         if self.leaves_fewer(n) {
             return Err(SetFault::Overrun);
@@ -175,6 +177,7 @@ pub fn header_shape<'a>(
     requires { length head.now ≡ 8 }
     ensures exact { Gives (λ x. (shape_view x.0, at_view x.1)) result (shape_at syntax head.now (at_view at.entry)) }
     ensures shorter { IfOk result (λ x. length x.1.rest.now ≤ length at.entry.rest.now) }
+    ensures no_memory { result ≢ Err Memory }
 {
     match syntax {
         Syntax::Implicit => Ok((
@@ -207,6 +210,7 @@ fn long_shape<'a>(vr: Vr, head: &[u8], at: Cursor<'a>) -> Result<(Shape, Cursor<
     requires { length head.now ≡ 8 }
     ensures exact { Gives (λ x. (shape_view x.0, at_view x.1)) result (long_at vr head.now (at_view at.entry)) }
     ensures shorter { IfOk result (λ x. length x.1.rest.now ≤ length at.entry.rest.now) }
+    ensures no_memory { result ≢ Err Memory }
 {
     if short_in(head) != 0 {
         return Err(SetFault::Reserved);

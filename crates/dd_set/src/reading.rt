@@ -1,8 +1,10 @@
 //! Reading a data set from its bytes.
 
-ghost use Rattle.std.specs.Prelude.{◌≡◌, ◌+◌, ◌<◌, ◌≤◌, length, IfOk, Ok, OnSome, option_map};
+ghost use Rattle.std.specs.Prelude.{◌≡◌, ◌+◌, ◌<◌, ◌≤◌, length, IfOk, Ok, Err, OnSome, option_map};
+ghost use Rattle.dd_set.specs.declared.fault.SetFault.TheVariants.{Memory};
 ghost use Rattle.dd_set.specs.Elements.{Elements};
 ghost use Rattle.dd_set.specs.Gives.{Gives};
+ghost use Rattle.dd_set.specs.Memory.{unkept_sequence, unkept_set, unkept_item, WantsMemory};
 ghost use Rattle.dd_set.specs.Places.{at_view, shape_view};
 ghost use Rattle.dd_set.specs.Reading.{item_reader, sequence_with, set_with, content_at, body_at, element_at, item_at, part_at, read_all};
 ghost use Rattle.dd_set.specs.Spelling.{Spells};
@@ -30,6 +32,8 @@ fn content<'a>(
     ensures exact { Gives (λ x. (value_view x.0, at_view x.1)) result
         (content_at (sequence_with (item_reader levels)) syntax (shape_view shape) (at_view at.entry)) }
     ensures shorter { IfOk result (λ x. length x.1.rest.now ≤ length at.entry.rest.now) }
+    ensures memory { result ≡ Err Memory
+        → content_at (unkept_sequence (unkept_item levels)) syntax (shape_view shape) (at_view at.entry) ≡ Err Memory }
 {
     let n = u64::from(shape.length);
     if shape.length == UNDEFINED_LENGTH {
@@ -70,6 +74,8 @@ fn body<'a>(
     ensures exact { Gives (λ x. (element_view x.0, at_view x.1)) result
         (body_at (sequence_with (item_reader levels)) syntax low head.now (at_view at.entry)) }
     ensures shorter { IfOk result (λ x. length x.1.rest.now ≤ length at.entry.rest.now) }
+    ensures memory { result ≡ Err Memory
+        → body_at (unkept_sequence (unkept_item levels)) syntax low head.now (at_view at.entry) ≡ Err Memory }
 {
     let tag = tag_in(head);
     if tag.group == DELIMITER_GROUP {
@@ -99,6 +105,8 @@ fn element<'a>(
         (element_at (sequence_with (item_reader levels)) syntax form low (at_view at.entry)) }
     ensures shorter { IfOk result (λ x. OnSome x.0 (length x.1.rest.now < length at.entry.rest.now)) }
     ensures not_longer { IfOk result (λ x. length x.1.rest.now ≤ length at.entry.rest.now) }
+    ensures memory { result ≡ Err Memory
+        → element_at (unkept_sequence (unkept_item levels)) syntax form low (at_view at.entry) ≡ Err Memory }
 {
     if at.is_over(form) {
         return Ok((None, at));
@@ -126,6 +134,7 @@ fn set<'a>(
     ensures exact { Gives (λ x. (set_view x.0, at_view x.1)) result
         (set_with (item_reader levels) syntax form (at_view at.entry)) }
     ensures shorter { IfOk result (λ x. length x.1.rest.now ≤ length at.entry.rest.now) }
+    ensures memory { result ≡ Err Memory → unkept_set (unkept_item levels) syntax form (at_view at.entry) ≡ Err Memory }
 {
     let mut elements = Vec::new(alloc);
     let mut place = at;
@@ -157,6 +166,7 @@ fn item<'a>(
         (item_at (item_reader levels) syntax form (at_view at.entry)) }
     ensures shorter { IfOk result (λ x. OnSome x.0 (length x.1.rest.now < length at.entry.rest.now)) }
     ensures not_longer { IfOk result (λ x. length x.1.rest.now ≤ length at.entry.rest.now) }
+    ensures memory { result ≡ Err Memory → item_at (unkept_item levels) syntax form (at_view at.entry) ≡ Err Memory }
 {
     if at.is_over(form) {
         return Ok((None, at));
@@ -187,6 +197,8 @@ fn sequence<'a>(
     ensures exact { Gives (λ x. (items_view x.0.items, at_view x.1)) result
         (sequence_with (item_reader levels) syntax form (at_view at.entry)) }
     ensures shorter { IfOk result (λ x. length x.1.rest.now ≤ length at.entry.rest.now) }
+    ensures memory { result ≡ Err Memory
+        → unkept_sequence (unkept_item levels) syntax form (at_view at.entry) ≡ Err Memory }
 {
     let mut items = Vec::new(alloc);
     let mut place = at;
@@ -213,6 +225,7 @@ fn part<'a>(
 ) -> Result<(Item<'a>, Cursor<'a>), SetFault>
     ensures exact { Gives (λ x. (item_view x.0, at_view x.1)) result (item_reader levels syntax n (at_view at.entry)) }
     ensures shorter { IfOk result (λ x. length x.1.rest.now ≤ length at.entry.rest.now) }
+    ensures memory { result ≡ Err Memory → unkept_item levels syntax n (at_view at.entry) ≡ Err Memory }
 {
     if levels == 0 {
         return Err(SetFault::TooDeep);
@@ -238,7 +251,8 @@ fn part<'a>(
 /// The whole of the bytes as one set.
 #[tactic(auto, unfolding(crate::specs::Reading::read_all))]
 fn whole<'a>(alloc: Global, syntax: Syntax, bytes: &'a [u8]) -> Result<DataSet<'a>, SetFault>
-    ensures { Gives set_view result (read_all syntax bytes.now) }
+    ensures exact { Gives set_view result (read_all syntax bytes.now) }
+    ensures memory { result ≡ Err Memory → WantsMemory syntax bytes.now }
 {
     let at = Cursor {
         left: None,
@@ -258,6 +272,8 @@ pub fn parse<'a>(alloc: Global, syntax: Syntax, bytes: &'a [u8]) -> Result<DataS
     ensures only { (set : Elements) → Spells syntax set bytes.now → Gives set_view result (Ok set) }
     // A refusal is the first check that fails, unless memory ran out.
     ensures exact { Gives set_view result (read_all syntax bytes.now) }
+    // Memory runs out only where it is wanted: behind the first item or element.
+    ensures memory { result ≡ Err Memory → WantsMemory syntax bytes.now }
 {
     whole(alloc, syntax, bytes)
 }

@@ -1,5 +1,5 @@
 -- What the loops read, and the item of defined length; the search finds the rest.
-use Rattle.std.proofs.Common.{rules, ◌≡◌, ◌+◌, ◌-◌, ◌%◌, ◌<◌, length, suc, ℕ, eqb, false, [], ◌∷◌, ◌++◌, map, ap, sym, subst, ◌∙◌, arith, Some, None, Ok}
+use Rattle.std.proofs.Common.{rules, ◌≡◌, ◌+◌, ◌-◌, ◌%◌, ◌<◌, length, suc, ℕ, eqb, false, [], ◌∷◌, ◌++◌, map, ap, sym, subst, ◌∙◌, arith, inr, Some, None, Ok, Err}
 use Rattle.std.proofs.lemmas.Result.{err_from_is_err_and}
 use Rattle.std.proofs.lemmas.List.{map_push}
 use Rattle.dd_elem.specs.Tag.{number_of}
@@ -10,9 +10,12 @@ use Rattle.dd_set.specs.Elements.{Part, Entry, elements_of}
 use Rattle.dd_set.specs.Places.{at_view}
 use Rattle.dd_set.specs.Reading.{item_reader, sequence_with, set_with, item_at, element_at, less, At}
 use Rattle.dd_set.specs.Gives.{Fails}
+use Rattle.dd_set.specs.Memory.{unkept_set, unkept_item}
 use Rattle.dd_set.specs.Spelling.{undefined_length}
+use Rattle.dd_set.specs.declared.fault.SetFault.TheVariants.{Memory}
 use Rattle.dd_set.specs.Views.{set_view, element_view, item_view}
 use Rattle.dd_set.proofs.Loops.{differ, part_is, part_fails, items_more, items_done, items_fail, elements_more, elements_done, elements_fail}
+use Rattle.dd_set.proofs.Unkept.{fault_is, sequence_fails, sequence_wants, set_fails, set_wants, part_wants}
 use Rattle.dd_set.proofs.reading.+parser.Goals as goal
 
 pub part-returns-in_err-set-2-clause-exact : goal.part-returns-in_err-set-2-clause-exact
@@ -59,6 +62,7 @@ sequence-items-preserved t c =
       omega arith,
       rw pushed (items_more (item_reader c.args.levels) c.args.syntax c.args.form (length c.items.place.rest.now) at.0 (map item_view c.items.items.items) (at_view c.items.place) (at_view c.in_ok-found.behind) (item_view next)
           (sequence_with (item_reader c.args.levels) c.args.syntax c.args.form (at_view c.args.at)) at.1 found at.3),
+      inr (sequence_wants c.args.levels c.args.syntax c.args.form (at_view c.args.at) (at_view c.items.place) (at_view c.in_ok-found.behind) (item_view next) at.4 found),
     )
 
 pub set-returns-in_err-found-clause-exact : goal.set-returns-in_err-found-clause-exact
@@ -90,4 +94,38 @@ set-elements-preserved t c =
       omega arith,
       rw (pushed, low) (elements_more (sequence_with (item_reader c.args.levels)) c.args.syntax c.args.form (length c.elements.place.rest.now) at.0 c.elements.low (map element_view c.elements.elements.items) (at_view c.elements.place) (at_view c.in_ok-found.behind) (element_view next)
           (set_with (item_reader c.args.levels) c.args.syntax c.args.form (at_view c.args.at)) at.1 found at.3),
+      inr (set_wants c.args.levels c.args.syntax c.args.form c.elements.low (at_view c.args.at) (at_view c.elements.place) (at_view c.in_ok-found.behind) (element_view next) at.4 found),
     )
+
+pub part-returns-in_err-set-2-clause-memory : goal.part-returns-in_err-set-2-clause-memory
+part-returns-in_err-set-2-clause-memory t c = λ memory.
+    let p = err_from_is_err_and c.from_residual-in_err-set-2.result c.from_residual-in_err-set-2.ensures.1 in
+    let refused : c.in_err-set-2.field-0.0 ≡ Memory = fault_is _ _ _ p.1 p.2 memory in
+    let deeper : c.args.levels ≡ suc (c.args.levels - 1) = omega arith in
+    let place : at_view c.within.result ≡ record { left = Some c.args.n; bytes = c.args.at.rest.now } = search rules in
+    part_wants c.args.levels (c.args.levels - 1) c.args.n c.args.syntax (at_view c.args.at) deeper (differ _ _ (omega arith)) (differ _ _ (omega arith)) (search rules)
+    (subst (λ (a : At). unkept_set (unkept_item (c.args.levels - 1)) c.args.syntax Defined a ≡ Err Memory) place (c.in_err-set-2.ensures.memory (ap (λ e. Err e) refused)))
+
+pub sequence-returns-in_err-found-clause-memory : goal.sequence-returns-in_err-found-clause-memory
+sequence-returns-in_err-found-clause-memory t c = λ memory.
+    let p = err_from_is_err_and c.from_residual.result c.from_residual.ensures.1 in
+    let refused : c.in_err-found.field-0.0 ≡ Memory = fault_is _ _ _ p.1 p.2 memory in
+    sequence_fails c.args.levels c.args.syntax c.args.form (at_view c.args.at) (at_view c.items.place) c.items.invariant.4 (c.in_err-found.ensures.memory (ap (λ e. Err e) refused))
+
+pub sequence-returns-in_err-push-in-Some-clause-memory : goal.sequence-returns-in_err-push-in-Some-clause-memory
+sequence-returns-in_err-push-in-Some-clause-memory t c = λ memory.
+    let next = c.in-Some.next in
+    let found : item_at (item_reader c.args.levels) c.args.syntax c.args.form (at_view c.items.place) ≡ Ok (Some (item_view next), at_view c.in_ok-found.behind) = rw c.in-Some.is at c.in_ok-found.ensures.exact in
+    sequence_wants c.args.levels c.args.syntax c.args.form (at_view c.args.at) (at_view c.items.place) (at_view c.in_ok-found.behind) (item_view next) c.items.invariant.4 found
+
+pub set-returns-in_err-found-clause-memory : goal.set-returns-in_err-found-clause-memory
+set-returns-in_err-found-clause-memory t c = λ memory.
+    let p = err_from_is_err_and c.from_residual.result c.from_residual.ensures.1 in
+    let refused : c.in_err-found.field-0.0 ≡ Memory = fault_is _ _ _ p.1 p.2 memory in
+    set_fails c.args.levels c.args.syntax c.args.form c.elements.low (at_view c.args.at) (at_view c.elements.place) c.elements.invariant.4 (c.in_err-found.ensures.memory (ap (λ e. Err e) refused))
+
+pub set-returns-in_err-push-in-Some-clause-memory : goal.set-returns-in_err-push-in-Some-clause-memory
+set-returns-in_err-push-in-Some-clause-memory t c = λ memory.
+    let next = c.in-Some.next in
+    let found : element_at (sequence_with (item_reader c.args.levels)) c.args.syntax c.args.form c.elements.low (at_view c.elements.place) ≡ Ok (Some (element_view next), at_view c.in_ok-found.behind) = rw c.in-Some.is at c.in_ok-found.ensures.exact in
+    set_wants c.args.levels c.args.syntax c.args.form c.elements.low (at_view c.args.at) (at_view c.elements.place) (at_view c.in_ok-found.behind) (element_view next) c.elements.invariant.4 found

@@ -1,0 +1,35 @@
+-- Where reading wants memory: the same reading where nothing has a place, in which the first item or element that was
+-- read whole finds none. All else about the bytes is checked as by `Reading`.
+use Rattle.std.specs.Prelude.{◌≡◌, ℕ, zero, suc, List, Option, Some, None, Result, Ok, Err}
+use Rattle.dd_set.specs.declared.fault.SetFault.{SetFault}
+use Rattle.dd_set.specs.declared.fault.SetFault.TheVariants.{TooDeep, Memory}
+use Rattle.dd_set.specs.declared.syntax.Length.TheVariants.{Defined}
+use Rattle.dd_set.specs.declared.syntax.Syntax.{Syntax}
+use Rattle.dd_set.specs.Elements.{Elements, no_elements, Items, no_items, Entry, Part}
+use Rattle.dd_set.specs.Reading.{At, Reads, ◌>>=◌, SequenceReader, SetReader, ItemReader, element_at, item_at, part_at}
+use Rattle.dd_set.specs.Spelling.{max_levels}
+
+-- an item that was read has no place
+abbrev pub keeps_no_item : Option Part × At → Reads Items
+keeps_no_item (None, at) = Ok (no_items, at)
+keeps_no_item (Some p, at) = Err Memory
+
+abbrev pub unkept_sequence : ItemReader → SequenceReader
+unkept_sequence part syntax form at = item_at part syntax form at >>= keeps_no_item
+
+-- an element that was read has no place
+abbrev pub keeps_no_element : Option Entry × At → Reads Elements
+keeps_no_element (None, at) = Ok (no_elements, at)
+keeps_no_element (Some e, at) = Err Memory
+
+abbrev pub unkept_set : ItemReader → SetReader
+unkept_set part syntax form at = element_at (unkept_sequence part) syntax form 0 at >>= keeps_no_element
+
+-- an item where so many levels may still nest
+abbrev pub unkept_item : ℕ → ItemReader
+unkept_item zero syntax n at = Err TooDeep
+unkept_item (suc levels) syntax n at = part_at (unkept_set (unkept_item levels)) syntax n at
+
+-- reading the bytes wants memory: an item or an element was read whole before a check failed
+abbrev pub WantsMemory : Syntax → List ℕ → Type 0
+WantsMemory syntax bs = unkept_set (unkept_item max_levels) syntax Defined (record { left = None; bytes = bs }) ≡ Err Memory
