@@ -1,16 +1,17 @@
 -- The places of items as sums of lengths, and how they are found from left to right.
-use Rattle.std.proofs.Common.{◌≡◌, ℕ, ◌+◌, ◌<◌, ◌≤◌, ◌^◌, Bool, true, false, List, [], ◌∷◌, ◌++◌, length, drop, get_or, Option, None, Some, if◌then◌else◌, refl, sym, ap, subst, ◌∙◌, arith, append_assoc, length-append}
+use Rattle.std.proofs.Common.{◌≡◌, ℕ, suc, ◌+◌, ◌<◌, ◌≤◌, ◌^◌, Bool, true, false, List, [], ◌∷◌, ◌++◌, length, drop, get_or, Option, None, Some, if◌then◌else◌, refl, sym, ap, subst, ◌∙◌, arith, append_assoc, length-append}
 use Rattle.dd_elem.specs.declared.tag.Tag.{Tag}
 use Rattle.dd_elem.specs.declared.vr.Vr.{Vr}
 use Rattle.dd_elem.specs.Tag.{number_of}
 use Rattle.dd_set.specs.declared.set.Element.{Element}
+use Rattle.dd_set.specs.declared.set.Item.{Item}
 use Rattle.dd_set.specs.declared.syntax.Syntax.{Syntax}
 use Rattle.dd_set.specs.Elements.{Elements, no_elements, element, Content, bytes, items, Items, no_items, item, Entry, Part}
 use Rattle.dd_set.specs.Find.{same_tag}
 use Rattle.dd_set.specs.Single.{entry_text, part_text, IsEntry, IsPart}
 use Rattle.dd_set.specs.Spelling.{elements_text, items_text, header_text, length_of, AreElements, AreItems}
 use Rattle.dd_set.specs.Starts.{places_in, content_places, item_places}
-use Rattle.dd_set.specs.Views.{element_view, elements_view, value_view}
+use Rattle.dd_set.specs.Views.{element_view, elements_view, value_view, item_view, items_view}
 use Rattle.dd_set.proofs.Counting.{with_entry, with_part, entry_first, part_first, part_valid, elements_view-drop, elements_view-end}
 use Rattle.dd_set.proofs.Seen.{element_view-is}
 
@@ -47,6 +48,11 @@ places_in-sums wanted front no_elements = refl
 places_in-sums wanted front (element tag vr content rest) =
     let text = entry_text (record { tag = tag; vr = vr; content = content }) in
     rw (content_places-sums front tag vr content, places_in-sums wanted (front ++ text) rest, length-append front text) refl
+
+-- as many as there are items
+pub item_places-length : (front : List ℕ) (xs : List Item) → length (item_places front (items_view xs)) ≡ length xs
+item_places-length front [] = refl
+item_places-length front (x ∷ xs) = ap suc (item_places-length (front ++ part_text (item_view x)) xs)
 
 -- ---- items from left to right
 

@@ -1,13 +1,14 @@
 -- Reading where nothing has a place: it goes as reading does, up to the first item or element that was read whole.
-use Rattle.std.proofs.Common.{◌≡◌, ℕ, zero, suc, ◌%◌, ◌⊎◌, inl, inr, Bool, true, false, ◌==◌, nat_lt, if◌then◌else◌, List, length, Option, Some, None, Result, Ok, Err, refl, sym, ap, subst, ◌∙◌}
+use Rattle.std.proofs.Common.{◌≡◌, ℕ, zero, suc, ◌%◌, ◌≤◌, ◌⊎◌, inl, inr, Bool, true, false, ◌==◌, nat_lt, if◌then◌else◌, List, length, Option, Some, None, Result, Ok, Err, refl, sym, ap, subst, ◌∙◌}
+use Rattle.std.proofs.lemmas.Bool.{cases_lt, lt-ltb}
 use Rattle.dd_elem.specs.Tag.{number_of}
 use Rattle.dd_set.specs.declared.fault.SetFault.{SetFault}
-use Rattle.dd_set.specs.declared.fault.SetFault.TheVariants.{Order, OddLength, UnexpectedTag, BadDelimiter, Overrun, Memory}
+use Rattle.dd_set.specs.declared.fault.SetFault.TheVariants.{Truncated, Order, OddLength, UnexpectedTag, BadDelimiter, Overrun, Memory}
 use Rattle.dd_set.specs.declared.syntax.Length.{Length}
 use Rattle.dd_set.specs.declared.syntax.Length.TheVariants.{Defined, Undefined}
 use Rattle.dd_set.specs.declared.syntax.Syntax.{Syntax}
-use Rattle.dd_set.specs.Elements.{Elements, Items, items, Content, Entry, Part}
-use Rattle.dd_set.specs.Memory.{keeps_no_item, unkept_sequence, keeps_no_element, unkept_set, unkept_item}
+use Rattle.dd_set.specs.Elements.{Elements, no_elements, Items, items, Content, Entry, Part}
+use Rattle.dd_set.specs.Memory.{keeps_no_item, unkept_sequence, keeps_no_element, unkept_set, unkept_item, WantsMemory}
 use Rattle.dd_set.specs.Reading.{At, Reads, Shape, ◌>>=◌, SequenceReader, SetReader, ItemReader, take_at, less, leaves_fewer, within, undefined_at, defined_at, content_at, tag_of, long_of, shape_at, body_at, is_over, ends_set, element_at, next_elements, elements_at, ends_sequence, is_item, item_at, next_items, items_at, part_at, sequence_with, set_with, item_reader}
 use Rattle.dd_set.specs.Spelling.{undefined_length, item_syntax, delimiter_group}
 
@@ -139,6 +140,23 @@ pub element_wants : (levels : ℕ) (syntax : Syntax) (form : Length) (at end : A
 element_wants levels syntax form at end e is =
     wanted (element_at (sequence_with (item_reader levels)) syntax form 0 at) (element_at (unkept_sequence (unkept_item levels)) syntax form 0 at) e end keeps_no_element
     (element_alike (sequence_with (item_reader levels)) (unkept_sequence (unkept_item levels)) (sequence_alike (item_reader levels) (unkept_item levels) (reader_alike levels)) syntax form 0 at) is refl
+
+-- ---- few bytes
+
+too_few : {X Y Z : Type 0} (over few : Bool) (x : X) (y : Y) (z : Z) (next : Y → Result X SetFault) (keeps : X → Result Z SetFault) → few ≡ true → keeps x ≡ Ok z
+    → ((if over then Ok x else ((if few then Err Truncated else Ok y) >>= next)) >>= keeps) ≡ Err Memory → ⊥
+too_few true few x y z next keeps short kept h = let made : keeps x ≡ Err Memory = h in absurd cc
+too_few false true x y z next keeps short kept h = absurd cc
+too_few false false x y z next keeps short kept h = absurd cc
+
+-- fewer bytes than a header has want no memory
+pub wants_a_header : (syntax : Syntax) (bs : List ℕ) → WantsMemory syntax bs → 8 ≤ length bs
+unfolding element_at take_at
+wants_a_header syntax bs h =
+    elim (cases_lt (length bs) 8) [
+      | inl short ↦ absurd (too_few (length bs == 0) (nat_lt (length bs) 8) _ _ _ _ keeps_no_element (lt-ltb _ _ short) refl h)
+      | inr long ↦ long
+    ]
 
 -- ---- code
 

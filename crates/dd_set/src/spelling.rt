@@ -1,8 +1,9 @@
 //! What holds of every data set and its bytes.
 
-ghost use Rattle.std.specs.Prelude.{◌≡◌, ◌<◌, ◌^◌, ◌++◌, ◌↔◌, ℕ, List, length, Some, None};
+ghost use Rattle.std.specs.Prelude.{◌≡◌, ◌<◌, ◌≤◌, ◌^◌, ◌++◌, ◌↔◌, ℕ, List, length, Some, None};
 ghost use Rattle.dd_set.specs.Bytes.{AreBytes};
 ghost use Rattle.dd_set.specs.Elements.{Elements};
+ghost use Rattle.dd_set.specs.Memory.{WantsMemory};
 ghost use Rattle.dd_set.specs.Reading.{first_fault};
 ghost use Rattle.dd_set.specs.Spelling.{Spells};
 ghost use Rattle.dd_set.specs.declared.fault.SetFault.TheVariants.{Truncated};
@@ -28,4 +29,9 @@ pub fn set_has_one_spelling()
 /// Bytes spell at most one set.
 pub fn bytes_spell_one_set()
     ensures { (syntax : Syntax) (a b : Elements) (bytes : List ℕ) → Spells syntax a bytes → Spells syntax b bytes → a ≡ b }
+{}
+
+/// Reading wants memory only behind a whole header at least.
+pub fn memory_wants_a_header()
+    ensures { (syntax : Syntax) (bytes : List ℕ) → WantsMemory syntax bytes → 8 ≤ length bytes }
 {}

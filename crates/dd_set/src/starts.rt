@@ -1,6 +1,6 @@
 //! Where the items of a sequence start.
 
-ghost use Rattle.std.specs.Prelude.{◌≡◌, ℕ, List, [], ◌+◌, ◌<◌, ◌^◌, length, Option, Some, None, option_map, IfOk};
+ghost use Rattle.std.specs.Prelude.{◌≡◌, ℕ, List, [], ◌+◌, ◌<◌, ◌^◌, length, Option, Some, None, option_map, Ok, IfOk, OnErr, IsSomeAnd};
 ghost use Rattle.dd_set.specs.Spelling.{elements_text, items_text, max_levels, AreItems, IsContent};
 ghost use Rattle.dd_set.specs.Single.{entry_text};
 ghost use Rattle.dd_set.specs.Starts.{places_in, content_places, item_places};
@@ -19,7 +19,8 @@ impl DataSet<'_> {
 
     /// The places of the Item tags of the items of the element with this tag, in bytes from the
     /// first byte that spells the set (PS3.5 section 7.5). None where nothing spells the set, where
-    /// no element has the tag and where its value is bytes. Memory where a growth is refused.
+    /// no element has the tag and where its value is bytes. Memory where a growth is refused, and so
+    /// only where there is an item.
     pub fn item_starts(
         &self,
         alloc: Global,
@@ -30,7 +31,8 @@ impl DataSet<'_> {
             → IfOk result (λ starts. option_map (λ v. v.items) starts
             ≡ places_in tag [] (set_view self.now)) }
         ensures unspelled { ¬ Spells syntax (set_view self.now) (elements_text (set_view self.now))
-            → IfOk result (λ starts. starts ≡ None) }
+            → result ≡ Ok None }
+        ensures memory { OnErr result (IsSomeAnd (places_in tag [] (set_view self.now)) (λ places. 0 < length places)) }
     {
         if self.size(syntax).is_none() {
             return Ok(None);
@@ -58,9 +60,11 @@ fn starts_of(
 ) -> Result<Option<Vec<u64>>, Memory>
     requires valid { IsContent syntax max_levels element.now.vr (value_view element.now.value) }
     requires fits { at + length (entry_text (element_view element.now)) < 2 ^ 64 }
-    ensures { (front : List ℕ) → length front ≡ at
+    ensures places { (front : List ℕ) → length front ≡ at
         → IfOk result (λ starts. option_map (λ v. v.items) starts
         ≡ content_places front element.now.tag element.now.vr (value_view element.now.value)) }
+    ensures memory { (front : List ℕ) → OnErr result (IsSomeAnd
+        (content_places front element.now.tag element.now.vr (value_view element.now.value)) (λ places. 0 < length places)) }
 {
     match &element.value {
         Value::Bytes(_) => Ok(None),
@@ -83,8 +87,9 @@ fn items_starts(
 ) -> Result<Vec<u64>, Memory>
     requires valid { AreItems syntax max_levels (items_view items.now.items) }
     requires fits { first + length (items_text (items_view items.now.items)) < 2 ^ 64 }
-    ensures { (front : List ℕ) → length front ≡ first → IfOk result (λ starts. starts.items
+    ensures places { (front : List ℕ) → length front ≡ first → IfOk result (λ starts. starts.items
         ≡ item_places front (items_view items.now.items)) }
+    ensures memory { OnErr result (0 < length items.now.items) }
 {
     let mut starts = Vec::new(alloc);
     let mut at = first;

@@ -5,8 +5,8 @@ use Rattle.dd_set.proofs.Counting.{items_view-end}
 use Rattle.dd_set.proofs.Places.{item_places-sums, starts_from}
 use Rattle.dd_set.proofs.starts.items_starts.Goals as goal
 
-pub returns : goal.returns
-returns c = λ front is.
+pub returns-clause-places : goal.returns-clause-places
+returns-clause-places c = λ front is.
     let parts = c.deref-item-items.result.now in
     let past : length parts ≤ c.loop-item.item-index = omega arith in
     let ended : c.loop-item.starts.items ≡ starts_from c.args.first (items_view parts) =

@@ -1,5 +1,5 @@
-use Rattle.std.proofs.Common.{refl, [], ◌≡◌, ◌≤◌, length, replicate, sym, ap, ◌∙◌, arith, true, false}
-use Rattle.std.proofs.lemmas.Result.{IfOk-weaker}
+use Rattle.std.proofs.Common.{refl, [], ◌≡◌, ◌≤◌, ◌<◌, ℕ, List, Option, IsSomeAnd, length, replicate, sym, ap, subst, ◌∙◌, arith, true, false}
+use Rattle.std.proofs.lemmas.Result.{IfOk-weaker, on_err_weaker}
 use Rattle.std.proofs.Math.ListN.{length-replicate}
 use Rattle.dd_set.specs.Elements.{Elements}
 use Rattle.dd_set.specs.Find.{same_tag}
@@ -19,7 +19,19 @@ returns-then-eq-clause-spelled c = λ spelled.
     let all : elements_view es ≡ set_view c.args.self.now = ap elements_view c.deref-element-items.ensures.value ∙ sym (set_view-is c.args.self.now) in
     IfOk-weaker c.starts_of.result _ _ (λ starts found. found
     ∙ seek_found _ _ _ _ _ _ es c.loop-element.element-index e before [] c.loop-element-test.true c.element-item.is c.loop-element.invariant same before_is refl
-    ∙ ap (λ (set : Elements). places_in c.args.tag [] set) all) (c.starts_of.ensures before before_is)
+    ∙ ap (λ (set : Elements). places_in c.args.tag [] set) all) (c.starts_of.ensures.places before before_is)
+
+pub returns-then-eq-clause-memory : goal.returns-then-eq-clause-memory
+returns-then-eq-clause-memory c =
+    let es = c.deref-element-items.result.now in
+    let e = c.element-item.result in
+    let before = replicate c.loop-element.at 0 in
+    let before_is : length before ≡ c.loop-element.at = length-replicate c.loop-element.at 0 in
+    let same : same_tag e.tag c.args.tag ≡ true = sym c.eq.ensures ∙ c.if-eq.true in
+    let all : elements_view es ≡ set_view c.args.self.now = ap elements_view c.deref-element-items.ensures.value ∙ sym (set_view-is c.args.self.now) in
+    on_err_weaker c.starts_of.result (subst (λ (places : Option (List ℕ)). IsSomeAnd places (λ starts. 0 < length starts))
+    (seek_found _ _ _ _ _ _ es c.loop-element.element-index e before [] c.loop-element-test.true c.element-item.is c.loop-element.invariant same before_is refl
+    ∙ ap (λ (set : Elements). places_in c.args.tag [] set) all)) (c.starts_of.ensures.memory before)
 
 pub loop-element-preserved : goal.loop-element-preserved
 loop-element-preserved c =
