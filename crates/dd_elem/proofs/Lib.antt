@@ -7,3 +7,4 @@ pub mod Letters
 pub mod SetIdForm
 pub mod SixDigits
 pub mod UidForm
+pub mod UidText

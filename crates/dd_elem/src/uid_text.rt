@@ -5,11 +5,15 @@ ghost use Rattle.std.specs.Prelude.{Some};
 use crate::uid::Uid;
 use std::{fmt, str};
 
-/// Prints the characters, without padding.
+/// Prints the characters, without padding. It fails only where the formatter does.
 impl fmt::Display for Uid {
     ghost output = { λ uid. Some uid };
 
+    #[tactic(auto, using(crate::proofs::UidText::IsUtf8_from_IsUid))]
     fn fmt<W: fmt::Write>(&self, f: &mut fmt::Formatter<W>) -> fmt::Result {
-        f.write_str(str::from_utf8(self.as_bytes()).map_err(|_| fmt::Error)?)
+        match str::from_utf8(self.as_bytes()) {
+            Ok(text) => f.write_str(text),
+            Err(_) => unreachable!(),
+        }
     }
 }
