@@ -4,6 +4,7 @@ pub mod Steps
 pub mod Tags
 pub mod Found
 pub mod Only
+pub mod Wanting
 pub mod Whole
 pub mod Heads
 pub mod HeadLaw

@@ -1,4 +1,5 @@
 pub mod Syntaxes
+pub mod Memory
 pub mod Meta
 pub mod File
 pub mod Reading

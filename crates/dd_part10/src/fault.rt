@@ -6,15 +6,16 @@ use thiserror::Error;
 
 /// The first check that bytes fail as a DICOM file (PS3.10 section 7), in the order of these
 /// variants except where one says otherwise; or want of memory, which is a `Meta` or a `Set` with
-/// `SetFault::Memory`.
+/// `SetFault::Memory` and comes where that check does.
 #[derive(Clone, Copy, Debug, PartialEq, Eq, Error)]
 pub enum FileFault {
     /// There are not 128 bytes and then `DICM`.
     #[error("21 NotPart10")]
     NotPart10,
     /// Behind `DICM` stands no group length (0002,0000), or it is above 65,536 or counts more bytes
-    /// than there are; these bytes hold an element of another group, or (0002,0000) again; or the data
-    /// set behind them begins with group 0002 or a lower one.
+    /// than there are; or these bytes, once they are a data set, hold an element of another group or
+    /// (0002,0000) again; or, last of all checks, the data set behind them begins with group 0002 or a
+    /// lower one.
     #[error("22 GroupLength")]
     GroupLength,
     /// The element with this tag is not there.
@@ -27,10 +28,10 @@ pub enum FileFault {
     #[error("25 OtherSyntax {0}")]
     OtherSyntax(Uid),
     /// The bytes that the group length counts are no data set. This comes before every check of what
-    /// they hold.
+    /// they hold, and is `Memory` where a growth was refused.
     #[error("26 Meta {0}")]
     Meta(SetFault),
-    /// The bytes behind group 0002 are no data set.
+    /// The bytes behind group 0002 are no data set, or a growth was refused while they were read.
     #[error("27 Set {0}")]
     Set(SetFault),
 }

@@ -1,8 +1,13 @@
 //! Group 0002: the group length and the meta information.
 
-ghost use Rattle.std.specs.Prelude.{◌≡◌, option_map};
+ghost use Rattle.std.specs.Prelude.{◌≡◌, ◌≢◌, Err, option_map};
+ghost use Rattle.dd_set.specs.declared.fault.SetFault.TheVariants.{Memory};
+ghost use Rattle.dd_set.specs.declared.syntax.Syntax.TheVariants.{Explicit};
+ghost use Rattle.dd_set.specs.Memory.{WantsMemory};
 ghost use Rattle.dd_set.specs.Views.{set_view};
+ghost use Rattle.dd_part10.specs.declared.fault.FileFault.TheVariants as faults;
 ghost use Rattle.dd_part10.specs.Gives.{Gives};
+ghost use Rattle.dd_part10.specs.Memory.{WantsNone};
 ghost use Rattle.dd_part10.specs.Reading.{behind, behind_length, is_meta_tag, is_alone, uid_at, uids_in, meta_in};
 
 use crate::fault::FileFault;
@@ -49,7 +54,8 @@ pub fn behind<'a>(front: &[u8], bytes: &'a [u8]) -> Option<&'a [u8]>
 /// The bytes that the group length at the front counts, and the others behind them.
 #[tactic(auto, unfolding(crate::specs::Reading::behind_length))]
 pub fn split_group(bytes: &[u8]) -> Result<(&[u8], &[u8]), FileFault>
-    ensures { Gives (λ x. (x.0.now, x.1.now)) result (behind_length bytes.now) }
+    ensures exact { Gives (λ x. (x.0.now, x.1.now)) result (behind_length bytes.now) }
+    ensures memory { WantsNone result }
 {
     let Some(rest) = behind(b"\x02\0\0\0UL\x04\0", bytes) else {
         return Err(FileFault::GroupLength);
@@ -68,7 +74,9 @@ pub fn split_group(bytes: &[u8]) -> Result<(&[u8], &[u8]), FileFault>
 /// The meta information in the bytes that the group length counts.
 #[tactic(auto, unfolding(crate::specs::Reading::meta_in))]
 pub fn read_meta(alloc: Global, bytes: &[u8]) -> Result<Meta, FileFault>
-    ensures { Gives (λ meta. meta) result (meta_in bytes.now) }
+    ensures exact { Gives (λ meta. meta) result (meta_in bytes.now) }
+    ensures group { result ≡ Err (faults.Meta Memory) → WantsMemory Explicit bytes.now }
+    ensures set { result ≢ Err (faults.Set Memory) }
 {
     let group = parse(alloc, Syntax::Explicit, bytes).map_err(FileFault::Meta)?;
     if !is_alone(&group) {
@@ -96,7 +104,8 @@ fn is_meta_tag(tag: Tag) -> bool
 
 #[tactic(auto, unfolding(crate::specs::Reading::uids_in))]
 fn uids_in(group: &DataSet<'_>) -> Result<Meta, FileFault>
-    ensures { Gives (λ meta. meta) result (uids_in (set_view group.now)) }
+    ensures exact { Gives (λ meta. meta) result (uids_in (set_view group.now)) }
+    ensures memory { WantsNone result }
 {
     let class = uid_at(CLASS, group)?;
     let instance = uid_at(INSTANCE, group)?;
@@ -111,7 +120,8 @@ fn uids_in(group: &DataSet<'_>) -> Result<Meta, FileFault>
 /// The UID that the element with this tag holds.
 #[tactic(auto, unfolding(crate::specs::Reading::uid_at))]
 fn uid_at(tag: Tag, group: &DataSet<'_>) -> Result<Uid, FileFault>
-    ensures { Gives (λ uid. uid) result (uid_at tag (set_view group.now)) }
+    ensures exact { Gives (λ uid. uid) result (uid_at tag (set_view group.now)) }
+    ensures memory { WantsNone result }
 {
     let Some(element) = group.find(tag) else {
         return Err(FileFault::MetaMissing(tag));

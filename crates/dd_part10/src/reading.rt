@@ -1,11 +1,15 @@
 //! Reading a DICOM file from its bytes.
 
-ghost use Rattle.std.specs.Prelude.{◌≡◌, ℕ, ◌<◌, ◌^◌, IfOk, Ok, length};
+ghost use Rattle.std.specs.Prelude.{◌≡◌, ◌≢◌, ℕ, ◌<◌, ◌^◌, IfOk, Ok, Err, length};
+ghost use Rattle.dd_set.specs.declared.fault.SetFault.TheVariants.{Memory};
 ghost use Rattle.dd_set.specs.Elements.{Elements};
+ghost use Rattle.dd_set.specs.Memory.{WantsMemory};
 ghost use Rattle.dd_set.specs.Views.{set_view};
+ghost use Rattle.dd_part10.specs.declared.fault.FileFault.TheVariants as faults;
 ghost use Rattle.dd_part10.specs.declared.meta.Meta.{Meta};
 ghost use Rattle.dd_part10.specs.File.{IsFile};
 ghost use Rattle.dd_part10.specs.Gives.{Gives, file_view};
+ghost use Rattle.dd_part10.specs.Memory.{GroupWants, SetWants, WantsNone};
 ghost use Rattle.dd_part10.specs.Reading.{behind_prefix, set_in, starts_above, read_file};
 
 use crate::fault::FileFault;
@@ -19,8 +23,8 @@ const PREAMBLE_LENGTH: usize = 128;
 /// The DICOM file that the bytes are (PS3.10 section 7): 128 bytes of any preamble, `DICM`, the group
 /// length (0002,0000) with at most 65,536, group 0002 in Explicit VR with the UIDs of `Meta`, and a
 /// data set above group 0002 in the transfer syntax that they name. Otherwise the first check that the
-/// bytes fail, which `FileFault` names; or `Meta` or `Set` with `SetFault::Memory`, where a growth was
-/// refused.
+/// bytes fail, which `FileFault` names; or, where a growth was refused, `Meta` or `Set` with
+/// `SetFault::Memory`, behind all checks that come before that one.
 pub fn parse_file<'a>(alloc: Global, bytes: &'a [u8]) -> Result<DicomFile<'a>, FileFault>
     // What is answered is a file.
     ensures found { IfOk result (λ f. IsFile bytes.now f.meta (set_view f.set) f.set_at) }
@@ -29,6 +33,9 @@ pub fn parse_file<'a>(alloc: Global, bytes: &'a [u8]) -> Result<DicomFile<'a>, F
         → Gives file_view result (Ok (record { meta = meta; set = set; set_at = set_at })) }
     // A refusal for other than memory is the first check that fails.
     ensures fault { Gives file_view result (read_file bytes.now) }
+    // Memory runs out only where it is wanted, behind all checks that come before.
+    ensures group { result ≡ Err (faults.Meta Memory) → GroupWants bytes.now }
+    ensures set { result ≡ Err (faults.Set Memory) → SetWants bytes.now }
 {
     whole(alloc, bytes)
 }
@@ -38,6 +45,8 @@ pub fn parse_file<'a>(alloc: Global, bytes: &'a [u8]) -> Result<DicomFile<'a>, F
 fn whole<'a>(alloc: Global, bytes: &'a [u8]) -> Result<DicomFile<'a>, FileFault>
     ensures exact { Gives file_view result (read_file bytes.now) }
     ensures room { length bytes.now < 2 ^ 64 }
+    ensures group { result ≡ Err (faults.Meta Memory) → GroupWants bytes.now }
+    ensures set { result ≡ Err (faults.Set Memory) → SetWants bytes.now }
 {
     let rest = behind_prefix(bytes)?;
     let (group, rest) = split_group(rest)?;
@@ -58,6 +67,7 @@ fn whole<'a>(alloc: Global, bytes: &'a [u8]) -> Result<DicomFile<'a>, FileFault>
 fn behind_prefix(bytes: &[u8]) -> Result<&[u8], FileFault>
     ensures exact { Gives (λ rest. rest.now) result (behind_prefix bytes.now) }
     ensures room { length bytes.now < 2 ^ 64 }
+    ensures memory { WantsNone result }
 {
     if bytes.len() < PREAMBLE_LENGTH {
         return Err(FileFault::NotPart10);
@@ -71,7 +81,9 @@ fn behind_prefix(bytes: &[u8]) -> Result<&[u8], FileFault>
 /// The data set that follows group 0002.
 #[tactic(auto, unfolding(crate::specs::Reading::set_in))]
 fn read_set<'a>(alloc: Global, syntax: Syntax, bytes: &'a [u8]) -> Result<DataSet<'a>, FileFault>
-    ensures { Gives set_view result (set_in syntax bytes.now) }
+    ensures exact { Gives set_view result (set_in syntax bytes.now) }
+    ensures group { result ≢ Err (faults.Meta Memory) }
+    ensures set { result ≡ Err (faults.Set Memory) → WantsMemory syntax bytes.now }
 {
     let set = parse(alloc, syntax, bytes).map_err(FileFault::Set)?;
     if !starts_above(&set) {
