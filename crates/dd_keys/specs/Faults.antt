@@ -1,6 +1,6 @@
 -- The first check that a file fails as a file of a version: those of a file, then its class, then those of the table from
 -- top to bottom.
-use Rattle.std.specs.Prelude.{ℕ, List, [], ◌∷◌, Option, Some, None, Result, Ok, Err, length, map, nat_lt, if◌then◌else◌}
+use Rattle.std.specs.Prelude.{◌≡◌, ℕ, List, [], ◌∷◌, Option, Some, None, Result, Ok, Err, length, map, nat_lt, if◌then◌else◌}
 use Rattle.std.specs.Str.{bytes_eq}
 use Rattle.dd_elem.specs.Uid.{is_uid}
 use Rattle.dd_elem.specs.declared.tag.Tag.{Tag}
@@ -9,6 +9,7 @@ use Rattle.dd_set.specs.declared.fault.SetFault.TheVariants as parsing
 use Rattle.dd_part10.specs.declared.fault.FileFault.{FileFault}
 use Rattle.dd_part10.specs.declared.fault.FileFault.TheVariants.{Meta as MetaFault, Set}
 use Rattle.dd_part10.specs.declared.meta.Meta.{Meta}
+use Rattle.dd_part10.specs.Memory.{GroupWants, SetWants}
 use Rattle.dd_part10.specs.Reading.{FileParts, read_file}
 use Rattle.dd_keys.specs.declared.fault.KeyFault.{KeyFault}
 use Rattle.dd_keys.specs.declared.fault.KeyFault.TheVariants.{File, NotImage, MissingKey, BadKeyUid, KeyTooLong, KeyIsSequence, MetaMismatch, Memory}
@@ -71,10 +72,10 @@ fault_of (Ok file) = if is_image_class file.meta.class then table_fault file els
 abbrev pub first_fault : List ℕ → Option KeyFault
 first_fault file = fault_of (read_file file)
 
--- ---- want of memory, while the file was parsed or later
+-- ---- want of memory: where parsing the file wants it, and behind all checks
 
-abbrev pub IsWantOfMemory : KeyFault → Type 0
-IsWantOfMemory Memory = Unit {0}
-IsWantOfMemory (File (MetaFault parsing.Memory)) = Unit {0}
-IsWantOfMemory (File (Set parsing.Memory)) = Unit {0}
-IsWantOfMemory fault = ⊥
+abbrev pub IsWantOfMemory : List ℕ → KeyFault → Type 0
+IsWantOfMemory file Memory = first_fault file ≡ None
+IsWantOfMemory file (File (MetaFault parsing.Memory)) = GroupWants file
+IsWantOfMemory file (File (Set parsing.Memory)) = SetWants file
+IsWantOfMemory file fault = ⊥

@@ -31,7 +31,7 @@ pub enum KeyFault {
     /// The element with this tag has another UID than group 0002.
     #[error("37 MetaMismatch {0}")]
     MetaMismatch(Tag),
-    /// A growth was refused after the bytes were parsed.
+    /// A growth was refused after all checks.
     #[error("91 Memory")]
     Memory,
 }

@@ -18,15 +18,17 @@ use std::alloc::Global;
 /// The version whose file these bytes are: the keys of the data set's elements, without their padding
 /// and replaced where one is empty that a directory must have; the UIDs of group 0002; the SHA-256 of
 /// all the bytes. Otherwise the first check that fails: those of a file (PS3.10 section 7), the class
-/// of group 0002, and then those of each element in the order of tags. Or want of memory: `Memory`,
-/// and `File` with that of the parse.
+/// of group 0002, and then those of each element in the order of tags. Or want of memory: `File` with
+/// that of the parse, and `Memory` behind all checks.
 pub fn version_of(alloc: Global, bytes: &[u8]) -> Result<Version, KeyFault>
     // What is answered is the version of the file.
     ensures found { IfOk result (IsVersion bytes.now) }
     // A version is answered where there is one, unless memory runs out.
-    ensures only { (version : Parts) → IsVersion bytes.now version → MatchResult result (λ answer. answer ≡ version) IsWantOfMemory }
-    // A refusal for other than memory is the first check that fails.
-    ensures fault { IfErr result (λ fault. IsWantOfMemory fault ⊎ (first_fault bytes.now ≡ Some fault)) }
+    ensures only { (version : Parts) → IsVersion bytes.now version
+        → MatchResult result (λ answer. answer ≡ version)
+        (IsWantOfMemory bytes.now) }
+    // A refusal is the first check that fails, or want of memory where memory is wanted.
+    ensures fault { IfErr result (λ fault. IsWantOfMemory bytes.now fault ⊎ (first_fault bytes.now ≡ Some fault)) }
 {
     let file = parse_file(alloc, bytes)?;
     if !is_image_class(&file.meta.class) {

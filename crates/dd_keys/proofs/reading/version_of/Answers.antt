@@ -1,4 +1,5 @@
-use Rattle.std.proofs.Common.{rules, arith, ◌≡◌, ℕ, List, Result, Ok, sym, ap, ◌∙◌}
+use Rattle.std.proofs.Common.{rules, arith, ◌≡◌, ℕ, List, Result, Ok, Err, sym, ap, ◌∙◌}
+use Rattle.std.proofs.lemmas.Result.{err_from_is_err_and}
 use Rattle.std.proofs.lemmas.Grind.{common_steps}
 use Rattle.sha2.specs.Sha256.{sha256}
 use Rattle.dd_part10.specs.Reading.{FileParts}
@@ -6,11 +7,14 @@ use Rattle.dd_part10.specs.Gives.{file_view}
 use Rattle.dd_part10.specs.declared.fault.FileFault.{FileFault}
 use Rattle.dd_keys.specs.Values.{parts_in}
 use Rattle.dd_keys.proofs.ImageClasses.{is_image_class_decides}
-use Rattle.dd_keys.proofs.FoundVersions.{found_version, parts_fit, file_of, version_parts, refusal_is_memory, refused_for_memory}
+use Rattle.dd_keys.proofs.FoundVersions.{found_version, parts_fit, file_of, version_parts, file_refused, refusal_is_memory, refused_for_memory}
 use Rattle.dd_keys.proofs.reading.version_of.Goals as goal
 
 pub returns-in_err-file-clause-fault : goal.returns-in_err-file-clause-fault
-returns-in_err-file-clause-fault c = first_of (search rules, grind (arith, common_steps))
+returns-in_err-file-clause-fault c =
+    let p = err_from_is_err_and c.from_residual.result c.from_residual.ensures.1 in
+    rw (p.1, p.2) (file_refused c.args.bytes.now c.in_err-file.field-0.0 c.in_err-file.ensures.fault
+    (λ is. c.in_err-file.ensures.group (ap (λ e. Err e) is)) (λ is. c.in_err-file.ensures.set (ap (λ e. Err e) is)))
 
 pub returns-in_err-file-clause-only : goal.returns-in_err-file-clause-only
 returns-in_err-file-clause-only c = λ version h. refused_for_memory c.args.bytes.now version c.from_residual.result h c.from_residual.ensures.0 (returns-in_err-file-clause-fault c)
