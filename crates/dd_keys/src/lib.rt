@@ -2,7 +2,8 @@
 //! the order of versions.
 //!
 //! Its one promise: what is read as the version of a file is that, and has all the keys that the
-//! records of a directory must have; and two versions that compare equal are equal.
+//! records of a directory must have; and two versions that compare equal are equal. Where a growth is
+//! refused, while the file is read or behind all checks, the answer is want of memory instead.
 #![tactic(auto)]
 
 mod checks;

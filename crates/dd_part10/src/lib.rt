@@ -1,7 +1,9 @@
 //! DICOM files: the preamble, the prefix `DICM`, group 0002 and the data set (PS3.10 section 7).
 //!
 //! Its one promise: what is read as a file is one, what is one is read, and a refusal names the first
-//! check that the bytes fail. A head that is written is the head of a file with its meta information.
+//! check that the bytes fail. Only where a growth is refused, while group 0002 or the data set is read
+//! and all before it is right, is the answer want of memory instead. A head that is written is the head
+//! of a file with its meta information.
 #![tactic(auto)]
 
 mod fault;

@@ -2,7 +2,8 @@
 //! uncompressed little endian syntaxes (PS3.5 sections 6, 7 and 10, annex A).
 //!
 //! Its one promise: what is read is the one set that the bytes spell, what is refused spells none and
-//! is refused by the first check that it fails, and what is written is the spelling.
+//! is refused by the first check that it fails, and what is written is the spelling. Only where a
+//! growth is refused, behind the first item or element, is the answer want of memory instead.
 #![tactic(auto)]
 
 mod cursor;
