@@ -1,7 +1,7 @@
 //! The tag of a data element.
 
-ghost use Rattle.std.specs.Prelude.{◌≡◌, ◌+◌, ◌*◌, ◌^◌, ◌<◌};
-ghost use Rattle.dd_elem.specs.Tag.{number_of};
+ghost use Rattle.std.specs.Prelude.{◌≡◌, ◌+◌, ◌*◌, ◌^◌, ◌<◌, Some};
+ghost use Rattle.dd_elem.specs.Tag.{number_of, text_of};
 
 use std::fmt;
 
@@ -28,6 +28,8 @@ impl Tag {
 
 /// Prints `(gggg,eeee)`, in upper case hexadecimal digits.
 impl fmt::Display for Tag {
+    ghost output = { λ tag. Some (text_of tag) };
+
     fn fmt<W: fmt::Write>(&self, f: &mut fmt::Formatter<W>) -> fmt::Result {
         let group = self.group;
         let element = self.element;
