@@ -1,5 +1,6 @@
 -- What is read of a file that passes the checks is its version, and a file of a version passes them and gives it.
-use Rattle.std.proofs.Common.{◌≡◌, ◌≢◌, ◌<◌, ◌^◌, ◌⊎◌, inl, inr, length, ⊎_elim, ℕ, true, List, [], ◌∷◌, Some, None, Result, Ok, Err, is_some, refl, sym, ap, ◌∙◌}
+use Rattle.std.proofs.Common.{◌≡◌, ◌≢◌, ◌<◌, ◌^◌, ◌⊎◌, inl, inr, length, ⊎_elim, ℕ, true, List, [], ◌∷◌, Some, None}
+use Rattle.std.proofs.Common.{Result, Ok, Err, is_some, refl, sym, ap, ◌∙◌}
 use Rattle.std.specs.Prelude.{Contains, unwrap_or, IsErr, IfErr, MatchResult}
 use Rattle.std.proofs.lemmas.Bool.{cond-true}
 use Rattle.sha2.specs.Sha256.{sha256}
@@ -163,24 +164,28 @@ first_fault_none file version h =
     ∙ version_passes file version h
 
 -- a file that is refused by no check
-pub file_passes : (file : List ℕ) (f : FileParts) → read_file file ≡ Ok f → is_image_class f.meta.class ≡ true → table_fault f ≡ None → first_fault file ≡ None
+pub file_passes : (file : List ℕ) (f : FileParts) → read_file file ≡ Ok f → is_image_class f.meta.class ≡ true
+    → table_fault f ≡ None → first_fault file ≡ None
 file_passes file f is image none = ap fault_of is ∙ cond-true (is_image_class f.meta.class) _ _ image ∙ none
 
 -- a refusal of the parse is the first check that fails, or want of memory
-pub file_refused : (file : List ℕ) (e : FileFault) → Fails e (read_file file) → (e ≡ faults.Meta Memory → GroupWants file) → (e ≡ faults.Set Memory → SetWants file)
+pub file_refused : (file : List ℕ) (e : FileFault) → Fails e (read_file file)
+    → (e ≡ faults.Meta Memory → GroupWants file) → (e ≡ faults.Set Memory → SetWants file)
     → IsWantOfMemory file (File e) ⊎ (first_fault file ≡ Some (File e))
 file_refused file (faults.Meta Memory) is group set = inl (group refl)
 file_refused file (faults.Set Memory) is group set = inl (set refl)
 file_refused file fault is group set = inr (ap fault_of is)
 
 -- so a refusal of it is want of memory
-pub refusal_is_memory : (file : List ℕ) (version : Parts) (fault : KeyFault) → IsVersion file version → IsWantOfMemory file fault ⊎ (first_fault file ≡ Some fault) → IsWantOfMemory file fault
+pub refusal_is_memory : (file : List ℕ) (version : Parts) (fault : KeyFault) → IsVersion file version
+    → IsWantOfMemory file fault ⊎ (first_fault file ≡ Some fault) → IsWantOfMemory file fault
 refusal_is_memory file version fault h refused =
     let none = first_fault_none file version h in
     ⊎_elim (λ memory. memory) (λ is. absurd (cc)) refused
 
 pub refused_for_memory : (file : List ℕ) (version : Parts) (answer : Result Parts KeyFault) → IsVersion file version → IsErr answer
-    → IfErr answer (λ fault. IsWantOfMemory file fault ⊎ (first_fault file ≡ Some fault)) → MatchResult answer (λ parts. parts ≡ version) (IsWantOfMemory file)
+    → IfErr answer (λ fault. IsWantOfMemory file fault ⊎ (first_fault file ≡ Some fault))
+    → MatchResult answer (λ parts. parts ≡ version) (IsWantOfMemory file)
 refused_for_memory file version (Ok parts) h refused fault = absurd (cc)
 refused_for_memory file version (Err e) h refused fault = refusal_is_memory file version e h fault
 

@@ -1,6 +1,7 @@
 -- The first check that a file fails as a file of a version: those of a file, then its class, then those of the table from
 -- top to bottom.
-use Rattle.std.specs.Prelude.{◌≡◌, ℕ, List, [], ◌∷◌, Option, Some, None, Result, Ok, Err, length, map, nat_lt, if◌then◌else◌}
+use Rattle.std.specs.Prelude.{◌≡◌, ℕ, List, [], ◌∷◌, Option, Some, None, Result, Ok, Err, length, map, nat_lt}
+use Rattle.std.specs.Prelude.{if◌then◌else◌}
 use Rattle.std.specs.Str.{bytes_eq}
 use Rattle.dd_elem.specs.Uid.{is_uid}
 use Rattle.dd_elem.specs.declared.tag.Tag.{Tag}

@@ -1,5 +1,5 @@
--- Where reading a file wants memory: for group 0002, once all that stands before it is right, and for the data set, once
--- all of group 0002 is.
+-- Where reading a file wants memory: for group 0002, once all that stands before it is right, and for the data set,
+-- once all of group 0002 is.
 use Rattle.std.specs.Prelude.{◌≡◌, ◌≢◌, List, ℕ, Option, Some, Result, Ok, Err}
 use Rattle.dd_set.specs.declared.fault.SetFault.TheVariants.{Memory}
 use Rattle.dd_set.specs.declared.syntax.Syntax.{Syntax}

@@ -1,5 +1,7 @@
 -- The places of items as sums of lengths, and how they are found from left to right.
-use Rattle.std.proofs.Common.{◌≡◌, ℕ, suc, ◌+◌, ◌<◌, ◌≤◌, ◌^◌, Bool, true, false, List, [], ◌∷◌, ◌++◌, length, drop, get_or, Option, None, Some, if◌then◌else◌, refl, sym, ap, subst, ◌∙◌, arith, append_assoc, length-append}
+use Rattle.std.proofs.Common.{◌≡◌, ℕ, suc, ◌+◌, ◌<◌, ◌≤◌, ◌^◌, Bool, true, false, List, [], ◌∷◌, ◌++◌, length, drop}
+use Rattle.std.proofs.Common.{get_or, Option, None, Some, if◌then◌else◌, refl, sym, ap, subst, ◌∙◌, arith}
+use Rattle.std.proofs.Common.{append_assoc, length-append}
 use Rattle.dd_elem.specs.declared.tag.Tag.{Tag}
 use Rattle.dd_elem.specs.declared.vr.Vr.{Vr}
 use Rattle.dd_elem.specs.Tag.{number_of}

@@ -32,4 +32,5 @@ unkept_item (suc levels) syntax n at = part_at (unkept_set (unkept_item levels))
 
 -- reading the bytes wants memory: an item or an element was read whole before a check failed
 abbrev pub WantsMemory : Syntax → List ℕ → Type 0
-WantsMemory syntax bs = unkept_set (unkept_item max_levels) syntax Defined (record { left = None; bytes = bs }) ≡ Err Memory
+WantsMemory syntax bs = unkept_set (unkept_item max_levels) syntax Defined (record { left = None; bytes = bs })
+    ≡ Err Memory

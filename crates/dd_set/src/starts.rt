@@ -1,6 +1,7 @@
 //! Where the items of a sequence start.
 
-ghost use Rattle.std.specs.Prelude.{◌≡◌, ℕ, List, [], ◌+◌, ◌<◌, ◌^◌, length, Option, Some, None, option_map, Ok, IfOk, OnErr, IsSomeAnd};
+ghost use Rattle.std.specs.Prelude.{◌≡◌, ℕ, List, [], ◌+◌, ◌<◌, ◌^◌, length, Option, Some, None, option_map};
+ghost use Rattle.std.specs.Prelude.{Ok, IfOk, OnErr, IsSomeAnd};
 ghost use Rattle.dd_set.specs.Spelling.{elements_text, items_text, max_levels, AreItems, IsContent};
 ghost use Rattle.dd_set.specs.Single.{entry_text};
 ghost use Rattle.dd_set.specs.Starts.{places_in, content_places, item_places};
@@ -64,7 +65,8 @@ fn starts_of(
         → IfOk result (λ starts. option_map (λ v. v.items) starts
         ≡ content_places front element.now.tag element.now.vr (value_view element.now.value)) }
     ensures memory { (front : List ℕ) → OnErr result (IsSomeAnd
-        (content_places front element.now.tag element.now.vr (value_view element.now.value)) (λ places. 0 < length places)) }
+        (content_places front element.now.tag element.now.vr (value_view element.now.value))
+        (λ places. 0 < length places)) }
 {
     match &element.value {
         Value::Bytes(_) => Ok(None),

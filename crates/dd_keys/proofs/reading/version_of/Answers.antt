@@ -7,7 +7,8 @@ use Rattle.dd_part10.specs.Gives.{file_view}
 use Rattle.dd_part10.specs.declared.fault.FileFault.{FileFault}
 use Rattle.dd_keys.specs.Values.{parts_in}
 use Rattle.dd_keys.proofs.ImageClasses.{is_image_class_decides}
-use Rattle.dd_keys.proofs.FoundVersions.{found_version, parts_fit, file_of, version_parts, file_refused, refusal_is_memory, refused_for_memory}
+use Rattle.dd_keys.proofs.FoundVersions.{found_version, parts_fit, file_of, version_parts, file_refused}
+use Rattle.dd_keys.proofs.FoundVersions.{refusal_is_memory, refused_for_memory}
 use Rattle.dd_keys.proofs.reading.version_of.Goals as goal
 
 pub returns-in_err-file-clause-fault : goal.returns-in_err-file-clause-fault

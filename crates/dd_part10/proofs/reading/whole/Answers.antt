@@ -9,5 +9,6 @@ pub returns-in_err-meta-clause-group : goal.returns-in_err-meta-clause-group
 returns-in_err-meta-clause-group c = λ memory.
     let p = err_from_is_err_and c.from_residual-in_err-meta.result c.from_residual-in_err-meta.ensures.1 in
     let refused : c.in_err-meta.field-0.0 ≡ faults.Meta Memory = fault_is _ _ _ _ p.1 p.2 memory in
-    group_wants c.args.bytes.now c.in_ok-rest.rest.now c.in_ok-group.group.now c.in_ok-group.rest.now c.in_ok-rest.ensures.exact c.in_ok-group.ensures.exact
+    group_wants c.args.bytes.now c.in_ok-rest.rest.now c.in_ok-group.group.now c.in_ok-group.rest.now
+    c.in_ok-rest.ensures.exact c.in_ok-group.ensures.exact
     (c.in_err-meta.ensures.group (ap (λ e. Err e) refused))

@@ -1,5 +1,6 @@
 -- What the loops read, and the item of defined length; the search finds the rest.
-use Rattle.std.proofs.Common.{rules, ◌≡◌, ◌+◌, ◌-◌, ◌%◌, ◌<◌, length, suc, ℕ, eqb, false, [], ◌∷◌, ◌++◌, map, ap, sym, subst, ◌∙◌, arith, inr, Some, None, Ok, Err}
+use Rattle.std.proofs.Common.{rules, ◌≡◌, ◌+◌, ◌-◌, ◌%◌, ◌<◌, length, suc, ℕ, eqb, false, [], ◌∷◌, ◌++◌, map, ap, sym}
+use Rattle.std.proofs.Common.{subst, ◌∙◌, arith, inr, Some, None, Ok, Err}
 use Rattle.std.proofs.lemmas.Result.{err_from_is_err_and}
 use Rattle.std.proofs.lemmas.List.{map_push}
 use Rattle.dd_elem.specs.Tag.{number_of}
@@ -54,7 +55,8 @@ pub sequence-items-preserved : goal.sequence-items-preserved
 sequence-items-preserved t c =
     let at = c.items.invariant in
     let next = c.in-Some.next in
-    let found : item_at (item_reader c.args.levels) c.args.syntax c.args.form (at_view c.items.place) ≡ Ok (Some (item_view next), at_view c.in_ok-found.behind) = rw c.in-Some.is at c.in_ok-found.ensures.exact in
+    let found : item_at (item_reader c.args.levels) c.args.syntax c.args.form (at_view c.items.place) ≡ Ok
+    (Some (item_view next), at_view c.in_ok-found.behind) = rw c.in-Some.is at c.in_ok-found.ensures.exact in
     let shorter : length c.in_ok-found.behind.rest.now < length c.items.place.rest.now = rw c.in-Some.is at c.in_ok-found.ensures.shorter in
     let pushed : map item_view c.push.new.self.items ≡ map item_view c.items.items.items ++ item_view next ∷ [] = rw c.in_ok-push-in-Some.ensures.items (map_push _ c.items.items.items next) in (
       at.0 - 1,
@@ -62,7 +64,8 @@ sequence-items-preserved t c =
       omega arith,
       rw pushed (items_more (item_reader c.args.levels) c.args.syntax c.args.form (length c.items.place.rest.now) at.0 (map item_view c.items.items.items) (at_view c.items.place) (at_view c.in_ok-found.behind) (item_view next)
           (sequence_with (item_reader c.args.levels) c.args.syntax c.args.form (at_view c.args.at)) at.1 found at.3),
-      inr (sequence_wants c.args.levels c.args.syntax c.args.form (at_view c.args.at) (at_view c.items.place) (at_view c.in_ok-found.behind) (item_view next) at.4 found),
+      inr (sequence_wants c.args.levels c.args.syntax c.args.form (at_view c.args.at) (at_view c.items.place)
+          (at_view c.in_ok-found.behind) (item_view next) at.4 found),
     )
 
 pub set-returns-in_err-found-clause-exact : goal.set-returns-in_err-found-clause-exact
@@ -84,7 +87,12 @@ pub set-elements-preserved : goal.set-elements-preserved
 set-elements-preserved t c =
     let at = c.elements.invariant in
     let next = c.in-Some.next in
-    let found : element_at (sequence_with (item_reader c.args.levels)) c.args.syntax c.args.form c.elements.low (at_view c.elements.place) ≡ Ok (Some (element_view next), at_view c.in_ok-found.behind) = rw c.in-Some.is at c.in_ok-found.ensures.exact in
+    let found : element_at (sequence_with (item_reader c.args.levels)) c.args.syntax c.args.form c.elements.low
+    (at_view c.elements.place) ≡ Ok (
+      Some
+          (element_view next),
+      at_view c.in_ok-found.behind,
+    ) = rw c.in-Some.is at c.in_ok-found.ensures.exact in
     let shorter : length c.in_ok-found.behind.rest.now < length c.elements.place.rest.now = rw c.in-Some.is at c.in_ok-found.ensures.shorter in
     let pushed : map element_view c.push.new.self.items ≡ map element_view c.elements.elements.items ++ element_view next ∷ [] = rw c.in_ok-push-in-Some.ensures.items (map_push _ c.elements.elements.items next) in
     let seen : (element_view next).tag ≡ next.tag = search (rules, the_lemmas) in
@@ -94,7 +102,8 @@ set-elements-preserved t c =
       omega arith,
       rw (pushed, low) (elements_more (sequence_with (item_reader c.args.levels)) c.args.syntax c.args.form (length c.elements.place.rest.now) at.0 c.elements.low (map element_view c.elements.elements.items) (at_view c.elements.place) (at_view c.in_ok-found.behind) (element_view next)
           (set_with (item_reader c.args.levels) c.args.syntax c.args.form (at_view c.args.at)) at.1 found at.3),
-      inr (set_wants c.args.levels c.args.syntax c.args.form c.elements.low (at_view c.args.at) (at_view c.elements.place) (at_view c.in_ok-found.behind) (element_view next) at.4 found),
+      inr (set_wants c.args.levels c.args.syntax c.args.form c.elements.low (at_view c.args.at)
+          (at_view c.elements.place) (at_view c.in_ok-found.behind) (element_view next) at.4 found),
     )
 
 pub part-returns-in_err-set-2-clause-memory : goal.part-returns-in_err-set-2-clause-memory
@@ -103,29 +112,41 @@ part-returns-in_err-set-2-clause-memory t c = λ memory.
     let refused : c.in_err-set-2.field-0.0 ≡ Memory = fault_is _ _ _ p.1 p.2 memory in
     let deeper : c.args.levels ≡ suc (c.args.levels - 1) = omega arith in
     let place : at_view c.within.result ≡ record { left = Some c.args.n; bytes = c.args.at.rest.now } = search rules in
-    part_wants c.args.levels (c.args.levels - 1) c.args.n c.args.syntax (at_view c.args.at) deeper (differ _ _ (omega arith)) (differ _ _ (omega arith)) (search rules)
-    (subst (λ (a : At). unkept_set (unkept_item (c.args.levels - 1)) c.args.syntax Defined a ≡ Err Memory) place (c.in_err-set-2.ensures.memory (ap (λ e. Err e) refused)))
+    part_wants c.args.levels (c.args.levels - 1) c.args.n c.args.syntax (at_view c.args.at) deeper
+    (differ _ _ (omega arith)) (differ _ _ (omega arith)) (search rules)
+    (subst (λ (a : At). unkept_set (unkept_item (c.args.levels - 1)) c.args.syntax Defined a ≡ Err Memory) place
+    (c.in_err-set-2.ensures.memory (ap (λ e. Err e) refused)))
 
 pub sequence-returns-in_err-found-clause-memory : goal.sequence-returns-in_err-found-clause-memory
 sequence-returns-in_err-found-clause-memory t c = λ memory.
     let p = err_from_is_err_and c.from_residual.result c.from_residual.ensures.1 in
     let refused : c.in_err-found.field-0.0 ≡ Memory = fault_is _ _ _ p.1 p.2 memory in
-    sequence_fails c.args.levels c.args.syntax c.args.form (at_view c.args.at) (at_view c.items.place) c.items.invariant.4 (c.in_err-found.ensures.memory (ap (λ e. Err e) refused))
+    sequence_fails c.args.levels c.args.syntax c.args.form (at_view c.args.at)
+    (at_view c.items.place) c.items.invariant.4 (c.in_err-found.ensures.memory (ap (λ e. Err e) refused))
 
 pub sequence-returns-in_err-push-in-Some-clause-memory : goal.sequence-returns-in_err-push-in-Some-clause-memory
 sequence-returns-in_err-push-in-Some-clause-memory t c = λ memory.
     let next = c.in-Some.next in
-    let found : item_at (item_reader c.args.levels) c.args.syntax c.args.form (at_view c.items.place) ≡ Ok (Some (item_view next), at_view c.in_ok-found.behind) = rw c.in-Some.is at c.in_ok-found.ensures.exact in
-    sequence_wants c.args.levels c.args.syntax c.args.form (at_view c.args.at) (at_view c.items.place) (at_view c.in_ok-found.behind) (item_view next) c.items.invariant.4 found
+    let found : item_at (item_reader c.args.levels) c.args.syntax c.args.form (at_view c.items.place) ≡ Ok
+    (Some (item_view next), at_view c.in_ok-found.behind) = rw c.in-Some.is at c.in_ok-found.ensures.exact in
+    sequence_wants c.args.levels c.args.syntax c.args.form (at_view c.args.at) (at_view c.items.place)
+    (at_view c.in_ok-found.behind) (item_view next) c.items.invariant.4 found
 
 pub set-returns-in_err-found-clause-memory : goal.set-returns-in_err-found-clause-memory
 set-returns-in_err-found-clause-memory t c = λ memory.
     let p = err_from_is_err_and c.from_residual.result c.from_residual.ensures.1 in
     let refused : c.in_err-found.field-0.0 ≡ Memory = fault_is _ _ _ p.1 p.2 memory in
-    set_fails c.args.levels c.args.syntax c.args.form c.elements.low (at_view c.args.at) (at_view c.elements.place) c.elements.invariant.4 (c.in_err-found.ensures.memory (ap (λ e. Err e) refused))
+    set_fails c.args.levels c.args.syntax c.args.form c.elements.low (at_view c.args.at)
+    (at_view c.elements.place) c.elements.invariant.4 (c.in_err-found.ensures.memory (ap (λ e. Err e) refused))
 
 pub set-returns-in_err-push-in-Some-clause-memory : goal.set-returns-in_err-push-in-Some-clause-memory
 set-returns-in_err-push-in-Some-clause-memory t c = λ memory.
     let next = c.in-Some.next in
-    let found : element_at (sequence_with (item_reader c.args.levels)) c.args.syntax c.args.form c.elements.low (at_view c.elements.place) ≡ Ok (Some (element_view next), at_view c.in_ok-found.behind) = rw c.in-Some.is at c.in_ok-found.ensures.exact in
-    set_wants c.args.levels c.args.syntax c.args.form c.elements.low (at_view c.args.at) (at_view c.elements.place) (at_view c.in_ok-found.behind) (element_view next) c.elements.invariant.4 found
+    let found : element_at (sequence_with (item_reader c.args.levels)) c.args.syntax c.args.form c.elements.low
+    (at_view c.elements.place) ≡ Ok (
+      Some
+          (element_view next),
+      at_view c.in_ok-found.behind,
+    ) = rw c.in-Some.is at c.in_ok-found.ensures.exact in
+    set_wants c.args.levels c.args.syntax c.args.form c.elements.low (at_view c.args.at) (at_view c.elements.place)
+    (at_view c.in_ok-found.behind) (element_view next) c.elements.invariant.4 found
