@@ -1,3 +1,4 @@
+pub mod Behind
 pub mod Harmonies
 pub mod Joined
 pub mod Merging

@@ -11,6 +11,7 @@ mod harmony;
 mod history;
 mod join;
 mod laws;
+mod lent;
 mod owners;
 mod table;
 mod tuples;

@@ -3,7 +3,8 @@
 ghost use Rattle.std.specs.Prelude.{◌≡◌, map, filter, IfOk};
 ghost use Rattle.dd_catalogue.specs.Owners.{HasTorn, is_astray, series_owned, study_owned};
 
-use crate::table::{Copied, Keyed, Table, lent};
+use crate::lent::{Keyed, lent};
+use crate::table::{Copied, Table};
 use dd_elem::{Memory, Ordered, Uid};
 use dd_keys::Version;
 use std::alloc::Global;

@@ -8,7 +8,8 @@ ghost use Rattle.dd_elem.specs.Ordered.{bytes_cmp};
 ghost use Rattle.dd_catalogue.specs.Best.{IsRising, at, best, put};
 ghost use Rattle.dd_catalogue.specs.Table.{IsPlace, took_by};
 
-use dd_elem::{Memory, Ordered};
+use crate::lent::Keyed;
+use dd_elem::Memory;
 use std::alloc::Global;
 use std::cmp::Ordering;
 use std::marker::Model;
@@ -20,15 +21,6 @@ pub(crate) trait Copied {
     /// An equal value.
     fn copied(&self) -> Result<Self, Memory>
         ensures { IfOk result (λ value. value ≡ self.now) };
-}
-
-/// A value that has a key.
-pub(crate) trait Keyed: Ordered + Copied + Drop {
-    ghost key_of: { Self → List ℕ };
-
-    /// The key.
-    fn key(&self) -> &[u8]
-        ensures { result.now ≡ key_of self.now };
 }
 
 /// What became of a value that was taken.
@@ -52,11 +44,11 @@ pub struct Refused<V> {
 
 /// The greatest value of each key, rising by key.
 #[derive(Debug, Drop)]
-pub(crate) struct Table<T: Keyed> {
+pub(crate) struct Table<T: Keyed + Copied + Drop> {
     held: Vec<T>,
 }
 
-impl<T: Keyed> Model for Table<T> {
+impl<T: Keyed + Copied + Drop> Model for Table<T> {
     ghost use Rattle.std.specs.Prelude.{List};
     ghost use Rattle.dd_elem.specs.Ordered.{bytes_cmp};
     ghost use Rattle.dd_catalogue.specs.Best.{IsRising};
@@ -68,7 +60,7 @@ impl<T: Keyed> Model for Table<T> {
     ghost invariant = { λ table. IsRising T.key_of bytes_cmp table.held.items };
 }
 
-impl<T: Keyed> Table<T> {
+impl<T: Keyed + Copied + Drop> Table<T> {
     /// The empty table.
     pub(crate) fn new(alloc: Global) -> Table<T>
         ensures { result ≡ [] }
@@ -248,19 +240,12 @@ impl<T: Keyed> Table<T> {
     }
 }
 
-/// References to these values.
-pub(crate) fn lent<T>(alloc: Global, values: &[T]) -> Result<Vec<&T>, Memory>
-    ensures { IfOk result (λ lent. map (λ value. value.now) lent.items ≡ values.now) }
-{
-    let mut lent = Vec::with_capacity(alloc, values.len())?;
-    for value in values {
-        lent.push(value)?;
-    }
-    Ok(lent)
-}
-
 /// The best of two lists, in one walk where both rise.
-fn merged<T: Keyed>(alloc: Global, mine: &[T], theirs: &[T]) -> Result<Table<T>, Memory>
+fn merged<T: Keyed + Copied + Drop>(
+    alloc: Global,
+    mine: &[T],
+    theirs: &[T],
+) -> Result<Table<T>, Memory>
     ensures { IfOk result (λ table. table ≡ best T.key_of bytes_cmp T.order (mine.now ++ theirs.now)) }
 {
     let mut table = Table::new(alloc);

@@ -7,7 +7,8 @@ ghost use Rattle.dd_keys.specs.Orders.{patient_cmp, study_cmp, series_cmp};
 ghost use Rattle.dd_catalogue.specs.Best.{best};
 ghost use Rattle.dd_catalogue.specs.Harmony.{patient_of, patient_key, study_of, study_key, series_of, series_key};
 
-use crate::table::{Copied, Keyed, Table};
+use crate::lent::Keyed;
+use crate::table::{Copied, Table};
 use dd_elem::Memory;
 use dd_keys::{PatientKeys, SeriesKeys, StudyKeys, Version};
 use std::alloc::Global;
