@@ -4,3 +4,4 @@ pub mod Joined
 pub mod Merging
 pub mod Places
 pub mod Torn
+pub mod Woven

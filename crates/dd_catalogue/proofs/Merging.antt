@@ -1,4 +1,4 @@
--- One value more in the best of a list, or of two lists that are walked by two positions.
+-- One value more in the best of a list.
 use Rattle.std.specs.Prelude.{◌≡◌, ◌<◌, ◌≤◌, ◌+◌, ℕ, List, [], ◌∷◌, ◌++◌, length, get_or, take, map}
 use Rattle.std.specs.List.Sorted.{IsPermutation}
 use Rattle.std.specs.declared.cmp.Ordering.{Ordering}
@@ -12,21 +12,6 @@ use Rattle.dd_catalogue.specs.BestMembers.{best_of_same}
 
 one_more : {V : Type 0} (m : List V) (i : ℕ) (x : V) → i < length m → x ≡ get_or m i x → take (i + 1) m ≡ take i m ++ x ∷ []
 one_more m i x below read = take_more m i x below ∙ ap (λ y. take i m ++ y ∷ []) (sym read)
-
-pub merged_mine : {V K : Type 0} {key : V → K} {keys : K → K → Ordering} {values : V → V → Ordering} (o : Orders key keys values) (m n t t' : List V) (i j : ℕ) (x : V)
-    → i < length m → x ≡ get_or m i x → t ≡ best key keys values (take i m ++ take j n) → t' ≡ best key keys values (x ∷ t)
-    → t' ≡ best key keys values (take (i + 1) m ++ take j n)
-merged_mine {key = key} {keys = keys} {values = values} o m n t t' i j x below read before after =
-    after ∙ ap (λ y. best key keys values (x ∷ y)) before ∙ best_middle o x (take i m) (take j n)
-    ∙ ap (λ y. best key keys values (y ++ take j n)) (sym (one_more m i x below read))
-
-pub merged_theirs : {V K : Type 0} {key : V → K} {keys : K → K → Ordering} {values : V → V → Ordering} (o : Orders key keys values) (m n t t' : List V) (i j : ℕ) (x : V)
-    → j < length n → x ≡ get_or n j x → t ≡ best key keys values (take i m ++ take j n) → t' ≡ best key keys values (x ∷ t)
-    → t' ≡ best key keys values (take i m ++ take (j + 1) n)
-merged_theirs {key = key} {keys = keys} {values = values} o m n t t' i j x below read before after =
-    after ∙ ap (λ y. best key keys values (x ∷ y)) before ∙ best_push o x (take i m ++ take j n)
-    ∙ ap (λ y. best key keys values y) (append_assoc (take i m) (take j n) (x ∷ []))
-    ∙ ap (λ y. best key keys values (take i m ++ y)) (sym (one_more n j x below read))
 
 pub taken_more : {B V K : Type 0} {key : V → K} {keys : K → K → Ordering} {values : V → V → Ordering} (o : Orders key keys values) (now : B → V) (xs : List B) (t t' : List V) (i : ℕ) (x : B)
     → i < length xs → x ≡ get_or xs i x → t ≡ best key keys values (map now (take i xs)) → t' ≡ best key keys values (now x ∷ t)

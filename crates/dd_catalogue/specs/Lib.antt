@@ -4,6 +4,7 @@ pub mod BestLaws
 pub mod BestMembers
 pub mod CatalogueJoin
 pub mod Clash
+pub mod Compared
 pub mod Harmony
 pub mod Histories
 pub mod Joins
@@ -13,3 +14,4 @@ pub mod Table
 pub mod Taking
 pub mod VersionJoin
 pub mod Versions
+pub mod Weaving

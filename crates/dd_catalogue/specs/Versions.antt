@@ -6,6 +6,7 @@ use Rattle.dd_elem.specs.Ordered.{bytes_cmp}
 use Rattle.dd_keys.specs.Orders.{parts_cmp, parts_total, parts_apart}
 use Rattle.dd_keys.specs.declared.parts.Parts.{Parts}
 use Rattle.dd_catalogue.specs.Best.{IsRising, IsBest, at, best}
+use Rattle.dd_catalogue.specs.Compared.{compared}
 use Rattle.dd_catalogue.specs.Rising.{Orders}
 
 -- SOP Instance UID
@@ -27,6 +28,10 @@ IsBestOf s m = IsBest instance_of bytes_cmp parts_cmp s m
 -- the same as a function
 abbrev pub best_of : List Parts → List Parts
 best_of s = best instance_of bytes_cmp parts_cmp s
+
+-- how many SOP Instance UIDs of either set are at most the greatest of each
+abbrev pub compared_of : List Parts → List Parts → ℕ
+compared_of m n = compared instance_of bytes_cmp parts_cmp m n
 
 pub versions_ordered : Orders instance_of bytes_cmp parts_cmp
 versions_ordered = record { keys_total = nat_list_cmp_total; keys_apart = exact_bytes; values_total = parts_total; values_apart = parts_apart }

@@ -1,15 +1,15 @@
 //! Catalogues of versions.
 
-ghost use Rattle.std.specs.Prelude.{◌≡◌, [], ◌∷◌, ◌++◌, length, option_copied, IsOk, IfOk, IfErr, OnOk, OnErr, IsSome};
+ghost use Rattle.std.specs.Prelude.{◌≡◌, [], ◌∷◌, ◌++◌, length, map, option_copied, IsOk, IfOk, IfErr, OnOk, OnErr, IsSome};
 ghost use Rattle.dd_catalogue.specs.Clash.{clash};
 ghost use Rattle.dd_catalogue.specs.Harmony.{harmonised};
-ghost use Rattle.dd_catalogue.specs.Versions.{IsCatalogue, best_of, kept};
+ghost use Rattle.dd_catalogue.specs.Versions.{IsCatalogue, best_of, compared_of, kept};
 ghost use Rattle.dd_catalogue.specs.Taking.{took_of};
 
 use crate::conflicts::first_clash;
 use crate::harmony::in_harmony;
 use crate::join::Join;
-use crate::lent::{Keyed, lent};
+use crate::lent::Keyed;
 use crate::table::{Copied, Refused, Table, Took};
 use dd_elem::{Memory, Uid};
 use dd_keys::Version;
@@ -67,11 +67,11 @@ impl Catalogue {
     }
 
     /// The best of these versions.
-    pub(crate) fn of(alloc: Global, versions: &[Version]) -> Result<Catalogue, Memory>
-        ensures { IfOk result (λ catalogue. catalogue ≡ best_of versions.now) }
+    pub(crate) fn of(alloc: Global, versions: Vec<&Version>) -> Result<Catalogue, Memory>
+        ensures { IfOk result (λ catalogue. catalogue ≡ best_of (map (λ version. version.now) versions.entry.items)) }
     {
         Ok(Catalogue {
-            table: Table::of(alloc, lent(alloc, versions)?)?,
+            table: Table::of(alloc, versions)?,
         })
     }
 
@@ -110,11 +110,27 @@ impl Catalogue {
         self.table.take(version)
     }
 
-    /// Takes copies of all versions of the other catalogue. Memory where a growth was refused; then
-    /// nothing has changed.
+    /// Takes copies of all versions of the other catalogue, in one walk through both by two positions.
+    /// Memory where a growth was refused; then nothing has changed. No memory is taken where the other
+    /// catalogue is empty.
     pub fn merge(&mut self, other: &Catalogue) -> Result<(), Memory>
         ensures ok { OnOk result (self.new ≡ best_of (self.old ++ other.now)) }
         ensures err { OnErr result (self.new ≡ self.old) }
+        ensures empty { other.now ≡ [] → IsOk result }
+        ensures catalogues { IsCatalogue self.old × IsCatalogue other.now }
+    {
+        self.merge_counted(other)?;
+        Ok(())
+    }
+
+    /// The same as `merge`. Answers how many pairs of SOP Instance UIDs were compared: one for each UID
+    /// of either catalogue that is at most the greatest of each.
+    pub fn merge_counted(&mut self, other: &Catalogue) -> Result<u64, Memory>
+        ensures ok { OnOk result (self.new ≡ best_of (self.old ++ other.now)) }
+        ensures count { IfOk result (λ count. count ≡ compared_of self.old other.now) }
+        ensures err { OnErr result (self.new ≡ self.old) }
+        ensures empty { other.now ≡ [] → IsOk result }
+        ensures catalogues { IsCatalogue self.old × IsCatalogue other.now }
     {
         self.table.merge(&other.table)
     }

@@ -15,6 +15,7 @@ mod lent;
 mod owners;
 mod table;
 mod tuples;
+mod weaving;
 
 pub use catalogue::Catalogue;
 pub use history::{History, build, build_order_is_free};

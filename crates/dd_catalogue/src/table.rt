@@ -6,9 +6,11 @@ ghost use Rattle.std.specs.List.{HoldsAt, AllWithin};
 ghost use Rattle.std.specs.declared.cmp.Ordering.TheVariants.{Less, Equal, Greater};
 ghost use Rattle.dd_elem.specs.Ordered.{bytes_cmp};
 ghost use Rattle.dd_catalogue.specs.Best.{IsRising, at, best, put};
+ghost use Rattle.dd_catalogue.specs.Compared.{compared};
 ghost use Rattle.dd_catalogue.specs.Table.{IsPlace, took_by};
 
-use crate::lent::Keyed;
+use crate::lent::{Greatest, Keyed};
+use crate::weaving::weave;
 use dd_elem::Memory;
 use std::alloc::Global;
 use std::cmp::Ordering;
@@ -112,60 +114,42 @@ impl<T: Keyed + Copied + Drop> Table<T> {
     pub(crate) fn copy(&self) -> Result<Table<T>, Memory>
         ensures { IfOk result (λ table. table ≡ self.now) }
     {
-        let values = self.values();
-        let mut held = Vec::with_capacity(self.allocator(), values.len())?;
-        for value in values {
-            held.push(value.copied()?)?;
-        }
-        Ok(Table { held })
+        Ok(Table {
+            held: copies(self.allocator(), self.values())?,
+        })
     }
 
-    /// The best of these values.
-    pub(crate) fn of(alloc: Global, mut values: Vec<&T>) -> Result<Table<T>, Memory>
+    /// The best of these values. Each that is kept is copied once.
+    pub(crate) fn of(alloc: Global, values: Vec<&T>) -> Result<Table<T>, Memory>
         ensures { IfOk result (λ table. table ≡ best T.key_of bytes_cmp T.order (map (λ value. value.now) values.entry.items)) }
     {
-        values.sort_by(|one: &&T, other: &&T| one.key().cmp(other.key()))?;
-        let mut table = Table::new(alloc);
-        for value in &values {
-            table.take_copy(*value)?;
-        }
-        Ok(table)
+        let greatest = Greatest::of(alloc, values)?;
+        Ok(Table {
+            held: copies_behind(alloc, greatest.values())?,
+        })
     }
 
-    /// Takes a copy of the value, where it is new or greater than the one with its key.
-    fn take_copy(&mut self, value: &T) -> Result<(), Memory>
-        ensures ok { OnOk result (self.new ≡ best T.key_of bytes_cmp T.order (value.now ∷ self.old)) }
-        ensures err { OnErr result (self.new ≡ self.old) }
-    {
-        if self.has_none_below(value) {
-            return Ok(());
-        }
-        match self.take(value.copied()?) {
-            Ok(_) => Ok(()),
-            Err(_) => Err(Memory),
-        }
-    }
-
-    /// Is one with its key there that is no smaller?
-    fn has_none_below(&self, value: &T) -> bool
-        ensures { result ≡ true → best T.key_of bytes_cmp T.order (value.now ∷ self.now) ≡ self.now }
-    {
-        match self.place(value.key()) {
-            Ok(place) => !self.held[place].compare(value).is_lt(),
-            Err(_) => false,
-        }
-    }
-
-    /// Takes copies of the other table's values. Memory where a growth was refused; then nothing has
-    /// changed.
-    pub(crate) fn merge(&mut self, other: &Table<T>) -> Result<(), Memory>
+    /// Takes copies of the other table's values. Answers how many pairs of keys were compared. Memory
+    /// where a growth was refused; then nothing has changed.
+    pub(crate) fn merge(&mut self, other: &Table<T>) -> Result<u64, Memory>
         ensures ok { OnOk result (self.new ≡ best T.key_of bytes_cmp T.order (self.old ++ other.now)) }
+        ensures count { IfOk result (λ count. count ≡ compared T.key_of bytes_cmp T.order self.old other.now) }
         ensures err { OnErr result (self.new ≡ self.old) }
+        ensures empty { other.now ≡ [] → IsOk result }
+        ensures rising { IsRising T.key_of bytes_cmp self.old × IsRising T.key_of bytes_cmp other.now }
     {
+        let (mine, theirs) = (self.values(), other.values());
+        if theirs.is_empty() {
+            return Ok(0);
+        }
+        let Some(room) = mine.len().checked_add(theirs.len()) else {
+            return Err(Memory);
+        };
         let alloc = self.allocator();
-        let both = merged(alloc, self.values(), other.values())?;
-        *self = both;
-        Ok(())
+        let copied = copies(alloc, theirs)?;
+        let both = Vec::with_capacity(alloc, room)?;
+        let own = mem::replace(&mut self.held, both);
+        Ok(weave(own, copied, &mut self.held))
     }
 
     /// Takes the value, where no greater one with its key is there. It is handed back where a growth
@@ -240,37 +224,24 @@ impl<T: Keyed + Copied + Drop> Table<T> {
     }
 }
 
-/// The best of two lists, in one walk where both rise.
-fn merged<T: Keyed + Copied + Drop>(
-    alloc: Global,
-    mine: &[T],
-    theirs: &[T],
-) -> Result<Table<T>, Memory>
-    ensures { IfOk result (λ table. table ≡ best T.key_of bytes_cmp T.order (mine.now ++ theirs.now)) }
+/// Copies of these values.
+fn copies<T: Copied + Drop>(alloc: Global, values: &[T]) -> Result<Vec<T>, Memory>
+    ensures { IfOk result (λ copies. copies.items ≡ values.now) }
 {
-    let mut table = Table::new(alloc);
-    let mut i = 0;
-    let mut j = 0;
-    while i < mine.len() || j < theirs.len() {
-        if is_next(mine, i, theirs, j) {
-            table.take_copy(&mine[i])?;
-            i += 1;
-        } else {
-            table.take_copy(&theirs[j])?;
-            j += 1;
-        }
+    let mut copies = Vec::with_capacity(alloc, values.len())?;
+    for value in values {
+        copies.push(value.copied()?)?;
     }
-    Ok(table)
+    Ok(copies)
 }
 
-/// Does the value at `i` come before the one of the other list at `j`?
-fn is_next<T: Keyed>(mine: &[T], i: usize, theirs: &[T], j: usize) -> bool
-    ensures here { result ≡ true → i < length mine.now }
-    ensures there { result ≡ false → i < length mine.now → j < length theirs.now }
+/// Copies of the values behind these references.
+fn copies_behind<T: Copied + Drop>(alloc: Global, values: &[&T]) -> Result<Vec<T>, Memory>
+    ensures { IfOk result (λ copies. copies.items ≡ map (λ value. value.now) values.now) }
 {
-    match (mine.get(i), theirs.get(j)) {
-        (Some(one), Some(other)) => one.key() < other.key(),
-        (Some(_), None) => true,
-        (None, _) => false,
+    let mut copies = Vec::with_capacity(alloc, values.len())?;
+    for value in values {
+        copies.push(value.copied()?)?;
     }
+    Ok(copies)
 }
