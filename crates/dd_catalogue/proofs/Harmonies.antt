@@ -34,7 +34,7 @@ either_fold tuple {key = key} {order = order} o k (w ∷ m) x = by_test (is_eq (
     ∙ either_fold tuple o k m (greater order x (tuple w))))
     (λ e. rw e (either_fold tuple o k m x))
 
-member-map : {V T : Type 0} (tuple : V → T) (v : V) (m : List V) → Member v m → Member (tuple v) (map tuple m)
+pub member-map : {V T : Type 0} (tuple : V → T) (v : V) (m : List V) → Member v m → Member (tuple v) (map tuple m)
 member-map tuple v [] i = absurd i
 member-map tuple v (w ∷ m) (inl e) = inl (ap tuple e)
 member-map tuple v (w ∷ m) (inr i) = inr (member-map tuple v m i)
@@ -42,14 +42,20 @@ member-map tuple v (w ∷ m) (inr i) = inr (member-map tuple v m i)
 some_or : {T : Type 0} (r : Option T) (x y : T) → r ≡ Some y → unwrap_or r x ≡ y
 some_or r x y e = rw e refl
 
+pub best_like : {V T : Type 0} (tuple : V → T) {key : T → List ℕ} {order : T → T → Ordering} (o : Orders key bytes_cmp order) (m : List V) (v : V)
+    → Member v m → best_at key bytes_cmp order (map tuple m) (key (tuple v)) ≡ Some (greatest_like tuple key order m v)
+best_like tuple {key = key} {order = order} o m v i =
+    let k = key (tuple v) in
+    sym (absorbed o k (tuple v) (map tuple m) (member-map tuple v m i))
+    ∙ ap (λ x. either order x (best_at key bytes_cmp order (map tuple m) k)) (one_itself key o.keys_total k (tuple v) refl)
+    ∙ either_fold tuple o k m (tuple v)
+
 like : {V T : Type 0} (tuple : V → T) {key : T → List ℕ} {order : T → T → Ordering} (o : Orders key bytes_cmp order) (m : List V) (v : V) → Member v m
     → unwrap_or (at key bytes_cmp (best key bytes_cmp order (map tuple m)) (key (tuple v))) (tuple v) ≡ greatest_like tuple key order m v
 like tuple {key = key} {order = order} o m v i =
     let k = key (tuple v) in
     some_or (at key bytes_cmp (best key bytes_cmp order (map tuple m)) k) (tuple v) (greatest_like tuple key order m v)
-    (at-best o (map tuple m) k ∙ sym (absorbed o k (tuple v) (map tuple m) (member-map tuple v m i))
-    ∙ ap (λ x. either order x (best_at key bytes_cmp order (map tuple m) k)) (one_itself key o.keys_total k (tuple v) refl)
-    ∙ either_fold tuple o k m (tuple v))
+    (at-best o (map tuple m) k ∙ best_like tuple o m v i)
 
 -- ---- what all tuples have, the greatest of them has
 

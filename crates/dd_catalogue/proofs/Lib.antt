@@ -1,5 +1,7 @@
 pub mod Behind
+pub mod Clashes
 pub mod Harmonies
+pub mod Harmonised
 pub mod Joined
 pub mod Merging
 pub mod Places

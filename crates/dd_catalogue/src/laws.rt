@@ -1,9 +1,11 @@
 //! What holds of every set of versions, whatever the order in which they arrive.
 
-ghost use Rattle.std.specs.Prelude.{◌≡◌, ◌++◌, List};
+ghost use Rattle.std.specs.Prelude.{◌≡◌, ◌++◌, ℕ, List, Option};
 ghost use Rattle.dd_keys.specs.declared.parts.Parts.{Parts};
 ghost use Rattle.dd_catalogue.specs.Best.{SameMembers};
-ghost use Rattle.dd_catalogue.specs.Versions.{IsBestOf, best_of};
+ghost use Rattle.dd_catalogue.specs.Clash.{IsClash, clash};
+ghost use Rattle.dd_catalogue.specs.Harmony.{IsHarmonised, harmonised};
+ghost use Rattle.dd_catalogue.specs.Versions.{IsBestOf, IsCatalogue, best_of};
 
 /// Every set of versions has a best: of each instance the greatest version, and no other.
 pub fn best_is_best()
@@ -18,4 +20,25 @@ pub fn best_is_one()
 /// The best of all versions in two bests is the best of both sets together.
 pub fn best_of_bests()
     ensures { (s t : List Parts) → best_of (best_of s ++ best_of t) ≡ best_of (s ++ t) }
+{}
+
+/// The clash of a catalogue is its first conflict.
+pub fn clash_is_clash()
+    ensures { (m : List Parts) → IsCatalogue m → IsClash m (clash m) }
+{}
+
+/// A catalogue has one clash.
+pub fn clash_is_one()
+    ensures { (m : List Parts) (one other : Option (List ℕ × List ℕ)) → IsCatalogue m → IsClash m one → IsClash m other → one ≡ other }
+{}
+
+/// Every catalogue has a harmony: each of its versions with the greatest keys of its patient, its study and
+/// its series.
+pub fn harmonised_is_harmonised()
+    ensures { (m : List Parts) → IsCatalogue m → IsHarmonised m (harmonised m) }
+{}
+
+/// A catalogue has one harmony.
+pub fn harmonised_is_one()
+    ensures { (m one other : List Parts) → IsHarmonised m one → IsHarmonised m other → one ≡ other }
 {}
