@@ -11,8 +11,7 @@ use Rattle.dd_catalogue.specs.Rising.{Orders, by_test, by_option, is_eq_Equal, e
 use Rattle.dd_catalogue.specs.BestLaws.{best_at, at-best, Member, member_of, contained}
 use Rattle.dd_catalogue.specs.BestMembers.{absorbed, one_itself}
 use Rattle.dd_catalogue.specs.Clash.{same, splits, conflicts, pair_or, clash}
-use Rattle.dd_catalogue.specs.Owners.{part_of, whole_of, owned_cmp, owned_total, owned_apart, is_astray, HasTorn, study_owned, series_owned}
-use Rattle.dd_catalogue.specs.declared.owners.Owned.{Owned}
+use Rattle.dd_catalogue.specs.Owners.{Belonging, part_of, whole_of, owned_cmp, owned_total, owned_apart, is_astray, HasTorn, study_owned, series_owned}
 use Rattle.dd_catalogue.proofs.Places.{by_key}
 
 owners : Orders part_of bytes_cmp owned_cmp
@@ -43,7 +42,7 @@ member-filter q x (w ∷ s) (inl e) p = let here : q w ≡ true = ap q e ∙ p i
 member-filter q x (w ∷ s) (inr i) p = by_test (q w) (λ h. rw h (inr (member-filter q x s i p))) (λ h. rw h (member-filter q x s i p))
 
 -- a member's key is in the table
-there : (s : List Owned) (x : Owned) (k : List ℕ) → Member x s → x.part ≡ k → is_some (at part_of bytes_cmp (best part_of bytes_cmp owned_cmp s) k) ≡ true
+there : (s : List Belonging) (x : Belonging) (k : List ℕ) → Member x s → x.part ≡ k → is_some (at part_of bytes_cmp (best part_of bytes_cmp owned_cmp s) k) ≡ true
 there s x k i same =
     let all : either owned_cmp (Some x) (best_at part_of bytes_cmp owned_cmp s k) ≡ best_at part_of bytes_cmp owned_cmp s k =
     ap (λ y. either owned_cmp y (best_at part_of bytes_cmp owned_cmp s k)) (sym (one_itself part_of owners.keys_total k x same)) ∙ absorbed owners k x s i in
@@ -55,7 +54,7 @@ some_unwrapped : {V : Type 0} (r : Option V) (x : V) → is_some r ≡ true → 
 some_unwrapped None x e d = cc
 some_unwrapped (Some y) x e d = refl
 
-torn_is : (s : List Owned) → HasTorn s (best part_of bytes_cmp owned_cmp (filter (is_astray (best part_of bytes_cmp owned_cmp s)) s))
+torn_is : (s : List Belonging) → HasTorn s (best part_of bytes_cmp owned_cmp (filter (is_astray (best part_of bytes_cmp owned_cmp s)) s))
 torn_is s a b ca cb split =
     let table = best part_of bytes_cmp owned_cmp s in
     let part : a.part ≡ b.part = same_true a.part b.part (and_first (same a.part b.part) (not (same a.whole b.whole)) split) in
@@ -66,12 +65,12 @@ torn_is s a b ca cb split =
     ∙ some_unwrapped (at part_of bytes_cmp table a.part) a (there s a a.part (member_of a s ca) refl) b in
     by_test (same top.whole a.whole)
     (λ e. let is : top.whole ≡ a.whole = same_true top.whole a.whole e in
-    let astray : is_astray table b ≡ true = ap (λ (t : Owned). not (same t.whole b.whole)) top-b ∙ ap (λ (w : List ℕ). not (same w b.whole)) is ∙ apart in
+    let astray : is_astray table b ≡ true = ap (λ (t : Belonging). not (same t.whole b.whole)) top-b ∙ ap (λ (w : List ℕ). not (same w b.whole)) is ∙ apart in
     there (filter (is_astray table) s) b a.part (member-filter (is_astray table) b s (member_of b s cb) astray) (sym part))
     (λ e. let astray : is_astray table a ≡ true = ap not e in
     there (filter (is_astray table) s) a a.part (member-filter (is_astray table) a s (member_of a s ca) astray) refl)
 
-pub torn_from : (s lent : List Owned) (table result astray : List Owned) → lent ≡ s → table ≡ best part_of bytes_cmp owned_cmp lent
+pub torn_from : (s lent : List Belonging) (table result astray : List Belonging) → lent ≡ s → table ≡ best part_of bytes_cmp owned_cmp lent
     → astray ≡ filter (is_astray table) s → result ≡ best part_of bytes_cmp owned_cmp astray → HasTorn s result
 torn_from s lent table result astray l t a r =
     let table-is : table ≡ best part_of bytes_cmp owned_cmp s = t ∙ ap (λ x. best part_of bytes_cmp owned_cmp x) l in
@@ -90,7 +89,7 @@ find_none : {V : Type 0} (q : V → Bool) (m : List V) → ((w : V) → Member w
 find_none q [] h = refl
 find_none q (w ∷ m) h = rw (h w (inl refl)) (find_none q m (λ u i. h u (inr i)))
 
-quiet : (m : List Parts) (studies series : List Owned) (v w : Parts) → HasTorn (map study_owned m) studies → HasTorn (map series_owned m) series
+quiet : (m : List Parts) (studies series : List Belonging) (v w : Parts) → HasTorn (map study_owned m) studies → HasTorn (map series_owned m) series
     → Member v m → Member w m → (is_some (at part_of bytes_cmp studies v.study.uid) || is_some (at part_of bytes_cmp series v.series.uid)) ≡ false
     → conflicts v w ≡ false
 quiet m studies series v w torn torn' i j none =
@@ -106,7 +105,7 @@ quiet m studies series v w torn torn' i j none =
     cc (found, not_found))
     (λ f. ap (λ (x : Bool). x || splits part_of whole_of (series_owned v) (series_owned w)) e ∙ f))
 
-pub clash_quiet : (m rest : List Parts) (studies series : List Owned) (v : Parts) → HasTorn (map study_owned m) studies → HasTorn (map series_owned m) series
+pub clash_quiet : (m rest : List Parts) (studies series : List Belonging) (v : Parts) → HasTorn (map study_owned m) studies → HasTorn (map series_owned m) series
     → ((w : Parts) → Member w (v ∷ rest) → Member w m)
     → (is_some (at part_of bytes_cmp studies v.study.uid) || is_some (at part_of bytes_cmp series v.series.uid)) ≡ false
     → clash (v ∷ rest) ≡ clash rest
@@ -139,7 +138,7 @@ pub later_alone : (all m : List Parts) (x : Parts) → 0 < length m → x ≡ ge
     → pair_or x (find (conflicts x) (rest_of m)) None ≡ None → clash (rest_of m) ≡ clash all
 later_alone all m x below read so none = sym (clash_alone x (rest_of m) none) ∙ ap clash (sym (first_and_rest m x below read)) ∙ so
 
-pub later_quiet : (all m : List Parts) (x : Parts) (studies series : List Owned) → 0 < length m → x ≡ get_or m 0 x → clash m ≡ clash all
+pub later_quiet : (all m : List Parts) (x : Parts) (studies series : List Belonging) → 0 < length m → x ≡ get_or m 0 x → clash m ≡ clash all
     → ((v : Parts) → Member v m → Member v all) → HasTorn (map study_owned all) studies → HasTorn (map series_owned all) series
     → (is_some (at part_of bytes_cmp studies x.study.uid) || is_some (at part_of bytes_cmp series x.series.uid)) ≡ false → clash (rest_of m) ≡ clash all
 later_quiet all m x studies series below read so within torn torn' none =

@@ -1,8 +1,9 @@
 //! Catalogues of versions.
 
-ghost use Rattle.std.specs.Prelude.{◌≡◌, [], ◌∷◌, ◌++◌, length, map, option_copied, IsOk, IfOk, IfErr, OnOk, OnErr, IsSome};
-ghost use Rattle.dd_catalogue.specs.Clash.{clash};
-ghost use Rattle.dd_catalogue.specs.Harmony.{harmonised};
+ghost use Rattle.std.specs.Prelude.{◌≡◌, ◌≢◌, [], ◌∷◌, ◌++◌, length, map, option_copied};
+ghost use Rattle.std.specs.Prelude.{IsOk, IfOk, IfErr, OnOk, OnErr, IsSome};
+ghost use Rattle.dd_catalogue.specs.Clash.{IsClash, clash};
+ghost use Rattle.dd_catalogue.specs.Harmony.{IsHarmonised, harmonised};
 ghost use Rattle.dd_catalogue.specs.Versions.{IsCatalogue, best_of, compared_of, kept};
 ghost use Rattle.dd_catalogue.specs.Taking.{took_of};
 
@@ -137,18 +138,23 @@ impl Catalogue {
 
     /// The least instance that conflicts with a greater one, and the least greater one with which it
     /// conflicts: two versions conflict where they have one study and different Patient IDs, or one
-    /// series and different studies. Memory where a growth was refused.
+    /// series and different studies. Memory where a growth was refused, and never where the catalogue
+    /// is empty.
     pub fn conflict(&self) -> Result<Option<(Uid, Uid)>, Memory>
-        ensures { IfOk result (λ pair. pair ≡ clash self.now) }
+        ensures first { IfOk result (λ pair. IsClash self.now pair) }
+        ensures pair { IfOk result (λ pair. pair ≡ clash self.now) }
+        ensures some { OnErr result (self.now ≢ []) }
     {
         first_clash(self.table.allocator(), self.versions())
     }
 
     /// The same instances, each with the greatest keys of its patient, its study and its series among
     /// all versions here. The keys of a patient, a study or a series are taken whole. Memory where a
-    /// growth was refused.
+    /// growth was refused, and never where the catalogue is empty.
     pub fn harmonise(&self) -> Result<Catalogue, Memory>
-        ensures { IfOk result (λ catalogue. catalogue ≡ harmonised self.now) }
+        ensures agreed { IfOk result (λ catalogue. IsHarmonised self.now catalogue) }
+        ensures whole { IfOk result (λ catalogue. catalogue ≡ harmonised self.now) }
+        ensures some { OnErr result (self.now ≢ []) }
     {
         let alloc = self.table.allocator();
         Ok(Catalogue {

@@ -1,23 +1,45 @@
 //! Conflicts among versions.
 
-ghost use Rattle.std.specs.Prelude.{◌≡◌, ◌||◌, None, find, is_some, IfOk};
+ghost use Rattle.std.specs.Prelude.{◌≡◌, ◌≢◌, ◌||◌, [], None, find, is_some, map, IfOk, OnErr};
 ghost use Rattle.dd_elem.specs.Ordered.{bytes_cmp};
 ghost use Rattle.dd_catalogue.specs.Best.{at};
 ghost use Rattle.dd_catalogue.specs.Clash.{clash, conflicts, pair_or};
-ghost use Rattle.dd_catalogue.specs.Owners.{part_of};
+ghost use Rattle.dd_catalogue.specs.Owners.{part_of, series_owned, study_owned};
 
+use crate::lent::Greatest;
 use crate::owners::{Owned, series_owners, study_owners, torn};
-use crate::table::Table;
 use dd_elem::{Memory, Ordered, Uid};
 use dd_keys::Version;
 use std::alloc::Global;
 
 /// The first version that conflicts with a later one, and the first later one with which it does.
+/// Memory where a growth was refused: never where there are no versions.
 pub(crate) fn first_clash(alloc: Global, versions: &[Version]) -> Result<Option<(Uid, Uid)>, Memory>
+    ensures pair { IfOk result (λ pair. pair ≡ clash versions.now) }
+    ensures some { OnErr result (versions.now ≢ []) }
+{
+    if versions.is_empty() {
+        return Ok(None);
+    }
+    let studies = study_owners(alloc, versions)?;
+    let series = series_owners(alloc, versions)?;
+    clash_by(alloc, versions, &studies, &series)
+}
+
+/// The same, where these are the owners of the versions' studies and series. A version is compared with
+/// the later ones only if its study or its series is torn.
+fn clash_by<'b, 'a>(
+    alloc: Global,
+    versions: &[Version],
+    owned_studies: &'b [Owned<'a>],
+    owned_series: &'b [Owned<'a>],
+) -> Result<Option<(Uid, Uid)>, Memory>
+    requires studies { owned_studies.now ≡ map study_owned versions.now }
+    requires series { owned_series.now ≡ map series_owned versions.now }
     ensures { IfOk result (λ pair. pair ≡ clash versions.now) }
 {
-    let studies = torn(alloc, &study_owners(alloc, versions)?)?;
-    let series = torn(alloc, &series_owners(alloc, versions)?)?;
+    let studies = torn(alloc, owned_studies)?;
+    let series = torn(alloc, owned_series)?;
     let mut later = versions;
     while let [version, rest @ ..] = later {
         if is_torn(version, &studies, &series) {
@@ -31,7 +53,11 @@ pub(crate) fn first_clash(alloc: Global, versions: &[Version]) -> Result<Option<
 }
 
 /// Has the version a study of two patients, or a series of two studies?
-fn is_torn(version: &Version, studies: &Table<Owned>, series: &Table<Owned>) -> bool
+fn is_torn<'b, 'a>(
+    version: &Version,
+    studies: &Greatest<'b, Owned<'a>>,
+    series: &Greatest<'b, Owned<'a>>,
+) -> bool
     ensures { result ≡ (is_some (at part_of bytes_cmp studies.now version.now.study.uid) || is_some (at part_of bytes_cmp series.now version.now.series.uid)) }
 {
     let parts = version.parts();

@@ -1,22 +1,28 @@
 //! Harmony among the versions of one patient, study or series.
 
-ghost use Rattle.std.specs.Prelude.{◌≡◌, IfOk};
+ghost use Rattle.std.specs.Prelude.{◌≡◌, ◌≢◌, [], IfOk, OnErr};
 ghost use Rattle.dd_keys.specs.Fitting.{Fits};
 ghost use Rattle.dd_catalogue.specs.Agreeing.{agreed_by};
 ghost use Rattle.dd_catalogue.specs.Harmony.{harmonised};
 ghost use Rattle.dd_catalogue.specs.Versions.{IsCatalogue};
 
+use crate::lent::Greatest;
 use crate::table::Table;
 use crate::tuples::{patients, series, studies};
 use dd_elem::Memory;
 use dd_keys::{Parts, PatientKeys, SeriesKeys, StudyKeys, Version};
 use std::alloc::Global;
 
-/// The versions with the greatest keys of each patient, study and series among them.
+/// The versions with the greatest keys of each patient, study and series among them. Memory where a
+/// growth was refused: never where there are no versions.
 pub(crate) fn in_harmony(alloc: Global, versions: &[Version]) -> Result<Table<Version>, Memory>
     requires { IsCatalogue versions.now }
-    ensures { IfOk result (λ table. table ≡ harmonised versions.now) }
+    ensures table { IfOk result (λ table. table ≡ harmonised versions.now) }
+    ensures some { OnErr result (versions.now ≢ []) }
 {
+    if versions.is_empty() {
+        return Ok(Table::new(alloc));
+    }
     let patients = patients(alloc, versions)?;
     let studies = studies(alloc, versions)?;
     let series = series(alloc, versions)?;
@@ -29,11 +35,11 @@ pub(crate) fn in_harmony(alloc: Global, versions: &[Version]) -> Result<Table<Ve
 }
 
 /// The parts with the keys that the tables have for their patient, study and series.
-fn agreed(
-    parts: &Parts,
-    patients: &Table<PatientKeys>,
-    studies: &Table<StudyKeys>,
-    series: &Table<SeriesKeys>,
+fn agreed<'a>(
+    parts: &'a Parts,
+    patients: &Greatest<'a, PatientKeys>,
+    studies: &Greatest<'a, StudyKeys>,
+    series: &Greatest<'a, SeriesKeys>,
 ) -> Result<Parts, Memory>
     ensures { IfOk result (λ agreed. agreed ≡ agreed_by patients.now studies.now series.now parts.now) }
 {

@@ -7,29 +7,10 @@ ghost use Rattle.dd_keys.specs.Orders.{patient_cmp, study_cmp, series_cmp};
 ghost use Rattle.dd_catalogue.specs.Best.{best};
 ghost use Rattle.dd_catalogue.specs.Harmony.{patient_of, patient_key, study_of, study_key, series_of, series_key};
 
-use crate::lent::Keyed;
-use crate::table::{Copied, Table};
+use crate::lent::{Greatest, Keyed};
 use dd_elem::Memory;
 use dd_keys::{PatientKeys, SeriesKeys, StudyKeys, Version};
 use std::alloc::Global;
-
-impl Copied for PatientKeys {
-    fn copied(&self) -> Result<PatientKeys, Memory> {
-        self.copy()
-    }
-}
-
-impl Copied for StudyKeys {
-    fn copied(&self) -> Result<StudyKeys, Memory> {
-        self.copy()
-    }
-}
-
-impl Copied for SeriesKeys {
-    fn copied(&self) -> Result<SeriesKeys, Memory> {
-        self.copy()
-    }
-}
 
 /// A patient has its Patient ID as key.
 impl Keyed for PatientKeys {
@@ -59,7 +40,10 @@ impl Keyed for SeriesKeys {
 }
 
 /// Of each patient the greatest keys that these versions have.
-pub(crate) fn patients(alloc: Global, versions: &[Version]) -> Result<Table<PatientKeys>, Memory>
+pub(crate) fn patients<'a>(
+    alloc: Global,
+    versions: &'a [Version],
+) -> Result<Greatest<'a, PatientKeys>, Memory>
     ensures table { IfOk result (λ table. table ≡ best patient_key bytes_cmp patient_cmp (map patient_of versions.now)) }
     ensures fit { OnOk result (All Fits versions.now) }
 {
@@ -67,27 +51,33 @@ pub(crate) fn patients(alloc: Global, versions: &[Version]) -> Result<Table<Pati
     for version in versions {
         lent.push(&version.parts().patient)?;
     }
-    Table::of(alloc, lent)
+    Greatest::of(alloc, lent)
 }
 
 /// Of each study the greatest keys that these versions have.
-pub(crate) fn studies(alloc: Global, versions: &[Version]) -> Result<Table<StudyKeys>, Memory>
+pub(crate) fn studies<'a>(
+    alloc: Global,
+    versions: &'a [Version],
+) -> Result<Greatest<'a, StudyKeys>, Memory>
     ensures { IfOk result (λ table. table ≡ best study_key bytes_cmp study_cmp (map study_of versions.now)) }
 {
     let mut lent = Vec::with_capacity(alloc, versions.len())?;
     for version in versions {
         lent.push(&version.parts().study)?;
     }
-    Table::of(alloc, lent)
+    Greatest::of(alloc, lent)
 }
 
 /// Of each series the greatest keys that these versions have.
-pub(crate) fn series(alloc: Global, versions: &[Version]) -> Result<Table<SeriesKeys>, Memory>
+pub(crate) fn series<'a>(
+    alloc: Global,
+    versions: &'a [Version],
+) -> Result<Greatest<'a, SeriesKeys>, Memory>
     ensures { IfOk result (λ table. table ≡ best series_key bytes_cmp series_cmp (map series_of versions.now)) }
 {
     let mut lent = Vec::with_capacity(alloc, versions.len())?;
     for version in versions {
         lent.push(&version.parts().series)?;
     }
-    Table::of(alloc, lent)
+    Greatest::of(alloc, lent)
 }

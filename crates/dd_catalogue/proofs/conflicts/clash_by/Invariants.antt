@@ -1,7 +1,7 @@
 use Rattle.std.proofs.Common.{◌≡◌, length}
 use Rattle.dd_catalogue.specs.Clash.{clash}
 use Rattle.dd_catalogue.specs.BestLaws.{Member}
-use Rattle.dd_catalogue.proofs.conflicts.first_clash.Given as goal
+use Rattle.dd_catalogue.proofs.conflicts.clash_by.Given as goal
 
 abbrev pub invariant-loop-later : goal.invariant-loop-later
 invariant-loop-later l = record {
