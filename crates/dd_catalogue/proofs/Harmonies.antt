@@ -42,7 +42,8 @@ member-map tuple v (w ∷ m) (inr i) = inr (member-map tuple v m i)
 some_or : {T : Type 0} (r : Option T) (x y : T) → r ≡ Some y → unwrap_or r x ≡ y
 some_or r x y e = rw e refl
 
-pub best_like : {V T : Type 0} (tuple : V → T) {key : T → List ℕ} {order : T → T → Ordering} (o : Orders key bytes_cmp order) (m : List V) (v : V)
+pub best_like : {V T : Type 0} (tuple : V → T) {key : T → List ℕ} {order : T → T → Ordering}
+    (o : Orders key bytes_cmp order) (m : List V) (v : V)
     → Member v m → best_at key bytes_cmp order (map tuple m) (key (tuple v)) ≡ Some (greatest_like tuple key order m v)
 best_like tuple {key = key} {order = order} o m v i =
     let k = key (tuple v) in

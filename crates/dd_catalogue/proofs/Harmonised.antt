@@ -5,12 +5,14 @@ use Rattle.std.specs.declared.cmp.Ordering.{Ordering}
 use Rattle.std.proofs.Common.{refl, sym, ◌∙◌, ap, subst, inl, inr}
 use Rattle.std.proofs.lemmas.Option.{same_Some}
 use Rattle.dd_elem.specs.Ordered.{bytes_cmp, TellsApart}
-use Rattle.dd_keys.specs.Orders.{patient_cmp, patient_total, patient_apart, study_cmp, study_total, study_apart, series_cmp, series_total, series_apart}
+use Rattle.dd_keys.specs.Orders.{patient_cmp, patient_total, patient_apart, study_cmp, study_total, study_apart}
+use Rattle.dd_keys.specs.Orders.{series_cmp, series_total, series_apart}
 use Rattle.dd_keys.specs.declared.parts.Parts.{Parts}
 use Rattle.dd_catalogue.specs.Best.{IsGreatest, SameMembers, at, best}
 use Rattle.dd_catalogue.specs.BestLaws.{best_at, at-best, best_of_rising, Member, member_of, contained}
 use Rattle.dd_catalogue.specs.BestMembers.{is_greatest, best_at_key, best_at-greatest, best_of_same}
-use Rattle.dd_catalogue.specs.Harmony.{IsGreatestLike, IsAgreed, IsHarmonised, greatest_like, patient_of, patient_key, study_of, study_key, series_of, series_key, agreed, harmonised}
+use Rattle.dd_catalogue.specs.Harmony.{IsGreatestLike, IsAgreed, IsHarmonised, greatest_like, patient_of, patient_key}
+use Rattle.dd_catalogue.specs.Harmony.{study_of, study_key, series_of, series_key, agreed, harmonised}
 use Rattle.dd_catalogue.specs.Rising.{Orders, by_option}
 use Rattle.dd_catalogue.specs.Versions.{IsCatalogue, versions_ordered}
 use Rattle.dd_catalogue.proofs.Harmonies.{best_like, member-map, harmonised_rises}
@@ -18,7 +20,8 @@ use Rattle.dd_catalogue.proofs.Places.{by_key}
 
 -- ---- the greatest tuple like a version's
 
-is_like : {V T : Type 0} (tuple : V → T) {key : T → List ℕ} {order : T → T → Ordering} (o : Orders key bytes_cmp order) (m : List V) (v : V)
+is_like : {V T : Type 0} (tuple : V → T) {key : T → List ℕ} {order : T → T → Ordering}
+    (o : Orders key bytes_cmp order) (m : List V) (v : V)
     → Member v m → IsGreatestLike tuple key order m v (greatest_like tuple key order m v)
 is_like tuple {key = key} {order = order} o m v i =
     let is = best_like tuple o m v i in
@@ -27,12 +30,14 @@ is_like tuple {key = key} {order = order} o m v i =
       greatest = is_greatest o (key (tuple v)) (map tuple m) (greatest_like tuple key order m v) is;
     }
 
-only_like : {V T : Type 0} (tuple : V → T) {key : T → List ℕ} {order : T → T → Ordering} (o : Orders key bytes_cmp order) (m : List V) (v : V) (t : T)
+only_like : {V T : Type 0} (tuple : V → T) {key : T → List ℕ} {order : T → T → Ordering}
+    (o : Orders key bytes_cmp order) (m : List V) (v : V) (t : T)
     → Member v m → IsGreatestLike tuple key order m v t → t ≡ greatest_like tuple key order m v
 only_like tuple {key = key} {order = order} o m v t i is =
     let s = map tuple m in
     same_Some t (greatest_like tuple key order m v)
-    (sym (best_at-greatest o s t is.greatest) ∙ ap (λ k. best_at key bytes_cmp order s k) is.like ∙ best_like tuple o m v i)
+    (sym (best_at-greatest o s t is.greatest) ∙ ap (λ k. best_at key bytes_cmp order s k) is.like
+    ∙ best_like tuple o m v i)
 
 -- ---- a version in harmony
 
@@ -83,5 +88,9 @@ harmonised_is_harmonised m up = record {
 
 pub harmonised_is_one : (l m n : List Parts) → IsHarmonised l m → IsHarmonised l n → m ≡ n
 harmonised_is_one l m n left right =
-    let alike : SameMembers m n = λ w. ((λ c. (right.each w).1 ((left.each w).0 c)), (λ c. (left.each w).1 ((right.each w).0 c))) in
-    sym (best_of_rising versions_ordered m left.rising) ∙ best_of_same versions_ordered m n alike ∙ best_of_rising versions_ordered n right.rising
+    let alike : SameMembers m n = λ w. (
+      (λ c. (right.each w).1 ((left.each w).0 c)),
+      (λ c. (left.each w).1 ((right.each w).0 c)),
+    ) in
+    sym (best_of_rising versions_ordered m left.rising) ∙ best_of_same versions_ordered m n alike
+    ∙ best_of_rising versions_ordered n right.rising

@@ -1,5 +1,6 @@
 -- Conflicts: a study of two patients, or a series of two studies.
-use Rattle.std.specs.Prelude.{◌≡◌, ◌≢◌, ◌⊎◌, ℕ, Bool, ◌&&◌, ◌||◌, not, List, [], ◌∷◌, Option, Some, None, Contains, find}
+use Rattle.std.specs.Prelude.{◌≡◌, ◌≢◌, ◌⊎◌, ℕ, Bool, ◌&&◌, ◌||◌, not, List, [], ◌∷◌, Option, Some, None, Contains}
+use Rattle.std.specs.Prelude.{find}
 use Rattle.std.specs.Ordering.{is_eq}
 use Rattle.std.specs.declared.cmp.Ordering.TheVariants.{Less}
 use Rattle.dd_elem.specs.Ordered.{bytes_cmp}
@@ -9,13 +10,16 @@ use Rattle.dd_keys.specs.declared.parts.Parts.{Parts}
 
 -- one study and different Patient IDs, or one series and different studies
 abbrev pub Conflict : Parts → Parts → Type 0
-Conflict v w = ((v.study.uid ≡ w.study.uid) × (v.patient.id ≢ w.patient.id)) ⊎ ((v.series.uid ≡ w.series.uid) × (v.study.uid ≢ w.study.uid))
+Conflict v w =
+    ((v.study.uid ≡ w.study.uid) × (v.patient.id ≢ w.patient.id))
+    ⊎ ((v.series.uid ≡ w.series.uid) × (v.study.uid ≢ w.study.uid))
 
 -- by SOP Instance UID
 abbrev pub IsBelow : Parts → Parts → Type 0
 IsBelow v w = bytes_cmp v.instance w.instance ≡ Less
 
--- v is the least version of the set that conflicts with a greater one, and w the least greater one with which v conflicts
+-- v is the least version of the set that conflicts with a greater one,
+-- and w the least greater one with which v conflicts
 pub record IsFirstConflict (m : List Parts) (v w : Parts) : Type 0 where
   pub one : Contains m v
   pub other : Contains m w

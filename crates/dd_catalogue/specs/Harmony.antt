@@ -37,9 +37,10 @@ series_key keys = keys.uid
 
 -- ---- harmony as a relation
 
--- the greatest tuple like the version's: it has the key of the version's tuple, and is the greatest of its key among the tuples
--- that the versions of the set have
-pub record IsGreatestLike {V T : Type 0} (tuple : V → T) (key : T → List ℕ) (order : T → T → Ordering) (m : List V) (v : V) (t : T) : Type 0 where
+-- the greatest tuple like the version's: it has the key of the version's tuple, and of all tuples that the versions
+-- of the set have with that key it is the greatest
+pub record IsGreatestLike {V T : Type 0} (tuple : V → T) (key : T → List ℕ) (order : T → T → Ordering)
+    (m : List V) (v : V) (t : T) : Type 0 where
   pub like : key t ≡ key (tuple v)
   pub greatest : IsGreatest key order (map tuple m) t
 
@@ -59,7 +60,8 @@ pub record IsHarmonised (m n : List Parts) : Type 0 where
 
 -- of the tuples that have the key of this version's tuple, the greatest
 abbrev pub greatest_like : {V T : Type 0} → (V → T) → (T → List ℕ) → (T → T → Ordering) → List V → V → T
-greatest_like tuple key order m v = fold (greater order) (tuple v) (map tuple (filter (λ w. is_eq (bytes_cmp (key (tuple w)) (key (tuple v)))) m))
+greatest_like tuple key order m v =
+    fold (greater order) (tuple v) (map tuple (filter (λ w. is_eq (bytes_cmp (key (tuple w)) (key (tuple v)))) m))
 
 -- a version with the greatest tuples of its patient, its study and its series
 abbrev pub agreed : List Parts → Parts → Parts

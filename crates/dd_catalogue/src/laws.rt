@@ -29,7 +29,8 @@ pub fn clash_is_clash()
 
 /// A catalogue has one clash.
 pub fn clash_is_one()
-    ensures { (m : List Parts) (one other : Option (List ℕ × List ℕ)) → IsCatalogue m → IsClash m one → IsClash m other → one ≡ other }
+    ensures { (m : List Parts) (one other : Option (List ℕ × List ℕ)) → IsCatalogue m
+        → IsClash m one → IsClash m other → one ≡ other }
 {}
 
 /// Every catalogue has a harmony: each of its versions with the greatest keys of its patient, its study and

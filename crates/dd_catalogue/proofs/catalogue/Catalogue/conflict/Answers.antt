@@ -8,5 +8,6 @@ pub returns-clause-first : goal.returns-clause-first
 returns-clause-first c =
     let m = c.args.self.now in
     IfOk-weaker c.first_clash.result (λ pair. pair ≡ clash c.versions.result.now) (λ pair. IsClash m pair)
-    (λ pair is. subst (λ x. IsClash m x) (sym (is ∙ ap clash c.versions.ensures.all)) (clash_is_clash m c.versions.ensures.rising))
+    (λ pair is. subst (λ x. IsClash m x) (sym (is ∙ ap clash c.versions.ensures.all))
+    (clash_is_clash m c.versions.ensures.rising))
     c.first_clash.ensures.pair
