@@ -2,17 +2,15 @@
 use Rattle.std.specs.Prelude.{◌≡◌, ◌≢◌, ◌⊎◌, ℕ, Bool, true, false, ◌&&◌, ◌||◌, not, List, [], ◌∷◌, Option, Some, None}
 use Rattle.std.specs.Prelude.{find, Contains, Decides}
 use Rattle.std.specs.Ordering.{is_eq}
-use Rattle.std.specs.declared.cmp.Ordering.TheVariants.{Less, Equal, Greater}
 use Rattle.std.proofs.Common.{refl, sym, ◌∙◌, ap, subst, inl, inr}
 use Rattle.std.proofs.lemmas.Cmp.{nat_list_cmp_total, tied_itself}
 use Rattle.std.proofs.lemmas.Option.{none-some, same_Some}
 use Rattle.std.proofs.lemmas.Map.Lookups.{exact_bytes}
 use Rattle.dd_elem.specs.Ordered.{bytes_cmp}
 use Rattle.dd_keys.specs.declared.parts.Parts.{Parts}
-use Rattle.dd_catalogue.specs.Best.{IsAbove}
 use Rattle.dd_catalogue.specs.BestLaws.{Member, member_of, contained}
 use Rattle.dd_catalogue.specs.BestMembers.{above_member, at-member}
-use Rattle.dd_catalogue.specs.Clash.{same, splits, conflicts, pair_or, clash, Conflict, IsBelow, IsFirstConflict}
+use Rattle.dd_catalogue.specs.Clash.{same, splits, conflicts, clash, Conflict, IsBelow, IsFirstConflict}
 use Rattle.dd_catalogue.specs.Clash.{IsClash}
 use Rattle.dd_catalogue.specs.Rising.{by_order, by_test, by_option, is_eq_Equal, less_turned, greater_turned}
 use Rattle.dd_catalogue.specs.Versions.{instance_of, IsCatalogue, kept}

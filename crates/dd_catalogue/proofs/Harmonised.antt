@@ -1,19 +1,18 @@
 -- A catalogue in harmony is the relation's one answer.
-use Rattle.std.specs.Prelude.{◌≡◌, ℕ, List, [], ◌∷◌, map, Option, Some, unwrap_or, Contains}
-use Rattle.std.specs.Ordering.{is_lt}
+use Rattle.std.specs.Prelude.{◌≡◌, ℕ, List, [], ◌∷◌, map, Contains}
 use Rattle.std.specs.declared.cmp.Ordering.{Ordering}
 use Rattle.std.proofs.Common.{refl, sym, ◌∙◌, ap, subst, inl, inr}
 use Rattle.std.proofs.lemmas.Option.{same_Some}
-use Rattle.dd_elem.specs.Ordered.{bytes_cmp, TellsApart}
+use Rattle.dd_elem.specs.Ordered.{bytes_cmp}
 use Rattle.dd_keys.specs.Orders.{patient_cmp, patient_total, patient_apart, study_cmp, study_total, study_apart}
 use Rattle.dd_keys.specs.Orders.{series_cmp, series_total, series_apart}
 use Rattle.dd_keys.specs.declared.parts.Parts.{Parts}
-use Rattle.dd_catalogue.specs.Best.{IsGreatest, SameMembers, at, best}
-use Rattle.dd_catalogue.specs.BestLaws.{best_at, at-best, best_of_rising, Member, member_of, contained}
+use Rattle.dd_catalogue.specs.Best.{SameMembers}
+use Rattle.dd_catalogue.specs.BestLaws.{best_at, best_of_rising, Member, member_of, contained}
 use Rattle.dd_catalogue.specs.BestMembers.{is_greatest, best_at_key, best_at-greatest, best_of_same}
 use Rattle.dd_catalogue.specs.Harmony.{IsGreatestLike, IsAgreed, IsHarmonised, greatest_like, patient_of, patient_key}
 use Rattle.dd_catalogue.specs.Harmony.{study_of, study_key, series_of, series_key, agreed, harmonised}
-use Rattle.dd_catalogue.specs.Rising.{Orders, by_option}
+use Rattle.dd_catalogue.specs.Rising.{Orders}
 use Rattle.dd_catalogue.specs.Versions.{IsCatalogue, versions_ordered}
 use Rattle.dd_catalogue.proofs.Harmonies.{best_like, member-map, harmonised_rises}
 use Rattle.dd_catalogue.proofs.Places.{by_key}

@@ -1,9 +1,9 @@
 //! What holds of every set of versions, whatever the order in which they arrive.
 
-ghost use Rattle.std.specs.Prelude.{◌≡◌, ◌++◌, ℕ, List, Option};
+ghost use Rattle.std.specs.Prelude.{◌≡◌, ◌++◌, ℕ, List, Option, Decides};
 ghost use Rattle.dd_keys.specs.declared.parts.Parts.{Parts};
 ghost use Rattle.dd_catalogue.specs.Best.{SameMembers};
-ghost use Rattle.dd_catalogue.specs.Clash.{IsClash, clash};
+ghost use Rattle.dd_catalogue.specs.Clash.{Conflict, IsClash, clash, conflicts};
 ghost use Rattle.dd_catalogue.specs.Harmony.{IsHarmonised, harmonised};
 ghost use Rattle.dd_catalogue.specs.Versions.{IsBestOf, IsCatalogue, best_of};
 
@@ -20,6 +20,11 @@ pub fn best_is_one()
 /// The best of all versions in two bests is the best of both sets together.
 pub fn best_of_bests()
     ensures { (s t : List Parts) → best_of (best_of s ++ best_of t) ≡ best_of (s ++ t) }
+{}
+
+/// Two versions conflict exactly where the test of it holds.
+pub fn conflicts_decides()
+    ensures { (v w : Parts) → Decides (conflicts v w) (Conflict v w) }
 {}
 
 /// The clash of a catalogue is its first conflict.

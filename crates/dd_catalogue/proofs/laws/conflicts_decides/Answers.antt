@@ -1,0 +1,5 @@
+use Rattle.dd_catalogue.proofs.Clashes.{conflicts_decides}
+use Rattle.dd_catalogue.proofs.laws.conflicts_decides.Goals as goal
+
+pub returns : goal.returns
+returns c = λ v w. conflicts_decides v w
