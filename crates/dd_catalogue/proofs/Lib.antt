@@ -1,5 +1,6 @@
 pub mod Behind
 pub mod Clashes
+pub mod Gathering
 pub mod Harmonies
 pub mod Harmonised
 pub mod Joined

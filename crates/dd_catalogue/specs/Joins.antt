@@ -1,5 +1,5 @@
 -- Joins: that what is joined, in whatever order and however often, gives the same.
-use Rattle.std.specs.Prelude.{◌≡◌, List, [], ◌∷◌}
+use Rattle.std.specs.Prelude.{◌≡◌, ◌≢◌, List, [], ◌∷◌}
 use Rattle.std.specs.List.{All, AllByRecursion, fold}
 use Rattle.std.proofs.Common.{refl, sym, ◌∙◌, ap, subst, inl, inr}
 use Rattle.std.proofs.lemmas.List.Elements.{recursion_from_All, All-contains}
@@ -16,6 +16,15 @@ pub record JoinLaws {V : Type 0} (IsValue : V → Type 0) (join : V → V → V)
 -- two lists of values with the same members, in any order and with repeats, give the same when they are joined
 abbrev pub OrderIsFree : {V : Type 0} → (V → Type 0) → (V → V → V) → Type 0
 OrderIsFree {V} IsValue join = (x y : V) (xs ys : List V) → All IsValue (x ∷ xs) → SameMembers (x ∷ xs) (y ∷ ys) → fold join x xs ≡ fold join y ys
+
+-- where anything is joined to the first one, all are values
+abbrev pub AreJoined : {V : Type 0} → (V → Type 0) → V → List V → Type 0
+AreJoined IsValue x xs = xs ≢ [] → All IsValue (x ∷ xs)
+
+-- two lists with the same members, of which this is known, give the same when they are joined
+abbrev pub GatherIsFree : {V : Type 0} → (V → Type 0) → (V → V → V) → Type 0
+GatherIsFree {V} IsValue join =
+    (x y : V) (xs ys : List V) → AreJoined IsValue x xs → AreJoined IsValue y ys → SameMembers (x ∷ xs) (y ∷ ys) → fold join x xs ≡ fold join y ys
 
 -- ---- this follows from the laws alone: the join of a list absorbs each of its members
 
@@ -72,3 +81,16 @@ order_is_free {V = V} {IsValue = IsValue} {join = join} l x y xs ys all same =
     all_members : {V : Type 0} (P : V → Type 0) (s : List V) → ((z : V) → Member z s → P z) → AllByRecursion P s
     all_members P [] h = tt
     all_members P (z ∷ s) h = (h z (inl refl), all_members P s (λ w i. h w (inr i)))
+
+alone : {V : Type 0} (x y : V) → SameMembers (x ∷ []) (y ∷ []) → x ≡ y
+alone x y same = only x y (member_of x (y ∷ []) ((same x).0 (contained x (x ∷ []) (inl refl))))
+  where
+    only : {V : Type 0} (x y : V) → Member x (y ∷ []) → x ≡ y
+    only x y (inl e) = sym e
+    only x y (inr i) = absurd i
+
+pub gather_is_free : {V : Type 0} {IsValue : V → Type 0} {join : V → V → V} → JoinLaws IsValue join → GatherIsFree IsValue join
+gather_is_free l x y [] [] values values' same = alone x y same
+gather_is_free l x y [] (w ∷ ys) values values' same =
+    sym (order_is_free l y x (w ∷ ys) [] (values' (λ e. cc)) (λ z. ((same z).1, (same z).0)))
+gather_is_free l x y (w ∷ xs) ys values values' same = order_is_free l x y (w ∷ xs) ys (values (λ e. cc)) same

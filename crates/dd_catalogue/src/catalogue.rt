@@ -181,10 +181,6 @@ impl Join for Catalogue {
 
     ghost joined = { both };
 
-    fn known(&self) {
-        let _versions = self.versions();
-    }
-
     fn join(&mut self, other: &Catalogue) -> Result<(), Memory> {
         self.merge(other)
     }

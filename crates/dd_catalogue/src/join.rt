@@ -2,7 +2,7 @@
 
 ghost use Rattle.std.specs.Prelude.{◌≡◌, ◌<◌, ℕ, length, take, OnOk, OnErr};
 ghost use Rattle.std.specs.List.{fold};
-ghost use Rattle.dd_catalogue.specs.Joins.{JoinLaws, OrderIsFree};
+ghost use Rattle.dd_catalogue.specs.Joins.{AreJoined, GatherIsFree, JoinLaws, OrderIsFree};
 
 use dd_elem::{Memory, Ordered};
 use dd_keys::Version;
@@ -14,23 +14,23 @@ pub trait Join {
 
     ghost joined: { Self → Self → Self };
 
-    /// Shows that this is a value, over which the laws of joining hold.
-    fn known(&self)
-        ensures { is_value self.now };
-
     /// Joins the other value to this one. Memory where a growth was refused; then nothing has changed.
+    /// Both are values, over which the laws hold.
     fn join(&mut self, other: &Self) -> Result<(), Memory>
         ensures ok { OnOk result (self.new ≡ joined self.old other.now) }
-        ensures err { OnErr result (self.new ≡ self.old) };
+        ensures err { OnErr result (self.new ≡ self.old) }
+        ensures values { is_value self.old × is_value other.now };
 
     ghost laws: { JoinLaws is_value joined };
 }
 
 /// Joins each of `rest` to `first`, in turn. Memory where a growth was refused; then `first` holds its
-/// join with those before.
+/// join with those before. What was joined are values, so that two answers over the same members are
+/// equal (`gather_order_is_free`).
 pub fn gather<J: Join>(first: &mut J, rest: &[J]) -> Result<(), Memory>
     ensures ok { OnOk result (first.new ≡ fold J.joined first.old rest.now) }
     ensures err { OnErr result ((n : ℕ) × (n < length rest.now) × (first.new ≡ fold J.joined first.old (take n rest.now))) }
+    ensures values { OnOk result (AreJoined J.is_value first.old rest.now) }
 {
     for value in rest {
         first.join(value)?;
@@ -48,6 +48,11 @@ pub fn join_order_is_free<J: Join>()
     ensures { OrderIsFree J.is_value J.joined }
 {}
 
+/// What was gathered of lists with the same members, in any order and with repeats, is the same.
+pub fn gather_order_is_free<J: Join>()
+    ensures { GatherIsFree J.is_value J.joined }
+{}
+
 /// The join of two versions is the greater one.
 impl Join for Version {
     ghost use Rattle.dd_keys.specs.Fitting.{Fits};
@@ -59,12 +64,8 @@ impl Join for Version {
 
     ghost joined = { greater parts_cmp };
 
-    fn known(&self) {
-        let _parts = self.parts();
-    }
-
     fn join(&mut self, other: &Version) -> Result<(), Memory> {
-        if self.compare(other).is_lt() {
+        if self.parts().compare(other.parts()).is_lt() {
             *self = other.copy()?;
         }
         Ok(())

@@ -19,7 +19,7 @@ mod weaving;
 
 pub use catalogue::Catalogue;
 pub use history::{History, build, build_order_is_free};
-pub use join::{Join, gather, join_is_lawful, join_order_is_free};
+pub use join::{Join, gather, gather_order_is_free, join_is_lawful, join_order_is_free};
 pub use laws::{
     best_is_best, best_is_one, best_of_bests, clash_is_clash, clash_is_one, conflicts_decides,
     harmonised_is_harmonised, harmonised_is_one,
