@@ -49,6 +49,11 @@ pub trait Write {
     // The bytes that the writer holds, where it tells them.
     ghost contents: { Self → Option (List ℕ) };
 
+    // What no write changes.
+    ghost Rest: { Type 0 };
+
+    ghost rest: { Self → Rest };
+
     /// Takes some bytes from the front of `bytes`, and answers how many.
     fn write(&mut self, bytes: &[u8]) -> io::Result<usize>
         ensures bound { WritesAtMost result bytes.now }
@@ -60,5 +65,6 @@ pub trait Write {
         ensures failed { TakesNone result bytes.now → failures self.new ≡ counted (failures self.old) }
 
         // A failure adds nothing.
-        ensures appends { WriteAppends (contents self.old) (contents self.new) result bytes.now };
+        ensures appends { WriteAppends (contents self.old) (contents self.new) result bytes.now }
+        ensures rest { rest self.new ≡ rest self.old };
 }

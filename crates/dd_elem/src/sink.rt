@@ -1,5 +1,5 @@
 //! A writer over memory.
-ghost use Rattle.std.specs.Prelude.{◌≡◌, [], ◌≤◌, ◌↔◌, ◌<◌, length, Some, IsOk, IfOk, OnOk, OnErr, IsSome, IfSome, vec_capacity, is_ok};
+ghost use Rattle.std.specs.Prelude.{◌≡◌, ℕ, Option, [], ◌≤◌, ◌↔◌, ◌<◌, length, Some, IsOk, IfOk, OnOk, OnErr, IsSome, IfSome, vec_capacity, is_ok};
 ghost use Rattle.std.specs.Io.{WritesAtMost};
 ghost use Rattle.std.specs.Io.KnownBytes.{WriteAppends};
 ghost use Rattle.dd_elem.specs.Sink.{Store, IsWritable, HasRoom, taken_len};
@@ -88,6 +88,10 @@ impl Write for Sink {
     ghost failures = { λ s. s.counts.failures };
 
     ghost contents = { λ s. Some s.bytes };
+
+    ghost Rest = { Option ℕ };
+
+    ghost rest = { λ s. s.fails };
 
     /// Takes the whole piece, or what fits before it fails for good. It fails there, where a count is
     /// at its last value and where a growth is refused, and then takes nothing.

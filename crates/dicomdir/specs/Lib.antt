@@ -2,9 +2,11 @@ pub mod Bounds
 pub mod Directory
 pub mod Entries
 pub mod Fields
+pub mod Files
 pub mod Limits
 pub mod Line
 pub mod MemFiles
+pub mod MemLaws
 pub mod MemReader
 pub mod Paths
 pub mod Records

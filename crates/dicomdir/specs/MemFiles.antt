@@ -1,10 +1,10 @@
 -- Files in memory, as their callers see them, and what changes them.
-use Rattle.std.specs.Prelude.{◌≡◌, ◌≢◌, ℕ, List, ◌++◌, map, Option, Some, String, Vec, string_bytes, bytes_eq}
+use Rattle.std.specs.Prelude.{◌≡◌, ◌≢◌, ℕ, List, [], ◌++◌, map, Option, Some, None, String, Vec, string_bytes, bytes_eq}
 use Rattle.std.specs.BTreeMap.{BTreeMap}
 use Rattle.std.specs.Map.{lookup}
-use Rattle.std.specs.Option.{option_and_then}
 use Rattle.std.specs.declared.alloc.Global.{Global}
 use Rattle.dd_elem.specs.declared.counts.Counts.{Counts}
+use Rattle.dicomdir.specs.Files.{Held, with_written, written}
 
 -- the path and the bytes of each file
 abbrev pub listed : BTreeMap (String Global) (Vec ℕ Global) → List (List ℕ × List ℕ)
@@ -37,10 +37,32 @@ pub record Stored : Type 0 where
   pub counts : Counts
   pub refusals : ℕ
 
+-- what they hold
+abbrev pub held_of : Stored → Held
+held_of s = record { bytes_at = bytes_at s.files; current = s.current }
+
 -- the bytes of the file that is being written, where there is one
-abbrev pub written : Stored → Option (List ℕ)
-written s = option_and_then (bytes_at s.files) s.current
+abbrev pub written_of : Stored → Option (List ℕ)
+written_of s = written (held_of s)
 
 -- the file that is being written is there and grows by these bytes, and all others are as they were
 abbrev pub GrowsWritten : Stored → Stored → List ℕ → Type 0
 GrowsWritten old new bytes = (path : List ℕ) × (old.current ≡ Some path) × GrowsFile old.files new.files path bytes
+
+-- the file with none of its bytes
+abbrev pub emptied : Option (List ℕ) → Option (List ℕ)
+emptied None = None
+emptied (Some bytes) = Some []
+
+-- what no write changes: all but the bytes of the file that is being written, and the counts of writes
+pub record Unwritten : Type 0 where
+  pub bytes_at : List ℕ → Option (List ℕ)
+  pub current : Option (List ℕ)
+  pub refusals : ℕ
+
+abbrev pub unwritten : Stored → Unwritten
+unwritten s = record {
+  bytes_at = with_written s.current (emptied (written_of s)) (bytes_at s.files);
+  current = s.current;
+  refusals = s.refusals;
+}

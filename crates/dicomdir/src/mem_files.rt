@@ -1,10 +1,11 @@
 //! Files in memory.
-ghost use Rattle.std.specs.Prelude.{◌≡◌, IsSome, is_ok, IfSome, ◌↔◌, [], length, None, Some, IsOk, IsErr, IsTrue, ◌<◌, IfOk, OnOk, OnErr, option_map, option_copied, string_bytes};
+ghost use Rattle.std.specs.Prelude.{◌≡◌, IsSome, is_ok, IfSome, ◌↔◌, [], length, None, Some, IsOk, IsErr, IsTrue, ◌<◌, IfOk, OnOk, OnErr, refl, option_map, option_copied, string_bytes};
 ghost use Rattle.std.specs.Io.{WritesAtMost};
 ghost use Rattle.std.specs.Io.KnownBytes.{WriteAppends};
 ghost use Rattle.dd_elem.specs.Counts.{counts_after};
 ghost use Rattle.dd_elem.specs.Device.{counted, last_count, HasWorked, IsLive};
-ghost use Rattle.dicomdir.specs.MemFiles.{Stored, listed, bytes_at, written, SetsFile, GrowsFile, GrowsWritten, KeepsFiles};
+ghost use Rattle.dicomdir.specs.MemFiles.{Stored, listed, Unwritten, bytes_at, held_of, unwritten, written_of, SetsFile, GrowsFile, GrowsWritten, KeepsFiles};
+ghost use Rattle.dicomdir.specs.MemLaws.{held_grows, refusals_stay};
 
 use crate::files::{Files, NotDone, NotThere};
 use crate::mem_reader::MemReader;
@@ -160,13 +161,17 @@ impl Write for MemFiles {
 
     ghost failures = { λ s. s.counts.failures };
 
-    ghost contents = { λ s. written s };
+    ghost contents = { λ s. written_of s };
+
+    ghost Rest = { Unwritten };
+
+    ghost rest = { unwritten };
 
     /// Takes the whole piece to the end of the file that is being written. It fails where there is
     /// none, where a count is at its last value and where a growth is refused, and then takes nothing.
     fn write(&mut self, bytes: &[u8]) -> io::Result<usize>
         ensures bound { WritesAtMost result bytes.now }
-        ensures appends { WriteAppends (written self.old) (written self.new) result bytes.now }
+        ensures appends { WriteAppends (written_of self.old) (written_of self.new) result bytes.now }
 
         // It works only where no count is at its last value, and then takes all for the file that is
         // being written.
@@ -200,12 +205,13 @@ impl Files for MemFiles {
 
     ghost refusals = { λ s. s.refusals };
 
+    ghost held = { λ s. Some (held_of s) };
+
     /// Gives a reader of a copy of the file's bytes. NotThere where there is no such file, the copy is
     /// refused or the refusals are at their last value.
     fn source(&mut self, path: &str) -> Result<MemReader, NotThere>
         ensures worked { IsOk result → HasWorked self.old.refusals self.new.refusals }
         ensures refused { IsErr result → self.new.refusals ≡ counted self.old.refusals }
-        ensures fresh { IfOk result (λ reader. reader.counts.failures ≡ 0) }
         ensures gives { IfOk result (λ reader. bytes_at self.old.files path.now ≡ Some reader.left) }
         ensures new { IfOk result (λ reader. reader ≡ record {
           given = [];
@@ -276,4 +282,10 @@ impl Files for MemFiles {
         self.current = None;
         Ok(())
     }
+
+    ghost same_refusals = { refusals_stay };
+
+    ghost same_contents = { λ _. refl };
+
+    ghost written_grows = { held_grows };
 }

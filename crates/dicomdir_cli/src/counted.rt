@@ -58,6 +58,10 @@ impl<T: io::Write + Drop> Write for Counted<T> {
 
     ghost contents = { λ _. None };
 
+    ghost Rest = { Unit {0} };
+
+    ghost rest = { λ _. tt };
+
     fn write(&mut self, bytes: &[u8]) -> io::Result<usize> {
         let is_live = self.counts.is_live();
         self.counts.call();

@@ -1,5 +1,5 @@
 //! The files of the system.
-ghost use Rattle.std.specs.Prelude.{◌≡◌, ◌<◌, None, IsErr, IsOk, IsTrue};
+ghost use Rattle.std.specs.Prelude.{◌≡◌, ◌<◌, ℕ, None, refl, IsErr, IsOk, IsTrue};
 ghost use Rattle.dd_elem.specs.Device.{HasWorked, counted, last_count};
 
 use crate::counted::Counted;
@@ -62,6 +62,7 @@ impl<'a, R: fs::Files> HostFiles<'a, R> {
         requires { IsTrue is_done → self.old.refusals < last_count }
         ensures worked { IsOk result → HasWorked self.old.refusals self.new.refusals }
         ensures refused { IsErr result → self.new.refusals ≡ counted self.old.refusals }
+        ensures same { self.new.output ≡ self.old.output }
     {
         if is_done {
             return Ok(());
@@ -94,6 +95,10 @@ impl<R: fs::Files> Write for HostFiles<'_, R> {
 
     ghost contents = { λ _. None };
 
+    ghost Rest = { ℕ };
+
+    ghost rest = { λ s. s.refusals };
+
     fn write(&mut self, bytes: &[u8]) -> io::Result<usize> {
         self.output.write(bytes)
     }
@@ -111,6 +116,8 @@ impl<R: fs::Files> Files for HostFiles<'_, R> {
     type In = Counted<R::File>;
 
     ghost refusals = { λ s. s.refusals };
+
+    ghost held = { λ _. None };
 
     fn source(&mut self, path: &str) -> Result<Counted<R::File>, NotThere> {
         if self.refusals < u64::MAX {
@@ -144,4 +151,10 @@ impl<R: fs::Files> Files for HostFiles<'_, R> {
         };
         self.answer(is_done)
     }
+
+    ghost same_refusals = { λ _ _ same. same };
+
+    ghost same_contents = { λ _. tt };
+
+    ghost written_grows = { λ _ _ _ _ _. refl };
 }
