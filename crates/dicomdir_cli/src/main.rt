@@ -1,15 +1,11 @@
-//! The program `dicomdir`: its words, and the files and the outputs of the system.
+//! The program `dicomdir`: its words, over the files and the outputs of the system.
 #![tactic(auto)]
 
 ghost use Rattle.std.specs.Prelude.{◌≡◌, ◌≢◌};
 
-mod counted;
-mod host_files;
-
-use counted::Counted;
 use dd_elem::Write;
 use dicomdir::{print_line, run};
-use host_files::HostFiles;
+use dicomdir_host::{Counted, HostFiles};
 use std::env;
 use std::io::ErrorKind;
 use std::process::ExitCode;

@@ -104,7 +104,7 @@ fn read_again<T: io::Read>(reader: &mut T, buf: &mut [u8]) -> io::Result<usize>
 }
 
 /// One write, made again where a signal interrupts it.
-fn write_again<T: io::Write>(writer: &mut T, bytes: &[u8]) -> io::Result<usize>
+pub(crate) fn write_again<T: io::Write>(writer: &mut T, bytes: &[u8]) -> io::Result<usize>
     ensures { WritesAtMost result bytes.now }
 {
     for _ in 0..TRIES {

@@ -3,39 +3,18 @@ ghost use Rattle.std.specs.Prelude.{◌≡◌, ◌<◌, ℕ, None, refl, IsErr, 
 ghost use Rattle.dd_elem.specs.Device.{HasWorked, counted, last_count};
 
 use crate::counted::Counted;
+use crate::output::{self, Output};
 use dd_elem::Write;
 use dicomdir::{Files, NotDone, NotThere};
 use std::alloc::Global;
-use std::fs::{self, File, OpenFile, OpenOptions};
-use std::io::{self, BufWriter};
-
-// The bytes that are gathered before they are written.
-const BUFFER: usize = 64 * 1024;
-
-// The file that is being written, where there is one, with a buffer before it.
-#[derive(Drop)]
-struct Output<F: io::Write + Drop> {
-    writer: Option<BufWriter<F>>,
-}
-
-impl<F: io::Write + Drop> io::Write for Output<F> {
-    fn write(&mut self, bytes: &[u8]) -> io::Result<usize> {
-        match &mut self.writer {
-            Some(writer) => writer.write(bytes),
-            None => Err(io::Error::other("no file is being written")),
-        }
-    }
-
-    fn flush(&mut self) -> io::Result<()> {
-        match &mut self.writer {
-            Some(writer) => writer.flush(),
-            None => Ok(()),
-        }
-    }
-}
+use std::fs::{self, File};
+use std::io;
 
 /// The files of the system. What is written is gathered in a buffer. A new file never takes the place
-/// of one that is there.
+/// of one that is there, and takes nothing more once a write to it has failed.
+///
+/// A source is a file or a folder, also behind links: a pipe, a socket or a device is taken for not
+/// there, since to open it could wait. A folder opens, and its read fails.
 #[derive(Drop)]
 pub struct HostFiles<'a, R: fs::Files> {
     rt: &'a R,
@@ -52,7 +31,7 @@ impl<'a, R: fs::Files> HostFiles<'a, R> {
         HostFiles {
             rt,
             alloc,
-            output: Counted::new(Output { writer: None }),
+            output: Counted::new(Output::new()),
             refusals: 0,
         }
     }
@@ -71,20 +50,13 @@ impl<'a, R: fs::Files> HostFiles<'a, R> {
         Err(NotDone)
     }
 
-    // A new file at the path, with a buffer before it.
-    fn start(&self, path: &str) -> io::Result<BufWriter<R::File>> {
-        let file = OpenOptions::new()
-            .write(true)
-            .create_new(true)
-            .open(self.rt, path)?;
-        match BufWriter::with_capacity(self.alloc, BUFFER, file) {
-            Ok(writer) => Ok(writer),
-            Err(error) => {
-                // The file is new and empty.
-                let _ = fs::remove_file(self.rt, path);
-                Err(error)
-            }
+    // The file or the folder at the path, opened for reading.
+    fn open(&self, path: &str) -> io::Result<R::File> {
+        let found = fs::metadata(self.rt, path)?;
+        if !found.is_file() && !found.is_dir() {
+            return Err(io::Error::other("no file and no folder"));
         }
+        File::open(self.rt, path)
     }
 }
 
@@ -104,14 +76,6 @@ impl<R: fs::Files> Write for HostFiles<'_, R> {
     }
 }
 
-// Writes what is left in the buffer, and has the system store the file.
-fn close<F: io::Write + OpenFile + Drop>(writer: BufWriter<F>) -> io::Result<()> {
-    match writer.into_inner() {
-        Ok(file) => file.sync_all(),
-        Err(_) => Err(io::Error::other("the last bytes were not written")),
-    }
-}
-
 impl<R: fs::Files> Files for HostFiles<'_, R> {
     type In = Counted<R::File>;
 
@@ -121,7 +85,7 @@ impl<R: fs::Files> Files for HostFiles<'_, R> {
 
     fn source(&mut self, path: &str) -> Result<Counted<R::File>, NotThere> {
         if self.refusals < u64::MAX {
-            if let Ok(file) = File::open(self.rt, path) {
+            if let Ok(file) = self.open(path) {
                 return Ok(Counted::new(file));
             }
         }
@@ -136,8 +100,8 @@ impl<R: fs::Files> Files for HostFiles<'_, R> {
 
     fn create(&mut self, path: &str) -> Result<(), NotDone> {
         if self.refusals < u64::MAX {
-            if let Ok(writer) = self.start(path) {
-                self.output.device.writer = Some(writer);
+            if let Ok(output) = output::start(self.alloc, self.rt, path) {
+                self.output.device = output;
                 return Ok(());
             }
         }
@@ -145,10 +109,8 @@ impl<R: fs::Files> Files for HostFiles<'_, R> {
     }
 
     fn finish(&mut self) -> Result<(), NotDone> {
-        let is_done = match self.output.device.writer.take() {
-            Some(writer) => self.refusals < u64::MAX && close(writer).is_ok(),
-            None => false,
-        };
+        let is_closed = self.output.device.close().is_ok();
+        let is_done = self.refusals < u64::MAX && is_closed;
         self.answer(is_done)
     }
 

@@ -1,0 +1,12 @@
+//! The files of the system for `dicomdir`: a new file never takes the place of one that is there, and
+//! takes nothing more once a write to it has failed.
+//!
+//! Its one promise: no call of the system fails without being counted.
+#![tactic(auto)]
+
+mod counted;
+mod host_files;
+mod output;
+
+pub use counted::Counted;
+pub use host_files::HostFiles;

@@ -1,0 +1,100 @@
+//! The file that is being written.
+
+use crate::counted::write_again;
+use std::alloc::Global;
+use std::fs::{self, OpenFile, OpenOptions};
+use std::io::{self, BufWriter};
+
+// The bytes that are gathered before they are written.
+const BUFFER: usize = 64 * 1024;
+
+/// A file until a write to it fails. It is let go then, so that nothing more reaches it.
+#[derive(Drop)]
+pub(crate) struct Target<F: io::Write + Drop> {
+    file: Option<F>,
+}
+
+impl<F: io::Write + Drop> io::Write for Target<F> {
+    fn write(&mut self, bytes: &[u8]) -> io::Result<usize> {
+        let answer = match &mut self.file {
+            Some(file) => write_again(file, bytes),
+            None => Err(io::Error::other("no file takes the bytes")),
+        };
+        match &answer {
+            Ok(n) if *n > 0 || bytes.is_empty() => {}
+            _ => self.file = None,
+        }
+        answer
+    }
+
+    fn flush(&mut self) -> io::Result<()> {
+        match &mut self.file {
+            Some(file) => file.flush(),
+            None => Err(io::Error::other("no file takes the bytes")),
+        }
+    }
+}
+
+/// The file that is being written, where there is one, with a buffer before it.
+#[derive(Drop)]
+pub(crate) struct Output<F: io::Write + Drop> {
+    writer: Option<BufWriter<Target<F>>>,
+}
+
+impl<F: io::Write + Drop> Output<F> {
+    /// No file.
+    pub(crate) fn new() -> Self {
+        Output { writer: None }
+    }
+
+    /// Writes what is left in the buffer, has the system store the file, and lets it go. Refused where
+    /// no file is being written, or a write to it has failed.
+    pub(crate) fn close(&mut self) -> io::Result<()>
+    where
+        F: OpenFile,
+    {
+        let Some(writer) = self.writer.take() else {
+            return Err(io::Error::other("no file is being written"));
+        };
+        let Ok(target) = writer.into_inner() else {
+            return Err(io::Error::other("the last bytes were not written"));
+        };
+        match &target.file {
+            Some(file) => file.sync_all(),
+            None => Err(io::Error::other("a write to the file has failed")),
+        }
+    }
+}
+
+impl<F: io::Write + Drop> io::Write for Output<F> {
+    fn write(&mut self, bytes: &[u8]) -> io::Result<usize> {
+        match &mut self.writer {
+            Some(writer) => writer.write(bytes),
+            None => Err(io::Error::other("no file is being written")),
+        }
+    }
+
+    fn flush(&mut self) -> io::Result<()> {
+        match &mut self.writer {
+            Some(writer) => writer.flush(),
+            None => Ok(()),
+        }
+    }
+}
+
+/// A new file at the path, once there is a buffer for it. Refused where the name is taken.
+pub(crate) fn start<R: fs::Files>(
+    alloc: Global,
+    rt: &R,
+    path: &str,
+) -> io::Result<Output<R::File>> {
+    let mut writer = BufWriter::with_capacity(alloc, BUFFER, Target { file: None })?;
+    let file = OpenOptions::new()
+        .write(true)
+        .create_new(true)
+        .open(rt, path)?;
+    writer.get_mut().file = Some(file);
+    Ok(Output {
+        writer: Some(writer),
+    })
+}
