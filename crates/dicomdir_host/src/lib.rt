@@ -7,6 +7,8 @@
 mod counted;
 mod host_files;
 mod output;
+#[cfg(test)]
+mod tests;
 
 pub use counted::Counted;
 pub use host_files::HostFiles;

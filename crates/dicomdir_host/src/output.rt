@@ -8,6 +8,14 @@ use std::io::{self, BufWriter};
 // The bytes that are gathered before they are written.
 const BUFFER: usize = 64 * 1024;
 
+// Did a write of the bytes work? One that takes none of some did not.
+fn has_taken(answer: &io::Result<usize>, bytes: &[u8]) -> bool {
+    match answer {
+        Ok(n) => *n > 0 || bytes.is_empty(),
+        Err(_) => false,
+    }
+}
+
 /// A file until a write to it fails. It is let go then, so that nothing more reaches it.
 #[derive(Drop)]
 pub(crate) struct Target<F: io::Write + Drop> {
@@ -20,9 +28,8 @@ impl<F: io::Write + Drop> io::Write for Target<F> {
             Some(file) => write_again(file, bytes),
             None => Err(io::Error::other("no file takes the bytes")),
         };
-        match &answer {
-            Ok(n) if *n > 0 || bytes.is_empty() => {}
-            _ => self.file = None,
+        if !has_taken(&answer, bytes) {
+            self.file = None;
         }
         answer
     }
@@ -35,7 +42,8 @@ impl<F: io::Write + Drop> io::Write for Target<F> {
     }
 }
 
-/// The file that is being written, where there is one, with a buffer before it.
+/// The file that is being written, where there is one, with a buffer before it. It is let go where a
+/// write fails.
 #[derive(Drop)]
 pub(crate) struct Output<F: io::Write + Drop> {
     writer: Option<BufWriter<Target<F>>>,
@@ -68,10 +76,14 @@ impl<F: io::Write + Drop> Output<F> {
 
 impl<F: io::Write + Drop> io::Write for Output<F> {
     fn write(&mut self, bytes: &[u8]) -> io::Result<usize> {
-        match &mut self.writer {
+        let answer = match &mut self.writer {
             Some(writer) => writer.write(bytes),
             None => Err(io::Error::other("no file is being written")),
+        };
+        if !has_taken(&answer, bytes) {
+            self.writer = None;
         }
+        answer
     }
 
     fn flush(&mut self) -> io::Result<()> {

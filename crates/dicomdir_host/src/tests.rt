@@ -1,0 +1,182 @@
+//! The files of the system over a disc in memory: what comes back of what was written, and that each
+//! call that fails is told.
+
+mod disc;
+
+use crate::HostFiles;
+use dd_elem::{Read, Write};
+use dicomdir::{Files, read_whole};
+use disc::{Call, Disc, DiscFiles, Kind};
+use std::alloc::Global;
+use std::cell::RefCell;
+use std::str;
+use std::test::Fail;
+
+// In each line calls, then what they came to (+ done, - refused or failed, ! not read, or the bytes
+// that were read), then the bytes at `a` once the files are let go.
+const CASES: &str = "\
+create a, write xyz, finish, read a > + + + xyz > xyz
+file a, create a, write new, read a > . - - old > old
+create a, write x, finish, create a, write y, finish > + + + - - - > x
+create a, create a, write x, finish > + - + + > x
+write x, finish, create a > - - + >
+folder d, folder d, folder e/f/g, folder e/f, read d, create d > + + + + ! - > none
+file a, folder a, folder a/b > . - - > old
+pipe a, read a, create a > . - - >
+read a, file a, fail open, read a, read a > - . . - old > old
+fail folder, folder d, folder d > . - + > none
+fail create, create a, create a > . - + >
+file a, fail read, read a, read a > . . ! old > old
+create a, write xyz, fail store, finish, finish > + + . - - > xyz
+create a, write xyz, fail write, finish, finish > + + . - - >
+create a, fail write, fill, write xyz, fill, finish > + . - - - - >";
+
+fn call_of(name: &str) -> Option<Call> {
+    match name {
+        "open" => Some(Call::Open),
+        "create" => Some(Call::Create),
+        "folder" => Some(Call::Folder),
+        "read" => Some(Call::Read),
+        "write" => Some(Call::Write),
+        "store" => Some(Call::Store),
+        _ => None,
+    }
+}
+
+// Prepares the disc, where the step is about it.
+fn prepare(disc: &RefCell<Disc>, verb: &str, what: &str) -> Result<bool, Fail> {
+    let Ok(mut disc) = disc.try_borrow_mut() else {
+        return Err("the disc is in use".into());
+    };
+    match verb {
+        "file" => {
+            let place = disc.put(what, Kind::File)?;
+            disc.add(place, b"old")?;
+        }
+        "pipe" => {
+            disc.put(what, Kind::Pipe)?;
+        }
+        "fail" => disc.fail(call_of(what).ok_or("no call")?),
+        _ => return Ok(false),
+    }
+    Ok(true)
+}
+
+// Writes all the bytes.
+fn write_all(files: &mut HostFiles<'_, DiscFiles<'_>>, bytes: &[u8]) -> bool {
+    let mut rest = bytes;
+    for _ in bytes {
+        match files.write(rest) {
+            Ok(n) if n > 0 => rest = rest.get(n..).unwrap_or(&[]),
+            _ => return false,
+        }
+        if rest.is_empty() {
+            return true;
+        }
+    }
+    false
+}
+
+// Makes a call.
+fn is_done(files: &mut HostFiles<'_, DiscFiles<'_>>, verb: &str, what: &str) -> bool {
+    match verb {
+        "create" => files.create(what).is_ok(),
+        "folder" => files.folder(what).is_ok(),
+        "write" => write_all(files, what.as_bytes()),
+        // More than the buffer takes.
+        "fill" => write_all(files, &[b'x'; 70_000]),
+        _ => files.finish().is_ok(),
+    }
+}
+
+// Adds what a source gives.
+fn read(
+    alloc: Global,
+    files: &mut HostFiles<'_, DiscFiles<'_>>,
+    path: &str,
+    said: &mut String,
+) -> Result<(), Fail> {
+    let Ok(mut reader) = files.source(path) else {
+        return Ok(said.push('-')?);
+    };
+    match read_whole(alloc, &mut reader, 1_000) {
+        Ok(bytes) => Ok(said.push_str(str::from_utf8(&bytes).map_err(|_| "no text")?)?),
+        Err(_) => Ok(said.push('!')?),
+    }
+}
+
+// What the calls came to.
+fn told(alloc: Global, disc: &RefCell<Disc>, calls: &str) -> Result<String, Fail> {
+    let rt = DiscFiles(disc);
+    let mut files = HostFiles::new(alloc, &rt);
+    let mut said = String::new(alloc);
+    for call in calls.split(", ") {
+        let (verb, what) = call.split_once(' ').unwrap_or((call, ""));
+        if !said.is_empty() {
+            said.push(' ')?;
+        }
+        if verb == "read" {
+            read(alloc, &mut files, what, &mut said)?;
+        } else if prepare(disc, verb, what)? {
+            said.push('.')?;
+        } else {
+            let is_done = is_done(&mut files, verb, what);
+            said.push(if is_done { '+' } else { '-' })?;
+        }
+    }
+    Ok(said)
+}
+
+fn is_right(alloc: Global, case: &str) -> Result<bool, Fail> {
+    let (calls, wanted) = case.split_once(" > ").ok_or("no answers")?;
+    let (answers, left) = wanted.split_once(" >").ok_or("no bytes")?;
+    let disc = RefCell::new(Disc::new(alloc));
+    let said = told(alloc, &disc, calls)?;
+    let disc = disc.into_inner();
+    let found = disc.bytes("a").unwrap_or(b"none");
+    Ok(said.as_str() == answers && found == left.trim_start().as_bytes())
+}
+
+#[test]
+fn tells_what_each_call_came_to(rt: HostRuntime) -> Result<(), Fail> {
+    for case in CASES.split('\n') {
+        assert!(rt; is_right(rt.alloc(), case)?, "at {case}");
+    }
+    Ok(())
+}
+
+// Bytes of which no two pieces of the buffer's size are the same.
+fn sample(alloc: Global) -> Result<Vec<u8>, Fail> {
+    let mut bytes = Vec::new(alloc);
+    for n in 0..150_000u32 {
+        bytes.push((n % 251) as u8)?;
+    }
+    Ok(bytes)
+}
+
+fn comes_back(alloc: Global, bytes: &[u8]) -> Result<bool, Fail> {
+    let disc = RefCell::new(Disc::new(alloc));
+    let rt = DiscFiles(&disc);
+    let mut files = HostFiles::new(alloc, &rt);
+    if files.create("a").is_err() {
+        return Ok(false);
+    }
+    for piece in bytes.chunks(777) {
+        if !write_all(&mut files, piece) {
+            return Ok(false);
+        }
+    }
+    if files.finish().is_err() {
+        return Ok(false);
+    }
+    let mut reader = files.source("a").map_err(|_| "not there")?;
+    let found = read_whole(alloc, &mut reader, 1_000_000).map_err(|_| "not read")?;
+    Ok(found.as_slice() == bytes)
+}
+
+#[test]
+fn gives_back_what_was_written(rt: HostRuntime) -> Result<(), Fail> {
+    let bytes = sample(rt.alloc())?;
+    assert!(rt; comes_back(rt.alloc(), &bytes)?);
+    Ok(())
+}

@@ -1,0 +1,285 @@
+//! A disc in memory that stands in for the files of the system. One call of it can be made to fail.
+ghost use Rattle.std.specs.Io.{ReadsAtMost};
+
+use std::alloc::{Allocator, Global};
+use std::cell::RefCell;
+use std::fs::{Files, Metadata, OpenFile, OpenOptions};
+use std::io::{self, Empty, ErrorKind, Read, Seek, SeekFrom, Write};
+
+// The most bytes that a read gives or a write takes.
+const STEP: usize = 1000;
+
+/// What stands at a path.
+#[derive(Clone, Copy, PartialEq)]
+pub(super) enum Kind {
+    File,
+    Folder,
+    Pipe,
+}
+
+/// What can fail.
+#[derive(Clone, Copy, PartialEq)]
+pub(super) enum Call {
+    Open,
+    Create,
+    Folder,
+    Read,
+    Write,
+    Store,
+}
+
+#[derive(Drop)]
+struct Entry {
+    path: String,
+    kind: Kind,
+    bytes: Vec<u8>,
+}
+
+/// The disc: what stands there, in the order in which it was made, and the next call that fails.
+#[derive(Drop)]
+pub(super) struct Disc {
+    alloc: Global,
+    entries: Vec<Entry>,
+    failing: Option<Call>,
+}
+
+impl Disc {
+    pub(super) fn new(alloc: Global) -> Self {
+        Disc {
+            alloc,
+            entries: Vec::new(alloc),
+            failing: None,
+        }
+    }
+
+    /// The next such call fails, and those after it do not.
+    pub(super) fn fail(&mut self, call: Call) {
+        self.failing = Some(call);
+    }
+
+    /// Puts what is empty at a path, and answers its place.
+    pub(super) fn put(&mut self, path: &str, kind: Kind) -> io::Result<usize> {
+        let place = self.entries.len();
+        self.entries.push(Entry {
+            path: String::from_str(self.alloc, path)?,
+            kind,
+            bytes: Vec::new(self.alloc),
+        })?;
+        Ok(place)
+    }
+
+    /// Puts the bytes behind those at a place.
+    pub(super) fn add(&mut self, place: usize, bytes: &[u8]) -> io::Result<()> {
+        match self.entries.get_mut(place) {
+            Some(entry) => Ok(entry.bytes.extend_from_slice(bytes)?),
+            None => Err(io::Error::from(ErrorKind::NotFound)),
+        }
+    }
+
+    /// The bytes at a path.
+    pub(super) fn bytes(&self, path: &str) -> Option<&[u8]> {
+        let entry = self.entries.get(self.find(path)?)?;
+        Some(entry.bytes.as_slice())
+    }
+
+    fn find(&self, path: &str) -> Option<usize> {
+        self.entries
+            .iter()
+            .position(|entry| entry.path.as_str() == path)
+    }
+
+    fn kind(&self, path: &str) -> Option<Kind> {
+        Some(self.entries.get(self.find(path)?)?.kind)
+    }
+
+    fn pass(&mut self, call: Call) -> io::Result<()> {
+        if self.failing == Some(call) {
+            self.failing = None;
+            return Err(io::Error::other("the call was made to fail"));
+        }
+        Ok(())
+    }
+
+    fn open(&mut self, how: &OpenOptions, path: &str) -> io::Result<usize> {
+        match self.find(path) {
+            Some(_) if how.asks_create_new() => Err(io::Error::from(ErrorKind::AlreadyExists)),
+            Some(place) => {
+                if how.asks_truncate() {
+                    self.clear(place);
+                }
+                Ok(place)
+            }
+            None if how.asks_create_new() || how.asks_create() => self.put(path, Kind::File),
+            None => Err(io::Error::from(ErrorKind::NotFound)),
+        }
+    }
+
+    // Refuses a folder whose path is taken, or whose parent is none.
+    fn has_room_for(&self, path: &str) -> io::Result<()> {
+        if self.kind(path).is_some() {
+            return Err(io::Error::from(ErrorKind::AlreadyExists));
+        }
+        let Some((parent, _)) = path.rsplit_once('/') else {
+            return Ok(());
+        };
+        match self.kind(parent) {
+            Some(Kind::Folder) => Ok(()),
+            Some(_) => Err(io::Error::from(ErrorKind::NotADirectory)),
+            None => Err(io::Error::from(ErrorKind::NotFound)),
+        }
+    }
+
+    fn clear(&mut self, place: usize) {
+        if let Some(entry) = self.entries.get_mut(place) {
+            entry.bytes.clear();
+        }
+    }
+
+    fn read(&self, place: usize, from: usize, buf: &mut [u8]) -> io::Result<usize>
+        ensures { ReadsAtMost result buf.new }
+    {
+        let Some(entry) = self.entries.get(place) else {
+            return Err(io::Error::from(ErrorKind::NotFound));
+        };
+        if entry.kind == Kind::Folder {
+            return Err(io::Error::from(ErrorKind::IsADirectory));
+        }
+        let mut rest = entry.bytes.get(from..).unwrap_or(&[]);
+        let wanted = buf.len().min(STEP);
+        rest.read(&mut buf[..wanted])
+    }
+}
+
+fn in_use() -> io::Error {
+    io::Error::other("the disc is in use")
+}
+
+/// The files of a disc.
+#[derive(Clone, Copy)]
+pub(super) struct DiscFiles<'a>(pub(super) &'a RefCell<Disc>);
+
+impl<'a> Files for DiscFiles<'a> {
+    type File = DiscFile<'a>;
+
+    type Dir = Empty;
+
+    fn open_file(&self, how: &OpenOptions, path: &str) -> io::Result<DiscFile<'a>> {
+        how.check()?;
+        let mut disc = self.0.try_borrow_mut().map_err(|_| in_use())?;
+        disc.pass(if how.asks_write() {
+            Call::Create
+        } else {
+            Call::Open
+        })?;
+        let place = disc.open(how, path)?;
+        Ok(DiscFile {
+            disc: self.0,
+            place,
+            from: 0,
+        })
+    }
+
+    fn metadata(&self, path: &str) -> io::Result<Metadata> {
+        let disc = self.0.try_borrow().map_err(|_| in_use())?;
+        match disc.kind(path) {
+            Some(Kind::File) => Ok(Metadata::of_file(0)),
+            Some(Kind::Folder) => Ok(Metadata::of_dir()),
+            // Of what is no file and no folder, this alone can be made.
+            Some(Kind::Pipe) => Ok(Metadata::of_symlink(0)),
+            None => Err(io::Error::from(ErrorKind::NotFound)),
+        }
+    }
+
+    fn create_dir(&self, path: &str) -> io::Result<()> {
+        let mut disc = self.0.try_borrow_mut().map_err(|_| in_use())?;
+        disc.pass(Call::Folder)?;
+        disc.has_room_for(path)?;
+        disc.put(path, Kind::Folder)?;
+        Ok(())
+    }
+
+    fn open_dir(&self, _path: &str) -> io::Result<Empty> {
+        Err(io::Error::from(ErrorKind::Unsupported))
+    }
+
+    fn symlink_metadata(&self, path: &str) -> io::Result<Metadata> {
+        self.metadata(path)
+    }
+
+    fn copy(&self, _from: &str, _to: &str) -> io::Result<u64> {
+        Err(io::Error::from(ErrorKind::Unsupported))
+    }
+
+    fn rename(&self, _from: &str, _to: &str) -> io::Result<()> {
+        Err(io::Error::from(ErrorKind::Unsupported))
+    }
+
+    fn remove_file(&self, _path: &str) -> io::Result<()> {
+        Err(io::Error::from(ErrorKind::Unsupported))
+    }
+
+    fn remove_dir(&self, _path: &str) -> io::Result<()> {
+        Err(io::Error::from(ErrorKind::Unsupported))
+    }
+
+    fn remove_dir_all<B: Allocator>(&self, _alloc: B, _path: &str) -> io::Result<()> {
+        Err(io::Error::from(ErrorKind::Unsupported))
+    }
+}
+
+/// An open file of a disc. Writes go to its end.
+#[derive(Drop)]
+pub(super) struct DiscFile<'a> {
+    disc: &'a RefCell<Disc>,
+    place: usize,
+    from: usize,
+}
+
+impl Read for DiscFile<'_> {
+    fn read(&mut self, buf: &mut [u8]) -> io::Result<usize> {
+        let mut disc = self.disc.try_borrow_mut().map_err(|_| in_use())?;
+        disc.pass(Call::Read)?;
+        let n = disc.read(self.place, self.from, buf)?;
+        self.from = self.from.saturating_add(n);
+        Ok(n)
+    }
+}
+
+impl Write for DiscFile<'_> {
+    fn write(&mut self, bytes: &[u8]) -> io::Result<usize> {
+        let mut disc = self.disc.try_borrow_mut().map_err(|_| in_use())?;
+        disc.pass(Call::Write)?;
+        let taken = &bytes[..bytes.len().min(STEP)];
+        disc.add(self.place, taken)?;
+        Ok(taken.len())
+    }
+
+    fn flush(&mut self) -> io::Result<()> {
+        Ok(())
+    }
+}
+
+impl Seek for DiscFile<'_> {
+    fn seek(&mut self, _to: SeekFrom) -> io::Result<u64> {
+        Err(io::Error::from(ErrorKind::Unsupported))
+    }
+}
+
+impl OpenFile for DiscFile<'_> {
+    fn sync_all(&self) -> io::Result<()> {
+        let mut disc = self.disc.try_borrow_mut().map_err(|_| in_use())?;
+        disc.pass(Call::Store)
+    }
+
+    fn sync_data(&self) -> io::Result<()> {
+        self.sync_all()
+    }
+
+    fn metadata(&self) -> io::Result<Metadata> {
+        Err(io::Error::from(ErrorKind::Unsupported))
+    }
+
+    fn set_len(&self, _size: u64) -> io::Result<()> {
+        Err(io::Error::from(ErrorKind::Unsupported))
+    }
+}
