@@ -1,4 +1,8 @@
 //! The file that is being written.
+ghost use Rattle.std.specs.Prelude.{◌≡◌, ◌↔◌, None, IsErr, IsTrue};
+ghost use Rattle.std.specs.Io.{WritesAtMost};
+ghost use Rattle.std.specs.Io.KnownBytes.{WriteAppends};
+ghost use Rattle.dd_elem.specs.Device.{TakesNone};
 
 use crate::counted::write_again;
 use std::alloc::Global;
@@ -8,11 +12,13 @@ use std::io::{self, BufWriter};
 // The bytes that are gathered before they are written.
 const BUFFER: usize = 64 * 1024;
 
-// Did a write of the bytes work? One that takes none of some did not.
-fn has_taken(answer: &io::Result<usize>, bytes: &[u8]) -> bool {
+// Did a write of the bytes fail? One that takes none of some did.
+fn has_failed(answer: &io::Result<usize>, bytes: &[u8]) -> bool
+    ensures { IsTrue result ↔ TakesNone answer.now bytes.now }
+{
     match answer {
-        Ok(n) => *n > 0 || bytes.is_empty(),
-        Err(_) => false,
+        Ok(n) => *n == 0 && !bytes.is_empty(),
+        Err(_) => true,
     }
 }
 
@@ -23,12 +29,17 @@ pub(crate) struct Target<F: io::Write + Drop> {
 }
 
 impl<F: io::Write + Drop> io::Write for Target<F> {
-    fn write(&mut self, bytes: &[u8]) -> io::Result<usize> {
+    fn write(&mut self, bytes: &[u8]) -> io::Result<usize>
+        ensures bound { WritesAtMost result bytes.now }
+        ensures bytes { WriteAppends None None result bytes.now }
+        ensures lets_go { TakesNone result bytes.now → self.new.file ≡ None }
+        ensures none { self.old.file ≡ None → IsErr result }
+    {
         let answer = match &mut self.file {
             Some(file) => write_again(file, bytes),
             None => Err(io::Error::other("no file takes the bytes")),
         };
-        if !has_taken(&answer, bytes) {
+        if has_failed(&answer, bytes) {
             self.file = None;
         }
         answer
@@ -60,6 +71,8 @@ impl<F: io::Write + Drop> Output<F> {
     pub(crate) fn close(&mut self) -> io::Result<()>
     where
         F: OpenFile,
+        ensures lets_go { self.new.writer ≡ None }
+        ensures none { self.old.writer ≡ None → IsErr result }
     {
         let Some(writer) = self.writer.take() else {
             return Err(io::Error::other("no file is being written"));
@@ -75,12 +88,17 @@ impl<F: io::Write + Drop> Output<F> {
 }
 
 impl<F: io::Write + Drop> io::Write for Output<F> {
-    fn write(&mut self, bytes: &[u8]) -> io::Result<usize> {
+    fn write(&mut self, bytes: &[u8]) -> io::Result<usize>
+        ensures bound { WritesAtMost result bytes.now }
+        ensures bytes { WriteAppends None None result bytes.now }
+        ensures lets_go { TakesNone result bytes.now → self.new.writer ≡ None }
+        ensures none { self.old.writer ≡ None → IsErr result }
+    {
         let answer = match &mut self.writer {
             Some(writer) => writer.write(bytes),
             None => Err(io::Error::other("no file is being written")),
         };
-        if !has_taken(&answer, bytes) {
+        if has_failed(&answer, bytes) {
             self.writer = None;
         }
         answer
