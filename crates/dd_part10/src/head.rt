@@ -4,7 +4,7 @@ ghost use Rattle.std.specs.Prelude.{◌≡◌, ℕ, ◌+◌, ◌++◌, ◌≤◌
 ghost use Rattle.dd_elem.specs.Uid.{IsUid};
 ghost use Rattle.dd_set.specs.declared.syntax.Syntax.{Syntax};
 ghost use Rattle.dd_set.specs.Elements.{Elements};
-ghost use Rattle.dd_set.specs.Sends.{Sends};
+ghost use Rattle.dd_set.specs.Sends.{SendsTo};
 ghost use Rattle.dd_set.specs.Spelling.{Spells};
 ghost use Rattle.dd_part10.specs.declared.meta.Meta.{Meta};
 ghost use Rattle.dd_part10.specs.File.{prefix, group_length_text, StartsAbove, IsFile};
@@ -42,9 +42,7 @@ pub fn head_size(meta: &Meta) -> u64
 /// of zeros, `DICM`, the group length, the version, the three UIDs and the Implementation Class UID
 /// (PS3.10 section 7.1). 12 Write where the writer failed, with how many of the bytes went before.
 pub fn write_head<W: Write>(meta: &Meta, writer: &mut W) -> Result<u64, WriteFault>
-    ensures { Sends (head_text meta.now) 0 result
-        (W.contents writer.old) (W.contents writer.new)
-        (W.failures writer.old) (W.failures writer.new) }
+    ensures { SendsTo W.contents W.rest W.failures (head_text meta.now) 0 result writer.old writer.new }
 {
     let sent = send(&[0; 128], writer, 0)?;
     let sent = send(&group_start(group_size(meta)), writer, sent)?;
@@ -95,9 +93,7 @@ fn group_start(count: u32) -> [u8; 30]
 /// Sends the UIDs of group 0002.
 fn send_uids<W: Write>(meta: &Meta, writer: &mut W, sent: u64) -> Result<u64, WriteFault>
     requires { sent ≤ 2 ^ 16 }
-    ensures { Sends (uids_text meta.now) sent result
-        (W.contents writer.old) (W.contents writer.new)
-        (W.failures writer.old) (W.failures writer.new) }
+    ensures { SendsTo W.contents W.rest W.failures (uids_text meta.now) sent result writer.old writer.new }
 {
     let sent = send_uid(CLASS, meta.class.as_bytes(), writer, sent)?;
     let sent = send_uid(INSTANCE, meta.instance.as_bytes(), writer, sent)?;
@@ -109,9 +105,7 @@ fn send_uids<W: Write>(meta: &Meta, writer: &mut W, sent: u64) -> Result<u64, Wr
 fn send_uid<W: Write>(tag: Tag, uid: &[u8], writer: &mut W, sent: u64) -> Result<u64, WriteFault>
     requires short { length uid.now ≤ 64 }
     requires fits { sent ≤ 2 ^ 32 }
-    ensures sends { Sends (uid_text tag uid.now) sent result
-        (W.contents writer.old) (W.contents writer.new)
-        (W.failures writer.old) (W.failures writer.new) }
+    ensures sends { SendsTo W.contents W.rest W.failures (uid_text tag uid.now) sent result writer.old writer.new }
     ensures few { IfOk result (λ n. n ≤ sent + 73) }
 {
     let padding = padding_for(uid);

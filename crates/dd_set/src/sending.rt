@@ -12,7 +12,7 @@ use dd_elem::{Tag, Vr, Write};
 /// writer failed, with how many went before: `sent` and those of the piece that the writer took.
 pub fn send<W: Write>(bytes: &[u8], writer: &mut W, sent: u64) -> Result<u64, WriteFault>
     requires { sent + length bytes.now < 2 ^ 64 }
-    ensures { SendsTo W.contents W.failures bytes.now sent result writer.old writer.new }
+    ensures { SendsTo W.contents W.rest W.failures bytes.now sent result writer.old writer.new }
 {
     let mut at = 0;
     while at < bytes.len() {
@@ -37,7 +37,7 @@ pub fn send_header<W: Write>(
     requires { sent + length (header_text tag (Some vr) value_length) < 2 ^ 64 }
     ensures sends { let text = header_text tag (Some vr) value_length
         in value_length < header_limit vr
-        → SendsTo W.contents W.failures text sent result writer.old writer.new }
+        → SendsTo W.contents W.rest W.failures text sent result writer.old writer.new }
     ensures refused { header_limit vr ≤ value_length
         → (result ≡ Err WriteFault.NotWritable) × (writer.new ≡ writer.old) }
 {
@@ -58,7 +58,7 @@ pub fn send_front<W: Write>(
     requires room { (v : Vr) → vr ≡ Some v → value_length < header_limit v }
     requires fits { sent + length (header_text tag vr value_length) < 2 ^ 64 }
     ensures { let text = header_text tag vr value_length
-        in SendsTo W.contents W.failures text sent result writer.old writer.new }
+        in SendsTo W.contents W.rest W.failures text sent result writer.old writer.new }
 {
     match vr {
         Some(vr) if vr.is_long() => send(&long_header(tag, vr, value_length), writer, sent),

@@ -27,7 +27,7 @@ pub fn write_set<W: Write>(
 ) -> Result<u64, WriteFault>
     ensures sends { let text = elements_text (set_view set.now)
         in Spells syntax (set_view set.now) text
-        → SendsTo W.contents W.failures text 0 result writer.old writer.new }
+        → SendsTo W.contents W.rest W.failures text 0 result writer.old writer.new }
     ensures refused { ¬ Spells syntax (set_view set.now) (elements_text (set_view set.now))
         → (result ≡ Err WriteFault.NotWritable) × (writer.new ≡ writer.old) }
 {
@@ -49,7 +49,7 @@ fn send_set<W: Write>(
     requires valid { AreElements syntax levels 0 (set_view set.now) }
     requires fits { sent + length (elements_text (set_view set.now)) < 2 ^ 64 }
     ensures { let text = elements_text (set_view set.now)
-        in SendsTo W.contents W.failures text sent result writer.old writer.new }
+        in SendsTo W.contents W.rest W.failures text sent result writer.old writer.new }
 {
     for element in &set.elements {
         sent = send_element(element, syntax, levels, writer, sent)?;
@@ -69,7 +69,7 @@ fn send_element<W: Write>(
     requires valid { IsContent syntax levels element.now.vr (value_view element.now.value) }
     requires fits { sent + length (entry_text (element_view element.now)) < 2 ^ 64 }
     ensures { let text = entry_text (element_view element.now)
-        in SendsTo W.contents W.failures text sent result writer.old writer.new }
+        in SendsTo W.contents W.rest W.failures text sent result writer.old writer.new }
 {
     match &element.value {
         Value::Bytes(bytes) => send_bytes(element.tag, element.vr, bytes, writer, sent),
@@ -96,7 +96,7 @@ fn send_bytes<W: Write>(
     requires room { length value.now < length_limit vr }
     requires fits { sent + length (tag_text tag ++ content_text vr (bytes value.now)) < 2 ^ 64 }
     ensures { let text = tag_text tag ++ content_text vr (bytes value.now)
-        in SendsTo W.contents W.failures text sent result writer.old writer.new }
+        in SendsTo W.contents W.rest W.failures text sent result writer.old writer.new }
 {
     let sent = send_front(tag, vr, value.len() as u32, writer, sent)?;
     send(value, writer, sent)
@@ -144,7 +144,7 @@ fn send_items<W: Write>(
     requires valid { AreItems syntax levels (items_view items.now.items) }
     requires fits { sent + length (items_text (items_view items.now.items)) < 2 ^ 64 }
     ensures { let text = items_text (items_view items.now.items)
-        in SendsTo W.contents W.failures text sent result writer.old writer.new }
+        in SendsTo W.contents W.rest W.failures text sent result writer.old writer.new }
 {
     for item in items {
         sent = send_item(item, syntax, levels, writer, sent)?;
@@ -164,7 +164,7 @@ fn send_item<W: Write>(
     requires valid { IsPart syntax levels (item_view item.now) }
     requires fits { sent + length (part_text (item_view item.now)) < 2 ^ 64 }
     ensures { let text = part_text (item_view item.now)
-        in SendsTo W.contents W.failures text sent result writer.old writer.new }
+        in SendsTo W.contents W.rest W.failures text sent result writer.old writer.new }
 {
     let below = levels - 1;
     let count = set_length(&item.set, item.length, syntax, below);
@@ -182,7 +182,7 @@ fn send_end<W: Write>(
 ) -> Result<u64, WriteFault>
     requires { sent + length (mark_text form mark.now) < 2 ^ 64 }
     ensures { let text = mark_text form mark.now
-        in SendsTo W.contents W.failures text sent result writer.old writer.new }
+        in SendsTo W.contents W.rest W.failures text sent result writer.old writer.new }
 {
     match form {
         Length::Defined => Ok(sent),

@@ -25,10 +25,10 @@ use Rattle.dicomdir.specs.Records.{record_part}
 use Rattle.dicomdir.specs.Sending.{Delivers, BreaksOff, fault_behind}
 
 -- the writer failed behind the head
-pub breaks_behind : (xs ys : List ℕ) (a b c : Option (List ℕ)) (f g h : ℕ) (sent : ℕ) (fault : WriteFault) → sent ≡ length xs → Goes xs a b f g → Sends ys 0 (Err fault) b c g h → Delivers (xs ++ ys) (Err (fault_behind sent fault)) a c f h
+pub breaks_behind : {R : Type 0} (xs ys : List ℕ) (a b c : Option (List ℕ) × R) (f g h : ℕ) (sent : ℕ) (fault : WriteFault) → sent ≡ length xs → Goes xs a b f g → Sends ys 0 (Err fault) b c g h → Delivers (xs ++ ys) (Err (fault_behind sent fault)) a c f h
 breaks_behind xs ys a b c f g h sent (faults.Write k) same went stopped =
     let one = stopped.err in
-    let shifted : Stops ys (0 + length xs) (sent + k) b c g h = record { front = one.front; rest = one.rest; parts = one.parts; more = one.more; count = omega (arith, one.count, same); holds = one.holds; failed = one.failed } in
+    let shifted : Stops ys (0 + length xs) (sent + k) b c g h = record { front = one.front; rest = one.rest; parts = one.parts; more = one.more; count = omega (arith, one.count, same); holds = one.holds; failed = one.failed; stays = one.stays } in
     record { sent = tt; unsent = stops_then xs ys 0 (sent + k) a b c f g h went shifted }
 breaks_behind xs ys a b c f g h sent faults.NotWritable same went stopped = absurd stopped.err
 

@@ -7,7 +7,7 @@ ghost use Rattle.dd_set.specs.declared.syntax.Syntax.TheVariants.{Explicit};
 ghost use Rattle.dd_set.specs.Spelling.{elements_text, Spells};
 ghost use Rattle.dd_set.specs.Views.{set_view};
 ghost use Rattle.dicomdir.specs.Directory.{IsPlan, directory_set, directory_text, meta_of};
-ghost use Rattle.dicomdir.specs.Sending.{Delivers, IsWriteBelow, fault_behind};
+ghost use Rattle.dicomdir.specs.Sending.{DeliversTo, IsWriteBelow, fault_behind};
 
 use crate::directory::{
     directory_set, first_root, front_fields, last_root, record_items, rows_fields,
@@ -49,7 +49,8 @@ pub fn write_directory<W: Write>(
     plan: &Plan,
     writer: &mut W,
 ) -> Result<u64, DirectoryFault>
-    ensures delivers { Delivers (directory_text plan.now) result (W.contents writer.old) (W.contents writer.new) (W.failures writer.old) (W.failures writer.new) }
+    ensures delivers { DeliversTo W.contents W.rest W.failures
+        (directory_text plan.now) result writer.old writer.new }
     ensures memory { result ≡ Err DirectoryFault.Memory → writer.new ≡ writer.old }
 
     // What is sent is a file of the class of directories, of that size, whose data set has the elements
@@ -63,7 +64,8 @@ pub fn write_directory<W: Write>(
 
 /// Makes the data set of the plan, and then sends it.
 fn send_plan<W: Write>(alloc: Global, plan: &Plan, writer: &mut W) -> Result<u64, DirectoryFault>
-    ensures delivers { Delivers (directory_text plan.now) result (W.contents writer.old) (W.contents writer.new) (W.failures writer.old) (W.failures writer.new) }
+    ensures delivers { DeliversTo W.contents W.rest W.failures
+        (directory_text plan.now) result writer.old writer.new }
     ensures memory { result ≡ Err DirectoryFault.Memory → writer.new ≡ writer.old }
 {
     let _size = plan.size();
@@ -84,7 +86,8 @@ fn send_directory<W: Write>(
 ) -> Result<u64, DirectoryFault>
     requires spelled { Spells Explicit (set_view set.now) (elements_text (set_view set.now)) }
     requires fits { length (head_text meta.now ++ elements_text (set_view set.now)) < 2 ^ 32 }
-    ensures delivers { Delivers (head_text meta.now ++ elements_text (set_view set.now)) result (W.contents writer.old) (W.contents writer.new) (W.failures writer.old) (W.failures writer.new) }
+    ensures delivers { DeliversTo W.contents W.rest W.failures
+        (head_text meta.now ++ elements_text (set_view set.now)) result writer.old writer.new }
     ensures no_memory { result ≡ Err DirectoryFault.Memory → ⊥ }
 {
     let head = match write_head(meta, writer) {

@@ -12,6 +12,7 @@ pub fn send_text<W: Write>(text: &str, to: &mut W) -> fmt::Result
         (W.failures to.old) (W.failures to.new) text.now) }
     ensures unsent { OnErr result (FailsAmid (W.contents to.old) (W.contents to.new)
         (W.failures to.old) (W.failures to.new) text.now) }
+    ensures rest { W.rest to.new ≡ W.rest to.old }
 {
     let bytes = text.as_bytes();
     let mut at = 0;

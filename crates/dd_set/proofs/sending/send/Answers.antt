@@ -9,6 +9,7 @@ pub loop-at-preserved : goal.loop-at-preserved
 loop-at-preserved g c = record {
   within = grind (arith, common_steps);
   holds = took_more _ _ _ c.args.bytes.now c.loop-at.at c.in-Ok.n c.loop-at.invariant.holds c.in-Ok.ensures.appends;
+  stays = c.in-Ok.ensures.rest ∙ c.loop-at.invariant.stays;
   worked = (c.in-Ok.ensures.worked (λ none. absurd (omega arith))).0 ∙ c.loop-at.invariant.worked;
 }
 
@@ -19,9 +20,11 @@ returns-in_default g c =
           let none : w.in-Ok.n ≡ 0 = omega arith in
           fails_at c.args.bytes.now c.args.sent c.loop-at.at _ _ _ _ c.loop-at-test.true
           (took_none _ _ _ c.args.bytes.now c.loop-at.at w.in-Ok.n none c.loop-at.invariant.holds w.in-Ok.ensures.appends)
+          (w.in-Ok.ensures.rest ∙ c.loop-at.invariant.stays)
           (failed_then _ _ _ c.loop-at.invariant.worked (w.in-Ok.ensures.failed (none, grind (arith, common_steps))))
       | in_default-via-in_default w ↦
           fails_at c.args.bytes.now c.args.sent c.loop-at.at _ _ _ _ c.loop-at-test.true
           (Appends-kept _ _ _ _ c.loop-at.invariant.holds w.in_default.ensures.appends)
+          (w.in_default.ensures.rest ∙ c.loop-at.invariant.stays)
           (failed_then _ _ _ c.loop-at.invariant.worked (w.in_default.ensures.failed tt))
     ]

@@ -6,6 +6,7 @@ abbrev pub invariant-loop-at : goal.invariant-loop-at
 invariant-loop-at g l = record {
   within : l.at ≤ length l.bytes;
   holds : Appends (g.W.Write.contents l.initial.writer) (g.W.Write.contents l.writer) (take l.at l.bytes);
+  stays : g.W.Write.rest l.writer ≡ g.W.Write.rest l.initial.writer;
   worked : g.W.Write.failures l.writer ≡ g.W.Write.failures l.initial.writer;
 }
 

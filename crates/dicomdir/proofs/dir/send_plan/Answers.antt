@@ -36,5 +36,6 @@ returns-clause-delivers g c =
     c.in_ok-set.ensures (rw c.deref-2.ensures.value (rw c.label.ensures at c.in_ok-front.ensures)) (rw c.deref.ensures.value at c.in_ok-records.ensures) (rw (c.versions.ensures, c.records.ensures) at c.in_ok-rows.ensures)
     (c.first_root-first.ensures ∙ ap (λ (rows : List PlanRecord). first_root rows) c.records-2.ensures) (c.last_root-last.ensures ∙ ap (λ (rows : List PlanRecord). last_root rows) c.records-3.ensures) in
     let text : head_text c.directory_meta.result ++ elements_text (set_view c.in_ok-set.set) ≡ directory_text plan = text_is plan c.directory_meta.result (set_view c.in_ok-set.set) (c.directory_meta.ensures ∙ ap (λ (label : Label). meta_of label) c.label-2.ensures) whole in
-    subst (λ (t : List ℕ). Delivers t c.send_directory.result (g.W.Write.contents c.args.writer.now) (g.W.Write.contents c.send_directory.new.writer) (g.W.Write.failures c.args.writer.now) (g.W.Write.failures c.send_directory.new.writer)) text
+    subst (λ (t : List ℕ). Delivers t c.send_directory.result (g.W.Write.contents c.args.writer.now, g.W.Write.rest c.args.writer.now)
+    (g.W.Write.contents c.send_directory.new.writer, g.W.Write.rest c.send_directory.new.writer) (g.W.Write.failures c.args.writer.now) (g.W.Write.failures c.send_directory.new.writer)) text
     c.send_directory.ensures.delivers

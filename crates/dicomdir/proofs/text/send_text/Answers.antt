@@ -10,4 +10,5 @@ loop-at-preserved g c = record {
     (c.in-Ok.ensures.worked (λ none. absurd (omega arith))).0 ∙ c.loop-at.invariant.taken.0,
     appends_rest _ _ _ _ _ _ c.loop-at.invariant.taken.1 c.in-Ok.ensures.appends,
   );
+  stays = c.in-Ok.ensures.rest ∙ c.loop-at.invariant.stays;
 }
