@@ -1,5 +1,7 @@
 -- What sending a text to a writer does to the bytes that it holds and to its count of failures.
-use Rattle.std.specs.Prelude.{◌≡◌, ℕ, ◌<◌, List, length, take, Option}
+use Rattle.std.specs.Prelude.{◌≡◌, ℕ, ◌<◌, List, [], ◌∷◌, ◌++◌, length, map, take, Option}
+use Rattle.std.specs.Borrow.{Bor}
+use Rattle.std.specs.List.{concat}
 use Rattle.std.specs.Io.KnownBytes.{Appends}
 use Rattle.dd_elem.specs.Device.{HasFailed}
 
@@ -16,3 +18,11 @@ pub record FailsAmid (old new : Option (List ℕ)) (failures_old failures_new : 
   pub within : taken < length bytes
   pub front : Appends old new (take taken bytes)
   pub failed : HasFailed failures_old failures_new
+
+-- the parts of a line, one behind the other
+abbrev pub joined : List (Bor (List ℕ)) → List ℕ
+joined parts = concat (map (λ part. part.now) parts)
+
+-- with the end of the line
+abbrev pub line_text : List (Bor (List ℕ)) → List ℕ
+line_text parts = joined parts ++ 10 ∷ []

@@ -2,6 +2,7 @@
 ghost use Rattle.std.specs.Prelude.{◌≡◌, ◌≢◌, ◌≤◌, ◌⊎◌, ◌↔◌, ◌++◌, ◌∷◌, [], codes, string_bytes, true, List, ℕ};
 ghost use Rattle.std.specs.Fmt.{decimal};
 ghost use Rattle.clap.specs.Words.{subcommand_of, takes};
+ghost use Rattle.dd_elem.specs.Device.{HasFailed};
 ghost use Rattle.dd_elem.specs.Uid.{IsUid};
 ghost use Rattle.dicomdir.specs.Line.{GivesUid, dicomdir_app, words_of};
 ghost use Rattle.dicomdir.specs.Text.{TakesAll};
@@ -14,6 +15,7 @@ use crate::paths::path_in;
 use crate::text::{Text, print_line};
 use crate::trouble::{ProgramFault, Subject, Trouble, tell};
 use dd_elem::Write;
+use itoa::Buffer;
 use std::alloc::Global;
 use std::fmt;
 
@@ -121,8 +123,10 @@ fn tell_done<O: Write>(size: u32, out: &mut O) -> u8
     ensures status { (result ≡ 0) ⊎ (result ≡ 1) }
     ensures done { result ≡ 0 → TakesAll (O.contents out.old) (O.contents out.new)
         (O.failures out.old) (O.failures out.new) (codes "DONE 1 instances, " ++ decimal size ++ codes " bytes" ++ 10 ∷ []) }
+    ensures failed { result ≡ 1 → HasFailed (O.failures out.old) (O.failures out.new) }
 {
-    match print_line(format_args!("DONE 1 instances, {size} bytes"), out) {
+    let mut digits = Buffer::new();
+    match print_line(&["DONE 1 instances, ", digits.format(size), " bytes"], out) {
         Ok(()) => 0,
         Err(_) => 1,
     }

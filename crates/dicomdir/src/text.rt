@@ -1,10 +1,9 @@
 //! Printing to a device, with no memory.
-ghost use Rattle.std.specs.Prelude.{◌≡◌, IfSome, IsOk, OnErr, OnOk};
-ghost use Rattle.std.specs.Fmt.{with_newline};
-ghost use Rattle.dicomdir.specs.Text.{FailsAmid, TakesAll};
+ghost use Rattle.std.specs.Prelude.{◌≡◌, OnErr, OnOk};
+ghost use Rattle.dicomdir.specs.Text.{FailsAmid, TakesAll, line_text};
 
 use dd_elem::Write;
-use std::fmt::{self, Display};
+use std::fmt;
 
 /// Sends the bytes of a text, all of them or up to where the writer fails.
 pub fn send_text<W: Write>(text: &str, to: &mut W) -> fmt::Result
@@ -25,7 +24,22 @@ pub fn send_text<W: Write>(text: &str, to: &mut W) -> fmt::Result
     Ok(())
 }
 
-/// A device that texts are printed to, each as it comes and with no memory.
+/// Prints the parts of a line, one behind the other, and the end of the line: all of it or up to where
+/// the writer fails.
+pub fn print_line<W: Write>(parts: &[&str], to: &mut W) -> fmt::Result
+    ensures sent { OnOk result (TakesAll (W.contents to.old) (W.contents to.new)
+        (W.failures to.old) (W.failures to.new) (line_text parts.now)) }
+    ensures unsent { OnErr result (FailsAmid (W.contents to.old) (W.contents to.new)
+        (W.failures to.old) (W.failures to.new) (line_text parts.now)) }
+    ensures rest { W.rest to.new ≡ W.rest to.old }
+{
+    for part in parts {
+        send_text(part, to)?;
+    }
+    send_text("\n", to)
+}
+
+/// A device that a text is printed to as it comes.
 #[derive(Drop)]
 pub struct Text<'a, W: Write> {
     /// The device.
@@ -33,28 +47,8 @@ pub struct Text<'a, W: Write> {
 }
 
 impl<W: Write> fmt::Write for Text<'_, W> {
-    ghost write_str_gives = { λ old bytes new. (new.to.ghost_name ≡ old.to.ghost_name)
-        × TakesAll (W.contents old.to.now) (W.contents new.to.now)
-        (W.failures old.to.now) (W.failures new.to.now) bytes };
-
     /// Sends the bytes of a text, as `send_text` does.
-    fn write_str(&mut self, text: &str) -> fmt::Result
-        ensures ok { IsOk result → (self.new.to.ghost_name ≡ self.old.to.ghost_name)
-            × TakesAll (W.contents self.old.to.now) (W.contents self.new.to.now)
-            (W.failures self.old.to.now) (W.failures self.new.to.now) text.now }
-        ensures unsent { OnErr result (FailsAmid
-            (W.contents self.old.to.now) (W.contents self.new.to.now)
-            (W.failures self.old.to.now) (W.failures self.new.to.now) text.now) }
-    {
+    fn write_str(&mut self, text: &str) -> fmt::Result {
         send_text(text, self.to)
     }
-}
-
-/// Prints a value and the end of its line, with no memory.
-pub fn print_line<D: Display + Drop, W: Write>(line: D, to: &mut W) -> fmt::Result
-    ensures { OnOk result (IfSome (with_newline (D.output line))
-        (TakesAll (W.contents to.old) (W.contents to.new) (W.failures to.old) (W.failures to.new))) }
-{
-    let mut text = Text { to };
-    fmt::Write::writeln(&mut text, line)
 }

@@ -1,6 +1,7 @@
 //! What goes wrong in a run, and how it is told.
 ghost use Rattle.std.specs.Prelude.{◌≡◌, ◌↔◌, ◌⊎◌, IsTrue, codes};
-ghost use Rattle.dicomdir.specs.Trouble.{IsBadLine, IsWantOfMemory};
+ghost use Rattle.dd_keys.specs.Faults.{IsWantOfMemory};
+ghost use Rattle.dicomdir.specs.Trouble.{IsBadLine};
 
 use crate::layout::PlanFault;
 use crate::text::print_line;
@@ -8,6 +9,7 @@ use dd_elem::{BadUid, Write};
 use dd_keys::KeyFault;
 use dd_part10::FileFault;
 use dd_set::SetFault;
+use std::fmt::InlineText;
 use thiserror::Error;
 
 /// Why a run ended before its work was done.
@@ -107,6 +109,9 @@ fn is_want_of_memory(fault: &KeyFault) -> bool
     )
 }
 
+// No fault has as many bytes.
+const WORDS_LENGTH: usize = 256;
+
 /// Tells a fault in a line, with no memory, and answers the status that the run ends with: 2 where
 /// the command line is at fault, and else 1. A failure of the writer changes nothing.
 pub fn tell<W: Write>(fault: &ProgramFault, path: &str, to: &mut W) -> u8
@@ -117,6 +122,7 @@ pub fn tell<W: Write>(fault: &ProgramFault, path: &str, to: &mut W) -> u8
         ProgramFault::Uid(_) => 2,
         _ => 1,
     };
-    let _ = print_line(format_args!("FAULT {path}: {fault}"), to);
+    let words = InlineText::<WORDS_LENGTH>::of(fault);
+    let _ = print_line(&["FAULT ", path, ": ", words.as_str()], to);
     status
 }

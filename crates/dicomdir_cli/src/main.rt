@@ -16,10 +16,10 @@ fn refuse_words<E: Write>(kind: ErrorKind, err: &mut E) -> u8
     ensures text { kind ≢ ErrorKind.OutOfMemory → result ≡ 2 }
 {
     if kind == ErrorKind::OutOfMemory {
-        let _ = print_line("FAULT -: 91 Memory", err);
+        let _ = print_line(&["FAULT -: 91 Memory"], err);
         return 1;
     }
-    let _ = print_line("error: a word of the command line is not UTF-8", err);
+    let _ = print_line(&["error: a word of the command line is not UTF-8"], err);
     2
 }
 

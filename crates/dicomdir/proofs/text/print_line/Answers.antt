@@ -1,16 +1,19 @@
--- The parts of a line that the device took make up the line.
-use Rattle.std.proofs.Common.{rules}
-use Rattle.std.proofs.lemmas.Option.{IfSome_then}
-use Rattle.std.proofs.lemmas.Result.{on_ok_weaker}
-use Rattle.std.specs.Fmt.{with_newline}
-use Rattle.dicomdir.proofs.TextLemmas.{sends_text}
+-- A line goes part by part.
+use Rattle.std.proofs.Common.{◌≤◌, length, ◌∙◌, arith}
+use Rattle.dicomdir.proofs.TextLemmas.{end_fails, on_err, on_err_weaker, part_fails, part_goes}
 use Rattle.dicomdir.proofs.text.print_line.Goals as goal
 
-pub returns : goal.returns
-returns g c =
-    let contents = g.W.Write.contents in
-    let failures = g.W.Write.failures in
-    let line = with_newline (g.D.Display.output c.args.line) in
-    on_ok_weaker c.writeln.result (λ written. IfSome_then line written (λ bytes calls.
-    let (same, sent) = sends_text (λ text. text.to.ghost_name) (λ text. contents text.to.now) (λ text. failures text.to.now) _ bytes _ calls in
-    search rules)) c.writeln.ensures.writes
+pub loop-part-preserved : goal.loop-part-preserved
+loop-part-preserved g c = record {
+  sent = part_goes _ _ _ _ _ _ _ _ _ c.loop-part-test.true c.loop-part.invariant.sent c.in_ok-send_text.ensures.sent;
+  stays = c.in_ok-send_text.ensures.rest ∙ c.loop-part.invariant.stays;
+}
+
+pub returns-in_err-send_text-clause-unsent : goal.returns-in_err-send_text-clause-unsent
+returns-in_err-send_text-clause-unsent g c =
+    on_err _ (part_fails _ _ _ _ _ _ _ _ _ c.loop-part-test.true c.loop-part.invariant.sent c.in_err-send_text.ensures.unsent)
+
+pub returns-clause-unsent : goal.returns-clause-unsent
+returns-clause-unsent g c =
+    let past : length c.args.parts.now ≤ c.loop-part.part-index = omega arith in
+    on_err_weaker _ (λ failed. end_fails _ _ _ _ _ _ _ _ past c.loop-part.invariant.sent failed) c.send_text-2.ensures.unsent
