@@ -1,4 +1,5 @@
 mod LineLemmas
+mod LineNames
 mod Rest
 mod Stored
 mod TextLemmas

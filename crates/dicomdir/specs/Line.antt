@@ -65,6 +65,10 @@ abbrev pub IsAsked : Asked → Option (Text × List Row) → Type 0
 IsAsked a None = ⊥
 IsAsked a (Some (command, given)) = Asks a command given
 
+-- the words name the command `index`
+abbrev pub NamesIndex : Option (Text × List Row) → Type 0
+NamesIndex found = (given : List Row) × (found ≡ Some (codes "index", given))
+
 -- the words give the option `--uid` this value
 abbrev pub GivesUid : Option (Text × List Row) → Text → Type 0
 GivesUid None uid = ⊥

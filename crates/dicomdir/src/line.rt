@@ -3,7 +3,7 @@ ghost use Rattle.std.specs.Prelude.{◌≡◌, [], string_bytes, true};
 ghost use Rattle.std.specs.Prelude.{IfErr, IfOk, MatchResult, Some, codes};
 ghost use Rattle.clap.specs.Words.{fault_of, first_of, found_of, rows_of, takes};
 ghost use Rattle.clap.specs.Words.{subcommand_of, subcommand_rows_of};
-ghost use Rattle.dicomdir.specs.Line.{Asks, HasApp, HasRule, IsAsked, IsRefusedFor, dicomdir_app};
+ghost use Rattle.dicomdir.specs.Line.{Asks, HasApp, HasRule, IsAsked, IsRefusedFor, NamesIndex, dicomdir_app};
 ghost use Rattle.dicomdir.specs.Line.{index_app, required_operand, required_option, words_of};
 
 use clap::error::ErrorKind;
@@ -150,13 +150,13 @@ fn index_asked(alloc: Global, given: &ArgMatches<'_>) -> Result<Asked, LineFault
 
 /// The named command, with its values.
 fn asked_of(alloc: Global, found: &ArgMatches<'_>) -> Result<Asked, LineFault>
+    requires { NamesIndex (subcommand_rows_of found.now) }
     ensures values { IfOk result (λ asked. IsAsked asked (subcommand_rows_of found.now)) }
     ensures memory { IfErr result (λ fault. fault ≡ LineFault.Memory) }
 {
     match found.subcommand() {
         Some(("index", given)) => index_asked(alloc, given),
-        // A parse names no other command.
-        _ => Err(LineFault::Memory),
+        _ => unreachable!(),
     }
 }
 
