@@ -1,7 +1,9 @@
 //! The directory of one file.
-ghost use Rattle.std.specs.Prelude.{◌≡◌, ◌↔◌, IfErr, IfOk, IsErr, IsOk, codes, string_bytes};
+ghost use Rattle.std.specs.Prelude.{◌≡◌, ◌↔◌, IfErr, IfOk, IsErr, IsOk, codes, option_map, string_bytes};
 ghost use Rattle.dd_elem.specs.Device.{counted, HasFailed, HasWorked};
 ghost use Rattle.dd_elem.specs.Uid.{IsUid};
+ghost use Rattle.dicomdir.specs.Directory.{directory_text};
+ghost use Rattle.dicomdir.specs.Files.{ended, grown, started};
 ghost use Rattle.dicomdir.specs.Trouble.{IsBadLine};
 
 use crate::dir::{DirectoryFault, write_directory};
@@ -70,6 +72,7 @@ fn refuse_taken<F: Files>(directory: &str, files: &mut F) -> Result<(), Trouble>
     ensures free { IsOk result → F.refusals files.new ≡ counted (F.refusals files.old) }
     ensures taken { IsErr result → HasWorked (F.refusals files.old) (F.refusals files.new) }
     ensures fault { IfErr result (λ trouble. trouble.fault ≡ ProgramFault.Create) }
+    ensures kept { F.held files.new ≡ F.held files.old }
 {
     match files.source(directory) {
         Ok(_) => Err(Trouble {
@@ -86,6 +89,7 @@ fn source_bytes<F: Files>(alloc: Global, source: &str, files: &mut F) -> Result<
     ensures absent { IfErr result (λ trouble. trouble.fault ≡ ProgramFault.Absent
         → F.refusals files.new ≡ counted (F.refusals files.old)) }
     ensures line { IfErr result (λ trouble. ¬ IsBadLine trouble.fault) }
+    ensures kept { F.held files.new ≡ F.held files.old }
 {
     let Ok(mut reader) = files.source(source) else {
         return Err(Trouble {
@@ -139,6 +143,7 @@ fn make_folder<F: Files>(folder: &str, files: &mut F) -> Result<(), Trouble>
     ensures made { IsOk result → HasWorked (F.refusals files.old) (F.refusals files.new) }
     ensures refused { IsErr result → F.refusals files.new ≡ counted (F.refusals files.old) }
     ensures fault { IfErr result (λ trouble. trouble.fault ≡ ProgramFault.Folder) }
+    ensures kept { F.held files.new ≡ F.held files.old }
 {
     match files.folder(folder) {
         Ok(()) => Ok(()),
@@ -154,6 +159,8 @@ fn start_directory<F: Files>(directory: &str, files: &mut F) -> Result<(), Troub
     ensures started { IsOk result → HasWorked (F.refusals files.old) (F.refusals files.new) }
     ensures refused { IsErr result → F.refusals files.new ≡ counted (F.refusals files.old) }
     ensures fault { IfErr result (λ trouble. trouble.fault ≡ ProgramFault.Create) }
+    ensures made { IsOk result → F.held files.new ≡ option_map (started directory.now) (F.held files.old) }
+    ensures kept { IsErr result → F.held files.new ≡ F.held files.old }
 {
     match files.create(directory) {
         Ok(()) => Ok(()),
@@ -170,6 +177,9 @@ fn send_directory<F: Files>(alloc: Global, plan: &Plan, files: &mut F) -> Result
     ensures unsent { IfErr result (λ trouble. trouble.fault ≡ ProgramFault.Unsent
         → HasFailed (F.Write.failures files.old) (F.Write.failures files.new)) }
     ensures line { IfErr result (λ trouble. ¬ IsBadLine trouble.fault) }
+    ensures refusals { F.refusals files.new ≡ F.refusals files.old }
+    ensures holds { IsOk result → F.held files.new
+        ≡ option_map (grown (directory_text plan.now)) (F.held files.old) }
 {
     match write_directory(alloc, plan, files) {
         Ok(_) => Ok(()),
@@ -186,6 +196,7 @@ fn finish_directory<F: Files>(files: &mut F) -> Result<(), Trouble>
     ensures ended { IsOk result → HasWorked (F.refusals files.old) (F.refusals files.new) }
     ensures refused { IsErr result → F.refusals files.new ≡ counted (F.refusals files.old) }
     ensures fault { IfErr result (λ trouble. trouble.fault ≡ ProgramFault.Unsent) }
+    ensures closed { IsOk result → F.held files.new ≡ option_map ended (F.held files.old) }
 {
     match files.finish() {
         Ok(()) => Ok(()),
