@@ -1,5 +1,6 @@
 //! A writer over memory.
-ghost use Rattle.std.specs.Prelude.{◌≡◌, ℕ, Option, [], ◌≤◌, ◌↔◌, ◌<◌, length, Some, IsOk, IfOk, OnOk, OnErr, IsSome, IfSome, vec_capacity, is_ok};
+ghost use Rattle.std.specs.Prelude.{◌≡◌, ℕ, Option, [], ◌≤◌, ◌↔◌, ◌<◌, length, Some};
+ghost use Rattle.std.specs.Prelude.{IsOk, IfOk, OnOk, OnErr, IsSome, IfSome, vec_capacity, is_ok};
 ghost use Rattle.std.specs.Io.{WritesAtMost};
 ghost use Rattle.std.specs.Io.KnownBytes.{WriteAppends};
 ghost use Rattle.dd_elem.specs.Sink.{Store, IsWritable, HasRoom, taken_len};

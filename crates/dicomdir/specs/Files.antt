@@ -29,7 +29,9 @@ started path held = record { bytes_at = with_file path (Some []) held.bytes_at; 
 
 -- the file that is being written grows by these bytes
 abbrev pub grown : List ℕ → Held → Held
-grown bytes held = record held { bytes_at = with_written held.current (option_map (λ before. before ++ bytes) (written held)) held.bytes_at }
+grown bytes held = record held {
+  bytes_at = with_written held.current (option_map (λ before. before ++ bytes) (written held)) held.bytes_at;
+}
 
 -- no file is being written any more
 abbrev pub ended : Held → Held

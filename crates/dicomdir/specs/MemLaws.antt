@@ -1,5 +1,6 @@
 -- What writes leave alone in files in memory, and what they do to the file that is being written.
-use Rattle.std.proofs.Common.{◌≡◌, ◌≢◌, ℕ, List, [], ◌++◌, Bool, true, false, Option, None, Some, refl, sym, ap, ◌∙◌, arith, inl, inr, subst}
+use Rattle.std.proofs.Common.{◌≡◌, ◌≢◌, ℕ, List, [], ◌++◌, Bool, true, false, Option, None, Some, refl, sym, ap, ◌∙◌}
+use Rattle.std.proofs.Common.{arith, inl, inr, subst}
 use Rattle.std.proofs.Math.Path.{fun_ext}
 use Rattle.std.proofs.lemmas.Slice.Eq.{bytes_eq-Decides}
 use Rattle.std.specs.Bool.{Decides}
@@ -15,15 +16,18 @@ by_test true P d = inl (refl, d.0 refl)
 by_test false P d = inr (refl, λ p. let e : false ≡ true = d.1 p in cc)
 
 -- the file at the path
-pub file_here : (path : List ℕ) (file : Option (List ℕ)) (files : List ℕ → Option (List ℕ)) → with_file path file files path ≡ file
+pub file_here : (path : List ℕ) (file : Option (List ℕ)) (files : List ℕ → Option (List ℕ))
+    → with_file path file files path ≡ file
 file_here path file files = let same : bytes_eq path path ≡ true = (bytes_eq-Decides path path).1 refl in rw same refl
 
 -- another file
-pub file_there : (path other : List ℕ) (file : Option (List ℕ)) (files : List ℕ → Option (List ℕ)) → (path ≡ other → ⊥) → with_file path file files other ≡ files other
-file_there path other file files apart = elim (by_test (bytes_eq path other) (path ≡ other) (bytes_eq-Decides path other)) [
-  | inl same ↦ absurd (apart same.1)
-  | inr other_test ↦ rw (other_test.0) refl
-]
+pub file_there : (path other : List ℕ) (file : Option (List ℕ)) (files : List ℕ → Option (List ℕ)) → (path ≡ other
+    → ⊥) → with_file path file files other ≡ files other
+file_there path other file files apart = elim (by_test (bytes_eq path other) (path ≡ other)
+    (bytes_eq-Decides path other)) [
+      | inl same ↦ absurd (apart same.1)
+      | inr other_test ↦ rw (other_test.0) refl
+    ]
 
 -- files that are these but for one path
 pub files_but : (path : List ℕ) (file : Option (List ℕ)) (old new : List ℕ → Option (List ℕ)) → new path ≡ file
@@ -39,7 +43,8 @@ pub refusals_stay : (old new : Stored) → unwritten new ≡ unwritten old → n
 refusals_stay old new same = ap (λ (s : Unwritten). s.refusals) same
 
 -- how a file grows that keeps whether it is there
-grown_file : (old new : Option (List ℕ)) (bytes : List ℕ) → emptied new ≡ emptied old → Appends old new bytes → new ≡ option_map (λ before. before ++ bytes) old
+grown_file : (old new : Option (List ℕ)) (bytes : List ℕ) → emptied new ≡ emptied old → Appends old new bytes
+    → new ≡ option_map (λ before. before ++ bytes) old
 grown_file None None bytes there adds = refl
 grown_file None (Some ys) bytes there adds = cc
 grown_file (Some xs) None bytes there adds = absurd adds
@@ -47,15 +52,19 @@ grown_file (Some xs) (Some ys) bytes there adds = ap (λ (zs : List ℕ). Some z
 
 -- the file that is being written grows, and no other one changes
 grown_at : (current : Option (List ℕ)) (old new : List ℕ → Option (List ℕ)) (bytes : List ℕ)
-    → with_written current (emptied (option_and_then new current)) new ≡ with_written current (emptied (option_and_then old current)) old
+    → with_written current (emptied (option_and_then new current)) new ≡ with_written current (emptied
+    (option_and_then old current)) old
     → Appends (option_and_then old current) (option_and_then new current) bytes
     → new ≡ with_written current (option_map (λ before. before ++ bytes) (option_and_then old current)) old
 grown_at None old new bytes same adds = same
 grown_at (Some path) old new bytes same adds =
     let there : emptied (new path) ≡ emptied (old path) =
-    sym (file_here path (emptied (new path)) new) ∙ ap (λ (files : List ℕ → Option (List ℕ)). files path) same ∙ file_here path (emptied (old path)) old in
-    files_but path (option_map (λ before. before ++ bytes) (old path)) old new (grown_file (old path) (new path) bytes there adds)
-    (λ other apart. sym (file_there path other (emptied (new path)) new apart) ∙ ap (λ (files : List ℕ → Option (List ℕ)). files other) same ∙ file_there path other (emptied (old path)) old apart)
+    sym (file_here path (emptied (new path)) new) ∙ ap (λ (files : List ℕ → Option (List ℕ)). files path) same
+    ∙ file_here path (emptied (old path)) old in
+    files_but path (option_map (λ before. before ++ bytes) (old path)) old new (grown_file (old path)
+    (new path) bytes there adds)
+    (λ other apart. sym (file_there path other (emptied (new path)) new apart) ∙ ap (λ (files : List ℕ
+    → Option (List ℕ)). files other) same ∙ file_there path other (emptied (old path)) old apart)
 
 -- the same, of files by their parts
 parts_grow : (c d : Option (List ℕ)) (f g : List ℕ → Option (List ℕ)) (bytes : List ℕ) → d ≡ c
@@ -63,12 +72,16 @@ parts_grow : (c d : Option (List ℕ)) (f g : List ℕ → Option (List ℕ)) (b
     → Appends (option_and_then f c) (option_and_then g d) bytes
     → record { bytes_at = g; current = d } ≡ grown bytes (record { bytes_at = f; current = c })
 parts_grow c d f g bytes is =
-    let Same = λ (x : Option (List ℕ)). with_written x (emptied (option_and_then g x)) g ≡ with_written c (emptied (option_and_then f c)) f in
-    subst (λ (x : Option (List ℕ)). Same x → Appends (option_and_then f c) (option_and_then g x) bytes → record { bytes_at = g; current = x } ≡ grown bytes (record { bytes_at = f; current = c })) (sym is)
-    (λ same adds. ap (λ (files : List ℕ → Option (List ℕ)). record { bytes_at = files; current = c }) (grown_at c f g bytes same adds))
+    let Same = λ (x : Option (List ℕ)). with_written x (emptied (option_and_then g x)) g ≡ with_written c (emptied
+    (option_and_then f c)) f in
+    subst (λ (x : Option (List ℕ)). Same x → Appends (option_and_then f c) (option_and_then g x) bytes
+    → record { bytes_at = g; current = x } ≡ grown bytes (record { bytes_at = f; current = c })) (sym is)
+    (λ same adds. ap (λ (files : List ℕ → Option (List ℕ)). record { bytes_at = files; current = c })
+    (grown_at c f g bytes same adds))
 
 -- what writes add to the bytes that are being written, the file has
-pub held_grows : (old new : Stored) (bytes : List ℕ) → unwritten new ≡ unwritten old → Appends (written_of old) (written_of new) bytes
+pub held_grows : (old new : Stored) (bytes : List ℕ) → unwritten new ≡ unwritten old
+    → Appends (written_of old) (written_of new) bytes
     → Some (held_of new) ≡ option_map (grown bytes) (Some (held_of old))
 held_grows old new bytes same adds =
     ap (λ (held : Held). Some held) (parts_grow old.current new.current (bytes_at old.files) (bytes_at new.files) bytes

@@ -1,10 +1,12 @@
 //! Files in memory.
-ghost use Rattle.std.specs.Prelude.{◌≡◌, IsSome, is_ok, IfSome, ◌↔◌, [], length, None, Some, IsOk, IsErr, IsTrue, ◌<◌, IfOk, OnOk, OnErr, refl, option_map, option_copied, string_bytes};
+ghost use Rattle.std.specs.Prelude.{◌≡◌, IsSome, is_ok, IfSome, ◌↔◌, [], length, None, Some, IsOk, IsErr};
+ghost use Rattle.std.specs.Prelude.{IsTrue, ◌<◌, IfOk, OnOk, OnErr, refl, option_map, option_copied, string_bytes};
 ghost use Rattle.std.specs.Io.{WritesAtMost};
 ghost use Rattle.std.specs.Io.KnownBytes.{WriteAppends};
 ghost use Rattle.dd_elem.specs.Counts.{counts_after};
 ghost use Rattle.dd_elem.specs.Device.{counted, last_count, HasWorked, IsLive};
-ghost use Rattle.dicomdir.specs.MemFiles.{Stored, listed, Unwritten, bytes_at, held_of, unwritten, written_of, SetsFile, GrowsFile, GrowsWritten, KeepsFiles};
+ghost use Rattle.dicomdir.specs.MemFiles.{Stored, Unwritten, listed, bytes_at, held_of, unwritten, written_of};
+ghost use Rattle.dicomdir.specs.MemFiles.{SetsFile, GrowsFile, GrowsWritten, KeepsFiles};
 ghost use Rattle.dicomdir.specs.MemLaws.{held_grows, refusals_stay};
 
 use crate::files::{Files, NotDone, NotThere};
