@@ -1,40 +1,15 @@
-//! Tests of the crates below from outside: worked examples whose answers are known from the DICOM
-//! standard and from the formats of `dicomdir`, and not from a run.
+//! What the tests of all crates share: the bytes of files whose every place is known from the DICOM
+//! standard, as texts, and cases as lines of text.
+//!
+//! It has no tests of its own. Each test crate names it, and beside it only the crates that it tests.
 #![tactic(auto)]
 
-#[cfg(test)]
-mod bytes;
-#[cfg(test)]
-mod catalogues;
-#[cfg(test)]
-mod data_sets;
-#[cfg(test)]
-mod devices;
-#[cfg(test)]
-mod empty_directory;
-#[cfg(test)]
-mod files;
-#[cfg(test)]
-mod first_directory;
-#[cfg(test)]
-mod first_run;
-#[cfg(test)]
-mod kept_keys;
-#[cfg(test)]
-mod line;
-#[cfg(test)]
-mod made_versions;
-#[cfg(test)]
-mod sending;
-#[cfg(test)]
-mod sets;
-#[cfg(test)]
+mod cases;
+mod directories;
 mod source_file;
-#[cfg(test)]
-mod text;
-#[cfg(test)]
-mod values;
-#[cfg(test)]
-mod version_order;
-#[cfg(test)]
-mod versions;
+mod texts;
+
+pub use cases::{answered, question};
+pub use directories::{first_directory, v2};
+pub use source_file::{SOURCE_ROWS, v1, v1_implicit, v1_with};
+pub use texts::{bytes_of, push_bytes, tag_of, text_of};

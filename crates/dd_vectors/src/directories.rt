@@ -1,0 +1,99 @@
+//! The bytes of directories, with the place of each row.
+
+use crate::texts::push_bytes;
+use std::alloc::Global;
+use std::test::Fail;
+
+/// What follows the preamble of each directory of the file-set `2.25.0` that has no ID.
+const FRONT: &str = "\
+128 4449434d
+132 02000000 554c 0400 7a000000
+144 02000100 4f42 0000 02000000 0001
+158 02000200 5549 1400 '1.2.840.10008.1.3.10
+186 02000300 5549 0600 '2.25.0
+200 02001000 5549 1400 '1.2.840.10008.1.2.1~
+228 02001200 5549 1e00 '2.25.604472133179352588043346~
+266 04003011 4353 0000";
+
+/// The rest where it holds nothing.
+const NOTHING: &str = "\
+274 04000012 554c 0400 00000000
+286 04000212 554c 0400 00000000
+298 04001212 5553 0200 0000
+308 04002012 5351 0000 00000000";
+
+/// The rest where it holds V1 alone.
+const ONE_IMAGE: &str = "\
+274 04000012 554c 0400 40010000
+286 04000212 554c 0400 40010000
+298 04001212 5553 0200 0000
+308 04002012 5351 0000 2c020000
+320 feff00e0 4c000000
+328 04000014 554c 0400 00000000
+340 04001014 5553 0200 ffff
+350 04002014 554c 0400 94010000
+362 04003014 4353 0800 'PATIENT_
+378 10001000 504e 0800 'DOE^JOHN
+394 10002000 4c4f 0200 'P1
+404 feff00e0 76000000
+412 04000014 554c 0400 00000000
+424 04001014 5553 0200 ffff
+434 04002014 554c 0400 12020000
+446 04003014 4353 0600 'STUDY_
+460 08002000 4441 0800 '20240115
+476 08003000 544d 0600 '101500
+490 08005000 5348 0000
+498 08003010 4c4f 0000
+506 20000d00 5549 0600 '1.2.3~
+520 20001000 5348 0200 '1_
+530 feff00e0 54000000
+538 04000014 554c 0400 00000000
+550 04001014 5553 0200 ffff
+560 04002014 554c 0400 6e020000
+572 04003014 4353 0600 'SERIES
+586 08006000 4353 0200 'CT
+596 20000e00 5549 0800 '1.2.3.4~
+612 20001100 4953 0200 '1_
+622 feff00e0 f6000000
+630 04000014 554c 0400 00000000
+642 04001014 5553 0200 ffff
+652 04002014 554c 0400 00000000
+664 04003014 4353 0600 'IMAGE_
+678 04000015 4353 2400 'PT000001\\ST000001\\SE000001\\IM000001_
+722 04001015 5549 1a00 '1.2.840.10008.5.1.4.1.1.2~
+756 04001115 5549 0a00 '1.2.3.4.5~
+774 04001215 5549 1400 '1.2.840.10008.1.2.1~
+802 09001000 4c4f 0c00 'DD_FILESET_1
+822 09000110 4f42 0000 20000000 900e75e1c153f87b21e09f9db68aef627f2dd320eb3afb1f2574594e6c862a92
+866 20001300 4953 0200 '1_";
+
+/// V2, the directory of a file-set that holds nothing: 320 bytes.
+pub fn v2(alloc: Global) -> Result<Vec<u8>, Fail> {
+    directory(alloc, NOTHING)
+}
+
+/// The directory of the file-set that has V1 alone: 876 bytes.
+pub fn first_directory(alloc: Global) -> Result<Vec<u8>, Fail> {
+    directory(alloc, ONE_IMAGE)
+}
+
+/// The directory with these rows behind those of each, or an error where a row is not in its place.
+fn directory(alloc: Global, rows: &str) -> Result<Vec<u8>, Fail> {
+    let mut bytes = Vec::new(alloc);
+    bytes.extend_from_slice(&[0; 128])?;
+    for part in [FRONT, rows] {
+        push_rows(alloc, &mut bytes, part)?;
+    }
+    Ok(bytes)
+}
+
+fn push_rows(alloc: Global, bytes: &mut Vec<u8>, rows: &str) -> Result<(), Fail> {
+    for row in rows.split('\n') {
+        let (place, words) = row.split_once(' ').ok_or("a row without words")?;
+        if place.parse::<usize>()? != bytes.len() {
+            return Err("a row out of place".into());
+        }
+        push_bytes(alloc, bytes, words)?;
+    }
+    Ok(())
+}

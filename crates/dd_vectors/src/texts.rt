@@ -1,0 +1,57 @@
+//! Bytes as text: words between spaces or line ends, each of hexadecimal digits, or of `'` and then
+//! characters, among which `_` stands for a space and `~` for a byte 00.
+
+use dd_elem::Tag;
+use std::alloc::{AllocError, Global};
+use std::test::Fail;
+
+/// The bytes that the words name.
+pub fn bytes_of(alloc: Global, text: &str) -> Result<Vec<u8>, Fail> {
+    let mut bytes = Vec::new(alloc);
+    push_bytes(alloc, &mut bytes, text)?;
+    Ok(bytes)
+}
+
+/// Puts the bytes that the words name behind these bytes.
+pub fn push_bytes(alloc: Global, bytes: &mut Vec<u8>, text: &str) -> Result<(), Fail> {
+    for word in text.split([' ', '\n']) {
+        match word.strip_prefix('\'') {
+            Some(characters) => push_characters(bytes, characters)?,
+            None => bytes.extend_from_slice(&hex::decode(alloc, word)?)?,
+        }
+    }
+    Ok(())
+}
+
+fn push_characters(bytes: &mut Vec<u8>, characters: &str) -> Result<(), AllocError> {
+    for character in characters.as_bytes() {
+        bytes.push(match character {
+            b'_' => b' ',
+            b'~' => 0,
+            other => *other,
+        })?;
+    }
+    Ok(())
+}
+
+/// The word of ASCII characters that names these bytes.
+pub fn text_of(alloc: Global, bytes: &[u8]) -> Result<String, AllocError> {
+    let mut text = String::from_str(alloc, "'")?;
+    for byte in bytes {
+        text.push(match byte {
+            b' ' => '_',
+            0 => '~',
+            other => char::from(*other),
+        })?;
+    }
+    Ok(text)
+}
+
+/// The tag that `gggg,eeee` names.
+pub fn tag_of(text: &str) -> Result<Tag, Fail> {
+    let (group, element) = text.split_once(',').ok_or("no tag")?;
+    Ok(Tag {
+        group: u16::from_str_radix(group, 16)?,
+        element: u16::from_str_radix(element, 16)?,
+    })
+}
