@@ -1,0 +1,136 @@
+//! Data sets read from bytes.
+
+use crate::outlines::outline;
+use crate::spellings::{IMAGES, PATIENT_ID, set_of, spelled};
+use dd_elem::Tag;
+use dd_set::{DataSet, Element, Syntax, Value};
+use dd_vectors::{answered, question, tag_of, text_of};
+use std::alloc::Global;
+use std::test::Fail;
+
+/// Data sets, and what they hold: one element in both syntaxes, none, a sequence of both forms of length,
+/// one of unknown value representation, whose items are in Implicit VR, one in Implicit VR, and two items
+/// behind another element.
+const SETS: &str = "\
+explicit 10002000 4c4f 0200 5031 > (0010,0020) LO 'P1
+implicit 10002000 02000000 5031 > (0010,0020) - 'P1
+explicit ' > 
+implicit ' > 
+explicit 08004011 5351 0000 12000000 feff00e0 0a000000 10002000 4c4f 0200 5031 > \
+(0008,1140) SQ Defined Defined [(0010,0020) LO 'P1]
+explicit 08004011 5351 0000 ffffffff feff00e0 ffffffff 10002000 4c4f 0200 5031 \
+feff0de0 00000000 feffdde0 00000000 > \
+(0008,1140) SQ Undefined Undefined [(0010,0020) LO 'P1]
+explicit 09000110 554e 0000 ffffffff feff00e0 ffffffff 10002000 02000000 5031 \
+feff0de0 00000000 feffdde0 00000000 > \
+(0009,1001) UN Undefined Undefined [(0010,0020) - 'P1]
+implicit 08004011 ffffffff feff00e0 0a000000 10002000 02000000 5031 feffdde0 00000000 > \
+(0008,1140) - Undefined Defined [(0010,0020) - 'P1]
+explicit 08006000 4353 0200 4354 08004011 5351 0000 1a000000 feff00e0 00000000 \
+feff00e0 0a000000 10002000 4c4f 0200 5031 > \
+(0008,0060) CS 'CT; (0008,1140) SQ Defined Defined [] Defined [(0010,0020) LO 'P1]";
+
+/// The same: their sizes in Explicit and in Implicit VR, and where the items of (0008,1140) start in the
+/// spelling that was read.
+const SIZES: &str = "\
+explicit 10002000 4c4f 0200 5031 > Some(10) None, None
+implicit 10002000 02000000 5031 > None Some(10), None
+explicit ' > Some(0) Some(0), None
+explicit 08004011 5351 0000 12000000 feff00e0 0a000000 10002000 4c4f 0200 5031 > \
+Some(30) None, Some([12])
+explicit 08004011 5351 0000 ffffffff feff00e0 ffffffff 10002000 4c4f 0200 5031 \
+feff0de0 00000000 feffdde0 00000000 > Some(46) None, Some([12])
+explicit 09000110 554e 0000 ffffffff feff00e0 ffffffff 10002000 02000000 5031 \
+feff0de0 00000000 feffdde0 00000000 > Some(46) None, None
+implicit 08004011 ffffffff feff00e0 0a000000 10002000 02000000 5031 feffdde0 00000000 > \
+None Some(34), Some([8])
+explicit 08006000 4353 0200 4354 08004011 5351 0000 1a000000 feff00e0 00000000 \
+feff00e0 0a000000 10002000 4c4f 0200 5031 > Some(48) None, Some([22, 30])";
+
+/// Tags, and the element of a set of a modality and a Patient ID that has them.
+const FOUND: &str = "\
+0010,0020 > LO 'P1
+0008,0060 > CS 'CT
+0008,0061 > none";
+
+fn held(alloc: Global, case: &str) -> Result<String, Fail> {
+    let (syntax, bytes) = spelled(alloc, question(case))?;
+    let set = set_of(alloc, syntax, &bytes)?;
+    Ok(answered(alloc, case, &outline(alloc, &set)?)?)
+}
+
+#[test]
+fn sets_hold_what_their_bytes_spell(rt: HostRuntime) -> Result<(), Fail> {
+    for case in SETS.split('\n') {
+        assert_eq!(rt; held(rt.alloc(), case)?.as_str(), case);
+    }
+    Ok(())
+}
+
+/// Both sizes, and where the items start.
+fn numbers(alloc: Global, syntax: Syntax, set: &DataSet<'_>) -> Result<String, Fail> {
+    let explicit = set.size(Syntax::Explicit);
+    let implicit = set.size(Syntax::Implicit);
+    let starts = set.item_starts(alloc, syntax, IMAGES)?;
+    Ok(format!(in alloc; "{explicit:?} {implicit:?}, {starts:?}")?)
+}
+
+fn measured(alloc: Global, case: &str) -> Result<String, Fail> {
+    let (syntax, bytes) = spelled(alloc, question(case))?;
+    let set = set_of(alloc, syntax, &bytes)?;
+    Ok(answered(alloc, case, &numbers(alloc, syntax, &set)?)?)
+}
+
+#[test]
+fn sets_have_the_size_of_their_bytes(rt: HostRuntime) -> Result<(), Fail> {
+    for case in SIZES.split('\n') {
+        assert_eq!(rt; measured(rt.alloc(), case)?.as_str(), case);
+    }
+    Ok(())
+}
+
+/// Has the set no items of this tag in this syntax?
+fn has_no_items(alloc: Global, syntax: Syntax, line: &str, tag: Tag) -> Result<bool, Fail> {
+    let (spelling, bytes) = spelled(alloc, line)?;
+    let set = set_of(alloc, spelling, &bytes)?;
+    Ok(set.item_starts(alloc, syntax, tag)?.is_none())
+}
+
+/// Bytes hold no items, an absent element holds none, and nothing starts in a spelling that is none.
+#[test]
+fn where_no_items_start(rt: HostRuntime) -> Result<(), Fail> {
+    let one = "explicit 10002000 4c4f 0200 5031";
+    let empty = "explicit 08004011 5351 0000 00000000";
+    assert!(rt; has_no_items(rt.alloc(), Syntax::Explicit, one, PATIENT_ID)?);
+    assert!(rt; has_no_items(rt.alloc(), Syntax::Explicit, empty, PATIENT_ID)?);
+    assert!(rt; has_no_items(rt.alloc(), Syntax::Implicit, empty, IMAGES)?);
+    Ok(())
+}
+
+/// The value representation and the bytes of an element.
+fn told(alloc: Global, element: Option<&Element<'_>>) -> Result<String, Fail> {
+    let Some(element) = element else {
+        return Ok(String::from_str(alloc, "none")?);
+    };
+    let (Some(vr), Value::Bytes(bytes)) = (element.vr, &element.value) else {
+        return Err("no bytes in Explicit VR".into());
+    };
+    let value = text_of(alloc, bytes)?;
+    Ok(format!(in alloc; "{vr:?} {value}")?)
+}
+
+fn found(alloc: Global, case: &str) -> Result<String, Fail> {
+    let line = "explicit 08006000 4353 0200 4354 10002000 4c4f 0200 5031";
+    let (syntax, bytes) = spelled(alloc, line)?;
+    let set = set_of(alloc, syntax, &bytes)?;
+    let element = set.find(tag_of(question(case))?);
+    Ok(answered(alloc, case, &told(alloc, element)?)?)
+}
+
+#[test]
+fn elements_are_found_by_their_tags(rt: HostRuntime) -> Result<(), Fail> {
+    for case in FOUND.split('\n') {
+        assert_eq!(rt; found(rt.alloc(), case)?.as_str(), case);
+    }
+    Ok(())
+}

@@ -1,0 +1,159 @@
+//! Data sets, headers and pieces sent to a writer.
+
+use crate::spellings::{PATIENT_ID, nested, set_of, spelled};
+use dd_elem::{Sink, Vr};
+use dd_set::{DataSet, Element, Syntax, Value, WriteFault, send, send_header, write_set};
+use dd_vectors::{answered, bytes_of, question, tag_of};
+use std::alloc::Global;
+use std::test::Fail;
+
+/// Data sets, and what comes of sending them: their size, and their bytes again.
+const SENT: &str = "\
+explicit 10002000 4c4f 0200 5031 > 10, its bytes
+explicit ' > 0, its bytes
+explicit 08004011 5351 0000 12000000 feff00e0 0a000000 10002000 4c4f 0200 5031 > 30, its bytes
+explicit 08004011 5351 0000 ffffffff feff00e0 ffffffff 10002000 4c4f 0200 5031 \
+feff0de0 00000000 feffdde0 00000000 > 46, its bytes
+explicit 09000110 554e 0000 ffffffff feff00e0 ffffffff 10002000 02000000 5031 \
+feff0de0 00000000 feffdde0 00000000 > 46, its bytes
+implicit 08004011 ffffffff feff00e0 0a000000 10002000 02000000 5031 feffdde0 00000000 > \
+34, its bytes";
+
+/// After how many bytes a writer fails that gets 32 nested sequences, of 1,152 bytes.
+const FAILING: &str = "\
+0 > 12 Write 0, its bytes
+400 > 12 Write 400, its bytes
+1151 > 12 Write 1151, its bytes
+1152 > 1152, its bytes";
+
+/// A header: its tag, its value representation, its length and how many bytes went before. A short one
+/// has room for a length up to 65,535.
+const HEADERS: &str = "\
+0004,1220 SQ 556 308 > 320, 04002012535100002c020000
+0008,0060 CS 65535 0 > 8, 080060004353ffff
+0008,0060 CS 65536 0 > 13 NotWritable, ";
+
+/// After how many bytes a writer fails that gets a piece of 10 bytes behind 100 others.
+const PIECES: &str = "\
+4 > 12 Write 104, 10002000
+10 > 110, 100020004c4f02005031";
+
+/// How many bytes went, or the words of the fault.
+fn told(alloc: Global, answer: Result<u64, WriteFault>) -> Result<String, Fail> {
+    match answer {
+        Ok(sent) => Ok(format!(in alloc; "{sent}")?),
+        Err(fault) => Ok(format!(in alloc; "{fault}")?),
+    }
+}
+
+/// What comes of sending the set that these bytes spell to this writer: how many bytes went or the words
+/// of the fault, and whether the writer holds the front of these bytes.
+fn sent_again(
+    alloc: Global,
+    syntax: Syntax,
+    bytes: &[u8],
+    mut sink: Sink,
+) -> Result<String, Fail> {
+    let set = set_of(alloc, syntax, bytes)?;
+    sink.reserve(bytes.len())?;
+    let answer = told(alloc, write_set(&set, syntax, &mut sink))?;
+    let whose = if bytes.starts_with(sink.bytes()) {
+        "its bytes"
+    } else {
+        "others"
+    };
+    Ok(format!(in alloc; "{answer}, {whose}")?)
+}
+
+fn sent(alloc: Global, case: &str) -> Result<String, Fail> {
+    let (syntax, bytes) = spelled(alloc, question(case))?;
+    let sink = Sink::new(alloc, None);
+    Ok(answered(alloc, case, &sent_again(alloc, syntax, &bytes, sink)?)?)
+}
+
+#[test]
+fn sets_give_their_bytes_back(rt: HostRuntime) -> Result<(), Fail> {
+    for case in SENT.split('\n') {
+        assert_eq!(rt; sent(rt.alloc(), case)?.as_str(), case);
+    }
+    Ok(())
+}
+
+fn cut(alloc: Global, case: &str) -> Result<String, Fail> {
+    let bytes = nested(alloc, 32)?;
+    let sink = Sink::new(alloc, Some(question(case).parse()?));
+    Ok(answered(alloc, case, &sent_again(alloc, Syntax::Explicit, &bytes, sink)?)?)
+}
+
+#[test]
+fn a_writer_that_fails_keeps_what_it_took(rt: HostRuntime) -> Result<(), Fail> {
+    for case in FAILING.split('\n') {
+        assert_eq!(rt; cut(rt.alloc(), case)?.as_str(), case);
+    }
+    Ok(())
+}
+
+/// The data set of a Patient ID with this value.
+fn only(alloc: Global, value: &[u8]) -> Result<DataSet<'_>, Fail> {
+    let mut elements = Vec::new(alloc);
+    elements.push(Element {
+        tag: PATIENT_ID,
+        vr: Some(Vr::LO),
+        value: Value::Bytes(value),
+    })?;
+    Ok(DataSet { elements })
+}
+
+#[test]
+fn a_set_of_odd_bytes_is_not_written(rt: HostRuntime) -> Result<(), Fail> {
+    let set = only(rt.alloc(), b"P")?;
+    let mut sink = Sink::new(rt.alloc(), None);
+    let answer = write_set(&set, Syntax::Explicit, &mut sink);
+    assert_eq!(rt; answer, Err(WriteFault::NotWritable));
+    assert!(rt; sink.bytes().is_empty() && set.size(Syntax::Explicit).is_none());
+    Ok(())
+}
+
+/// What comes of sending this header.
+fn header_sent(alloc: Global, header: &str, sink: &mut Sink) -> Result<String, Fail> {
+    let mut words = header.split(' ');
+    let tag = tag_of(words.next().ok_or("no tag")?)?;
+    let letters = words.next().ok_or("no letters")?.as_bytes().try_into()?;
+    let vr = Vr::from_letters(letters).ok_or("letters that name nothing")?;
+    let length = words.next().ok_or("no length")?.parse()?;
+    let before = words.next().ok_or("no count")?.parse()?;
+    told(alloc, send_header(tag, vr, length, sink, before))
+}
+
+fn header(alloc: Global, case: &str) -> Result<String, Fail> {
+    let mut sink = Sink::new(alloc, None);
+    sink.reserve(12)?;
+    let answer = header_sent(alloc, question(case), &mut sink)?;
+    let held = hex::encode(alloc, sink.bytes())?;
+    Ok(answered(alloc, case, &format_args!("{answer}, {held}"))?)
+}
+
+#[test]
+fn headers_are_sent_where_the_length_has_room(rt: HostRuntime) -> Result<(), Fail> {
+    for case in HEADERS.split('\n') {
+        assert_eq!(rt; header(rt.alloc(), case)?.as_str(), case);
+    }
+    Ok(())
+}
+
+fn piece(alloc: Global, case: &str) -> Result<String, Fail> {
+    let bytes = bytes_of(alloc, "10002000 4c4f 0200 5031")?;
+    let mut sink = Sink::new(alloc, Some(question(case).parse()?));
+    sink.reserve(10)?;
+    let answer = told(alloc, send(&bytes, &mut sink, 100))?;
+    let held = hex::encode(alloc, sink.bytes())?;
+    Ok(answered(alloc, case, &format_args!("{answer}, {held}"))?)
+}
+
+#[test]
+fn a_piece_is_sent_behind_others(rt: HostRuntime) -> Result<(), Fail> {
+    for case in PIECES.split('\n') {
+        assert_eq!(rt; piece(rt.alloc(), case)?.as_str(), case);
+    }
+    Ok(())
+}

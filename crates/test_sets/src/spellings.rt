@@ -1,0 +1,51 @@
+//! Data sets that tests are made of.
+
+use dd_elem::Tag;
+use dd_set::{DataSet, SetFault, Syntax, parse};
+use dd_vectors::{bytes_of, push_bytes};
+use std::alloc::Global;
+use std::test::Fail;
+
+/// Patient ID.
+pub(crate) const PATIENT_ID: Tag = Tag {
+    group: 0x0010,
+    element: 0x0020,
+};
+
+/// Referenced Image Sequence.
+pub(crate) const IMAGES: Tag = Tag {
+    group: 0x0008,
+    element: 0x1140,
+};
+
+/// The syntax of a line `explicit WORDS` or `implicit WORDS`, and the bytes that its words name.
+pub(crate) fn spelled(alloc: Global, line: &str) -> Result<(Syntax, Vec<u8>), Fail> {
+    let (name, words) = line.split_once(' ').ok_or("no syntax")?;
+    let syntax = match name {
+        "explicit" => Syntax::Explicit,
+        "implicit" => Syntax::Implicit,
+        _ => return Err("no syntax".into()),
+    };
+    Ok((syntax, bytes_of(alloc, words)?))
+}
+
+/// The data set that the bytes spell.
+pub(crate) fn set_of(
+    alloc: Global,
+    syntax: Syntax,
+    bytes: &[u8],
+) -> Result<DataSet<'_>, SetFault> {
+    parse(alloc, syntax, bytes)
+}
+
+/// Sequences of undefined length, each with one item of undefined length, nested so deep.
+pub(crate) fn nested(alloc: Global, levels: usize) -> Result<Vec<u8>, Fail> {
+    let mut bytes = Vec::new(alloc);
+    for _ in 0..levels {
+        push_bytes(alloc, &mut bytes, "08004011 5351 0000 ffffffff feff00e0 ffffffff")?;
+    }
+    for _ in 0..levels {
+        push_bytes(alloc, &mut bytes, "feff0de0 00000000 feffdde0 00000000")?;
+    }
+    Ok(bytes)
+}
