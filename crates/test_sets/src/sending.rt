@@ -7,36 +7,37 @@ use dd_vectors::{answered, bytes_of, question, tag_of};
 use std::alloc::Global;
 use std::test::Fail;
 
-/// Data sets, and what comes of sending them: their size, and their bytes again.
+/// Data sets, and what comes of sending them: how many bytes went, and of how many of its bytes the writer
+/// has all.
 const SENT: &str = "\
-explicit 10002000 4c4f 0200 5031 > 10, its bytes
-explicit ' > 0, its bytes
-explicit 08004011 5351 0000 12000000 feff00e0 0a000000 10002000 4c4f 0200 5031 > 30, its bytes
+explicit 10002000 4c4f 0200 5031 > 10 [10]
+explicit ' > 0 [0]
+explicit 08004011 5351 0000 12000000 feff00e0 0a000000 10002000 4c4f 0200 5031 > 30 [30]
 explicit 08004011 5351 0000 ffffffff feff00e0 ffffffff 10002000 4c4f 0200 5031 \
-feff0de0 00000000 feffdde0 00000000 > 46, its bytes
+feff0de0 00000000 feffdde0 00000000 > 46 [46]
 explicit 09000110 554e 0000 ffffffff feff00e0 ffffffff 10002000 02000000 5031 \
-feff0de0 00000000 feffdde0 00000000 > 46, its bytes
+feff0de0 00000000 feffdde0 00000000 > 46 [46]
 implicit 08004011 ffffffff feff00e0 0a000000 10002000 02000000 5031 feffdde0 00000000 > \
-34, its bytes";
+34 [34]";
 
 /// After how many bytes a writer fails that gets 32 nested sequences, of 1,152 bytes.
 const FAILING: &str = "\
-0 > 12 Write 0, its bytes
-400 > 12 Write 400, its bytes
-1151 > 12 Write 1151, its bytes
-1152 > 1152, its bytes";
+0 > 12 Write 0 [0]
+400 > 12 Write 400 [400]
+1151 > 12 Write 1151 [1151]
+1152 > 1152 [1152]";
 
 /// A header: its tag, its value representation, its length and how many bytes went before. A short one
 /// has room for a length up to 65,535.
 const HEADERS: &str = "\
-0004,1220 SQ 556 308 > 320, 04002012535100002c020000
-0008,0060 CS 65535 0 > 8, 080060004353ffff
-0008,0060 CS 65536 0 > 13 NotWritable, ";
+0004,1220 SQ 556 308 > 320 [04002012535100002c020000]
+0008,0060 CS 65535 0 > 8 [080060004353ffff]
+0008,0060 CS 65536 0 > 13 NotWritable []";
 
 /// After how many bytes a writer fails that gets a piece of 10 bytes behind 100 others.
 const PIECES: &str = "\
-4 > 12 Write 104, 10002000
-10 > 110, 100020004c4f02005031";
+4 > 12 Write 104 [10002000]
+10 > 110 [100020004c4f02005031]";
 
 /// How many bytes went, or the words of the fault.
 fn told(alloc: Global, answer: Result<u64, WriteFault>) -> Result<String, Fail> {
@@ -46,23 +47,29 @@ fn told(alloc: Global, answer: Result<u64, WriteFault>) -> Result<String, Fail> 
     }
 }
 
-/// What comes of sending the set that these bytes spell to this writer: how many bytes went or the words
-/// of the fault, and whether the writer holds the front of these bytes.
-fn sent_again(
+/// The case with this answer, and what the writer holds.
+fn answered_by(
     alloc: Global,
-    syntax: Syntax,
-    bytes: &[u8],
-    mut sink: Sink,
+    case: &str,
+    answer: Result<u64, WriteFault>,
+    sink: &Sink,
 ) -> Result<String, Fail> {
+    let answer = told(alloc, answer)?;
+    let held = hex::encode(alloc, sink.bytes())?;
+    Ok(answered(alloc, case, &format_args!("{answer} [{held}]"))?)
+}
+
+/// What comes of sending the set that these bytes spell to this writer: how many bytes went or the words
+/// of the fault, and how many bytes the writer holds.
+fn sent_again(alloc: Global, syntax: Syntax, bytes: &[u8], mut sink: Sink) -> Result<String, Fail> {
     let set = set_of(alloc, syntax, bytes)?;
     sink.reserve(bytes.len())?;
     let answer = told(alloc, write_set(&set, syntax, &mut sink))?;
-    let whose = if bytes.starts_with(sink.bytes()) {
-        "its bytes"
-    } else {
-        "others"
-    };
-    Ok(format!(in alloc; "{answer}, {whose}")?)
+    let held = sink.bytes().len();
+    if !bytes.starts_with(sink.bytes()) {
+        return Err("it holds other bytes".into());
+    }
+    Ok(format!(in alloc; "{answer} [{held}]")?)
 }
 
 fn sent(alloc: Global, case: &str) -> Result<String, Fail> {
@@ -82,7 +89,11 @@ fn sets_give_their_bytes_back(rt: HostRuntime) -> Result<(), Fail> {
 fn cut(alloc: Global, case: &str) -> Result<String, Fail> {
     let bytes = nested(alloc, 32)?;
     let sink = Sink::new(alloc, Some(question(case).parse()?));
-    Ok(answered(alloc, case, &sent_again(alloc, Syntax::Explicit, &bytes, sink)?)?)
+    Ok(answered(
+        alloc,
+        case,
+        &sent_again(alloc, Syntax::Explicit, &bytes, sink)?,
+    )?)
 }
 
 #[test]
@@ -115,22 +126,24 @@ fn a_set_of_odd_bytes_is_not_written(rt: HostRuntime) -> Result<(), Fail> {
 }
 
 /// What comes of sending this header.
-fn header_sent(alloc: Global, header: &str, sink: &mut Sink) -> Result<String, Fail> {
+fn header_sent(header: &str, sink: &mut Sink) -> Result<Result<u64, WriteFault>, Fail> {
     let mut words = header.split(' ');
     let tag = tag_of(words.next().ok_or("no tag")?)?;
-    let letters = words.next().ok_or("no letters")?.as_bytes().try_into()?;
-    let vr = Vr::from_letters(letters).ok_or("letters that name nothing")?;
+    let letters = words.next().ok_or("no letters")?;
     let length = words.next().ok_or("no length")?.parse()?;
-    let before = words.next().ok_or("no count")?.parse()?;
-    told(alloc, send_header(tag, vr, length, sink, before))
+    let before = u64::from(words.next().ok_or("no count")?.parse::<u32>()?);
+    match letters {
+        "SQ" => Ok(send_header(tag, Vr::SQ, length, sink, before)),
+        "CS" => Ok(send_header(tag, Vr::CS, length, sink, before)),
+        _ => Err("other letters".into()),
+    }
 }
 
 fn header(alloc: Global, case: &str) -> Result<String, Fail> {
     let mut sink = Sink::new(alloc, None);
     sink.reserve(12)?;
-    let answer = header_sent(alloc, question(case), &mut sink)?;
-    let held = hex::encode(alloc, sink.bytes())?;
-    Ok(answered(alloc, case, &format_args!("{answer}, {held}"))?)
+    let answer = header_sent(question(case), &mut sink)?;
+    answered_by(alloc, case, answer, &sink)
 }
 
 #[test]
@@ -145,9 +158,8 @@ fn piece(alloc: Global, case: &str) -> Result<String, Fail> {
     let bytes = bytes_of(alloc, "10002000 4c4f 0200 5031")?;
     let mut sink = Sink::new(alloc, Some(question(case).parse()?));
     sink.reserve(10)?;
-    let answer = told(alloc, send(&bytes, &mut sink, 100))?;
-    let held = hex::encode(alloc, sink.bytes())?;
-    Ok(answered(alloc, case, &format_args!("{answer}, {held}"))?)
+    let answer = send(&bytes, &mut sink, 100);
+    answered_by(alloc, case, answer, &sink)
 }
 
 #[test]

@@ -30,11 +30,7 @@ pub(crate) fn spelled(alloc: Global, line: &str) -> Result<(Syntax, Vec<u8>), Fa
 }
 
 /// The data set that the bytes spell.
-pub(crate) fn set_of(
-    alloc: Global,
-    syntax: Syntax,
-    bytes: &[u8],
-) -> Result<DataSet<'_>, SetFault> {
+pub(crate) fn set_of(alloc: Global, syntax: Syntax, bytes: &[u8]) -> Result<DataSet<'_>, SetFault> {
     parse(alloc, syntax, bytes)
 }
 
@@ -42,7 +38,11 @@ pub(crate) fn set_of(
 pub(crate) fn nested(alloc: Global, levels: usize) -> Result<Vec<u8>, Fail> {
     let mut bytes = Vec::new(alloc);
     for _ in 0..levels {
-        push_bytes(alloc, &mut bytes, "08004011 5351 0000 ffffffff feff00e0 ffffffff")?;
+        push_bytes(
+            alloc,
+            &mut bytes,
+            "08004011 5351 0000 ffffffff feff00e0 ffffffff",
+        )?;
     }
     for _ in 0..levels {
         push_bytes(alloc, &mut bytes, "feff0de0 00000000 feffdde0 00000000")?;

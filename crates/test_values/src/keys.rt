@@ -60,7 +60,10 @@ fn keys_have_1024_bytes(rt: HostRuntime) -> Result<(), Fail> {
 #[test]
 fn want_of_memory_in_words(rt: HostRuntime) -> Result<(), Fail> {
     let (key, other) = (KeyRefused::Memory, Memory);
-    assert_eq!(rt; format!(in rt.alloc(); "{key}, {other}")?.as_str(), "91 Memory, 91 Memory");
+    assert_eq!(rt;
+        format!(in rt.alloc(); "{key}, {other}")?.as_str(),
+        "91 Memory, 91 Memory"
+    );
     Ok(())
 }
 

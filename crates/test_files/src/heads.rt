@@ -1,0 +1,67 @@
+//! Heads of files, which are what stands before their data sets.
+
+use crate::vectors::{file_named, meta_of};
+use dd_elem::Sink;
+use dd_part10::{Meta, head_size, write_head};
+use dd_vectors::{answered, question};
+use std::alloc::Global;
+use std::test::Fail;
+
+/// Files: the size of their heads, and what comes of sending these.
+const HEADS: &str = "\
+v2 > 266, 266 [266]
+v1 > 276, 276 [276]
+v1 implicit > 274, 274 [274]";
+
+/// After how many bytes a writer fails that gets the head of V2.
+const FAILING: &str = "\
+0 > 266, 12 Write 0 [0]
+100 > 266, 12 Write 100 [100]
+200 > 266, 12 Write 200 [200]
+265 > 266, 12 Write 265 [265]
+266 > 266, 266 [266]";
+
+/// The size of the head and what comes of sending it: how many bytes went or the words of the fault, and
+/// how many of these bytes the writer holds.
+fn sent(alloc: Global, meta: &Meta, bytes: &[u8], mut sink: Sink) -> Result<String, Fail> {
+    sink.reserve(300)?;
+    let answer = match write_head(meta, &mut sink) {
+        Ok(sent) => format!(in alloc; "{sent}")?,
+        Err(fault) => format!(in alloc; "{fault}")?,
+    };
+    if !bytes.starts_with(sink.bytes()) {
+        return Err("it holds other bytes".into());
+    }
+    let (size, held) = (head_size(meta), sink.bytes().len());
+    Ok(format!(in alloc; "{size}, {answer} [{held}]")?)
+}
+
+fn head(alloc: Global, case: &str) -> Result<String, Fail> {
+    let bytes = file_named(alloc, question(case))?;
+    let meta = meta_of(alloc, &bytes)?;
+    let sink = Sink::new(alloc, None);
+    Ok(answered(alloc, case, &sent(alloc, &meta, &bytes, sink)?)?)
+}
+
+#[test]
+fn heads_of_files(rt: HostRuntime) -> Result<(), Fail> {
+    for case in HEADS.split('\n') {
+        assert_eq!(rt; head(rt.alloc(), case)?.as_str(), case);
+    }
+    Ok(())
+}
+
+fn cut(alloc: Global, case: &str) -> Result<String, Fail> {
+    let bytes = file_named(alloc, "v2")?;
+    let meta = meta_of(alloc, &bytes)?;
+    let sink = Sink::new(alloc, Some(question(case).parse()?));
+    Ok(answered(alloc, case, &sent(alloc, &meta, &bytes, sink)?)?)
+}
+
+#[test]
+fn a_writer_that_fails_within_the_head(rt: HostRuntime) -> Result<(), Fail> {
+    for case in FAILING.split('\n') {
+        assert_eq!(rt; cut(rt.alloc(), case)?.as_str(), case);
+    }
+    Ok(())
+}

@@ -1,0 +1,106 @@
+//! Files read from bytes.
+
+use crate::vectors::file_named;
+use dd_elem::Uid;
+use dd_part10::{DicomFile, Meta, parse_file};
+use dd_set::{Element, Value};
+use dd_vectors::{SOURCE_ROWS, answered, question, tag_of, text_of, v1};
+use std::alloc::Global;
+use std::test::Fail;
+
+/// Files: how many bytes they have and where their data set begins, the class, the instance and the
+/// transfer syntax of group 0002, and how many elements the data set has.
+const FILES: &str = "\
+v1 > 454 276 1.2.840.10008.5.1.4.1.1.2 1.2.3.4.5 1.2.840.10008.1.2.1 12
+v1 implicit > 496 274 1.2.840.10008.5.1.4.1.1.2 1.2.3.4.5 1.2.840.10008.1.2 13
+v2 > 320 266 1.2.840.10008.1.3.10 2.25.0 1.2.840.10008.1.2.1 5";
+
+/// Transfer syntaxes, and how they are read. The last is big endian.
+const SYNTAXES: &str = "\
+1.2.840.10008.1.2.1 > Some(Explicit)
+1.2.840.10008.1.2 > Some(Implicit)
+1.2.840.10008.1.2.2 > None";
+
+fn numbers(alloc: Global, bytes: &[u8]) -> Result<String, Fail> {
+    let file = parse_file(alloc, bytes)?;
+    let (size, place, count) = (bytes.len(), file.set_at, file.set.elements.len());
+    let Meta {
+        class,
+        instance,
+        transfer,
+    } = file.meta;
+    Ok(format!(in alloc; "{size} {place} {class} {instance} {transfer} {count}")?)
+}
+
+fn described(alloc: Global, case: &str) -> Result<String, Fail> {
+    let bytes = file_named(alloc, question(case))?;
+    Ok(answered(alloc, case, &numbers(alloc, &bytes)?)?)
+}
+
+#[test]
+fn files_have_a_head_and_a_set(rt: HostRuntime) -> Result<(), Fail> {
+    for case in FILES.split('\n') {
+        assert_eq!(rt; described(rt.alloc(), case)?.as_str(), case);
+    }
+    Ok(())
+}
+
+/// Is the element that of this row of V1?
+fn is_of_row(alloc: Global, element: &Element<'_>, row: &str) -> Result<bool, Fail> {
+    let mut words = row.split(' ').skip(1);
+    let has_tag = tag_of(words.next().ok_or("no tag")?)? == element.tag;
+    let (Some(vr), Value::Bytes(bytes)) = (element.vr, &element.value) else {
+        return Ok(false);
+    };
+    let has_letters = words.next().ok_or("no letters")?.as_bytes() == vr.letters().as_slice();
+    let has_value = words.next().ok_or("no value")? == text_of(alloc, bytes)?.as_str();
+    Ok(has_tag && has_letters && has_value)
+}
+
+/// Are the elements of the data set those of V1, so far as there are some?
+fn are_of_v1(alloc: Global, file: &DicomFile<'_>) -> Result<bool, Fail> {
+    let [_, front, back] = SOURCE_ROWS;
+    let rows = front.split('\n').chain(back.split('\n'));
+    for (element, row) in file.set.elements.iter().zip(rows) {
+        if !is_of_row(alloc, element, row)? {
+            return Ok(false);
+        }
+    }
+    Ok(true)
+}
+
+#[test]
+fn v1_has_its_elements(rt: HostRuntime) -> Result<(), Fail> {
+    let bytes = v1(rt.alloc())?;
+    let file = parse_file(rt.alloc(), &bytes)?;
+    assert!(rt; are_of_v1(rt.alloc(), &file)?);
+    Ok(())
+}
+
+/// V1 without its last 178 bytes has a data set, which is empty.
+#[test]
+fn a_file_without_elements(rt: HostRuntime) -> Result<(), Fail> {
+    let bytes = v1(rt.alloc())?;
+    let front = bytes.get(..276).ok_or("fewer bytes")?;
+    let file = parse_file(rt.alloc(), front)?;
+    assert!(rt; file.set_at == 276 && file.set.elements.is_empty());
+    Ok(())
+}
+
+fn syntax(alloc: Global, case: &str) -> Result<String, Fail> {
+    let meta = Meta {
+        class: Uid::new(b"1.2.840.10008.5.1.4.1.1.2")?,
+        instance: Uid::new(b"1.2.3.4.5")?,
+        transfer: Uid::new(question(case).as_bytes())?,
+    };
+    let found = meta.syntax();
+    Ok(answered(alloc, case, &format_args!("{found:?}"))?)
+}
+
+#[test]
+fn transfer_syntaxes_that_are_read(rt: HostRuntime) -> Result<(), Fail> {
+    for case in SYNTAXES.split('\n') {
+        assert_eq!(rt; syntax(rt.alloc(), case)?.as_str(), case);
+    }
+    Ok(())
+}

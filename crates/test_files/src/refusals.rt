@@ -1,0 +1,114 @@
+//! Bytes that are no file, each with the first check that they fail.
+
+use dd_part10::{FileFault, parse_file};
+use dd_set::SetFault;
+use dd_vectors::{answered, bytes_of, question, v1, v1_with};
+use std::alloc::Global;
+use std::test::Fail;
+
+/// V1 cut to so many bytes: within the preamble and the prefix, within the group length, within group
+/// 0002, behind it and within the last value.
+const CUT: &str = "\
+0 > 21 NotPart10
+131 > 21 NotPart10
+132 > 22 GroupLength
+143 > 22 GroupLength
+144 > 22 GroupLength
+275 > 22 GroupLength
+276 > taken
+453 > 27 Set 1 Truncated
+454 > taken";
+
+/// V1 with other bytes from a place on: in the preamble, in the prefix, in the header of the group length
+/// and in that of another element of group 0002.
+const CHANGED: &str = "\
+0 'any_preamble > taken
+128 'd > 21 NotPart10
+136 'OB > 22 GroupLength
+148 'ZZ > 26 Meta 3 BadVr";
+
+/// V1 with other elements: a group length that stops before the last element of group 0002, one that takes
+/// in the first of the data set and one above 65,536; each UID that has to be there absent; UIDs that are
+/// none, and one with items; a big endian file.
+const OTHER: &str = "\
+0002,0000 UL 5e000000 > 22 GroupLength
+0002,0000 UL a6000000 > 22 GroupLength
+0002,0000 UL 02000100 > 22 GroupLength
+0002,0000 UL 62000000; 0002,0002 absent > 23 MetaMissing (0002,0002)
+0002,0000 UL 72000000; 0002,0003 absent > 23 MetaMissing (0002,0003)
+0002,0000 UL 68000000; 0002,0010 absent > 23 MetaMissing (0002,0010)
+0002,0000 UL 76000000; 0002,0001 absent > taken
+0002,0003 UI '1.2.3.4.a~ > 24 MetaUid (0002,0003)
+0002,0003 UI '__________ > 24 MetaUid (0002,0003)
+0002,0000 UL 7e000000; 0002,0003 SQ > 24 MetaUid (0002,0003)
+0002,0010 UI '1.2.840.10008.1.2.2~ > 25 OtherSyntax 1.2.840.10008.1.2.2";
+
+/// The words of the fault by which the bytes are refused, or `taken`.
+fn answer(alloc: Global, bytes: &[u8]) -> Result<String, Fail> {
+    let fault = parse_file(alloc, bytes).err();
+    match fault {
+        None => Ok(String::from_str(alloc, "taken")?),
+        Some(fault) => Ok(format!(in alloc; "{fault}")?),
+    }
+}
+
+fn cut(alloc: Global, case: &str) -> Result<String, Fail> {
+    let bytes = v1(alloc)?;
+    let front = bytes
+        .get(..question(case).parse::<usize>()?)
+        .ok_or("fewer bytes")?;
+    Ok(answered(alloc, case, &answer(alloc, front)?)?)
+}
+
+#[test]
+fn a_file_cut_short(rt: HostRuntime) -> Result<(), Fail> {
+    for case in CUT.split('\n') {
+        assert_eq!(rt; cut(rt.alloc(), case)?.as_str(), case);
+    }
+    Ok(())
+}
+
+/// V1 with these bytes from this place on.
+fn overwritten(alloc: Global, place: usize, change: &[u8]) -> Result<Vec<u8>, Fail> {
+    let mut bytes = v1(alloc)?;
+    for (byte, new) in bytes.iter_mut().skip(place).zip(change) {
+        *byte = *new;
+    }
+    Ok(bytes)
+}
+
+fn changed(alloc: Global, case: &str) -> Result<String, Fail> {
+    let (place, change) = question(case).split_once(' ').ok_or("no change")?;
+    let bytes = overwritten(alloc, place.parse()?, &bytes_of(alloc, change)?)?;
+    Ok(answered(alloc, case, &answer(alloc, &bytes)?)?)
+}
+
+#[test]
+fn a_file_with_changed_bytes(rt: HostRuntime) -> Result<(), Fail> {
+    for case in CHANGED.split('\n') {
+        assert_eq!(rt; changed(rt.alloc(), case)?.as_str(), case);
+    }
+    Ok(())
+}
+
+fn other(alloc: Global, case: &str) -> Result<String, Fail> {
+    let bytes = v1_with(alloc, question(case))?;
+    Ok(answered(alloc, case, &answer(alloc, &bytes)?)?)
+}
+
+#[test]
+fn a_file_with_other_elements(rt: HostRuntime) -> Result<(), Fail> {
+    for case in OTHER.split('\n') {
+        assert_eq!(rt; other(rt.alloc(), case)?.as_str(), case);
+    }
+    Ok(())
+}
+
+#[test]
+fn want_of_memory_in_words(rt: HostRuntime) -> Result<(), Fail> {
+    let meta = FileFault::Meta(SetFault::Memory);
+    let set = FileFault::Set(SetFault::Memory);
+    let text = format!(in rt.alloc(); "{meta}, {set}")?;
+    assert_eq!(rt; text.as_str(), "26 Meta 91 Memory, 27 Set 91 Memory");
+    Ok(())
+}

@@ -1,0 +1,54 @@
+//! The files that tests read, by name.
+
+use dd_part10::{Meta, parse_file};
+use dd_vectors::{SOURCE_ROWS, tag_of, v1, v1_implicit, v2};
+use std::alloc::Global;
+use std::test::Fail;
+
+/// The bytes of the file with this name.
+pub(crate) fn file_named(alloc: Global, name: &str) -> Result<Vec<u8>, Fail> {
+    match name {
+        "v1" => v1(alloc),
+        "v1 implicit" => v1_implicit(alloc),
+        "v2" => v2(alloc),
+        _ => Err("no file of this name".into()),
+    }
+}
+
+/// The meta information of the file with these bytes.
+pub(crate) fn meta_of(alloc: Global, bytes: &[u8]) -> Result<Meta, Fail> {
+    let file = parse_file(alloc, bytes)?;
+    Ok(file.meta)
+}
+
+/// Does the element of this row stand in its place?
+fn is_in_place(bytes: &[u8], row: &str) -> Result<bool, Fail> {
+    let mut words = row.split(' ');
+    let place: usize = words.next().ok_or("no place")?.parse()?;
+    let tag = tag_of(words.next().ok_or("no tag")?)?;
+    let [low, high] = tag.group.to_le_bytes();
+    let [lower, upper] = tag.element.to_le_bytes();
+    let rest = bytes.get(place..).ok_or("fewer bytes")?;
+    Ok(rest.starts_with(&[low, high, lower, upper]))
+}
+
+/// Do all these rows stand in their places?
+fn are_in_place(bytes: &[u8], rows: &str) -> Result<bool, Fail> {
+    for row in rows.split('\n') {
+        if !is_in_place(bytes, row)? {
+            return Ok(false);
+        }
+    }
+    Ok(true)
+}
+
+/// The table of V1 has the places that its elements come to.
+#[test]
+fn v1_has_454_bytes(rt: HostRuntime) -> Result<(), Fail> {
+    let bytes = v1(rt.alloc())?;
+    assert_eq!(rt; bytes.len(), 454);
+    for rows in SOURCE_ROWS {
+        assert!(rt; are_in_place(&bytes, rows)?);
+    }
+    Ok(())
+}
