@@ -1,0 +1,12 @@
+//! Tests of versions: read from the bytes of files, made of parts, and their order. The keys are those of
+//! the records of a directory (PS3.3 section F.5).
+#![tactic(auto)]
+
+#[cfg(test)]
+mod classes;
+#[cfg(test)]
+mod making;
+#[cfg(test)]
+mod reading;
+#[cfg(test)]
+mod refusals;

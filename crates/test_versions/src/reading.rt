@@ -1,0 +1,114 @@
+//! Versions read from the bytes of their files.
+
+use dd_keys::{Parts, version_of};
+use dd_vectors::{answered, question, text_of, v1, v1_implicit, v1_with};
+use std::alloc::Global;
+use std::test::Fail;
+
+/// V1, V1 in Implicit VR, where the Study Instance UID within the sequence is none of the keys, and the
+/// SHA-256 of each.
+const DIGESTS: &str = "\
+v1 > 900e75e1c153f87b21e09f9db68aef627f2dd320eb3afb1f2574594e6c862a92
+v1 implicit > e10bec66fe1be47ab72d26a9e484a07318910813ff740d20298322b503bed3d2";
+
+/// These two, V1 with some keys empty or absent, and V1 with all keys absent that may be. What follows are
+/// the keys of the patient, the study and the series, the instance number, the class, the transfer syntax
+/// and the instance, in the order of the fields.
+const KEYS: &str = "\
+v1 > 'P1 'DOE^JOHN ' '1.2.3 '20240115 '101500 ' ' '1 ' '1.2.3.4 'CT '1 '1 \
+'1.2.840.10008.5.1.4.1.1.2 '1.2.840.10008.1.2.1 '1.2.3.4.5
+v1 implicit > 'P1 'DOE^JOHN ' '1.2.3 '20240115 '101500 ' ' '1 ' '1.2.3.4 'CT '1 '1 \
+'1.2.840.10008.5.1.4.1.1.2 '1.2.840.10008.1.2 '1.2.3.4.5
+0010,0020 LO; 0020,0010 absent; 0020,0013 IS '__ > \
+'NOID 'DOE^JOHN ' '1.2.3 '20240115 '101500 ' ' '0 ' '1.2.3.4 'CT '1 '0 \
+'1.2.840.10008.5.1.4.1.1.2 '1.2.840.10008.1.2.1 '1.2.3.4.5
+0008,0020 absent; 0008,0030 absent; 0008,0060 absent; 0010,0010 absent; 0010,0020 absent; \
+0020,0010 absent; 0020,0011 absent; 0020,0013 absent > \
+'NOID ' ' '1.2.3 '19000101 '000000 ' ' '0 ' '1.2.3.4 'OT '0 '0 \
+'1.2.840.10008.5.1.4.1.1.2 '1.2.840.10008.1.2.1 '1.2.3.4.5";
+
+/// The file with this name, or V1 with these changes.
+fn file_of(alloc: Global, name: &str) -> Result<Vec<u8>, Fail> {
+    match name {
+        "v1" => v1(alloc),
+        "v1 implicit" => v1_implicit(alloc),
+        changes => v1_with(alloc, changes),
+    }
+}
+
+fn digest(alloc: Global, case: &str) -> Result<String, Fail> {
+    let bytes = file_of(alloc, question(case))?;
+    let version = version_of(alloc, &bytes)?;
+    let digits = hex::encode(alloc, version.parts().digest)?;
+    Ok(answered(alloc, case, &digits)?)
+}
+
+#[test]
+fn the_digest_is_that_of_the_file(rt: HostRuntime) -> Result<(), Fail> {
+    for case in DIGESTS.split('\n') {
+        assert_eq!(rt; digest(rt.alloc(), case)?.as_str(), case);
+    }
+    Ok(())
+}
+
+/// The keys of the patient and the study.
+fn first_keys(parts: &Parts) -> [&[u8]; 10] {
+    let (patient, study) = (&parts.patient, &parts.study);
+    [
+        patient.id.as_bytes(),
+        patient.name.as_bytes(),
+        patient.charset.as_bytes(),
+        study.uid.as_bytes(),
+        study.date.as_bytes(),
+        study.time.as_bytes(),
+        study.accession.as_bytes(),
+        study.description.as_bytes(),
+        study.id.as_bytes(),
+        study.charset.as_bytes(),
+    ]
+}
+
+/// All others.
+fn last_keys(parts: &Parts) -> [&[u8]; 7] {
+    [
+        parts.series.uid.as_bytes(),
+        parts.series.modality.as_bytes(),
+        parts.series.number.as_bytes(),
+        parts.number.as_bytes(),
+        parts.class.as_bytes(),
+        parts.transfer.as_bytes(),
+        parts.instance.as_bytes(),
+    ]
+}
+
+/// Puts a word for each key behind the text.
+fn push_keys(alloc: Global, text: &mut String, keys: &[&[u8]]) -> Result<(), Fail> {
+    for key in keys {
+        if !text.is_empty() {
+            text.push(' ')?;
+        }
+        text.push_str(text_of(alloc, key)?.as_str())?;
+    }
+    Ok(())
+}
+
+fn text_of_keys(alloc: Global, parts: &Parts) -> Result<String, Fail> {
+    let mut text = String::new(alloc);
+    push_keys(alloc, &mut text, &first_keys(parts))?;
+    push_keys(alloc, &mut text, &last_keys(parts))?;
+    Ok(text)
+}
+
+fn keys(alloc: Global, case: &str) -> Result<String, Fail> {
+    let bytes = file_of(alloc, question(case))?;
+    let version = version_of(alloc, &bytes)?;
+    Ok(answered(alloc, case, &text_of_keys(alloc, version.parts())?)?)
+}
+
+#[test]
+fn the_keys_are_those_of_the_data_set(rt: HostRuntime) -> Result<(), Fail> {
+    for case in KEYS.split('\n') {
+        assert_eq!(rt; keys(rt.alloc(), case)?.as_str(), case);
+    }
+    Ok(())
+}

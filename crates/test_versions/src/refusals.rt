@@ -1,0 +1,123 @@
+//! Bytes that are no file of a version, each with the first check that they fail.
+
+use dd_keys::{KeyFault, version_of};
+use dd_part10::FileFault;
+use dd_set::SetFault;
+use dd_vectors::{answered, question, v1, v1_with};
+use std::alloc::Global;
+use std::test::Fail;
+
+/// V1 cut to so many bytes: within the preamble, within group 0002, and behind it before and within the
+/// elements of the data set.
+const CUT: &str = "\
+131 > 31 File 21 NotPart10
+275 > 31 File 22 GroupLength
+276 > 33 MissingKey (0008,0016)
+310 > 33 MissingKey (0008,0018)
+328 > 33 MissingKey (0020,000D)
+408 > 33 MissingKey (0020,000E)
+424 > taken
+453 > 31 File 27 Set 1 Truncated
+454 > taken";
+
+/// V1 with other elements: keys that are no UID, empty, sequences or absent, and UIDs that are not those of
+/// group 0002; another value representation, which is free, and an absent name; the class of a report in
+/// group 0002, alone and with a key that is refused too; three keys that are refused.
+const OTHER: &str = "\
+0020,000D UI '1..2.3 > 34 BadKeyUid (0020,000D)
+0020,000D UI '~~ > 33 MissingKey (0020,000D)
+0010,0020 SQ > 36 KeyIsSequence (0010,0020)
+0008,0016 SQ > 36 KeyIsSequence (0008,0016)
+0008,0018 UI '1.2.3.4.6~ > 37 MetaMismatch (0008,0018)
+0008,0016 UI '1.2.840.10008.5.1.4.1.1.4~ > 37 MetaMismatch (0008,0016)
+0008,0060 UN 'CT > taken
+0008,0016 absent > 33 MissingKey (0008,0016)
+0008,0018 absent > 33 MissingKey (0008,0018)
+0020,000D absent > 33 MissingKey (0020,000D)
+0020,000E absent > 33 MissingKey (0020,000E)
+0010,0010 absent > taken
+0002,0000 UL 88000000; 0002,0002 UI '1.2.840.10008.5.1.4.1.1.88.11~ > \
+32 NotImage 1.2.840.10008.5.1.4.1.1.88.11
+0002,0000 UL 88000000; 0002,0002 UI '1.2.840.10008.5.1.4.1.1.88.11~; 0010,0020 SQ > \
+32 NotImage 1.2.840.10008.5.1.4.1.1.88.11
+0010,0020 SQ; 0020,000D UI '1..2.3; 0020,000E absent > 36 KeyIsSequence (0010,0020)";
+
+/// The words of the fault by which no version is read from the bytes, or `taken`.
+fn answer(alloc: Global, bytes: &[u8]) -> Result<String, Fail> {
+    let fault = version_of(alloc, bytes).err();
+    match fault {
+        None => Ok(String::from_str(alloc, "taken")?),
+        Some(fault) => Ok(format!(in alloc; "{fault}")?),
+    }
+}
+
+fn cut(alloc: Global, case: &str) -> Result<String, Fail> {
+    let bytes = v1(alloc)?;
+    let size: usize = question(case).parse()?;
+    let front = bytes.get(..size).ok_or("fewer bytes")?;
+    Ok(answered(alloc, case, &answer(alloc, front)?)?)
+}
+
+#[test]
+fn no_version_of_a_file_cut_short(rt: HostRuntime) -> Result<(), Fail> {
+    for case in CUT.split('\n') {
+        assert_eq!(rt; cut(rt.alloc(), case)?.as_str(), case);
+    }
+    Ok(())
+}
+
+fn other(alloc: Global, case: &str) -> Result<String, Fail> {
+    let bytes = v1_with(alloc, question(case))?;
+    Ok(answered(alloc, case, &answer(alloc, &bytes)?)?)
+}
+
+#[test]
+fn the_first_check_of_a_key_that_fails(rt: HostRuntime) -> Result<(), Fail> {
+    for case in OTHER.split('\n') {
+        assert_eq!(rt; other(rt.alloc(), case)?.as_str(), case);
+    }
+    Ok(())
+}
+
+/// A Patient ID of so many letters and this padding.
+fn patient_id(alloc: Global, letters: usize, padding: &str) -> Result<String, Fail> {
+    let mut change = String::from_str(alloc, "0010,0020 LO '")?;
+    for _ in 0..letters {
+        change.push('A')?;
+    }
+    change.push_str(padding)?;
+    Ok(change)
+}
+
+/// What becomes of V1 with such a Patient ID.
+fn long(alloc: Global, letters: usize, padding: &str) -> Result<String, Fail> {
+    let bytes = v1_with(alloc, patient_id(alloc, letters, padding)?.as_str())?;
+    match version_of(alloc, &bytes) {
+        Ok(version) => {
+            let kept = version.parts().patient.id.as_bytes().len();
+            Ok(format!(in alloc; "{kept} bytes")?)
+        }
+        Err(fault) => Ok(format!(in alloc; "{fault}")?),
+    }
+}
+
+#[test]
+fn keys_have_1024_bytes(rt: HostRuntime) -> Result<(), Fail> {
+    assert_eq!(rt; long(rt.alloc(), 1024, "__")?.as_str(), "1024 bytes");
+    assert_eq!(rt;
+        long(rt.alloc(), 1025, "_")?.as_str(),
+        "35 KeyTooLong (0010,0020)"
+    );
+    Ok(())
+}
+
+#[test]
+fn want_of_memory_in_words(rt: HostRuntime) -> Result<(), Fail> {
+    let (keys, file) = (
+        KeyFault::Memory,
+        KeyFault::File(FileFault::Set(SetFault::Memory)),
+    );
+    let text = format!(in rt.alloc(); "{keys}, {file}")?;
+    assert_eq!(rt; text.as_str(), "91 Memory, 31 File 27 Set 91 Memory");
+    Ok(())
+}
