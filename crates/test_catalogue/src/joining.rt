@@ -1,0 +1,128 @@
+//! Joins of versions, of catalogues and of histories.
+
+use crate::images::{hold_the_same, images, taken};
+use dd_catalogue::{
+    Catalogue, History, best_is_best, best_is_one, best_of_bests, build, build_order_is_free,
+    gather, join_is_lawful, join_order_is_free,
+};
+use dd_keys::Version;
+use dd_vectors::{answered, question, text_of};
+use std::alloc::Global;
+use std::test::Fail;
+
+/// Between `+` the letters that are taken together, and then joined in turn. Each gives the four images.
+const FOUR: &str = "1234 4213 43+212 212+43 +43+212+43 43+212+43+212 212++43 3+1+4+2";
+
+/// Versions that are joined, and the description that the greater one has.
+const DESCRIBED: &str = "\
+AB > 'B
+BA > 'B
+ABA > 'B
+A > 'A";
+
+/// The catalogue of each group, merged into the one of those before.
+fn merged(alloc: Global, groups: &str) -> Result<Catalogue, Fail> {
+    let mut catalogue = Catalogue::new(alloc);
+    for letters in groups.split('+') {
+        catalogue.merge(&taken(alloc, letters)?)?;
+    }
+    Ok(catalogue)
+}
+
+/// The catalogue of each group.
+fn catalogues(alloc: Global, groups: &str) -> Result<Vec<Catalogue>, Fail> {
+    let mut catalogues = Vec::new(alloc);
+    for letters in groups.split('+') {
+        catalogues.push(taken(alloc, letters)?)?;
+    }
+    Ok(catalogues)
+}
+
+/// These, joined.
+fn gathered(alloc: Global, groups: &str) -> Result<Catalogue, Fail> {
+    let mut catalogue = Catalogue::new(alloc);
+    gather(&mut catalogue, &catalogues(alloc, groups)?)?;
+    Ok(catalogue)
+}
+
+/// A batch of each group, or an empty merge where it has no letters.
+fn batches(alloc: Global, groups: &str) -> Result<Vec<History>, Fail> {
+    let mut parts = Vec::new(alloc);
+    for letters in groups.split('+') {
+        parts.push(if letters.is_empty() {
+            History::Merge(Vec::new(alloc))
+        } else {
+            History::Batch(images(alloc, letters)?)
+        })?;
+    }
+    Ok(parts)
+}
+
+/// What the history of these comes to.
+fn built(alloc: Global, groups: &str) -> Result<Catalogue, Fail> {
+    let history = History::Merge(batches(alloc, groups)?);
+    Ok(build(alloc, &history)?)
+}
+
+/// Does the catalogue, and does its copy, hold the four images?
+fn holds_four(alloc: Global, catalogue: &Catalogue) -> Result<bool, Fail> {
+    let four = taken(alloc, "1234")?;
+    Ok(hold_the_same(catalogue, &four) && hold_the_same(&catalogue.copy()?, &four))
+}
+
+#[test]
+fn merges_have_no_order(rt: HostRuntime) -> Result<(), Fail> {
+    for groups in FOUR.split(' ') {
+        let found = merged(rt.alloc(), groups)?;
+        assert!(rt; holds_four(rt.alloc(), &found)?, "of {groups}");
+    }
+    Ok(())
+}
+
+#[test]
+fn joins_have_no_order(rt: HostRuntime) -> Result<(), Fail> {
+    for groups in FOUR.split(' ') {
+        let found = gathered(rt.alloc(), groups)?;
+        assert!(rt; holds_four(rt.alloc(), &found)?, "of {groups}");
+    }
+    Ok(())
+}
+
+#[test]
+fn histories_give_the_best_that_they_took(rt: HostRuntime) -> Result<(), Fail> {
+    for groups in FOUR.split(' ') {
+        let found = built(rt.alloc(), groups)?;
+        assert!(rt; holds_four(rt.alloc(), &found)?, "of {groups}");
+    }
+    Ok(())
+}
+
+/// The description of the first version, joined with the others.
+fn described(alloc: Global, case: &str) -> Result<String, Fail> {
+    let mut versions = images(alloc, question(case))?;
+    let (first, rest) = versions.split_first_mut().ok_or("there is none")?;
+    gather(first, rest)?;
+    let description = text_of(alloc, first.parts().study.description.as_bytes())?;
+    Ok(answered(alloc, case, &description)?)
+}
+
+#[test]
+fn the_join_of_versions_is_the_greater_one(rt: HostRuntime) -> Result<(), Fail> {
+    for case in DESCRIBED.split('\n') {
+        assert_eq!(rt; described(rt.alloc(), case)?.as_str(), case);
+    }
+    Ok(())
+}
+
+/// The laws are proved; they hold of the types that are joined.
+#[test]
+fn laws_of_joining() {
+    join_is_lawful::<Version>();
+    join_is_lawful::<Catalogue>();
+    join_order_is_free::<Version>();
+    join_order_is_free::<Catalogue>();
+    build_order_is_free();
+    best_is_best();
+    best_is_one();
+    best_of_bests();
+}

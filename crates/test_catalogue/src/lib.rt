@@ -1,0 +1,11 @@
+//! Tests of the catalogue of image instances: what it takes, what it keeps, and what its joins come to.
+#![tactic(auto)]
+
+#[cfg(test)]
+mod images;
+#[cfg(test)]
+mod joining;
+#[cfg(test)]
+mod studies;
+#[cfg(test)]
+mod taking;

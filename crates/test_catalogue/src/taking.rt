@@ -1,0 +1,100 @@
+//! What a catalogue takes, hands back and keeps.
+
+use crate::images::{image, taken, told};
+use dd_catalogue::{Catalogue, Took};
+use dd_elem::Uid;
+use dd_keys::Version;
+use dd_vectors::{answered, question};
+use std::alloc::Global;
+use std::test::Fail;
+
+/// What becomes of each version that is taken in turn, with the one that is handed back, and what the
+/// catalogue holds in the end.
+const TAKES: &str = "\
+43 > New; New; holds 170 ' 1.2.3.5.1, 170 ' 1.2.9.1.1
+212 > New; New; Kept 170 ' 1.2.3.4.6; holds 170 ' 1.2.3.4.5, 170 ' 1.2.3.4.6
+ab > New; Replaced 1 ' 1.2.3.4.5; holds 2 ' 1.2.3.4.5
+ba > New; Kept 1 ' 1.2.3.4.5; holds 2 ' 1.2.3.4.5
+AB > New; Replaced 170 'A 1.2.3.4.5; holds 170 'B 1.2.3.4.5
+BA > New; Kept 170 'A 1.2.3.4.5; holds 170 'B 1.2.3.4.5";
+
+/// Instances, and whether the catalogue of the first two images has a version of them.
+const GOT: &str = "\
+1.2.3.4.5 > 170 ' 1.2.3.4.5
+1.2.3.4.6 > 170 ' 1.2.3.4.6
+1.2.3.4.7 > none
+1.2.3.4 > none";
+
+/// Takes a version, and says what became of it.
+fn take(alloc: Global, catalogue: &mut Catalogue, version: Version) -> Result<String, Fail> {
+    match catalogue.take(version) {
+        Ok(Took::New) => Ok(String::from_str(alloc, "New")?),
+        Ok(Took::Replaced(old)) => {
+            let old = told(alloc, &old)?;
+            Ok(format!(in alloc; "Replaced {old}")?)
+        }
+        Ok(Took::Kept(given)) => {
+            let given = told(alloc, &given)?;
+            Ok(format!(in alloc; "Kept {given}")?)
+        }
+        Err(_) => Err("no memory".into()),
+    }
+}
+
+/// Puts what the catalogue holds behind the text.
+fn push_held(alloc: Global, text: &mut String, catalogue: &Catalogue) -> Result<(), Fail> {
+    text.push_str("holds")?;
+    for (place, version) in catalogue.versions().iter().enumerate() {
+        text.push_str(if place == 0 { " " } else { ", " })?;
+        text.push_str(told(alloc, version)?.as_str())?;
+    }
+    Ok(())
+}
+
+fn takes(alloc: Global, case: &str) -> Result<String, Fail> {
+    let mut catalogue = Catalogue::new(alloc);
+    let mut text = String::new(alloc);
+    for letter in question(case).chars() {
+        text.push_str(take(alloc, &mut catalogue, image(alloc, letter)?)?.as_str())?;
+        text.push_str("; ")?;
+    }
+    push_held(alloc, &mut text, &catalogue)?;
+    Ok(answered(alloc, case, &text)?)
+}
+
+#[test]
+fn the_greatest_version_of_each_instance_stays(rt: HostRuntime) -> Result<(), Fail> {
+    for case in TAKES.split('\n') {
+        assert_eq!(rt; takes(rt.alloc(), case)?.as_str(), case);
+    }
+    Ok(())
+}
+
+fn got(alloc: Global, case: &str) -> Result<String, Fail> {
+    let catalogue = taken(alloc, "12")?;
+    match catalogue.get(&Uid::new(question(case).as_bytes())?) {
+        Some(version) => Ok(answered(alloc, case, &told(alloc, version)?)?),
+        None => Ok(answered(alloc, case, &"none")?),
+    }
+}
+
+#[test]
+fn versions_are_got_by_their_instances(rt: HostRuntime) -> Result<(), Fail> {
+    for case in GOT.split('\n') {
+        assert_eq!(rt; got(rt.alloc(), case)?.as_str(), case);
+    }
+    Ok(())
+}
+
+/// How many instances the catalogue of these letters holds.
+fn count(alloc: Global, letters: &str) -> Result<usize, Fail> {
+    let catalogue = taken(alloc, letters)?;
+    Ok(catalogue.len())
+}
+
+#[test]
+fn an_instance_counts_once(rt: HostRuntime) -> Result<(), Fail> {
+    assert_eq!(rt; count(rt.alloc(), "")?, 0);
+    assert_eq!(rt; count(rt.alloc(), "1ab2")?, 2);
+    Ok(())
+}
