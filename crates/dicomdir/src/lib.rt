@@ -30,4 +30,5 @@ pub use mem_files::MemFiles;
 pub use mem_reader::MemReader;
 pub use program::run;
 pub use text::{print_line, send_text};
+pub use trouble::ProgramFault;
 pub use whole::{ReadFault, read_whole};

@@ -52,8 +52,9 @@ fn version_with(alloc: Global, line: &str) -> Result<Version, Fail> {
 /// The version with this letter.
 pub(crate) fn image(alloc: Global, letter: char) -> Result<Version, Fail> {
     for line in IMAGES.split('\n') {
-        if let Some(line) = line.strip_prefix(letter) {
-            return version_with(alloc, &line[1..]);
+        let (name, line) = line.split_once(' ').ok_or("no letter")?;
+        if name.starts_with(letter) {
+            return version_with(alloc, line);
         }
     }
     Err("no image has this letter".into())

@@ -6,7 +6,7 @@ use std::alloc::Global;
 use std::cmp::Ordering;
 use std::test::Fail;
 
-/// Values, and what is left of them without padding.
+/// Values, and what is left of them without padding. Two are of 22 and 23 bytes.
 const CLEAN: &str = "\
 'AB_~_ > 'AB
 '_A > '_A
@@ -14,10 +14,12 @@ const CLEAN: &str = "\
 '1.2.3~ > '1.2.3
 ' > '
 'DOE^JOHN > 'DOE^JOHN
-'_A_~ > '_A";
+'_A_~ > '_A
+'ABCDEFGHIJKLMNOPQRSTUV_ > 'ABCDEFGHIJKLMNOPQRSTUV
+'ABCDEFGHIJKLMNOPQRSTUVW_ > 'ABCDEFGHIJKLMNOPQRSTUVW";
 
 /// Keys, each smaller than the next.
-const KEYS: &str = "' '1 '10 '9 'A 'AB 'B 'a";
+const KEYS: &str = "' '1 '10 '9 'A 'AB 'ABCDEFGHIJKLMNOPQRSTUV 'ABCDEFGHIJKLMNOPQRSTUVW 'B 'a";
 
 /// UIDs, each smaller than the next.
 const UIDS: &str = "1.10 1.2 1.2.3 1.2.840.10008.1.2 2.25.0";
