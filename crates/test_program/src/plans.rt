@@ -29,6 +29,13 @@ const LIMITS: &str = "\
 882 1 DISC1 > 882
 881 1 DISC1 > 43 TooLarge";
 
+/// Levels, and the refusal where too many of their records stand below one.
+const LEVELS: &str = "\
+Patient > 42 TooMany Patient
+Study > 42 TooMany Study
+Series > 42 TooMany Series
+Image > 42 TooMany Image";
+
 /// The label with this ID.
 pub(crate) fn label_of(id: &str) -> Result<Label, Fail> {
     Ok(Label {
@@ -54,8 +61,8 @@ pub(crate) fn plan(alloc: Global) -> Result<Plan, Fail> {
     Ok(planned(alloc, &label_of("")?, limits)??)
 }
 
-/// A record as a line.
-fn line_of(alloc: Global, record: &PlanRecord) -> Result<String, Fail> {
+/// Puts a record behind the text, as a line.
+fn push_record(alloc: Global, text: &mut String, record: &PlanRecord) -> Result<(), Fail> {
     let PlanRecord {
         level,
         at,
@@ -64,23 +71,30 @@ fn line_of(alloc: Global, record: &PlanRecord) -> Result<String, Fail> {
         file,
         ..
     } = *record;
-    match file {
-        Some(file) => {
-            let text = file.text();
-            let file = str::from_utf8(&text)?;
-            Ok(format!(in alloc; "{level} {at} {next} {lower} {file}")?)
-        }
-        None => Ok(format!(in alloc; "{level} {at} {next} {lower} -")?),
+    if !text.is_empty() {
+        text.push('\n')?;
     }
+    text.push_str(format!(in alloc; "{level} {at} {next} {lower} ")?.as_str())?;
+    match file {
+        Some(file) => text.push_str(str::from_utf8(&file.text())?)?,
+        None => text.push('-')?,
+    }
+    Ok(())
+}
+
+/// The records of the plan.
+fn records(alloc: Global) -> Result<String, Fail> {
+    let plan = plan(alloc)?;
+    let mut text = String::new(alloc);
+    for record in plan.records() {
+        push_record(alloc, &mut text, record)?;
+    }
+    Ok(text)
 }
 
 #[test]
 fn records_stand_depth_first(rt: HostRuntime) -> Result<(), Fail> {
-    let plan = plan(rt.alloc())?;
-    assert_eq!(rt; plan.records().len(), 4);
-    for (record, line) in plan.records().iter().zip(RECORDS.split('\n')) {
-        assert_eq!(rt; line_of(rt.alloc(), record)?.as_str(), line);
-    }
+    assert_eq!(rt; records(rt.alloc())?.as_str(), RECORDS);
     Ok(())
 }
 
@@ -97,14 +111,11 @@ fn a_plan_has_its_label_and_its_version(rt: HostRuntime) -> Result<(), Fail> {
     Ok(())
 }
 
-/// What comes of laying out V1 with these limits and this label.
-fn size(alloc: Global, limits: Limits, label: &Label) -> Result<String, Fail> {
+/// How many bytes V1 is laid out in with these limits and this label, or the refusal.
+fn size(alloc: Global, limits: Limits, label: &Label) -> Result<Result<u32, PlanFault>, Fail> {
     match planned(alloc, label, limits)? {
-        Ok(plan) => {
-            let size = plan.size();
-            Ok(format!(in alloc; "{size}")?)
-        }
-        Err(fault) => Ok(format!(in alloc; "{fault}")?),
+        Ok(plan) => Ok(Ok(plan.size())),
+        Err(fault) => Ok(Err(fault)),
     }
 }
 
@@ -113,9 +124,12 @@ fn limited(alloc: Global, case: &str) -> Result<String, Fail> {
     let bytes = words.next().ok_or("no bytes")?.parse()?;
     let per_level = words.next().ok_or("no count")?.parse()?;
     let label = label_of(words.next().unwrap_or(""))?;
-    match Limits::new(bytes, per_level) {
-        Some(limits) => Ok(answered(alloc, case, &size(alloc, limits, &label)?)?),
-        None => Ok(answered(alloc, case, &"no limits")?),
+    let Some(limits) = Limits::new(bytes, per_level) else {
+        return Ok(answered(alloc, case, &"no limits")?);
+    };
+    match size(alloc, limits, &label)? {
+        Ok(size) => Ok(answered(alloc, case, &size)?),
+        Err(fault) => Ok(answered(alloc, case, &fault)?),
     }
 }
 
@@ -127,17 +141,26 @@ fn a_plan_keeps_to_its_limits(rt: HostRuntime) -> Result<(), Fail> {
     Ok(())
 }
 
+/// The level with this name.
+fn level_of(name: &str) -> Option<Level> {
+    match name {
+        "Patient" => Some(Level::Patient),
+        "Study" => Some(Level::Study),
+        "Series" => Some(Level::Series),
+        "Image" => Some(Level::Image),
+        _ => None,
+    }
+}
+
+fn too_many(alloc: Global, case: &str) -> Result<String, Fail> {
+    let level = level_of(question(case)).ok_or("no level")?;
+    Ok(answered(alloc, case, &PlanFault::TooMany(level))?)
+}
+
 #[test]
 fn levels_have_names(rt: HostRuntime) -> Result<(), Fail> {
-    let levels = [Level::Patient, Level::Study, Level::Series, Level::Image];
-    for (level, name) in levels
-        .into_iter()
-        .zip("Patient Study Series Image".split(' '))
-    {
-        let fault = PlanFault::TooMany(level);
-        let text = format!(in rt.alloc(); "{level}, {fault}")?;
-        let wanted = format!(in rt.alloc(); "{name}, 42 TooMany {name}")?;
-        assert_eq!(rt; text.as_str(), wanted.as_str());
+    for case in LEVELS.split('\n') {
+        assert_eq!(rt; too_many(rt.alloc(), case)?.as_str(), case);
     }
     Ok(())
 }

@@ -2,8 +2,8 @@
 
 use dd_elem::{ByteSource, Sink};
 use dd_vectors::{answered, question, v1};
-use dicomdir::{LineFault, print_line, read_whole, send_text};
-use std::alloc::Global;
+use dicomdir::{ProgramFault, ReadFault, print_line, read_whole, send_text};
+use std::alloc::{AllocError, Global};
 use std::test::Fail;
 
 /// After how many bytes a device fails to which a FAULT line and then `more` are printed, whether both
@@ -16,38 +16,39 @@ const PRINTED: &str = "\
 7 > false false [FAULT a]
 0 > false false []";
 
-/// V1 read whole: how many bytes a read gives, after how many the reader fails, and the limit.
+/// V1 read whole: after how many bytes the reader fails, the limit, and how many bytes are read.
 const WHOLE: &str = "\
-1 1000 454 > 454 bytes
-4096 455 454 > 454 bytes
-100 1000 453 > TooLong
-100 200 454 > Unread
-100 1000 0 > TooLong";
+1000 454 > 454
+455 454 > 454
+1000 453 > TooLong
+454 454 > Unread
+200 454 > Unread
+1000 0 > TooLong";
 
-/// The text with `|` at the end of each line.
-pub(crate) fn with_bars(alloc: Global, bytes: &[u8]) -> Result<String, Fail> {
-    let mut text = String::new(alloc);
+/// Puts the bytes behind the text, with `|` at the end of each line.
+pub(crate) fn push_lines(text: &mut String, bytes: &[u8]) -> Result<(), AllocError> {
     for byte in bytes {
         text.push(match byte {
             b'\n' => '|',
             other => char::from(*other),
         })?;
     }
-    Ok(text)
+    Ok(())
 }
 
-/// Prints both lines. Were they printed?
-fn print_both(sink: &mut Sink) -> (bool, bool) {
-    let (subject, fault) = ("a.dcm", LineFault::Memory);
-    let first = print_line(format_args!("FAULT {subject}: {fault}"), sink).is_ok();
-    (first, print_line("more", sink).is_ok())
+/// Prints a FAULT line. Was it printed?
+fn print_fault(sink: &mut Sink) -> bool {
+    let (subject, fault) = ("a.dcm", ProgramFault::Memory);
+    print_line(format_args!("FAULT {subject}: {fault}"), sink).is_ok()
 }
 
 fn printed(alloc: Global, case: &str) -> Result<String, Fail> {
     let mut sink = Sink::new(alloc, Some(question(case).parse()?));
-    let (first, more) = print_both(&mut sink);
-    let held = with_bars(alloc, sink.bytes())?;
-    Ok(answered(alloc, case, &format_args!("{first} {more} [{held}]"))?)
+    let fault = print_fault(&mut sink);
+    let more = print_line("more", &mut sink).is_ok();
+    let mut held = String::new(alloc);
+    push_lines(&mut held, sink.bytes())?;
+    Ok(answered(alloc, case, &format_args!("{fault} {more} [{held}]"))?)
 }
 
 #[test]
@@ -64,23 +65,23 @@ fn an_empty_text_does_not_fail(rt: HostRuntime) {
     assert!(rt; send_text("", &mut sink).is_ok() && send_text("x", &mut sink).is_err());
 }
 
-/// How many bytes were read from V1, where they are all, or the words of the fault.
-fn read(alloc: Global, piece: u64, fails: u64, limit: u64) -> Result<String, Fail> {
+/// How many bytes are read from V1 in pieces of 100 bytes, all of which are its own.
+fn read(alloc: Global, fails: u64, limit: u64) -> Result<Result<usize, ReadFault>, Fail> {
     let bytes = v1(alloc)?;
-    let mut source = ByteSource::new(&bytes, piece, Some(fails));
+    let mut source = ByteSource::new(&bytes, 100, Some(fails));
     match read_whole(alloc, &mut source, limit) {
-        Ok(found) if found == bytes => Ok(format!(in alloc; "454 bytes")?),
-        Ok(_) => Err("other bytes were read".into()),
-        Err(fault) => Ok(format!(in alloc; "{fault}")?),
+        Ok(found) if !bytes.starts_with(&found) => Err("other bytes were read".into()),
+        Ok(found) => Ok(Ok(found.len())),
+        Err(fault) => Ok(Err(fault)),
     }
 }
 
 fn whole(alloc: Global, case: &str) -> Result<String, Fail> {
-    let mut words = question(case).split(' ');
-    let piece = words.next().ok_or("no piece")?.parse()?;
-    let fails = words.next().ok_or("no end")?.parse()?;
-    let limit = words.next().ok_or("no limit")?.parse()?;
-    Ok(answered(alloc, case, &read(alloc, piece, fails, limit)?)?)
+    let (fails, limit) = question(case).split_once(' ').ok_or("no limit")?;
+    match read(alloc, fails.parse()?, limit.parse()?)? {
+        Ok(size) => Ok(answered(alloc, case, &size)?),
+        Err(fault) => Ok(answered(alloc, case, &fault)?),
+    }
 }
 
 #[test]

@@ -1,6 +1,6 @@
 //! Runs over files in memory.
 
-use crate::printing::with_bars;
+use crate::printing::push_lines;
 use crate::words::words_of;
 use dd_elem::Sink;
 use dd_vectors::{first_directory, v1};
@@ -46,9 +46,12 @@ pub(crate) fn end_of(alloc: Global, line: &str, files: &mut MemFiles) -> Result<
 }
 
 fn told(alloc: Global, status: u8, out: &Sink, err: &Sink) -> Result<String, Fail> {
-    let out = with_bars(alloc, out.bytes())?;
-    let err = with_bars(alloc, err.bytes())?;
-    Ok(format!(in alloc; "{status} [{out}] [{err}]")?)
+    let mut text = format!(in alloc; "{status} [")?;
+    push_lines(&mut text, out.bytes())?;
+    text.push_str("] [")?;
+    push_lines(&mut text, err.bytes())?;
+    text.push(']')?;
+    Ok(text)
 }
 
 /// The end of a run, and whether the file at this path holds the directory of V1 after it.

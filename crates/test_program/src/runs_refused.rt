@@ -48,31 +48,34 @@ fn refused(alloc: Global, case: &str, files: &mut MemFiles) -> Result<String, Fa
     Ok(end)
 }
 
+fn told(alloc: Global, case: &str, files: &mut MemFiles) -> Result<String, Fail> {
+    Ok(answered(alloc, case, &refused(alloc, case, files)?)?)
+}
+
 #[test]
 fn refused_runs_say_why_and_change_no_file(rt: HostRuntime) -> Result<(), Fail> {
     let mut files = disc(rt.alloc())?;
     for case in REFUSED.split('\n') {
-        let end = refused(rt.alloc(), case, &mut files)?;
-        assert_eq!(rt; answered(rt.alloc(), case, &end)?.as_str(), case);
+        assert_eq!(rt; told(rt.alloc(), case, &mut files)?.as_str(), case);
     }
     Ok(())
 }
 
-/// The status of an end, and where the parser's text went.
-fn told<'a>(end: &'a str) -> Result<(&'a str, &'static str), Fail> {
-    let (status, outputs) = end.split_once(" [").ok_or("no output")?;
+/// Which of the outputs of an end are not empty.
+fn place_of(outputs: &str) -> &'static str {
     match (outputs.starts_with(']'), outputs.ends_with("[]")) {
-        (true, true) => Ok((status, "none")),
-        (false, true) => Ok((status, "the output")),
-        (true, false) => Ok((status, "the error output")),
-        (false, false) => Ok((status, "both")),
+        (true, true) => "none",
+        (false, true) => "the output",
+        (true, false) => "the error output",
+        (false, false) => "both",
     }
 }
 
 fn text(alloc: Global, case: &str) -> Result<String, Fail> {
     let mut files = disc(alloc)?;
     let end = refused(alloc, case, &mut files)?;
-    let (status, place) = told(end.as_str())?;
+    let (status, outputs) = end.as_str().split_once(" [").ok_or("no output")?;
+    let place = place_of(outputs);
     Ok(answered(alloc, case, &format_args!("{status} to {place}"))?)
 }
 
