@@ -1,8 +1,6 @@
-//! The words of the faults that no run shows here.
+//! The words of the faults of the program, some of which no run shows here.
 
 use dicomdir::ProgramFault;
-use dicomdir::dir::DirectoryFault;
-use dicomdir::layout::PlanFault;
 use std::test::Fail;
 
 /// The faults of the program that concern no version, no plan and no UID, in words.
@@ -29,13 +27,5 @@ fn faults_of_the_program_in_words(rt: HostRuntime) -> Result<(), Fail> {
         let fault = fault_of(words).ok_or("no fault")?;
         assert_eq!(rt; format!(in rt.alloc(); "{fault}")?.as_str(), words);
     }
-    Ok(())
-}
-
-#[test]
-fn want_of_memory_in_words(rt: HostRuntime) -> Result<(), Fail> {
-    let (plan, directory) = (PlanFault::Memory, DirectoryFault::Memory);
-    let text = format!(in rt.alloc(); "{plan}, {directory}")?;
-    assert_eq!(rt; text.as_str(), "91 Memory, 91 Memory");
     Ok(())
 }

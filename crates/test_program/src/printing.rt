@@ -1,19 +1,19 @@
 //! What is printed to a device, and sources that are read whole.
 
-use dd_elem::{ByteSource, Sink};
+use dd_elem::{ByteSource, Memory, Sink};
 use dd_vectors::{answered, question, v1};
-use dicomdir::{ProgramFault, ReadFault, print_line, read_whole, send_text};
+use dicomdir::{ReadFault, print_line, read_whole, send_text};
 use std::alloc::{AllocError, Global};
 use std::test::Fail;
 
-/// After how many bytes a device fails to which a FAULT line and then `more` are printed, whether both
-/// were, and what it holds. `|` ends a line.
+/// After how many bytes a device fails to which a fault and then `more` are printed, whether both were, and
+/// what it holds. `|` ends a line.
 const PRINTED: &str = "\
-100 > true true [FAULT a.dcm: 91 Memory|more|]
-28 > true true [FAULT a.dcm: 91 Memory|more|]
-27 > true false [FAULT a.dcm: 91 Memory|more]
-23 > true false [FAULT a.dcm: 91 Memory|]
-7 > false false [FAULT a]
+100 > true true [91 Memory|more|]
+15 > true true [91 Memory|more|]
+14 > true false [91 Memory|more]
+10 > true false [91 Memory|]
+7 > false false [91 Memo]
 0 > false false []";
 
 /// V1 read whole: after how many bytes the reader fails, the limit, and how many bytes are read.
@@ -36,15 +36,9 @@ pub(crate) fn push_lines(text: &mut String, bytes: &[u8]) -> Result<(), AllocErr
     Ok(())
 }
 
-/// Prints a FAULT line. Was it printed?
-fn print_fault(sink: &mut Sink) -> bool {
-    let (subject, fault) = ("a.dcm", ProgramFault::Memory);
-    print_line(format_args!("FAULT {subject}: {fault}"), sink).is_ok()
-}
-
 fn printed(alloc: Global, case: &str) -> Result<String, Fail> {
     let mut sink = Sink::new(alloc, Some(question(case).parse()?));
-    let fault = print_fault(&mut sink);
+    let fault = print_line(Memory, &mut sink).is_ok();
     let more = print_line("more", &mut sink).is_ok();
     let mut held = String::new(alloc);
     push_lines(&mut held, sink.bytes())?;

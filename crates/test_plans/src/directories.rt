@@ -3,7 +3,8 @@
 use crate::plans::plan;
 use dd_elem::Sink;
 use dd_vectors::{answered, first_directory, question};
-use dicomdir::dir::write_directory;
+use dicomdir::dir::{DirectoryFault, write_directory};
+use dicomdir::layout::PlanFault;
 use std::alloc::Global;
 use std::test::Fail;
 
@@ -48,5 +49,13 @@ fn the_directory_of_v1(rt: HostRuntime) -> Result<(), Fail> {
     for case in SENT.split('\n') {
         assert_eq!(rt; directory(rt.alloc(), case)?.as_str(), case);
     }
+    Ok(())
+}
+
+#[test]
+fn want_of_memory_in_words(rt: HostRuntime) -> Result<(), Fail> {
+    let (plan, directory) = (PlanFault::Memory, DirectoryFault::Memory);
+    let text = format!(in rt.alloc(); "{plan}, {directory}")?;
+    assert_eq!(rt; text.as_str(), "91 Memory, 91 Memory");
     Ok(())
 }
