@@ -75,6 +75,14 @@ first_fault file = fault_of (read_file file)
 
 -- ---- want of memory: where parsing the file wants it, and behind all checks
 
+-- the fault says that a growth was refused
+abbrev pub SaysMemory : KeyFault → Type 0
+SaysMemory Memory = Unit {0}
+SaysMemory (File (MetaFault parsing.Memory)) = Unit {0}
+SaysMemory (File (Set parsing.Memory)) = Unit {0}
+SaysMemory fault = ⊥
+
+-- it says so where memory is wanted
 abbrev pub IsWantOfMemory : List ℕ → KeyFault → Type 0
 IsWantOfMemory file Memory = first_fault file ≡ None
 IsWantOfMemory file (File (MetaFault parsing.Memory)) = GroupWants file

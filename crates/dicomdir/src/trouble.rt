@@ -1,6 +1,6 @@
 //! What goes wrong in a run, and how it is told.
 ghost use Rattle.std.specs.Prelude.{◌≡◌, ◌↔◌, ◌⊎◌, IsTrue, codes};
-ghost use Rattle.dd_keys.specs.Faults.{IsWantOfMemory};
+ghost use Rattle.dd_keys.specs.Faults.{SaysMemory};
 ghost use Rattle.dicomdir.specs.Trouble.{IsBadLine};
 
 use crate::layout::PlanFault;
@@ -83,9 +83,9 @@ impl Trouble {
 
     /// What the fault of the source's bytes comes to. Want of memory concerns no file.
     pub fn with_source(fault: KeyFault) -> Trouble
-        ensures memory { IsWantOfMemory fault
+        ensures memory { SaysMemory fault
             → (result.fault ≡ ProgramFault.Memory) × (result.subject ≡ Subject.General) }
-        ensures file { ¬ IsWantOfMemory fault
+        ensures file { ¬ SaysMemory fault
             → (result.fault ≡ ProgramFault.Key fault) × (result.subject ≡ Subject.Source) }
     {
         if is_want_of_memory(&fault) {
@@ -100,7 +100,7 @@ impl Trouble {
 
 /// Does the fault say that a growth was refused?
 fn is_want_of_memory(fault: &KeyFault) -> bool
-    ensures { IsTrue result ↔ IsWantOfMemory fault.now }
+    ensures { IsTrue result ↔ SaysMemory fault.now }
 {
     matches!(
         fault,
