@@ -6,5 +6,6 @@ pub mod Harmonised
 pub mod Joined
 pub mod Merging
 pub mod Places
+pub mod Retold
 pub mod Torn
 pub mod Woven

@@ -16,8 +16,8 @@ use Rattle.dd_catalogue.specs.Best.{IsRising, at, greater, put}
 use Rattle.dd_catalogue.specs.Rising.{Orders, less_turned, greater_turned}
 use Rattle.dd_catalogue.specs.BestLaws.{member_of, Member}
 use Rattle.dd_catalogue.specs.BestMembers.{at-member, above_member}
-use Rattle.dd_catalogue.specs.Table.{IsPlace, took_by}
-use Rattle.dd_catalogue.specs.declared.table.Took.TheVariants.{Replaced, Kept}
+use Rattle.dd_catalogue.specs.Table.{IsPlace, taken_by}
+use Rattle.dd_catalogue.specs.declared.table.Taken.TheVariants.{Displaced, Returned}
 use Rattle.std.proofs.lemmas.List.{get_or_default, set-get_or}
 use Rattle.std.proofs.lemmas.Option.{same_Some, slice_get_within, get_or_from_slice_get}
 
@@ -110,14 +110,14 @@ put_keeps key values v m i x up below tie read lt =
 
 pub took_replaced : {V : Type 0} (key : V → List ℕ) (values : V → V → Ordering) (v : V) (m : List V) (i : ℕ) (x y : V) → IsRising key bytes_cmp m → i < length m
     → HoldsAt (λ w. bytes_cmp (key w) (key v) ≡ Equal) m i → x ≡ get_or m i x → y ≡ get_or m i y → is_lt (values x v) ≡ true
-    → Replaced y ≡ took_by values v (at key bytes_cmp m (key v))
+    → Displaced y ≡ taken_by values v (at key bytes_cmp m (key v))
 took_replaced key values v m i x y up below tie read read' lt =
     let lt' : is_lt (values y v) ≡ true = ap (λ z. is_lt (values z v)) (sym (same_read m i x y below read read')) ∙ lt in
     rw (at_read key (key v) m i y up below tie read', lt') refl
 
 pub took_kept : {V : Type 0} (key : V → List ℕ) (values : V → V → Ordering) (v : V) (m : List V) (i : ℕ) (x : V) → IsRising key bytes_cmp m → i < length m
     → HoldsAt (λ w. bytes_cmp (key w) (key v) ≡ Equal) m i → x ≡ get_or m i x → is_lt (values x v) ≡ false
-    → Kept v ≡ took_by values v (at key bytes_cmp m (key v))
+    → Returned v ≡ taken_by values v (at key bytes_cmp m (key v))
 took_kept key values v m i x up below tie read lt = rw (at_read key (key v) m i x up below tie read, lt) refl
 
 pub not_true : (b : Bool) → not b ≡ true → b ≡ false

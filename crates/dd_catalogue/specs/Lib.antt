@@ -5,6 +5,7 @@ pub mod BestMembers
 pub mod CatalogueJoin
 pub mod Clash
 pub mod Compared
+pub mod Equal
 pub mod Harmony
 pub mod Histories
 pub mod Joins

@@ -5,8 +5,8 @@ use Rattle.std.specs.Ordering.{is_lt}
 use Rattle.std.specs.declared.cmp.Ordering.{Ordering}
 use Rattle.std.specs.declared.cmp.Ordering.TheVariants.{Less, Equal, Greater}
 use Rattle.dd_elem.specs.Ordered.{bytes_cmp}
-use Rattle.dd_catalogue.specs.declared.table.Took.{Took}
-use Rattle.dd_catalogue.specs.declared.table.Took.TheVariants.{New, Replaced, Kept}
+use Rattle.dd_catalogue.specs.declared.table.Taken.{Taken}
+use Rattle.dd_catalogue.specs.declared.table.Taken.TheVariants.{Fresh, Displaced, Returned}
 
 -- a place of the value with this key, or the place between the smaller and the greater keys
 abbrev pub IsPlace : {V : Type 0} → (V → List ℕ) → List ℕ → List V → Result ℕ ℕ → Type 0
@@ -14,6 +14,6 @@ IsPlace key k m (Ok i) = (i < length m) × HoldsAt (λ w. bytes_cmp (key w) k �
 IsPlace key k m (Err i) = (i ≤ length m) × AllWithin (λ w. bytes_cmp (key w) k ≡ Less) m 0 i × AllWithin (λ w. bytes_cmp (key w) k ≡ Greater) m i (length m)
 
 -- what becomes of a value where this one is held
-abbrev pub took_by : {V : Type 0} → (V → V → Ordering) → V → Option V → Took V
-took_by values v None = New
-took_by values v (Some w) = if is_lt (values w v) then Replaced w else Kept v
+abbrev pub taken_by : {V : Type 0} → (V → V → Ordering) → V → Option V → Taken V
+taken_by values v None = Fresh
+taken_by values v (Some w) = if is_lt (values w v) then Displaced w else Returned v

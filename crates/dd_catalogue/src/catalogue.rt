@@ -1,21 +1,41 @@
 //! Catalogues of versions.
 
-ghost use Rattle.std.specs.Prelude.{◌≡◌, ◌≢◌, [], ◌∷◌, ◌++◌, length, map, option_copied};
+ghost use Rattle.std.specs.Prelude.{◌≡◌, ◌≢◌, ◌==◌, [], ◌∷◌, ◌++◌, length, map, option_copied};
 ghost use Rattle.std.specs.Prelude.{IsOk, IfOk, IfErr, OnOk, OnErr, IsSome};
 ghost use Rattle.dd_catalogue.specs.Clash.{IsClash, clash};
 ghost use Rattle.dd_catalogue.specs.Harmony.{IsHarmonised, harmonised};
 ghost use Rattle.dd_catalogue.specs.Versions.{IsCatalogue, best_of, compared_of, kept};
-ghost use Rattle.dd_catalogue.specs.Taking.{took_of};
+ghost use Rattle.dd_catalogue.specs.Taking.{as_took, took_of};
 
 use crate::conflicts::first_clash;
 use crate::harmony::in_harmony;
 use crate::join::Join;
 use crate::lent::Keyed;
-use crate::table::{Copied, Refused, Table, Took};
+use crate::table::{Copied, Table, Taken};
 use dd_elem::{Memory, Uid};
 use dd_keys::Version;
 use std::alloc::Global;
 use std::marker::Model;
+use thiserror::Error;
+
+/// What became of a version that was taken.
+#[derive(Debug, Drop)]
+pub enum Took {
+    /// None of its instance was there.
+    New,
+    /// It is greater than this one, which was there.
+    Replaced(Version),
+    /// It is no greater than the one that is there: handed back.
+    Kept(Version),
+}
+
+/// Want of memory: a growth was refused.
+#[derive(Debug, Drop, Error)]
+#[error("91 Memory")]
+pub struct Refused {
+    /// The version that was not taken.
+    pub back: Version,
+}
 
 /// A catalogue of image instances: of each SOP Instance UID (PS3.3 section C.12.1) that it has taken,
 /// the greatest version.
@@ -83,6 +103,13 @@ impl Catalogue {
         self.table.values().len()
     }
 
+    /// Does it hold no instance?
+    pub fn is_empty(&self) -> bool
+        ensures { result ≡ (length self.now == 0) }
+    {
+        self.len() == 0
+    }
+
     /// The version that it keeps of this instance.
     pub fn get(&self, instance: &Uid) -> Option<&Version>
         ensures { option_copied result ≡ kept self.now instance.now }
@@ -101,14 +128,18 @@ impl Catalogue {
     /// Takes a version. It is kept where none of its instance is there, or one that is smaller, which
     /// is handed back; else it is handed back itself. Refused where a growth was: the version is
     /// handed back and nothing has changed. No memory is taken where the instance is held.
-    pub fn take(&mut self, version: Version) -> Result<Took<Version>, Refused<Version>>
+    pub fn take(&mut self, version: Version) -> Result<Took, Refused>
         ensures ok { OnOk result (self.new ≡ best_of (version ∷ self.old)) }
         ensures took { IfOk result (λ took. took ≡ took_of self.old version) }
         ensures err { OnErr result (self.new ≡ self.old) }
         ensures back { IfErr result (λ refused. refused.back ≡ version) }
         ensures held { IsSome (kept self.old version.instance) → IsOk result }
     {
-        self.table.take(version)
+        let taken = match self.table.take(version) {
+            Ok(taken) => taken,
+            Err(back) => return Err(Refused { back }),
+        };
+        Ok(told(taken))
     }
 
     /// Takes copies of all versions of the other catalogue, in one walk through both by two positions.
@@ -169,6 +200,34 @@ impl Catalogue {
         Ok(Catalogue {
             table: self.table.copy()?,
         })
+    }
+}
+
+/// What became of the version, in the words of a catalogue.
+fn told(taken: Taken<Version>) -> Took
+    ensures { result ≡ as_took taken }
+{
+    match taken {
+        Taken::Fresh => Took::New,
+        Taken::Displaced(old) => Took::Replaced(old),
+        Taken::Returned(given) => Took::Kept(given),
+    }
+}
+
+/// Catalogues are equal where their versions are.
+impl PartialEq for Catalogue {
+    ghost use Rattle.std.specs.Cmp.{partial_equiv_from_equiv};
+    ghost use Rattle.std.specs.Cmp.Lexicographic.{lists_per};
+    ghost use Rattle.std.proofs.lemmas.Cmp.{eq_by_cmp_equiv};
+    ghost use Rattle.dd_keys.specs.Orders.{parts_total};
+    ghost use Rattle.dd_catalogue.specs.Equal.{is_same};
+
+    ghost eq = { is_same };
+
+    ghost laws = { lists_per (partial_equiv_from_equiv (eq_by_cmp_equiv parts_total)) };
+
+    fn eq(&self, other: &Catalogue) -> bool {
+        self.versions() == other.versions()
     }
 }
 

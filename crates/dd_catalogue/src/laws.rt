@@ -1,9 +1,10 @@
 //! What holds of every set of versions, whatever the order in which they arrive.
 
-ghost use Rattle.std.specs.Prelude.{◌≡◌, ◌++◌, ℕ, List, Option, Decides};
+ghost use Rattle.std.specs.Prelude.{◌≡◌, ◌++◌, ℕ, List, Option, Decides, true};
 ghost use Rattle.dd_keys.specs.declared.parts.Parts.{Parts};
 ghost use Rattle.dd_catalogue.specs.Best.{SameMembers};
 ghost use Rattle.dd_catalogue.specs.Clash.{Conflict, IsClash, clash, conflicts};
+ghost use Rattle.dd_catalogue.specs.Equal.{is_same};
 ghost use Rattle.dd_catalogue.specs.Harmony.{IsHarmonised, harmonised};
 ghost use Rattle.dd_catalogue.specs.Versions.{IsBestOf, IsCatalogue, best_of};
 
@@ -47,4 +48,9 @@ pub fn harmonised_is_harmonised()
 /// A catalogue has one harmony.
 pub fn harmonised_is_one()
     ensures { (m one other : List Parts) → IsHarmonised m one → IsHarmonised m other → one ≡ other }
+{}
+
+/// Catalogues that are equal by `==` are the same.
+pub fn equal_is_same()
+    ensures { (m n : List Parts) → is_same m n ≡ true → m ≡ n }
 {}

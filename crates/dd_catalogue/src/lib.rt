@@ -17,11 +17,10 @@ mod table;
 mod tuples;
 mod weaving;
 
-pub use catalogue::Catalogue;
+pub use catalogue::{Catalogue, Refused, Took};
 pub use history::{History, build, build_order_is_free};
 pub use join::{Join, gather, gather_order_is_free, join_is_lawful, join_order_is_free};
 pub use laws::{
     best_is_best, best_is_one, best_of_bests, clash_is_clash, clash_is_one, conflicts_decides,
-    harmonised_is_harmonised, harmonised_is_one,
+    equal_is_same, harmonised_is_harmonised, harmonised_is_one,
 };
-pub use table::{Refused, Took};

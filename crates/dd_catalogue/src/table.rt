@@ -7,7 +7,7 @@ ghost use Rattle.std.specs.declared.cmp.Ordering.TheVariants.{Less, Equal, Great
 ghost use Rattle.dd_elem.specs.Ordered.{bytes_cmp};
 ghost use Rattle.dd_catalogue.specs.Best.{IsRising, at, best, put};
 ghost use Rattle.dd_catalogue.specs.Compared.{compared};
-ghost use Rattle.dd_catalogue.specs.Table.{IsPlace, took_by};
+ghost use Rattle.dd_catalogue.specs.Table.{IsPlace, taken_by};
 
 use crate::lent::{Greatest, Keyed};
 use crate::weaving::weave;
@@ -16,7 +16,6 @@ use std::alloc::Global;
 use std::cmp::Ordering;
 use std::marker::Model;
 use std::mem;
-use thiserror::Error;
 
 /// A value that can be copied where memory is found.
 pub(crate) trait Copied {
@@ -27,21 +26,13 @@ pub(crate) trait Copied {
 
 /// What became of a value that was taken.
 #[derive(Debug, Drop)]
-pub enum Took<V> {
+pub(crate) enum Taken<V> {
     /// None with its key was there.
-    New,
+    Fresh,
     /// It is greater than this one, which was there.
-    Replaced(V),
+    Displaced(V),
     /// It is no greater than the one that is there: handed back.
-    Kept(V),
-}
-
-/// Want of memory: a growth was refused.
-#[derive(Debug, Drop, Error)]
-#[error("91 Memory")]
-pub struct Refused<V> {
-    /// The value that was not taken.
-    pub back: V,
+    Returned(V),
 }
 
 /// The greatest value of each key, rising by key.
@@ -154,11 +145,11 @@ impl<T: Keyed + Copied + Drop> Table<T> {
 
     /// Takes the value, where no greater one with its key is there. It is handed back where a growth
     /// was refused; then nothing has changed. No memory is taken where a value with the key is there.
-    pub(crate) fn take(&mut self, value: T) -> Result<Took<T>, Refused<T>>
+    pub(crate) fn take(&mut self, value: T) -> Result<Taken<T>, T>
         ensures ok { OnOk result (self.new ≡ best T.key_of bytes_cmp T.order (value ∷ self.old)) }
-        ensures took { IfOk result (λ took. took ≡ took_by T.order value (at T.key_of bytes_cmp self.old (T.key_of value))) }
+        ensures took { IfOk result (λ took. took ≡ taken_by T.order value (at T.key_of bytes_cmp self.old (T.key_of value))) }
         ensures err { OnErr result (self.new ≡ self.old) }
-        ensures back { IfErr result (λ refused. refused.back ≡ value) }
+        ensures back { IfErr result (λ back. back ≡ value) }
         ensures there { IsSome (at T.key_of bytes_cmp self.old (T.key_of value)) → IsOk result }
     {
         match self.place(value.key()) {
@@ -168,32 +159,32 @@ impl<T: Keyed + Copied + Drop> Table<T> {
     }
 
     /// Puts the value at this place, which lies between the smaller and the greater keys.
-    fn admit(&mut self, place: usize, value: T) -> Result<Took<T>, Refused<T>>
+    fn admit(&mut self, place: usize, value: T) -> Result<Taken<T>, T>
         requires within { place ≤ length self.old }
         requires smaller { AllWithin (λ w. bytes_cmp (T.key_of w) (T.key_of value) ≡ Less) self.old 0 place }
         requires greater { AllWithin (λ w. bytes_cmp (T.key_of w) (T.key_of value) ≡ Greater) self.old place (length self.old) }
         ensures ok { OnOk result (self.new ≡ put T.key_of bytes_cmp T.order value self.old) }
-        ensures new { IfOk result (λ took. took ≡ Took.New) }
+        ensures new { IfOk result (λ took. took ≡ Taken.Fresh) }
         ensures err { OnErr result (self.new ≡ self.old) }
-        ensures back { IfErr result (λ refused. refused.back ≡ value) }
+        ensures back { IfErr result (λ back. back ≡ value) }
     {
         if let Err(failed) = self.held.insert(place, value) {
-            return Err(Refused { back: failed.value });
+            return Err(failed.value);
         }
-        Ok(Took::New)
+        Ok(Taken::Fresh)
     }
 
     /// Keeps the greater of the value and the one at this place, which has its key.
-    fn challenge(&mut self, place: usize, value: T) -> Took<T>
+    fn challenge(&mut self, place: usize, value: T) -> Taken<T>
         requires within { place < length self.old }
         requires same { HoldsAt (λ w. bytes_cmp (T.key_of w) (T.key_of value) ≡ Equal) self.old place }
         ensures after { self.new ≡ put T.key_of bytes_cmp T.order value self.old }
-        ensures took { result ≡ took_by T.order value (at T.key_of bytes_cmp self.old (T.key_of value)) }
+        ensures took { result ≡ taken_by T.order value (at T.key_of bytes_cmp self.old (T.key_of value)) }
     {
         if self.held[place].compare(&value).is_lt() {
-            Took::Replaced(mem::replace(&mut self.held[place], value))
+            Taken::Displaced(mem::replace(&mut self.held[place], value))
         } else {
-            Took::Kept(value)
+            Taken::Returned(value)
         }
     }
 

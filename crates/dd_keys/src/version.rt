@@ -100,6 +100,22 @@ impl Version {
     }
 }
 
+/// Versions are equal where their parts are.
+impl PartialEq for Version {
+    ghost use Rattle.std.specs.Cmp.{partial_equiv_from_equiv};
+    ghost use Rattle.std.specs.Ordering.{eq_by_cmp};
+    ghost use Rattle.std.proofs.lemmas.Cmp.{eq_by_cmp_equiv};
+    ghost use Rattle.dd_keys.specs.Orders.{parts_cmp, parts_total};
+
+    ghost eq = { eq_by_cmp parts_cmp };
+
+    ghost laws = { partial_equiv_from_equiv (eq_by_cmp_equiv parts_total) };
+
+    fn eq(&self, other: &Version) -> bool {
+        self.compare(other).is_eq()
+    }
+}
+
 /// The dictionary order of the parts: digest, patient, study, series, instance number, class, transfer
 /// syntax, instance.
 impl Ordered for Version {
