@@ -9,6 +9,7 @@ use dicomdir::{Files, read_whole};
 use disc::{Call, Disc, DiscFiles, Kind};
 use std::alloc::Global;
 use std::cell::RefCell;
+use std::io::ErrorKind;
 use std::str;
 use std::test::Fail;
 
@@ -27,6 +28,7 @@ read a, file a, fail open, read a, read a > - . . - old > old
 fail folder, folder d, folder d > . - + > none
 fail create, create a, create a > . - + >
 file a, fail read, read a, read a > . . ! old > old
+create a, write xyz, pause write, finish, pause read, read a > + + . + . xyz > xyz
 create a, write xyz, fail store, finish, finish > + + . - - > xyz
 create a, write xyz, fail write, finish, finish > + + . - - >
 create a, fail write, fill, write xyz, fill, finish > + . - - - - >";
@@ -56,7 +58,8 @@ fn prepare(disc: &RefCell<Disc>, verb: &str, what: &str) -> Result<bool, Fail> {
         "pipe" => {
             disc.put(what, Kind::Pipe)?;
         }
-        "fail" => disc.fail(call_of(what).ok_or("no call")?),
+        "fail" => disc.fail(call_of(what).ok_or("no call")?, ErrorKind::Other),
+        "pause" => disc.fail(call_of(what).ok_or("no call")?, ErrorKind::Interrupted),
         _ => return Ok(false),
     }
     Ok(true)

@@ -41,6 +41,7 @@ pub(super) struct Disc {
     alloc: Global,
     entries: Vec<Entry>,
     failing: Option<Call>,
+    kind: ErrorKind,
 }
 
 impl Disc {
@@ -49,12 +50,14 @@ impl Disc {
             alloc,
             entries: Vec::new(alloc),
             failing: None,
+            kind: ErrorKind::Other,
         }
     }
 
     /// The next such call fails, and those after it do not.
-    pub(super) fn fail(&mut self, call: Call) {
+    pub(super) fn fail(&mut self, call: Call, kind: ErrorKind) {
         self.failing = Some(call);
+        self.kind = kind;
     }
 
     /// Puts what is empty at a path, and answers its place.
@@ -95,7 +98,7 @@ impl Disc {
     fn pass(&mut self, call: Call) -> io::Result<()> {
         if self.failing == Some(call) {
             self.failing = None;
-            return Err(io::Error::other("the call was made to fail"));
+            return Err(io::Error::from(self.kind));
         }
         Ok(())
     }
