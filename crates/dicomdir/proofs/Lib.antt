@@ -1,5 +1,6 @@
 mod LineLemmas
 mod LineNames
+mod Publishing
 mod Rest
 mod Stored
 mod TextLemmas

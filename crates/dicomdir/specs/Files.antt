@@ -36,3 +36,7 @@ grown bytes held = record held {
 -- no file is being written any more
 abbrev pub ended : Held → Held
 ended held = record held { current = None }
+
+-- a new file at the path with these bytes, and none is being written any more
+abbrev pub published : List ℕ → List ℕ → Held → Held
+published path bytes held = record { bytes_at = with_file path (Some bytes) held.bytes_at; current = None }

@@ -2,8 +2,8 @@
 ghost use Rattle.std.specs.Prelude.{◌≡◌, ◌↔◌, IfErr, IfOk, IsErr, IsOk, codes, option_map, string_bytes};
 ghost use Rattle.dd_elem.specs.Device.{counted, HasFailed, HasWorked};
 ghost use Rattle.dd_elem.specs.Uid.{IsUid};
-ghost use Rattle.dicomdir.specs.Directory.{directory_text};
-ghost use Rattle.dicomdir.specs.Files.{ended, grown, started};
+ghost use Rattle.dicomdir.specs.Directory.{IsPlan, Layout, directory_text};
+ghost use Rattle.dicomdir.specs.Files.{ended, grown, published, started};
 ghost use Rattle.dicomdir.specs.Trouble.{IsBadLine};
 
 use crate::dir::{DirectoryFault, write_directory};
@@ -38,6 +38,10 @@ pub fn index<F: Files>(
     ensures line { IfErr result (λ trouble. IsBadLine trouble.fault
         → (files.new ≡ files.old) × ¬ IsUid (string_bytes asked.now.uid)) }
     ensures uid { IsOk result → IsUid (string_bytes asked.now.uid) }
+
+    // Where the files tell what they hold, the directory has the bytes of a plan, and no other file changed.
+    ensures done { IsOk result → (plan : Layout) × IsPlan plan
+        × (F.held files.new ≡ option_map (published directory.now (directory_text plan)) (F.held files.old)) }
 {
     let label = label_of(asked.uid.as_str())?;
     refuse_taken(directory, files)?;
@@ -45,9 +49,7 @@ pub fn index<F: Files>(
     let bytes = source_bytes(alloc, source, files)?;
     let plan = plan_of(alloc, bytes.as_slice(), &label)?;
     make_folder(asked.out.as_str(), files)?;
-    start_directory(directory, files)?;
-    send_directory(alloc, &plan, files)?;
-    finish_directory(files)?;
+    publish(alloc, directory, &plan, files)?;
     Ok(plan.size())
 }
 
@@ -152,6 +154,25 @@ fn make_folder<F: Files>(folder: &str, files: &mut F) -> Result<(), Trouble>
             fault: ProgramFault::Folder,
         }),
     }
+}
+
+/// Starts the directory, writes it and ends it.
+#[tactic(auto, using(crate::proofs::Publishing::held_published))]
+fn publish<F: Files>(
+    alloc: Global,
+    directory: &str,
+    plan: &Plan,
+    files: &mut F,
+) -> Result<(), Trouble>
+    ensures line { IfErr result (λ trouble. ¬ IsBadLine trouble.fault) }
+    ensures holds { IsOk result → F.held files.new
+        ≡ option_map (published directory.now (directory_text plan.now)) (F.held files.old) }
+    ensures plan { IsPlan plan.now }
+{
+    let _size = plan.size();
+    start_directory(directory, files)?;
+    send_directory(alloc, plan, files)?;
+    finish_directory(files)
 }
 
 /// Starts the directory.
