@@ -3,7 +3,7 @@
 use crate::images::{hold_the_same, images, taken};
 use dd_catalogue::{
     Catalogue, History, best_is_best, best_is_one, best_of_bests, build, build_order_is_free,
-    gather, join_is_lawful, join_order_is_free,
+    gather, gather_order_is_free, join_is_lawful, join_order_is_free,
 };
 use dd_keys::Version;
 use dd_vectors::{answered, question, text_of};
@@ -121,6 +121,7 @@ fn laws_of_joining() {
     join_is_lawful::<Catalogue>();
     join_order_is_free::<Version>();
     join_order_is_free::<Catalogue>();
+    gather_order_is_free::<Catalogue>();
     build_order_is_free();
     best_is_best();
     best_is_one();

@@ -1,0 +1,82 @@
+//! How many pairs of instances a merge compares.
+
+use crate::images::{hold_the_same, image, taken};
+use dd_catalogue::Catalogue;
+use dd_elem::Uid;
+use dd_keys::Version;
+use dd_vectors::{answered, question};
+use std::alloc::Global;
+use std::test::Fail;
+
+/// The letters of two catalogues, and how many instances of either are at most the greatest of each.
+const COUNTS: &str = "\
+43+212 > 2
+212+43 > 2
+12+12 > 2
+1+4 > 1
+14+2 > 2
+1234+1234 > 4
++12 > 0
+12+ > 0
++ > 0";
+
+/// The catalogue of the first letters merged with that of the others, and the count.
+fn counted(alloc: Global, left: &str, right: &str) -> Result<(Catalogue, u64), Fail> {
+    let mut catalogue = taken(alloc, left)?;
+    let count = catalogue.merge_counted(&taken(alloc, right)?)?;
+    Ok((catalogue, count))
+}
+
+fn count(alloc: Global, case: &str) -> Result<String, Fail> {
+    let (left, right) = question(case).split_once('+').ok_or("one catalogue")?;
+    let (found, count) = counted(alloc, left, right)?;
+    let both = format!(in alloc; "{left}{right}")?;
+    if !hold_the_same(&found, &taken(alloc, both.as_str())?) {
+        return Err("it does not hold both".into());
+    }
+    Ok(answered(alloc, case, &count)?)
+}
+
+#[test]
+fn a_merge_counts_what_it_compares(rt: HostRuntime) -> Result<(), Fail> {
+    for case in COUNTS.split('\n') {
+        assert_eq!(rt; count(rt.alloc(), case)?.as_str(), case);
+    }
+    Ok(())
+}
+
+/// The first image with the instance `1.2.3.NUMBER`.
+fn numbered(alloc: Global, first: &Version, number: u32) -> Result<Version, Fail> {
+    let mut parts = first.parts().copy()?;
+    parts.instance = Uid::new(format!(in alloc; "1.2.3.{number}")?.as_bytes())?;
+    match Version::of(parts) {
+        Ok(version) => Ok(version),
+        Err(_) => Err("it does not fit".into()),
+    }
+}
+
+/// The catalogue of 1,000 images, all before the first.
+fn thousand(alloc: Global) -> Result<Catalogue, Fail> {
+    let first = image(alloc, '1')?;
+    let mut catalogue = Catalogue::new(alloc);
+    for number in 1000..2000 {
+        if catalogue.take(numbered(alloc, &first, number)?).is_err() {
+            return Err("no memory".into());
+        }
+    }
+    Ok(catalogue)
+}
+
+/// How many instances a merge into 1,000 compares, and how many there are then.
+fn merged(alloc: Global, letters: &str) -> Result<(u64, usize), Fail> {
+    let mut catalogue = thousand(alloc)?;
+    let count = catalogue.merge_counted(&taken(alloc, letters)?)?;
+    Ok((count, catalogue.len()))
+}
+
+#[test]
+fn a_merge_compares_no_instance_twice(rt: HostRuntime) -> Result<(), Fail> {
+    assert_eq!(rt; merged(rt.alloc(), "1")?, (1000, 1001));
+    assert_eq!(rt; merged(rt.alloc(), "")?, (0, 1000));
+    Ok(())
+}
