@@ -20,18 +20,22 @@ const COUNTS: &str = "\
 12+ > 0
 + > 0";
 
-/// The catalogue of the first letters merged with that of the others, and the count.
-fn counted(alloc: Global, left: &str, right: &str) -> Result<(Catalogue, u64), Fail> {
-    let mut catalogue = taken(alloc, left)?;
-    let count = catalogue.merge_counted(&taken(alloc, right)?)?;
-    Ok((catalogue, count))
+/// Merges the catalogue of these letters into the other one, and answers the count.
+fn merge(alloc: Global, catalogue: &mut Catalogue, letters: &str) -> Result<u64, Fail> {
+    Ok(catalogue.merge_counted(&taken(alloc, letters)?)?)
+}
+
+/// Does the catalogue hold what one that took all these letters holds?
+fn holds(alloc: Global, catalogue: &Catalogue, left: &str, right: &str) -> Result<bool, Fail> {
+    let letters = format!(in alloc; "{left}{right}")?;
+    Ok(hold_the_same(catalogue, &taken(alloc, letters.as_str())?))
 }
 
 fn count(alloc: Global, case: &str) -> Result<String, Fail> {
     let (left, right) = question(case).split_once('+').ok_or("one catalogue")?;
-    let (found, count) = counted(alloc, left, right)?;
-    let both = format!(in alloc; "{left}{right}")?;
-    if !hold_the_same(&found, &taken(alloc, both.as_str())?) {
+    let mut catalogue = taken(alloc, left)?;
+    let count = merge(alloc, &mut catalogue, right)?;
+    if !holds(alloc, &catalogue, left, right)? {
         return Err("it does not hold both".into());
     }
     Ok(answered(alloc, case, &count)?)
@@ -70,8 +74,7 @@ fn thousand(alloc: Global) -> Result<Catalogue, Fail> {
 /// How many instances a merge into 1,000 compares, and how many there are then.
 fn merged(alloc: Global, letters: &str) -> Result<(u64, usize), Fail> {
     let mut catalogue = thousand(alloc)?;
-    let count = catalogue.merge_counted(&taken(alloc, letters)?)?;
-    Ok((count, catalogue.len()))
+    Ok((merge(alloc, &mut catalogue, letters)?, catalogue.len()))
 }
 
 #[test]

@@ -2,6 +2,7 @@
 
 use crate::images::taken;
 use dd_catalogue::Catalogue;
+use dd_keys::Parts;
 use dd_vectors::{answered, question, text_of};
 use std::alloc::Global;
 use std::test::Fail;
@@ -38,16 +39,24 @@ fn the_least_instances_that_conflict(rt: HostRuntime) -> Result<(), Fail> {
     Ok(())
 }
 
-/// Of each instance the time and the description of its study.
+/// Puts the instance, and the time and the description of its study, behind the text.
+fn push_study(alloc: Global, text: &mut String, parts: &Parts) -> Result<(), Fail> {
+    if !text.is_empty() {
+        text.push_str(", ")?;
+    }
+    text.push_str(str::from_utf8(parts.instance.as_bytes())?)?;
+    text.push(' ')?;
+    text.push_str(str::from_utf8(parts.study.time.as_bytes())?)?;
+    text.push(' ')?;
+    text.push_str(text_of(alloc, parts.study.description.as_bytes())?.as_str())?;
+    Ok(())
+}
+
+/// The studies of all instances.
 fn studies(alloc: Global, catalogue: &Catalogue) -> Result<String, Fail> {
     let mut text = String::new(alloc);
     for version in catalogue.versions() {
-        let (instance, study) = (version.parts().instance, &version.parts().study);
-        let comma = if text.is_empty() { "" } else { ", " };
-        let time = str::from_utf8(study.time.as_bytes())?;
-        let description = text_of(alloc, study.description.as_bytes())?;
-        let told = format!(in alloc; "{comma}{instance} {time} {description}")?;
-        text.push_str(told.as_str())?;
+        push_study(alloc, &mut text, version.parts())?;
     }
     Ok(text)
 }

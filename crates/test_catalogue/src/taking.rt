@@ -1,7 +1,7 @@
 //! What a catalogue takes, hands back and keeps.
 
 use crate::images::{image, taken, told};
-use dd_catalogue::{Catalogue, Took};
+use dd_catalogue::{Catalogue, Refused, Took};
 use dd_elem::Uid;
 use dd_keys::Version;
 use dd_vectors::{answered, question};
@@ -96,5 +96,13 @@ fn count(alloc: Global, letters: &str) -> Result<usize, Fail> {
 fn an_instance_counts_once(rt: HostRuntime) -> Result<(), Fail> {
     assert_eq!(rt; count(rt.alloc(), "")?, 0);
     assert_eq!(rt; count(rt.alloc(), "1ab2")?, 2);
+    Ok(())
+}
+
+#[test]
+fn a_refusal_in_words(rt: HostRuntime) -> Result<(), Fail> {
+    let back = image(rt.alloc(), '1')?;
+    let refused = Refused { back };
+    assert_eq!(rt; format!(in rt.alloc(); "{refused}")?.as_str(), "91 Memory");
     Ok(())
 }
