@@ -1,6 +1,6 @@
 //! How many pairs of instances a merge compares.
 
-use crate::images::{hold_the_same, image, taken};
+use crate::images::{fitting, hold_the_same, image, parts_of, taken};
 use dd_catalogue::Catalogue;
 use dd_elem::Uid;
 use dd_keys::Version;
@@ -51,12 +51,9 @@ fn a_merge_counts_what_it_compares(rt: HostRuntime) -> Result<(), Fail> {
 
 /// The first image with the instance `1.2.3.NUMBER`.
 fn numbered(alloc: Global, first: &Version, number: u32) -> Result<Version, Fail> {
-    let mut parts = first.parts().copy()?;
+    let mut parts = parts_of(first)?;
     parts.instance = Uid::new(format!(in alloc; "1.2.3.{number}")?.as_bytes())?;
-    match Version::of(parts) {
-        Ok(version) => Ok(version),
-        Err(_) => Err("it does not fit".into()),
-    }
+    fitting(parts)
 }
 
 /// The catalogue of 1,000 images, all before the first.

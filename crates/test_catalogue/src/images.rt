@@ -27,12 +27,23 @@ Z 170 'Z '1.2.3.4.5~
 C 170 'B '1.2.3.4.6~
 L 170 'A '1.2.3.4.6~; 0008,0030 TM '101600";
 
-/// The parts of V1 with this instance, and with these changes behind it.
-fn parts_of(alloc: Global, instance: &str, rest: &str) -> Result<Parts, Fail> {
+/// V1 with this instance, and with these changes behind it.
+fn file_of(alloc: Global, instance: &str, rest: &str) -> Result<Vec<u8>, Fail> {
     let changes = format!(in alloc; "0002,0003 UI {instance}; 0008,0018 UI {rest}")?;
-    let bytes = v1_with(alloc, changes.as_str())?;
-    let version = version_of(alloc, &bytes)?;
+    v1_with(alloc, changes.as_str())
+}
+
+/// The parts of this version.
+pub(crate) fn parts_of(version: &Version) -> Result<Parts, Fail> {
     Ok(version.parts().copy()?)
+}
+
+/// The version of parts that fit.
+pub(crate) fn fitting(parts: Parts) -> Result<Version, Fail> {
+    match Version::of(parts) {
+        Ok(version) => Ok(version),
+        Err(_) => Err("it does not fit".into()),
+    }
 }
 
 /// The version of a line, from its digest on.
@@ -40,13 +51,11 @@ fn version_with(alloc: Global, line: &str) -> Result<Version, Fail> {
     let (digest, line) = line.split_once(' ').ok_or("no digest")?;
     let (description, rest) = line.split_once(' ').ok_or("no description")?;
     let instance = rest.split_once(';').map_or(rest, |halves| halves.0);
-    let mut parts = parts_of(alloc, instance, rest)?;
+    let version = version_of(alloc, &file_of(alloc, instance, rest)?)?;
+    let mut parts = parts_of(&version)?;
     parts.digest = [digest.parse()?; 32];
     parts.study.description = Key::copy_of(alloc, &bytes_of(alloc, description)?)?;
-    match Version::of(parts) {
-        Ok(version) => Ok(version),
-        Err(_) => Err("it does not fit".into()),
-    }
+    fitting(parts)
 }
 
 /// The version with this letter.

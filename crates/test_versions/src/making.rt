@@ -88,16 +88,14 @@ fn put(alloc: Global, parts: &mut Parts, tag: &str, value: &[u8]) -> Result<(), 
     Ok(())
 }
 
-/// The parts of V1.
-fn parts_of_v1(alloc: Global) -> Result<Parts, Fail> {
-    let bytes = v1(alloc)?;
-    let version = version_of(alloc, &bytes)?;
+/// The parts of a version.
+fn parts_of(version: &Version) -> Result<Parts, Fail> {
     Ok(version.parts().copy()?)
 }
 
 /// The parts of V1 with these changes, `gggg,eeee VALUE` each, between which `; ` stands.
 fn parts_with(alloc: Global, changes: &str) -> Result<Parts, Fail> {
-    let mut parts = parts_of_v1(alloc)?;
+    let mut parts = parts_of(&version_of(alloc, &v1(alloc)?)?)?;
     for change in changes.split("; ") {
         let (tag, value) = change.split_once(' ').ok_or("no value")?;
         put(alloc, &mut parts, tag, &bytes_of(alloc, value)?)?;
