@@ -141,9 +141,11 @@ turn_not_help : (s : Shape) (names : Names) (held : Held) (waiting : Waiting) (p
     (stopped : Option (Text × List Text)) (word : Text)
     → s.disable_help_subcommand ≡ false → NotHelp stopped
     → turn_fault s names
-    (record { held = held; waiting = waiting; position = position; is_trailing = is_trailing; stopped = stopped }) word ≡ []
+    (record { held = held; waiting = waiting; position = position; is_trailing = is_trailing; stopped = stopped })
+    word ≡ []
     → NotHelp (walked s.rules names
-    (record { held = held; waiting = waiting; position = position; is_trailing = is_trailing; stopped = stopped }) word).stopped
+    (record { held = held; waiting = waiting; position = position; is_trailing = is_trailing; stopped = stopped })
+    word).stopped
 unfolding walked
 turn_not_help s names held waiting position is_trailing (Some p) word enabled fine none = fine
 turn_not_help s names held waiting position true None word enabled fine none =
