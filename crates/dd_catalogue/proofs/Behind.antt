@@ -1,5 +1,5 @@
 -- Lists of references, seen as the values behind them.
-use Rattle.std.specs.Prelude.{◌≡◌, ◌<◌, ◌≤◌, ℕ, List, [], ◌∷◌, Some, None, Result, Ok, Err, length, get_or, set, map, Bool, true, false}
+use Rattle.std.specs.Prelude.{◌≡◌, ◌<◌, ◌≤◌, ℕ, List, [], ◌∷◌, Result, Ok, Err, length, get_or, set, map, true}
 use Rattle.std.specs.List.{AllWithin, HoldsAt, insert}
 use Rattle.std.specs.Ordering.{is_lt}
 use Rattle.std.specs.declared.cmp.Ordering.{Ordering}
@@ -9,9 +9,9 @@ use Rattle.std.proofs.lemmas.List.{map-set, length-map}
 use Rattle.std.proofs.lemmas.List as lists
 use Rattle.std.proofs.Math.ListN as seq
 use Rattle.dd_elem.specs.Ordered.{bytes_cmp}
-use Rattle.dd_catalogue.specs.Best.{IsAbove, IsRising, at, put}
+use Rattle.dd_catalogue.specs.Best.{IsAbove, IsRising, put}
 use Rattle.dd_catalogue.specs.Table.{IsPlace}
-use Rattle.dd_catalogue.proofs.Places.{at_read, at_between, put_replaces, put_keeps, put_between}
+use Rattle.dd_catalogue.proofs.Places.{put_replaces, put_between}
 
 above_under : {B V : Type 0} (now : B → V) (key : V → List ℕ) (k : List ℕ) (m : List B)
     → IsAbove key bytes_cmp k (map now m) → IsAbove (λ x. key (now x)) bytes_cmp k m
@@ -32,7 +32,8 @@ pub place_under : {B V : Type 0} (now : B → V) (key : V → List ℕ) (k : Lis
     → IsPlace (λ x. key (now x)) k m r → IsPlace key k (map now m) r
 place_under now key k m (Ok i) is = (
   subst (λ n. i < n) (sym (length-map m now)) is.0,
-  (λ e. let d = some_item m i is.0 in subst (λ x. bytes_cmp (key x) k ≡ Equal) (sym (lists.get_or-map now m i d e is.0)) (is.1 d)),
+  (λ e. let d = some_item m i is.0 in subst (λ x. bytes_cmp (key x) k ≡ Equal) (sym
+      (lists.get_or-map now m i d e is.0)) (is.1 d)),
 )
 place_under now key k m (Err i) is = (
   subst (λ n. i ≤ n) (sym (length-map m now)) is.0,
@@ -42,24 +43,33 @@ place_under now key k m (Err i) is = (
       subst (λ x. bytes_cmp (key x) k ≡ Greater) (sym (lists.get_or-map now m j d e below)) (is.2 j d a below)),
 )
 
-pub read_under : {B V : Type 0} (now : B → V) (m : List B) (i : ℕ) (x : B) → x ≡ get_or m i x → now x ≡ get_or (map now m) i (now x)
+pub read_under : {B V : Type 0} (now : B → V) (m : List B) (i : ℕ) (x : B) → x ≡ get_or m i x
+    → now x ≡ get_or (map now m) i (now x)
 read_under now m i x read = ap now read ∙ sym (seq.get_or-map now m i x)
 
 -- a value is challenged by one with its key: x is what stands at i
-pub lent_replaces : {B V : Type 0} (now : B → V) (key : V → List ℕ) (values : V → V → Ordering) (v : B) (m : List B) (i : ℕ) (x : B)
-    → IsRising key bytes_cmp (map now m) → i < length (map now m) → HoldsAt (λ w. bytes_cmp (key w) (key (now v)) ≡ Equal) (map now m) i
-    → x ≡ get_or m i x → is_lt (values (now x) (now v)) ≡ true → map now (set m i v) ≡ put key bytes_cmp values (now v) (map now m)
+pub lent_replaces : {B V : Type 0} (now : B → V) (key : V → List ℕ) (values : V → V → Ordering) (v : B) (m : List B)
+    (i : ℕ) (x : B)
+    → IsRising key bytes_cmp (map now m) → i < length (map now m)
+    → HoldsAt (λ w. bytes_cmp (key w) (key (now v)) ≡ Equal) (map now m) i
+    → x ≡ get_or m i x → is_lt (values (now x) (now v)) ≡ true
+    → map now (set m i v) ≡ put key bytes_cmp values (now v) (map now m)
 lent_replaces now key values v m i x up below tie read lt =
-    map-set now m i v ∙ put_replaces key values (now v) (map now m) i (now x) up below tie (read_under now m i x read) lt
+    map-set now m i v ∙ put_replaces key values (now v) (map now m) i (now x) up below tie
+    (read_under now m i x read) lt
 
-pub map_insert : {B V : Type 0} (now : B → V) (m : List B) (i : ℕ) (v : B) → i ≤ length m → map now (insert m i v) ≡ insert (map now m) i (now v)
+pub map_insert : {B V : Type 0} (now : B → V) (m : List B) (i : ℕ) (v : B) → i ≤ length m
+    → map now (insert m i v) ≡ insert (map now m) i (now v)
 map_insert now m zero v le = refl
 map_insert now [] (suc i) v le = absurd (omega arith)
 map_insert now (x ∷ m) (suc i) v le = ap (λ t. now x ∷ t) (map_insert now m i v (omega arith))
 
 -- a value stands between the smaller and the greater keys
-pub lent_between : {B V : Type 0} (now : B → V) (key : V → List ℕ) (values : V → V → Ordering) (v : B) (m : List B) (i : ℕ) → i ≤ length (map now m)
-    → AllWithin (λ w. bytes_cmp (key w) (key (now v)) ≡ Less) (map now m) 0 i → AllWithin (λ w. bytes_cmp (key w) (key (now v)) ≡ Greater) (map now m) i (length (map now m))
+pub lent_between : {B V : Type 0} (now : B → V) (key : V → List ℕ) (values : V → V → Ordering) (v : B) (m : List B)
+    (i : ℕ) → i ≤ length (map now m)
+    → AllWithin (λ w. bytes_cmp (key w) (key (now v)) ≡ Less) (map now m) 0 i
+    → AllWithin (λ w. bytes_cmp (key w) (key (now v)) ≡ Greater) (map now m) i (length (map now m))
     → map now (insert m i v) ≡ put key bytes_cmp values (now v) (map now m)
 lent_between now key values v m i le low high =
-    map_insert now m i v (subst (λ n. i ≤ n) (length-map m now) le) ∙ sym (put_between key values (now v) (map now m) i le low high)
+    map_insert now m i v (subst (λ n. i ≤ n) (length-map m now) le)
+    ∙ sym (put_between key values (now v) (map now m) i le low high)

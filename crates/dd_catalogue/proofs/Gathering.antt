@@ -7,10 +7,12 @@ use Rattle.std.proofs.lemmas.List.Elements.{All-cons}
 use Rattle.std.proofs.lemmas.List.Sums.{fold_more}
 use Rattle.dd_catalogue.specs.Joins.{AreJoined}
 
-pub fold_one : {V : Type 0} (join : V → V → V) (a : V) (xs : List V) (i : ℕ) (x b b' : V) → i < length xs → x ≡ get_or xs i x
+pub fold_one : {V : Type 0} (join : V → V → V) (a : V) (xs : List V) (i : ℕ) (x b b' : V) → i < length xs
+    → x ≡ get_or xs i x
     → b ≡ fold join a (take i xs) → b' ≡ join b x → b' ≡ fold join a (take (i + 1) xs)
 fold_one join a xs i x b b' below read before after =
-    after ∙ ap (λ y. join y x) before ∙ ap (λ y. join (fold join a (take i xs)) y) read ∙ sym (fold_more join a xs i x below)
+    after ∙ ap (λ y. join y x) before ∙ ap (λ y. join (fold join a (take i xs)) y) read
+    ∙ sym (fold_more join a xs i x below)
 
 pub first_value : {V : Type 0} (IsValue : V → Type 0) (join : V → V → V) (a : V) (xs : List V) (i : ℕ) (b : V)
     → b ≡ fold join a (take i xs) → IsValue b → (0 < i → IsValue a) → IsValue a
@@ -21,7 +23,8 @@ some_length : {V : Type 0} (xs : List V) → xs ≢ [] → 0 < length xs
 some_length [] ne = absurd (ne refl)
 some_length (x ∷ xs) ne = omega arith
 
-pub all_values : {V : Type 0} (IsValue : V → Type 0) (a : V) (xs : List V) (i : ℕ) → length xs ≤ i → All IsValue (take i xs) → (0 < i → IsValue a) → AreJoined IsValue a xs
+pub all_values : {V : Type 0} (IsValue : V → Type 0) (a : V) (xs : List V) (i : ℕ) → length xs ≤ i
+    → All IsValue (take i xs) → (0 < i → IsValue a) → AreJoined IsValue a xs
 all_values IsValue a xs i whole rest first = λ ne.
     let some = some_length xs ne in
     let below : 0 < i = omega arith in

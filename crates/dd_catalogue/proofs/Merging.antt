@@ -2,12 +2,12 @@
 use Rattle.std.specs.Prelude.{◌≡◌, ◌<◌, ◌≤◌, ◌+◌, ℕ, List, [], ◌∷◌, ◌++◌, length, get_or, take, map}
 use Rattle.std.specs.List.Sorted.{IsPermutation}
 use Rattle.std.specs.declared.cmp.Ordering.{Ordering}
-use Rattle.std.proofs.Common.{sym, ◌∙◌, ap, append_assoc}
+use Rattle.std.proofs.Common.{sym, ◌∙◌, ap}
 use Rattle.std.proofs.lemmas.List.{take_more, take_all, map-append}
 use Rattle.std.proofs.lemmas.List.Sorted.{Contains-permutation, IsPermutation-sym}
 use Rattle.dd_catalogue.specs.Best.{best, SameMembers}
 use Rattle.dd_catalogue.specs.Rising.{Orders}
-use Rattle.dd_catalogue.specs.BestLaws.{best_push, best_middle}
+use Rattle.dd_catalogue.specs.BestLaws.{best_push}
 use Rattle.dd_catalogue.specs.BestMembers.{best_of_same}
 
 one_more : {V : Type 0} (m : List V) (i : ℕ) (x : V) → i < length m → x ≡ get_or m i x → take (i + 1) m ≡ take i m ++ x ∷ []

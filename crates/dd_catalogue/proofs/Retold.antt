@@ -9,6 +9,7 @@ use Rattle.dd_catalogue.specs.Table.{taken_by}
 use Rattle.dd_catalogue.specs.Taking.{as_took, took_by}
 use Rattle.dd_catalogue.specs.declared.table.Taken.{Taken}
 
-pub retold : (v : Parts) (held : Option Parts) (t : Taken Parts) → t ≡ taken_by parts_cmp v held → as_took t ≡ took_by v held
+pub retold : (v : Parts) (held : Option Parts) (t : Taken Parts) → t ≡ taken_by parts_cmp v held
+    → as_took t ≡ took_by v held
 retold v None t e = ap as_took e
 retold v (Some w) t e = ap as_took e ∙ by_test (is_lt (parts_cmp w v)) (λ l. rw l refl) (λ l. rw l refl)

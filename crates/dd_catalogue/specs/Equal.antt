@@ -1,5 +1,5 @@
 -- Catalogues that compare equal.
-use Rattle.std.specs.Prelude.{◌≡◌, true, false, List, [], ◌∷◌, Bool, ◌&&◌}
+use Rattle.std.specs.Prelude.{◌≡◌, true, false, List, [], ◌∷◌, Bool}
 use Rattle.std.specs.Cmp.Lexicographic.{pointwise}
 use Rattle.std.specs.Ordering.{eq_by_cmp}
 use Rattle.std.proofs.Common.{refl, ap, ◌∙◌}

@@ -3,7 +3,9 @@ use Rattle.dd_catalogue.specs.Histories.{taken, together}
 use Rattle.dd_catalogue.proofs.history.+collect.Given as goal
 
 abbrev pub invariant-loop-version : goal.invariant-loop-version
-invariant-loop-version l = map (λ version. version.now) l.versions.items ≡ map (λ version. version.now) l.fn.versions.items ++ take l.version-index l.version-items
+invariant-loop-version l = map (λ version. version.now) l.versions.items ≡ map
+    (λ version. version.now) l.fn.versions.items ++ take l.version-index l.version-items
 
 abbrev pub invariant-loop-part : goal.invariant-loop-part
-invariant-loop-part l = map (λ version. version.now) l.versions.items ≡ map (λ version. version.now) l.fn.versions.items ++ together (map taken (take l.part-index l.part-items))
+invariant-loop-part l = map (λ version. version.now) l.versions.items ≡ map
+    (λ version. version.now) l.fn.versions.items ++ together (map taken (take l.part-index l.part-items))

@@ -7,5 +7,7 @@ use Rattle.dd_catalogue.proofs.lent.search.Goals as goal
 pub returns : goal.returns
 returns g c =
     let facts = c.binary_search_by.ensures in
-    let found = facts.position (λ w. bytes_cmp (g.T.Keyed.key_of w.now) c.args.key.now) (always_returns_same _ _ _ (λ a r f' called. search rules)) in
-    searched (λ value. g.T.Keyed.key_of value.now) c.args.held.now c.requires c.args.key.now c.binary_search_by.result facts.bound found
+    let found = facts.position (λ w. bytes_cmp (g.T.Keyed.key_of w.now) c.args.key.now) (always_returns_same _ _ _
+    (λ a r f' called. search rules)) in
+    searched (λ value. g.T.Keyed.key_of value.now) c.args.held.now c.requires c.args.key.now
+    c.binary_search_by.result facts.bound found

@@ -4,4 +4,5 @@ use Rattle.dd_catalogue.specs.Best.{best}
 use Rattle.dd_catalogue.proofs.lent.Greatest.of.Given as goal
 
 abbrev pub invariant-loop-value : goal.invariant-loop-value
-invariant-loop-value g l = l.greatest ≡ best g.T.Keyed.key_of bytes_cmp g.T.Ordered.order (map (λ value. value.now) (take l.value-index l.value-items))
+invariant-loop-value g l = l.greatest ≡ best g.T.Keyed.key_of bytes_cmp g.T.Ordered.order (map (λ value. value.now)
+    (take l.value-index l.value-items))

@@ -7,10 +7,12 @@ use Rattle.dd_catalogue.proofs.lent.Greatest.offer.Goals as goal
 
 pub returns-in-Ok : goal.returns-in-Ok
 returns-in-Ok g c =
-    let own = best_of_rising (by_key g.T.Keyed.key_of g.met.T.Ordered.total g.met.T.Ordered.apart) c.args.self.now c.place.ensures.rising in
+    let own = best_of_rising (by_key g.T.Keyed.key_of g.met.T.Ordered.total g.met.T.Ordered.apart) c.args.self.now
+    c.place.ensures.rising in
     c.challenge.ensures ∙ ap (λ m. put g.T.Keyed.key_of bytes_cmp g.T.Ordered.order c.args.value.now m) (sym own)
 
 pub returns-in-Err : goal.returns-in-Err
 returns-in-Err g c =
-    let own = best_of_rising (by_key g.T.Keyed.key_of g.met.T.Ordered.total g.met.T.Ordered.apart) c.args.self.now c.place.ensures.rising in
+    let own = best_of_rising (by_key g.T.Keyed.key_of g.met.T.Ordered.total g.met.T.Ordered.apart) c.args.self.now
+    c.place.ensures.rising in
     rw own c.admit.ensures
