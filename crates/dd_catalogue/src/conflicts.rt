@@ -58,7 +58,8 @@ fn is_torn<'b, 'a>(
     studies: &Greatest<'b, Owned<'a>>,
     series: &Greatest<'b, Owned<'a>>,
 ) -> bool
-    ensures { result ≡ (is_some (at part_of bytes_cmp studies.now version.now.study.uid) || is_some (at part_of bytes_cmp series.now version.now.series.uid)) }
+    ensures { result ≡ (is_some (at part_of bytes_cmp studies.now version.now.study.uid)
+        || is_some (at part_of bytes_cmp series.now version.now.series.uid)) }
 {
     let parts = version.parts();
     studies.get(parts.study.uid.as_bytes()).is_some()

@@ -33,7 +33,8 @@ pub fn build(alloc: Global, history: &History) -> Result<Catalogue, Memory>
 
 /// Adds a reference to each version that was taken.
 fn collect<'a>(history: &'a History, versions: &mut Vec<&'a Version>) -> Result<(), Memory>
-    ensures { OnOk result (map (λ version. version.now) versions.new.items ≡ map (λ version. version.now) versions.old.items ++ taken history.now) }
+    ensures { OnOk result (map (λ version. version.now) versions.new.items
+        ≡ map (λ version. version.now) versions.old.items ++ taken history.now) }
 {
     match history {
         History::Batch(batch) => {

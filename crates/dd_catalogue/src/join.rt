@@ -29,7 +29,8 @@ pub trait Join {
 /// equal (`gather_order_is_free`).
 pub fn gather<J: Join>(first: &mut J, rest: &[J]) -> Result<(), Memory>
     ensures ok { OnOk result (first.new ≡ fold J.joined first.old rest.now) }
-    ensures err { OnErr result ((n : ℕ) × (n < length rest.now) × (first.new ≡ fold J.joined first.old (take n rest.now))) }
+    ensures err { OnErr result ((n : ℕ) × (n < length rest.now)
+        × (first.new ≡ fold J.joined first.old (take n rest.now))) }
     ensures values { OnOk result (AreJoined J.is_value first.old rest.now) }
 {
     for value in rest {

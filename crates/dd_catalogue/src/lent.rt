@@ -42,7 +42,8 @@ impl<'a, T: Keyed> Model for Greatest<'a, T> {
 impl<'a, T: Keyed> Greatest<'a, T> {
     /// The greatest of these values.
     pub(crate) fn of(alloc: Global, mut values: Vec<&'a T>) -> Result<Greatest<'a, T>, Memory>
-        ensures { IfOk result (λ greatest. greatest ≡ best T.key_of bytes_cmp T.order (map (λ value. value.now) values.entry.items)) }
+        ensures { IfOk result (λ greatest. greatest
+            ≡ best T.key_of bytes_cmp T.order (map (λ value. value.now) values.entry.items)) }
     {
         values.sort_by(|one: &&T, other: &&T| one.key().cmp(other.key()))?;
         let mut greatest = Greatest {
@@ -71,7 +72,8 @@ impl<'a, T: Keyed> Greatest<'a, T> {
     fn admit(&mut self, place: usize, value: &'a T) -> Result<(), Memory>
         requires within { place ≤ length self.old }
         requires smaller { AllWithin (λ w. bytes_cmp (T.key_of w) (T.key_of value.now) ≡ Less) self.old 0 place }
-        requires greater { AllWithin (λ w. bytes_cmp (T.key_of w) (T.key_of value.now) ≡ Greater) self.old place (length self.old) }
+        requires greater { AllWithin (λ w. bytes_cmp (T.key_of w) (T.key_of value.now) ≡ Greater)
+            self.old place (length self.old) }
         ensures { OnOk result (self.new ≡ put T.key_of bytes_cmp T.order value.now self.old) }
     {
         self.held.insert(place, value)?;

@@ -112,7 +112,8 @@ impl<T: Keyed + Copied + Drop> Table<T> {
 
     /// The best of these values. Each that is kept is copied once.
     pub(crate) fn of(alloc: Global, values: Vec<&T>) -> Result<Table<T>, Memory>
-        ensures { IfOk result (λ table. table ≡ best T.key_of bytes_cmp T.order (map (λ value. value.now) values.entry.items)) }
+        ensures { IfOk result (λ table. table
+            ≡ best T.key_of bytes_cmp T.order (map (λ value. value.now) values.entry.items)) }
     {
         let greatest = Greatest::of(alloc, values)?;
         Ok(Table {
@@ -147,7 +148,8 @@ impl<T: Keyed + Copied + Drop> Table<T> {
     /// was refused; then nothing has changed. No memory is taken where a value with the key is there.
     pub(crate) fn take(&mut self, value: T) -> Result<Taken<T>, T>
         ensures ok { OnOk result (self.new ≡ best T.key_of bytes_cmp T.order (value ∷ self.old)) }
-        ensures took { IfOk result (λ took. took ≡ taken_by T.order value (at T.key_of bytes_cmp self.old (T.key_of value))) }
+        ensures took { IfOk result (λ took. took
+            ≡ taken_by T.order value (at T.key_of bytes_cmp self.old (T.key_of value))) }
         ensures err { OnErr result (self.new ≡ self.old) }
         ensures back { IfErr result (λ back. back ≡ value) }
         ensures there { IsSome (at T.key_of bytes_cmp self.old (T.key_of value)) → IsOk result }
@@ -162,7 +164,8 @@ impl<T: Keyed + Copied + Drop> Table<T> {
     fn admit(&mut self, place: usize, value: T) -> Result<Taken<T>, T>
         requires within { place ≤ length self.old }
         requires smaller { AllWithin (λ w. bytes_cmp (T.key_of w) (T.key_of value) ≡ Less) self.old 0 place }
-        requires greater { AllWithin (λ w. bytes_cmp (T.key_of w) (T.key_of value) ≡ Greater) self.old place (length self.old) }
+        requires greater { AllWithin (λ w. bytes_cmp (T.key_of w) (T.key_of value) ≡ Greater)
+            self.old place (length self.old) }
         ensures ok { OnOk result (self.new ≡ put T.key_of bytes_cmp T.order value self.old) }
         ensures new { IfOk result (λ took. took ≡ Taken.Fresh) }
         ensures err { OnErr result (self.new ≡ self.old) }

@@ -44,7 +44,8 @@ pub(crate) fn patients<'a>(
     alloc: Global,
     versions: &'a [Version],
 ) -> Result<Greatest<'a, PatientKeys>, Memory>
-    ensures table { IfOk result (λ table. table ≡ best patient_key bytes_cmp patient_cmp (map patient_of versions.now)) }
+    ensures table { IfOk result (λ table. table
+        ≡ best patient_key bytes_cmp patient_cmp (map patient_of versions.now)) }
     ensures fit { OnOk result (All Fits versions.now) }
 {
     let mut lent = Vec::with_capacity(alloc, versions.len())?;

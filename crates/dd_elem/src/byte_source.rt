@@ -24,7 +24,13 @@ pub struct ByteSource<'a> {
 impl<'a> Model for ByteSource<'a> {
     ghost Value = { Source };
 
-    ghost view = { λ s. record { given = take s.at s.bytes.now; left = drop s.at s.bytes.now; piece = s.piece; fails = s.fails; counts = s.counts } };
+    ghost view = { λ s. record {
+      given = take s.at s.bytes.now;
+      left = drop s.at s.bytes.now;
+      piece = s.piece;
+      fails = s.fails;
+      counts = s.counts;
+    } };
 
     ghost invariant = { λ s. (s.at ≤ length s.bytes.now) × (0 < s.piece) };
 }
@@ -33,7 +39,13 @@ impl<'a> ByteSource<'a> {
     /// A reader of `bytes`, of at most `piece` bytes per read (0 counts as 1). With `fails` it fails
     /// for good after so many bytes, before it tells the end.
     pub fn new(bytes: &'a [u8], piece: u64, fails: Option<u64>) -> Self
-        ensures { result ≡ record { given = []; left = bytes.now; piece = max piece 1; fails = fails; counts = record { calls = 0; failures = 0 } } }
+        ensures { result ≡ record {
+          given = [];
+          left = bytes.now;
+          piece = max piece 1;
+          fails = fails;
+          counts = record { calls = 0; failures = 0 };
+        } }
     {
         ByteSource {
             bytes,

@@ -23,7 +23,12 @@ impl Model for FileId {
 
     ghost invariant = { λ id. AreRanks (ranks_of id.patient id.study id.series id.image) };
 
-    ghost inverse = { λ ranks. record { patient = ranks.patient; study = ranks.study; series = ranks.series; image = ranks.image } };
+    ghost inverse = { λ ranks. record {
+      patient = ranks.patient;
+      study = ranks.study;
+      series = ranks.series;
+      image = ranks.image;
+    } };
 }
 
 impl FileId {

@@ -25,7 +25,10 @@ impl Model for SetId {
 
     ghost inverse = { λ bytes. record { bytes = filled 16 bytes; len = length bytes } };
 
-    ghost inverse_ok = { λ id valid. fields_back 16 id.bytes id.len (λ bytes len. record { bytes = bytes; len = len }) valid.0 };
+    ghost inverse_ok = { λ id valid. fields_back 16 id.bytes id.len (λ bytes len. record {
+      bytes = bytes;
+      len = len;
+    }) valid.0 };
 }
 
 /// The bytes are no ID of a file-set.

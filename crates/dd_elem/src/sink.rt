@@ -25,13 +25,26 @@ pub struct Sink {
 impl Model for Sink {
     ghost Value = { Store };
 
-    ghost view = { λ s. record { bytes = s.bytes.items; capacity = vec_capacity s.bytes; fails = s.fails; counts = s.counts } };
+    ghost view = { λ s. record {
+      bytes = s.bytes.items;
+      capacity = vec_capacity s.bytes;
+      fails = s.fails;
+      counts = s.counts;
+    } };
 }
 
 impl Sink {
     /// A writer that holds nothing yet. With `fails` it fails for good after so many bytes.
     pub fn new(alloc: Global, fails: Option<u64>) -> Self
-        ensures { result ≡ record { bytes = []; capacity = 0; fails = fails; counts = record { calls = 0; failures = 0 } } }
+        ensures { result ≡ record {
+          bytes = [];
+          capacity = 0;
+          fails = fails;
+          counts = record {
+            calls = 0;
+            failures = 0;
+          };
+        } }
     {
         Sink {
             bytes: Vec::new(alloc),

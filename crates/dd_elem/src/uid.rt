@@ -26,7 +26,10 @@ impl Model for Uid {
 
     ghost inverse = { λ bytes. record { bytes = filled 64 bytes; len = length bytes } };
 
-    ghost inverse_ok = { λ uid valid. fields_back 64 uid.bytes uid.len (λ bytes len. record { bytes = bytes; len = len }) valid.0 };
+    ghost inverse_ok = { λ uid valid. fields_back 64 uid.bytes uid.len (λ bytes len. record {
+      bytes = bytes;
+      len = len;
+    }) valid.0 };
 }
 
 /// The bytes are no UID.

@@ -44,7 +44,8 @@ pub fn version_of(alloc: Global, bytes: &[u8]) -> Result<Version, KeyFault>
 /// Law: bytes of any memory are a file of a version exactly where they fail no check, and then of one
 /// version only.
 pub fn one_version()
-    ensures one { (file : List ℕ) (version other : Parts) → IsVersion file version → IsVersion file other → version ≡ other }
+    ensures one { (file : List ℕ) (version other : Parts) → IsVersion file version → IsVersion file other
+        → version ≡ other }
     ensures passes { (file : List ℕ) (version : Parts) → IsVersion file version → first_fault file ≡ None }
     ensures fails { (file : List ℕ) → AreBytes file → length file < 2 ^ 64 → first_fault file ≡ None
         → (version : Parts) × IsVersion file version }

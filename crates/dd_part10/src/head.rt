@@ -54,7 +54,8 @@ pub fn write_head<W: Write>(meta: &Meta, writer: &mut W) -> Result<u64, WriteFau
 pub fn head_makes_file()
     ensures { (meta : Meta) (syntax : Syntax) (set : Elements) (text : List ℕ)
         → IsUid meta.class → IsUid meta.instance → IsUid meta.transfer → syntax_of meta.transfer ≡ Some syntax
-        → Spells syntax set text → StartsAbove set → IsFile (head_text meta ++ text) meta set (length (head_text meta)) }
+        → Spells syntax set text → StartsAbove set
+        → IsFile (head_text meta ++ text) meta set (length (head_text meta)) }
 {}
 
 /// How many bytes of group 0002 stand behind the group length.

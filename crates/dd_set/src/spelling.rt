@@ -17,7 +17,8 @@ pub fn no_fault_is_a_set()
 
 /// The front of a spelling, where it is no spelling itself, is refused as Truncated.
 pub fn front_is_truncated()
-    ensures { (syntax : Syntax) (set : Elements) (front more : List ℕ) → AreBytes front → Spells syntax set (front ++ more)
+    ensures { (syntax : Syntax) (set : Elements) (front more : List ℕ) → AreBytes front
+        → Spells syntax set (front ++ more)
         → ((other : Elements) → ¬ Spells syntax other front) → first_fault syntax front ≡ Some Truncated }
 {}
 
@@ -28,7 +29,8 @@ pub fn set_has_one_spelling()
 
 /// Bytes spell at most one set.
 pub fn bytes_spell_one_set()
-    ensures { (syntax : Syntax) (a b : Elements) (bytes : List ℕ) → Spells syntax a bytes → Spells syntax b bytes → a ≡ b }
+    ensures { (syntax : Syntax) (a b : Elements) (bytes : List ℕ) → Spells syntax a bytes → Spells syntax b bytes
+        → a ≡ b }
 {}
 
 /// Reading wants memory only behind a whole header at least.

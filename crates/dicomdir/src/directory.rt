@@ -46,7 +46,8 @@ fn row_fields(alloc: Global, versions: &[Version], row: &PlanRecord) -> Result<V
 
 /// The records as items.
 pub fn record_items<'a>(alloc: Global, rows: &'a [Vec<Field>]) -> Result<Vec<Item<'a>>, Memory>
-    ensures { IfOk result (λ records. items_view records.items ≡ items_of (map record_part (map fields_entries rows.now))) }
+    ensures { IfOk result (λ records. items_view records.items
+        ≡ items_of (map record_part (map fields_entries rows.now))) }
 {
     let mut records = Vec::new(alloc);
     for fields in rows {
@@ -60,7 +61,8 @@ pub fn record_items<'a>(alloc: Global, rows: &'a [Vec<Field>]) -> Result<Vec<Ite
 /// The elements before the records: File-set ID, the offsets of the first and of the last root
 /// record, and the consistency flag (PS3.3 section F.3.2.2).
 pub fn front_fields(alloc: Global, id: &SetId, first: u32, last: u32) -> Result<Vec<Field>, Memory>
-    ensures { IfOk result (λ fields. fields_entries fields ≡ text_entry (tag 0x0004 0x1130) CS id.now ∷ long_entry (tag 0x0004 0x1200) first
+    ensures { IfOk result (λ fields. fields_entries fields
+        ≡ text_entry (tag 0x0004 0x1130) CS id.now ∷ long_entry (tag 0x0004 0x1200) first
         ∷ long_entry (tag 0x0004 0x1202) last ∷ short_entry (tag 0x0004 0x1212) 0x0000 ∷ []) }
 {
     let mut fields = Vec::new(alloc);
@@ -84,7 +86,11 @@ pub fn directory_set<'a>(
     records: Vec<Item<'a>>,
 ) -> Result<DataSet<'a>, Memory>
     ensures { IfOk result (λ set. set_view set ≡ elements_of (entries_of front.now
-        ++ record { tag = tag 0x0004 0x1220; vr = Some SQ; content = items Defined (items_view records.entry.items) } ∷ [])) }
+        ++ record {
+          tag = tag 0x0004 0x1220;
+          vr = Some SQ;
+          content = items Defined (items_view records.entry.items);
+        } ∷ [])) }
 {
     let mut elements = borrowed(alloc, front)?;
     elements.push(sequence(records))?;
@@ -93,7 +99,11 @@ pub fn directory_set<'a>(
 
 /// The Directory Record Sequence (0004,1220).
 fn sequence<'a>(records: Vec<Item<'a>>) -> Element<'a>
-    ensures { element_view result ≡ record { tag = tag 0x0004 0x1220; vr = Some SQ; content = items Defined (items_view records.entry.items) } }
+    ensures { element_view result ≡ record {
+      tag = tag 0x0004 0x1220;
+      vr = Some SQ;
+      content = items Defined (items_view records.entry.items);
+    } }
 {
     let length = Length::Defined;
     let items = records;

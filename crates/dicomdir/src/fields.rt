@@ -31,7 +31,8 @@ pub fn push_text(
     vr: Vr,
     text: &[u8],
 ) -> Result<(), Memory>
-    ensures { OnOk result (entries_of fields.new.items ≡ entries_of fields.old.items ++ text_entry tag vr text.now ∷ []) }
+    ensures { OnOk result (entries_of fields.new.items ≡ entries_of fields.old.items
+        ++ text_entry tag vr text.now ∷ []) }
 {
     let bytes = even(alloc, text, SPACE)?;
     fields.push(Field { tag, vr, bytes })?;
@@ -59,7 +60,8 @@ pub fn push_bytes(
     vr: Vr,
     bytes: &[u8],
 ) -> Result<(), Memory>
-    ensures { OnOk result (entries_of fields.new.items ≡ entries_of fields.old.items ++ bytes_entry tag vr bytes.now ∷ []) }
+    ensures { OnOk result (entries_of fields.new.items ≡ entries_of fields.old.items
+        ++ bytes_entry tag vr bytes.now ∷ []) }
 {
     let bytes = Vec::from_slice(alloc, bytes)?;
     fields.push(Field { tag, vr, bytes })?;

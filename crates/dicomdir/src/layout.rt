@@ -154,9 +154,19 @@ impl Model for Plan {
 
     ghost Value = { Layout };
 
-    ghost view = { λ plan. record { label = plan.label; versions = plan.versions.items; records = plan.records.items; size = plan.size } };
+    ghost view = { λ plan. record {
+      label = plan.label;
+      versions = plan.versions.items;
+      records = plan.records.items;
+      size = plan.size;
+    } };
 
-    ghost invariant = { λ plan. IsPlan (record { label = plan.label; versions = plan.versions.items; records = plan.records.items; size = plan.size }) };
+    ghost invariant = { λ plan. IsPlan (record {
+      label = plan.label;
+      versions = plan.versions.items;
+      records = plan.records.items;
+      size = plan.size;
+    }) };
 }
 
 impl Plan {
@@ -203,7 +213,8 @@ pub fn lay_out(
 ) -> Result<Plan, PlanFault>
     ensures planned { IfOk result (λ plan. plan ≡ plan_of label.now version.now) }
     ensures allowed { IsOk result → refusal limits label.now version.now ≡ None }
-    ensures refused { IfErr result (λ fault. (fault ≡ PlanFault.Memory) ⊎ (refusal limits label.now version.now ≡ Some fault)) }
+    ensures refused { IfErr result (λ fault. (fault ≡ PlanFault.Memory)
+        ⊎ (refusal limits label.now version.now ≡ Some fault)) }
 
     // No offset points out of the file.
     ensures in_file { IfOk result IsPlan }

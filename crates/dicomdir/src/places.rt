@@ -52,8 +52,10 @@ pub fn places_of(label: &Label, parts: &Parts) -> Places
 
 /// The records that stand there.
 pub fn only_records(alloc: Global, at: &Places) -> Result<Vec<PlanRecord>, AllocError>
-    requires { (at.now.patient < 2 ^ 32) × (at.now.study < 2 ^ 32) × (at.now.series < 2 ^ 32) × (at.now.image < 2 ^ 32) }
-    ensures { IfOk result (λ records. records.items ≡ only_rows at.now.patient at.now.study at.now.series at.now.image) }
+    requires { (at.now.patient < 2 ^ 32) × (at.now.study < 2 ^ 32) × (at.now.series < 2 ^ 32)
+        × (at.now.image < 2 ^ 32) }
+    ensures { IfOk result (λ records. records.items
+        ≡ only_rows at.now.patient at.now.study at.now.series at.now.image) }
 {
     let Some(file) = FileId::ranked(1, 1, 1, 1) else {
         unreachable!()

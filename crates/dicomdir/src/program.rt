@@ -122,7 +122,8 @@ fn tell_trouble<E: Write>(trouble: &Trouble, asked: &Asked, directory: &str, err
 fn tell_done<O: Write>(size: u32, out: &mut O) -> u8
     ensures status { (result ≡ 0) ⊎ (result ≡ 1) }
     ensures done { result ≡ 0 → TakesAll (O.contents out.old) (O.contents out.new)
-        (O.failures out.old) (O.failures out.new) (codes "DONE 1 instances, " ++ decimal size ++ codes " bytes" ++ 10 ∷ []) }
+        (O.failures out.old) (O.failures out.new) (codes "DONE 1 instances, " ++ decimal size ++ codes " bytes"
+        ++ 10 ∷ []) }
     ensures failed { result ≡ 1 → HasFailed (O.failures out.old) (O.failures out.new) }
 {
     let mut digits = Buffer::new();

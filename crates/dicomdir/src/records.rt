@@ -57,7 +57,8 @@ fn push_links(
     lower: u32,
     kind: &[u8],
 ) -> Result<(), Memory>
-    ensures { OnOk result (entries_of fields.new.items ≡ entries_of fields.old.items ++ link_entries next lower kind.now) }
+    ensures { OnOk result (entries_of fields.new.items ≡ entries_of fields.old.items
+        ++ link_entries next lower kind.now) }
 {
     push_long(alloc, fields, tag_of(0x0004, 0x1400), next)?;
     push_short(alloc, fields, tag_of(0x0004, 0x1410), 0xffff)?;
@@ -158,7 +159,8 @@ fn push_series(alloc: Global, fields: &mut Vec<Field>, keys: &SeriesKeys) -> Res
 }
 
 fn push_file(alloc: Global, fields: &mut Vec<Field>, file: Option<FileId>) -> Result<(), Memory>
-    ensures { OnOk result (entries_of fields.new.items ≡ entries_of fields.old.items ++ text_entry (tag 0x0004 0x1500) CS (file_text file) ∷ []) }
+    ensures { OnOk result (entries_of fields.new.items ≡ entries_of fields.old.items
+        ++ text_entry (tag 0x0004 0x1500) CS (file_text file) ∷ []) }
 {
     match file {
         None => push_text(alloc, fields, tag_of(0x0004, 0x1500), Vr::CS, b""),
@@ -172,7 +174,8 @@ fn push_reference(
     file: Option<FileId>,
     parts: &Parts,
 ) -> Result<(), Memory>
-    ensures { OnOk result (entries_of fields.new.items ≡ entries_of fields.old.items ++ reference_entries (file_text file) parts.now) }
+    ensures { OnOk result (entries_of fields.new.items ≡ entries_of fields.old.items
+        ++ reference_entries (file_text file) parts.now) }
 {
     push_file(alloc, fields, file)?;
     push_uid(
@@ -214,7 +217,8 @@ fn push_image(
     file: Option<FileId>,
     parts: &Parts,
 ) -> Result<(), Memory>
-    ensures { OnOk result (entries_of fields.new.items ≡ entries_of fields.old.items ++ image_entries (file_text file) parts.now) }
+    ensures { OnOk result (entries_of fields.new.items ≡ entries_of fields.old.items
+        ++ image_entries (file_text file) parts.now) }
 {
     push_reference(alloc, fields, file, parts)?;
     push_digest(alloc, fields, &parts.digest)?;

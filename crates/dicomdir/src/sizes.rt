@@ -104,7 +104,8 @@ fn image_size(parts: &Parts) -> u64
 
 /// A record of this level: its Item tag and length, the elements that link it, and its keys.
 pub fn record_size(level: Level, parts: &Parts) -> u64
-    ensures exact { (next lower : ℕ) (file : Option Ranks) → IsFileOf level file → result ≡ record_size (record_entries level next lower file parts.now) }
+    ensures exact { (next lower : ℕ) (file : Option Ranks) → IsFileOf level file
+        → result ≡ record_size (record_entries level next lower file parts.now) }
     ensures short { LevelIsShort level parts.now }
     ensures few { result ≤ 8000 }
 {
