@@ -1,7 +1,7 @@
 //! The versions that tests take, each with a letter.
 
 use dd_catalogue::Catalogue;
-use dd_elem::{Key, Ordered};
+use dd_elem::Key;
 use dd_keys::{Parts, Version, version_of};
 use dd_vectors::{bytes_of, text_of, v1_with};
 use std::alloc::Global;
@@ -95,10 +95,4 @@ pub(crate) fn told(alloc: Global, version: &Version) -> Result<String, Fail> {
     let (digest, instance) = (parts.digest[0], parts.instance);
     let description = text_of(alloc, parts.study.description.as_bytes())?;
     Ok(format!(in alloc; "{digest} {description} {instance}")?)
-}
-
-/// Do the catalogues hold the same versions?
-pub(crate) fn hold_the_same(left: &Catalogue, right: &Catalogue) -> bool {
-    let mut pairs = left.versions().iter().zip(right.versions());
-    left.len() == right.len() && pairs.all(|(one, other)| one.compare(other).is_eq())
 }

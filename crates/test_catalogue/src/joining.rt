@@ -1,9 +1,9 @@
 //! Joins of versions, of catalogues and of histories.
 
-use crate::images::{hold_the_same, images, taken};
+use crate::images::{images, taken};
 use dd_catalogue::{
     Catalogue, History, best_is_best, best_is_one, best_of_bests, build, build_order_is_free,
-    gather, gather_order_is_free, join_is_lawful, join_order_is_free,
+    equal_is_same, gather, gather_order_is_free, join_is_lawful, join_order_is_free,
 };
 use dd_keys::Version;
 use dd_vectors::{answered, question, text_of};
@@ -67,7 +67,7 @@ fn built(alloc: Global, groups: &str) -> Result<Catalogue, Fail> {
 /// Does the catalogue, and does its copy, hold the four images?
 fn holds_four(alloc: Global, catalogue: &Catalogue) -> Result<bool, Fail> {
     let four = taken(alloc, "1234")?;
-    Ok(hold_the_same(catalogue, &four) && hold_the_same(&catalogue.copy()?, &four))
+    Ok(*catalogue == four && catalogue.copy()? == four)
 }
 
 #[test]
@@ -126,4 +126,5 @@ fn laws_of_joining() {
     best_is_best();
     best_is_one();
     best_of_bests();
+    equal_is_same();
 }

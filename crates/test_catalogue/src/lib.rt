@@ -4,6 +4,8 @@
 #[cfg(test)]
 mod counting;
 #[cfg(test)]
+mod equality;
+#[cfg(test)]
 mod images;
 #[cfg(test)]
 mod joining;

@@ -1,0 +1,55 @@
+//! Which versions and which catalogues are equal, and which catalogues are empty.
+
+use crate::images::{image, taken};
+use dd_vectors::{answered, question};
+use std::alloc::Global;
+use std::test::Fail;
+
+/// The letters of two versions, and whether they are equal.
+const VERSIONS: &str = "\
+1=1 > true
+1=2 > false
+a=b > false
+A=Z > false";
+
+/// The letters of two catalogues, whether they are equal, and whether the first is empty.
+const CATALOGUES: &str = "\
+12=21 > true false
+1=11 > true false
+= > true true
+=1 > false true
+1=12 > false false
+1=2 > false false
+a=b > false false
+A=B > false false";
+
+fn versions(alloc: Global, case: &str) -> Result<String, Fail> {
+    let mut letters = question(case).chars();
+    let left = image(alloc, letters.next().ok_or("no letter")?)?;
+    let right = image(alloc, letters.next_back().ok_or("no letter")?)?;
+    Ok(answered(alloc, case, &(left == right))?)
+}
+
+#[test]
+fn versions_of_the_same_parts_are_equal(rt: HostRuntime) -> Result<(), Fail> {
+    for case in VERSIONS.split('\n') {
+        assert_eq!(rt; versions(rt.alloc(), case)?.as_str(), case);
+    }
+    Ok(())
+}
+
+fn catalogues(alloc: Global, case: &str) -> Result<String, Fail> {
+    let (left, right) = question(case).split_once('=').ok_or("one catalogue")?;
+    let first = taken(alloc, left)?;
+    let are_equal = first == taken(alloc, right)?;
+    let is_empty = first.is_empty();
+    Ok(answered(alloc, case, &format_args!("{are_equal} {is_empty}"))?)
+}
+
+#[test]
+fn catalogues_of_the_same_versions_are_equal(rt: HostRuntime) -> Result<(), Fail> {
+    for case in CATALOGUES.split('\n') {
+        assert_eq!(rt; catalogues(rt.alloc(), case)?.as_str(), case);
+    }
+    Ok(())
+}
