@@ -1,0 +1,12 @@
+pub mod Blocks
+pub mod Counts
+pub mod Lengths
+pub mod Neighbourhood
+pub mod RecordSizes
+pub mod Records
+pub mod RowsByWalk
+pub mod Splits
+pub mod Trees
+pub mod Valid
+pub mod Whole
+pub mod WorkedOffsets

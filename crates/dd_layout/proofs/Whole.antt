@@ -1,0 +1,100 @@
+-- How long a directory is, and that its elements are those of a set.
+use Rattle.std.proofs.Common.{◌≡◌, ℕ, ◌+◌, ◌<◌, ◌≤◌, List, [], ◌∷◌, length, map, Some, refl, sum_by, arith}
+use Rattle.std.specs.List.{All, AllByRecursion}
+use Rattle.std.proofs.lemmas.List.Elements.{recursion_from_All}
+use Rattle.std.proofs.lemmas.List.Sums.{sum_by-cons}
+use Rattle.byteorder.specs.Endian.{little_bytes}
+use Rattle.dd_elem.specs.declared.vr.Vr.TheVariants.{CS, SQ, UL, US}
+use Rattle.dd_part10.specs.Head.{head_text}
+use Rattle.dd_set.specs.Elements.{Entry, Part, bytes, items, no_elements, elements_of, items_of}
+use Rattle.dd_set.specs.Spelling.{AreElements, AreItems, max_levels, undefined_length, items_text}
+use Rattle.dd_set.specs.declared.syntax.Length.TheVariants.{Defined}
+use Rattle.dd_set.specs.declared.syntax.Syntax.TheVariants.{Explicit}
+use Rattle.dd_set.proofs.Even.{length-element, length-items, length-item}
+use Rattle.dd_layout.specs.declared.label.Label.{Label}
+use Rattle.dd_layout.specs.Directory.{directory_entries, first_offset, meta_of, records_entry}
+use Rattle.dd_layout.specs.Entries.{tag, padded, long_entry, short_entry}
+use Rattle.dd_layout.specs.Records.{record_part}
+use Rattle.dd_layout.specs.Sizes.{entries_size, record_size}
+use Rattle.dd_layout.proofs.Lengths.{length-padded, short_more}
+use Rattle.dd_layout.proofs.Valid.{one_valid, short_number}
+
+-- ---- lengths
+
+pub items_length : (records : List (List Entry)) → length (items_text (items_of (map record_part records)))
+    ≡ sum_by record_size records
+items_length [] = refl
+items_length (es ∷ more) =
+    let a = length-item Defined (elements_of es) (items_of (map record_part more)) in
+    let b = items_length more in
+    let c = sum_by-cons record_size es more in
+    omega arith
+
+pub directory_length : (id : List ℕ) (first last : ℕ) (parts : List Part)
+    → entries_size (directory_entries id first last parts)
+    ≡ 54 + length (padded 0x20 id) + length (items_text (items_of parts))
+directory_length id first last parts =
+    let records : List Entry = records_entry parts ∷ [] in
+    let flag : List Entry = short_entry (tag 0x0004 0x1212) 0x0000 ∷ records in
+    let lasts : List Entry = long_entry (tag 0x0004 0x1202) last ∷ flag in
+    let firsts : List Entry = long_entry (tag 0x0004 0x1200) first ∷ lasts in
+    let a = short_more (tag 0x0004 0x1130) CS (padded 0x20 id) firsts refl in
+    let b = short_more (tag 0x0004 0x1200) UL (little_bytes 4 first) lasts refl in
+    let c = short_more (tag 0x0004 0x1202) UL (little_bytes 4 last) flag refl in
+    let d = short_more (tag 0x0004 0x1212) US (little_bytes 2 0x0000) records refl in
+    let e = length-element (tag 0x0004 0x1220) (Some SQ) (items Defined (items_of parts)) no_elements in
+    let f = length-items (Some SQ) Defined (items_of parts) in
+    omega arith
+
+pub whole_length : (label : Label) (first last : ℕ) (records : List (List Entry))
+    → length (head_text (meta_of label))
+    + entries_size (directory_entries label.id first last (map record_part records))
+    ≡ first_offset label + sum_by record_size records
+whole_length label first last records =
+    let a = directory_length label.id first last (map record_part records) in
+    let b = directory_length label.id 0 0 [] in
+    let c = items_length records in
+    omega arith
+
+-- ---- elements of a set
+
+items_valid : (records : List (List Entry))
+    → AllByRecursion (λ es. AreElements Explicit 31 0 (elements_of es)) records
+    → sum_by record_size records < undefined_length
+    → AreItems Explicit 32 (items_of (map record_part records))
+items_valid [] valid below = tt
+items_valid (es ∷ more) valid below =
+    let a = sum_by-cons record_size es more in
+    (valid.0, omega arith, items_valid more valid.1 (omega arith))
+
+directory_valid : (id : List ℕ) (first last : ℕ) (parts : List Part) → length id ≤ 16
+    → AreItems Explicit 32 (items_of parts) → length (items_text (items_of parts)) < undefined_length
+    → AreElements Explicit 32 0 (elements_of (directory_entries id first last parts))
+directory_valid id first last parts few valid below =
+    let records : List Entry = records_entry parts ∷ [] in
+    let flag : List Entry = short_entry (tag 0x0004 0x1212) 0x0000 ∷ records in
+    let lasts : List Entry = long_entry (tag 0x0004 0x1202) last ∷ flag in
+    let firsts : List Entry = long_entry (tag 0x0004 0x1200) first ∷ lasts in
+    let e = length-padded 0x20 id in
+    let a : AreElements Explicit 32 0x00041213 (elements_of records) =
+    (omega arith, omega arith, omega arith, (λ e. omega arith), (valid, below), tt) in
+    let b : AreElements Explicit 32 0x00041203 (elements_of flag) =
+    one_valid 32 0x00041203 (tag 0x0004 0x1212) (Some US) (bytes (little_bytes 2 0x0000)) (elements_of records) tt
+    tt (refl, omega arith) a in
+    let c : AreElements Explicit 32 0x00041201 (elements_of lasts) =
+    one_valid 32 0x00041201 (tag 0x0004 0x1202) (Some UL) (bytes (little_bytes 4 last)) (elements_of flag) tt tt
+    (short_number last) b in
+    let d : AreElements Explicit 32 0x00041131 (elements_of firsts) =
+    one_valid 32 0x00041131 (tag 0x0004 0x1200) (Some UL) (bytes (little_bytes 4 first)) (elements_of lasts) tt tt
+    (short_number first) c in
+    one_valid 32 0 (tag 0x0004 0x1130) (Some CS) (bytes (padded 0x20 id)) (elements_of firsts) tt tt
+    (omega arith, omega arith) d
+
+pub whole_valid : (id : List ℕ) (first last : ℕ) (records : List (List Entry)) → length id ≤ 16
+    → All (λ es. AreElements Explicit 31 0 (elements_of es)) records → sum_by record_size records < undefined_length
+    → AreElements Explicit max_levels 0 (elements_of (directory_entries id first last (map record_part records)))
+whole_valid id first last records few valid below =
+    let a = items_length records in
+    directory_valid id first last (map record_part records) few
+    (items_valid records (recursion_from_All (λ es. AreElements Explicit 31 0 (elements_of es)) records valid)
+    below) (omega arith)

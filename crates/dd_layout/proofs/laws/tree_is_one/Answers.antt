@@ -1,0 +1,5 @@
+use Rattle.dd_layout.proofs.Trees.{tree_is_one}
+use Rattle.dd_layout.proofs.laws.tree_is_one.Goals as goal
+
+pub returns : goal.returns
+returns c = tree_is_one

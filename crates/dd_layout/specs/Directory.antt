@@ -1,0 +1,39 @@
+-- The elements of a directory around its records, and what stands before the first one (PS3.3 sections F.3.2.1 and
+-- F.3.2.2, PS3.10 section 8.6).
+use Rattle.std.specs.Prelude.{ℕ, ◌+◌, List, [], ◌∷◌, ◌++◌, length, Some, codes}
+use Rattle.dd_elem.specs.declared.vr.Vr.TheVariants.{CS, SQ}
+use Rattle.dd_part10.specs.declared.meta.Meta.{Meta}
+use Rattle.dd_part10.specs.Head.{head_text}
+use Rattle.dd_set.specs.declared.syntax.Length.TheVariants.{Defined}
+use Rattle.dd_set.specs.Elements.{Entry, Part, items, elements_of, items_of}
+use Rattle.dd_set.specs.Spelling.{elements_text}
+use Rattle.dd_layout.specs.declared.label.Label.{Label}
+use Rattle.dd_layout.specs.Entries.{tag, text_entry, long_entry, short_entry}
+
+-- what stands before the records: File-set ID, the offsets of the first and of the last root record, the
+-- consistency flag
+abbrev pub front_entries : List ℕ → ℕ → ℕ → List Entry
+front_entries id first last =
+    text_entry (tag 0x0004 0x1130) CS id ∷ long_entry (tag 0x0004 0x1200) first ∷ long_entry (tag 0x0004 0x1202) last
+    ∷ short_entry (tag 0x0004 0x1212) 0x0000 ∷ []
+
+-- the sequence of the records
+abbrev pub records_entry : List Part → Entry
+records_entry records = record { tag = tag 0x0004 0x1220; vr = Some SQ; content = items Defined (items_of records) }
+
+-- the elements of a directory
+abbrev pub directory_entries : List ℕ → ℕ → ℕ → List Part → List Entry
+directory_entries id first last records = front_entries id first last ++ (records_entry records ∷ [])
+
+-- what stands in group 0002 of a directory
+abbrev pub meta_of : Label → Meta
+meta_of label = record {
+  class = codes "1.2.840.10008.1.3.10";
+  instance = label.uid;
+  transfer = codes "1.2.840.10008.1.2.1";
+}
+
+-- the bytes before the first record
+abbrev pub first_offset : Label → ℕ
+first_offset label =
+    length (head_text (meta_of label)) + length (elements_text (elements_of (directory_entries label.id 0 0 [])))

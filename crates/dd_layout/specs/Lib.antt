@@ -1,0 +1,12 @@
+pub mod Bounds
+pub mod Cells
+pub mod Directory
+pub mod Entries
+pub mod Neighbours
+pub mod Paths
+pub mod Plans
+pub mod Records
+pub mod Sizes
+pub mod Tree
+pub mod Walk
+pub mod Worked

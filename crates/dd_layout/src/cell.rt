@@ -1,0 +1,99 @@
+//! An element of a record, whose value is lent.
+
+ghost use Rattle.std.specs.Prelude.{◌≡◌, ◌++◌, ◌≤◌, ◌∷◌, [], length, if◌then◌else◌};
+ghost use Rattle.byteorder.specs.Endian.{little_bytes};
+ghost use Rattle.dd_elem.specs.Vr.{is_long_of};
+ghost use Rattle.dd_layout.specs.Cells.{IsShort, bare_value, cell_entry, whole_value};
+ghost use Rattle.dd_layout.specs.Sizes.{entries_size};
+
+use byteorder::{ByteOrder, LittleEndian};
+use dd_elem::{Tag, Vr};
+
+/// An element of a record in Explicit VR.
+#[derive(Clone, Copy, Debug)]
+pub struct Cell<'a> {
+    /// Its tag.
+    pub tag: Tag,
+    /// Its value representation.
+    pub vr: Vr,
+    /// Its value.
+    pub value: CellValue<'a>,
+}
+
+/// The value of an element of a record, by how it is made even (PS3.5 section 6.2).
+#[derive(Clone, Copy, Debug)]
+pub enum CellValue<'a> {
+    /// A number of 32 bits, little endian.
+    Long([u8; 4]),
+    /// A number of 16 bits, little endian.
+    Short([u8; 2]),
+    /// Text, which a space makes even.
+    Text(&'a [u8]),
+    /// The text of a File ID, which a space makes even.
+    File([u8; 35]),
+    /// A UID, which a NUL makes even.
+    Uid(&'a [u8]),
+    /// Bytes as they are.
+    Bytes(&'a [u8]),
+}
+
+impl CellValue<'_> {
+    /// The bytes without padding.
+    pub fn as_bytes(&self) -> &[u8]
+        ensures { result.now ≡ bare_value self.now }
+    {
+        match self {
+            CellValue::Long(number) => number,
+            CellValue::Short(number) => number,
+            CellValue::Text(text) => text,
+            CellValue::File(text) => text,
+            CellValue::Uid(uid) => uid,
+            CellValue::Bytes(bytes) => bytes,
+        }
+    }
+
+    /// What stands behind the bytes, so that the length is even.
+    pub fn padding(&self) -> &'static [u8]
+        ensures whole { bare_value self.now ++ result.now ≡ whole_value self.now }
+        ensures few { length result.now ≤ 1 }
+    {
+        let padding: &'static [u8] = match self {
+            CellValue::Text(_) | CellValue::File(_) => b" ",
+            CellValue::Uid(_) => b"\0",
+            CellValue::Long(_) | CellValue::Short(_) | CellValue::Bytes(_) => return b"",
+        };
+        if self.as_bytes().len() % 2 == 1 {
+            padding
+        } else {
+            b""
+        }
+    }
+}
+
+impl Cell<'_> {
+    /// How many bytes the element has: its header, its value and the padding (PS3.5 section 7.1.2).
+    pub fn size(&self) -> u64
+        ensures { result ≡ entries_size (cell_entry self.now ∷ []) }
+    {
+        let value = self.value.as_bytes().len() + self.value.padding().len();
+        header_size(self.vr) + value as u64
+    }
+}
+
+/// How many bytes the header of an element has (PS3.5 section 7.1.2).
+pub(crate) fn header_size(vr: Vr) -> u64
+    ensures exact { result ≡ (if is_long_of vr then 12 else 8) }
+    ensures few { result ≤ 12 }
+{
+    if vr.is_long() { 12 } else { 8 }
+}
+
+/// The value of a number of 32 bits.
+pub(crate) fn long_value(number: u32) -> CellValue<'static>
+    ensures exact { whole_value result ≡ little_bytes 4 number }
+    ensures short { IsShort (whole_value result) }
+{
+    let mut bytes = [0; 4];
+    LittleEndian::write_u32(&mut bytes, number);
+    CellValue::Long(bytes)
+}

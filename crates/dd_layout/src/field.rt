@@ -1,0 +1,155 @@
+//! What the elements of records hold.
+
+ghost use Rattle.std.specs.Prelude.{◌≡◌, ◌≤◌, IfSome, length};
+ghost use Rattle.dd_layout.specs.Cells.{IsShort, cell_values, charset_of, charset_values, field_values, whole_value};
+ghost use Rattle.dd_layout.specs.Entries.{padded};
+ghost use Rattle.dd_layout.specs.Records.{file_text};
+
+use crate::cell::{CellValue, long_value};
+use crate::level::Level;
+use crate::record::PlanRecord;
+use dd_elem::{FileId, Key, Uid};
+use dd_keys::Parts;
+
+/// What an element of a record holds (PS3.3 section F.3.2.2 and annex F.5).
+#[derive(Clone, Copy, Debug, PartialEq, Eq)]
+pub enum Field {
+    /// The offset of the next record of the same parent.
+    Next,
+    /// The in-use flag, of a record that is in use.
+    InUse,
+    /// The offset of the first record below.
+    Lower,
+    /// The type of the record.
+    Kind,
+    /// The File ID.
+    File,
+    /// The SOP Class UID of the file.
+    Class,
+    /// The SOP Instance UID of the file.
+    Instance,
+    /// The Transfer Syntax UID of the file.
+    Transfer,
+    /// The Specific Character Set of the keys of a patient or of a study; no element where it is empty.
+    Charset,
+    /// The Patient's Name.
+    PatientName,
+    /// The Patient ID.
+    PatientId,
+    /// The Study Date.
+    StudyDate,
+    /// The Study Time.
+    StudyTime,
+    /// The Accession Number.
+    Accession,
+    /// The Study Description.
+    Description,
+    /// The Study Instance UID.
+    StudyUid,
+    /// The Study ID.
+    StudyId,
+    /// The Modality.
+    Modality,
+    /// The Series Instance UID.
+    SeriesUid,
+    /// The Series Number.
+    SeriesNumber,
+    /// The creator of the block of private elements that the digest stands in.
+    Creator,
+    /// The SHA-256 of the file.
+    Digest,
+    /// The Instance Number.
+    Number,
+}
+
+/// The flag of a record that is in use.
+const IN_USE: [u8; 2] = [0xff, 0xff];
+
+/// The creator of the block of private elements that the digest stands in (PS3.5 section 7.8.1).
+pub const PRIVATE_CREATOR: &[u8] = b"DD FILESET 1";
+
+impl Field {
+    /// What the field holds in a record of these parts, and None where there is no element.
+    pub(crate) fn value<'a>(self, planned: &PlanRecord, parts: &'a Parts) -> Option<CellValue<'a>>
+        ensures exact { cell_values result
+            ≡ field_values self planned.now.level planned.now.next planned.now.lower planned.now.file parts.now }
+        ensures short { IfSome result (λ value. IsShort (whole_value value)) }
+    {
+        Some(match self {
+            Field::Next => long_value(planned.next),
+            Field::InUse => CellValue::Short(IN_USE),
+            Field::Lower => long_value(planned.lower),
+            Field::Kind => CellValue::Text(planned.level.kind()),
+            Field::File => file_text(planned.file),
+            Field::Class => uid(&parts.class),
+            Field::Instance => uid(&parts.instance),
+            Field::Transfer => uid(&parts.transfer),
+            Field::Charset => return charset_of(planned.level, parts),
+            Field::PatientName => text(&parts.patient.name),
+            Field::PatientId => text(&parts.patient.id),
+            Field::StudyDate => text(&parts.study.date),
+            Field::StudyTime => text(&parts.study.time),
+            Field::Accession => text(&parts.study.accession),
+            Field::Description => text(&parts.study.description),
+            Field::StudyUid => uid(&parts.study.uid),
+            Field::StudyId => text(&parts.study.id),
+            Field::Modality => text(&parts.series.modality),
+            Field::SeriesUid => uid(&parts.series.uid),
+            Field::SeriesNumber => text(&parts.series.number),
+            Field::Creator => CellValue::Text(PRIVATE_CREATOR),
+            Field::Digest => CellValue::Bytes(&parts.digest),
+            Field::Number => text(&parts.number),
+        })
+    }
+}
+
+/// The text of a File ID, which is empty where there is none.
+fn file_text(file: Option<FileId>) -> CellValue<'static>
+    ensures exact { whole_value result ≡ padded 0x20 (file_text file) }
+    ensures short { IsShort (whole_value result) }
+{
+    match file {
+        None => CellValue::Text(b""),
+        Some(file) => CellValue::File(file.text()),
+    }
+}
+
+/// A UID.
+fn uid(uid: &Uid) -> CellValue<'_>
+    ensures exact { whole_value result ≡ padded 0x00 uid.now }
+    ensures short { IsShort (whole_value result) }
+{
+    CellValue::Uid(uid.as_bytes())
+}
+
+/// The text of a key.
+fn text(key: &Key) -> CellValue<'_>
+    ensures exact { whole_value result ≡ padded 0x20 key.now }
+    ensures short { IsShort (whole_value result) }
+{
+    CellValue::Text(key.as_bytes())
+}
+
+/// The character set of the keys of this level, where there is one.
+fn charset_of(level: Level, parts: &Parts) -> Option<CellValue<'_>>
+    ensures exact { cell_values result ≡ charset_values (charset_of level parts.now) }
+    ensures short { IfSome result (λ value. IsShort (whole_value value)) }
+{
+    match level {
+        Level::Patient => charset(&parts.patient.charset),
+        Level::Study => charset(&parts.study.charset),
+        Level::Series | Level::Image => None,
+    }
+}
+
+/// A character set, where there is one.
+fn charset(key: &Key) -> Option<CellValue<'_>>
+    ensures exact { cell_values result ≡ charset_values key.now }
+    ensures short { IfSome result (λ value. IsShort (whole_value value)) }
+{
+    let charset = key.as_bytes();
+    if charset.is_empty() {
+        return None;
+    }
+    Some(CellValue::Text(charset))
+}

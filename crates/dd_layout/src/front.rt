@@ -1,0 +1,87 @@
+//! What stands before the records of a directory.
+
+ghost use Rattle.std.specs.Prelude.{◌≡◌, ◌≤◌, map, length};
+ghost use Rattle.dd_elem.specs.Uid.{IsUid};
+ghost use Rattle.dd_layout.specs.Cells.{cell_entry};
+ghost use Rattle.dd_layout.specs.Directory.{first_offset, front_entries};
+ghost use Rattle.dd_layout.specs.Sizes.{entries_size};
+
+use crate::cell::{Cell, CellValue, header_size, long_value};
+use crate::label::Label;
+use crate::meta::directory_meta;
+use dd_elem::{Tag, Vr};
+use dd_part10::head_size;
+
+/// File-set ID.
+const SET_ID: Tag = Tag {
+    group: 0x0004,
+    element: 0x1130,
+};
+
+/// Offset of the First Directory Record of the Root Directory Entity.
+const FIRST_ROOT: Tag = Tag {
+    group: 0x0004,
+    element: 0x1200,
+};
+
+/// Offset of the Last Directory Record of the Root Directory Entity.
+const LAST_ROOT: Tag = Tag {
+    group: 0x0004,
+    element: 0x1202,
+};
+
+/// File-set Consistency Flag.
+const CONSISTENCY: Tag = Tag {
+    group: 0x0004,
+    element: 0x1212,
+};
+
+/// The flag of a file-set with no known inconsistencies.
+const CONSISTENT: [u8; 2] = [0, 0];
+
+/// Directory Record Sequence, whose items are the records.
+pub const RECORDS: Tag = Tag {
+    group: 0x0004,
+    element: 0x1220,
+};
+
+/// The elements of a directory before its records, where `first` and `last` are the offsets of the
+/// first and of the last root record, or 0 (PS3.3 sections F.3.2.1 and F.3.2.2).
+pub fn front_cells(label: &Label, first: u32, last: u32) -> [Cell<'_>; 4]
+    ensures exact { map cell_entry result ≡ front_entries label.now.id first last }
+    ensures id { length label.now.id ≤ 16 }
+{
+    [
+        cell(SET_ID, Vr::CS, CellValue::Text(label.id.as_bytes())),
+        cell(FIRST_ROOT, Vr::UL, long_value(first)),
+        cell(LAST_ROOT, Vr::UL, long_value(last)),
+        cell(CONSISTENCY, Vr::US, CellValue::Short(CONSISTENT)),
+    ]
+}
+
+fn cell(tag: Tag, vr: Vr, value: CellValue<'_>) -> Cell<'_>
+    ensures { result ≡ record { tag = tag; vr = vr; value = value.entry } }
+{
+    Cell { tag, vr, value }
+}
+
+/// The offset of the first record: how many bytes the head of the file and the elements before the
+/// first item have.
+pub fn first_offset(label: &Label) -> u64
+    ensures exact { result ≡ first_offset label.now }
+    ensures few { result ≤ 490 }
+    ensures id { length label.now.id ≤ 16 }
+    ensures uid { IsUid label.now.uid }
+{
+    head_size(&directory_meta(label)) + front_size(label) + header_size(Vr::SQ)
+}
+
+/// How many bytes the elements before the records have.
+fn front_size(label: &Label) -> u64
+    ensures exact { result ≡ entries_size (front_entries label.now.id 0 0) }
+    ensures few { result ≤ 58 }
+    ensures id { length label.now.id ≤ 16 }
+{
+    let [id, first, last, flag] = front_cells(label, 0, 0);
+    id.size() + first.size() + last.size() + flag.size()
+}

@@ -1,0 +1,32 @@
+//! Where the records of a directory stand (PS3.3 annex F).
+#![tactic(auto)]
+
+mod cell;
+mod directories;
+mod fault;
+mod field;
+mod front;
+mod label;
+mod laws;
+mod level;
+mod limits;
+mod meta;
+mod record;
+mod sizes;
+mod table;
+
+pub use cell::{Cell, CellValue};
+pub use directories::{directory_is_a_data_set, directory_is_as_long_as_its_records};
+pub use fault::PlanFault;
+pub use field::{Field, PRIVATE_CREATOR};
+pub use front::{RECORDS, first_offset, front_cells};
+pub use label::Label;
+pub use laws::{
+    four_images_are_planned, rows_are_known, tree_is_one, tree_is_tree, walk_gives_the_tree,
+};
+pub use level::Level;
+pub use limits::Limits;
+pub use meta::directory_meta;
+pub use record::PlanRecord;
+pub use sizes::record_size;
+pub use table::{Row, rows};

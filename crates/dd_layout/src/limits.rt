@@ -1,0 +1,38 @@
+//! The limits of a directory.
+
+ghost use Rattle.std.specs.Prelude.{◌≤◌, SomeIff};
+
+use std::marker::Model;
+
+/// The limits of a directory: the most bytes of the file, and the most records below one parent.
+#[derive(Clone, Copy, Debug, PartialEq, Eq)]
+pub struct Limits {
+    bytes: u32,
+    per_level: u32,
+}
+
+impl Model for Limits {
+    ghost use Rattle.std.specs.Prelude.{◌≤◌};
+    ghost use Rattle.dd_layout.specs.Bounds.{Bounds};
+
+    ghost Value = { Bounds };
+
+    ghost view = { λ limits. record { bytes = limits.bytes; per_level = limits.per_level } };
+
+    ghost invariant = { λ limits. limits.per_level ≤ 999999 };
+
+    ghost inverse = { λ bounds. record { bytes = bounds.bytes; per_level = bounds.per_level } };
+}
+
+impl Limits {
+    /// Limits of these numbers: None where `per_level` is above 999,999, the highest rank that a
+    /// File ID has room for.
+    pub fn new(bytes: u32, per_level: u32) -> Option<Limits>
+        ensures { SomeIff result (per_level ≤ 999999) (record { bytes = bytes; per_level = per_level }) }
+    {
+        if per_level > 999_999 {
+            return None;
+        }
+        Some(Limits { bytes, per_level })
+    }
+}

@@ -1,0 +1,45 @@
+//! What stands in group 0002 of a directory.
+
+ghost use Rattle.std.specs.Prelude.{◌≡◌, codes};
+ghost use Rattle.dd_layout.specs.Directory.{meta_of};
+
+use crate::label::Label;
+use dd_elem::Uid;
+use dd_part10::Meta;
+
+/// The class of directories, Media Storage Directory Storage (PS3.4 annex I.4, PS3.6 annex A).
+const DIRECTORY_CLASS: &[u8] = b"1.2.840.10008.1.3.10";
+
+/// Explicit VR Little Endian, in which a directory is encoded (PS3.10 section 8.6).
+const DIRECTORY_SYNTAX: &[u8] = b"1.2.840.10008.1.2.1";
+
+/// The meta information of the directory with this label.
+pub fn directory_meta(label: &Label) -> Meta
+    ensures { result ≡ meta_of label.now }
+{
+    Meta {
+        class: directory_class(),
+        instance: label.uid,
+        transfer: directory_syntax(),
+    }
+}
+
+/// The class of directories.
+fn directory_class() -> Uid
+    ensures { result ≡ codes "1.2.840.10008.1.3.10" }
+{
+    match Uid::new(DIRECTORY_CLASS) {
+        Ok(uid) => uid,
+        Err(_) => unreachable!(),
+    }
+}
+
+/// The transfer syntax of directories.
+fn directory_syntax() -> Uid
+    ensures { result ≡ codes "1.2.840.10008.1.2.1" }
+{
+    match Uid::new(DIRECTORY_SYNTAX) {
+        Ok(uid) => uid,
+        Err(_) => unreachable!(),
+    }
+}

@@ -1,0 +1,70 @@
+//! How many bytes the records of a directory take.
+
+ghost use Rattle.std.specs.Prelude.{◌≡◌, ◌*◌, ◌≤◌, ℕ, Option, length};
+ghost use Rattle.std.specs.List.{AllByRecursion};
+ghost use Rattle.dd_elem.specs.FileId.{Ranks};
+ghost use Rattle.dd_set.specs.Elements.{elements_of};
+ghost use Rattle.dd_set.specs.Spelling.{AreElements};
+ghost use Rattle.dd_set.specs.declared.syntax.Syntax.TheVariants.{Explicit};
+ghost use Rattle.dd_layout.specs.Cells.{IsShortEntry, table_entries};
+ghost use Rattle.dd_layout.specs.Records.{IsFileOf, record_entries};
+ghost use Rattle.dd_layout.specs.Sizes.{entries_size, record_size};
+
+use crate::level::Level;
+use crate::record::PlanRecord;
+use crate::table::{Row, rows};
+use dd_elem::FileId;
+use dd_keys::Parts;
+
+/// The Item tag and the length before the elements of a record (PS3.5 section 7.5).
+const ITEM_HEADER: u64 = 8;
+
+/// How many bytes a record of this level takes: its Item tag and length, the elements that link it,
+/// and its keys. Neither its offsets nor its File ID change that.
+pub fn record_size(level: Level, parts: &Parts) -> u64
+    ensures exact { (next lower : ℕ) (file : Option Ranks) → IsFileOf level file
+        → result ≡ record_size (record_entries level next lower file parts.now) }
+    ensures few { result ≤ 12000 }
+    ensures valid { (levels next lower : ℕ) (file : Option Ranks) → IsFileOf level file
+        → AreElements Explicit levels 0 (elements_of (record_entries level next lower file parts.now)) }
+{
+    ITEM_HEADER + cells_size(rows(level), &unlinked(level), parts)
+}
+
+/// A record with no link, of the first image where it is of an image.
+fn unlinked(level: Level) -> PlanRecord
+    ensures level { result.level ≡ level }
+    ensures file { IsFileOf level result.file }
+{
+    let file = match level {
+        Level::Image => FileId::ranked(1, 1, 1, 1),
+        Level::Patient | Level::Study | Level::Series => None,
+    };
+    PlanRecord {
+        level,
+        at: 0,
+        next: 0,
+        lower: 0,
+        file,
+        of: 0,
+    }
+}
+
+/// How many bytes the elements of these rows take.
+fn cells_size(mut rows: &[Row], planned: &PlanRecord, parts: &Parts) -> u64
+    requires { length rows.now ≤ 11 }
+    ensures exact { result ≡ entries_size
+        (table_entries rows.entry.now planned.now.level planned.now.next planned.now.lower planned.now.file parts.now) }
+    ensures few { result ≤ 1036 * length rows.entry.now }
+    ensures short { AllByRecursion IsShortEntry
+        (table_entries rows.entry.now planned.now.level planned.now.next planned.now.lower planned.now.file parts.now) }
+{
+    let mut size = 0;
+    while let [row, rest @ ..] = rows {
+        if let Some(cell) = row.cell(planned, parts) {
+            size += cell.size();
+        }
+        rows = rest;
+    }
+    size
+}

@@ -1,0 +1,173 @@
+//! The table of the elements of records.
+
+ghost use Rattle.std.specs.Prelude.{◌≡◌, ◌≤◌, ℕ, Option, IfSome, length};
+ghost use Rattle.dd_elem.specs.FileId.{Ranks};
+ghost use Rattle.dd_keys.specs.declared.parts.Parts.{Parts};
+ghost use Rattle.dd_layout.specs.Cells.{IsShort, cell_entries, row_entries, table_entries, whole_value};
+ghost use Rattle.dd_layout.specs.Records.{record_entries};
+
+use crate::cell::Cell;
+use crate::field::Field;
+use crate::level::Level;
+use crate::record::PlanRecord;
+use dd_elem::{Tag, Vr};
+use dd_keys::Parts;
+
+/// An element of the records of a level.
+#[derive(Clone, Copy, Debug)]
+pub struct Row {
+    /// Its tag.
+    pub tag: Tag,
+    /// Its value representation.
+    pub vr: Vr,
+    /// What it holds.
+    pub field: Field,
+}
+
+impl Row {
+    /// The element of a record of these parts, and None where it has none: where there is no character
+    /// set.
+    pub fn cell<'a>(&self, planned: &PlanRecord, parts: &'a Parts) -> Option<Cell<'a>>
+        ensures exact { cell_entries result
+            ≡ row_entries self.now planned.now.level planned.now.next planned.now.lower planned.now.file parts.now }
+        ensures short { IfSome result (λ cell. IsShort (whole_value cell.value)) }
+    {
+        let value = self.field.value(planned, parts)?;
+        Some(Cell {
+            tag: self.tag,
+            vr: self.vr,
+            value,
+        })
+    }
+}
+
+/// The elements of a record of this level, in order (PS3.3 section F.3.2.2 and annex F.5).
+pub fn rows(level: Level) -> &'static [Row]
+    ensures exact { (next lower : ℕ) (file : Option Ranks) (parts : Parts)
+        → table_entries result.now level next lower file parts ≡ record_entries level next lower file parts }
+    ensures few { length result.now ≤ 11 }
+{
+    match level {
+        Level::Patient => &PATIENT,
+        Level::Study => &STUDY,
+        Level::Series => &SERIES,
+        Level::Image => &IMAGE,
+    }
+}
+
+/// A row: its tag, its value representation and what it holds.
+macro_rules! row {
+    ($group:literal, $element:literal, $vr:ident, $field:ident) => {
+        Row {
+            tag: Tag {
+                group: $group,
+                element: $element,
+            },
+            vr: Vr::$vr,
+            field: Field::$field,
+        }
+    };
+}
+
+/// Offset of the Next Directory Record.
+const NEXT: Row = row!(0x0004, 0x1400, UL, Next);
+
+/// Record In-use Flag.
+const IN_USE: Row = row!(0x0004, 0x1410, US, InUse);
+
+/// Offset of Referenced Lower-Level Directory Entity.
+const LOWER: Row = row!(0x0004, 0x1420, UL, Lower);
+
+/// Directory Record Type.
+const KIND: Row = row!(0x0004, 0x1430, CS, Kind);
+
+/// Referenced File ID.
+const FILE: Row = row!(0x0004, 0x1500, CS, File);
+
+/// Referenced SOP Class UID in File.
+const CLASS: Row = row!(0x0004, 0x1510, UI, Class);
+
+/// Referenced SOP Instance UID in File.
+const INSTANCE: Row = row!(0x0004, 0x1511, UI, Instance);
+
+/// Referenced Transfer Syntax UID in File.
+const TRANSFER: Row = row!(0x0004, 0x1512, UI, Transfer);
+
+/// Specific Character Set.
+const CHARSET: Row = row!(0x0008, 0x0005, CS, Charset);
+
+/// Study Date.
+const STUDY_DATE: Row = row!(0x0008, 0x0020, DA, StudyDate);
+
+/// Study Time.
+const STUDY_TIME: Row = row!(0x0008, 0x0030, TM, StudyTime);
+
+/// Accession Number.
+const ACCESSION: Row = row!(0x0008, 0x0050, SH, Accession);
+
+/// Modality.
+const MODALITY: Row = row!(0x0008, 0x0060, CS, Modality);
+
+/// Study Description.
+const DESCRIPTION: Row = row!(0x0008, 0x1030, LO, Description);
+
+/// The creator of the private elements with the digest.
+const CREATOR: Row = row!(0x0009, 0x0010, LO, Creator);
+
+/// The digest, a private element.
+const DIGEST: Row = row!(0x0009, 0x1001, OB, Digest);
+
+/// Patient's Name.
+const PATIENT_NAME: Row = row!(0x0010, 0x0010, PN, PatientName);
+
+/// Patient ID.
+const PATIENT_ID: Row = row!(0x0010, 0x0020, LO, PatientId);
+
+/// Study Instance UID.
+const STUDY_UID: Row = row!(0x0020, 0x000d, UI, StudyUid);
+
+/// Series Instance UID.
+const SERIES_UID: Row = row!(0x0020, 0x000e, UI, SeriesUid);
+
+/// Study ID.
+const STUDY_ID: Row = row!(0x0020, 0x0010, SH, StudyId);
+
+/// Series Number.
+const SERIES_NUMBER: Row = row!(0x0020, 0x0011, IS, SeriesNumber);
+
+/// Instance Number.
+const NUMBER: Row = row!(0x0020, 0x0013, IS, Number);
+
+/// The elements of a PATIENT record (PS3.3 section F.5.1).
+const PATIENT: [Row; 7] = [NEXT, IN_USE, LOWER, KIND, CHARSET, PATIENT_NAME, PATIENT_ID];
+
+/// The elements of a STUDY record (PS3.3 section F.5.2).
+const STUDY: [Row; 11] = [
+    NEXT,
+    IN_USE,
+    LOWER,
+    KIND,
+    CHARSET,
+    STUDY_DATE,
+    STUDY_TIME,
+    ACCESSION,
+    DESCRIPTION,
+    STUDY_UID,
+    STUDY_ID,
+];
+
+/// The elements of a SERIES record (PS3.3 section F.5.3).
+const SERIES: [Row; 7] = [
+    NEXT,
+    IN_USE,
+    LOWER,
+    KIND,
+    MODALITY,
+    SERIES_UID,
+    SERIES_NUMBER,
+];
+
+/// The elements of an IMAGE record (PS3.3 section F.5.4).
+const IMAGE: [Row; 11] = [
+    NEXT, IN_USE, LOWER, KIND, FILE, CLASS, INSTANCE, TRANSFER, CREATOR, DIGEST, NUMBER,
+];
