@@ -55,7 +55,8 @@ pub fn write_directory<W: Write>(
 
     // What is sent is a file of the class of directories, of that size, whose data set has the elements
     // of a directory, and no offset in it points out of the file.
-    ensures file { IsFile (directory_text plan.now) (meta_of plan.now.label) (directory_set plan.now) (length (head_text (meta_of plan.now.label))) }
+    ensures file { IsFile (directory_text plan.now) (meta_of plan.now.label) (directory_set plan.now)
+        (length (head_text (meta_of plan.now.label))) }
     ensures in_file { IsPlan plan.now }
 {
     let _size = plan.size();
