@@ -1,6 +1,6 @@
 //! Tables: of each key the greatest value.
 
-ghost use Rattle.std.specs.Prelude.{◌≡◌, ◌<◌, ◌≤◌, [], ◌∷◌, List, ℕ, length, option_copied, slice_set, unwrap_or, map, true, false, ◌++◌, IsOk, IfOk, IfErr, OnOk, OnErr, IsSome};
+ghost use Rattle.std.specs.Prelude.{◌≡◌, ◌<◌, ◌≤◌, [], ◌∷◌, List, ℕ, length, option_copied, slice_set, map, true, false, ◌++◌, IsOk, IfOk, IfErr, OnOk, OnErr, IsSome};
 ghost use Rattle.std.specs.List.Sorted.{IsPermutation};
 ghost use Rattle.std.specs.List.{HoldsAt, AllWithin};
 ghost use Rattle.std.specs.declared.cmp.Ordering.TheVariants.{Less, Equal, Greater};
@@ -87,13 +87,6 @@ impl<T: Keyed + Copied + Drop> Table<T> {
             Ok(place) => Some(&self.held[place]),
             Err(_) => None,
         }
-    }
-
-    /// The value with the key of this one, or else this one.
-    pub(crate) fn like<'a>(&'a self, own: &'a T) -> &'a T
-        ensures { result.now ≡ unwrap_or (at T.key_of bytes_cmp self.now (T.key_of own.now)) own.now }
-    {
-        self.get(own.key()).unwrap_or(own)
     }
 
     /// What the table takes its memory from.
