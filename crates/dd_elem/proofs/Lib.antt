@@ -1,5 +1,6 @@
 mod Source
 pub mod Cleaning
+pub mod DigestUids
 pub mod FileIdForms
 pub mod Keys
 pub mod Known

@@ -2,6 +2,7 @@ pub mod ByteSource
 pub mod Clean
 pub mod Counts
 pub mod Device
+pub mod Digests
 pub mod FileId
 pub mod FileIdForm
 pub mod Held

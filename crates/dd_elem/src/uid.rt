@@ -1,11 +1,13 @@
 //! Unique identifiers.
 
-ghost use Rattle.std.specs.Prelude.{◌≡◌, ◌≤◌, ◌↔◌, List, ℕ, length, take, IsOk, IfOk, IsTrue};
+ghost use Rattle.std.specs.Prelude.{◌≡◌, ◌≤◌, ◌↔◌, ◌++◌, List, ℕ, codes, length, take, IsOk, IfOk, IsTrue};
+ghost use Rattle.dd_elem.specs.Digests.{uid_of_digest, uuid_of, uuid_octets};
 ghost use Rattle.dd_elem.specs.Uid.{IsUid, is_uid, is_component, is_digit};
 ghost use Rattle.std.specs.List.{list_all};
 ghost use Rattle.dd_elem.specs.InPlace.{filled, IsFilled, fields_back};
 
 use crate::in_place::fill;
+use itoa::Buffer;
 use std::marker::Model;
 use thiserror::Error;
 
@@ -37,6 +39,9 @@ impl Model for Uid {
 #[error("71 BadUid")]
 pub struct BadUid;
 
+// What a UID begins with that is a UUID.
+const PREFIX: &[u8; 5] = b"2.25.";
+
 impl Uid {
     /// The UID of these characters. Refused where they are not 1 to 64 characters that are components
     /// joined by `.`, each of one or more digits and with no leading `0` unless it is the one digit
@@ -56,6 +61,20 @@ impl Uid {
         })
     }
 
+    /// The UID of a digest: `2.25.` and, in decimal, the UUID of version 8 (RFC 9562) that is the first
+    /// 16 bytes but for the bits of the version and of the variant (PS3.5 section B.2).
+    pub fn from_digest(digest: &[u8; 32]) -> Uid
+        ensures value { result ≡ uid_of_digest digest.now }
+        ensures valid { IsUid result }
+    {
+        let mut digits = Buffer::new();
+        let number = digits.format(uuid_of(digest)).as_bytes();
+        Uid {
+            bytes: numbered(number),
+            len: (PREFIX.len() + number.len()) as u8,
+        }
+    }
+
     /// The characters, 1 to 64, without padding.
     #[tactic(auto, using(crate::proofs::UidForm::IsUid_from_is_uid))]
     pub fn as_bytes(&self) -> &[u8]
@@ -64,6 +83,34 @@ impl Uid {
     {
         &self.bytes[..usize::from(self.len)]
     }
+}
+
+/// The UUID of version 8 of a digest, as a number.
+fn uuid_of(digest: &[u8; 32]) -> u128
+    ensures { result ≡ uuid_of digest.now }
+{
+    u128::from_be_bytes(uuid_octets(digest))
+}
+
+/// The octets of the UUID of version 8 of a digest.
+fn uuid_octets(digest: &[u8; 32]) -> [u8; 16]
+    ensures { result ≡ uuid_octets digest.now }
+{
+    let mut octets = [0; 16];
+    octets.copy_from_slice(&digest[..16]);
+    octets[6] = 0x80 | digest[6] & 0x0f;
+    octets[8] = 0x80 | digest[8] & 0x3f;
+    octets
+}
+
+/// `2.25.` and a number, and zeros after them.
+fn numbered(number: &[u8]) -> [u8; 64]
+    requires { length number.now ≤ 59 }
+    ensures { result ≡ filled 64 (codes "2.25." ++ number.now) }
+{
+    let mut bytes = fill(PREFIX);
+    bytes[PREFIX.len()..PREFIX.len() + number.len()].copy_from_slice(number);
+    bytes
 }
 
 /// Are the bytes a UID?

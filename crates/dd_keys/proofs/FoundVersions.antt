@@ -1,7 +1,7 @@
 -- What is read of a file that passes the checks is its version, and a file of a version passes them and gives it.
 use Rattle.std.proofs.Common.{◌≡◌, ◌≢◌, ◌<◌, ◌^◌, ◌⊎◌, inl, inr, length, ⊎_elim, ℕ, true, List, [], ◌∷◌, Some, None}
 use Rattle.std.proofs.Common.{Result, Ok, Err, is_some, refl, sym, ap, ◌∙◌}
-use Rattle.std.specs.Prelude.{Contains, unwrap_or, IsErr, IfErr, MatchResult}
+use Rattle.std.specs.Prelude.{Contains, unwrap_or, IsErr, IfErr}
 use Rattle.std.proofs.lemmas.Bool.{cond-true}
 use Rattle.sha2.specs.Sha256.{sha256}
 use Rattle.dd_set.specs.Elements.{Elements}
@@ -19,6 +19,7 @@ use Rattle.dd_keys.specs.declared.fault.KeyFault.{KeyFault}
 use Rattle.dd_keys.specs.declared.fault.KeyFault.TheVariants.{File, NotImage}
 use Rattle.dd_keys.specs.Classes.{image_classes, is_image_class}
 use Rattle.dd_keys.specs.Faults.{table_fault, fault_of, first_fault, IsWantOfMemory}
+use Rattle.dd_keys.specs.Answers.{Answers}
 use Rattle.dd_keys.specs.Fitting.{Fits}
 use Rattle.dd_keys.specs.Table.{charset_row, class_row, instance_row, study_date_row, study_time_row, accession_row, modality_row, description_row, patient_name_row, patient_id_row, study_row, series_row, study_id_row, series_number_row, instance_number_row}
 use Rattle.dd_keys.specs.Values.{or_other, value_at, parts_in, patient_in, study_in, series_in}
@@ -177,17 +178,22 @@ file_refused file (faults.Set Memory) is group set = inl (set refl)
 file_refused file fault is group set = inr (ap fault_of is)
 
 -- so a refusal of it is want of memory
-pub refusal_is_memory : (file : List ℕ) (version : Parts) (fault : KeyFault) → IsVersion file version
+refusal_is_memory : (file : List ℕ) (version : Parts) (fault : KeyFault) → IsVersion file version
     → IsWantOfMemory file fault ⊎ (first_fault file ≡ Some fault) → IsWantOfMemory file fault
 refusal_is_memory file version fault h refused =
     let none = first_fault_none file version h in
     ⊎_elim (λ memory. memory) (λ is. absurd (cc)) refused
 
-pub refused_for_memory : (file : List ℕ) (version : Parts) (answer : Result Parts KeyFault) → IsVersion file version → IsErr answer
-    → IfErr answer (λ fault. IsWantOfMemory file fault ⊎ (first_fault file ≡ Some fault))
-    → MatchResult answer (λ parts. parts ≡ version) (IsWantOfMemory file)
-refused_for_memory file version (Ok parts) h refused fault = absurd (cc)
-refused_for_memory file version (Err e) h refused fault = refusal_is_memory file version e h fault
+-- a refusal that is the first check that fails, or want of memory, answers
+pub refusal_answers : (file : List ℕ) (fault : KeyFault) → IsWantOfMemory file fault ⊎ (first_fault file ≡ Some fault)
+    → Answers file (Err fault)
+refusal_answers file fault h =
+    record { found = tt; only = λ version is. refusal_is_memory file version fault is h; fault = h }
+
+pub refused_answers : (file : List ℕ) (answer : Result Parts KeyFault) → IsErr answer
+    → IfErr answer (λ fault. IsWantOfMemory file fault ⊎ (first_fault file ≡ Some fault)) → Answers file answer
+refused_answers file (Ok parts) refused h = absurd (cc)
+refused_answers file (Err fault) refused h = refusal_answers file fault h
 
 -- ---- one version, or a check that fails
 

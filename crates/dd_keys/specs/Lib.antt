@@ -1,3 +1,4 @@
+pub mod Answers
 pub mod Classes
 pub mod Faults
 pub mod Fitting
@@ -6,3 +7,4 @@ pub mod RowViews
 pub mod Table
 pub mod Values
 pub mod Versions
+pub mod Whole

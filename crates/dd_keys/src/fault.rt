@@ -7,7 +7,8 @@ use dd_elem::{self, Tag, Uid};
 use dd_part10::FileFault;
 use thiserror::Error;
 
-/// The first check that bytes fail as a file of a version, or want of memory.
+/// The first check that a file fails as that of a version; or a reader's failure, too many bytes, or
+/// want of memory.
 #[derive(Clone, Copy, Debug, PartialEq, Eq, Error)]
 pub enum KeyFault {
     /// The bytes are no file; or a growth was refused while they were parsed.
@@ -31,7 +32,13 @@ pub enum KeyFault {
     /// The element with this tag has another UID than group 0002.
     #[error("37 MetaMismatch {0}")]
     MetaMismatch(Tag),
-    /// A growth was refused after all checks.
+    /// A read of the file failed.
+    #[error("38 Read")]
+    Read,
+    /// The file has more bytes than the limit.
+    #[error("39 FileTooLong")]
+    FileTooLong,
+    /// A growth was refused: after all checks, or while the file was read.
     #[error("91 Memory")]
     Memory,
 }

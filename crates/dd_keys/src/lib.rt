@@ -15,10 +15,11 @@ mod reading;
 mod rows;
 mod values;
 mod version;
+mod whole;
 
 pub use classes::is_image_class;
 pub use fault::KeyFault;
 pub use keys::{PatientKeys, SeriesKeys, StudyKeys};
 pub use parts::Parts;
-pub use reading::{one_version, version_of};
+pub use reading::{ingest, one_version, version_of};
 pub use version::{Misfit, Version};

@@ -1,9 +1,12 @@
 //! Reading a version from the bytes of its file.
 
-ghost use Rattle.std.specs.Prelude.{◌≡◌, ◌⊎◌, ◌<◌, ◌^◌, ℕ, List, length, IfOk, IfErr, MatchResult, Some, None};
+ghost use Rattle.std.specs.Prelude.{◌≡◌, ◌<◌, ◌≤◌, ◌+◌, ◌^◌, ℕ, List, length, None};
+ghost use Rattle.std.specs.Io.KnownBytes.{Consumes};
+ghost use Rattle.dd_elem.specs.Device.{Gives};
 ghost use Rattle.dd_set.specs.Bytes.{AreBytes};
 ghost use Rattle.dd_keys.specs.declared.parts.Parts.{Parts};
-ghost use Rattle.dd_keys.specs.Faults.{IsWantOfMemory, first_fault};
+ghost use Rattle.dd_keys.specs.Answers.{Answers, AnswersReader};
+ghost use Rattle.dd_keys.specs.Faults.{first_fault};
 ghost use Rattle.dd_keys.specs.Versions.{IsVersion};
 
 use crate::checks::table_fault;
@@ -11,6 +14,8 @@ use crate::classes::is_image_class;
 use crate::fault::KeyFault;
 use crate::values::parts_in;
 use crate::version::Version;
+use crate::whole::read_whole;
+use dd_elem::Read;
 use dd_part10::parse_file;
 use sha2::{Digest, Sha256};
 use std::alloc::Global;
@@ -21,14 +26,7 @@ use std::alloc::Global;
 /// of group 0002, and then those of each element in the order of tags. Or want of memory: `File` with
 /// that of the parse, and `Memory` behind all checks.
 pub fn version_of(alloc: Global, bytes: &[u8]) -> Result<Version, KeyFault>
-    // What is answered is the version of the file.
-    ensures found { IfOk result (IsVersion bytes.now) }
-    // A version is answered where there is one, unless memory runs out.
-    ensures only { (version : Parts) → IsVersion bytes.now version
-        → MatchResult result (λ answer. answer ≡ version)
-        (IsWantOfMemory bytes.now) }
-    // A refusal is the first check that fails, or want of memory where memory is wanted.
-    ensures fault { IfErr result (λ fault. IsWantOfMemory bytes.now fault ⊎ (first_fault bytes.now ≡ Some fault)) }
+    ensures { Answers bytes.now result }
 {
     let file = parse_file(alloc, bytes)?;
     if !is_image_class(&file.meta.class) {
@@ -39,6 +37,21 @@ pub fn version_of(alloc: Global, bytes: &[u8]) -> Result<Version, KeyFault>
     }
     let parts = parts_in(alloc, &file, Sha256::digest(bytes))?;
     Ok(Version::fitting(parts))
+}
+
+/// The version whose file a reader gives, which is read to its end.
+///
+/// `Read` where the reader fails and `FileTooLong` where it gives `limit` bytes and one more; both come
+/// before every check. Else the answer is that of `version_of` for the bytes that the reader gave. Or
+/// want of memory, also while it is read. It makes at most `limit` + 1 reads.
+pub fn ingest<R: Read>(alloc: Global, reader: &mut R, limit: u64) -> Result<Version, KeyFault>
+    ensures gave { (given : List ℕ) × Gives R.has_given reader.old reader.new given
+        × Consumes (R.remaining reader.old) (R.remaining reader.new) given
+        × AnswersReader limit given (R.remaining reader.new) (R.failures reader.old) (R.failures reader.new) result }
+    ensures calls { R.calls reader.new ≤ R.calls reader.old + limit + 1 }
+{
+    let file = read_whole(alloc, reader, limit)?;
+    version_of(alloc, file.as_slice())
 }
 
 /// Law: bytes of any memory are a file of a version exactly where they fail no check, and then of one

@@ -64,12 +64,12 @@ map_rises : (x : List ℕ) (m : List Path) → Rises m → Rises (map (λ q. x �
 map_rises x [] h = tt
 map_rises x (q ∷ m) h = (map_above x q m h.0, map_rises x m h.1)
 
-append_above : (p : Path) (m n : List Path) → Above p m → Above p n → Above p (m ++ n)
+pub append_above : (p : Path) (m n : List Path) → Above p m → Above p n → Above p (m ++ n)
 append_above p [] n h k = k
 append_above p (q ∷ m) n h k = (h.0, append_above p m n h.1 k)
 
 -- each is at most this one
-abbrev UpTo : Path → List Path → Type 0
+abbrev pub UpTo : Path → List Path → Type 0
 UpTo x [] = Unit {0}
 UpTo x (q ∷ m) = ((path_cmp q x ≡ Less) ⊎ (q ≡ x)) × UpTo x m
 
@@ -77,7 +77,7 @@ over : (q x : Path) (n : List Path) → (path_cmp q x ≡ Less) ⊎ (q ≡ x) �
 over q x n (inl e) h = above_trans (λ p. p) path_total q x n e h
 over q x n (inr e) h = subst (λ y. Above y n) (sym e) h
 
-append_rises : (x : Path) (m n : List Path) → Rises m → UpTo x m → Above x n → Rises n → Rises (m ++ n)
+pub append_rises : (x : Path) (m n : List Path) → Rises m → UpTo x m → Above x n → Rises n → Rises (m ++ n)
 append_rises x [] n h u a k = k
 append_rises x (q ∷ m) n h u a k = (append_above q m n h.0 (over q x n u.0 a), append_rises x m n h.1 u.1 a k)
 
@@ -125,14 +125,14 @@ prefixes_up_to (x ∷ p) = (front_up_to x p, map_up_to x p (prefixes p) (prefixe
 
 -- ---- what is fresh rises, is above the path before, and goes up to the path
 
-fresh_rises : (b x : Path) → Rises (fresh b x)
+pub fresh_rises : (b x : Path) → Rises (fresh b x)
 fresh_rises b [] = tt
 fresh_rises [] (x ∷ p) = prefixes_rise (x ∷ p)
 fresh_rises (o ∷ b) (x ∷ p) = by_test (is_eq (bytes_cmp o x))
     (λ e. rw e (map_rises x (fresh b p) (fresh_rises b p)))
     (λ e. rw e (prefixes_rise (x ∷ p)))
 
-fresh_up_to : (b x : Path) → UpTo x (fresh b x)
+pub fresh_up_to : (b x : Path) → UpTo x (fresh b x)
 fresh_up_to b [] = tt
 fresh_up_to [] (x ∷ p) = prefixes_up_to (x ∷ p)
 fresh_up_to (o ∷ b) (x ∷ p) = by_test (is_eq (bytes_cmp o x))
@@ -150,7 +150,7 @@ less_first Less s e f = refl
 less_first Equal s e f = cc
 less_first Greater s e f = cc
 
-fresh_above : (b x : Path) → path_cmp b x ≡ Less → Above b (fresh b x)
+pub fresh_above : (b x : Path) → path_cmp b x ≡ Less → Above b (fresh b x)
 fresh_above b [] e = tt
 fresh_above [] (x ∷ p) e = empty_above (prefixes (x ∷ p)) (prefix_parts (x ∷ p))
 fresh_above (o ∷ b) (x ∷ p) e = by_test (is_eq (bytes_cmp o x))

@@ -8,9 +8,16 @@ mod field;
 mod front;
 mod label;
 mod laws;
+mod layout;
 mod level;
 mod limits;
+mod links;
 mod meta;
+mod nodes;
+mod order;
+mod places;
+mod plan;
+mod ranks;
 mod record;
 mod sizes;
 mod table;
@@ -24,9 +31,11 @@ pub use label::Label;
 pub use laws::{
     four_images_are_planned, rows_are_known, tree_is_one, tree_is_tree, walk_gives_the_tree,
 };
+pub use layout::lay_out;
 pub use level::Level;
 pub use limits::Limits;
 pub use meta::directory_meta;
+pub use plan::Plan;
 pub use record::PlanRecord;
 pub use sizes::record_size;
 pub use table::{Row, rows};

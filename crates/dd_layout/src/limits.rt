@@ -7,8 +7,8 @@ use std::marker::Model;
 /// The limits of a directory: the most bytes of the file, and the most records below one parent.
 #[derive(Clone, Copy, Debug, PartialEq, Eq)]
 pub struct Limits {
-    bytes: u32,
-    per_level: u32,
+    pub(crate) bytes: u32,
+    pub(crate) per_level: u32,
 }
 
 impl Model for Limits {

@@ -1,19 +1,21 @@
 //! The directory of one file.
-ghost use Rattle.std.specs.Prelude.{◌≡◌, ◌↔◌, IfErr, IfOk, IsErr, IsOk, codes, option_map, string_bytes};
+ghost use Rattle.std.specs.Prelude.{◌≡◌, ◌↔◌, [], IfErr, IfOk, IsErr, IsOk, List, option_map, string_bytes};
+ghost use Rattle.dd_dir.specs.Directories.{directory, directory_of};
 ghost use Rattle.dd_elem.specs.Device.{counted, HasFailed, HasWorked};
 ghost use Rattle.dd_elem.specs.Uid.{IsUid};
-ghost use Rattle.dicomdir.specs.Directory.{IsPlan, Layout, directory_text};
+ghost use Rattle.dd_keys.specs.declared.parts.Parts.{Parts};
+ghost use Rattle.dd_layout.specs.Layouts.{layout_of};
 ghost use Rattle.dicomdir.specs.Files.{ended, grown, published, started};
 ghost use Rattle.dicomdir.specs.Trouble.{IsBadLine};
 
-use crate::dir::{DirectoryFault, write_directory};
 use crate::files::Files;
-use crate::layout::{Label, Limits, Plan, PlanFault, lay_out};
 use crate::line::Asked;
 use crate::trouble::{ProgramFault, Subject, Trouble};
-use crate::whole::{ReadFault, read_whole};
+use dd_catalogue::Catalogue;
+use dd_dir::write_directory;
 use dd_elem::{SetId, Uid};
-use dd_keys::version_of;
+use dd_keys::{Version, ingest};
+use dd_layout::{Label, Limits, Plan, PlanFault, lay_out};
 use std::alloc::Global;
 
 // The most bytes of a source.
@@ -32,31 +34,32 @@ const LEVEL_LIMIT: u32 = 999_999;
 pub fn index<F: Files>(
     alloc: Global,
     asked: &Asked,
-    directory: &str,
+    path: &str,
     files: &mut F,
 ) -> Result<u32, Trouble>
     ensures line { IfErr result (λ trouble. IsBadLine trouble.fault
         → (files.new ≡ files.old) × ¬ IsUid (string_bytes asked.now.uid)) }
     ensures uid { IsOk result → IsUid (string_bytes asked.now.uid) }
 
-    // Where the files tell what they hold, the directory has the bytes of a plan, and no other file changed.
-    ensures done { IsOk result → (plan : Layout) × IsPlan plan
-        × (F.held files.new ≡ option_map (published directory.now (directory_text plan)) (F.held files.old)) }
+    // Where the files tell what they hold, the file at that path is the directory of some versions under
+    // the UID, and no other file changed.
+    ensures done { IsOk result → (versions : List Parts) × (F.held files.new ≡ option_map (published path.now
+        (directory (record { id = []; uid = string_bytes asked.now.uid }) versions)) (F.held files.old)) }
 {
     let label = label_of(asked.uid.as_str())?;
-    refuse_taken(directory, files)?;
+    refuse_taken(path, files)?;
     let source = asked.source.as_str();
-    let bytes = source_bytes(alloc, source, files)?;
-    let plan = plan_of(alloc, bytes.as_slice(), &label)?;
+    let version = source_version(alloc, source, files)?;
+    let plan = plan_of(alloc, version, &label)?;
     make_folder(asked.out.as_str(), files)?;
-    publish(alloc, directory, &plan, files)?;
+    publish(path, &plan, files)?;
     Ok(plan.size())
 }
 
 /// The label with this UID and the empty ID. Refused where it is no UID.
 fn label_of(uid: &str) -> Result<Label, Trouble>
     ensures accepted { IsOk result ↔ IsUid uid.now }
-    ensures label { IfOk result (λ label. (label.uid ≡ uid.now) × (label.id ≡ codes "")) }
+    ensures label { IfOk result (λ label. (label.uid ≡ uid.now) × (label.id ≡ [])) }
     ensures refused { IsErr result → ¬ IsUid uid.now }
     ensures line { IfErr result (λ trouble. IsBadLine trouble.fault) }
 {
@@ -85,8 +88,8 @@ fn refuse_taken<F: Files>(directory: &str, files: &mut F) -> Result<(), Trouble>
     }
 }
 
-/// The bytes of the source.
-fn source_bytes<F: Files>(alloc: Global, source: &str, files: &mut F) -> Result<Vec<u8>, Trouble>
+/// The version of the source.
+fn source_version<F: Files>(alloc: Global, source: &str, files: &mut F) -> Result<Version, Trouble>
     ensures opened { IsOk result → HasWorked (F.refusals files.old) (F.refusals files.new) }
     ensures absent { IfErr result (λ trouble. trouble.fault ≡ ProgramFault.Absent
         → F.refusals files.new ≡ counted (F.refusals files.old)) }
@@ -99,41 +102,31 @@ fn source_bytes<F: Files>(alloc: Global, source: &str, files: &mut F) -> Result<
             fault: ProgramFault::Absent,
         });
     };
-    match read_whole(alloc, &mut reader, SOURCE_LIMIT) {
-        Ok(bytes) => Ok(bytes),
-        Err(fault) => Err(unread(fault)),
+    match ingest(alloc, &mut reader, SOURCE_LIMIT) {
+        Ok(version) => Ok(version),
+        Err(fault) => Err(Trouble::with_source(fault)),
     }
 }
 
-/// What the fault of a read comes to.
-fn unread(fault: ReadFault) -> Trouble
-    ensures unread { fault ≡ ReadFault.Unread → result.fault ≡ ProgramFault.Unread }
-    ensures long { fault ≡ ReadFault.TooLong → result.fault ≡ ProgramFault.FileTooLong }
-    ensures memory { fault ≡ ReadFault.Memory → result.fault ≡ ProgramFault.Memory }
-{
-    match fault {
-        ReadFault::Unread => Trouble {
-            subject: Subject::Source,
-            fault: ProgramFault::Unread,
-        },
-        ReadFault::TooLong => Trouble {
-            subject: Subject::Source,
-            fault: ProgramFault::FileTooLong,
-        },
-        ReadFault::Memory => Trouble::general(ProgramFault::Memory),
-    }
-}
-
-/// The plan of the directory that has the file with these bytes.
-fn plan_of(alloc: Global, bytes: &[u8], label: &Label) -> Result<Plan, Trouble>
+/// The plan of the directory that has the file of this version.
+fn plan_of(alloc: Global, version: Version, label: &Label) -> Result<Plan, Trouble>
     ensures line { IfErr result (λ trouble. ¬ IsBadLine trouble.fault) }
+    ensures plan { IfOk result (λ plan. (versions : List Parts) × (plan ≡ layout_of label.now versions)) }
 {
-    let version = match version_of(alloc, bytes) {
-        Ok(version) => version,
-        Err(fault) => return Err(Trouble::with_source(fault)),
-    };
+    let mut catalogue = Catalogue::new(alloc);
+    if catalogue.take(version).is_err() {
+        return Err(Trouble::general(ProgramFault::Memory));
+    }
+    planned(alloc, &catalogue, label)
+}
+
+/// The plan of the directory of these versions.
+fn planned(alloc: Global, catalogue: &Catalogue, label: &Label) -> Result<Plan, Trouble>
+    ensures line { IfErr result (λ trouble. ¬ IsBadLine trouble.fault) }
+    ensures plan { IfOk result (λ plan. plan ≡ layout_of label.now catalogue.now) }
+{
     let limits = Limits::new(DIRECTORY_LIMIT, LEVEL_LIMIT).unwrap();
-    match lay_out(alloc, &version, label, limits) {
+    match lay_out(alloc, catalogue, label, limits) {
         Ok(plan) => Ok(plan),
         Err(PlanFault::Memory) => Err(Trouble::general(ProgramFault::Memory)),
         Err(fault) => Err(Trouble::general(ProgramFault::Plan(fault))),
@@ -158,20 +151,13 @@ fn make_folder<F: Files>(folder: &str, files: &mut F) -> Result<(), Trouble>
 
 /// Starts the directory, writes it and ends it.
 #[tactic(auto, using(crate::proofs::Publishing::held_published))]
-fn publish<F: Files>(
-    alloc: Global,
-    directory: &str,
-    plan: &Plan,
-    files: &mut F,
-) -> Result<(), Trouble>
+fn publish<F: Files>(directory: &str, plan: &Plan, files: &mut F) -> Result<(), Trouble>
     ensures line { IfErr result (λ trouble. ¬ IsBadLine trouble.fault) }
     ensures holds { IsOk result → F.held files.new
-        ≡ option_map (published directory.now (directory_text plan.now)) (F.held files.old) }
-    ensures plan { IsPlan plan.now }
+        ≡ option_map (published directory.now (directory_of plan.now.label plan.now.versions)) (F.held files.old) }
 {
-    let _size = plan.size();
     start_directory(directory, files)?;
-    send_directory(alloc, plan, files)?;
+    send_directory(plan, files)?;
     finish_directory(files)
 }
 
@@ -193,19 +179,18 @@ fn start_directory<F: Files>(directory: &str, files: &mut F) -> Result<(), Troub
 }
 
 /// Writes the directory.
-fn send_directory<F: Files>(alloc: Global, plan: &Plan, files: &mut F) -> Result<(), Trouble>
+fn send_directory<F: Files>(plan: &Plan, files: &mut F) -> Result<(), Trouble>
     ensures sent { IsOk result → F.Write.failures files.new ≡ F.Write.failures files.old }
     ensures unsent { IfErr result (λ trouble. trouble.fault ≡ ProgramFault.Unsent
         → HasFailed (F.Write.failures files.old) (F.Write.failures files.new)) }
     ensures line { IfErr result (λ trouble. ¬ IsBadLine trouble.fault) }
     ensures refusals { F.refusals files.new ≡ F.refusals files.old }
     ensures holds { IsOk result → F.held files.new
-        ≡ option_map (grown (directory_text plan.now)) (F.held files.old) }
+        ≡ option_map (grown (directory_of plan.now.label plan.now.versions)) (F.held files.old) }
 {
-    match write_directory(alloc, plan, files) {
+    match write_directory(plan, files) {
         Ok(_) => Ok(()),
-        Err(DirectoryFault::Memory) => Err(Trouble::general(ProgramFault::Memory)),
-        Err(DirectoryFault::Write(_)) => Err(Trouble {
+        Err(_) => Err(Trouble {
             subject: Subject::Directory,
             fault: ProgramFault::Unsent,
         }),

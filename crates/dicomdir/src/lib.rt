@@ -5,25 +5,18 @@
 //! is read to its end or refused.
 #![tactic(auto)]
 
-pub mod dir;
-mod directory;
-mod fields;
+mod copy;
 mod files;
 mod index;
-mod labels;
-pub mod layout;
 mod line;
 mod mem_files;
 mod mem_reader;
 mod paths;
-mod places;
 mod program;
-mod records;
-mod sizes;
 mod text;
 mod trouble;
-mod whole;
 
+pub use copy::{CopyFault, copy_image};
 pub use files::{Files, NotDone, NotThere};
 pub use line::{Asked, LineFault, Verb, read_words};
 pub use mem_files::MemFiles;
@@ -31,4 +24,3 @@ pub use mem_reader::MemReader;
 pub use program::run;
 pub use text::{print_line, send_text};
 pub use trouble::ProgramFault;
-pub use whole::{ReadFault, read_whole};

@@ -1,12 +1,12 @@
 //! What goes wrong in a run, and how it is told.
-ghost use Rattle.std.specs.Prelude.{◌≡◌, ◌↔◌, ◌⊎◌, IsTrue, codes};
+ghost use Rattle.std.specs.Prelude.{◌≡◌, ◌≢◌, ◌↔◌, ◌⊎◌, IsTrue, codes};
 ghost use Rattle.dd_keys.specs.Faults.{SaysMemory};
 ghost use Rattle.dicomdir.specs.Trouble.{IsBadLine};
 
-use crate::layout::PlanFault;
 use crate::text::print_line;
 use dd_elem::{BadUid, Write};
 use dd_keys::KeyFault;
+use dd_layout::PlanFault;
 use dd_part10::FileFault;
 use dd_set::SetFault;
 use std::fmt::InlineText;
@@ -15,12 +15,9 @@ use thiserror::Error;
 /// Why a run ended before its work was done.
 #[derive(Clone, Copy, Debug, PartialEq, Eq, Error)]
 pub enum ProgramFault {
-    /// The file has no version.
+    /// The file has no version, or more bytes than a run reads: more than 4,294,967,295.
     #[error(transparent)]
     Key(KeyFault),
-    /// The file has more bytes than a run reads: more than 4,294,967,295.
-    #[error("39 FileTooLong")]
-    FileTooLong,
     /// The version has no place in a directory.
     #[error(transparent)]
     Plan(PlanFault),
@@ -81,19 +78,25 @@ impl Trouble {
         }
     }
 
-    /// What the fault of the source's bytes comes to. Want of memory concerns no file.
+    /// What the fault of the source's file comes to. Want of memory concerns no file.
     pub fn with_source(fault: KeyFault) -> Trouble
         ensures memory { SaysMemory fault
             → (result.fault ≡ ProgramFault.Memory) × (result.subject ≡ Subject.General) }
-        ensures file { ¬ SaysMemory fault
+        ensures read { fault ≡ KeyFault.Read
+            → (result.fault ≡ ProgramFault.Unread) × (result.subject ≡ Subject.Source) }
+        ensures file { ¬ SaysMemory fault → fault ≢ KeyFault.Read
             → (result.fault ≡ ProgramFault.Key fault) × (result.subject ≡ Subject.Source) }
     {
         if is_want_of_memory(&fault) {
             return Trouble::general(ProgramFault::Memory);
         }
+        let fault = match fault {
+            KeyFault::Read => ProgramFault::Unread,
+            fault => ProgramFault::Key(fault),
+        };
         Trouble {
             subject: Subject::Source,
-            fault: ProgramFault::Key(fault),
+            fault,
         }
     }
 }

@@ -5,7 +5,7 @@ mod disc;
 
 use crate::HostFiles;
 use dd_elem::{Read, Write};
-use dicomdir::{Files, read_whole};
+use dicomdir::Files;
 use disc::{Call, Disc, DiscFiles, Kind};
 use std::alloc::Global;
 use std::cell::RefCell;
@@ -92,6 +92,20 @@ fn is_done(files: &mut HostFiles<'_, DiscFiles<'_>>, verb: &str, what: &str) -> 
     }
 }
 
+// What a reader gives to its end, or none where it fails.
+fn all_of<R: Read>(alloc: Global, reader: &mut R) -> Result<Option<Vec<u8>>, Fail> {
+    let mut all = Vec::new(alloc);
+    let mut piece = [0; 1_000];
+    for _ in 0..1_000_000u32 {
+        match reader.read(&mut piece) {
+            Ok(0) => return Ok(Some(all)),
+            Ok(n) => all.extend_from_slice(&piece[..n])?,
+            Err(_) => return Ok(None),
+        }
+    }
+    Err("a reader with no end".into())
+}
+
 // Adds what a source gives.
 fn read(
     alloc: Global,
@@ -102,9 +116,9 @@ fn read(
     let Ok(mut reader) = files.source(path) else {
         return Ok(said.push('-')?);
     };
-    match read_whole(alloc, &mut reader, 1_000) {
-        Ok(bytes) => Ok(said.push_str(str::from_utf8(&bytes).map_err(|_| "no text")?)?),
-        Err(_) => Ok(said.push('!')?),
+    match all_of(alloc, &mut reader)? {
+        Some(bytes) => Ok(said.push_str(str::from_utf8(&bytes).map_err(|_| "no text")?)?),
+        None => Ok(said.push('!')?),
     }
 }
 
@@ -173,7 +187,7 @@ fn comes_back(alloc: Global, bytes: &[u8]) -> Result<bool, Fail> {
         return Ok(false);
     }
     let mut reader = files.source("a").map_err(|_| "not there")?;
-    let found = read_whole(alloc, &mut reader, 1_000_000).map_err(|_| "not read")?;
+    let found = all_of(alloc, &mut reader)?.ok_or("not read")?;
     Ok(found.as_slice() == bytes)
 }
 

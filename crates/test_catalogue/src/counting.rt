@@ -1,6 +1,6 @@
 //! How many pairs of instances a merge compares.
 
-use crate::images::{fitting, image, parts_of, taken};
+use dd_samples::{fitting, image, parts_of, taken};
 use dd_catalogue::Catalogue;
 use dd_elem::Uid;
 use dd_keys::Version;

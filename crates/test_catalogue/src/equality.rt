@@ -1,6 +1,6 @@
 //! Which versions and which catalogues are equal, and which catalogues are empty.
 
-use crate::images::{image, taken};
+use dd_samples::{image, taken};
 use dd_vectors::{answered, question};
 use std::alloc::Global;
 use std::test::Fail;

@@ -6,8 +6,6 @@ mod counting;
 #[cfg(test)]
 mod equality;
 #[cfg(test)]
-mod images;
-#[cfg(test)]
 mod joining;
 #[cfg(test)]
 mod studies;

@@ -1,6 +1,6 @@
 //! Conflicts between the versions of a catalogue, and the keys on which they agree in harmony.
 
-use crate::images::taken;
+use dd_samples::taken;
 use dd_catalogue::Catalogue;
 use dd_keys::Parts;
 use dd_vectors::{answered, question, text_of};

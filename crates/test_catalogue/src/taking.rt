@@ -1,6 +1,6 @@
 //! What a catalogue takes, hands back and keeps.
 
-use crate::images::{image, taken, told};
+use dd_samples::{image, taken, told};
 use dd_catalogue::{Catalogue, Refused, Took};
 use dd_elem::Uid;
 use dd_keys::Version;

@@ -1,7 +1,9 @@
-//! Tests of plans of directories, and of the directories that are sent by them (PS3.3 annex F).
+//! Tests of plans of directories: where their records stand and what they name (PS3.3 annex F).
 #![tactic(auto)]
 
 #[cfg(test)]
-mod directories;
+mod limits;
 #[cfg(test)]
 mod plans;
+#[cfg(test)]
+mod records;

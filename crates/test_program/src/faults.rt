@@ -4,13 +4,11 @@ use dicomdir::ProgramFault;
 use std::test::Fail;
 
 /// The faults of the program that concern no version, no plan and no UID, in words.
-const PROGRAM: &str =
-    "39 FileTooLong, 91 Memory, 92 Absent, 93 Unread, 94 Create, 95 Folder, 96 Unsent";
+const PROGRAM: &str = "91 Memory, 92 Absent, 93 Unread, 94 Create, 95 Folder, 96 Unsent";
 
 /// The fault with these words.
 fn fault_of(words: &str) -> Option<ProgramFault> {
     match words {
-        "39 FileTooLong" => Some(ProgramFault::FileTooLong),
         "91 Memory" => Some(ProgramFault::Memory),
         "92 Absent" => Some(ProgramFault::Absent),
         "93 Unread" => Some(ProgramFault::Unread),

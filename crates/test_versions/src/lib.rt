@@ -5,6 +5,8 @@
 #[cfg(test)]
 mod classes;
 #[cfg(test)]
+mod ingesting;
+#[cfg(test)]
 mod making;
 #[cfg(test)]
 mod reading;

@@ -1,0 +1,63 @@
+-- A directory is a file.
+use Rattle.std.proofs.Common.{◌≡◌, ℕ, ◌≤◌, ◌<◌, ◌^◌, List, ◌++◌, length, map, refl, subst, arith, length-append}
+use Rattle.std.specs.Prelude.{codes}
+use Rattle.std.specs.List.{All, AllByRecursion}
+use Rattle.std.proofs.lemmas.List.Elements.{All-from_recursion, recursion_from_All}
+use Rattle.dd_elem.specs.Uid.{IsUid, is_uid}
+use Rattle.dd_elem.proofs.UidForm.{IsUid_from_is_uid}
+use Rattle.dd_keys.specs.declared.parts.Parts.{Parts}
+use Rattle.dd_part10.specs.Head.{head_text}
+use Rattle.dd_part10.proofs.HeadLaw.{head_is_file}
+use Rattle.dd_part10.proofs.Heads.{length_head}
+use Rattle.dd_set.specs.Spelling.{Spells, elements_text}
+use Rattle.dd_set.specs.declared.syntax.Syntax.TheVariants.{Explicit}
+use Rattle.dd_layout.specs.declared.label.Label.{Label}
+use Rattle.dd_layout.specs.declared.record.PlanRecord.{PlanRecord}
+use Rattle.dd_layout.specs.Directory.{meta_of}
+use Rattle.dd_layout.specs.Layouts.{IsSound}
+use Rattle.dd_layout.specs.Plans.{records_of, size, tree}
+use Rattle.dd_layout.proofs.Whole.{whole_valid}
+use Rattle.dd_dir.specs.Directories.{IsDirectory, IsRecord, directory_set, entries_of, first_root, last_root}
+use Rattle.dd_dir.proofs.DirectoryTexts.{directory_length, sizes_sum}
+
+class_valid : IsUid (codes "1.2.840.10008.1.3.10")
+unfolding is_uid
+class_valid = IsUid_from_is_uid (codes "1.2.840.10008.1.3.10") refl
+
+syntax_valid : IsUid (codes "1.2.840.10008.1.2.1")
+unfolding is_uid
+syntax_valid = IsUid_from_is_uid (codes "1.2.840.10008.1.2.1") refl
+
+-- the second of two texts that fit
+second_below : (xs ys : List ℕ) (n : ℕ) → length (xs ++ ys) ≡ n → n < 2 ^ 32 → length ys < 2 ^ 64
+second_below xs ys n is below = omega (arith, length-append xs ys, is, below)
+
+-- its elements are those of a data set
+set_spelled : (label : Label) (versions : List Parts) → All (IsSound (length versions)) (records_of label versions)
+    → size label versions < 2 ^ 32 → length label.id ≤ 16
+    → AllByRecursion IsRecord (map (entries_of versions) (records_of label versions))
+    → Spells Explicit (directory_set label versions) (elements_text (directory_set label versions))
+set_spelled label versions sound below few valid =
+    let entries = map (entries_of versions) (records_of label versions) in
+    let head = length_head (meta_of label) in
+    let sum = sizes_sum label versions (tree versions)
+    (recursion_from_All (IsSound (length versions)) (records_of label versions) sound) in
+    let all = directory_length label versions sound in
+    record {
+      valid = whole_valid label.id (first_root label versions) (last_root label versions) entries few
+          (All-from_recursion IsRecord entries valid) (omega (arith, sum, head, below));
+      whole = refl;
+      fits = second_below (head_text (meta_of label)) (elements_text (directory_set label versions)) _ all below;
+    }
+
+pub directory_is_file : (label : Label) (versions : List Parts) (seen : Label) (rows : List PlanRecord)
+    (bytes wide : ℕ) → seen ≡ label → rows ≡ records_of label versions → All (IsSound (length versions)) rows
+    → bytes ≡ size label versions → wide ≡ bytes → wide < 2 ^ 32 → length seen.id ≤ 16 → IsUid seen.uid
+    → AllByRecursion IsRecord (map (entries_of versions) rows) → IsDirectory label versions
+directory_is_file label versions seen rows bytes wide same is sound bytes_is wide_is below few uid valid =
+    let fits : size label versions < 2 ^ 32 = omega (arith, bytes_is, wide_is, below) in
+    let spelled = set_spelled label versions (subst (All (IsSound (length versions))) is sound) fits
+    (subst (λ (l : Label). length l.id ≤ 16) same few)
+    (subst (λ (rs : List PlanRecord). AllByRecursion IsRecord (map (entries_of versions) rs)) is valid) in
+    head_is_file (meta_of label) Explicit (directory_set label versions) (elements_text (directory_set label versions))
+    class_valid (subst (λ (l : Label). IsUid l.uid) same uid) syntax_valid refl spelled (omega arith)

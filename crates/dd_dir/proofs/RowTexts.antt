@@ -1,0 +1,64 @@
+-- The text of the elements that the rows of a table give a record.
+use Rattle.std.proofs.Common.{◌≡◌, ℕ, ◌+◌, ◌<◌, List, [], ◌∷◌, ◌++◌, length, drop, get_or, Option, Some, None}
+use Rattle.std.proofs.Common.{refl, sym, ap, ◌∙◌, append_assoc, append-nil}
+use Rattle.std.proofs.lemmas.List.{at_drop_more}
+use Rattle.dd_keys.specs.declared.parts.Parts.{Parts}
+use Rattle.dd_set.specs.Elements.{Entry, elements_of}
+use Rattle.dd_set.specs.Single.{entry_text}
+use Rattle.dd_set.specs.Spelling.{elements_text}
+use Rattle.dd_set.proofs.Counting.{entry_first}
+use Rattle.dd_layout.specs.declared.cell.Cell.{Cell}
+use Rattle.dd_layout.specs.declared.record.PlanRecord.{PlanRecord}
+use Rattle.dd_layout.specs.declared.table.Row.{Row}
+use Rattle.dd_layout.specs.Cells.{cell_entry, cell_entries, row_entries, table_entries}
+
+-- the text of elements in a row
+abbrev pub text_of : List Entry → List ℕ
+text_of entries = elements_text (elements_of entries)
+
+pub text-append : (es fs : List Entry) → text_of (es ++ fs) ≡ text_of es ++ text_of fs
+text-append [] fs = refl
+text-append (e ∷ es) fs =
+    entry_first e (elements_of (es ++ fs)) ∙ ap (λ (t : List ℕ). entry_text e ++ t) (text-append es fs)
+    ∙ sym (append_assoc (entry_text e) (text_of es) (text_of fs))
+    ∙ ap (λ (t : List ℕ). t ++ text_of fs) (sym (entry_first e (elements_of es)))
+
+pub text-one : (e : Entry) → text_of (e ∷ []) ≡ entry_text e
+text-one e = entry_first e (elements_of []) ∙ append-nil (entry_text e)
+
+-- the elements that rows give this record of these parts, and their text
+abbrev pub row_of : PlanRecord → Parts → Row → List Entry
+row_of planned parts row = row_entries row planned.level planned.next planned.lower planned.file parts
+
+abbrev pub rows_text : PlanRecord → Parts → List Row → List ℕ
+rows_text planned parts rows =
+    text_of (table_entries rows planned.level planned.next planned.lower planned.file parts)
+
+-- the text of the rows that are left begins with that of the next
+row_at : (planned : PlanRecord) (parts : Parts) (rows : List Row) (i : ℕ) (d : Row) → i < length rows
+    → rows_text planned parts (drop i rows)
+    ≡ text_of (row_of planned parts (get_or rows i d)) ++ rows_text planned parts (drop (i + 1) rows)
+row_at planned parts rows i d within =
+    at_drop_more (rows_text planned parts) rows i d within
+    ∙ text-append (row_of planned parts (get_or rows i d))
+    (table_entries (drop (i + 1) rows) planned.level planned.next planned.lower planned.file parts)
+
+-- which is that of its element, where it has one
+pub row_sends : (planned : PlanRecord) (parts : Parts) (rows : List Row) (i : ℕ) (d : Row) (given : Option Cell)
+    (cell : Cell) → i < length rows → cell_entries given ≡ row_of planned parts (get_or rows i d) → given ≡ Some cell
+    → rows_text planned parts (drop i rows)
+    ≡ entry_text (cell_entry cell) ++ rows_text planned parts (drop (i + 1) rows)
+row_sends planned parts rows i d given cell within is some =
+    row_at planned parts rows i d within
+    ∙ ap (λ (es : List Entry). text_of es ++ rows_text planned parts (drop (i + 1) rows))
+    (sym is ∙ ap cell_entries some)
+    ∙ ap (λ (t : List ℕ). t ++ rows_text planned parts (drop (i + 1) rows)) (text-one (cell_entry cell))
+
+-- and else is empty
+pub row_skips : (planned : PlanRecord) (parts : Parts) (rows : List Row) (i : ℕ) (d : Row) (given : Option Cell)
+    → i < length rows → cell_entries given ≡ row_of planned parts (get_or rows i d) → given ≡ None
+    → rows_text planned parts (drop i rows) ≡ rows_text planned parts (drop (i + 1) rows)
+row_skips planned parts rows i d given within is none =
+    row_at planned parts rows i d within
+    ∙ ap (λ (es : List Entry). text_of es ++ rows_text planned parts (drop (i + 1) rows))
+    (sym is ∙ ap cell_entries none)

@@ -1,0 +1,17 @@
+use Rattle.std.proofs.Common.{drop, map}
+use Rattle.std.specs.List.{AllByRecursion}
+use Rattle.dd_layout.specs.Cells.{IsShortEntry, cell_entry}
+use Rattle.dd_set.specs.Elements.{elements_of}
+use Rattle.dd_set.specs.Spelling.{elements_text}
+use Rattle.dd_set.proofs.Going.{GoesOn}
+use Rattle.dd_dir.proofs.cells.send_cells.Given as goal
+
+abbrev pub invariant-loop-cell : goal.invariant-loop-cell
+invariant-loop-cell g l = record {
+  goes : GoesOn (elements_text (elements_of (map cell_entry l.cells)))
+      (elements_text (elements_of (map cell_entry (drop l.cell-index l.cells)))) l.initial.sent l.sent
+      (g.W.Write.contents l.initial.writer, g.W.Write.rest l.initial.writer)
+      (g.W.Write.contents l.writer, g.W.Write.rest l.writer) (g.W.Write.failures l.initial.writer)
+      (g.W.Write.failures l.writer);
+  short : AllByRecursion IsShortEntry (map cell_entry (drop l.cell-index l.cells));
+}

@@ -1,0 +1,18 @@
+use Rattle.std.proofs.Common.{◌≡◌, ◌++◌, ℕ, List, [], refl, ap, subst, ◌∙◌}
+use Rattle.dd_elem.specs.Sink.{Store}
+use Rattle.dd_layout.specs.Layouts.{Layout}
+use Rattle.dd_dir.specs.Directories.{IsDirectory, directory_of}
+use Rattle.dd_dir.proofs.publishing.publish.Goals as goal
+
+pub returns-in-Ok-clause-bytes : goal.returns-in-Ok-clause-bytes
+returns-in-Ok-clause-bytes c =
+    let empty : c.reserve.new.self.bytes ≡ [] =
+    ap (λ (s : Store). s.bytes) c.reserve.ensures.same ∙ ap (λ (s : Store). s.bytes) c.new-sink.ensures in
+    c.into_bytes.ensures ∙ c.in-Ok.ensures.sends.ok.1.holds
+    ∙ ap (λ (bs : List ℕ). bs ++ directory_of c.in_ok-plan.plan.label c.in_ok-plan.plan.versions) empty
+    ∙ ap (λ (plan : Layout). directory_of plan.label plan.versions) c.in_ok-plan.ensures.planned
+
+pub returns-in-Ok-clause-file : goal.returns-in-Ok-clause-file
+returns-in-Ok-clause-file c = λ ok.
+    subst (λ (plan : Layout). IsDirectory plan.label plan.versions) c.in_ok-plan.ensures.planned
+    (c.in-Ok.ensures.file refl)

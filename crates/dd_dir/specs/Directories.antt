@@ -1,0 +1,54 @@
+-- The bytes of a directory (PS3.3 section F.3.2, PS3.10 section 8.6).
+use Rattle.std.specs.Prelude.{ℕ, List, [], ◌++◌, length, map, Option, None, Some, slice_get}
+use Rattle.std.specs.List.{last_or}
+use Rattle.dd_catalogue.specs.Harmony.{harmonised}
+use Rattle.dd_keys.specs.declared.parts.Parts.{Parts}
+use Rattle.dd_part10.specs.File.{IsFile}
+use Rattle.dd_part10.specs.Head.{head_text}
+use Rattle.dd_set.specs.Elements.{Elements, Entry, elements_of}
+use Rattle.dd_set.specs.Spelling.{AreElements, elements_text}
+use Rattle.dd_set.specs.declared.syntax.Syntax.TheVariants.{Explicit}
+use Rattle.dd_layout.specs.declared.label.Label.{Label}
+use Rattle.dd_layout.specs.declared.record.PlanRecord.{PlanRecord}
+use Rattle.dd_layout.specs.Directory.{directory_entries, meta_of}
+use Rattle.dd_layout.specs.Plans.{at_or_none, records_of, tree}
+use Rattle.dd_layout.specs.Records.{record_entries, record_part}
+use Rattle.dd_layout.specs.Tree.{children, first_child}
+
+-- the offset of the first root record, and of the last, where there are records: the roots are those whose path has one
+-- part, and the empty path is their parent
+abbrev pub first_root : Label → List Parts → ℕ
+first_root label versions = at_or_none label versions (first_child (tree versions) [])
+
+abbrev pub last_root : Label → List Parts → ℕ
+last_root label versions = at_or_none label versions (last_or None (children (tree versions) []))
+
+-- the elements of a record, with the keys of the version that it is of
+abbrev pub entries_by : PlanRecord → Option Parts → List Entry
+entries_by row None = []
+entries_by row (Some version) = record_entries row.level row.next row.lower row.file version
+
+abbrev pub entries_of : List Parts → PlanRecord → List Entry
+entries_of versions row = entries_by row (slice_get versions row.of)
+
+-- they are the elements of a data set, as an item of a sequence at the root may hold
+abbrev pub IsRecord : List Entry → Type 0
+IsRecord entries = AreElements Explicit 31 0 (elements_of entries)
+
+-- the elements of the directory of these versions, which are in harmony
+abbrev pub directory_set : Label → List Parts → Elements
+directory_set label versions = elements_of (directory_entries label.id (first_root label versions)
+    (last_root label versions) (map record_part (map (entries_of versions) (records_of label versions))))
+
+-- its bytes: the head of the file and the elements
+abbrev pub directory_of : Label → List Parts → List ℕ
+directory_of label versions = head_text (meta_of label) ++ elements_text (directory_set label versions)
+
+-- they are a file of the class of directories, whose data set has these elements
+abbrev pub IsDirectory : Label → List Parts → Type 0
+IsDirectory label versions = IsFile (directory_of label versions) (meta_of label) (directory_set label versions)
+    (length (head_text (meta_of label)))
+
+-- the directory of the versions of a catalogue
+abbrev pub directory : Label → List Parts → List ℕ
+directory label m = directory_of label (harmonised m)

@@ -1,0 +1,69 @@
+//! Elements sent to a writer.
+
+ghost use Rattle.std.specs.Prelude.{◌≡◌, ◌+◌, ◌<◌, ◌^◌, length, map};
+ghost use Rattle.std.specs.List.{AllByRecursion};
+ghost use Rattle.dd_layout.specs.Cells.{IsShort, IsShortEntry, cell_entry, table_entries, whole_value};
+ghost use Rattle.dd_set.specs.Elements.{elements_of};
+ghost use Rattle.dd_set.specs.Sends.{SendsTo};
+ghost use Rattle.dd_set.specs.Single.{entry_text};
+ghost use Rattle.dd_set.specs.Spelling.{elements_text};
+
+use dd_elem::Write;
+use dd_keys::Parts;
+use dd_layout::{Cell, PlanRecord, Row};
+use dd_set::{WriteFault, send, send_header};
+
+/// Sends an element behind `sent` bytes: its header, its value and the padding.
+fn send_cell<W: Write>(cell: &Cell<'_>, writer: &mut W, sent: u64) -> Result<u64, WriteFault>
+    requires short { IsShort (whole_value cell.now.value) }
+    requires fits { sent + length (entry_text (cell_entry cell.now)) < 2 ^ 64 }
+    ensures { let text = entry_text (cell_entry cell.now)
+        in SendsTo W.contents W.rest W.failures text sent result writer.old writer.new }
+{
+    let value = cell.value.as_bytes();
+    let padding = cell.value.padding();
+    let count = (value.len() + padding.len()) as u32;
+    let sent = send_header(cell.tag, cell.vr, count, writer, sent)?;
+    let sent = send(value, writer, sent)?;
+    send(padding, writer, sent)
+}
+
+/// Sends these elements behind `sent` bytes.
+pub(crate) fn send_cells<W: Write>(
+    cells: &[Cell<'_>],
+    writer: &mut W,
+    mut sent: u64,
+) -> Result<u64, WriteFault>
+    requires short { AllByRecursion IsShortEntry (map cell_entry cells.now) }
+    requires fits { sent + length (elements_text (elements_of (map cell_entry cells.now))) < 2 ^ 64 }
+    ensures { let text = elements_text (elements_of (map cell_entry cells.now))
+        in SendsTo W.contents W.rest W.failures text sent result writer.old writer.new }
+{
+    for cell in cells {
+        sent = send_cell(cell, writer, sent)?;
+    }
+    Ok(sent)
+}
+
+/// Sends the elements that these rows give a record of these parts, behind `sent` bytes.
+pub(crate) fn send_rows<W: Write>(
+    rows: &[Row],
+    planned: &PlanRecord,
+    parts: &Parts,
+    writer: &mut W,
+    mut sent: u64,
+) -> Result<u64, WriteFault>
+    requires { let text = elements_text (elements_of (table_entries rows.now
+        planned.now.level planned.now.next planned.now.lower planned.now.file parts.now))
+        in sent + length text < 2 ^ 64 }
+    ensures { let text = elements_text (elements_of (table_entries rows.now
+        planned.now.level planned.now.next planned.now.lower planned.now.file parts.now))
+        in SendsTo W.contents W.rest W.failures text sent result writer.old writer.new }
+{
+    for row in rows {
+        if let Some(cell) = row.cell(planned, parts) {
+            sent = send_cell(&cell, writer, sent)?;
+        }
+    }
+    Ok(sent)
+}

@@ -1,0 +1,22 @@
+//! What holds of every directory.
+
+ghost use Rattle.std.specs.Prelude.{◌≡◌, All, List, length};
+ghost use Rattle.dd_keys.specs.declared.parts.Parts.{Parts};
+ghost use Rattle.dd_layout.specs.declared.label.Label.{Label};
+ghost use Rattle.dd_layout.specs.Layouts.{IsSound};
+ghost use Rattle.dd_layout.specs.Plans.{records_of, size};
+ghost use Rattle.dd_layout.specs.Worked.{four_images, unnamed};
+ghost use Rattle.dd_dir.specs.Directories.{directory_of, first_root, last_root};
+
+/// A directory has as many bytes as are planned, where each record is of a version and has a File ID
+/// where it is of an image. This states a law, and does nothing.
+pub fn directory_is_as_long_as_planned()
+    ensures { (label : Label) (versions : List Parts) → All (IsSound (length versions)) (records_of label versions)
+        → length (directory_of label versions) ≡ size label versions }
+{}
+
+/// The first and the last root record of the directory of four images of two patients.
+pub fn four_images_have_two_roots()
+    ensures first { first_root unnamed four_images ≡ 320 }
+    ensures last { last_root unnamed four_images ≡ 1476 }
+{}

@@ -1,0 +1,13 @@
+//! Directories of file-sets, written (PS3.3 annex F, PS3.10 section 8).
+#![tactic(auto)]
+
+mod cells;
+mod laws;
+mod publishing;
+mod records;
+mod roots;
+mod writing;
+
+pub use laws::{directory_is_as_long_as_planned, four_images_have_two_roots};
+pub use publishing::publish;
+pub use writing::write_directory;

@@ -1,0 +1,67 @@
+//! Records sent to a writer.
+
+ghost use Rattle.std.specs.Prelude.{◌≡◌, ◌+◌, ◌++◌, ◌<◌, ◌^◌, All, IsOk, length, map};
+ghost use Rattle.std.specs.List.{AllByRecursion};
+ghost use Rattle.byteorder.specs.Endian.{little_bytes};
+ghost use Rattle.dd_layout.specs.Layouts.{IsSound};
+ghost use Rattle.dd_layout.specs.Records.{record_part};
+ghost use Rattle.dd_set.specs.Elements.{items_of};
+ghost use Rattle.dd_set.specs.Sends.{SendsTo};
+ghost use Rattle.dd_set.specs.Single.{part_text};
+ghost use Rattle.dd_set.specs.Spelling.{item_tag_text, items_text};
+ghost use Rattle.dd_dir.specs.Directories.{IsRecord, entries_of};
+
+use crate::cells::send_rows;
+use byteorder::{ByteOrder, LittleEndian};
+use dd_elem::Write;
+use dd_keys::Version;
+use dd_layout::{PlanRecord, record_size, rows};
+use dd_set::{WriteFault, send};
+
+/// Sends these records behind `sent` bytes.
+pub(crate) fn send_records<W: Write>(
+    records: &[PlanRecord],
+    versions: &[Version],
+    writer: &mut W,
+    mut sent: u64,
+) -> Result<u64, WriteFault>
+    requires sound { All (IsSound (length versions.now)) records.now }
+    requires fits { let parts = map record_part (map (entries_of versions.now) records.now)
+        in sent + length (items_text (items_of parts)) < 2 ^ 64 }
+    ensures sends { let parts = map record_part (map (entries_of versions.now) records.now)
+        in SendsTo W.contents W.rest W.failures (items_text (items_of parts)) sent result writer.old writer.new }
+    ensures valid { IsOk result → AllByRecursion IsRecord (map (entries_of versions.now) records.now) }
+{
+    for planned in records {
+        sent = send_record(planned, versions, writer, sent)?;
+    }
+    Ok(sent)
+}
+
+/// Sends a record behind `sent` bytes: the header of its item and its elements.
+fn send_record<W: Write>(
+    planned: &PlanRecord,
+    versions: &[Version],
+    writer: &mut W,
+    sent: u64,
+) -> Result<u64, WriteFault>
+    requires sound { IsSound (length versions.now) planned.now }
+    requires fits { sent + length (part_text (record_part (entries_of versions.now planned.now))) < 2 ^ 64 }
+    ensures sends { let text = part_text (record_part (entries_of versions.now planned.now))
+        in SendsTo W.contents W.rest W.failures text sent result writer.old writer.new }
+    ensures valid { IsOk result → IsRecord (entries_of versions.now planned.now) }
+{
+    let parts = versions[planned.of].parts();
+    let header = item_header(record_size(planned.level, parts) as u32 - 8);
+    let sent = send(&header, writer, sent)?;
+    send_rows(rows(planned.level), planned, parts, writer, sent)
+}
+
+/// The header of an item with so many bytes (PS3.5 section 7.5).
+fn item_header(count: u32) -> [u8; 8]
+    ensures { result ≡ item_tag_text ++ little_bytes 4 count }
+{
+    let mut header = *b"\xfe\xff\0\xe0\0\0\0\0";
+    LittleEndian::write_u32(&mut header[4..], count);
+    header
+}

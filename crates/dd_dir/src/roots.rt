@@ -1,0 +1,31 @@
+//! The offsets of the first and of the last root record.
+
+ghost use Rattle.std.specs.Prelude.{◌≡◌, List};
+ghost use Rattle.dd_keys.specs.declared.parts.Parts.{Parts};
+ghost use Rattle.dd_layout.specs.declared.label.Label.{Label};
+ghost use Rattle.dd_layout.specs.Plans.{records_of};
+ghost use Rattle.dd_dir.specs.Directories.{first_root, last_root};
+
+use dd_layout::{Level, PlanRecord};
+
+/// The offset of the first root record, or 0 (PS3.3 section F.3.2.2).
+pub(crate) fn first_root(rows: &[PlanRecord]) -> u32
+    ensures { (label : Label) (versions : List Parts) → rows.now ≡ records_of label versions
+        → result ≡ first_root label versions }
+{
+    match rows.iter().find(|row| row.level == Level::Patient) {
+        None => 0,
+        Some(row) => row.at,
+    }
+}
+
+/// The offset of the last root record, or 0 (PS3.3 section F.3.2.2).
+pub(crate) fn last_root(rows: &[PlanRecord]) -> u32
+    ensures { (label : Label) (versions : List Parts) → rows.now ≡ records_of label versions
+        → result ≡ last_root label versions }
+{
+    match rows.iter().rev().find(|row| row.level == Level::Patient) {
+        None => 0,
+        Some(row) => row.at,
+    }
+}

@@ -1,0 +1,41 @@
+-- What reading a version answers: for the bytes of its file, and for a reader that gives them.
+use Rattle.std.specs.Prelude.{◌≡◌, ◌≢◌, ◌⊎◌, ◌+◌, ◌<◌, ◌≤◌, ℕ, List, length}
+use Rattle.std.specs.Prelude.{Option, Some, Result, Err, IfOk, IfErr, MatchResult}
+use Rattle.std.specs.Io.KnownBytes.{IsAtEnd}
+use Rattle.dd_elem.specs.Device.{HasFailed, HasWorked}
+use Rattle.dd_keys.specs.declared.fault.KeyFault.{KeyFault}
+use Rattle.dd_keys.specs.declared.fault.KeyFault.TheVariants.{Read, FileTooLong}
+use Rattle.dd_keys.specs.declared.parts.Parts.{Parts}
+use Rattle.dd_keys.specs.Faults.{IsWantOfMemory, SaysMemory, first_fault}
+use Rattle.dd_keys.specs.Versions.{IsVersion}
+
+-- the answer for the bytes of a file
+pub record Answers (file : List ℕ) (answer : Result Parts KeyFault) : Type 0 where
+  -- what is answered is the version of the file
+  pub found : IfOk answer (IsVersion file)
+  -- a version is answered where there is one, unless memory runs out
+  pub only : (version : Parts) → IsVersion file version
+      → MatchResult answer (λ parts. parts ≡ version) (IsWantOfMemory file)
+  -- a refusal is the first check that fails, or want of memory where memory is wanted
+  pub fault : IfErr answer (λ fault. IsWantOfMemory file fault ⊎ (first_fault file ≡ Some fault))
+
+-- A reader gave `given` in a call and has `left` still to come; its failures were `old` and are `new`.
+
+-- it was read to its end, within the limit, and did not fail
+pub record IsReadWhole (limit : ℕ) (given : List ℕ) (left : Option (List ℕ)) (old new : ℕ) : Type 0 where
+  pub within : length given ≤ limit
+  pub ended : IsAtEnd left
+  pub worked : HasWorked old new
+
+-- the answer for such a reader
+pub record AnswersReader (limit : ℕ) (given : List ℕ) (left : Option (List ℕ)) (old new : ℕ)
+    (answer : Result Parts KeyFault) : Type 0 where
+  -- the reader failed, and had not gone past the limit
+  pub read : answer ≡ Err Read → (length given ≤ limit) × HasFailed old new
+  -- it gave one byte more than the limit
+  pub long : answer ≡ Err FileTooLong → (length given ≡ limit + 1) × HasWorked old new
+  -- memory is wanted only where it gave a byte
+  pub memory : IfErr answer (λ fault. SaysMemory fault → 0 < length given)
+  -- each other answer is that for the bytes that it gave to its end
+  pub whole : answer ≢ Err Read → answer ≢ Err FileTooLong → IfErr answer (λ fault. ¬ SaysMemory fault)
+      → IsReadWhole limit given left old new × Answers given answer

@@ -1,0 +1,9 @@
+use Rattle.std.proofs.Common.{◌≡◌, ◌∷◌, ◌++◌, map, take}
+use Rattle.dd_layout.specs.WalkedRecords.{record_of_level, standing}
+use Rattle.dd_layout.proofs.nodes.push_rows.Given as goal
+
+-- the records of the levels that have come are behind
+abbrev pub invariant-loop-level : goal.invariant-loop-level
+invariant-loop-level l = l.records.items ≡ l.fn.records.items
+    ++ map (record_of_level (standing l.first ∷ map standing l.later) l.first.version.now)
+    (take l.level-index l.level-items)

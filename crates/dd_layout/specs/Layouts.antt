@@ -1,0 +1,26 @@
+-- A plan: the label and the versions in harmony, from which all else follows.
+use Rattle.std.specs.Prelude.{◌≡◌, ◌<◌, ℕ, List, All, length}
+use Rattle.dd_catalogue.specs.Harmony.{harmonised}
+use Rattle.dd_keys.specs.declared.parts.Parts.{Parts}
+use Rattle.dd_layout.specs.declared.label.Label.{Label}
+use Rattle.dd_layout.specs.declared.record.PlanRecord.{PlanRecord}
+use Rattle.dd_layout.specs.Plans.{records_of, size}
+use Rattle.dd_layout.specs.Records.{IsFileOf}
+
+pub record Layout : Type 0 where
+  pub label : Label
+  pub versions : List Parts
+
+-- a record is of one of so many versions, and has a File ID where it is of an image
+abbrev pub IsSound : ℕ → PlanRecord → Type 0
+IsSound count row = (row.of < count) × IsFileOf row.level row.file
+
+-- the records and the size are those that the versions have under the label
+pub record IsLaidOut (label : Label) (versions : List Parts) (rows : List PlanRecord) (bytes : ℕ) : Type 0 where
+  pub records : rows ≡ records_of label versions
+  pub size : bytes ≡ size label versions
+  pub sound : All (IsSound (length versions)) rows
+
+-- what the versions of a catalogue are laid out as
+abbrev pub layout_of : Label → List Parts → Layout
+layout_of label m = record { label = label; versions = harmonised m }

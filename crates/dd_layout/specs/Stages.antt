@@ -1,0 +1,18 @@
+-- The records of a plan before all of it is known: first each record's level and version, then its File ID, then its
+-- offset.
+use Rattle.std.specs.Prelude.{ℕ, List, None}
+use Rattle.dd_keys.specs.declared.parts.Parts.{Parts}
+use Rattle.dd_layout.specs.declared.label.Label.{Label}
+use Rattle.dd_layout.specs.declared.record.PlanRecord.{PlanRecord}
+use Rattle.dd_layout.specs.Paths.{Path}
+use Rattle.dd_layout.specs.Plans.{tree, level_of, least_below, file_of, at}
+
+abbrev pub bare_at : List Parts → Path → PlanRecord
+bare_at versions x =
+    record { level = level_of x; at = 0; next = 0; lower = 0; file = None; of = least_below versions x }
+
+abbrev pub numbered_at : List Parts → Path → PlanRecord
+numbered_at versions x = record (bare_at versions x) { file = file_of (tree versions) x }
+
+abbrev pub placed_at : Label → List Parts → Path → PlanRecord
+placed_at label versions x = record (numbered_at versions x) { at = at label versions x }

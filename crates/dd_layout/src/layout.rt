@@ -1,0 +1,68 @@
+//! From a catalogue to the plan of its directory.
+
+ghost use Rattle.std.specs.Prelude.{◌≡◌, ◌≢◌, ◌⊎◌, [], None, Some, IsOk, IfOk, IfErr, map};
+ghost use Rattle.dd_layout.specs.Layouts.{IsLaidOut, layout_of};
+ghost use Rattle.dd_layout.specs.Plans.{tree};
+ghost use Rattle.dd_layout.specs.Refusal.{excess, refusal};
+ghost use Rattle.dd_layout.specs.Stages.{bare_at};
+
+use crate::fault::PlanFault;
+use crate::label::Label;
+use crate::limits::Limits;
+use crate::links::link;
+use crate::nodes::nodes;
+use crate::places::place;
+use crate::plan::Plan;
+use crate::ranks::number;
+use crate::record::PlanRecord;
+use dd_catalogue::Catalogue;
+use dd_keys::Version;
+use std::alloc::Global;
+
+/// Lays out the directory of these versions, in harmony, under this label. Refused, in this order, as
+/// Conflict where two of them conflict, with the first pair; as TooMany where one record or the root has
+/// more children than the limits allow, with the topmost level of such children; as TooLarge where the
+/// file has more bytes than they allow; and as Memory where a growth was refused, which never is where
+/// there are no versions.
+pub fn lay_out(
+    alloc: Global,
+    catalogue: &Catalogue,
+    label: &Label,
+    limits: Limits,
+) -> Result<Plan, PlanFault>
+    ensures planned { IfOk result (λ plan. plan ≡ layout_of label.now catalogue.now) }
+    ensures allowed { IsOk result → refusal label.now limits catalogue.now ≡ None }
+    ensures refused { IfErr result (λ fault. ((fault ≡ PlanFault.Memory) × (catalogue.now ≢ []))
+        ⊎ (refusal label.now limits catalogue.now ≡ Some fault)) }
+{
+    if let Some((one, other)) = catalogue.conflict()? {
+        return Err(PlanFault::Conflict(one, other));
+    }
+    let versions = catalogue.harmonise()?;
+    let mut records = nodes(alloc, versions.versions())?;
+    let size = fill(&mut records, versions.versions(), label, limits)?;
+    Ok(Plan::of(*label, versions, records, size))
+}
+
+/// Gives the records of these versions all that they hold, and answers the size of the directory. TooMany
+/// where one parent has more children than the limits allow; else TooLarge where the file has more bytes.
+fn fill(
+    records: &mut [PlanRecord],
+    versions: &[Version],
+    label: &Label,
+    limits: Limits,
+) -> Result<u32, PlanFault>
+    requires { records.old ≡ map (bare_at versions.now) (tree versions.now) }
+    ensures full { IfOk result (λ bytes. IsLaidOut label.now versions.now records.new bytes) }
+    ensures allowed { IsOk result → excess label.now limits versions.now ≡ None }
+    ensures refused { IfErr result (λ fault. excess label.now limits versions.now ≡ Some fault) }
+{
+    if let Some(level) = number(records, limits.per_level) {
+        return Err(PlanFault::TooMany(level));
+    }
+    let Some(size) = place(records, versions, label, limits.bytes) else {
+        return Err(PlanFault::TooLarge);
+    };
+    link(records);
+    Ok(size)
+}

@@ -1,0 +1,98 @@
+//! The links of records.
+
+ghost use Rattle.std.specs.Prelude.{◌≡◌, List, map};
+ghost use Rattle.dd_keys.specs.declared.parts.Parts.{Parts};
+ghost use Rattle.dd_layout.specs.declared.label.Label.{Label};
+ghost use Rattle.dd_layout.specs.Linking.{behind_from, lower_of, next_of, none_behind};
+ghost use Rattle.dd_layout.specs.Plans.{records_of, tree};
+ghost use Rattle.dd_layout.specs.Stages.{placed_at};
+
+use crate::level::Level;
+use crate::record::PlanRecord;
+
+/// What stands behind a record: the offset of the first record of each level with no record of a higher
+/// level before it, and 0 where there is none.
+#[derive(Clone, Copy)]
+struct Behind {
+    patient: u32,
+    study: u32,
+    series: u32,
+    image: u32,
+}
+
+impl Behind {
+    /// What stands behind the last record.
+    fn none() -> Behind
+        ensures { result ≡ none_behind }
+    {
+        Behind {
+            patient: 0,
+            study: 0,
+            series: 0,
+            image: 0,
+        }
+    }
+
+    /// The offset of the next record of the same parent, for a record of this level.
+    fn next(self, level: Level) -> u32
+        ensures { result ≡ next_of level self }
+    {
+        match level {
+            Level::Patient => self.patient,
+            Level::Study => self.study,
+            Level::Series => self.series,
+            Level::Image => self.image,
+        }
+    }
+
+    /// The offset of the first record below, for a record of this level.
+    fn lower(self, level: Level) -> u32
+        ensures { result ≡ lower_of level self }
+    {
+        match level {
+            Level::Patient => self.study,
+            Level::Study => self.series,
+            Level::Series => self.image,
+            Level::Image => 0,
+        }
+    }
+
+    /// The same with a record of this level, at this offset, before all of it.
+    fn before(self, level: Level, at: u32) -> Behind
+        ensures { result ≡ behind_from level at self }
+    {
+        match level {
+            Level::Patient => Behind {
+                patient: at,
+                ..Behind::none()
+            },
+            Level::Study => Behind {
+                patient: self.patient,
+                study: at,
+                series: 0,
+                image: 0,
+            },
+            Level::Series => Behind {
+                series: at,
+                image: 0,
+                ..self
+            },
+            Level::Image => Behind { image: at, ..self },
+        }
+    }
+}
+
+/// Gives each record the offsets of the next one of its parent and of the first one below it.
+pub(crate) fn link(records: &mut [PlanRecord])
+    ensures { (label : Label) (versions : List Parts)
+        → records.old ≡ map (placed_at label versions) (tree versions)
+        → records.new ≡ records_of label versions }
+{
+    let mut behind = Behind::none();
+    for i in (0..records.len()).rev() {
+        let record = &mut records[i];
+        record.next = behind.next(record.level);
+        record.lower = behind.lower(record.level);
+        behind = behind.before(record.level, record.at);
+    }
+}

@@ -1,0 +1,92 @@
+//! The plan of a directory.
+
+ghost use Rattle.std.specs.Prelude.{◌≡◌, All, length};
+ghost use Rattle.dd_layout.specs.Layouts.{IsLaidOut, IsSound};
+ghost use Rattle.dd_layout.specs.Plans.{records_of, size};
+
+use crate::label::Label;
+use crate::record::PlanRecord;
+use dd_catalogue::Catalogue;
+use dd_keys::Version;
+use std::marker::Model;
+
+/// Where each record of a directory stands, and how long the file is. Only `lay_out` makes one.
+#[derive(Debug)]
+pub struct Plan {
+    label: Label,
+    catalogue: Catalogue,
+    records: Vec<PlanRecord>,
+    size: u32,
+}
+
+impl Model for Plan {
+    ghost use Rattle.dd_layout.specs.Layouts.{Layout, IsLaidOut};
+
+    ghost Value = { Layout };
+
+    ghost view = { λ plan. record { label = plan.label; versions = plan.catalogue } };
+
+    ghost invariant = { λ plan. IsLaidOut plan.label plan.catalogue plan.records.items plan.size };
+}
+
+// By hand, so that letting go of a plan is one call.
+impl Drop for Plan {
+    fn drop(self) {
+        let Plan {
+            label: _label,
+            catalogue: _catalogue,
+            records: _records,
+            size: _size,
+        } = self;
+    }
+}
+
+impl Plan {
+    /// The plan of these parts.
+    pub(crate) fn of(
+        label: Label,
+        catalogue: Catalogue,
+        records: Vec<PlanRecord>,
+        size: u32,
+    ) -> Plan
+        requires { IsLaidOut label catalogue records.items size }
+        ensures { result ≡ record { label = label; versions = catalogue } }
+    {
+        Plan {
+            label,
+            catalogue,
+            records,
+            size,
+        }
+    }
+
+    /// The label that the file-set gets.
+    pub fn label(&self) -> &Label
+        ensures { result.now ≡ self.now.label }
+    {
+        &self.label
+    }
+
+    /// The versions that the records are of, in harmony, rising by SOP Instance UID.
+    pub fn versions(&self) -> &[Version]
+        ensures { result.now ≡ self.now.versions }
+    {
+        self.catalogue.versions()
+    }
+
+    /// The size of the file, in bytes.
+    pub fn size(&self) -> u32
+        ensures { result ≡ size self.now.label self.now.versions }
+    {
+        self.size
+    }
+
+    /// The records, in the order of their bytes: each, then all below it, then its next sibling (PS3.3
+    /// section F.4).
+    pub fn records(&self) -> &[PlanRecord]
+        ensures all { result.now ≡ records_of self.now.label self.now.versions }
+        ensures sound { All (IsSound (length self.now.versions)) result.now }
+    {
+        &self.records
+    }
+}

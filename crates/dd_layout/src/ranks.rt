@@ -1,0 +1,123 @@
+//! The ranks of records, and the File IDs of images.
+
+ghost use Rattle.std.specs.Prelude.{◌≡◌, ◌+◌, ◌<◌, ◌≤◌, ◌^◌, All, List, None, Some, map};
+ghost use Rattle.dd_keys.specs.declared.parts.Parts.{Parts};
+ghost use Rattle.dd_layout.specs.Numbering.{after, count_of, counted_file, topmost};
+ghost use Rattle.dd_layout.specs.Plans.{tree};
+ghost use Rattle.dd_layout.specs.Records.{IsFileOf};
+ghost use Rattle.dd_layout.specs.Refusal.{crowded};
+ghost use Rattle.dd_layout.specs.Stages.{bare_at, numbered_at};
+
+use crate::level::Level;
+use crate::record::PlanRecord;
+use dd_elem::FileId;
+
+/// Of each level, how many records have come below the parent now.
+#[derive(Clone, Copy)]
+struct Counters {
+    patient: u64,
+    study: u64,
+    series: u64,
+    image: u64,
+}
+
+impl Counters {
+    /// Before all records.
+    const NONE: Counters = Counters {
+        patient: 0,
+        study: 0,
+        series: 0,
+        image: 0,
+    };
+
+    /// The counter of this level.
+    fn of(self, level: Level) -> u64
+        ensures { result ≡ count_of level self }
+    {
+        match level {
+            Level::Patient => self.patient,
+            Level::Study => self.study,
+            Level::Series => self.series,
+            Level::Image => self.image,
+        }
+    }
+
+    /// After one record more of this level, below which none has come yet.
+    fn after(self, level: Level) -> Counters
+        requires { count_of level self + 1 < 2 ^ 64 }
+        ensures { result ≡ after level self }
+    {
+        match level {
+            Level::Patient => Counters {
+                patient: self.patient + 1,
+                ..Counters::NONE
+            },
+            Level::Study => Counters {
+                study: self.study + 1,
+                series: 0,
+                image: 0,
+                ..self
+            },
+            Level::Series => Counters {
+                series: self.series + 1,
+                image: 0,
+                ..self
+            },
+            Level::Image => Counters {
+                image: self.image + 1,
+                ..self
+            },
+        }
+    }
+
+    /// The File ID of a record of this level that was counted last: None where it is no image, or a
+    /// counter is 0 or above 999,999.
+    fn file(self, level: Level) -> Option<FileId>
+        ensures { result ≡ counted_file level self }
+    {
+        match level {
+            Level::Patient | Level::Study | Level::Series => None,
+            Level::Image => FileId::ranked(
+                u32::try_from(self.patient).ok()?,
+                u32::try_from(self.study).ok()?,
+                u32::try_from(self.series).ok()?,
+                u32::try_from(self.image).ok()?,
+            ),
+        }
+    }
+}
+
+/// The level nearest to the root of these.
+fn topmost(level: Level, before: Option<Level>) -> Level
+    ensures { result ≡ topmost level before }
+{
+    match (level, before) {
+        (_, None | Some(Level::Image)) => level,
+        (Level::Patient, _) | (_, Some(Level::Patient)) => Level::Patient,
+        (Level::Study, _) | (_, Some(Level::Study)) => Level::Study,
+        (Level::Series | Level::Image, Some(Level::Series)) => Level::Series,
+    }
+}
+
+/// Gives each image its File ID. Answers the topmost level of which more records than `most` stand below
+/// one parent, and None where there is no such level.
+pub(crate) fn number(records: &mut [PlanRecord], most: u32) -> Option<Level>
+    requires { most ≤ 999999 }
+    ensures crowded { (versions : List Parts) → records.old ≡ map (bare_at versions) (tree versions)
+        → result ≡ crowded most (tree versions) }
+    ensures numbered { (versions : List Parts) → records.old ≡ map (bare_at versions) (tree versions)
+        → result ≡ None → records.new ≡ map (numbered_at versions) (tree versions) }
+    ensures files { (versions : List Parts) → records.old ≡ map (bare_at versions) (tree versions)
+        → result ≡ None → All (λ row. IsFileOf row.level row.file) records.new }
+{
+    let mut counters = Counters::NONE;
+    let mut crowded = None;
+    for record in records.iter_mut() {
+        counters = counters.after(record.level);
+        if counters.of(record.level) > u64::from(most) {
+            crowded = Some(topmost(record.level, crowded));
+        }
+        record.file = counters.file(record.level);
+    }
+    crowded
+}

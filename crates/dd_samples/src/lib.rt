@@ -1,0 +1,8 @@
+//! The versions that the tests of catalogues, plans and directories share.
+//!
+//! It has no tests of its own.
+#![tactic(auto)]
+
+mod images;
+
+pub use images::{fitting, image, images, parts_of, taken, told, v1_version};
