@@ -10,7 +10,7 @@ ghost use Rattle.dd_catalogue.specs.Taking.{as_took, took_of};
 use crate::conflicts::first_clash;
 use crate::harmony::in_harmony;
 use crate::join::Join;
-use crate::lent::Keyed;
+use crate::lent::{Keyed, lent};
 use crate::table::{Copied, Table, Taken};
 use dd_elem::{Memory, Uid};
 use dd_keys::Version;
@@ -94,6 +94,18 @@ impl Catalogue {
         Ok(Catalogue {
             table: Table::of(alloc, versions)?,
         })
+    }
+
+    /// The best of these versions: they are sorted once, and each that is kept is copied once. Memory
+    /// where a growth was refused: never where there are no versions.
+    pub fn from_versions(alloc: Global, versions: &[Version]) -> Result<Catalogue, Memory>
+        ensures best { IfOk result (λ catalogue. catalogue ≡ best_of versions.now) }
+        ensures some { OnErr result (versions.now ≢ []) }
+    {
+        if versions.is_empty() {
+            return Ok(Catalogue::new(alloc));
+        }
+        Catalogue::of(alloc, lent(alloc, versions)?)
     }
 
     /// How many instances it holds.

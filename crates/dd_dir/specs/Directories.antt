@@ -1,7 +1,8 @@
 -- The bytes of a directory (PS3.3 section F.3.2, PS3.10 section 8.6).
-use Rattle.std.specs.Prelude.{ℕ, List, [], ◌++◌, length, map, Option, None, Some, slice_get}
+use Rattle.std.specs.Prelude.{ℕ, List, [], ◌++◌, length, map, Option, None, Some, slice_get, codes}
 use Rattle.std.specs.List.{last_or}
 use Rattle.dd_catalogue.specs.Harmony.{harmonised}
+use Rattle.dd_elem.specs.Digests.{uid_of_digest}
 use Rattle.dd_keys.specs.declared.parts.Parts.{Parts}
 use Rattle.dd_part10.specs.File.{IsFile}
 use Rattle.dd_part10.specs.Head.{head_text}
@@ -14,6 +15,7 @@ use Rattle.dd_layout.specs.Directory.{directory_entries, meta_of}
 use Rattle.dd_layout.specs.Plans.{at_or_none, records_of, tree}
 use Rattle.dd_layout.specs.Records.{record_entries, record_part}
 use Rattle.dd_layout.specs.Tree.{children, first_child}
+use Rattle.sha2.specs.Sha256.{sha256}
 
 -- the offset of the first root record, and of the last, where there are records: the roots are those whose path has one
 -- part, and the empty path is their parent
@@ -52,3 +54,11 @@ IsDirectory label versions = IsFile (directory_of label versions) (meta_of label
 -- the directory of the versions of a catalogue
 abbrev pub directory : Label → List Parts → List ℕ
 directory label m = directory_of label (harmonised m)
+
+-- the label of a file-set with this ID that has no UID of its own
+abbrev pub unnamed_label : List ℕ → Label
+unnamed_label id = record { id = id; uid = codes "2.25.0" }
+
+-- the UID that such a file-set gets: that of the digest of its directory under this label
+abbrev pub derived : List ℕ → List Parts → List ℕ
+derived id m = uid_of_digest (sha256 (directory (unnamed_label id) m))

@@ -1,12 +1,16 @@
 //! What holds of every directory.
 
 ghost use Rattle.std.specs.Prelude.{◌≡◌, All, List, length};
+ghost use Rattle.dd_catalogue.specs.Best.{SameMembers};
+ghost use Rattle.dd_catalogue.specs.Histories.{taken};
+ghost use Rattle.dd_catalogue.specs.Versions.{best_of};
+ghost use Rattle.dd_catalogue.specs.declared.history.History.{History};
 ghost use Rattle.dd_keys.specs.declared.parts.Parts.{Parts};
 ghost use Rattle.dd_layout.specs.declared.label.Label.{Label};
 ghost use Rattle.dd_layout.specs.Layouts.{IsSound};
 ghost use Rattle.dd_layout.specs.Plans.{records_of, size};
 ghost use Rattle.dd_layout.specs.Worked.{four_images, unnamed};
-ghost use Rattle.dd_dir.specs.Directories.{directory_of, first_root, last_root};
+ghost use Rattle.dd_dir.specs.Directories.{directory, directory_of, first_root, last_root};
 
 /// A directory has as many bytes as are planned, where each record is of a version and has a File ID
 /// where it is of an image. This states a law, and does nothing.
@@ -19,4 +23,11 @@ pub fn directory_is_as_long_as_planned()
 pub fn four_images_have_two_roots()
     ensures first { first_root unnamed four_images ≡ 320 }
     ensures last { last_root unnamed four_images ≡ 1476 }
+{}
+
+/// Histories in which the same versions were taken, in any order, with repeats and through any merges, have
+/// the same directory under one label, byte for byte. This states a law, and does nothing.
+pub fn same_versions_same_directory()
+    ensures { (label : Label) (h g : History) → SameMembers (taken h) (taken g)
+        → directory label (best_of (taken h)) ≡ directory label (best_of (taken g)) }
 {}

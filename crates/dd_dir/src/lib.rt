@@ -2,12 +2,18 @@
 #![tactic(auto)]
 
 mod cells;
+mod derived;
+mod digester;
 mod laws;
+mod message;
 mod publishing;
 mod records;
 mod roots;
 mod writing;
 
-pub use laws::{directory_is_as_long_as_planned, four_images_have_two_roots};
-pub use publishing::publish;
+pub use derived::derived_uid;
+pub use laws::{
+    directory_is_as_long_as_planned, four_images_have_two_roots, same_versions_same_directory,
+};
+pub use publishing::{assemble, publish};
 pub use writing::write_directory;

@@ -1,12 +1,14 @@
-//! From a catalogue to the bytes of its directory.
+//! From a catalogue, or from what was taken, to the bytes of a directory.
 
 ghost use Rattle.std.specs.Prelude.{◌≡◌, ◌⊎◌, None, Some, IfErr, IfOk, IsOk};
 ghost use Rattle.dd_catalogue.specs.Harmony.{harmonised};
+ghost use Rattle.dd_catalogue.specs.Histories.{taken};
+ghost use Rattle.dd_catalogue.specs.Versions.{best_of};
 ghost use Rattle.dd_layout.specs.Refusal.{refusal};
 ghost use Rattle.dd_dir.specs.Directories.{IsDirectory, directory};
 
 use crate::writing::write_directory;
-use dd_catalogue::Catalogue;
+use dd_catalogue::{Catalogue, History, build};
 use dd_elem::Sink;
 use dd_layout::{Label, Limits, PlanFault, lay_out};
 use std::alloc::Global;
@@ -32,4 +34,22 @@ pub fn publish(
         Ok(_) => Ok(sink.into_bytes()),
         Err(_) => Err(PlanFault::Memory),
     }
+}
+
+/// The bytes of the directory of the best of all versions that were taken in a history, in harmony, under
+/// this label. Refused as `publish` refuses that catalogue, and as Memory where the catalogue has no room.
+pub fn assemble(
+    alloc: Global,
+    history: &History,
+    label: &Label,
+    limits: Limits,
+) -> Result<Vec<u8>, PlanFault>
+    ensures bytes { IfOk result (λ bytes. bytes.items ≡ directory label.now (best_of (taken history.now))) }
+    ensures file { IsOk result → IsDirectory label.now (harmonised (best_of (taken history.now))) }
+    ensures allowed { IsOk result → refusal label.now limits (best_of (taken history.now)) ≡ None }
+    ensures refused { IfErr result (λ fault. (fault ≡ PlanFault.Memory)
+        ⊎ (refusal label.now limits (best_of (taken history.now)) ≡ Some fault)) }
+{
+    let catalogue = build(alloc, history)?;
+    publish(alloc, &catalogue, label, limits)
 }

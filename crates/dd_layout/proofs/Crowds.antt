@@ -9,7 +9,7 @@ use Rattle.dd_catalogue.specs.BestLaws.{Member}
 use Rattle.dd_catalogue.specs.Rising.{by_test}
 use Rattle.dd_layout.specs.declared.level.Level.{Level}
 use Rattle.dd_layout.specs.declared.level.Level.TheVariants.{Patient, Study, Series, Image}
-use Rattle.dd_layout.specs.Numbering.{noted, topmost}
+use Rattle.dd_layout.specs.Numbering.{topmost}
 use Rattle.dd_layout.specs.Paths.{Path, is_path, parent_of, are_siblings}
 use Rattle.dd_layout.specs.Plans.{level_of}
 use Rattle.dd_layout.specs.Refusal.{above, crowded, is_crowded}

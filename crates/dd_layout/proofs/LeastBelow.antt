@@ -18,7 +18,7 @@ use Rattle.dd_layout.specs.Walk.{rows_from}
 use Rattle.dd_layout.specs.WalkedRecords.{Standing, standings, AreInOrder, bare, lesser, records_from}
 use Rattle.dd_layout.proofs.RowsByWalk.{paths_ordered, row_prefix}
 use Rattle.dd_layout.proofs.Blocks.{prefix_leads}
-use Rattle.dd_layout.proofs.Trees.{of_one, from_one, tree_is_tree}
+use Rattle.dd_layout.proofs.Trees.{of_one, from_one}
 use Rattle.dd_layout.proofs.Walked.{paths, least_all, least_of, record_of, tree_in_order, walk_is_all, same_map}
 
 -- one of these places is below the path

@@ -3,6 +3,6 @@
 //! It has no tests of its own.
 #![tactic(auto)]
 
-mod images;
+mod letters;
 
-pub use images::{fitting, image, images, parts_of, taken, told, v1_version};
+pub use letters::{fitting, image, images, parts_of, taken, told, v1_version};

@@ -1,6 +1,14 @@
+mod Answering
 mod CopySteps
+mod FirstSources
+mod ImagePicks
 mod LineLemmas
+mod LineLimit
 mod LineNames
+mod LinePaths
+mod LineRows
+mod LineWalk
+mod Planning
 mod Publishing
 mod Rest
 mod Stored

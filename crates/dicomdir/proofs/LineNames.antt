@@ -1,35 +1,39 @@
--- Words at which no parse fails name the command `index`.
-use Rattle.std.proofs.Common.{◌≡◌, ◌&&◌, ℕ, Bool, true, false, not, List, [], ◌∷◌, ◌++◌, Option, Some, None, drop}
+-- Words at which no parse fails name a command of the program.
+use Rattle.std.proofs.Common.{◌≡◌, ◌≤◌, ◌&&◌, ℕ, Bool, true, false, not, List, [], ◌∷◌, Option, Some, None}
 use Rattle.std.proofs.Common.{is_some, codes, refl, sym, ap, subst, ◌∙◌, true≢false, length, arith}
-use Rattle.std.specs.List.{list_any}
+use Rattle.std.proofs.lemmas.List.{length-append}
+use Rattle.std.specs.List.{find, list_any}
+use Rattle.std.specs.Option.{option_map, option_map_or}
 use Rattle.std.specs.Prelude.{IfSome, fold, ⊤}
 use Rattle.std.specs.Str.{bytes_eq}
 use Rattle.std.proofs.lemmas.Slice.Eq.{bytes_eq-Decides}
 use Rattle.clap.specs.Facts.{explicit_source}
 use Rattle.clap.specs.Faults.{fault_of, check_fault, defaults_fault, entered_fault, level_fault, other_fault}
-use Rattle.clap.specs.Faults.{settle_fault, turn_fault, walk_fault, word_fault}
+use Rattle.clap.specs.Faults.{settle_fault, turn_fault, walk_fault}
 use Rattle.clap.specs.Kinds.{Kinds, check_kinds, or_else}
 use Rattle.clap.specs.Lexer.{long_of, short_of}
-use Rattle.clap.specs.Simple.{App, Shape, argument_words, built, entered, names_of, subcommand_of}
+use Rattle.clap.specs.Simple.{App, Shape, argument_words, built, built_leaf, entered}
+use Rattle.clap.specs.Simple.{label_of, names_of, rows_at, subcommand_of, with_rule}
 use Rattle.clap.specs.Takes.{is_given}
 use Rattle.clap.specs.declared.error.kind.ErrorKind.TheVariants.{DisplayHelpOnMissingArgumentOrSubcommand}
 use Rattle.clap.specs.declared.error.kind.ErrorKind.TheVariants.{MissingSubcommand}
-use Rattle.clap.specs.Walk.{finished, settled, Held, Names, Outcome, Row, Rule, Step, Text, Waiting, Walk, after_flag}
-use Rattle.clap.specs.Walk.{after_step, arg_by_index, bundle, done, idle, long_met, long_or_other, arg_by_long, next}
+use Rattle.clap.specs.Walk.{finished, settled, Held, Names, Outcome, Row, Rule, Step, Text, Waiting, Walk}
+use Rattle.clap.specs.Walk.{after_flag, after_step, answers_to, arg_by_index, arg_by_long, bundle, done, idle}
+use Rattle.clap.specs.Walk.{long_met, long_or_other, next}
 use Rattle.clap.specs.Walk.{nothing_held, option, plain, plain_word, positional, refused, short_or_plain, stop_after}
 use Rattle.clap.specs.Walk.{subcommand, subcommand_met, subcommand_or_other, to_positional, trailing, value, waits}
-use Rattle.clap.specs.Walk.{walk, walk_from, walked}
-use Rattle.dicomdir.specs.Line.{NamesIndex, dicomdir_app}
+use Rattle.clap.specs.Walk.{rows_after, walk, walk_from, walked}
+use Rattle.dicomdir.specs.Line.{NamesCommand, dicomdir_app, given_for, given_paths, index_app}
+use Rattle.dicomdir.specs.Line.{least_paths, some_paths, verb_name}
+use Rattle.dicomdir.specs.Line.{writing_app}
+use Rattle.dicomdir.specs.declared.line.Verb.{Verb}
+use Rattle.dicomdir.specs.declared.line.Verb.TheVariants.{Index}
+use Rattle.dicomdir.proofs.LineLimit.{FitsLimit, level_limit, limit_fits}
+use Rattle.dicomdir.proofs.LinePaths.{FitsPath, level_path, path_fits}
+use Rattle.dicomdir.proofs.LineRows.{Each, each_found, first_none, other_fits, second_none}
+use Rattle.dicomdir.proofs.LineWalk.{level_given}
 
 -- ---- faults that do not come
-
-first_none : (a b : Kinds) → or_else a b ≡ [] → a ≡ []
-first_none [] b none = refl
-first_none (k ∷ ks) b none = none
-
-second_none : (a b : Kinds) → or_else a b ≡ [] → b ≡ []
-second_none [] b none = none
-second_none (k ∷ ks) b none = cc
 
 wants_one : (help argument : Bool) → check_kinds help true argument ≡ [] → ⊥
 wants_one true argument none = let e : length
@@ -166,30 +170,118 @@ walk_not_help s names w (word ∷ rest) enabled fine none =
 
 -- ---- the command that is entered
 
--- of two commands it is the first, where the second one is not named
-entered_first : (top one two : Shape) (stop : Option (Text × List Text)) → one.aliases ≡ [] → two.aliases ≡ []
-    → two.name ≡ codes "help" → NotHelp stop
-    → is_some (entered (record { top = top; subs = one ∷ two ∷ [] }) stop) ≡ true
-    → (rows : List Row) × (entered (record { top = top; subs = one ∷ two ∷ [] }) stop ≡ Some (one.name, rows))
-entered_first top one two None a b help other has = absurd (true≢false (sym has))
-entered_first top one two (Some p) a b help other has = go (bytes_eq one.name p.0) refl (bytes_eq two.name p.0) refl
-  where
-    go : (t : Bool) → bytes_eq one.name p.0 ≡ t → (u : Bool) → bytes_eq two.name p.0 ≡ u
-        → (rows : List Row) × (entered (record { top = top; subs = one ∷ two ∷ [] }) (Some p) ≡ Some (one.name, rows))
-    go true t u v = rw t (_, refl)
-    go false t true v =
-        let named : two.name ≡ p.0 = (bytes_eq-Decides two.name p.0).0 v in
-        let again : bytes_eq p.0 (codes "help") ≡ true = (bytes_eq-Decides p.0 (codes "help")).1 (sym named ∙ help) in
-        absurd (true≢false (sym again ∙ other))
-    go false t false v = let nothing = rw (t, v, a, b) at has in absurd (true≢false (sym nothing))
+-- where a level of this command has no fault, its words name a command of the program
+abbrev Serves : Shape → Type 0
+Serves s = (name : Text) → answers_to name (label_of s) ≡ true → bytes_eq name (codes "help") ≡ false
+    → (words : List Text) → level_fault s [] nothing_held words false [] ≡ [] → NamesCommand (Some (rows_at s words))
 
--- words with no fault name the command
-pub names_index : (words : List Text) → fault_of dicomdir_app words ≡ [] → NamesIndex (subcommand_of dicomdir_app words)
-names_index words none =
+-- the command whose name is met
+entered_serves : (a : App) (stop : Option (Text × List Text)) → Each Serves a.subs → NotHelp stop
+    → is_some (entered a stop) ≡ true → entered_fault a stop ≡ [] → NamesCommand (entered a stop)
+entered_serves a None serves other has none = absurd (true≢false (sym has))
+entered_serves a (Some p) serves other has none = go (find (λ s. answers_to p.0 (label_of s)) a.subs)
+    (each_found Serves (λ s. answers_to p.0 (label_of s)) a.subs serves) has none
+  where
+    go : (found : Option Shape) → IfSome found (λ s. Serves s × (answers_to p.0 (label_of s) ≡ true))
+        → is_some (option_map (λ s. rows_at s p.1) found) ≡ true
+        → option_map_or (λ s. level_fault s [] nothing_held p.1 false []) found [] ≡ []
+        → NamesCommand (option_map (λ s. rows_at s p.1) found)
+    go None h has none = absurd (true≢false (sym has))
+    go (Some s) h has none = h.0 p.0 h.1 other p.1 none
+
+-- `help` is not met
+help_serves : (s : Shape) → s.name ≡ codes "help" → s.aliases ≡ [] → Serves s
+help_serves s named none name met other words fault = go (bytes_eq s.name name) refl
+  where
+    go : (t : Bool) → bytes_eq s.name name ≡ t → NamesCommand (Some (rows_at s words))
+    go true t =
+        let is : s.name ≡ name = (bytes_eq-Decides s.name name).0 t in
+        let again : bytes_eq name (codes "help") ≡ true = (bytes_eq-Decides name (codes "help")).1 (sym is ∙ named) in
+        absurd (true≢false (sym again ∙ other))
+    go false t = let nothing = rw (t, none) at met in absurd (true≢false (sym nothing))
+
+-- a command of the program
+verb_serves : (verb : Verb) (s : Shape) → s.name ≡ verb_name verb → Each FitsLimit s.rules
+    → ((words : List Text) → level_fault s [] nothing_held words false [] ≡ []
+    → least_paths verb ≤ length (given_paths (rows_after s.rules [] words))) → Serves s
+verb_serves verb s named fits enough name met other words none = (
+  verb,
+  rows_after s.rules [] words,
+  rw named refl,
+  level_limit s words fits none,
+  enough words none,
+)
+
+-- ---- commands that write a directory
+
+-- such a command, by the name of its last paths
+abbrev writing : Verb → Text → Shape
+writing verb last = built_leaf (with_rule (writing_app (verb_name verb)) (some_paths last)).top
+
+-- its other arguments have other names
+record IsLast (last : Text) : Type 0 where
+  id : bytes_eq (codes "id") last ≡ false
+  uid : bytes_eq (codes "uid") last ≡ false
+  limit : bytes_eq (codes "max-bytes") last ≡ false
+  out : bytes_eq (codes "out") last ≡ false
+  help : bytes_eq (codes "help") last ≡ false
+  after_limit : bytes_eq last (codes "max-bytes") ≡ false
+  after_out : bytes_eq last (codes "out") ≡ false
+
+-- its rules, the one of `-h` among them
+each_of_six : (P : Rule → Type 0) (id uid limit out last help : Rule) → P id → P uid → P limit → P out → P last → P help
+    → Each P (id ∷ uid ∷ limit ∷ out ∷ last ∷ help ∷ [])
+each_of_six P id uid limit out last help a b c d e f = (a, (b, (c, (d, (e, (f, tt))))))
+
+writing_limits : (verb : Verb) (last : Text) → IsLast last → Each FitsLimit (writing verb last).rules
+writing_limits verb last is = each_of_six FitsLimit _ _ _ _ _ _ (other_fits _ _ _ _ _ refl refl)
+    (other_fits _ _ _ _ _ refl refl) (limit_fits _ refl refl refl refl refl) (other_fits _ _ _ _ _ refl refl)
+    (other_fits _ _ _ _ _ is.after_limit refl) (other_fits _ _ _ _ _ refl refl)
+
+writing_outs : (verb : Verb) (last : Text) → IsLast last → Each (FitsPath (codes "out")) (writing verb last).rules
+writing_outs verb last is = each_of_six (FitsPath (codes "out")) _ _ _ _ _ _ (other_fits _ _ _ _ _ refl refl)
+    (other_fits _ _ _ _ _ refl refl) (other_fits _ _ _ _ _ refl refl) (path_fits _ _ tt refl refl refl)
+    (other_fits _ _ _ _ _ is.after_out refl) (other_fits _ _ _ _ _ refl refl)
+
+writing_lasts : (verb : Verb) (last : Text) → IsLast last → Each (FitsPath last) (writing verb last).rules
+writing_lasts verb last is = each_of_six (FitsPath last) _ _ _ _ _ _ (other_fits _ _ _ _ _ is.id refl)
+    (other_fits _ _ _ _ _ is.uid refl) (other_fits _ _ _ _ _ is.limit refl) (other_fits _ _ _ _ _ is.out refl)
+    (path_fits _ _ tt refl refl refl) (other_fits _ _ _ _ _ is.help refl)
+
+writing_serves : (verb : Verb) (last : Text) → IsLast last
+    → ((given : List Row) → 1 ≤ length (given_for (codes "out") given) → 1 ≤ length (given_for last given)
+    → least_paths verb ≤ length (given_paths given)) → Serves (writing verb last)
+writing_serves verb last is enough = verb_serves verb (writing verb last) refl (writing_limits verb last is)
+    (λ words none.
+    let given = level_given (writing verb last) [] words [] none refl in
+    enough (rows_after (writing verb last).rules [] words)
+    (level_path (codes "out") (writing verb last) words (writing_outs verb last is) none given.1.1.1.0)
+    (level_path last (writing verb last) words (writing_lasts verb last is) none given.1.1.1.1.0))
+
+-- ---- the commands of the program
+
+index_serves : Serves (built_leaf index_app.top)
+index_serves = writing_serves Index (codes "source") (record {
+  id = refl;
+  uid = refl;
+  limit = refl;
+  out = refl;
+  help = refl;
+  after_limit = refl;
+  after_out = refl;
+}) (λ given out source. omega (arith, length-append (given_for (codes "out") given) (given_for (codes "source") given)))
+
+-- words with no fault name a command
+pub names_command : (words : List Text) → fault_of dicomdir_app words ≡ []
+    → NamesCommand (subcommand_of dicomdir_app words)
+names_command words none =
     let app = built dicomdir_app in
     let rest = argument_words dicomdir_app words in
     let stop = stop_after app.top.rules (names_of app) rest in
     let needs = level_needs app.top (names_of app) nothing_held rest (is_some (entered app stop))
     (entered_fault app stop) none in
     let other : NotHelp stop = walk_not_help app.top (names_of app) (walk_from nothing_held) rest refl tt needs.0 in
-    entered_first app.top _ _ stop refl refl refl other (needs.1 refl)
+    let one = walk_fault app.top (names_of app) (walk_from nothing_held) rest in
+    let below : entered_fault app stop ≡ [] = first_none _ _ (second_none one _ none) in
+    let serves : Each Serves app.subs = (index_serves, (help_serves _ refl refl, tt)) in
+    entered_serves app stop serves other (needs.1 refl) below

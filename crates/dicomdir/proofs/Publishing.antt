@@ -1,10 +1,6 @@
 -- A new file that was written and ended.
-use Rattle.std.proofs.Common.{◌≡◌, ℕ, List, [], ◌++◌, Option, Some, None, ap, sym, ◌∙◌}
+use Rattle.std.proofs.Common.{◌≡◌, ℕ, List, [], ◌++◌, Option, Some, None, ap, ◌∙◌}
 use Rattle.std.specs.Prelude.{option_map}
-use Rattle.dd_dir.specs.Directories.{directory, directory_of}
-use Rattle.dd_keys.specs.declared.parts.Parts.{Parts}
-use Rattle.dd_layout.specs.Layouts.{Layout, layout_of}
-use Rattle.dd_layout.specs.declared.label.Label.{Label}
 use Rattle.dicomdir.specs.Files.{Held, ended, grown, published, started, with_file}
 use Rattle.dicomdir.specs.MemLaws.{file_here, file_there, files_but}
 
@@ -32,11 +28,3 @@ held_published path bytes (Some held) b c d made sent closed =
     closed ∙ ap (λ (x : Option Held). option_map ended x)
     (sent ∙ ap (λ (x : Option Held). option_map (grown bytes) x) made)
     ∙ ap (λ (x : Held). Some x) (ended_is path bytes held)
-
--- a plan of these versions under a label without an ID has their directory
-pub directory_under : (label : Label) (uid : List ℕ) (versions : List Parts) (plan : Layout) → label.uid ≡ uid
-    → label.id ≡ [] → plan ≡ layout_of label versions
-    → directory_of plan.label plan.versions ≡ directory (record { id = []; uid = uid }) versions
-directory_under label uid versions plan same none is =
-    let labels : label ≡ record { id = []; uid = uid } = λ i. record { id = none i; uid = same i } in
-    ap (λ (p : Layout). directory_of p.label p.versions) is ∙ ap (λ (l : Label). directory l versions) labels

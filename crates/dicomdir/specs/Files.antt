@@ -1,5 +1,5 @@
 -- What files hold, and what the calls of `Files` change there.
-use Rattle.std.specs.Prelude.{◌≡◌, ℕ, List, [], ◌++◌, Option, None, Some, bytes_eq}
+use Rattle.std.specs.Prelude.{ℕ, List, [], ◌++◌, Option, None, Some, bytes_eq}
 use Rattle.std.specs.Map.{update}
 use Rattle.std.specs.Option.{option_map, option_and_then}
 

@@ -1,6 +1,6 @@
 -- What an index of sources has: of each source the answer for its bytes, the versions of those that have one, the best
 -- of these laid out, and for each image a source to copy it from.
-use Rattle.std.specs.Prelude.{◌&&◌, ℕ, suc, Bool, true, false, List, [], ◌∷◌, length, map, filter}
+use Rattle.std.specs.Prelude.{◌&&◌, ℕ, suc, Bool, true, false, List, [], ◌∷◌, map, filter}
 use Rattle.std.specs.Prelude.{Option, None, Some, Result, Ok, Err, slice_get, if◌then◌else◌}
 use Rattle.dd_catalogue.specs.Clash.{same}
 use Rattle.dd_catalogue.specs.Versions.{best_of}

@@ -1,10 +1,15 @@
+pub mod Choosing
 pub mod Copying
+pub mod FileSupply
 pub mod Files
+pub mod Indexed
 pub mod Indexing
 pub mod Line
 pub mod MemFiles
 pub mod MemLaws
 pub mod MemReader
 pub mod Paths
+pub mod Picking
+pub mod Supply
 pub mod Text
 pub mod Trouble

@@ -1,16 +1,21 @@
 -- The command line: which commands and arguments the program has, and what a line asks for.
 --
---   dicomdir index --uid UID OUT SRC
-use Rattle.std.specs.Prelude.{◌≡◌, ◌≢◌, List, Option, Some, None, map, string_bytes, String}
-use Rattle.std.specs.Prelude.{codes, true, false}
-use Rattle.clap.specs.Words.{App, Row, Rule, Text, app_of, first_of, kind_of}
-use Rattle.clap.specs.Words.{new_app, new_rule, rule_of, with_rule}
+--   dicomdir index [--id ID] [--uid UID] [--max-bytes N] OUT SRC...
+use Rattle.std.specs.Prelude.{◌≡◌, ◌≢◌, ◌++◌, [], ℕ, List, Option, Some, None, map, string_bytes, String}
+use Rattle.std.specs.Prelude.{codes, length, option_map, pos, ◌≤◌, true, false, unwrap_or}
+use Rattle.std.specs.Str.Parse.{IsNumeral, signed_digits_value, without_leading_sign}
+use Rattle.clap.specs.Words.{App, IsSignedIn, Row, Rule, Text, all_of, app_of, first_of, kind_of}
+use Rattle.clap.specs.Words.{new_app, new_rule, one_of, rule_of, with_rule, without_minus}
 use Rattle.clap.specs.Words.{IsAmong, Kinds, with_subcommand}
 use Rattle.clap.specs.declared.builder.arg.Arg.{Arg}
 use Rattle.clap.specs.declared.builder.command.Command.{Command}
 use Rattle.clap.specs.declared.builder.command.Command.TheViews.{out-Command as fields_of}
+use Rattle.clap.specs.declared.builder.value_parser.ValueParser.TheVariants.{Signed}
 use Rattle.clap.specs.declared.error.Error.{Error}
 use Rattle.clap.specs.declared.error.kind.ErrorKind.TheVariants.{OutOfMemory}
+use Rattle.std.specs.Prelude.{◌⊎◌}
+use Rattle.dd_elem.specs.SetId.{IsSetId}
+use Rattle.dd_elem.specs.Uid.{IsUid}
 use Rattle.dicomdir.specs.declared.line.Asked.{Asked}
 use Rattle.dicomdir.specs.declared.line.LineFault.{LineFault}
 use Rattle.dicomdir.specs.declared.line.LineFault.TheVariants.{Refused, Memory}
@@ -19,21 +24,35 @@ use Rattle.dicomdir.specs.declared.line.Verb.TheVariants.{Index}
 
 -- ---- the arguments and commands
 
--- an option `--NAME VALUE` that has to be given, with one value
-abbrev pub required_option : Text → Rule
-required_option name =
-    record (new_rule name) { long = Some name; value_names = 1; required = true }
+-- an option `--NAME VALUE` that may be left out
+abbrev pub text_option : Text → Rule
+text_option name = record (new_rule name) { long = Some name; value_names = 1 }
 
--- a value that has to be given, named by its place in the line
-abbrev pub required_operand : Text → Rule
-required_operand name = record (new_rule name) { value_names = 1; required = true }
+-- an option whose value is a number of 32 bits
+abbrev pub number_option : Text → Rule
+number_option name = record (text_option name) { parser = Some (Signed (pos 0) (pos 4294967295)) }
 
--- `index --uid UID OUT SRC`
+-- a path that has to be given
+abbrev pub one_path : Text → Rule
+one_path name = record (new_rule name) { value_names = 1; required = true }
+
+-- one path or more
+abbrev pub some_paths : Text → Rule
+some_paths name = record (one_path name) {
+  range = Some (record { start_inclusive = 1; end_inclusive = 18446744073709551615 });
+}
+
+-- a command that writes a directory: `[--id ID] [--uid UID] [--max-bytes N] OUT`
+abbrev pub writing_app : Text → App
+writing_app name = with_rule (with_rule (with_rule (with_rule (new_app name)
+    (text_option (codes "id")))
+    (text_option (codes "uid")))
+    (number_option (codes "max-bytes")))
+    (one_path (codes "out"))
+
+-- `index [--id ID] [--uid UID] [--max-bytes N] OUT SRC...`
 abbrev pub index_app : App
-index_app = with_rule (with_rule (with_rule (new_app (codes "index"))
-    (required_option (codes "uid")))
-    (required_operand (codes "out")))
-    (required_operand (codes "source"))
+index_app = with_rule (writing_app (codes "index")) (some_paths (codes "source"))
 
 -- a command line has to name one of the app's commands
 abbrev pub with_command_required : App → App
@@ -53,26 +72,67 @@ words_of words = map (λ word. string_bytes word) words
 abbrev pub verb_name : Verb → Text
 verb_name Index = codes "index"
 
+-- the values that an argument was given
+abbrev pub given_for : Text → List Row → List Text
+given_for name given = unwrap_or (all_of name given) []
+
+-- the paths that a command was given
+abbrev pub given_paths : List Row → List Text
+given_paths given = given_for (codes "out") given ++ given_for (codes "source") given
+
+-- a command of this kind is given at least so many paths
+abbrev pub least_paths : Verb → ℕ
+least_paths Index = 2
+
+-- the number that the text of `--max-bytes` spells in decimal, or the most that there is where it is not given
+abbrev pub IsLimit : Option Text → ℕ → Type 0
+IsLimit None limit = limit ≡ 4294967295
+IsLimit (Some text) limit =
+    IsNumeral 10 (without_leading_sign text) × (signed_digits_value 10 text ≡ pos limit)
+
 -- the values are those that the named command's arguments were given
 pub record Asks (a : Asked) (command : Text) (given : List Row) : Type 0 where
   pub verb : verb_name a.verb ≡ command
-  pub uid : first_of (codes "uid") given ≡ Some (string_bytes a.uid)
-  pub out : first_of (codes "out") given ≡ Some (string_bytes a.out)
-  pub source : first_of (codes "source") given ≡ Some (string_bytes a.source)
+  pub id : option_map string_bytes a.id ≡ first_of (codes "id") given
+  pub uid : option_map string_bytes a.uid ≡ first_of (codes "uid") given
+  pub max_bytes : IsLimit (first_of (codes "max-bytes") given) a.max_bytes
+  pub paths : words_of a.paths.items ≡ given_paths given
 
 -- the command and the values are those of the command that the words name
 abbrev pub IsAsked : Asked → Option (Text × List Row) → Type 0
 IsAsked a None = ⊥
 IsAsked a (Some (command, given)) = Asks a command given
 
--- the words name the command `index`
-abbrev pub NamesIndex : Option (Text × List Row) → Type 0
-NamesIndex found = (given : List Row) × (found ≡ Some (codes "index", given))
+-- the text that `--max-bytes` was given, if any, is a number of 32 bits
+abbrev pub HasLimit : List Row → Type 0
+HasLimit given = (text : Text) → first_of (codes "max-bytes") given ≡ Some text
+    → (one_of (codes "max-bytes") given ≡ Some (without_minus text))
+    × IsSignedIn (pos 0) (pos 4294967295) text
+
+-- the words name a command, and give it what it needs
+abbrev pub NamesCommand : Option (Text × List Row) → Type 0
+NamesCommand found = (verb : Verb) × (given : List Row) × (found ≡ Some (verb_name verb, given)) × HasLimit given
+    × (least_paths verb ≤ length (given_paths given))
+
+-- the words give the option `--id` this value
+abbrev pub GivesId : Option (Text × List Row) → Text → Type 0
+GivesId None id = ⊥
+GivesId (Some (command, given)) id = first_of (codes "id") given ≡ Some id
 
 -- the words give the option `--uid` this value
 abbrev pub GivesUid : Option (Text × List Row) → Text → Type 0
 GivesUid None uid = ⊥
 GivesUid (Some (command, given)) uid = first_of (codes "uid") given ≡ Some uid
+
+-- the words give an ID or a UID that is none
+abbrev pub HasBadName : Option (Text × List Row) → Type 0
+HasBadName found = ((id : Text) × GivesId found id × ¬ IsSetId id)
+    ⊎ ((uid : Text) × GivesUid found uid × ¬ IsUid uid)
+
+-- the same of what a line asks for
+abbrev pub AsksBadName : Asked → Type 0
+AsksBadName a = ((id : Text) × (option_map string_bytes a.id ≡ Some id) × ¬ IsSetId id)
+    ⊎ ((uid : Text) × (option_map string_bytes a.uid ≡ Some uid) × ¬ IsUid uid)
 
 -- a refusal is for want of memory, or has one of the kinds
 abbrev pub IsRefusedFor : Kinds → LineFault → Type 0

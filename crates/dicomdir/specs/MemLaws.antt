@@ -1,14 +1,15 @@
 -- What writes leave alone in files in memory, and what they do to the file that is being written.
-use Rattle.std.proofs.Common.{◌≡◌, ◌≢◌, ℕ, List, [], ◌++◌, Bool, true, false, Option, None, Some, refl, sym, ap, ◌∙◌}
-use Rattle.std.proofs.Common.{arith, inl, inr, subst}
+use Rattle.std.proofs.Common.{◌≡◌, ℕ, List, ◌++◌, Bool, true, false, Option, None, Some, refl, sym, ap, ◌∙◌}
+use Rattle.std.proofs.Common.{inl, inr, subst}
 use Rattle.std.proofs.Math.Path.{fun_ext}
 use Rattle.std.proofs.lemmas.Slice.Eq.{bytes_eq-Decides}
 use Rattle.std.specs.Bool.{Decides}
 use Rattle.std.specs.Option.{option_and_then}
 use Rattle.std.specs.Io.KnownBytes.{Appends}
-use Rattle.std.specs.Prelude.{◌⊎◌, option_map, bytes_eq}
-use Rattle.dicomdir.specs.Files.{Held, grown, with_file, with_written}
-use Rattle.dicomdir.specs.MemFiles.{Stored, Unwritten, bytes_at, emptied, held_of, unwritten, written_of}
+use Rattle.std.specs.Prelude.{◌⊎◌, IfSome, option_map, bytes_eq}
+use Rattle.dicomdir.specs.Files.{Held, grown, with_file, with_written, written}
+use Rattle.dicomdir.specs.MemFiles.{Change, Stored, Unwritten, bytes_at, emptied, held_of, told, told_of, unwritten}
+use Rattle.dicomdir.specs.MemFiles.{written_of}
 
 -- a test is true, or what it decides does not hold
 pub by_test : (b : Bool) (P : Type 0) → Decides b P → (b ≡ true × P) ⊎ (b ≡ false × (P → ⊥))
@@ -79,10 +80,25 @@ parts_grow c d f g bytes is =
     (λ same adds. ap (λ (files : List ℕ → Option (List ℕ)). record { bytes_at = files; current = c })
     (grown_at c f g bytes same adds))
 
+-- the same, of what is told
+told_grows : (c d : Option Change) (h k : Held) (bytes : List ℕ) → d ≡ c → k ≡ grown bytes h
+    → told d k ≡ option_map (grown bytes) (told c h)
+told_grows None d h k bytes is grows = rw is (ap (λ (held : Held). Some held) grows)
+told_grows (Some change) d h k bytes is grows = rw is refl
+
 -- what writes add to the bytes that are being written, the file has
 pub held_grows : (old new : Stored) (bytes : List ℕ) → unwritten new ≡ unwritten old
-    → Appends (written_of old) (written_of new) bytes
-    → Some (held_of new) ≡ option_map (grown bytes) (Some (held_of old))
+    → Appends (written_of old) (written_of new) bytes → told_of new ≡ option_map (grown bytes) (told_of old)
 held_grows old new bytes same adds =
-    ap (λ (held : Held). Some held) (parts_grow old.current new.current (bytes_at old.files) (bytes_at new.files) bytes
+    told_grows old.later new.later (held_of old) (held_of new) bytes (ap (λ (s : Unwritten). s.later) same)
+    (parts_grow old.current new.current (bytes_at old.files) (bytes_at new.files) bytes
     (ap (λ (s : Unwritten). s.current) same) (ap (λ (s : Unwritten). s.bytes_at) same) adds)
+
+-- the bytes that are being written, by what is told
+told_written : (later : Option Change) (h : Held) → IfSome (told later h) (λ now. written h ≡ written now)
+told_written None h = refl
+told_written (Some change) h = tt
+
+-- the same, of files in memory
+pub told_contents : (files : Stored) → IfSome (told_of files) (λ now. written_of files ≡ written now)
+told_contents files = told_written files.later (held_of files)

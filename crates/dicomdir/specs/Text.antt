@@ -1,5 +1,7 @@
 -- What sending a text to a writer does to the bytes that it holds and to its count of failures.
 use Rattle.std.specs.Prelude.{◌≡◌, ℕ, ◌<◌, List, [], ◌∷◌, ◌++◌, length, map, take, Option}
+use Rattle.std.specs.Prelude.{codes}
+use Rattle.std.specs.Fmt.{decimal}
 use Rattle.std.specs.Borrow.{Bor}
 use Rattle.std.specs.List.{concat}
 use Rattle.std.specs.Io.KnownBytes.{Appends}
@@ -26,3 +28,11 @@ joined parts = concat (map (λ part. part.now) parts)
 -- with the end of the line
 abbrev pub line_text : List (Bor (List ℕ)) → List ℕ
 line_text parts = joined parts ++ 10 ∷ []
+
+-- the last line of a command that has written a file-set of so many instances, whose directory has so many bytes
+abbrev pub done_parts : List ℕ → List ℕ → List ℕ
+done_parts instances bytes =
+    concat (codes "DONE " ∷ instances ∷ codes " instances, " ∷ bytes ∷ codes " bytes" ∷ []) ++ 10 ∷ []
+
+abbrev pub done_text : ℕ → ℕ → List ℕ
+done_text instances bytes = done_parts (decimal instances) (decimal bytes)

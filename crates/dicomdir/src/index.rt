@@ -1,214 +1,177 @@
-//! The directory of one file.
-ghost use Rattle.std.specs.Prelude.{◌≡◌, ◌↔◌, [], IfErr, IfOk, IsErr, IsOk, List, option_map, string_bytes};
-ghost use Rattle.dd_dir.specs.Directories.{directory, directory_of};
-ghost use Rattle.dd_elem.specs.Device.{counted, HasFailed, HasWorked};
-ghost use Rattle.dd_elem.specs.Uid.{IsUid};
-ghost use Rattle.dd_keys.specs.declared.parts.Parts.{Parts};
-ghost use Rattle.dd_layout.specs.Layouts.{layout_of};
+//! A file-set made of sources: the plan of its directory, its images and its directory.
+ghost use Rattle.std.specs.Prelude.{◌≡◌, ℕ, IfErr, IfOk, IsErr, IsOk, length, option_map};
+ghost use Rattle.dd_dir.specs.Directories.{directory_of};
+ghost use Rattle.dd_elem.specs.Device.{counted, HasFailed};
 ghost use Rattle.dicomdir.specs.Files.{ended, grown, published, started};
-ghost use Rattle.dicomdir.specs.Trouble.{IsBadLine};
+ghost use Rattle.dicomdir.specs.Indexed.{IsNamed, IsWithin};
+ghost use Rattle.dicomdir.specs.Trouble.{IsBadLine, IsOfWork};
 
+use crate::choice::Choice;
+use crate::copies::{SOURCE_LIMIT, copy_images};
+use crate::engine::{Indexed, index_engine};
+use crate::engine_fault::EngineFault;
+use crate::file_supply::FileSupply;
 use crate::files::Files;
-use crate::line::Asked;
+use crate::paths::{DIRECTORY, path_in};
 use crate::trouble::{ProgramFault, Subject, Trouble};
-use dd_catalogue::Catalogue;
 use dd_dir::write_directory;
-use dd_elem::{SetId, Uid};
-use dd_keys::{Version, ingest};
-use dd_layout::{Label, Limits, Plan, PlanFault, lay_out};
+use dd_elem::{Counts, Memory};
+use dd_layout::{Limits, Plan};
 use std::alloc::Global;
 
-// The most bytes of a source.
-const SOURCE_LIMIT: u64 = u32::MAX as u64;
-
-// The most bytes of a directory, and the most records below one of its records.
-const DIRECTORY_LIMIT: u32 = u32::MAX;
-
+// The most records below one record of a directory.
 const LEVEL_LIMIT: u32 = 999_999;
 
-/// Writes the directory of the file-set that has one file, and answers its size in bytes.
-///
-/// It is refused, in this order, where the UID is none, the directory can be opened, the source can't
-/// be opened or read, has too many bytes or no version, or the version has no place in a directory,
-/// where the folder or the directory can't be made, and where a write fails.
-pub fn index<F: Files>(
+/// Reads all sources and plans the directory of their versions, which may have so many bytes. Refused, in
+/// this order, where the folder has a directory already, where a source can't be opened or read, and where
+/// the versions have no place in a directory.
+pub(crate) fn planned<F: Files>(
     alloc: Global,
-    asked: &Asked,
-    path: &str,
+    folder: &str,
+    sources: &[String],
+    choice: &Choice,
+    max_bytes: u32,
     files: &mut F,
-) -> Result<u32, Trouble>
-    ensures line { IfErr result (λ trouble. IsBadLine trouble.fault
-        → (files.new ≡ files.old) × ¬ IsUid (string_bytes asked.now.uid)) }
-    ensures uid { IsOk result → IsUid (string_bytes asked.now.uid) }
-
-    // Where the files tell what they hold, the file at that path is the directory of some versions under
-    // the UID, and no other file changed.
-    ensures done { IsOk result → (versions : List Parts) × (F.held files.new ≡ option_map (published path.now
-        (directory (record { id = []; uid = string_bytes asked.now.uid }) versions)) (F.held files.old)) }
+) -> Result<Indexed, Trouble>
+    ensures trouble { IfErr result (IsOfWork (length sources.now)) }
+    ensures within { IfOk result (IsWithin (length sources.now)) }
 {
-    let label = label_of(asked.uid.as_str())?;
-    refuse_taken(path, files)?;
-    let source = asked.source.as_str();
-    let version = source_version(alloc, source, files)?;
-    let plan = plan_of(alloc, version, &label)?;
-    make_folder(asked.out.as_str(), files)?;
-    publish(path, &plan, files)?;
-    Ok(plan.size())
-}
-
-/// The label with this UID and the empty ID. Refused where it is no UID.
-fn label_of(uid: &str) -> Result<Label, Trouble>
-    ensures accepted { IsOk result ↔ IsUid uid.now }
-    ensures label { IfOk result (λ label. (label.uid ≡ uid.now) × (label.id ≡ [])) }
-    ensures refused { IsErr result → ¬ IsUid uid.now }
-    ensures line { IfErr result (λ trouble. IsBadLine trouble.fault) }
-{
-    match Uid::new(uid.as_bytes()) {
-        Ok(uid) => Ok(Label {
-            id: SetId::new(b"").unwrap(),
-            uid,
-        }),
-        Err(bad) => Err(Trouble::general(ProgramFault::Uid(bad))),
+    refuse_taken(alloc, folder, files)?;
+    let Ok(mut counts) = counts_of(alloc, sources.len()) else {
+        return Err(Trouble::general(ProgramFault::Memory));
+    };
+    let limits = Limits::new(max_bytes, LEVEL_LIMIT).unwrap();
+    match indexed_files(alloc, sources, &mut counts, choice, limits, files) {
+        Ok(indexed) => Ok(indexed),
+        Err(fault) => Err(trouble_of(fault)),
     }
 }
 
-/// Refuses a directory that can be opened.
-fn refuse_taken<F: Files>(directory: &str, files: &mut F) -> Result<(), Trouble>
-    ensures free { IsOk result → F.refusals files.new ≡ counted (F.refusals files.old) }
-    ensures taken { IsErr result → HasWorked (F.refusals files.old) (F.refusals files.new) }
-    ensures fault { IfErr result (λ trouble. trouble.fault ≡ ProgramFault.Create) }
-    ensures kept { F.held files.new ≡ F.held files.old }
+/// Reads these files as sources, each with its counts, and plans the directory of their versions.
+fn indexed_files<F: Files>(
+    alloc: Global,
+    sources: &[String],
+    counts: &mut [Counts],
+    choice: &Choice,
+    limits: Limits,
+    files: &mut F,
+) -> Result<Indexed, EngineFault>
+    requires { length counts.old ≡ length sources.now }
+    ensures named { IfErr result (IsNamed (length sources.now)) }
+    ensures within { IfOk result (IsWithin (length sources.now)) }
 {
-    match files.source(directory) {
-        Ok(_) => Err(Trouble {
-            subject: Subject::Directory,
-            fault: ProgramFault::Create,
-        }),
+    let mut supply = FileSupply::new(files, sources, counts);
+    index_engine(alloc, &mut supply, choice, limits, SOURCE_LIMIT)
+}
+
+/// The counts of so many sources.
+fn counts_of(alloc: Global, sources: usize) -> Result<Vec<Counts>, Memory>
+    ensures { IfOk result (λ counts. length counts.items ≡ sources) }
+{
+    let mut counts = Vec::with_capacity(alloc, sources)?;
+    for _ in 0..sources {
+        counts.push(Counts::new())?;
+    }
+    Ok(counts)
+}
+
+/// What the fault of an index comes to.
+fn trouble_of(fault: EngineFault) -> Trouble
+    ensures { (sources : ℕ) → IsNamed sources fault → IsOfWork sources result }
+{
+    match fault {
+        EngineFault::Memory => Trouble::general(ProgramFault::Memory),
+        EngineFault::Absent(at) => Trouble::of(Subject::Source(at), ProgramFault::Absent),
+        EngineFault::Unread(at) => Trouble::of(Subject::Source(at), ProgramFault::Unread),
+        EngineFault::Plan(fault) => Trouble::general(ProgramFault::Plan(fault)),
+    }
+}
+
+/// Refuses a folder whose directory can be opened.
+fn refuse_taken<F: Files>(alloc: Global, folder: &str, files: &mut F) -> Result<(), Trouble>
+    ensures { IfErr result (IsOfWork 0) }
+{
+    let Ok(path) = path_in(alloc, folder, DIRECTORY) else {
+        return Err(Trouble::general(ProgramFault::Memory));
+    };
+    match files.source(path.as_str()) {
+        Ok(_) => Err(Trouble::of(Subject::Directory, ProgramFault::Create)),
         Err(_) => Ok(()),
     }
 }
 
-/// The version of the source.
-fn source_version<F: Files>(alloc: Global, source: &str, files: &mut F) -> Result<Version, Trouble>
-    ensures opened { IsOk result → HasWorked (F.refusals files.old) (F.refusals files.new) }
-    ensures absent { IfErr result (λ trouble. trouble.fault ≡ ProgramFault.Absent
-        → F.refusals files.new ≡ counted (F.refusals files.old)) }
-    ensures line { IfErr result (λ trouble. ¬ IsBadLine trouble.fault) }
-    ensures kept { F.held files.new ≡ F.held files.old }
+/// Copies the images into the folder, and then writes the directory there.
+pub(crate) fn finished<F: Files>(
+    alloc: Global,
+    folder: &str,
+    sources: &[String],
+    indexed: &Indexed,
+    files: &mut F,
+) -> Result<(), Trouble>
+    requires { IsWithin (length sources.now) indexed.now }
+    ensures { IfErr result (IsOfWork (length sources.now)) }
 {
-    let Ok(mut reader) = files.source(source) else {
-        return Err(Trouble {
-            subject: Subject::Source,
-            fault: ProgramFault::Absent,
-        });
-    };
-    match ingest(alloc, &mut reader, SOURCE_LIMIT) {
-        Ok(version) => Ok(version),
-        Err(fault) => Err(Trouble::with_source(fault)),
+    copy_images(alloc, folder, sources, indexed, files)?;
+    if files.folder(folder).is_err() {
+        return Err(Trouble::of(Subject::Folder, ProgramFault::Folder));
     }
-}
-
-/// The plan of the directory that has the file of this version.
-fn plan_of(alloc: Global, version: Version, label: &Label) -> Result<Plan, Trouble>
-    ensures line { IfErr result (λ trouble. ¬ IsBadLine trouble.fault) }
-    ensures plan { IfOk result (λ plan. (versions : List Parts) × (plan ≡ layout_of label.now versions)) }
-{
-    let mut catalogue = Catalogue::new(alloc);
-    if catalogue.take(version).is_err() {
+    let Ok(path) = path_in(alloc, folder, DIRECTORY) else {
         return Err(Trouble::general(ProgramFault::Memory));
-    }
-    planned(alloc, &catalogue, label)
-}
-
-/// The plan of the directory of these versions.
-fn planned(alloc: Global, catalogue: &Catalogue, label: &Label) -> Result<Plan, Trouble>
-    ensures line { IfErr result (λ trouble. ¬ IsBadLine trouble.fault) }
-    ensures plan { IfOk result (λ plan. plan ≡ layout_of label.now catalogue.now) }
-{
-    let limits = Limits::new(DIRECTORY_LIMIT, LEVEL_LIMIT).unwrap();
-    match lay_out(alloc, catalogue, label, limits) {
-        Ok(plan) => Ok(plan),
-        Err(PlanFault::Memory) => Err(Trouble::general(ProgramFault::Memory)),
-        Err(fault) => Err(Trouble::general(ProgramFault::Plan(fault))),
-    }
-}
-
-/// Makes the folder.
-fn make_folder<F: Files>(folder: &str, files: &mut F) -> Result<(), Trouble>
-    ensures made { IsOk result → HasWorked (F.refusals files.old) (F.refusals files.new) }
-    ensures refused { IsErr result → F.refusals files.new ≡ counted (F.refusals files.old) }
-    ensures fault { IfErr result (λ trouble. trouble.fault ≡ ProgramFault.Folder) }
-    ensures kept { F.held files.new ≡ F.held files.old }
-{
-    match files.folder(folder) {
+    };
+    match publish(path.as_str(), &indexed.plan, files) {
         Ok(()) => Ok(()),
-        Err(_) => Err(Trouble {
-            subject: Subject::Folder,
-            fault: ProgramFault::Folder,
-        }),
+        Err(fault) => Err(Trouble::of(Subject::Directory, fault)),
     }
 }
 
-/// Starts the directory, writes it and ends it.
+/// Starts the directory at this path, writes it and ends it. Create where it could not be started, Unsent
+/// where a write failed or its end.
 #[tactic(auto, using(crate::proofs::Publishing::held_published))]
-fn publish<F: Files>(directory: &str, plan: &Plan, files: &mut F) -> Result<(), Trouble>
-    ensures line { IfErr result (λ trouble. ¬ IsBadLine trouble.fault) }
+fn publish<F: Files>(path: &str, plan: &Plan, files: &mut F) -> Result<(), ProgramFault>
+    ensures line { IfErr result (λ fault. ¬ IsBadLine fault) }
+
+    // Where the files tell what they hold, the file at that path is the directory, and no other file changed.
     ensures holds { IsOk result → F.held files.new
-        ≡ option_map (published directory.now (directory_of plan.now.label plan.now.versions)) (F.held files.old) }
+        ≡ option_map (published path.now (directory_of plan.now.label plan.now.versions)) (F.held files.old) }
 {
-    start_directory(directory, files)?;
+    start_directory(path, files)?;
     send_directory(plan, files)?;
     finish_directory(files)
 }
 
 /// Starts the directory.
-fn start_directory<F: Files>(directory: &str, files: &mut F) -> Result<(), Trouble>
-    ensures started { IsOk result → HasWorked (F.refusals files.old) (F.refusals files.new) }
+fn start_directory<F: Files>(path: &str, files: &mut F) -> Result<(), ProgramFault>
     ensures refused { IsErr result → F.refusals files.new ≡ counted (F.refusals files.old) }
-    ensures fault { IfErr result (λ trouble. trouble.fault ≡ ProgramFault.Create) }
-    ensures made { IsOk result → F.held files.new ≡ option_map (started directory.now) (F.held files.old) }
-    ensures kept { IsErr result → F.held files.new ≡ F.held files.old }
+    ensures fault { IfErr result (λ fault. fault ≡ ProgramFault.Create) }
+    ensures made { IsOk result → F.held files.new ≡ option_map (started path.now) (F.held files.old) }
 {
-    match files.create(directory) {
+    match files.create(path) {
         Ok(()) => Ok(()),
-        Err(_) => Err(Trouble {
-            subject: Subject::Directory,
-            fault: ProgramFault::Create,
-        }),
+        Err(_) => Err(ProgramFault::Create),
     }
 }
 
 /// Writes the directory.
-fn send_directory<F: Files>(plan: &Plan, files: &mut F) -> Result<(), Trouble>
-    ensures sent { IsOk result → F.Write.failures files.new ≡ F.Write.failures files.old }
-    ensures unsent { IfErr result (λ trouble. trouble.fault ≡ ProgramFault.Unsent
-        → HasFailed (F.Write.failures files.old) (F.Write.failures files.new)) }
-    ensures line { IfErr result (λ trouble. ¬ IsBadLine trouble.fault) }
-    ensures refusals { F.refusals files.new ≡ F.refusals files.old }
+fn send_directory<F: Files>(plan: &Plan, files: &mut F) -> Result<(), ProgramFault>
+    ensures unsent { IsErr result → HasFailed (F.Write.failures files.old) (F.Write.failures files.new) }
+    ensures fault { IfErr result (λ fault. fault ≡ ProgramFault.Unsent) }
     ensures holds { IsOk result → F.held files.new
         ≡ option_map (grown (directory_of plan.now.label plan.now.versions)) (F.held files.old) }
 {
     match write_directory(plan, files) {
         Ok(_) => Ok(()),
-        Err(_) => Err(Trouble {
-            subject: Subject::Directory,
-            fault: ProgramFault::Unsent,
-        }),
+        Err(_) => Err(ProgramFault::Unsent),
     }
 }
 
 /// Ends the directory.
-fn finish_directory<F: Files>(files: &mut F) -> Result<(), Trouble>
-    ensures ended { IsOk result → HasWorked (F.refusals files.old) (F.refusals files.new) }
+fn finish_directory<F: Files>(files: &mut F) -> Result<(), ProgramFault>
     ensures refused { IsErr result → F.refusals files.new ≡ counted (F.refusals files.old) }
-    ensures fault { IfErr result (λ trouble. trouble.fault ≡ ProgramFault.Unsent) }
+    ensures fault { IfErr result (λ fault. fault ≡ ProgramFault.Unsent) }
     ensures closed { IsOk result → F.held files.new ≡ option_map ended (F.held files.old) }
 {
     match files.finish() {
         Ok(()) => Ok(()),
-        Err(_) => Err(Trouble {
-            subject: Subject::Directory,
-            fault: ProgramFault::Unsent,
-        }),
+        Err(_) => Err(ProgramFault::Unsent),
     }
 }

@@ -5,22 +5,36 @@
 //! is read to its end or refused.
 #![tactic(auto)]
 
+mod choice;
+mod copies;
 mod copy;
+mod engine;
+mod engine_fault;
+mod file_supply;
 mod files;
+mod image_path;
 mod index;
 mod line;
 mod mem_files;
 mod mem_reader;
 mod paths;
+mod picks;
 mod program;
+mod reading;
+mod supply;
 mod text;
 mod trouble;
+mod watched;
 
+pub use choice::Choice;
 pub use copy::{CopyFault, copy_image};
+pub use engine::{Indexed, index_engine};
+pub use engine_fault::EngineFault;
 pub use files::{Files, NotDone, NotThere};
 pub use line::{Asked, LineFault, Verb, read_words};
 pub use mem_files::MemFiles;
 pub use mem_reader::MemReader;
 pub use program::run;
+pub use supply::Supply;
 pub use text::{print_line, send_text};
 pub use trouble::ProgramFault;

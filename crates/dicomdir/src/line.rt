@@ -1,20 +1,21 @@
 //! The command line: which command its words name, with its values.
-ghost use Rattle.std.specs.Prelude.{◌≡◌, [], string_bytes, true};
-ghost use Rattle.std.specs.Prelude.{IfErr, IfOk, MatchResult, Some, codes};
+ghost use Rattle.std.specs.Prelude.{◌≡◌, ◌++◌, [], string_bytes, true};
+ghost use Rattle.std.specs.Prelude.{IfErr, IfOk, IsOk, MatchResult, codes, length, option_map, ◌≤◌};
 ghost use Rattle.clap.specs.Words.{fault_of, first_of, found_of, rows_of, takes};
 ghost use Rattle.clap.specs.Words.{subcommand_of, subcommand_rows_of};
-ghost use Rattle.dicomdir.specs.Line.{Asks, HasApp, HasRule, IsAsked, IsRefusedFor, NamesIndex, dicomdir_app};
-ghost use Rattle.dicomdir.specs.Line.{index_app, required_operand, required_option, words_of};
+ghost use Rattle.dicomdir.specs.Line.{Asks, HasApp, HasLimit, HasRule, IsAsked, IsLimit, IsRefusedFor, NamesCommand};
+ghost use Rattle.dicomdir.specs.Line.{dicomdir_app, given_for, given_paths, index_app, least_paths, number_option};
+ghost use Rattle.dicomdir.specs.Line.{one_path, some_paths, text_option, verb_name, words_of, writing_app};
 
 use clap::error::ErrorKind;
-use clap::{Arg, ArgMatches, Command};
+use clap::{Arg, ArgMatches, Command, value_parser};
 use std::alloc::{AllocError, Global};
 use thiserror::Error;
 
 /// A command of the program.
 #[derive(Clone, Copy, Debug, PartialEq, Eq)]
 pub enum Verb {
-    /// Builds the directory of a file-set: `index --uid UID OUT SRC`.
+    /// Builds the directory of a file-set from its files: `index OUT SRC...`.
     Index,
 }
 
@@ -23,12 +24,15 @@ pub enum Verb {
 pub struct Asked {
     /// The command.
     pub verb: Verb,
-    /// The file-set's UID, as the line spells it.
-    pub uid: String,
-    /// The folder that the command writes to.
-    pub out: String,
-    /// The DICOM file that the command reads.
-    pub source: String,
+    /// The file-set's ID, as the line spells it, or `None` where it has none.
+    pub id: Option<String>,
+    /// The file-set's UID, as the line spells it, or `None` where it has none.
+    pub uid: Option<String>,
+    /// The most bytes that the directory may have: 4294967295 where the line does not say.
+    pub max_bytes: u32,
+    /// The paths of the line: the folder that the command writes to, then those that it reads, in their
+    /// order.
+    pub paths: Vec<String>,
 }
 
 /// Why a command line asks for nothing.
@@ -65,51 +69,83 @@ impl From<clap::Error> for LineFault {
     }
 }
 
-/// An option `--NAME VALUE` that has to be given.
+/// An option `--NAME VALUE` that may be left out.
 fn option<'a>(alloc: Global, name: &'a str, value_name: &'a str, help: &'a str) -> Arg<'a>
-    ensures { HasRule (required_option name.entry.now) result }
+    ensures { HasRule (text_option name.entry.now) result }
 {
     Arg::new(alloc, name)
         .long(name)
+        .value_name(value_name)
+        .help(help)
+}
+
+/// An option whose value is a number of `u32`.
+fn number<'a>(alloc: Global, name: &'a str, value_name: &'a str, help: &'a str) -> Arg<'a>
+    ensures { HasRule (number_option name.entry.now) result }
+{
+    option(alloc, name, value_name, help).value_parser(value_parser!(u32))
+}
+
+/// A path that has to be given.
+fn path<'a>(alloc: Global, name: &'a str, value_name: &'a str, help: &'a str) -> Arg<'a>
+    ensures { HasRule (one_path name.entry.now) result }
+{
+    Arg::new(alloc, name)
         .required(true)
         .value_name(value_name)
         .help(help)
 }
 
-/// A value that has to be given, named by its place in the line.
-fn operand<'a>(alloc: Global, name: &'a str, value_name: &'a str, help: &'a str) -> Arg<'a>
-    ensures { HasRule (required_operand name.entry.now) result }
+/// Paths, at least one.
+fn paths<'a>(alloc: Global, name: &'a str, value_name: &'a str, help: &'a str) -> Arg<'a>
+    ensures { HasRule (some_paths name.entry.now) result }
 {
-    Arg::new(alloc, name)
-        .required(true)
-        .value_name(value_name)
-        .help(help)
+    path(alloc, name, value_name, help).num_args(1..)
+}
+
+/// A command that writes a directory, with its options and the folder that it writes to.
+fn writing<'a>(alloc: Global, name: &'a str, about: &'a str) -> Result<Command<'a>, AllocError>
+    ensures { IfOk result (HasApp (writing_app name.entry.now)) }
+{
+    Command::new(alloc, name)
+        .about(about)
+        .arg(option(
+            alloc,
+            "id",
+            "ID",
+            "ID of the file-set, such as DISC1; empty where none is given",
+        ))?
+        .arg(option(
+            alloc,
+            "uid",
+            "UID",
+            "UID of the file-set; where none is given it follows from the content",
+        ))?
+        .arg(number(
+            alloc,
+            "max-bytes",
+            "N",
+            "Most bytes of DICOMDIR; 4294967295 where none is given",
+        ))?
+        .arg(path(
+            alloc,
+            "out",
+            "OUT",
+            "Folder of the file-set, made where missing; no file in it is overwritten",
+        ))
 }
 
 /// The command `index`.
 fn index_command<'a>(alloc: Global) -> Result<Command<'a>, AllocError>
     ensures { IfOk result (HasApp index_app) }
 {
-    Command::new(alloc, "index")
-        .about("Writes the directory DICOMDIR of a file-set, without a copy of the image")
-        .arg(option(
-            alloc,
-            "uid",
-            "UID",
-            "UID of the file-set, such as 2.25.1234",
-        ))?
-        .arg(operand(
-            alloc,
-            "out",
-            "OUT",
-            "Folder to write DICOMDIR to; it is made where it is missing",
-        ))?
-        .arg(operand(
-            alloc,
-            "source",
-            "SRC",
-            "DICOM image file that the directory lists",
-        ))
+    let about = "Makes a file-set: copies the images into a folder and writes its DICOMDIR";
+    writing(alloc, "index", about)?.arg(paths(
+        alloc,
+        "source",
+        "SRC",
+        "DICOM files; one that is no image, or has no place, is skipped",
+    ))
 }
 
 /// The program with its commands.
@@ -117,45 +153,81 @@ fn program<'a>(alloc: Global) -> Result<Command<'a>, AllocError>
     ensures { IfOk result (HasApp dicomdir_app) }
 {
     Command::new(alloc, "dicomdir")
-        .about("Builds the directory of a DICOM file-set, the file DICOMDIR")
+        .about("Makes DICOM file-sets and their directory, the file DICOMDIR")
         .subcommand_required(true)
         .subcommand(index_command(alloc)?)
 }
 
-/// The first value of an argument.
-fn value_of(alloc: Global, given: &ArgMatches<'_>, name: &str) -> Result<String, LineFault>
-    ensures value { IfOk result (λ value.
-        first_of name.now (rows_of (found_of given.now)) ≡ Some (string_bytes value)) }
-    ensures memory { IfErr result (λ fault. fault ≡ LineFault.Memory) }
+/// The value of an option, or `None` where it is not given.
+fn value_of(alloc: Global, given: &ArgMatches<'_>, name: &str) -> Result<Option<String>, AllocError>
+    ensures { IfOk result (λ value.
+        option_map string_bytes value ≡ first_of name.now (rows_of (found_of given.now))) }
 {
     match given.get_str(name) {
-        Some(value) => Ok(String::from_str(alloc, value)?),
-        None => Err(LineFault::Memory),
+        Some(value) => Ok(Some(String::from_str(alloc, value)?)),
+        None => Ok(None),
     }
 }
 
-/// The values of `index`.
-fn index_asked(alloc: Global, given: &ArgMatches<'_>) -> Result<Asked, LineFault>
-    ensures values { IfOk result (λ asked.
-        Asks asked (codes "index") (rows_of (found_of given.now))) }
-    ensures memory { IfErr result (λ fault. fault ≡ LineFault.Memory) }
+/// The number of `--max-bytes`, or the most that there is where it is not given.
+fn limit_of(given: &ArgMatches<'_>) -> u32
+    requires { HasLimit (rows_of (found_of given.now)) }
+    ensures { IsLimit (first_of (codes "max-bytes") (rows_of (found_of given.now))) result }
+{
+    given.get_one::<u32>("max-bytes").unwrap_or(u32::MAX)
+}
+
+/// Appends the values of an argument.
+fn append_values(
+    alloc: Global,
+    given: &ArgMatches<'_>,
+    name: &str,
+    paths: &mut Vec<String>,
+) -> Result<(), AllocError>
+    ensures { IsOk result → words_of paths.new.items
+        ≡ words_of paths.old.items ++ given_for name.now (rows_of (found_of given.now)) }
+{
+    let values = given.get_strs(name).unwrap_or(&[]);
+    for value in values {
+        paths.push(String::from_str(alloc, value)?)?;
+    }
+    Ok(())
+}
+
+/// The paths: the folder that is written to, and then those that are read.
+fn paths_of(alloc: Global, given: &ArgMatches<'_>) -> Result<Vec<String>, AllocError>
+    ensures { IfOk result (λ paths. words_of paths.items ≡ given_paths (rows_of (found_of given.now))) }
+{
+    let mut paths = Vec::new(alloc);
+    append_values(alloc, given, "out", &mut paths)?;
+    append_values(alloc, given, "source", &mut paths)?;
+    Ok(paths)
+}
+
+/// What the command asks for with its values.
+fn asked_by(alloc: Global, verb: Verb, given: &ArgMatches<'_>) -> Result<Asked, AllocError>
+    requires limit { HasLimit (rows_of (found_of given.now)) }
+    requires paths { least_paths verb ≤ length (given_paths (rows_of (found_of given.now))) }
+    ensures values { IfOk result (λ asked. Asks asked (verb_name verb) (rows_of (found_of given.now))) }
+    ensures paths { IfOk result (λ asked. least_paths asked.verb ≤ length asked.paths.items) }
 {
     Ok(Asked {
-        verb: Verb::Index,
+        verb,
+        id: value_of(alloc, given, "id")?,
         uid: value_of(alloc, given, "uid")?,
-        out: value_of(alloc, given, "out")?,
-        source: value_of(alloc, given, "source")?,
+        max_bytes: limit_of(given),
+        paths: paths_of(alloc, given)?,
     })
 }
 
-/// The named command, with its values.
-fn asked_of(alloc: Global, found: &ArgMatches<'_>) -> Result<Asked, LineFault>
-    requires { NamesIndex (subcommand_rows_of found.now) }
+/// What the named command asks for.
+fn asked_of(alloc: Global, found: &ArgMatches<'_>) -> Result<Asked, AllocError>
+    requires { NamesCommand (subcommand_rows_of found.now) }
     ensures values { IfOk result (λ asked. IsAsked asked (subcommand_rows_of found.now)) }
-    ensures memory { IfErr result (λ fault. fault ≡ LineFault.Memory) }
+    ensures paths { IfOk result (λ asked. least_paths asked.verb ≤ length asked.paths.items) }
 {
     match found.subcommand() {
-        Some(("index", given)) => index_asked(alloc, given),
+        Some(("index", given)) => asked_by(alloc, Verb::Index, given),
         _ => unreachable!(),
     }
 }
@@ -180,6 +252,7 @@ fn parsed<'a>(alloc: Global, words: &'a [String]) -> Result<ArgMatches<'a>, Line
 pub fn read_words(alloc: Global, words: &[String]) -> Result<Asked, LineFault>
     ensures asked { IfOk result (λ asked.
         IsAsked asked (subcommand_of dicomdir_app (words_of words.now))) }
+    ensures paths { IfOk result (λ asked. least_paths asked.verb ≤ length asked.paths.items) }
     ensures passes { IfErr result (λ fault.
         takes dicomdir_app (words_of words.now) ≡ true
         → fault ≡ LineFault.Memory) }
@@ -188,5 +261,5 @@ pub fn read_words(alloc: Global, words: &[String]) -> Result<Asked, LineFault>
         (IsRefusedFor (fault_of dicomdir_app (words_of words.now))) }
 {
     let found = parsed(alloc, words)?;
-    asked_of(alloc, &found)
+    Ok(asked_of(alloc, &found)?)
 }

@@ -1,13 +1,13 @@
 //! Files in memory.
-ghost use Rattle.std.specs.Prelude.{◌≡◌, IsSome, is_ok, IfSome, ◌↔◌, [], length, None, Some, IsOk, IsErr};
-ghost use Rattle.std.specs.Prelude.{IsTrue, ◌<◌, IfOk, OnOk, OnErr, refl, option_map, option_copied, string_bytes};
+ghost use Rattle.std.specs.Prelude.{◌≡◌, IsSome, is_ok, IfSome, ◌↔◌, [], length, None, Some, IsOk, IsErr, false};
+ghost use Rattle.std.specs.Prelude.{IsTrue, ◌<◌, IfOk, OnOk, OnErr, option_map, option_copied, string_bytes};
 ghost use Rattle.std.specs.Io.{WritesAtMost};
 ghost use Rattle.std.specs.Io.KnownBytes.{WriteAppends};
 ghost use Rattle.dd_elem.specs.Counts.{counts_after};
 ghost use Rattle.dd_elem.specs.Device.{counted, last_count, HasWorked, IsLive};
-ghost use Rattle.dicomdir.specs.MemFiles.{Stored, Unwritten, listed, bytes_at, held_of, unwritten, written_of};
-ghost use Rattle.dicomdir.specs.MemFiles.{SetsFile, GrowsFile, GrowsWritten, KeepsFiles};
-ghost use Rattle.dicomdir.specs.MemLaws.{held_grows, refusals_stay};
+ghost use Rattle.dicomdir.specs.MemFiles.{Stored, Unwritten, listed, bytes_at, change_of, told_of, unread, unwritten};
+ghost use Rattle.dicomdir.specs.MemFiles.{written_of, SetsFile, GrowsFile, GrowsWritten, KeepsFiles, Gets, Opens, due, opened};
+ghost use Rattle.dicomdir.specs.MemLaws.{held_grows, refusals_stay, told_contents};
 
 use crate::files::{Files, NotDone, NotThere};
 use crate::mem_reader::MemReader;
@@ -17,7 +17,27 @@ use std::collections::BTreeMap;
 use std::io;
 use std::marker::Model;
 
-/// Files in memory, by their paths. Folders are not kept.
+// A change of a file at its second opening.
+#[derive(Debug)]
+struct Later {
+    path: String,
+    bytes: Vec<u8>,
+    is_opened: bool,
+}
+
+// By hand, so that letting go of it is one call.
+impl Drop for Later {
+    fn drop(self) {
+        let Later {
+            path: _path,
+            bytes: _bytes,
+            is_opened: _,
+        } = self;
+    }
+}
+
+/// Files in memory, by their paths. Folders are not kept. Where one is to change later, they do not tell
+/// what they hold.
 #[derive(Debug, Drop)]
 pub struct MemFiles {
     alloc: Global,
@@ -25,6 +45,7 @@ pub struct MemFiles {
     current: Option<String>,
     counts: Counts,
     refusals: u64,
+    later: Option<Later>,
 }
 
 impl Model for MemFiles {
@@ -35,7 +56,45 @@ impl Model for MemFiles {
       current = option_map string_bytes s.current;
       counts = s.counts;
       refusals = s.refusals;
+      later = option_map change_of s.later;
     } };
+}
+
+// The bytes that the path gets at its next opening, where it changes then.
+fn due_bytes<'a>(later: &'a Option<Later>, path: &str) -> Option<&'a [u8]>
+    ensures { option_copied result ≡ due (option_map change_of later.now) path.now }
+{
+    match later {
+        Some(later) if later.is_opened && later.path.as_str() == path => Some(&later.bytes),
+        _ => None,
+    }
+}
+
+// Counts an opening of the path.
+fn count_opening(later: &mut Option<Later>, path: &str)
+    ensures { option_map change_of later.new ≡ opened path.now (option_map change_of later.old) }
+{
+    if let Some(later) = later {
+        if later.path.as_str() == path {
+            later.is_opened = true;
+        }
+    }
+}
+
+// Gives the path these bytes. Memory where a growth is refused, and then nothing has changed.
+fn set(
+    alloc: Global,
+    files: &mut BTreeMap<String, Vec<u8>>,
+    path: &str,
+    bytes: &[u8],
+) -> Result<(), Memory>
+    ensures ok { OnOk result (SetsFile (listed files.old) (listed files.new) path.now bytes.now) }
+    ensures err { OnErr result (listed files.new ≡ listed files.old) }
+{
+    let path = String::from_str(alloc, path)?;
+    let bytes = bytes.to_vec(alloc)?;
+    files.insert(path, bytes)?;
+    Ok(())
 }
 
 // Adds the bytes to the end of the file at the path. NotDone where there is none or its growth is
@@ -61,6 +120,7 @@ impl MemFiles {
           current = None;
           counts = record { calls = 0; failures = 0 };
           refusals = 0;
+          later = None;
         } }
     {
         MemFiles {
@@ -69,6 +129,7 @@ impl MemFiles {
             current: None,
             counts: Counts::new(),
             refusals: 0,
+            later: None,
         }
     }
 
@@ -79,9 +140,24 @@ impl MemFiles {
         ensures err { OnErr result (self.new ≡ self.old) }
         ensures same { self.new ≡ record self.old { files = self.new.files } }
     {
+        set(self.alloc, &mut self.files, path, bytes)
+    }
+
+    /// From its second opening on, counted from now, the path has these bytes. The files do not tell any
+    /// more what they hold. Memory where a growth is refused, and then nothing has changed.
+    pub fn put_later(&mut self, path: &str, bytes: &[u8]) -> Result<(), Memory>
+        ensures ok { OnOk result (self.new ≡ record self.old {
+          later = Some (record { path = path.now; bytes = bytes.now; is_opened = false });
+        }) }
+        ensures err { OnErr result (self.new ≡ self.old) }
+    {
         let path = String::from_str(self.alloc, path)?;
         let bytes = bytes.to_vec(self.alloc)?;
-        self.files.insert(path, bytes)?;
+        self.later = Some(Later {
+            path,
+            bytes,
+            is_opened: false,
+        });
         Ok(())
     }
 
@@ -100,17 +176,37 @@ impl MemFiles {
     fn open(&self, path: &str) -> Option<MemReader>
         ensures live { IsSome result → self.now.refusals < last_count }
         ensures gives { IfSome result (λ reader. bytes_at self.now.files path.now ≡ Some reader.left) }
-        ensures new { IfSome result (λ reader. reader ≡ record {
-          given = [];
-          left = reader.left;
-          counts = record { calls = 0; failures = 0 };
-        }) }
+        ensures new { IfSome result (λ reader. reader ≡ unread reader.left) }
     {
         if self.refusals == u64::MAX {
             return None;
         }
         match self.bytes(path)?.to_vec(self.alloc) {
             Ok(copy) => Some(MemReader::new(copy)),
+            Err(_) => None,
+        }
+    }
+
+    // Gives the path the bytes that it is to have at this opening, and a reader of them; or else this
+    // reader of its file. None where a growth is refused, and then nothing has changed.
+    fn reopen(&mut self, path: &str, reader: MemReader) -> Option<MemReader>
+        requires here { bytes_at self.old.files path.now ≡ Some reader.left }
+        requires fresh { reader ≡ unread reader.left }
+        ensures gives { IfSome result (λ reader. bytes_at self.new.files path.now ≡ Some reader.left) }
+        ensures new { IfSome result (λ reader. reader ≡ unread reader.left) }
+        ensures some { IsSome result
+            → Gets self.old.files self.new.files path.now (due self.old.later path.now) }
+        ensures none { result ≡ None → self.new ≡ self.old }
+        ensures same { self.new ≡ record self.old { files = self.new.files } }
+    {
+        let Some(bytes) = due_bytes(&self.later, path) else {
+            return Some(reader);
+        };
+        let Ok(copy) = bytes.to_vec(self.alloc) else {
+            return None;
+        };
+        match set(self.alloc, &mut self.files, path, bytes) {
+            Ok(()) => Some(MemReader::new(copy)),
             Err(_) => None,
         }
     }
@@ -207,28 +303,32 @@ impl Files for MemFiles {
 
     ghost refusals = { λ s. s.refusals };
 
-    ghost held = { λ s. Some (held_of s) };
+    ghost held = { told_of };
 
-    /// Gives a reader of a copy of the file's bytes. NotThere where there is no such file, the copy is
-    /// refused or the refusals are at their last value.
+    /// Gives a reader of a copy of the file's bytes; a file that changes later has its new bytes from its
+    /// second opening on. NotThere where there is no such file, a growth is refused or the refusals are at
+    /// their last value; the files are then as they were.
     fn source(&mut self, path: &str) -> Result<MemReader, NotThere>
         ensures worked { IsOk result → HasWorked self.old.refusals self.new.refusals }
         ensures refused { IsErr result → self.new.refusals ≡ counted self.old.refusals }
-        ensures gives { IfOk result (λ reader. bytes_at self.old.files path.now ≡ Some reader.left) }
-        ensures new { IfOk result (λ reader. reader ≡ record {
-          given = [];
-          left = reader.left;
-          counts = record { calls = 0; failures = 0 };
-        }) }
-        ensures same { self.new ≡ record self.old { refusals = self.new.refusals } }
+        ensures gives { IfOk result (λ reader. bytes_at self.new.files path.now ≡ Some reader.left) }
+        ensures new { IfOk result (λ reader. reader ≡ unread reader.left) }
+        ensures opens { OnOk result (Opens self.old self.new path.now) }
+        ensures err { OnErr result (self.new ≡ record self.old { refusals = self.new.refusals }) }
+        ensures same { self.new ≡ record self.old {
+          files = self.new.files;
+          later = self.new.later;
+          refusals = self.new.refusals;
+        } }
     {
-        match self.open(path) {
-            Some(reader) => Ok(reader),
-            None => {
-                self.refuse();
-                Err(NotThere)
+        if let Some(reader) = self.open(path) {
+            if let Some(reader) = self.reopen(path, reader) {
+                count_opening(&mut self.later, path);
+                return Ok(reader);
             }
         }
+        self.refuse();
+        Err(NotThere)
     }
 
     /// Every folder is there. NotDone only where the refusals are at their last value.
@@ -255,6 +355,7 @@ impl Files for MemFiles {
         ensures started { OnOk result (self.new.current ≡ Some path.now) }
         ensures err { OnErr result (self.new ≡ record self.old { refusals = self.new.refusals }) }
         ensures counts { self.new.counts ≡ self.old.counts }
+        ensures later { self.new.later ≡ self.old.later }
     {
         if !self.is_free(path) {
             self.refuse();
@@ -287,7 +388,7 @@ impl Files for MemFiles {
 
     ghost same_refusals = { refusals_stay };
 
-    ghost same_contents = { λ _. refl };
+    ghost same_contents = { told_contents };
 
     ghost written_grows = { held_grows };
 }

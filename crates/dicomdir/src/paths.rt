@@ -5,6 +5,9 @@ ghost use Rattle.dicomdir.specs.Paths.{EndsInSlash};
 use dd_elem::Memory;
 use std::alloc::Global;
 
+/// The name of the directory in the folder of its file-set (PS3.10 section 8.6).
+pub(crate) const DIRECTORY: &str = "DICOMDIR";
+
 /// The path of a name in a folder: one `/` stands between them, none is added where the folder's text
 /// ends in `/`, and in an empty folder it is the bare name. Memory where a growth is refused.
 pub fn path_in(alloc: Global, folder: &str, name: &str) -> Result<String, Memory>
@@ -15,11 +18,18 @@ pub fn path_in(alloc: Global, folder: &str, name: &str) -> Result<String, Memory
         → string_bytes path ≡ folder.now ++ codes "/" ++ name.now) }
 {
     let mut path = String::from_str(alloc, folder)?;
-    if !folder.is_empty() && !ends_in_slash(folder) {
+    if is_joined_by_slash(folder) {
         path.push_str("/")?;
     }
     path.push_str(name)?;
     Ok(path)
+}
+
+/// Does a `/` stand between the folder and a name in it?
+pub(crate) fn is_joined_by_slash(folder: &str) -> bool
+    ensures { IsTrue result ↔ ((folder.now ≢ []) × ¬ EndsInSlash folder.now) }
+{
+    !folder.is_empty() && !ends_in_slash(folder)
 }
 
 /// Does the text end in `/`?

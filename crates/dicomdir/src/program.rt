@@ -1,39 +1,34 @@
 //! The program's run.
-ghost use Rattle.std.specs.Prelude.{◌≡◌, ◌≢◌, ◌≤◌, ◌⊎◌, ◌↔◌, ◌++◌, ◌∷◌, [], codes, string_bytes, true, List, ℕ};
-ghost use Rattle.std.specs.Fmt.{decimal};
+ghost use Rattle.std.specs.Prelude.{◌≡◌, ◌<◌, ◌≤◌, ◌⊎◌, ◌++◌, ◌∷◌, [], All, IfErr, IsErr, IsOk, codes, length, true};
 ghost use Rattle.clap.specs.Words.{subcommand_of, takes};
 ghost use Rattle.dd_elem.specs.Device.{HasFailed};
-ghost use Rattle.dd_elem.specs.Uid.{IsUid};
-ghost use Rattle.dicomdir.specs.Line.{GivesUid, dicomdir_app, words_of};
-ghost use Rattle.dicomdir.specs.Text.{TakesAll};
+ghost use Rattle.dd_layout.specs.Plans.{size};
+ghost use Rattle.dicomdir.specs.Line.{AsksBadName, HasBadName, dicomdir_app, least_paths, words_of};
+ghost use Rattle.dicomdir.specs.Text.{TakesAll, done_text};
 ghost use Rattle.dicomdir.specs.Trouble.{IsBadLine};
 
+use crate::choice::Choice;
 use crate::files::Files;
-use crate::index::index;
+use crate::index::{finished, planned};
 use crate::line::{Asked, LineFault, Verb, read_words};
-use crate::paths::path_in;
 use crate::text::{Text, print_line};
-use crate::trouble::{ProgramFault, Subject, Trouble, tell};
-use dd_elem::Write;
+use crate::trouble::{ProgramFault, Trouble, WORDS_LENGTH, tell};
+use dd_elem::{SetId, Uid, Write};
+use dd_keys::KeyFault;
+use dd_layout::Plan;
 use itoa::Buffer;
 use std::alloc::Global;
-use std::fmt;
-
-// The name of the directory in its folder (PS3.10 section 8.6).
-const DIRECTORY: &str = "DICOMDIR";
-
-// What a fault concerns that concerns no path.
-const NO_PATH: &str = "-";
+use std::fmt::{self, InlineText};
 
 /// Runs a command line, the first word being the program's name, and answers the status: 0 where the
 /// work is done or help was asked for, 1 where the run was refused or the output failed, and 2 where the
 /// command line is at fault.
 ///
-/// `index --uid UID OUT SRC` writes the directory OUT/DICOMDIR of the file-set that has the one file
-/// SRC, and prints `DONE 1 instances, <size> bytes`. A refusal is one line on the error output, `FAULT
+/// `index [--id ID] [--uid UID] [--max-bytes N] OUT SRC...` copies the images to their File IDs in the
+/// folder OUT and writes OUT/DICOMDIR. It prints `SKIP <path>: <fault>` for each source that has no
+/// version, and `DONE <n> instances, <size> bytes`. A refusal is one line on the error output, `FAULT
 /// <path>: <fault>`, with `-` where it concerns no path; a text about the command line is the parser's.
 /// What is printed to the error output may get lost.
-#[tactic(auto, using(crate::proofs::LineLemmas::asked_uid, crate::proofs::LineLemmas::one_uid))]
 pub fn run<F: Files, O: Write, E: Write>(
     alloc: Global,
     words: Vec<String>,
@@ -46,12 +41,12 @@ pub fn run<F: Files, O: Write, E: Write>(
     // A command line at fault leaves the files and the output as they were.
     ensures line { result ≡ 2 → (files.new ≡ files.old) × (out.new ≡ out.old) }
 
-    // It is at fault only where the program does not take the words, or takes them with a UID that is none.
+    // It is at fault only where the program does not take the words, or takes them with an ID or a UID that is
+    // none; and such a line is never done.
     ensures words { result ≡ 2 → takes dicomdir_app (words_of words.items) ≡ true
-        → ((uid : List ℕ) × GivesUid (subcommand_of dicomdir_app (words_of words.items)) uid × ¬ IsUid uid) }
-    ensures uid { takes dicomdir_app (words_of words.items) ≡ true
-        → (uid : List ℕ) → GivesUid (subcommand_of dicomdir_app (words_of words.items)) uid → ¬ IsUid uid
-        → result ≢ 0 }
+        → HasBadName (subcommand_of dicomdir_app (words_of words.items)) }
+    ensures names { result ≡ 0 → takes dicomdir_app (words_of words.items) ≡ true
+        → ¬ HasBadName (subcommand_of dicomdir_app (words_of words.items)) }
 
     // Where the work is done nothing goes to the error output.
     ensures done { result ≡ 0 → err.new ≡ err.old }
@@ -70,64 +65,105 @@ fn run_asked<F: Files, O: Write, E: Write>(
     out: &mut O,
     err: &mut E,
 ) -> u8
+    requires { least_paths asked.now.verb ≤ length asked.now.paths.items }
     ensures status { result ≤ 2 }
     ensures line { result ≡ 2 → (files.new ≡ files.old) × (out.new ≡ out.old) }
-    ensures uid { result ≡ 2 → ¬ IsUid (string_bytes asked.now.uid) }
-    ensures valid { result ≡ 0 → IsUid (string_bytes asked.now.uid) }
+    ensures bad { result ≡ 2 → AsksBadName asked.now }
+    ensures good { result ≡ 0 → ¬ AsksBadName asked.now }
     ensures done { result ≡ 0 → err.new ≡ err.old }
 {
+    let choice = match choice_of(asked) {
+        Ok(choice) => choice,
+        Err(fault) => return tell(&Trouble::general(fault), "", &[], err),
+    };
     match asked.verb {
-        Verb::Index => run_index(alloc, asked, files, out, err),
+        Verb::Index => run_index(alloc, asked, &choice, files, out, err),
     }
+}
+
+/// The label that the line asks for: the ID is looked at before the UID.
+fn choice_of(asked: &Asked) -> Result<Choice, ProgramFault>
+    ensures line { IfErr result IsBadLine }
+    ensures bad { IsErr result → AsksBadName asked.now }
+    ensures good { IsOk result → ¬ AsksBadName asked.now }
+{
+    let id = match &asked.id {
+        None => SetId::new(b"").unwrap(),
+        Some(id) => match SetId::new(id.as_bytes()) {
+            Ok(id) => id,
+            Err(bad) => return Err(ProgramFault::SetId(bad)),
+        },
+    };
+    let uid = match &asked.uid {
+        None => None,
+        Some(uid) => match Uid::new(uid.as_bytes()) {
+            Ok(uid) => Some(uid),
+            Err(bad) => return Err(ProgramFault::Uid(bad)),
+        },
+    };
+    Ok(Choice { id, uid })
 }
 
 /// Runs `index`.
 fn run_index<F: Files, O: Write, E: Write>(
     alloc: Global,
     asked: &Asked,
+    choice: &Choice,
     files: &mut F,
     out: &mut O,
     err: &mut E,
 ) -> u8
-    ensures status { result ≤ 2 }
-    ensures line { result ≡ 2 → (files.new ≡ files.old) × (out.new ≡ out.old) }
-    ensures uid { result ≡ 2 → ¬ IsUid (string_bytes asked.now.uid) }
-    ensures valid { result ≡ 0 → IsUid (string_bytes asked.now.uid) }
-    ensures done { result ≡ 0 → (O.failures out.new ≡ O.failures out.old) × (err.new ≡ err.old) }
+    requires { 2 ≤ length asked.now.paths.items }
+    ensures status { result ≤ 1 }
+    ensures done { result ≡ 0 → err.new ≡ err.old }
 {
-    let Ok(directory) = path_in(alloc, asked.out.as_str(), DIRECTORY) else {
-        return tell(&ProgramFault::Memory, NO_PATH, err);
+    let [folder, sources @ ..] = asked.paths.as_slice() else {
+        unreachable!()
     };
-    match index(alloc, asked, directory.as_str(), files) {
-        Ok(size) => tell_done(size, out),
-        Err(trouble) => tell_trouble(&trouble, asked, directory.as_str(), err),
+    let folder = folder.as_str();
+    let indexed = match planned(alloc, folder, sources, choice, asked.max_bytes, files) {
+        Ok(indexed) => indexed,
+        Err(trouble) => return tell(&trouble, folder, sources, err),
+    };
+    if tell_skipped(&indexed.skipped, sources, out).is_err() {
+        return 1;
+    }
+    match finished(alloc, folder, sources, &indexed, files) {
+        Ok(()) => tell_done(&indexed.plan, out),
+        Err(trouble) => tell(&trouble, folder, sources, err),
     }
 }
 
-/// Tells a trouble of `index`, and answers the status.
-fn tell_trouble<E: Write>(trouble: &Trouble, asked: &Asked, directory: &str, err: &mut E) -> u8
-    ensures line { result ≡ 2 ↔ IsBadLine trouble.now.fault }
-    ensures status { (result ≡ 1) ⊎ (result ≡ 2) }
+/// Tells each source that is skipped, and why. It fails only where the output did.
+fn tell_skipped<O: Write>(
+    skipped: &[(usize, KeyFault)],
+    sources: &[String],
+    out: &mut O,
+) -> fmt::Result
+    requires { All (λ skip. skip.0 < length sources.now) skipped.now }
+    ensures { IsErr result → HasFailed (O.failures out.old) (O.failures out.new) }
 {
-    let path = match trouble.subject {
-        Subject::General => NO_PATH,
-        Subject::Source => asked.source.as_str(),
-        Subject::Folder => asked.out.as_str(),
-        Subject::Directory => directory,
-    };
-    tell(&trouble.fault, path, err)
+    for (at, fault) in skipped {
+        let words = InlineText::<WORDS_LENGTH>::of(fault);
+        let path = sources[*at].as_str();
+        print_line(&["SKIP ", path, ": ", words.as_str()], out)?;
+    }
+    Ok(())
 }
 
-/// Tells the size of the directory that was written, and answers the status: 1 where the output failed.
-fn tell_done<O: Write>(size: u32, out: &mut O) -> u8
+/// Tells how many images the file-set has and the size of its directory, and answers the status: 1 where
+/// the output failed.
+fn tell_done<O: Write>(plan: &Plan, out: &mut O) -> u8
     ensures status { (result ≡ 0) ⊎ (result ≡ 1) }
     ensures done { result ≡ 0 → TakesAll (O.contents out.old) (O.contents out.new)
-        (O.failures out.old) (O.failures out.new) (codes "DONE 1 instances, " ++ decimal size ++ codes " bytes"
-        ++ 10 ∷ []) }
+        (O.failures out.old) (O.failures out.new)
+        (done_text (length plan.now.versions) (size plan.now.label plan.now.versions)) }
     ensures failed { result ≡ 1 → HasFailed (O.failures out.old) (O.failures out.new) }
 {
-    let mut digits = Buffer::new();
-    match print_line(&["DONE 1 instances, ", digits.format(size), " bytes"], out) {
+    let (mut count, mut size) = (Buffer::new(), Buffer::new());
+    let count = count.format(plan.versions().len());
+    let size = size.format(plan.size());
+    match print_line(&["DONE ", count, " instances, ", size, " bytes"], out) {
         Ok(()) => 0,
         Err(_) => 1,
     }
@@ -142,7 +178,7 @@ fn refuse_line<O: Write, E: Write>(fault: &LineFault, out: &mut O, err: &mut E) 
 {
     match fault {
         LineFault::Refused(error) => tell_parser(error, out, err),
-        LineFault::Memory => tell(&ProgramFault::Memory, NO_PATH, err),
+        LineFault::Memory => tell(&Trouble::general(ProgramFault::Memory), "", &[], err),
     }
 }
 

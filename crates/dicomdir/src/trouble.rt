@@ -1,10 +1,12 @@
 //! What goes wrong in a run, and how it is told.
-ghost use Rattle.std.specs.Prelude.{◌≡◌, ◌≢◌, ◌↔◌, ◌⊎◌, IsTrue, codes};
+ghost use Rattle.std.specs.Prelude.{◌≡◌, ◌↔◌, ◌⊎◌, IsTrue, length};
 ghost use Rattle.dd_keys.specs.Faults.{SaysMemory};
-ghost use Rattle.dicomdir.specs.Trouble.{IsBadLine};
+ghost use Rattle.dicomdir.specs.Trouble.{IsAmong, IsBadLine};
 
+use crate::image_path::{ImageFolder, ImagePath};
+use crate::paths::{DIRECTORY, is_joined_by_slash};
 use crate::text::print_line;
-use dd_elem::{BadUid, Write};
+use dd_elem::{BadSetId, BadUid, FileId, Write};
 use dd_keys::KeyFault;
 use dd_layout::PlanFault;
 use dd_part10::FileFault;
@@ -15,15 +17,15 @@ use thiserror::Error;
 /// Why a run ended before its work was done.
 #[derive(Clone, Copy, Debug, PartialEq, Eq, Error)]
 pub enum ProgramFault {
-    /// The file has no version, or more bytes than a run reads: more than 4,294,967,295.
-    #[error(transparent)]
-    Key(KeyFault),
-    /// The version has no place in a directory.
+    /// The versions have no place in a directory.
     #[error(transparent)]
     Plan(PlanFault),
     /// The command line gives a UID that is none.
     #[error(transparent)]
     Uid(BadUid),
+    /// The command line gives a File-set ID that is none.
+    #[error(transparent)]
+    SetId(BadSetId),
     /// A growth was refused.
     #[error("91 Memory")]
     Memory,
@@ -42,6 +44,9 @@ pub enum ProgramFault {
     /// A write to the file failed, or its end.
     #[error("96 Unsent")]
     Unsent,
+    /// The file is not what it was when it was read before.
+    #[error("97 Changed")]
+    Changed,
 }
 
 /// What a fault concerns.
@@ -49,12 +54,16 @@ pub enum ProgramFault {
 pub enum Subject {
     /// No file and no folder.
     General,
-    /// The source.
-    Source,
+    /// The source of this number.
+    Source(usize),
     /// The folder of the file-set.
     Folder,
     /// The directory in that folder.
     Directory,
+    /// The copy of the image with this File ID.
+    Image(FileId),
+    /// The folder of that copy.
+    ImageFolder(FileId),
 }
 
 /// A fault, and what it concerns.
@@ -69,8 +78,7 @@ pub struct Trouble {
 impl Trouble {
     /// A fault that concerns no file.
     pub fn general(fault: ProgramFault) -> Trouble
-        ensures fault { result.fault ≡ fault }
-        ensures subject { result.subject ≡ Subject.General }
+        ensures { result ≡ record { subject = Subject.General; fault = fault } }
     {
         Trouble {
             subject: Subject::General,
@@ -78,31 +86,16 @@ impl Trouble {
         }
     }
 
-    /// What the fault of the source's file comes to. Want of memory concerns no file.
-    pub fn with_source(fault: KeyFault) -> Trouble
-        ensures memory { SaysMemory fault
-            → (result.fault ≡ ProgramFault.Memory) × (result.subject ≡ Subject.General) }
-        ensures read { fault ≡ KeyFault.Read
-            → (result.fault ≡ ProgramFault.Unread) × (result.subject ≡ Subject.Source) }
-        ensures file { ¬ SaysMemory fault → fault ≢ KeyFault.Read
-            → (result.fault ≡ ProgramFault.Key fault) × (result.subject ≡ Subject.Source) }
+    /// A fault that concerns this.
+    pub fn of(subject: Subject, fault: ProgramFault) -> Trouble
+        ensures { result ≡ record { subject = subject; fault = fault } }
     {
-        if is_want_of_memory(&fault) {
-            return Trouble::general(ProgramFault::Memory);
-        }
-        let fault = match fault {
-            KeyFault::Read => ProgramFault::Unread,
-            fault => ProgramFault::Key(fault),
-        };
-        Trouble {
-            subject: Subject::Source,
-            fault,
-        }
+        Trouble { subject, fault }
     }
 }
 
 /// Does the fault say that a growth was refused?
-fn is_want_of_memory(fault: &KeyFault) -> bool
+pub(crate) fn is_want_of_memory(fault: &KeyFault) -> bool
     ensures { IsTrue result ↔ SaysMemory fault.now }
 {
     matches!(
@@ -113,19 +106,59 @@ fn is_want_of_memory(fault: &KeyFault) -> bool
 }
 
 // No fault has as many bytes.
-const WORDS_LENGTH: usize = 256;
+pub(crate) const WORDS_LENGTH: usize = 256;
 
-/// Tells a fault in a line, with no memory, and answers the status that the run ends with: 2 where
-/// the command line is at fault, and else 1. A failure of the writer changes nothing.
-pub fn tell<W: Write>(fault: &ProgramFault, path: &str, to: &mut W) -> u8
+// Nor has the path of an image in its file-set.
+const PATH_LENGTH: usize = 64;
+
+/// Tells a trouble in a line, with no memory, and answers the status that the run ends with: 2 where the
+/// command line is at fault, and else 1. The line names the path that the trouble concerns: one of these
+/// sources, this folder, or what stands in it. A failure of the writer changes nothing.
+pub fn tell<W: Write>(trouble: &Trouble, folder: &str, sources: &[String], to: &mut W) -> u8
+    requires { IsAmong (length sources.now) trouble.now.subject }
+    ensures line { result ≡ 2 ↔ IsBadLine trouble.now.fault }
+    ensures status { (result ≡ 1) ⊎ (result ≡ 2) }
+{
+    let words = InlineText::<WORDS_LENGTH>::of(&trouble.fault);
+    let words = words.as_str();
+    match trouble.subject {
+        Subject::General => print_fault("-", words, to),
+        Subject::Source(at) => print_fault(sources[at].as_str(), words, to),
+        Subject::Folder => print_fault(folder, words, to),
+        Subject::Directory => print_inside(folder, DIRECTORY, words, to),
+        Subject::Image(file) => {
+            let name = InlineText::<PATH_LENGTH>::of(&ImagePath(file));
+            print_inside(folder, name.as_str(), words, to);
+        }
+        Subject::ImageFolder(file) => {
+            let name = InlineText::<PATH_LENGTH>::of(&ImageFolder(file));
+            print_inside(folder, name.as_str(), words, to);
+        }
+    }
+    status_of(&trouble.fault)
+}
+
+/// Prints the line of a fault that concerns this path.
+fn print_fault<W: Write>(path: &str, words: &str, to: &mut W) {
+    let _ = print_line(&["FAULT ", path, ": ", words], to);
+}
+
+/// Prints the line of a fault that concerns what has this name in the folder.
+fn print_inside<W: Write>(folder: &str, name: &str, words: &str, to: &mut W) {
+    let _ = if is_joined_by_slash(folder) {
+        print_line(&["FAULT ", folder, "/", name, ": ", words], to)
+    } else {
+        print_line(&["FAULT ", folder, name, ": ", words], to)
+    };
+}
+
+/// The status that a run ends with by this fault.
+fn status_of(fault: &ProgramFault) -> u8
     ensures line { result ≡ 2 ↔ IsBadLine fault.now }
     ensures status { (result ≡ 1) ⊎ (result ≡ 2) }
 {
-    let status = match fault {
-        ProgramFault::Uid(_) => 2,
+    match fault {
+        ProgramFault::Uid(_) | ProgramFault::SetId(_) => 2,
         _ => 1,
-    };
-    let words = InlineText::<WORDS_LENGTH>::of(fault);
-    let _ = print_line(&["FAULT ", path, ": ", words.as_str()], to);
-    status
+    }
 }

@@ -66,11 +66,8 @@ impl<F: io::Write + Drop> Output<F> {
         Output { writer: None }
     }
 
-    /// Writes what is left in the buffer, has the system store the file, and lets it go. Refused where
-    /// no file is being written, or a write to it has failed.
-    pub(crate) fn close(&mut self) -> io::Result<()>
-    where
-        F: OpenFile,
+    // The file, once what is left in the buffer is written. It is being written no more.
+    fn take(&mut self) -> io::Result<F>
         ensures lets_go { self.new.writer ≡ None }
         ensures none { self.old.writer ≡ None → IsErr result }
     {
@@ -80,10 +77,30 @@ impl<F: io::Write + Drop> Output<F> {
         let Ok(target) = writer.into_inner() else {
             return Err(io::Error::other("the last bytes were not written"));
         };
-        match &target.file {
-            Some(file) => file.sync_all(),
+        match target.file {
+            Some(file) => Ok(file),
             None => Err(io::Error::other("a write to the file has failed")),
         }
+    }
+
+    /// Writes what is left in the buffer, and lets the file go. Refused where no file is being written,
+    /// or a write to it has failed.
+    pub(crate) fn close(&mut self) -> io::Result<()>
+        ensures lets_go { self.new.writer ≡ None }
+        ensures none { self.old.writer ≡ None → IsErr result }
+    {
+        self.take()?;
+        Ok(())
+    }
+
+    /// Ends the file as `close` does, and has the system store it.
+    pub(crate) fn store(&mut self) -> io::Result<()>
+    where
+        F: OpenFile,
+        ensures lets_go { self.new.writer ≡ None }
+        ensures none { self.old.writer ≡ None → IsErr result }
+    {
+        self.take()?.sync_all()
     }
 }
 

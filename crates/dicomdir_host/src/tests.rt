@@ -29,9 +29,29 @@ fail folder, folder d, folder d > . - + > none
 fail create, create a, create a > . - + >
 file a, fail read, read a, read a > . . ! old > old
 create a, write xyz, pause write, finish, pause read, read a > + + . + . xyz > xyz
-create a, write xyz, fail store, finish, finish > + + . - - > xyz
+create a, write xyz, fail store, finish, finish > + + . + - > xyz
+create DICOMDIR, write xyz, fail store, finish, finish, read DICOMDIR > + + . - - xyz > none
 create a, write xyz, fail write, finish, finish > + + . - - >
 create a, fail write, fill, write xyz, fill, finish > + . - - - - >";
+
+// In each line calls, then what they came to, then what the disc made and stored, in this order.
+const ORDERS: &str = "\
+create a, finish, create b, finish > + + + + > make a, make b
+create DICOMDIR, finish > + + > make DICOMDIR, store DICOMDIR
+create a, finish, create b, finish, create d/DICOMDIR, finish > + + + + + + \
+> make a, make b, store a, store b, make d/DICOMDIR, store d/DICOMDIR
+create a, finish, create DICOMDIR, finish, create b, finish, create d/DICOMDIR > + + + + + + + \
+> make a, store a, make DICOMDIR, store DICOMDIR, make b, store b, make d/DICOMDIR
+create aDICOMDIR, finish, create DICOMDIR/a, finish, create DICOMDIR > + + + + + \
+> make aDICOMDIR, make DICOMDIR/a, store aDICOMDIR, store DICOMDIR/a, make DICOMDIR
+create a, create b, finish, create DICOMDIR > + + + + > make a, make b, store b, make DICOMDIR
+create a, fail write, fill, finish, create DICOMDIR > + . - - + > make a, make DICOMDIR
+create a, finish, fail store, create DICOMDIR, finish, create DICOMDIR > + + . - - + \
+> make a, store a, make DICOMDIR
+create a, finish, fail open, create DICOMDIR > + + . - > make a
+file DICOMDIR, create a, finish, create DICOMDIR > . + + - > make a, store a
+folder d, folder d, folder e, folder d, folder d > + + + + + > folder d, folder e, folder d
+fail folder, folder d, folder d, folder d > . - + + > folder d";
 
 fn call_of(name: &str) -> Option<Call> {
     match name {
@@ -154,10 +174,27 @@ fn is_right(alloc: Global, case: &str) -> Result<bool, Fail> {
     Ok(said.as_str() == answers && found == left.trim_start().as_bytes())
 }
 
+fn is_in_order(alloc: Global, case: &str) -> Result<bool, Fail> {
+    let (calls, wanted) = case.split_once(" > ").ok_or("no answers")?;
+    let (answers, log) = wanted.split_once(" > ").ok_or("no log")?;
+    let disc = RefCell::new(Disc::new(alloc));
+    let said = told(alloc, &disc, calls)?;
+    let disc = disc.into_inner();
+    Ok(said.as_str() == answers && disc.log() == log)
+}
+
 #[test]
 fn tells_what_each_call_came_to(rt: HostRuntime) -> Result<(), Fail> {
     for case in CASES.split('\n') {
         assert!(rt; is_right(rt.alloc(), case)?, "at {case}");
+    }
+    Ok(())
+}
+
+#[test]
+fn stores_all_before_a_directory(rt: HostRuntime) -> Result<(), Fail> {
+    for case in ORDERS.split('\n') {
+        assert!(rt; is_in_order(rt.alloc(), case)?, "at {case}");
     }
     Ok(())
 }

@@ -1,9 +1,9 @@
 //! How many pairs of instances a merge compares.
 
-use dd_samples::{fitting, image, parts_of, taken};
 use dd_catalogue::Catalogue;
 use dd_elem::Uid;
 use dd_keys::Version;
+use dd_samples::{fitting, image, parts_of, taken};
 use dd_vectors::{answered, question};
 use std::alloc::Global;
 use std::test::Fail;

@@ -1,11 +1,11 @@
 //! Joins of versions, of catalogues and of histories.
 
-use dd_samples::{images, taken};
 use dd_catalogue::{
     Catalogue, History, best_is_best, best_is_one, best_of_bests, build, build_order_is_free,
     equal_is_same, gather, gather_order_is_free, join_is_lawful, join_order_is_free,
 };
 use dd_keys::Version;
+use dd_samples::{images, taken};
 use dd_vectors::{answered, question, text_of};
 use std::alloc::Global;
 use std::test::Fail;

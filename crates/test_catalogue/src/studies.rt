@@ -1,8 +1,8 @@
 //! Conflicts between the versions of a catalogue, and the keys on which they agree in harmony.
 
-use dd_samples::taken;
 use dd_catalogue::Catalogue;
 use dd_keys::Parts;
+use dd_samples::taken;
 use dd_vectors::{answered, question, text_of};
 use std::alloc::Global;
 use std::test::Fail;

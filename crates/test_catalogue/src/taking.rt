@@ -1,9 +1,9 @@
 //! What a catalogue takes, hands back and keeps.
 
-use dd_samples::{image, taken, told};
 use dd_catalogue::{Catalogue, Refused, Took};
 use dd_elem::Uid;
 use dd_keys::Version;
+use dd_samples::{image, taken, told};
 use dd_vectors::{answered, question};
 use std::alloc::Global;
 use std::test::Fail;

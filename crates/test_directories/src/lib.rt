@@ -1,5 +1,9 @@
-//! Tests of the directories that are sent by plans (PS3.3 annex F, PS3.10 section 8.6).
+//! Tests of the bytes of directories, and of what is derived from them (PS3.3 annex F, PS3.10 section 8.6).
 #![tactic(auto)]
 
+#[cfg(test)]
+mod derivation;
+#[cfg(test)]
+mod publishing;
 #[cfg(test)]
 mod sending;

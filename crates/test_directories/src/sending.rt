@@ -1,11 +1,12 @@
 //! Directories sent to a writer.
 
+use crate::publishing::{label_of, limits_of};
 use dd_catalogue::Catalogue;
 use dd_dir::write_directory;
-use dd_elem::{SetId, Sink, Uid};
-use dd_layout::{Label, Limits, Plan, lay_out};
-use dd_samples::{taken, v1_version};
-use dd_vectors::{answered, first_directory, question, v2};
+use dd_elem::Sink;
+use dd_layout::{Plan, lay_out};
+use dd_samples::v1_version;
+use dd_vectors::{answered, first_directory, question};
 use std::alloc::Global;
 use std::test::Fail;
 
@@ -21,30 +22,19 @@ const SENT: &str = "\
 876 > 876 [876]
 1000 > 876 [876]";
 
-/// Images, and how many bytes their directory has, then the offsets of its first and its last root record
-/// and the length of its sequence.
-const FRONTS: &str = "\
-1 > 876: 320 320 556
-1234 > 2032: 320 1476 1712
-AC > 1132: 320 320 812";
-
-/// The plan of this catalogue.
-fn plan(alloc: Global, catalogue: &Catalogue) -> Result<Plan, Fail> {
-    let limits = Limits::new(u32::MAX, 999_999).ok_or("no limits")?;
-    let label = Label {
-        id: SetId::new(b"")?,
-        uid: Uid::new(b"2.25.0")?,
-    };
-    Ok(lay_out(alloc, catalogue, &label, limits)?)
-}
-
-/// The plan of V1 alone.
-fn first_plan(alloc: Global) -> Result<Plan, Fail> {
+/// The catalogue that took V1 alone.
+pub(crate) fn first_catalogue(alloc: Global) -> Result<Catalogue, Fail> {
     let mut catalogue = Catalogue::new(alloc);
     if catalogue.take(v1_version(alloc)?).is_err() {
         return Err("no memory".into());
     }
-    plan(alloc, &catalogue)
+    Ok(catalogue)
+}
+
+/// The plan of V1 alone.
+fn first_plan(alloc: Global) -> Result<Plan, Fail> {
+    let catalogue = first_catalogue(alloc)?;
+    Ok(lay_out(alloc, &catalogue, &label_of("")?, limits_of("")?)?)
 }
 
 /// How many bytes went, or the words of the refusal.
@@ -76,48 +66,6 @@ fn directory(alloc: Global, case: &str) -> Result<String, Fail> {
 fn the_directory_of_v1(rt: HostRuntime) -> Result<(), Fail> {
     for case in SENT.split('\n') {
         assert_eq!(rt; directory(rt.alloc(), case)?.as_str(), case);
-    }
-    Ok(())
-}
-
-/// The directory of the images with these letters.
-fn directory_of(alloc: Global, letters: &str) -> Result<Vec<u8>, Fail> {
-    let plan = plan(alloc, &taken(alloc, letters)?)?;
-    let mut sink = Sink::new(alloc, None);
-    let size = write_directory(&plan, &mut sink)?;
-    if size != u64::from(plan.size()) {
-        return Err("another size".into());
-    }
-    Ok(sink.into_bytes())
-}
-
-#[test]
-fn the_directory_of_nothing(rt: HostRuntime) -> Result<(), Fail> {
-    assert!(rt; directory_of(rt.alloc(), "")? == v2(rt.alloc())?);
-    Ok(())
-}
-
-/// The number of four bytes from this place on.
-fn number(bytes: &[u8], place: usize) -> Result<u32, Fail> {
-    let four = bytes.get(place..place + 4).ok_or("no number there")?;
-    Ok(u32::from_le_bytes(four.try_into()?))
-}
-
-fn front(alloc: Global, case: &str) -> Result<String, Fail> {
-    let bytes = directory_of(alloc, question(case))?;
-    let (first, last) = (number(&bytes, 282)?, number(&bytes, 294)?);
-    let (size, length) = (bytes.len(), number(&bytes, 316)?);
-    Ok(answered(
-        alloc,
-        case,
-        &format_args!("{size}: {first} {last} {length}"),
-    )?)
-}
-
-#[test]
-fn roots_and_lengths(rt: HostRuntime) -> Result<(), Fail> {
-    for case in FRONTS.split('\n') {
-        assert_eq!(rt; front(rt.alloc(), case)?.as_str(), case);
     }
     Ok(())
 }

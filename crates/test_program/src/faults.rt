@@ -1,20 +1,51 @@
 //! The words of the faults of the program, some of which no run shows here.
 
-use dicomdir::ProgramFault;
+use dd_elem::{BadSetId, BadUid};
+use dd_layout::PlanFault;
+use dicomdir::{CopyFault, EngineFault, ProgramFault};
 use std::test::Fail;
 
-/// The faults of the program that concern no version, no plan and no UID, in words.
-const PROGRAM: &str = "91 Memory, 92 Absent, 93 Unread, 94 Create, 95 Folder, 96 Unsent";
+/// Faults of the program, in words.
+const PROGRAM: &str = "43 TooLarge, 71 BadUid, 72 BadSetId, 91 Memory, 92 Absent, 93 Unread, \
+                       94 Create, 95 Folder, 96 Unsent, 97 Changed";
+
+/// Faults of an index, and of a copy.
+const ENGINE: &str = "43 TooLarge, 91 Memory, 92 Absent, 93 Unread";
+
+const COPY: &str = "93 Unread, 96 Unsent, 97 Changed";
 
 /// The fault with these words.
 fn fault_of(words: &str) -> Option<ProgramFault> {
     match words {
+        "43 TooLarge" => Some(ProgramFault::Plan(PlanFault::TooLarge)),
+        "71 BadUid" => Some(ProgramFault::Uid(BadUid)),
+        "72 BadSetId" => Some(ProgramFault::SetId(BadSetId)),
         "91 Memory" => Some(ProgramFault::Memory),
         "92 Absent" => Some(ProgramFault::Absent),
         "93 Unread" => Some(ProgramFault::Unread),
         "94 Create" => Some(ProgramFault::Create),
         "95 Folder" => Some(ProgramFault::Folder),
         "96 Unsent" => Some(ProgramFault::Unsent),
+        "97 Changed" => Some(ProgramFault::Changed),
+        _ => None,
+    }
+}
+
+fn engine_fault_of(words: &str) -> Option<EngineFault> {
+    match words {
+        "43 TooLarge" => Some(EngineFault::Plan(PlanFault::TooLarge)),
+        "91 Memory" => Some(EngineFault::Memory),
+        "92 Absent" => Some(EngineFault::Absent(7)),
+        "93 Unread" => Some(EngineFault::Unread(7)),
+        _ => None,
+    }
+}
+
+fn copy_fault_of(words: &str) -> Option<CopyFault> {
+    match words {
+        "93 Unread" => Some(CopyFault::Unread),
+        "96 Unsent" => Some(CopyFault::Unsent),
+        "97 Changed" => Some(CopyFault::Changed),
         _ => None,
     }
 }
@@ -23,6 +54,24 @@ fn fault_of(words: &str) -> Option<ProgramFault> {
 fn faults_of_the_program_in_words(rt: HostRuntime) -> Result<(), Fail> {
     for words in PROGRAM.split(", ") {
         let fault = fault_of(words).ok_or("no fault")?;
+        assert_eq!(rt; format!(in rt.alloc(); "{fault}")?.as_str(), words);
+    }
+    Ok(())
+}
+
+#[test]
+fn faults_of_an_index_in_words(rt: HostRuntime) -> Result<(), Fail> {
+    for words in ENGINE.split(", ") {
+        let fault = engine_fault_of(words).ok_or("no fault")?;
+        assert_eq!(rt; format!(in rt.alloc(); "{fault}")?.as_str(), words);
+    }
+    Ok(())
+}
+
+#[test]
+fn faults_of_a_copy_in_words(rt: HostRuntime) -> Result<(), Fail> {
+    for words in COPY.split(", ") {
+        let fault = copy_fault_of(words).ok_or("no fault")?;
         assert_eq!(rt; format!(in rt.alloc(); "{fault}")?.as_str(), words);
     }
     Ok(())

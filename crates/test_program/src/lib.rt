@@ -2,6 +2,10 @@
 #![tactic(auto)]
 
 #[cfg(test)]
+mod copies;
+#[cfg(test)]
+mod disc;
+#[cfg(test)]
 mod faults;
 #[cfg(test)]
 mod lines;

@@ -6,24 +6,44 @@ use dicomdir::{Asked, LineFault, read_words};
 use std::alloc::Global;
 use std::test::Fail;
 
-/// Lines, and what they ask for: the command, the UID, the folder and the file. Or, where they are refused,
-/// the exit status and whether the text is for the error output.
+/// Lines, and what they ask for: the command, the ID and the UID (`-` where none is given), the most bytes
+/// and the paths. Or, where they are refused, the exit status and whether the text is for the error output.
 const LINES: &str = "\
-dicomdir index --uid 2.25.1 set image.dcm > Index 2.25.1 set image.dcm
-dicomdir index --uid=2.25.1 set image.dcm > Index 2.25.1 set image.dcm
-dicomdir index set image.dcm --uid 2.25.1 > Index 2.25.1 set image.dcm
-anything index set --uid 2.25.1 -- image.dcm > Index 2.25.1 set image.dcm
+dicomdir index set image.dcm > Index - - 4294967295 set image.dcm
+dicomdir index --id DISC1 --uid 2.25.1 --max-bytes 1000 set image.dcm > Index DISC1 2.25.1 1000 set image.dcm
+dicomdir index --max-bytes=1000 --uid=2.25.1 --id=DISC1 set image.dcm > Index DISC1 2.25.1 1000 set image.dcm
+dicomdir index --id 2.25.1 --uid DISC1 set image.dcm > Index 2.25.1 DISC1 4294967295 set image.dcm
+dicomdir index --uid 2.25.1 set b.dcm a.dcm b.dcm > Index - 2.25.1 4294967295 set b.dcm a.dcm b.dcm
+dicomdir index set b.dcm a.dcm --uid 2.25.1 > Index - 2.25.1 4294967295 set b.dcm a.dcm
+dicomdir index set b.dcm --uid 2.25.1 a.dcm --id DISC1 c.dcm > Index DISC1 2.25.1 4294967295 set b.dcm a.dcm c.dcm
+dicomdir index set --max-bytes 7 b.dcm > Index - - 7 set b.dcm
+anything index set --uid 2.25.1 -- --id -x -- > Index - 2.25.1 4294967295 set --id -x --
+dicomdir index -- set index help > Index - - 4294967295 set index help
+dicomdir index --uid '' set image.dcm > Index - '' 4294967295 set image.dcm
+dicomdir index --id= --uid= '' '' > Index '' '' 4294967295 '' ''
+dicomdir index --max-bytes 0 set image.dcm > Index - - 0 set image.dcm
+dicomdir index --max-bytes 4294967295 set image.dcm > Index - - 4294967295 set image.dcm
+dicomdir index --max-bytes 0007 set image.dcm > Index - - 7 set image.dcm
+dicomdir index --max-bytes +876 set image.dcm > Index - - 876 set image.dcm
+dicomdir index --max-bytes=-0 set image.dcm > Index - - 0 set image.dcm
 dicomdir > 2 true
 dicomdir build --uid 2.25.1 set image.dcm > 2 true
 dicomdir index > 2 true
-dicomdir index set image.dcm > 2 true
+dicomdir index set > 2 true
 dicomdir index --uid 2.25.1 > 2 true
-dicomdir index --uid 2.25.1 set > 2 true
-dicomdir index --uid 2.25.1 set image.dcm more.dcm > 2 true
-dicomdir index --uid 2.25.1 --uid 2.25.2 set image.dcm > 2 true
-dicomdir index --uid 2.25.1 --id DISC1 set image.dcm > 2 true
-dicomdir --uid 2.25.1 set image.dcm > 2 true
+dicomdir index --id DISC1 --uid 2.25.1 set > 2 true
+dicomdir index --max-bytes 4294967296 set image.dcm > 2 true
+dicomdir index --max-bytes=-1 set image.dcm > 2 true
+dicomdir index --max-bytes -1 set image.dcm > 2 true
+dicomdir index --max-bytes '' set image.dcm > 2 true
+dicomdir index --max-bytes 1e3 set image.dcm > 2 true
+dicomdir index --max-bytes 12 --max-bytes 13 set image.dcm > 2 true
+dicomdir index --uid 2.25.1 --uid 2.25.1 set image.dcm > 2 true
+dicomdir index --id DISC1 --id DISC2 set image.dcm > 2 true
+dicomdir index --out set image.dcm > 2 true
+dicomdir --uid 2.25.1 index set image.dcm > 2 true
 dicomdir index set image.dcm --uid > 2 true
+dicomdir index set image.dcm --max-bytes > 2 true
 dicomdir help build > 2 true
 dicomdir --version > 2 true
 dicomdir --help > 0 false
@@ -33,14 +53,31 @@ dicomdir help index > 0 false
 dicomdir index --help > 0 false
 dicomdir index -h > 0 false";
 
+/// Appends a word, an empty one as `''`.
+fn push_word(text: &mut String, word: &str) -> Result<(), Fail> {
+    text.push(' ')?;
+    text.push_str(if word.is_empty() { "''" } else { word })?;
+    Ok(())
+}
+
+fn push_option(text: &mut String, value: Option<&String>) -> Result<(), Fail> {
+    match value {
+        Some(value) => push_word(text, value.as_str()),
+        None => push_word(text, "-"),
+    }
+}
+
 fn told(alloc: Global, asked: &Asked) -> Result<String, Fail> {
-    let verb = asked.verb;
-    let (uid, out, source) = (
-        asked.uid.as_str(),
-        asked.out.as_str(),
-        asked.source.as_str(),
-    );
-    Ok(format!(in alloc; "{verb:?} {uid} {out} {source}")?)
+    let (verb, max_bytes) = (asked.verb, asked.max_bytes);
+    let mut text = format!(in alloc; "{verb:?}")?;
+    push_option(&mut text, asked.id.as_ref())?;
+    push_option(&mut text, asked.uid.as_ref())?;
+    let number = format!(in alloc; "{max_bytes}")?;
+    push_word(&mut text, number.as_str())?;
+    for path in asked.paths.iter() {
+        push_word(&mut text, path.as_str())?;
+    }
+    Ok(text)
 }
 
 fn refused(alloc: Global, fault: &LineFault) -> Result<String, Fail> {

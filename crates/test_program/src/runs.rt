@@ -1,9 +1,11 @@
 //! Runs over files in memory, each with its status, what it prints, and what becomes of the files.
 
+use crate::copies::failing;
+use crate::disc::{FIRST_IMAGE, are_equal, disc, disc_with};
 use crate::printing::push_lines;
 use crate::words::words_of;
 use dd_elem::Sink;
-use dd_vectors::{answered, first_directory, question, v1};
+use dd_vectors::{answered, question};
 use dicomdir::{MemFiles, run};
 use std::alloc::Global;
 use std::test::Fail;
@@ -12,61 +14,70 @@ use std::test::Fail;
 /// and whether some file is new or has changed. `|` ends a line. A run that is refused changes no file; an
 /// error output that fails changes nothing else.
 const RUNS: &str = "\
-- - dicomdir index out ct1.dcm --uid 2.25.0 > 0 [DONE 1 instances, 876 bytes|] [] changed
-0 - dicomdir index out ct1.dcm --uid 2.25.0 > 1 [] [] changed
-9 - dicomdir index out ct1.dcm --uid 2.25.0 > 1 [DONE 1 in] [] changed
-- 0 dicomdir index out ct1.dcm --uid 2.25.0 > 0 [DONE 1 instances, 876 bytes|] [] changed
-- - dicomdir index out ct1.dcm --uid 2.25.x > 2 [] [FAULT -: 71 BadUid|] kept
-- - dicomdir index full ct1.dcm --uid 1.02 > 2 [] [FAULT -: 71 BadUid|] kept
+- - dicomdir index out a.dcm b.dcm --uid 2.25.0 > \
+0 [SKIP b.dcm: 32 NotImage 1.2.840.10008.5.1.4.1.1.88.11|DONE 1 instances, 876 bytes|] [] changed
+- - dicomdir index out a.dcm --uid 2.25.0 > 0 [DONE 1 instances, 876 bytes|] [] changed
+- - dicomdir index out a.dcm --uid 2.25.0 --id DISC1 > 0 [DONE 1 instances, 882 bytes|] [] changed
+- - dicomdir index out a.dcm --uid 2.25.0 --id= > 0 [DONE 1 instances, 876 bytes|] [] changed
+- - dicomdir index out a.dcm > 0 [DONE 1 instances, 914 bytes|] [] changed
+- - dicomdir index out a.dcm --uid 2.25.0 --max-bytes 875 > 1 [] [FAULT -: 43 TooLarge|] kept
+- - dicomdir index out a.dcm b.dcm --uid 2.25.0 --max-bytes 875 > 1 [] [FAULT -: 43 TooLarge|] kept
+- - dicomdir index out a.dcm --uid 2.25.0 --max-bytes 876 > 0 [DONE 1 instances, 876 bytes|] [] changed
+- - dicomdir index out a.dcm --max-bytes 875 > 1 [] [FAULT -: 43 TooLarge|] kept
+- - dicomdir index out a.dcm --max-bytes 913 > 1 [] [FAULT -: 43 TooLarge|] kept
+- - dicomdir index out a.dcm --max-bytes 914 > 0 [DONE 1 instances, 914 bytes|] [] changed
+- - dicomdir index out b.dcm --uid 2.25.0 > \
+0 [SKIP b.dcm: 32 NotImage 1.2.840.10008.5.1.4.1.1.88.11|DONE 0 instances, 320 bytes|] [] changed
+- - dicomdir index out note.txt --uid 2.25.0 > \
+0 [SKIP note.txt: 31 File 21 NotPart10|DONE 0 instances, 320 bytes|] [] changed
+- - dicomdir index out part.dcm a.dcm note.txt part.dcm --uid 2.25.0 > \
+0 [SKIP part.dcm: 31 File 27 Set 1 Truncated|SKIP note.txt: 31 File 21 NotPart10|\
+SKIP part.dcm: 31 File 27 Set 1 Truncated|DONE 1 instances, 876 bytes|] [] changed
+- - dicomdir index out a.dcm c.dcm a.dcm e.dcm --uid 2.25.0 > 0 [DONE 1 instances, 876 bytes|] [] changed
+- - dicomdir index out a.dcm d.dcm --uid 2.25.0 > 0 [DONE 2 instances, 1130 bytes|] [] changed
+0 - dicomdir index out a.dcm --uid 2.25.0 > 1 [] [] changed
+9 - dicomdir index out a.dcm --uid 2.25.0 > 1 [DONE 1 in] [] changed
+9 - dicomdir index out a.dcm b.dcm --uid 2.25.0 > 1 [SKIP b.dc] [] kept
+- 0 dicomdir index out a.dcm --uid 2.25.0 > 0 [DONE 1 instances, 876 bytes|] [] changed
+- - dicomdir index out a.dcm --uid 2.25.x > 2 [] [FAULT -: 71 BadUid|] kept
+- - dicomdir index out a.dcm --uid '' > 2 [] [FAULT -: 71 BadUid|] kept
+- - dicomdir index full none.dcm --uid 1.02 > 2 [] [FAULT -: 71 BadUid|] kept
+- - dicomdir index full none.dcm --id bad > 2 [] [FAULT -: 72 BadSetId|] kept
+- - dicomdir index full none.dcm --uid 1.02 --id bad > 2 [] [FAULT -: 72 BadSetId|] kept
 - - dicomdir index out none.dcm --uid 2.25.0 > 1 [] [FAULT none.dcm: 92 Absent|] kept
-- - dicomdir index out note.txt --uid 2.25.0 > 1 [] [FAULT note.txt: 31 File 21 NotPart10|] kept
-- - dicomdir index out part.dcm --uid 2.25.0 > \
-1 [] [FAULT part.dcm: 31 File 27 Set 1 Truncated|] kept
-- - dicomdir index full ct1.dcm --uid 2.25.0 > 1 [] [FAULT full/DICOMDIR: 94 Create|] kept
-- - dicomdir index full/ none.dcm --uid 2.25.0 > 1 [] [FAULT full/DICOMDIR: 94 Create|] kept
+- - dicomdir index out b.dcm a.dcm no.dcm none.dcm > 1 [] [FAULT no.dcm: 92 Absent|] kept
+- - dicomdir index full a.dcm --uid 2.25.0 > 1 [] [FAULT full/DICOMDIR: 94 Create|] kept
+- - dicomdir index full/ b.dcm none.dcm > 1 [] [FAULT full/DICOMDIR: 94 Create|] kept
+- - dicomdir index taken a.dcm --uid 2.25.0 > \
+1 [] [FAULT taken/PT000001/ST000001/SE000001/IM000001: 94 Create|] kept
+- - dicomdir index taken note.txt a.dcm > \
+1 [SKIP note.txt: 31 File 21 NotPart10|] [FAULT taken/PT000001/ST000001/SE000001/IM000001: 94 Create|] kept
 - 6 dicomdir index out none.dcm --uid 2.25.0 > 1 [] [FAULT ] kept
 - 0 dicomdir index out none.dcm --uid 2.25.x > 2 [] [] kept";
 
 /// Lines at fault or that ask for help, the status, and which output the parser's text went to.
 const TEXTS: &str = "\
 - - dicomdir > 2 to the error output
-- - dicomdir index --uid 2.25.0 ct1.dcm > 2 to the error output
-- - dicomdir index out ct1.dcm > 2 to the error output
-- - dicomdir burn out ct1.dcm --uid 2.25.0 > 2 to the error output
-0 - dicomdir burn out ct1.dcm --uid 2.25.0 > 2 to the error output
-- 0 dicomdir burn out ct1.dcm --uid 2.25.0 > 2 to none
+- - dicomdir index --uid 2.25.0 a.dcm > 2 to the error output
+- - dicomdir index --uid 2.25.0 out > 2 to the error output
+- - dicomdir index out a.dcm --uid > 2 to the error output
+- - dicomdir index out a.dcm --uid 2.25.0 --max-bytes 4294967296 > 2 to the error output
+- - dicomdir burn out a.dcm --uid 2.25.0 > 2 to the error output
+0 - dicomdir burn out a.dcm --uid 2.25.0 > 2 to the error output
+- 0 dicomdir burn out a.dcm --uid 2.25.0 > 2 to none
 - - dicomdir --help > 0 to the output
 - - dicomdir help index > 0 to the output
 - 0 dicomdir index -h > 0 to the output
 0 - dicomdir --help > 1 to none
 9 - dicomdir --help > 1 to the output";
 
-/// V1, a part of it, a text, and a folder that has a directory.
-fn disc(alloc: Global) -> Result<MemFiles, Fail> {
-    let image = v1(alloc)?;
-    let mut files = MemFiles::new(alloc);
-    files.put("ct1.dcm", &image)?;
-    files.put("part.dcm", image.get(..450).ok_or("fewer bytes")?)?;
-    files.put("note.txt", b"no image")?;
-    files.put("full/DICOMDIR", b"")?;
-    Ok(files)
-}
-
-/// A device that fails after so many bytes, or never at `-`.
-fn device(alloc: Global, fails: &str) -> Result<Sink, Fail> {
-    match fails {
-        "-" => Ok(Sink::new(alloc, None)),
-        number => Ok(Sink::new(alloc, Some(number.parse()?))),
-    }
-}
-
 /// Runs a line whose first two words say after how many bytes the output and the error output fail, and
 /// says the status and what both hold.
 fn end_of(alloc: Global, line: &str, files: &mut MemFiles) -> Result<String, Fail> {
     let (output, line) = line.split_once(' ').ok_or("no output")?;
     let (errors, line) = line.split_once(' ').ok_or("no error output")?;
-    let mut out = device(alloc, output)?;
-    let mut err = device(alloc, errors)?;
+    let mut out = Sink::new(alloc, failing(output)?);
+    let mut err = Sink::new(alloc, failing(errors)?);
     let status = run(alloc, words_of(alloc, line)?, files, &mut out, &mut err);
     told(alloc, status, &out, &err)
 }
@@ -78,15 +89,6 @@ fn told(alloc: Global, status: u8, out: &Sink, err: &Sink) -> Result<String, Fai
     push_lines(&mut text, err.bytes())?;
     text.push(']')?;
     Ok(text)
-}
-
-/// Do both hold the same files, each with its path and its bytes?
-fn are_equal(alloc: Global, files: &MemFiles, others: &MemFiles) -> Result<bool, Fail> {
-    let text = format!(in alloc; "{files:?}")?;
-    let other = format!(in alloc; "{others:?}")?;
-    let (stored, _) = text.as_str().split_once(", current: ").ok_or("no files")?;
-    let (others, _) = other.as_str().split_once(", current: ").ok_or("no files")?;
-    Ok(stored == others)
 }
 
 /// The end of a run, and whether all files are as they were.
@@ -139,19 +141,121 @@ fn texts_of_the_parser_go_to_one_output(rt: HostRuntime) -> Result<(), Fail> {
     Ok(())
 }
 
-/// The files after a run, and what they should be: those from before and the directory of V1.
-fn after(alloc: Global, line: &str, path: &str) -> Result<(MemFiles, MemFiles), Fail> {
+/// Runs, and which files are new then, each as a copy of which.
+const FILES: &str = "\
+index out a.dcm b.dcm --uid 2.25.0 > out/DICOMDIR=first out/PT000001/ST000001/SE000001/IM000001=a.dcm
+index out/ b.dcm a.dcm a.dcm --uid 2.25.0 > out/DICOMDIR=first out/PT000001/ST000001/SE000001/IM000001=a.dcm
+index '' e.dcm a.dcm --uid 2.25.0 > DICOMDIR=first PT000001/ST000001/SE000001/IM000001=a.dcm
+index out b.dcm --uid 2.25.0 > out/DICOMDIR=empty";
+
+/// The files after a run.
+fn files_after(alloc: Global, line: &str) -> Result<MemFiles, Fail> {
     let mut files = disc(alloc)?;
-    end_of(alloc, line, &mut files)?;
-    let mut wanted = disc(alloc)?;
-    wanted.put(path, &first_directory(alloc)?)?;
-    Ok((files, wanted))
+    let line = format!(in alloc; "- - dicomdir {line}")?;
+    end_of(alloc, line.as_str(), &mut files)?;
+    Ok(files)
+}
+
+fn makes(alloc: Global, line: &str, words: &str) -> Result<bool, Fail> {
+    let files = files_after(alloc, line)?;
+    are_equal(alloc, &files, &disc_with(alloc, words)?)
 }
 
 #[test]
-fn a_run_adds_the_directory_alone(rt: HostRuntime) -> Result<(), Fail> {
-    let line = "- - dicomdir index out ct1.dcm --uid 2.25.0";
-    let (files, wanted) = after(rt.alloc(), line, "out/DICOMDIR")?;
-    assert!(rt; are_equal(rt.alloc(), &files, &wanted)?);
+fn a_run_adds_the_directory_and_its_images_alone(rt: HostRuntime) -> Result<(), Fail> {
+    for case in FILES.split('\n') {
+        let (line, words) = case.split_once(" > ").ok_or("no files")?;
+        assert!(rt; makes(rt.alloc(), line, words)?, "of {line}");
+    }
+    Ok(())
+}
+
+/// Sources, and others of which the same files are made.
+const SAME: &str = "\
+a.dcm d.dcm > d.dcm a.dcm
+a.dcm d.dcm > d.dcm a.dcm d.dcm a.dcm a.dcm
+a.dcm d.dcm > b.dcm d.dcm note.txt a.dcm
+a.dcm c.dcm > c.dcm a.dcm
+a.dcm c.dcm > c.dcm
+a.dcm c.dcm e.dcm d.dcm > d.dcm e.dcm c.dcm";
+
+fn are_same(alloc: Global, one: &str, other: &str) -> Result<bool, Fail> {
+    let one = format!(in alloc; "index out {one}")?;
+    let other = format!(in alloc; "index out {other}")?;
+    let files = files_after(alloc, one.as_str())?;
+    are_equal(alloc, &files, &files_after(alloc, other.as_str())?)
+}
+
+#[test]
+fn neither_order_nor_repeats_change_the_files(rt: HostRuntime) -> Result<(), Fail> {
+    for case in SAME.split('\n') {
+        let (one, other) = case.split_once(" > ").ok_or("no others")?;
+        assert!(rt; are_same(rt.alloc(), one, other)?, "of {case}");
+    }
+    Ok(())
+}
+
+/// Versions of one instance, and which is copied.
+const KEPT: &str = "\
+a.dcm > a.dcm
+a.dcm c.dcm > c.dcm
+c.dcm a.dcm > c.dcm
+e.dcm a.dcm > a.dcm
+a.dcm e.dcm > a.dcm
+e.dcm c.dcm a.dcm > c.dcm";
+
+fn is_kept(alloc: Global, sources: &str, kept: &str) -> Result<bool, Fail> {
+    let line = format!(in alloc; "index out {sources}")?;
+    let files = files_after(alloc, line.as_str())?;
+    let image = files.bytes(FIRST_IMAGE).ok_or("no image")?;
+    Ok(image == files.bytes(kept).ok_or("no such file")?)
+}
+
+#[test]
+fn the_greater_version_is_copied(rt: HostRuntime) -> Result<(), Fail> {
+    for case in KEPT.split('\n') {
+        let (sources, kept) = case.split_once(" > ").ok_or("no version")?;
+        assert!(rt; is_kept(rt.alloc(), sources, kept)?, "of {case}");
+    }
+    Ok(())
+}
+
+/// Sources that change at their second opening to what another has, how a run over them ends, and which
+/// files are new then.
+const CHANGED: &str = "\
+a.dcm c.dcm > 1 [] [FAULT a.dcm: 97 Changed|] > out/PT000001/ST000001/SE000001/IM000001=c.dcm
+a.dcm note.txt > 1 [] [FAULT a.dcm: 97 Changed|] > out/PT000001/ST000001/SE000001/IM000001=note.txt
+a.dcm a.dcm > 0 [DONE 1 instances, 876 bytes|] [] > \
+out/PT000001/ST000001/SE000001/IM000001=a.dcm out/DICOMDIR=first";
+
+/// Runs over a source that changes, and says how that ends.
+fn end_by_change(alloc: Global, path: &str, files: &mut MemFiles) -> Result<String, Fail> {
+    let line = format!(in alloc; "- - dicomdir index out {path} --uid 2.25.0")?;
+    end_of(alloc, line.as_str(), files)
+}
+
+/// The disc, and a source on it that is to have what another has.
+fn changing(alloc: Global, path: &str, other: &str) -> Result<MemFiles, Fail> {
+    let mut files = disc(alloc)?;
+    let bytes = files.bytes(other).ok_or("no such file")?.to_vec(alloc)?;
+    files.put_later(path, &bytes)?;
+    Ok(files)
+}
+
+fn changed(alloc: Global, question: &str, end: &str, words: &str) -> Result<bool, Fail> {
+    let (path, other) = question.split_once(' ').ok_or("no other")?;
+    let mut files = changing(alloc, path, other)?;
+    let is_end = end_by_change(alloc, path, &mut files)?.as_str() == end;
+    let words = format!(in alloc; "{path}={other} {words}")?;
+    Ok(is_end && are_equal(alloc, &files, &disc_with(alloc, words.as_str())?)?)
+}
+
+#[test]
+fn sources_that_change_are_refused(rt: HostRuntime) -> Result<(), Fail> {
+    for case in CHANGED.split('\n') {
+        let (question, rest) = case.split_once(" > ").ok_or("no end")?;
+        let (end, words) = rest.split_once(" > ").ok_or("no files")?;
+        assert!(rt; changed(rt.alloc(), question, end, words)?, "of {case}");
+    }
     Ok(())
 }

@@ -23,6 +23,11 @@ const UIDS: &str = "\
 '1.2~ > 71 BadUid
 '1234567890.1234567890.1234567890.1234567890.1234567890.1234567890 > 71 BadUid";
 
+/// A byte, and the UID of the digest that has it 32 times: the UUID of version 8, computed by another program.
+const DIGESTS: &str = "\
+0 > 2.25.604472133179351442128896
+255 > 2.25.340282366920937934553716840013076889599";
+
 /// Bytes as the ID of a file-set. `5f` is an underscore.
 const SET_IDS: &str = "\
 ' > '
@@ -72,6 +77,11 @@ fn uid(alloc: Global, case: &str) -> Result<String, Fail> {
     }
 }
 
+fn digest_uid(alloc: Global, case: &str) -> Result<String, Fail> {
+    let uid = Uid::from_digest(&[question(case).parse()?; 32]);
+    Ok(answered(alloc, case, &uid)?)
+}
+
 fn set_id(alloc: Global, case: &str) -> Result<String, Fail> {
     let bytes = bytes_of(alloc, question(case))?;
     match SetId::new(&bytes) {
@@ -106,6 +116,14 @@ fn is_taken(alloc: Global, case: &str) -> Result<String, Fail> {
 fn uids_have_components_of_digits(rt: HostRuntime) -> Result<(), Fail> {
     for case in UIDS.split('\n') {
         assert_eq!(rt; uid(rt.alloc(), case)?.as_str(), case);
+    }
+    Ok(())
+}
+
+#[test]
+fn digests_have_uids(rt: HostRuntime) -> Result<(), Fail> {
+    for case in DIGESTS.split('\n') {
+        assert_eq!(rt; digest_uid(rt.alloc(), case)?.as_str(), case);
     }
     Ok(())
 }

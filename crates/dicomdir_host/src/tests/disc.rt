@@ -35,13 +35,15 @@ struct Entry {
     bytes: Vec<u8>,
 }
 
-/// The disc: what stands there, in the order in which it was made, and the next call that fails.
+/// The disc: what stands there, in the order in which it was made, the next call that fails, and which
+/// files and folders were to be made and which files were stored, in this order.
 #[derive(Drop)]
 pub(super) struct Disc {
     alloc: Global,
     entries: Vec<Entry>,
     failing: Option<Call>,
     kind: ErrorKind,
+    log: String,
 }
 
 impl Disc {
@@ -51,7 +53,32 @@ impl Disc {
             entries: Vec::new(alloc),
             failing: None,
             kind: ErrorKind::Other,
+            log: String::new(alloc),
         }
+    }
+
+    /// What was made and stored, in order.
+    pub(super) fn log(&self) -> &str {
+        self.log.as_str()
+    }
+
+    fn note(&mut self, what: &str, path: &str) -> io::Result<()> {
+        if !self.log.is_empty() {
+            self.log.push_str(", ")?;
+        }
+        self.log.push_str(what)?;
+        self.log.push(' ')?;
+        self.log.push_str(path)?;
+        Ok(())
+    }
+
+    fn store(&mut self, place: usize) -> io::Result<()> {
+        self.pass(Call::Store)?;
+        let Some(entry) = self.entries.get(place) else {
+            return Err(io::Error::from(ErrorKind::NotFound));
+        };
+        let path = String::from_str(self.alloc, entry.path.as_str())?;
+        self.note("store", path.as_str())
     }
 
     /// The next such call fails, and those after it do not.
@@ -112,7 +139,10 @@ impl Disc {
                 }
                 Ok(place)
             }
-            None if how.asks_create_new() || how.asks_create() => self.put(path, Kind::File),
+            None if how.asks_create_new() || how.asks_create() => {
+                self.note("make", path)?;
+                self.put(path, Kind::File)
+            }
             None => Err(io::Error::from(ErrorKind::NotFound)),
         }
     }
@@ -196,6 +226,7 @@ impl<'a> Files for DiscFiles<'a> {
     fn create_dir(&self, path: &str) -> io::Result<()> {
         let mut disc = self.0.try_borrow_mut().map_err(|_| in_use())?;
         disc.pass(Call::Folder)?;
+        disc.note("folder", path)?;
         disc.has_room_for(path)?;
         disc.put(path, Kind::Folder)?;
         Ok(())
@@ -271,7 +302,7 @@ impl Seek for DiscFile<'_> {
 impl OpenFile for DiscFile<'_> {
     fn sync_all(&self) -> io::Result<()> {
         let mut disc = self.disc.try_borrow_mut().map_err(|_| in_use())?;
-        disc.pass(Call::Store)
+        disc.store(self.place)
     }
 
     fn sync_data(&self) -> io::Result<()> {

@@ -11,5 +11,6 @@ pub returns-in_err-try_get_matches_from-clause-passes :
 returns-in_err-try_get_matches_from-clause-passes c =
     memory_alone _ c.in_err-try_get_matches_from.field-0.0 _
     c.from_residual-in_err-try_get_matches_from.ensures.1
-    (subst (λ (x : App). takes x (words_of c.args.words.now) ≡ true → kind_of c.in_err-try_get_matches_from.field-0.0 ≡ OutOfMemory)
+    (subst (λ (x : App). takes x (words_of c.args.words.now) ≡ true
+    → kind_of c.in_err-try_get_matches_from.field-0.0 ≡ OutOfMemory)
     c.in_ok-program.ensures.app c.in_err-try_get_matches_from.ensures.passes)

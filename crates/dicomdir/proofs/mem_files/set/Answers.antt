@@ -1,10 +1,10 @@
 -- The map gets the bytes at the path.
 use Rattle.dicomdir.proofs.Stored.{sets_file}
-use Rattle.dicomdir.proofs.mem_files.MemFiles.put.Goals as goal
+use Rattle.dicomdir.proofs.mem_files.set.Goals as goal
 
 pub returns-clause-ok : goal.returns-clause-ok
 returns-clause-ok c =
     let same = c.in_ok-bytes.ensures.items_if_clones_equal (λ x y e. e) in
-    let sets = sets_file c.self.inside.files c.insert.new.self _ c.in_ok-bytes.bytes _ same c.in_ok-insert.ensures.updates in
+    let sets = sets_file c.args.files.now c.insert.new.self _ c.in_ok-bytes.bytes _ same c.in_ok-insert.ensures.updates in
     let path = c.in_ok-path.ensures.ok in
-    rw (← c.self.view_is, ← path) sets
+    rw (← path) sets

@@ -1,0 +1,15 @@
+use Rattle.std.proofs.Common.{◌≡◌, List, IfOk, subst}
+use Rattle.dd_keys.specs.declared.parts.Parts.{Parts}
+use Rattle.dd_catalogue.specs.Harmony.{harmonised}
+use Rattle.dd_dir.specs.Directories.{IsDirectory, directory}
+use Rattle.dd_dir.proofs.publishing.assemble.Goals as goal
+
+pub returns-clause-bytes : goal.returns-clause-bytes
+returns-clause-bytes c =
+    subst (λ (m : List Parts). IfOk c.publish.result (λ bytes. bytes.items ≡ directory c.args.label.now m))
+    c.in_ok-catalogue.ensures c.publish.ensures.bytes
+
+pub returns-clause-file : goal.returns-clause-file
+returns-clause-file c = λ ok.
+    subst (λ (m : List Parts). IsDirectory c.args.label.now (harmonised m)) c.in_ok-catalogue.ensures
+    (c.publish.ensures.file ok)

@@ -1,0 +1,79 @@
+//! A writer that hashes what it takes.
+
+ghost use Rattle.std.specs.Prelude.{◌≡◌, [], Some};
+ghost use Rattle.sha2.specs.Sha256.{sha256};
+
+use crate::message::Message;
+use dd_elem::{Counts, Write};
+use sha2::{Digest, Sha256};
+use std::io;
+use std::marker::Model;
+
+/// A writer that takes all bytes and keeps only what their SHA-256 (FIPS 180-4) wants.
+#[derive(Drop)]
+pub(crate) struct Digester {
+    hasher: Sha256,
+    message: Message,
+    counts: Counts,
+}
+
+impl Model for Digester {
+    ghost use Rattle.sha2.specs.Hashers.{Holds256};
+    ghost use Rattle.dd_dir.specs.Hashing.{Hashing};
+
+    ghost Value = { Hashing };
+
+    ghost view = { λ d. record { bytes = d.message.bytes; counts = d.counts } };
+
+    ghost invariant = { λ d. Holds256 d.hasher d.message.bytes };
+}
+
+impl Digester {
+    /// A writer that took nothing yet.
+    pub(crate) fn new() -> Digester
+        ensures { result ≡ record { bytes = []; counts = record { calls = 0; failures = 0 } } }
+    {
+        Digester {
+            hasher: Sha256::new(),
+            message: Message::new(),
+            counts: Counts::new(),
+        }
+    }
+
+    /// The SHA-256 of the bytes that it took.
+    pub(crate) fn digest(self) -> [u8; 32]
+        ensures { result ≡ sha256 self.bytes }
+    {
+        let Digester {
+            hasher,
+            message: _message,
+            counts: _counts,
+        } = self;
+        hasher.finalize()
+    }
+}
+
+/// It fails only where a count is at its last value, so never in a program's life.
+impl Write for Digester {
+    ghost calls = { λ d. d.counts.calls };
+
+    ghost failures = { λ d. d.counts.failures };
+
+    ghost contents = { λ d. Some d.bytes };
+
+    ghost Rest = { Unit {0} };
+
+    ghost rest = { λ _. tt };
+
+    fn write(&mut self, bytes: &[u8]) -> io::Result<usize> {
+        let is_live = self.counts.is_live();
+        self.counts.call();
+        if !is_live {
+            self.counts.fail();
+            return Err(io::Error::other("a count is at its last value"));
+        }
+        self.hasher.update(bytes);
+        self.message.add(bytes);
+        Ok(bytes.len())
+    }
+}

@@ -1,0 +1,332 @@
+-- What the rows of a walk with no fault hold of one argument.
+use Rattle.std.proofs.Common.{◌≡◌, ◌&&◌, ℕ, Bool, not, true, false, zero, suc, List, [], ◌∷◌, ◌++◌, Option, Some, None}
+use Rattle.std.proofs.Common.{refl, sym, subst, ◌∙◌, true≢false, length}
+use Rattle.std.specs.List.{find}
+use Rattle.std.specs.Option.{option_map_or}
+use Rattle.std.specs.Prelude.{IfSome, ◌+◌, drop, encode_utf8, if◌then◌else◌, is_some, min, slice_get}
+use Rattle.std.specs.Str.{bytes_eq, chars}
+use Rattle.std.proofs.lemmas.Slice.Eq.{bytes_eq-Decides}
+use Rattle.clap.specs.Faults.{bundle_fault, bundle_step_fault, flag_word_fault, flags_fault}
+use Rattle.clap.specs.Faults.{long_fault, option_fault, positional_fault, react_fault, settle_fault}
+use Rattle.clap.specs.Faults.{short_fault, use_fault}
+use Rattle.clap.specs.Kinds.{Kinds, or_else}
+use Rattle.clap.specs.Lexer.{short_of}
+use Rattle.clap.specs.Matches.{count_text}
+use Rattle.clap.specs.declared.builder.value_parser.Reading.{Reading}
+use Rattle.clap.specs.declared.builder.action.ArgAction.{ArgAction}
+use Rattle.clap.specs.declared.builder.action.ArgAction.TheVariants.{Set, Append, SetTrue, SetFalse}
+use Rattle.clap.specs.declared.builder.action.ArgAction.TheVariants.{Count, Help, HelpShort, HelpLong, Version}
+use Rattle.clap.specs.declared.error.kind.ErrorKind.TheVariants.{TooManyValues}
+use Rattle.clap.specs.declared.parser.matches.ValueSource.{ValueSource}
+use Rattle.clap.specs.declared.parser.matches.ValueSource.TheVariants.{CommandLine}
+use Rattle.clap.specs.Walk.{Held, Outcome, Row, Rule, Text, Waiting, Walk, action_of, after_flag}
+use Rattle.clap.specs.Walk.{arg_by_id, arg_by_long, arg_by_short, at_row, attached_value}
+use Rattle.clap.specs.Walk.{bundle, bundle_met, bundle_step, count_of, counted, done, flag_met, has_long, has_short}
+use Rattle.clap.specs.Walk.{idle, is_pending, option_word}
+use Rattle.clap.specs.Walk.{long_met, long_or_other, more_values, new_count, option, option_met}
+use Rattle.clap.specs.Walk.{plain, plain_word, positional, reacted, reading_by, refused, settled}
+use Rattle.clap.specs.Walk.{settled_rows, short_met, short_or_plain}
+use Rattle.clap.specs.Walk.{takes_several, takes_values, to_positional, used, used_as}
+use Rattle.clap.specs.Walk.{used_by_id, values_or_missing, waits}
+use Rattle.clap.specs.Walk.{with_values, without}
+
+-- ---- faults that do not come
+
+pub first_none : (a b : Kinds) → or_else a b ≡ [] → a ≡ []
+first_none [] b none = refl
+first_none (k ∷ ks) b none = none
+
+pub second_none : (a b : Kinds) → or_else a b ≡ [] → b ≡ []
+second_none [] b none = none
+second_none (k ∷ ks) b none = cc
+
+-- ---- lists
+
+-- P holds of each
+abbrev pub Each : {X : Type 0} → (X → Type 0) → List X → Type 0
+Each P [] = Unit {0}
+Each P (x ∷ xs) = P x × Each P xs
+
+each_join : {X : Type 0} (P : X → Type 0) (xs ys : List X) → Each P xs → Each P ys → Each P (xs ++ ys)
+each_join P [] ys xall yall = yall
+each_join P (x ∷ xs) ys xall yall = (xall.0, each_join P xs ys xall.1 yall)
+
+-- what is found is one of them, and passes
+pub each_found : {X : Type 0} (P : X → Type 0) (p : X → Bool) (xs : List X) → Each P xs
+    → IfSome (find p xs) (λ x. P x × (p x ≡ true))
+each_found P p [] all = tt
+each_found P p (x ∷ xs) all = go (p x) refl (each_found P p xs all.1)
+  where
+    go : (t : Bool) → p x ≡ t → IfSome (find p xs) (λ y. P y × (p y ≡ true))
+        → IfSome (find p (x ∷ xs)) (λ y. P y × (p y ≡ true))
+    go true t rest = rw t (all.0, t)
+    go false t rest = rw t rest
+
+at_row_each : (P : Row → Type 0) (id : Text) (change : Row → List Row) (missing rows : List Row)
+    → ((r : Row) → P r → bytes_eq r.id id ≡ true → Each P (change r)) → Each P missing → Each P rows
+    → Each P (at_row id change missing rows)
+at_row_each P id change missing [] changed more all = more
+at_row_each P id change missing (r ∷ rows) changed more all =
+    go (bytes_eq r.id id) refl (at_row_each P id change missing rows changed more all.1)
+  where
+    go : (t : Bool) → bytes_eq r.id id ≡ t → Each P (at_row id change missing rows)
+        → Each P (at_row id change missing (r ∷ rows))
+    go true t rest = rw t (each_join P (change r) rows (changed r all.0 t) all.1)
+    go false t rest = rw t (all.0, rest)
+
+-- ---- the rows of one argument
+
+-- the action keeps its values
+abbrev pub Stores : ArgAction → Type 0
+Stores Set = Unit {0}
+Stores Append = Unit {0}
+Stores other = ⊥
+
+module _ (name : Text) (how : Reading) (ok : List Text → Type 0)
+    (joined : (xs ys : List Text) → ok xs → ok ys → ok (xs ++ ys)) where
+  -- a row of the argument has its reading, and values that are right
+  pub record IsRow (r : Row) : Type 0 where
+    pub reading : r.reading ≡ how
+    pub values : ok r.values
+
+  -- the rule is another argument's, or makes such rows
+  pub record Fits (a : Rule) : Type 0 where
+    pub stores : bytes_eq a.id name ≡ true → Stores (action_of a)
+    pub reading : bytes_eq a.id name ≡ true → reading_by a ≡ how
+    pub passes : bytes_eq a.id name ≡ true → (again : Bool) (values : List Text) (rows : List Row)
+        → use_fault again a values rows ≡ [] → ok (values_or_missing a values)
+    pub defaults : a.defaults ≡ []
+
+  pub other_fits : (a : Rule) → bytes_eq a.id name ≡ false → a.defaults ≡ [] → Fits a
+  other_fits a other empty = record {
+    stores = λ named. absurd (true≢false (sym named ∙ other));
+    reading = λ named. absurd (true≢false (sym named ∙ other));
+    passes = λ named. absurd (true≢false (sym named ∙ other));
+    defaults = empty;
+  }
+
+  -- the row is another argument's, or right
+  abbrev pub Fine : Row → Type 0
+  Fine r = bytes_eq r.id name ≡ true → IsRow r
+
+  -- so is each row that is held
+  abbrev pub Holds : Held → Type 0
+  Holds h = Each Fine h.rows
+
+  -- ---- one use
+
+  more_fine : (id : Text) (s : ValueSource) (values : List Text) (r : Row) → (bytes_eq id name ≡ true → ok values)
+      → bytes_eq r.id id ≡ true → Fine r → Each Fine (more_values s values r)
+  more_fine id s values r right same fine = (
+    λ named.
+        let is : r.id ≡ id = (bytes_eq-Decides r.id id).0 same in
+        let there : bytes_eq id name ≡ true = subst (λ (x : Text). bytes_eq x name ≡ true) is named in
+        let row = fine named in
+        record { reading = row.reading; values = joined r.values values row.values (right there) },
+    tt,
+  )
+
+  with_values_fine : (id : Text) (r : Reading) (s : ValueSource) (values : List Text) (rows : List Row)
+      → (bytes_eq id name ≡ true → r ≡ how) → (bytes_eq id name ≡ true → ok values) → Each Fine rows
+      → Each Fine (with_values id r s values rows)
+  with_values_fine id r s values rows read right all = at_row_each Fine id (more_values s values) _ rows
+      (λ row fine same. more_fine id s values row right same fine)
+      (λ named. record { reading = read named; values = right named }, tt) all
+
+  without_fine : (id : Text) (rows : List Row) → Each Fine rows → Each Fine (without id rows)
+  without_fine id rows all = at_row_each Fine id (λ _. []) [] rows (λ row fine same. tt) tt all
+
+  -- a row of another argument
+  is_other : (id : Text) (r : Row) → bytes_eq id name ≡ false → bytes_eq r.id id ≡ true → bytes_eq r.id name ≡ true → ⊥
+  is_other id r other same named =
+      let is : r.id ≡ id = (bytes_eq-Decides r.id id).0 same in
+      let there : bytes_eq id name ≡ true = subst (λ (x : Text). bytes_eq x name ≡ true) is named in
+      true≢false (sym there ∙ other)
+
+  counted_fine : (id : Text) (r : Reading) (values : List Text) (rows : List Row) → bytes_eq id name ≡ false
+      → Each Fine rows → Each Fine (counted id r values rows)
+  counted_fine id r [] rows other all =
+      let n = min (count_of id rows + 1) 255 in
+      let added : Each Fine (record {
+        id = id;
+        values = count_text n ∷ [];
+        count = Some n;
+        source = Some CommandLine;
+        reading = r;
+      } ∷ []) = (λ named. absurd (true≢false (sym named ∙ other)), tt) in
+      at_row_each Fine id (new_count CommandLine n) _ (without id rows)
+      (λ row fine same. (λ named. absurd (is_other id row other same named), tt)) added (without_fine id rows all)
+  counted_fine id r (v ∷ vs) rows other all = with_values_fine id r _ (v ∷ vs) (without id rows)
+      (λ named. absurd (true≢false (sym named ∙ other))) (λ named. absurd (true≢false (sym named ∙ other)))
+      (without_fine id rows all)
+
+  used_as_other : (x : ArgAction) (id : Text) (r : Reading) (values : List Text) (rows : List Row)
+      → bytes_eq id name ≡ false → Each Fine rows → Each Fine (used_as x id r values rows)
+  used_as_other Set id r values rows other all = with_values_fine id r _ values (without id rows)
+      (λ named. absurd (true≢false (sym named ∙ other))) (λ named. absurd (true≢false (sym named ∙ other)))
+      (without_fine id rows all)
+  used_as_other SetTrue id r values rows other all = with_values_fine id r _ values (without id rows)
+      (λ named. absurd (true≢false (sym named ∙ other))) (λ named. absurd (true≢false (sym named ∙ other)))
+      (without_fine id rows all)
+  used_as_other SetFalse id r values rows other all = with_values_fine id r _ values (without id rows)
+      (λ named. absurd (true≢false (sym named ∙ other))) (λ named. absurd (true≢false (sym named ∙ other)))
+      (without_fine id rows all)
+  used_as_other Append id r values rows other all = with_values_fine id r _ values rows
+      (λ named. absurd (true≢false (sym named ∙ other))) (λ named. absurd (true≢false (sym named ∙ other))) all
+  used_as_other Count id r values rows other all = counted_fine id r values rows other all
+  used_as_other Help id r values rows other all = all
+  used_as_other HelpShort id r values rows other all = all
+  used_as_other HelpLong id r values rows other all = all
+  used_as_other Version id r values rows other all = all
+
+  used_as_own : (x : ArgAction) (id : Text) (r : Reading) (values : List Text) (rows : List Row)
+      → Stores x → r ≡ how → ok values → Each Fine rows → Each Fine (used_as x id r values rows)
+  used_as_own Set id r values rows stores read right all =
+      with_values_fine id r _ values (without id rows) (λ _. read) (λ _. right) (without_fine id rows all)
+  used_as_own Append id r values rows stores read right all =
+      with_values_fine id r _ values rows (λ _. read) (λ _. right) all
+  used_as_own SetTrue id r values rows stores read right all = absurd stores
+  used_as_own SetFalse id r values rows stores read right all = absurd stores
+  used_as_own Count id r values rows stores read right all = absurd stores
+  used_as_own Help id r values rows stores read right all = absurd stores
+  used_as_own HelpShort id r values rows stores read right all = absurd stores
+  used_as_own HelpLong id r values rows stores read right all = absurd stores
+  used_as_own Version id r values rows stores read right all = absurd stores
+
+  -- a use of an argument
+  used_fine : (again : Bool) (a : Rule) (values : List Text) (rows : List Row) → Fits a
+      → use_fault again a values rows ≡ [] → Each Fine rows → Each Fine (used a values rows)
+  used_fine again a values rows fits none all = go (bytes_eq a.id name) refl
+    where
+      go : (t : Bool) → bytes_eq a.id name ≡ t → Each Fine (used a values rows)
+      go true t = used_as_own (action_of a) a.id (reading_by a) (values_or_missing a values) rows (fits.stores t)
+          (fits.reading t) (fits.passes t again values rows none) all
+      go false t =
+          used_as_other (action_of a) a.id (reading_by a) (values_or_missing a values) rows t all
+
+  -- ---- the words
+
+  by_id_fine : (again : Bool) (found : Option Rule) (values : List Text) (rows : List Row) → IfSome found Fits
+      → option_map_or (λ a. use_fault again a values rows) found [] ≡ [] → Each Fine rows
+      → Each Fine (used_by_id found values rows)
+  by_id_fine again None values rows fits none all = all
+  by_id_fine again (Some a) values rows fits none all = used_fine again a values rows fits none all
+
+  module _ (c : List Rule) (each : Each Fits c) (again : Bool) where
+    found_fits : (p : Rule → Bool) → IfSome (find p c) Fits
+    found_fits p = go (find p c) (each_found Fits p c each)
+      where
+        go : (o : Option Rule) → IfSome o (λ x. Fits x × (p x ≡ true)) → IfSome o Fits
+        go None h = tt
+        go (Some a) h = h.0
+
+    settled_rows_fine : (pending : Option (Text × List Text)) (rows : List Row)
+        → option_map_or (λ p. option_map_or (λ a. use_fault again a p.1 rows) (arg_by_id c p.0) []) pending [] ≡ []
+        → Each Fine rows → Each Fine (settled_rows c pending rows)
+    settled_rows_fine None rows none all = all
+    settled_rows_fine (Some p) rows none all =
+        by_id_fine again (arg_by_id c p.0) p.1 rows (found_fits (λ a. bytes_eq a.id p.0)) none all
+
+    pub settled_fine : (h : Held) → settle_fault c again h ≡ [] → Holds h → Holds (settled c h)
+    settled_fine h none all = settled_rows_fine h.pending h.rows none all
+
+    reacted_fine : (a : Rule) (values : List Text) (h : Held) → Fits a → react_fault c again a values h ≡ []
+        → Holds h → Holds (reacted c a values h)
+    reacted_fine a values h fits none all = used_fine again a values (settled c h).rows fits
+        (second_none (settle_fault c again h) _ none) (settled_fine h (first_none _ _ none) all)
+
+    option_fine : (a : Rule) (v : Option Text) (h : Held) → Fits a → option_fault c again a v h ≡ []
+        → Holds h → Holds (option_met c a v h).0
+    option_fine a (Some v) h fits none all = reacted_fine a (v ∷ []) h fits none all
+    option_fine a None h fits none all = settled_fine h none all
+
+    flag_fine : (a : Rule) (v : Option Text) (h : Held) → Fits a
+        → (if is_some v then TooManyValues ∷ [] else react_fault c again a [] h) ≡ []
+        → Holds h → Holds (flag_met c a v h).0
+    flag_fine a (Some v) h fits none all = all
+    flag_fine a None h fits none all = reacted_fine a [] h fits none all
+
+    long_fine : (found : Option Rule) (v : Option Text) (h : Held) → IfSome found Fits
+        → long_fault c again found v h ≡ [] → Holds h → Holds (long_met c found v h).0
+    long_fine None v h fits none all = all
+    long_fine (Some a) v h fits none all = go (takes_values a) refl
+      where
+        go : (t : Bool) → takes_values a ≡ t → Holds (long_met c (Some a) v h).0
+        go true t = rw t (option_fine a v h fits (rw t at none) all)
+        go false t = rw t (flag_fine a v h fits (rw t at none) all)
+
+    short_fine : (found : Option Rule) (rest : Text) (h : Held) (next_met : Held → Held × Outcome)
+        (next_fault : Held → Kinds) → IfSome found Fits
+        → ((k : Held) → next_fault k ≡ [] → Holds k → Holds (next_met k).0)
+        → short_fault c again found rest h next_fault ≡ [] → Holds h → Holds (short_met c found rest h next_met).0
+    short_fine None rest h next_met next_fault fits on none all = all
+    short_fine (Some a) rest h next_met next_fault fits on none all = go (takes_values a) refl
+      where
+        go : (t : Bool) → takes_values a ≡ t → Holds (short_met c (Some a) rest h next_met).0
+        go true t = rw t (option_fine a (attached_value rest) h fits (rw t at none) all)
+        go false t =
+            let none = rw t at none in
+            rw t (on (reacted c a [] h) (second_none (react_fault c again a [] h) _ none)
+            (reacted_fine a [] h fits (first_none _ _ none) all))
+
+    bundle_step_fine : (x : Option ℕ) (flags : Text) (skip : ℕ) (so_far : Outcome) (h : Held)
+        (next_met : Text → ℕ → Outcome → Held → Held × Outcome) (next_fault : Text → ℕ → Held → Kinds)
+        → ((f : Text) (n : ℕ) (o : Outcome) (k : Held) → next_fault f n k ≡ [] → Holds k → Holds (next_met f n o k).0)
+        → bundle_step_fault c again x flags skip h next_fault ≡ [] → Holds h
+        → Holds (bundle_step c x flags skip so_far h next_met).0
+    bundle_step_fine None flags skip so_far h next_met next_fault on none all = all
+    bundle_step_fine (Some x) flags zero so_far h next_met next_fault on none all =
+        let rest = drop (length (encode_utf8 x)) flags in
+        short_fine (arg_by_short c x) rest h (next_met rest 0 done) (next_fault rest 0)
+        (found_fits (λ a. not (is_some a.index) && has_short a x))
+        (λ k fault fine. on rest 0 done k fault fine) none all
+    bundle_step_fine (Some x) flags (suc skip) so_far h next_met next_fault on none all =
+        on (drop (length (encode_utf8 x)) flags) skip so_far h none all
+
+    bundle_fine : (k : ℕ) (flags : Text) (skip : ℕ) (so_far : Outcome) (h : Held)
+        → flags_fault c again k flags skip h ≡ [] → Holds h → Holds (bundle_met c k flags skip so_far h).0
+    unfolding bundle_met flags_fault
+    bundle_fine zero flags skip so_far h none all = all
+    bundle_fine (suc k) flags skip so_far h none all = bundle_step_fine (slice_get (chars flags) 0) flags skip so_far h
+        (bundle_met c k) (flags_fault c again k) (λ f n o held fault fine. bundle_fine k f n o held fault fine) none all
+
+    plain_fine : (waiting : Waiting) (word : Text) (h : Held) → Holds h → Holds (plain_word c waiting word h).0
+    plain_fine (option id) word h all = go (arg_by_id c id)
+      where
+        go : (found : Option Rule) → Holds (option_word found id word h).0
+        go None = all
+        go (Some a) = all
+    plain_fine idle word h all = all
+    plain_fine positional word h all = all
+
+    after_flag_fine : (waiting : Waiting) (word : Text) (h : Held) (outcome : Outcome) → Holds h
+        → Holds (after_flag c waiting word h outcome).0
+    after_flag_fine waiting word h done all = all
+    after_flag_fine waiting word h (waits id) all = all
+    after_flag_fine waiting word h plain all = plain_fine waiting word h all
+    after_flag_fine waiting word h refused all = plain_fine waiting word h all
+
+    short_word_fine : (waiting : Waiting) (word : Text) (flags : Option Text) (h : Held)
+        → option_map_or (λ f. bundle_fault c again f h) flags [] ≡ [] → Holds h
+        → Holds (short_or_plain c waiting word flags h).0
+    short_word_fine waiting word None h none all = plain_fine waiting word h all
+    short_word_fine waiting word (Some flags) h none all =
+        after_flag_fine waiting word (bundle c flags h).0 (bundle c flags h).1
+        (bundle_fine (length flags) flags h.skip plain (record h { skip = 0 }) none all)
+
+    pub long_word_fine : (waiting : Waiting) (word : Text) (long : Option (Text × Option Text)) (h : Held)
+        → flag_word_fault c again long word h ≡ [] → Holds h → Holds (long_or_other c waiting word long h).0
+    long_word_fine waiting word None h none all = short_word_fine waiting word (short_of word) h none all
+    long_word_fine waiting word (Some p) h none all = after_flag_fine waiting word _ _
+        (long_fine (arg_by_long c p.0) p.1 h (found_fits (λ a. not (is_some a.index) && has_long a p.0)) none all)
+
+    pub to_positional_fine : (found : Option Rule) (word : Text) (w : Walk) (h : Held)
+        → option_map_or (λ a. positional_fault c again a h) found [] ≡ [] → Holds h
+        → Holds (to_positional c found word w h).held
+    to_positional_fine None word w h none all = all
+    to_positional_fine (Some a) word w h none all = go (is_pending a h.pending && takes_several a) refl
+      where
+        go : (t : Bool) → (is_pending a h.pending && takes_several a) ≡ t
+            → Holds (to_positional c (Some a) word w h).held
+        go true t = rw t all
+        go false t = rw t (settled_fine h (rw t at none) all)

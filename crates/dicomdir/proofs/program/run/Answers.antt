@@ -1,0 +1,15 @@
+use Rattle.std.proofs.Common.{subst, sym}
+use Rattle.clap.specs.Words.{subcommand_of}
+use Rattle.dicomdir.specs.Line.{HasBadName, dicomdir_app, words_of}
+use Rattle.dicomdir.proofs.LineLemmas.{asked_bad, given_bad}
+use Rattle.dicomdir.proofs.program.run.Goals as goal
+
+pub returns-in-Ok-clause-words : goal.returns-in-Ok-clause-words
+returns-in-Ok-clause-words g c = λ is _.
+    subst (λ words. HasBadName (subcommand_of dicomdir_app (words_of words))) c.as_slice.ensures.value
+    (asked_bad c.in-Ok.asked _ c.in-Ok.ensures.asked (c.run_asked.ensures.bad is))
+
+pub returns-in-Ok-clause-names : goal.returns-in-Ok-clause-names
+returns-in-Ok-clause-names g c = λ is _ bad.
+    c.run_asked.ensures.good is (given_bad c.in-Ok.asked _ c.in-Ok.ensures.asked
+    (subst (λ words. HasBadName (subcommand_of dicomdir_app (words_of words))) (sym c.as_slice.ensures.value) bad))

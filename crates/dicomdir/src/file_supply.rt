@@ -1,0 +1,97 @@
+//! Files as sources.
+ghost use Rattle.std.specs.Prelude.{◌≡◌, length, map, string_bytes, Option};
+ghost use Rattle.std.specs.Borrow.{GName};
+ghost use Rattle.dicomdir.specs.Files.{Held};
+ghost use Rattle.dicomdir.specs.FileSupply.{told_by, counts_at};
+
+use crate::files::{Files, NotThere};
+use crate::supply::Supply;
+use crate::watched::Watched;
+use dd_elem::Counts;
+
+/// Files that are read as sources, by their paths. The calls among the counts of a source are the
+/// refusals to open it, and the failures are those of its readers.
+pub(crate) struct FileSupply<'a, F: Files> {
+    files: &'a mut F,
+    paths: &'a [String],
+    counts: &'a mut [Counts],
+    ghost counted: { length counts.now ≡ length paths.now },
+}
+
+// By hand, so that what becomes of the files is told.
+impl<F: Files> Drop for FileSupply<'_, F> {
+    fn drop(self)
+        ensures { self.exit.0.now ≡ self.entry.files.now }
+    {
+        let FileSupply {
+            files: _files,
+            paths: _,
+            counts: _counts,
+        } = self;
+    }
+}
+
+impl<'a, F: Files> FileSupply<'a, F> {
+    /// The files at these paths, each with its counts.
+    pub(crate) fn new(
+        files: &'a mut F,
+        paths: &'a [String],
+        counts: &'a mut [Counts],
+    ) -> FileSupply<'a, F>
+        requires { length counts.old ≡ length paths.now }
+        ensures reference { result.files.ghost_name ≡ files.entry.ghost_name }
+        ensures files { result.files.now ≡ files.old }
+        ensures paths { result.paths.now ≡ paths.now }
+        ensures counts { result.counts.now ≡ counts.old }
+    {
+        FileSupply {
+            files,
+            paths,
+            counts,
+        }
+    }
+}
+
+impl<F: Files> Supply for FileSupply<'_, F> {
+    type In = Watched<F::In>;
+
+    ghost sources = { λ s. length s.counts.now };
+
+    ghost told = { λ s. told_by (F.held s.files.now) (map (λ path. string_bytes path) s.paths.now) };
+
+    ghost refusals = { λ s at. (counts_at s.counts.now at).calls };
+
+    ghost unread = { λ s at. (counts_at s.counts.now at).failures };
+
+    ghost Rest = { GName × Option Held };
+
+    ghost rest = { λ s. (s.files.ghost_name, F.held s.files.now) };
+
+    fn count(&self) -> usize {
+        self.counts.len()
+    }
+
+    fn begin(&mut self, at: usize) -> Result<Watched<F::In>, NotThere> {
+        let paths = self.paths;
+        if at >= paths.len() {
+            return Err(NotThere);
+        }
+        let mut counts = self.counts[at];
+        if counts.is_live() {
+            if let Ok(reader) = self.files.source(paths[at].as_str()) {
+                return Ok(Watched::new(reader));
+            }
+        }
+        counts.call();
+        self.counts[at] = counts;
+        Err(NotThere)
+    }
+
+    fn end(&mut self, at: usize, used: Watched<F::In>) {
+        if at < self.counts.len() {
+            let mut counts = self.counts[at];
+            counts.failures = counts.failures.saturating_add(used.failures());
+            self.counts[at] = counts;
+        }
+    }
+}

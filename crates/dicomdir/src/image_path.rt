@@ -1,0 +1,42 @@
+//! Where an image stands in the folder of a file-set.
+
+use dd_elem::FileId;
+use std::fmt::{self, Write};
+
+/// How many characters the text of a File ID has.
+const PATH_LENGTH: usize = 35;
+
+/// How many characters the text of a File ID has before the last component and its separator.
+const FOLDER_LENGTH: usize = 26;
+
+/// The path of an image in the folder of its file-set: its File ID, with `/` between the components
+/// (PS3.10 section 8.2).
+#[derive(Clone, Copy)]
+pub(crate) struct ImagePath(pub(crate) FileId);
+
+impl fmt::Display for ImagePath {
+    fn fmt<W: fmt::Write>(&self, f: &mut fmt::Formatter<W>) -> fmt::Result {
+        write_path(&self.0.text(), PATH_LENGTH, f)
+    }
+}
+
+/// The path of the folder that an image stands in, in the folder of its file-set.
+#[derive(Clone, Copy)]
+pub(crate) struct ImageFolder(pub(crate) FileId);
+
+impl fmt::Display for ImageFolder {
+    fn fmt<W: fmt::Write>(&self, f: &mut fmt::Formatter<W>) -> fmt::Result {
+        write_path(&self.0.text(), FOLDER_LENGTH, f)
+    }
+}
+
+/// Writes so many characters of components, with `/` between these.
+fn write_path<W: fmt::Write>(text: &[u8], count: usize, f: &mut fmt::Formatter<W>) -> fmt::Result {
+    for byte in text.iter().take(count) {
+        f.write_char(match byte {
+            b'\\' => '/',
+            other => char::from(*other),
+        })?;
+    }
+    Ok(())
+}

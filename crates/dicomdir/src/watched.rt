@@ -1,0 +1,58 @@
+//! A reader whose failures are counted anew.
+ghost use Rattle.std.specs.Prelude.{◌≡◌};
+
+use dd_elem::{Counts, Read};
+use std::io;
+
+/// A reader that counts its calls and its failures from when it was made.
+#[derive(Drop)]
+pub struct Watched<R: Read + Drop> {
+    reader: R,
+    counts: Counts,
+}
+
+impl<R: Read + Drop> Watched<R> {
+    /// The reader, not called yet.
+    pub(crate) fn new(reader: R) -> Self
+        ensures { result ≡ record { reader = reader; counts = record { calls = 0; failures = 0 } } }
+    {
+        Watched {
+            reader,
+            counts: Counts::new(),
+        }
+    }
+
+    /// How many reads failed.
+    pub(crate) fn failures(&self) -> u64
+        ensures { result ≡ self.now.counts.failures }
+    {
+        self.counts.failures
+    }
+}
+
+impl<R: Read + Drop> Read for Watched<R> {
+    ghost calls = { λ s. s.counts.calls };
+
+    ghost failures = { λ s. s.counts.failures };
+
+    ghost remaining = { λ s. R.remaining s.reader };
+
+    ghost has_given = { λ s bytes. R.has_given s.reader bytes };
+
+    /// Reads as the reader does. It fails, too, where a count is at its last value.
+    fn read(&mut self, buf: &mut [u8]) -> io::Result<usize> {
+        let is_live = self.counts.is_live();
+        self.counts.call();
+        if !is_live {
+            self.counts.fail();
+            return Err(io::Error::other("the reader was called or failed too often"));
+        }
+        match self.reader.read(buf) {
+            Ok(n) => Ok(n),
+            Err(error) => {
+                self.counts.fail();
+                Err(error)
+            }
+        }
+    }
+}

@@ -1,0 +1,53 @@
+//! UIDs of file-sets that follow from what they hold.
+
+use crate::publishing::limits_of;
+use crate::sending::first_catalogue;
+use dd_catalogue::Catalogue;
+use dd_dir::derived_uid;
+use dd_elem::SetId;
+use dd_samples::taken;
+use dd_vectors::{answered, question};
+use std::alloc::Global;
+use std::test::Fail;
+
+/// Images (`v` for V1), the ID of the file-set and the most bytes of a directory, or none of these; and the
+/// UID, computed by another program from the bytes of the directory, or why there is none.
+const DERIVED: &str = "\
+v   > 2.25.203980963844863891982135713436996079817
+v  876 > 2.25.203980963844863891982135713436996079817
+1   > 2.25.245447624314332007178579807632227354409
+1  876 > 2.25.245447624314332007178579807632227354409
+1  875 > 43 TooLarge
+1 DISC1 882 > 2.25.308109394600567013282965076628649889332
+1 DISC1 881 > 43 TooLarge
+   > 2.25.239637096442388064147279945434065034669
+ DISC1 326 > 2.25.14983272099609356540788096995623605856
+15   > 41 Conflict 1.2.3.4.5 1.2.8.4.1";
+
+/// The catalogue with these letters, or V1's.
+fn catalogue(alloc: Global, letters: &str) -> Result<Catalogue, Fail> {
+    if letters == "v" {
+        first_catalogue(alloc)
+    } else {
+        taken(alloc, letters)
+    }
+}
+
+fn derived(alloc: Global, case: &str) -> Result<String, Fail> {
+    let mut words = question(case).split(' ');
+    let catalogue = catalogue(alloc, words.next().ok_or("no images")?)?;
+    let id = SetId::new(words.next().ok_or("no ID")?.as_bytes())?;
+    let limits = limits_of(words.next().ok_or("no limit")?)?;
+    match derived_uid(alloc, &catalogue, &id, limits) {
+        Ok(uid) => Ok(answered(alloc, case, &uid)?),
+        Err(fault) => Ok(answered(alloc, case, &fault)?),
+    }
+}
+
+#[test]
+fn file_sets_are_named_by_what_they_hold(rt: HostRuntime) -> Result<(), Fail> {
+    for case in DERIVED.split('\n') {
+        assert_eq!(rt; derived(rt.alloc(), case)?.as_str(), case);
+    }
+    Ok(())
+}

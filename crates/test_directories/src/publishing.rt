@@ -1,0 +1,182 @@
+//! Directories of catalogues and of histories.
+
+use crate::sending::first_catalogue;
+use dd_catalogue::History;
+use dd_dir::{assemble, publish};
+use dd_elem::{SetId, Uid};
+use dd_layout::{Label, Limits};
+use dd_samples::{images, taken};
+use dd_vectors::{answered, bytes_of, first_directory, question, v2};
+use std::alloc::Global;
+use std::test::Fail;
+
+/// Images, and how many bytes their directory has, then the offsets of its first and its last root record
+/// and the length of its sequence.
+const FRONTS: &str = "\
+1 > 876: 320 320 556
+1234 > 2032: 320 1476 1712
+AC > 1132: 320 320 812";
+
+/// Images and the place of a record of their directory, and its item: how many bytes it has, and the offsets
+/// of the next record of its parent and of the first one below.
+const RECORDS: &str = "\
+1 320 > 76: 0 404
+1 404 > 118: 0 530
+1 530 > 84: 0 622
+1 622 > 246: 0 0
+1234 320 > 76: 1476 404
+1234 530 > 84: 1130 622
+1234 622 > 246: 876 0
+1234 1130 > 84: 0 1222
+1234 1476 > 76: 0 1560
+1234 1778 > 246: 0 0
+AC 404 > 120: 0 532
+AC 532 > 84: 0 624
+AC 624 > 246: 878 0
+AC 878 > 246: 0 0";
+
+/// The most bytes of the directory of an image, and how many it has or why there is none.
+const LIMITS: &str = "\
+876 > 876
+875 > 43 TooLarge
+0 > 43 TooLarge";
+
+/// Batches of images that come to the same four.
+const FOUR: &str = "212+43 43+212 4+3+2+1 1234+1234";
+
+/// The label with this ID.
+pub(crate) fn label_of(id: &str) -> Result<Label, Fail> {
+    Ok(Label {
+        id: SetId::new(id.as_bytes())?,
+        uid: Uid::new(b"2.25.0")?,
+    })
+}
+
+/// The limits of so many bytes, or the widest.
+pub(crate) fn limits_of(bytes: &str) -> Result<Limits, Fail> {
+    let bytes = if bytes.is_empty() {
+        u32::MAX
+    } else {
+        bytes.parse()?
+    };
+    Ok(Limits::new(bytes, 999_999).ok_or("no limits")?)
+}
+
+/// The directory of the images with these letters.
+fn published(alloc: Global, letters: &str) -> Result<Vec<u8>, Fail> {
+    let catalogue = taken(alloc, letters)?;
+    Ok(publish(alloc, &catalogue, &label_of("")?, limits_of("")?)?)
+}
+
+#[test]
+fn the_directory_of_nothing(rt: HostRuntime) -> Result<(), Fail> {
+    assert!(rt; published(rt.alloc(), "")? == v2(rt.alloc())?);
+    Ok(())
+}
+
+/// The directory of V1.
+fn first_published(alloc: Global) -> Result<Vec<u8>, Fail> {
+    let catalogue = first_catalogue(alloc)?;
+    Ok(publish(alloc, &catalogue, &label_of("")?, limits_of("")?)?)
+}
+
+#[test]
+fn the_directory_of_one_image(rt: HostRuntime) -> Result<(), Fail> {
+    assert!(rt; first_published(rt.alloc())? == first_directory(rt.alloc())?);
+    Ok(())
+}
+
+/// The number of four bytes from this place on.
+fn number(bytes: &[u8], place: usize) -> Result<u32, Fail> {
+    let rest = bytes.get(place..).ok_or("no number there")?;
+    let four = rest.get(..4).ok_or("no number there")?;
+    Ok(u32::from_le_bytes(four.try_into()?))
+}
+
+fn front(alloc: Global, case: &str) -> Result<String, Fail> {
+    let bytes = published(alloc, question(case))?;
+    let (first, last) = (number(&bytes, 282)?, number(&bytes, 294)?);
+    let (size, length) = (bytes.len(), number(&bytes, 316)?);
+    Ok(answered(
+        alloc,
+        case,
+        &format_args!("{size}: {first} {last} {length}"),
+    )?)
+}
+
+#[test]
+fn roots_and_lengths(rt: HostRuntime) -> Result<(), Fail> {
+    for case in FRONTS.split('\n') {
+        assert_eq!(rt; front(rt.alloc(), case)?.as_str(), case);
+    }
+    Ok(())
+}
+
+fn record(alloc: Global, case: &str) -> Result<String, Fail> {
+    let (letters, place) = question(case).split_once(' ').ok_or("no place")?;
+    let (bytes, place) = (published(alloc, letters)?, place.parse::<usize>()?);
+    let item = bytes.get(place..).ok_or("no record there")?;
+    let (length, next) = (number(item, 4)?, number(item, 16)?);
+    let lower = number(item, 38)?;
+    Ok(answered(alloc, case, &format_args!("{length}: {next} {lower}"))?)
+}
+
+#[test]
+fn lengths_and_links_of_records(rt: HostRuntime) -> Result<(), Fail> {
+    for case in RECORDS.split('\n') {
+        assert_eq!(rt; record(rt.alloc(), case)?.as_str(), case);
+    }
+    Ok(())
+}
+
+/// Does the study of two images that tell different descriptions have the greater one?
+fn has_greater_description(alloc: Global) -> Result<bool, Fail> {
+    let bytes = published(alloc, "AC")?;
+    Ok(bytes.get(498..508) == Some(bytes_of(alloc, "08003010 4c4f 0200 'B_")?.as_slice()))
+}
+
+#[test]
+fn a_study_has_one_description(rt: HostRuntime) -> Result<(), Fail> {
+    assert!(rt; has_greater_description(rt.alloc())?);
+    Ok(())
+}
+
+fn limited(alloc: Global, case: &str) -> Result<String, Fail> {
+    let limits = limits_of(question(case))?;
+    match publish(alloc, &taken(alloc, "1")?, &label_of("")?, limits) {
+        Ok(bytes) => Ok(answered(alloc, case, &bytes.len())?),
+        Err(fault) => Ok(answered(alloc, case, &fault)?),
+    }
+}
+
+#[test]
+fn directories_keep_to_their_limits(rt: HostRuntime) -> Result<(), Fail> {
+    for case in LIMITS.split('\n') {
+        assert_eq!(rt; limited(rt.alloc(), case)?.as_str(), case);
+    }
+    Ok(())
+}
+
+/// The join of the batches with these letters.
+fn history(alloc: Global, groups: &str) -> Result<History, Fail> {
+    let mut parts = Vec::new(alloc);
+    for letters in groups.split('+') {
+        parts.push(History::Batch(images(alloc, letters)?))?;
+    }
+    Ok(History::Merge(parts))
+}
+
+/// Do these batches have the directory of the four images?
+fn have_four(alloc: Global, groups: &str) -> Result<bool, Fail> {
+    let history = history(alloc, groups)?;
+    let assembled = assemble(alloc, &history, &label_of("")?, limits_of("")?)?;
+    Ok(assembled == published(alloc, "1234")?)
+}
+
+#[test]
+fn histories_have_no_order(rt: HostRuntime) -> Result<(), Fail> {
+    for groups in FOUR.split(' ') {
+        assert!(rt; have_four(rt.alloc(), groups)?, "of {groups}");
+    }
+    Ok(())
+}

@@ -1,0 +1,68 @@
+//! Images that are copied from one device to another.
+
+use dd_elem::{ByteSource, Sink};
+use dd_vectors::{answered, bytes_of, question, v1};
+use dicomdir::copy_image;
+use std::alloc::Global;
+use std::test::Fail;
+
+/// The SHA-256 of V1.
+const DIGEST: &str = "900e75e1c153f87b21e09f9db68aef627f2dd320eb3afb1f2574594e6c862a92";
+
+/// Copies of V1: how many bytes a read gives, after how many the reader and the writer fail, the limit, and
+/// what the copy says and how many bytes of V1 were sent.
+const COPIES: &str = "\
+1000 - - 454 > digest 454
+1 - - 454 > digest 454
+100 - - 1000 > digest 454
+1000 - - 453 > 97 Changed 0
+1 - - 453 > 97 Changed 453
+100 - - 0 > 97 Changed 0
+100 200 - 454 > 93 Unread 200
+100 - 150 454 > 96 Unsent 150
+100 - 454 454 > digest 454";
+
+/// After how many bytes a device fails, or never at `-`.
+pub(crate) fn failing(text: &str) -> Result<Option<u64>, Fail> {
+    match text {
+        "-" => Ok(None),
+        number => Ok(Some(number.parse()?)),
+    }
+}
+
+fn copied(alloc: Global, case: &str) -> Result<String, Fail> {
+    let (piece, rest) = question(case).split_once(' ').ok_or("no piece")?;
+    let (reader, rest) = rest.split_once(' ').ok_or("no reader")?;
+    let (writer, limit) = rest.split_once(' ').ok_or("no writer")?;
+    let image = v1(alloc)?;
+    let mut source = ByteSource::new(&image, piece.parse()?, failing(reader)?);
+    let mut sink = Sink::new(alloc, failing(writer)?);
+    let said = match copy_image(&mut source, &mut sink, limit.parse()?) {
+        Ok(digest) => digest_words(alloc, &digest)?,
+        Err(fault) => format!(in alloc; "{fault}")?,
+    };
+    let sent = sent_of(&image, sink.bytes())?;
+    Ok(answered(alloc, case, &format_args!("{said} {sent}"))?)
+}
+
+fn digest_words(alloc: Global, digest: &[u8; 32]) -> Result<String, Fail> {
+    let is_right = bytes_of(alloc, DIGEST)?.as_slice() == &digest[..];
+    let words = if is_right { "digest" } else { "another digest" };
+    Ok(String::from_str(alloc, words)?)
+}
+
+/// How many bytes were sent, which must be the first of the image.
+fn sent_of(image: &[u8], sent: &[u8]) -> Result<usize, Fail> {
+    if !image.starts_with(sent) {
+        return Err("other bytes were sent".into());
+    }
+    Ok(sent.len())
+}
+
+#[test]
+fn images_are_copied_or_refused(rt: HostRuntime) -> Result<(), Fail> {
+    for case in COPIES.split('\n') {
+        assert_eq!(rt; copied(rt.alloc(), case)?.as_str(), case);
+    }
+    Ok(())
+}
