@@ -66,12 +66,15 @@ fn push_ranks(alloc: Global, text: &mut String, record: &PlanRecord) -> Result<(
         text.push('-')?;
         return Ok(());
     };
-    let mut dot = "";
+    let mut is_first = true;
     for part in str::from_utf8(&file.text())?.split('\\') {
         let (_letters, digits) = part.split_at_checked(2).ok_or("a short part")?;
         let rank: u32 = digits.parse()?;
-        text.push_str(format!(in alloc; "{dot}{rank}")?.as_str())?;
-        dot = ".";
+        if !is_first {
+            text.push('.')?;
+        }
+        text.push_str(format!(in alloc; "{rank}")?.as_str())?;
+        is_first = false;
     }
     Ok(())
 }

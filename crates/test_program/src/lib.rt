@@ -6,6 +6,8 @@ mod copies;
 #[cfg(test)]
 mod disc;
 #[cfg(test)]
+mod engine;
+#[cfg(test)]
 mod faults;
 #[cfg(test)]
 mod lines;

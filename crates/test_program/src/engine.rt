@@ -1,0 +1,147 @@
+//! Two sources in memory, which are indexed.
+ghost use Rattle.std.specs.Prelude.{None};
+ghost use Rattle.dicomdir.specs.FileSupply.{counts_at};
+
+use dd_elem::{ByteSource, Counts, Read, SetId, Uid};
+use dd_layout::Limits;
+use dd_vectors::{answered, question, v1, v1_with};
+use dicomdir::{Choice, Indexed, NotThere, Supply, index_engine};
+use std::alloc::Global;
+use std::io;
+use std::test::Fail;
+
+/// How V1 becomes a file of 458 bytes whose class is no image's.
+const OTHER: &str = "0002,0000 UL 88000000; 0002,0002 UI '1.2.840.10008.5.1.4.1.1.88.11~";
+
+/// Indexes of V1 and such a file: the most bytes of a source, the sources that are skipped, the picks and the
+/// size of the directory.
+const INDEXES: &str = "\
+1000 > skip 1: 32 NotImage 1.2.840.10008.5.1.4.1.1.88.11, pick 0, 876 bytes
+458 > skip 1: 32 NotImage 1.2.840.10008.5.1.4.1.1.88.11, pick 0, 876 bytes
+457 > skip 1: 39 FileTooLong, pick 0, 876 bytes
+454 > skip 1: 39 FileTooLong, pick 0, 876 bytes
+453 > skip 0: 39 FileTooLong, skip 1: 39 FileTooLong, 320 bytes";
+
+/// A reader that tells how many of its reads failed.
+#[derive(Drop)]
+struct Reader<'a> {
+    bytes: ByteSource<'a>,
+    counts: Counts,
+}
+
+impl Read for Reader<'_> {
+    ghost calls = { λ s. s.counts.calls };
+
+    ghost failures = { λ s. s.counts.failures };
+
+    ghost remaining = { λ _. None };
+
+    ghost has_given = { λ _ _. Unit {0} };
+
+    fn read(&mut self, buf: &mut [u8]) -> io::Result<usize> {
+        let is_live = self.counts.is_live();
+        self.counts.call();
+        if !is_live {
+            self.counts.fail();
+            return Err(io::Error::other("the reader was called or failed too often"));
+        }
+        match self.bytes.read(buf) {
+            Ok(n) => Ok(n),
+            Err(error) => {
+                self.counts.fail();
+                Err(error)
+            }
+        }
+    }
+}
+
+/// Two sources, and of each the refusals to open it and the failures of its readers.
+#[derive(Drop)]
+struct Pair<'a> {
+    sources: [&'a [u8]; 2],
+    counts: [Counts; 2],
+}
+
+impl<'a> Supply for Pair<'a> {
+    type In = Reader<'a>;
+
+    ghost sources = { λ _. 2 };
+
+    ghost told = { λ _ _. None };
+
+    ghost refusals = { λ s at. (counts_at s.counts at).calls };
+
+    ghost unread = { λ s at. (counts_at s.counts at).failures };
+
+    ghost Rest = { Unit {0} };
+
+    ghost rest = { λ _. tt };
+
+    fn count(&self) -> usize {
+        2
+    }
+
+    fn begin(&mut self, at: usize) -> Result<Reader<'a>, NotThere> {
+        if at >= 2 {
+            return Err(NotThere);
+        }
+        let mut counts = self.counts[at];
+        if counts.is_live() {
+            return Ok(Reader {
+                bytes: ByteSource::new(self.sources[at], 64, None),
+                counts: Counts::new(),
+            });
+        }
+        counts.call();
+        self.counts[at] = counts;
+        Err(NotThere)
+    }
+
+    fn end(&mut self, at: usize, used: Reader<'a>) {
+        if at < 2 {
+            let mut counts = self.counts[at];
+            counts.failures = counts.failures.saturating_add(used.counts.failures);
+            self.counts[at] = counts;
+        }
+    }
+}
+
+fn indexed_by(alloc: Global, limit: u64) -> Result<Indexed, Fail> {
+    let image = v1(alloc)?;
+    let other = v1_with(alloc, OTHER)?;
+    let mut pair = Pair {
+        sources: [&image, &other],
+        counts: [Counts::new(); 2],
+    };
+    let id = SetId::new(b"")?;
+    let uid = Some(Uid::new(b"2.25.0")?);
+    let limits = Limits::new(u32::MAX, 999_999).ok_or("no limits")?;
+    Ok(index_engine(alloc, &mut pair, &Choice { id, uid }, limits, limit)?)
+}
+
+fn told(alloc: Global, indexed: &Indexed) -> Result<String, Fail> {
+    let mut text = String::new(alloc);
+    for (at, fault) in indexed.skipped.iter() {
+        let words = format!(in alloc; "skip {at}: {fault}, ")?;
+        text.push_str(words.as_str())?;
+    }
+    for at in indexed.picks.iter() {
+        let words = format!(in alloc; "pick {at}, ")?;
+        text.push_str(words.as_str())?;
+    }
+    let size = indexed.plan.size();
+    Ok(format!(in alloc; "{text}{size} bytes")?)
+}
+
+fn indexed(alloc: Global, case: &str) -> Result<String, Fail> {
+    let indexed = indexed_by(alloc, question(case).parse()?)?;
+    Ok(answered(alloc, case, &told(alloc, &indexed)?)?)
+}
+
+#[test]
+fn sources_are_skipped_or_picked(rt: HostRuntime) -> Result<(), Fail> {
+    for case in INDEXES.split('\n') {
+        assert_eq!(rt; indexed(rt.alloc(), case)?.as_str(), case);
+    }
+    Ok(())
+}
