@@ -117,7 +117,7 @@ answers_reader limit given left old new (Err fault) read h =
     record {
       read = λ e. let same : fault ≡ Read = cc in absurd (subst IsOfFile same of_file);
       long = λ e. let same : fault ≡ FileTooLong = cc in absurd (subst IsOfFile same of_file);
-      memory = memory_of_byte given fault h.fault;
+      memory = λ says. (memory_of_byte given fault h.fault says, read.within, read.worked);
       whole = λ _ _ _. (read, h);
     }
 

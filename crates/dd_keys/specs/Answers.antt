@@ -34,8 +34,9 @@ pub record AnswersReader (limit : ℕ) (given : List ℕ) (left : Option (List �
   pub read : answer ≡ Err Read → (length given ≤ limit) × HasFailed old new
   -- it gave one byte more than the limit
   pub long : answer ≡ Err FileTooLong → (length given ≡ limit + 1) × HasWorked old new
-  -- memory is wanted only where it gave a byte
-  pub memory : IfErr answer (λ fault. SaysMemory fault → 0 < length given)
+  -- memory is wanted only where it gave a byte, had not gone past the limit, and did not fail
+  pub memory : IfErr answer (λ fault. SaysMemory fault
+      → (0 < length given) × (length given ≤ limit) × HasWorked old new)
   -- each other answer is that for the bytes that it gave to its end
   pub whole : answer ≢ Err Read → answer ≢ Err FileTooLong → IfErr answer (λ fault. ¬ SaysMemory fault)
       → IsReadWhole limit given left old new × Answers given answer

@@ -12,5 +12,6 @@ abbrev pub IsWholeAnswer : Result (Vec ℕ Global) KeyFault → ℕ → List ℕ
 IsWholeAnswer (Ok all) limit given left old new = (all.items ≡ given) × IsReadWhole limit given left old new
 IsWholeAnswer (Err Read) limit given left old new = (length given ≤ limit) × HasFailed old new
 IsWholeAnswer (Err FileTooLong) limit given left old new = (length given ≡ limit + 1) × HasWorked old new
-IsWholeAnswer (Err Memory) limit given left old new = 0 < length given
+IsWholeAnswer (Err Memory) limit given left old new =
+    (0 < length given) × (length given ≤ limit) × HasWorked old new
 IsWholeAnswer (Err fault) limit given left old new = ⊥

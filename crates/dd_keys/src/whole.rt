@@ -9,7 +9,7 @@ use crate::fault::KeyFault;
 use dd_elem::Read;
 use std::alloc::Global;
 
-// The most bytes of one read.
+/// The most bytes of one read.
 const PIECE: usize = 65_536;
 
 /// Reads to the end, and gives the bytes, of which there may be `limit`.

@@ -9,6 +9,7 @@ use Rattle.dd_catalogue.specs.BestLaws.{Member}
 use Rattle.dd_catalogue.specs.Rising.{by_test}
 use Rattle.dd_layout.specs.declared.level.Level.{Level}
 use Rattle.dd_layout.specs.declared.level.Level.TheVariants.{Patient, Study, Series, Image}
+use Rattle.dd_layout.specs.Levels.{levels}
 use Rattle.dd_layout.specs.Numbering.{topmost}
 use Rattle.dd_layout.specs.Paths.{Path, is_path, parent_of, are_siblings}
 use Rattle.dd_layout.specs.Plans.{level_of}
@@ -21,9 +22,6 @@ use Rattle.dd_layout.proofs.Splits.{rank_is}
 use Rattle.dd_layout.proofs.TreeRows.{AreRows, IsRow}
 
 -- ---- the noted level is the topmost of those with a row of a rank above the limit
-
-abbrev levels : List Level
-levels = Patient ∷ Study ∷ Series ∷ Image ∷ []
 
 abbrev is_level : Level → Level → Bool
 is_level level other = above level == above other

@@ -1,6 +1,5 @@
 -- What a row of a tree has is known from the rows before and behind it, by the lengths of their paths alone: so one
--- pass along
--- the rows finds each offset and rank, and one from the back each link.
+-- pass along the rows finds each offset and rank, and one from the back each link.
 use Rattle.std.specs.Prelude.{◌≡◌, ℕ, zero, suc, ◌+◌, ◌-◌, ◌==◌, List, [], ◌∷◌, ◌++◌, length, Option, None, Some}
 use Rattle.std.specs.Prelude.{sum_by, nat_lt, if◌then◌else◌}
 use Rattle.dd_layout.specs.Paths.{Path}

@@ -1,6 +1,5 @@
 -- The plan of a directory: which records it has, where they stand, and what they name (PS3.3 sections F.3 and F.4,
--- PS3.10
--- section 8.2).
+-- PS3.10 section 8.2).
 use Rattle.std.specs.Prelude.{ℕ, ◌+◌, List, [], ◌∷◌, map, Option, None, Some, slice_get, sum_by, if◌then◌else◌}
 use Rattle.dd_elem.specs.FileId.{Ranks, ranks_of}
 use Rattle.dd_keys.specs.declared.parts.Parts.{Parts}

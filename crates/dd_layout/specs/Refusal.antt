@@ -10,6 +10,7 @@ use Rattle.dd_layout.specs.declared.label.Label.{Label}
 use Rattle.dd_layout.specs.declared.level.Level.{Level}
 use Rattle.dd_layout.specs.declared.level.Level.TheVariants.{Patient, Study, Series, Image}
 use Rattle.dd_layout.specs.Bounds.{Bounds}
+use Rattle.dd_layout.specs.Levels.{levels}
 use Rattle.dd_layout.specs.Paths.{Path}
 use Rattle.dd_layout.specs.Plans.{tree, size}
 use Rattle.dd_layout.specs.Tree.{children}
@@ -28,7 +29,7 @@ is_crowded most rows level =
 
 -- the topmost level of such children
 abbrev pub crowded : ℕ → List Path → Option Level
-crowded most rows = find (is_crowded most rows) (Patient ∷ Study ∷ Series ∷ Image ∷ [])
+crowded most rows = find (is_crowded most rows) levels
 
 -- the size passes the limit
 abbrev pub oversize : ℕ → ℕ → Option PlanFault

@@ -45,9 +45,6 @@ abbrev pub path_before : Option Parts → Path
 path_before None = []
 path_before (Some version) = path_of version
 
-abbrev pub levels : List Level
-levels = Patient ∷ Study ∷ Series ∷ Image ∷ []
-
 -- what leads to a version at this level
 abbrev pub front_of : Level → Parts → Path
 front_of Patient version = version.patient.id ∷ []

@@ -119,7 +119,8 @@ below_later at old before new one two = record { stays = λ other less. two.stay
 pub ends_later : (fault : EngineFault) (sources rest : ℕ) (old before new first next last : ℕ → ℕ) → rest ≡ sources
     → AllStay old before → AllStay first next → EndsWith fault rest before new next last
     → EndsWith fault sources old new first last
-ends_later Memory sources rest old before new first next last same one two h = tt
+ends_later Memory sources rest old before new first next last same one two h =
+    (all_later old before new one h.0, all_later first next last two h.1)
 ends_later (Absent at) sources rest old before new first next last same one two h = (
   subst (λ (n : ℕ). at < n) same h.0,
   h.1 ∙ ap counted (one.stays at),

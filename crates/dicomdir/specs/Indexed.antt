@@ -64,9 +64,10 @@ IsNamed sources (Unread at) = at < sources
 IsNamed sources (Plan fault) = Unit {0}
 
 -- Indexing `sources` sources ended with a fault; the refusals were `refusals` and are `refused`, the failures of their
--- readers were `unread` and are `failed`: where the versions have no place in a directory, no source failed.
+-- readers were `unread` and are `failed`: where memory ran out, or the versions have no place in a directory, no source
+-- failed.
 abbrev pub FailsBy : EngineFault → ℕ → (ℕ → ℕ) → (ℕ → ℕ) → (ℕ → ℕ) → (ℕ → ℕ) → Type 0
-FailsBy Memory sources refusals refused unread failed = Unit {0}
+FailsBy Memory sources refusals refused unread failed = AllStay refusals refused × AllStay unread failed
 FailsBy (Absent at) sources refusals refused unread failed = EndsWith (Absent at) sources refusals refused unread failed
 FailsBy (Unread at) sources refusals refused unread failed = EndsWith (Unread at) sources refusals refused unread failed
 FailsBy (Plan fault) sources refusals refused unread failed = AllStay refusals refused × AllStay unread failed

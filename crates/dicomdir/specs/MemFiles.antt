@@ -1,6 +1,6 @@
 -- Files in memory, as their callers see them, and what changes them.
-use Rattle.std.specs.Prelude.{◌≡◌, ◌≢◌, ℕ, List, [], ◌++◌, ◌&&◌, map, Option, Some, None, String, Vec, string_bytes, bytes_eq}
-use Rattle.std.specs.Prelude.{if◌then◌else◌, Bool, true, option_map}
+use Rattle.std.specs.Prelude.{◌≡◌, ◌≢◌, ℕ, List, [], ◌++◌, ◌&&◌, map, Option, Some, None, String, Vec, string_bytes}
+use Rattle.std.specs.Prelude.{if◌then◌else◌, Bool, true, bytes_eq, option_map}
 use Rattle.std.specs.BTreeMap.{BTreeMap}
 use Rattle.std.specs.Map.{lookup}
 use Rattle.std.specs.declared.alloc.Global.{Global}
@@ -28,7 +28,8 @@ pub record SetsFile (old new : List (List ℕ × List ℕ)) (path bytes : List �
 
 -- the file at the path is there and grows by these bytes, and all others are as they were
 abbrev pub GrowsFile : List (List ℕ × List ℕ) → List (List ℕ × List ℕ) → List ℕ → List ℕ → Type 0
-GrowsFile old new path bytes = (before : List ℕ) × (bytes_at old path ≡ Some before) × SetsFile old new path (before ++ bytes)
+GrowsFile old new path bytes =
+    (before : List ℕ) × (bytes_at old path ≡ Some before) × SetsFile old new path (before ++ bytes)
 
 -- a change of the file at a path at its second opening
 pub record Change : Type 0 where

@@ -12,5 +12,9 @@ pub record Opened : Type 0 where
 
 -- it after a read with this result
 abbrev pub after_read : {E : Type 0} → Opened → Result ℕ E → Opened
-after_read s (Ok n) = record { given = s.given ++ take n s.left; left = drop n s.left; counts = counts_after s.counts true }
+after_read s (Ok n) = record {
+  given = s.given ++ take n s.left;
+  left = drop n s.left;
+  counts = counts_after s.counts true;
+}
 after_read s (Err e) = record s { counts = counts_after s.counts false }

@@ -30,9 +30,10 @@ pub record StayBelow (at : ℕ) (old new : ℕ → ℕ) : Type 0 where
   pub stays : (before : ℕ) → before < at → new before ≡ old before
 
 -- Reading `sources` sources ended with a fault; the refusals were `refusals` and are `refused`, the failures of their
--- readers were `unread` and are `failed`. A source that is named failed in this, and none before it did.
+-- readers were `unread` and are `failed`. A source that is named failed in this, and none before it did; where memory
+-- ran out none failed.
 abbrev pub EndsWith : EngineFault → ℕ → (ℕ → ℕ) → (ℕ → ℕ) → (ℕ → ℕ) → (ℕ → ℕ) → Type 0
-EndsWith Memory sources refusals refused unread failed = Unit {0}
+EndsWith Memory sources refusals refused unread failed = AllStay refusals refused × AllStay unread failed
 EndsWith (Absent at) sources refusals refused unread failed = (at < sources)
     × (refused at ≡ counted (refusals at)) × StayBelow at refusals refused × StayBelow at unread failed
 EndsWith (Unread at) sources refusals refused unread failed = (at < sources)

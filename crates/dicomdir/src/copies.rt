@@ -5,7 +5,7 @@ ghost use Rattle.dicomdir.specs.Trouble.{IsOfWork};
 use crate::copy::{CopyFault, copy_image};
 use crate::engine::Indexed;
 use crate::files::Files;
-use crate::image_path::{ImageFolder, ImagePath};
+use crate::image_path::{ImageFolder, ImagePath, PATH_LENGTH};
 use crate::paths::path_in;
 use crate::trouble::{ProgramFault, Subject, Trouble};
 use dd_elem::FileId;
@@ -14,9 +14,6 @@ use std::fmt::InlineText;
 
 /// The most bytes of a source.
 pub(crate) const SOURCE_LIMIT: u64 = u32::MAX as u64;
-
-// The path of an image in its file-set has fewer bytes.
-const PATH_LENGTH: usize = 64;
 
 /// An image of the file-set.
 #[derive(Clone, Copy)]

@@ -3,10 +3,10 @@
 use dd_elem::FileId;
 use std::fmt::{self, Write};
 
-/// How many characters the text of a File ID has.
-const PATH_LENGTH: usize = 35;
+/// How many characters the path of an image has in its file-set: those of the text of a File ID.
+pub(crate) const PATH_LENGTH: usize = 35;
 
-/// How many characters the text of a File ID has before the last component and its separator.
+/// How many of them stand before the last component and its separator.
 const FOLDER_LENGTH: usize = 26;
 
 /// The path of an image in the folder of its file-set: its File ID, with `/` between the components

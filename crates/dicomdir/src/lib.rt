@@ -1,8 +1,7 @@
-//! The program `dicomdir`, over any files and outputs: its command line, and the directory of a
-//! file-set (PS3.3 annex F, PS3.10 section 8) written from the bytes of a DICOM file.
+//! The program `dicomdir`, over any files and outputs: its command line, and the file-set that it makes
+//! of sources (PS3.3 annex F, PS3.10 section 8).
 //!
-//! Its one promise: a run whose command line is at fault leaves the files as they were, and a source
-//! is read to its end or refused.
+//! What it promises stands at `index_engine`, `copy_image`, `read_words` and `run`.
 #![tactic(auto)]
 
 mod choice;

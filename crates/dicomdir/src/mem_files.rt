@@ -6,7 +6,8 @@ ghost use Rattle.std.specs.Io.KnownBytes.{WriteAppends};
 ghost use Rattle.dd_elem.specs.Counts.{counts_after};
 ghost use Rattle.dd_elem.specs.Device.{counted, last_count, HasWorked, IsLive};
 ghost use Rattle.dicomdir.specs.MemFiles.{Stored, Unwritten, listed, bytes_at, change_of, told_of, unread, unwritten};
-ghost use Rattle.dicomdir.specs.MemFiles.{written_of, SetsFile, GrowsFile, GrowsWritten, KeepsFiles, Gets, Opens, due, opened};
+ghost use Rattle.dicomdir.specs.MemFiles.{written_of, SetsFile, GrowsFile, GrowsWritten, KeepsFiles, Gets, Opens, due};
+ghost use Rattle.dicomdir.specs.MemFiles.{opened};
 ghost use Rattle.dicomdir.specs.MemLaws.{held_grows, refusals_stay, told_contents};
 
 use crate::files::{Files, NotDone, NotThere};

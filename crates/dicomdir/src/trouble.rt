@@ -3,7 +3,7 @@ ghost use Rattle.std.specs.Prelude.{◌≡◌, ◌↔◌, ◌⊎◌, IsTrue, len
 ghost use Rattle.dd_keys.specs.Faults.{SaysMemory};
 ghost use Rattle.dicomdir.specs.Trouble.{IsAmong, IsBadLine};
 
-use crate::image_path::{ImageFolder, ImagePath};
+use crate::image_path::{ImageFolder, ImagePath, PATH_LENGTH};
 use crate::paths::{DIRECTORY, is_joined_by_slash};
 use crate::text::print_line;
 use dd_elem::{BadSetId, BadUid, FileId, Write};
@@ -107,9 +107,6 @@ pub(crate) fn is_want_of_memory(fault: &KeyFault) -> bool
 
 // No fault has as many bytes.
 pub(crate) const WORDS_LENGTH: usize = 256;
-
-// Nor has the path of an image in its file-set.
-const PATH_LENGTH: usize = 64;
 
 /// Tells a trouble in a line, with no memory, and answers the status that the run ends with: 2 where the
 /// command line is at fault, and else 1. The line names the path that the trouble concerns: one of these

@@ -44,3 +44,13 @@ returns-in_err-answer-clause-fault g c =
     let before = c.loop-at.invariant in
     rw (p.1, p.2) (ends_later c.in_err-answer.field-0.0 _ _ _ _ _ _ _ _ before.sources before.refusals before.unread
     c.in_err-answer.ensures.fault)
+
+pub returns-in_err-keep-clause-fault : goal.returns-in_err-keep-clause-fault
+returns-in_err-keep-clause-fault g c =
+    let p = err_from_is_err_and c.from_residual-in_err-keep.result c.from_residual-in_err-keep.ensures.1 in
+    let before = c.loop-at.invariant in
+    let read = c.in_ok-answer.ensures in
+    rw (p.1, p.2) (
+      all_later _ _ _ before.refusals (read.refusals refl),
+      all_later _ _ _ before.unread (read.unread refl),
+    )
