@@ -168,7 +168,7 @@ clash_is_clash (v ∷ m) up = by_option (find (conflicts v) m)
 
 -- ---- the relation has one answer
 
-one_version : (m : List Parts) (v w : Parts) → IsCatalogue m → Contains m v → Contains m w → v.instance ≡ w.instance
+pub one_version : (m : List Parts) (v w : Parts) → IsCatalogue m → Contains m v → Contains m w → v.instance ≡ w.instance
     → v ≡ w
 one_version m v w up i j same = same_Some v w
     (sym (at-member instance_of nat_list_cmp_total v m up (member_of v m i)) ∙ ap (λ k. kept m k) same

@@ -19,7 +19,7 @@ use Rattle.dd_catalogue.proofs.Places.{by_key}
 
 -- ---- the greatest tuple like a version's
 
-is_like : {V T : Type 0} (tuple : V → T) {key : T → List ℕ} {order : T → T → Ordering}
+pub is_like : {V T : Type 0} (tuple : V → T) {key : T → List ℕ} {order : T → T → Ordering}
     (o : Orders key bytes_cmp order) (m : List V) (v : V)
     → Member v m → IsGreatestLike tuple key order m v (greatest_like tuple key order m v)
 is_like tuple {key = key} {order = order} o m v i =
@@ -29,7 +29,7 @@ is_like tuple {key = key} {order = order} o m v i =
       greatest = is_greatest o (key (tuple v)) (map tuple m) (greatest_like tuple key order m v) is;
     }
 
-only_like : {V T : Type 0} (tuple : V → T) {key : T → List ℕ} {order : T → T → Ordering}
+pub only_like : {V T : Type 0} (tuple : V → T) {key : T → List ℕ} {order : T → T → Ordering}
     (o : Orders key bytes_cmp order) (m : List V) (v : V) (t : T)
     → Member v m → IsGreatestLike tuple key order m v t → t ≡ greatest_like tuple key order m v
 only_like tuple {key = key} {order = order} o m v t i is =
@@ -40,16 +40,16 @@ only_like tuple {key = key} {order = order} o m v t i is =
 
 -- ---- a version in harmony
 
-patients_ordered : Orders patient_key bytes_cmp patient_cmp
+pub patients_ordered : Orders patient_key bytes_cmp patient_cmp
 patients_ordered = by_key patient_key patient_total patient_apart
 
-studies_ordered : Orders study_key bytes_cmp study_cmp
+pub studies_ordered : Orders study_key bytes_cmp study_cmp
 studies_ordered = by_key study_key study_total study_apart
 
-series_ordered : Orders series_key bytes_cmp series_cmp
+pub series_ordered : Orders series_key bytes_cmp series_cmp
 series_ordered = by_key series_key series_total series_apart
 
-is_agreed : (m : List Parts) (v : Parts) → Member v m → IsAgreed m v (agreed m v)
+pub is_agreed : (m : List Parts) (v : Parts) → Member v m → IsAgreed m v (agreed m v)
 is_agreed m v i = record {
   patient = is_like patient_of patients_ordered m v i;
   study = is_like study_of studies_ordered m v i;
@@ -57,7 +57,7 @@ is_agreed m v i = record {
   others = refl;
 }
 
-only_agreed : (m : List Parts) (v w : Parts) → Member v m → IsAgreed m v w → w ≡ agreed m v
+pub only_agreed : (m : List Parts) (v w : Parts) → Member v m → IsAgreed m v w → w ≡ agreed m v
 only_agreed m v w i is =
     let patient = only_like patient_of patients_ordered m v w.patient i is.patient in
     let study = only_like study_of studies_ordered m v w.study i is.study in
@@ -68,7 +68,8 @@ only_agreed m v w i is =
 
 -- ---- a catalogue in harmony
 
-member-unmap : {V T : Type 0} (f : V → T) (t : T) (m : List V) → Member t (map f m) → (v : V) × Member v m × (f v ≡ t)
+pub member-unmap : {V T : Type 0} (f : V → T) (t : T) (m : List V) → Member t (map f m)
+    → (v : V) × Member v m × (f v ≡ t)
 member-unmap f t [] i = absurd i
 member-unmap f t (v ∷ m) (inl e) = (v, inl refl, e)
 member-unmap f t (v ∷ m) (inr i) = let rest = member-unmap f t m i in (rest.0, inr rest.1, rest.2)
@@ -85,11 +86,13 @@ harmonised_is_harmonised m up = record {
   );
 }
 
+pub same_catalogue : (m n : List Parts) → IsCatalogue m → IsCatalogue n → SameMembers m n → m ≡ n
+same_catalogue m n up up' alike =
+    sym (best_of_rising versions_ordered m up) ∙ best_of_same versions_ordered m n alike
+    ∙ best_of_rising versions_ordered n up'
+
 pub harmonised_is_one : (l m n : List Parts) → IsHarmonised l m → IsHarmonised l n → m ≡ n
-harmonised_is_one l m n left right =
-    let alike : SameMembers m n = λ w. (
-      (λ c. (right.each w).1 ((left.each w).0 c)),
-      (λ c. (left.each w).1 ((right.each w).0 c)),
-    ) in
-    sym (best_of_rising versions_ordered m left.rising) ∙ best_of_same versions_ordered m n alike
-    ∙ best_of_rising versions_ordered n right.rising
+harmonised_is_one l m n left right = same_catalogue m n left.rising right.rising (λ w. (
+  (λ c. (right.each w).1 ((left.each w).0 c)),
+  (λ c. (left.each w).1 ((right.each w).0 c)),
+))

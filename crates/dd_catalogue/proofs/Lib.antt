@@ -1,8 +1,11 @@
+pub mod Again
+pub mod Agreements
 pub mod Behind
 pub mod Clashes
 pub mod Gathering
 pub mod Harmonies
 pub mod Harmonised
+pub mod Images
 pub mod Joined
 pub mod Merging
 pub mod Places

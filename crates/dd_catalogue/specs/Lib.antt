@@ -1,4 +1,5 @@
 pub mod Agreeing
+pub mod Agreement
 pub mod Best
 pub mod BestLaws
 pub mod BestMembers

@@ -8,6 +8,7 @@
 mod catalogue;
 mod conflicts;
 mod harmony;
+mod harmony_laws;
 mod history;
 mod join;
 mod laws;
@@ -18,6 +19,10 @@ mod tuples;
 mod weaving;
 
 pub use catalogue::{Catalogue, Refused, Took};
+pub use harmony_laws::{
+    catalogue_agrees_with_itself, harmony_again_is_same, harmony_is_not_less, harmony_keeps_clash,
+    harmony_keeps_images, merged_harmonies_are_merged_sets,
+};
 pub use history::{History, build, build_order_is_free};
 pub use join::{Join, gather, gather_order_is_free, join_is_lawful, join_order_is_free};
 pub use laws::{

@@ -39,7 +39,8 @@ there [] i within = absurd (omega (arith, within))
 there (x ∷ xs) i within = (_, slice_get-get_or (x ∷ xs) i x within)
 
 -- the record of a path has the size that is known by the path
-one_size : (label : Label) (versions : List Parts) (x : Path) → IsSound (length versions) (record_at label versions x)
+pub one_size : (label : Label) (versions : List Parts) (x : Path)
+    → IsSound (length versions) (record_at label versions x)
     → record_size (entries_of versions (record_at label versions x)) ≡ record_size_at versions x
 one_size label versions x sound =
     let row = record_at label versions x in

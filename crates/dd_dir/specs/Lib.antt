@@ -1,2 +1,16 @@
 pub mod Directories
+pub mod ForestViews
+pub mod Gives
 pub mod Hashing
+pub mod Keyed
+pub mod Own
+pub mod OwnVersions
+pub mod OwnViews
+pub mod Reading
+pub mod Saying
+pub mod SaysItself
+pub mod Slots
+pub mod Trees
+pub mod Visits
+pub mod Walks
+pub mod WholeParts

@@ -2,6 +2,7 @@
 
 ghost use Rattle.std.specs.Prelude.{◌≡◌, All, List, length};
 ghost use Rattle.dd_catalogue.specs.Best.{SameMembers};
+ghost use Rattle.dd_catalogue.specs.Harmony.{harmonised};
 ghost use Rattle.dd_catalogue.specs.Histories.{taken};
 ghost use Rattle.dd_catalogue.specs.Versions.{best_of};
 ghost use Rattle.dd_catalogue.specs.declared.history.History.{History};
@@ -23,6 +24,11 @@ pub fn directory_is_as_long_as_planned()
 pub fn four_images_have_two_roots()
     ensures first { first_root unnamed four_images ≡ 320 }
     ensures last { last_root unnamed four_images ≡ 1476 }
+{}
+
+/// A catalogue in harmony has the directory of the one that it comes from. This states a law, and does nothing.
+pub fn harmony_keeps_the_directory()
+    ensures { (label : Label) (m : List Parts) → directory label (harmonised m) ≡ directory label m }
 {}
 
 /// Histories in which the same versions were taken, in any order, with repeats and through any merges, have

@@ -1,19 +1,41 @@
-//! Directories of file-sets, written (PS3.3 annex F, PS3.10 section 8).
+//! Directories of file-sets, written and read (PS3.3 annex F, PS3.10 section 8).
 #![tactic(auto)]
 
 mod cells;
 mod derived;
 mod digester;
+mod directory;
+mod fault;
+mod forest;
 mod laws;
+mod listing;
 mod message;
+mod own;
+mod own_checks;
+mod own_fault;
+mod own_keys;
 mod publishing;
+mod reading;
 mod records;
 mod roots;
+mod said;
+mod slots;
+mod values;
+mod walk;
+mod walk_laws;
 mod writing;
 
 pub use derived::derived_uid;
+pub use fault::DirFault;
+pub use forest::{Forest, Tree};
 pub use laws::{
-    directory_is_as_long_as_planned, four_images_have_two_roots, same_versions_same_directory,
+    directory_is_as_long_as_planned, four_images_have_two_roots, harmony_keeps_the_directory,
+    same_versions_same_directory,
 };
+pub use own::{Place, catalogue_of, places_of};
+pub use own_checks::digest_in;
+pub use own_fault::OwnFault;
 pub use publishing::{assemble, publish};
+pub use reading::read_directory;
+pub use walk_laws::{walk_is_one, walk_or_refusal};
 pub use writing::write_directory;

@@ -6,8 +6,10 @@ ghost use Rattle.dd_catalogue.specs.Histories.{taken};
 ghost use Rattle.dd_catalogue.specs.Versions.{best_of};
 ghost use Rattle.dd_layout.specs.Refusal.{refusal};
 ghost use Rattle.dd_dir.specs.Directories.{IsDirectory, directory};
+ghost use Rattle.dd_dir.specs.SaysItself.{SaysItself};
+ghost use Rattle.dd_dir.specs.Visits.{Realises};
 
-use crate::writing::write_directory;
+use crate::writing::write_whole;
 use dd_catalogue::{Catalogue, History, build};
 use dd_elem::Sink;
 use dd_layout::{Label, Limits, PlanFault, lay_out};
@@ -23,14 +25,18 @@ pub fn publish(
 ) -> Result<Vec<u8>, PlanFault>
     ensures bytes { IfOk result (λ bytes. bytes.items ≡ directory label.now catalogue.now) }
     ensures file { IsOk result → IsDirectory label.now (harmonised catalogue.now) }
+    ensures realised { IfOk result (λ bytes. Realises label.now catalogue.now bytes.items) }
+    ensures own { IfOk result (λ bytes. SaysItself catalogue.now bytes.items) }
     ensures allowed { IsOk result → refusal label.now limits catalogue.now ≡ None }
     ensures refused { IfErr result (λ fault. (fault ≡ PlanFault.Memory)
         ⊎ (refusal label.now limits catalogue.now ≡ Some fault)) }
 {
+    // Lent for what its type says of them: they rise by instance.
+    let _versions = catalogue.versions();
     let plan = lay_out(alloc, catalogue, label, limits)?;
     let mut sink = Sink::new(alloc, None);
     sink.reserve(plan.size() as usize)?;
-    match write_directory(&plan, &mut sink) {
+    match write_whole(&plan, &mut sink) {
         Ok(_) => Ok(sink.into_bytes()),
         Err(_) => Err(PlanFault::Memory),
     }
@@ -46,6 +52,8 @@ pub fn assemble(
 ) -> Result<Vec<u8>, PlanFault>
     ensures bytes { IfOk result (λ bytes. bytes.items ≡ directory label.now (best_of (taken history.now))) }
     ensures file { IsOk result → IsDirectory label.now (harmonised (best_of (taken history.now))) }
+    ensures realised { IfOk result (λ bytes. Realises label.now (best_of (taken history.now)) bytes.items) }
+    ensures own { IfOk result (λ bytes. SaysItself (best_of (taken history.now)) bytes.items) }
     ensures allowed { IsOk result → refusal label.now limits (best_of (taken history.now)) ≡ None }
     ensures refused { IfErr result (λ fault. (fault ≡ PlanFault.Memory)
         ⊎ (refusal label.now limits (best_of (taken history.now)) ≡ Some fault)) }

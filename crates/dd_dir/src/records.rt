@@ -10,11 +10,13 @@ ghost use Rattle.dd_set.specs.Sends.{SendsTo};
 ghost use Rattle.dd_set.specs.Single.{part_text};
 ghost use Rattle.dd_set.specs.Spelling.{item_tag_text, items_text};
 ghost use Rattle.dd_dir.specs.Directories.{IsRecord, entries_of};
+ghost use Rattle.dd_dir.specs.Keyed.{IsKeyed};
+ghost use Rattle.dd_dir.specs.WholeParts.{IsWholeImage, IsWholePatient, IsWholeSeries, IsWholeStudy};
 
 use crate::cells::send_rows;
 use byteorder::{ByteOrder, LittleEndian};
 use dd_elem::Write;
-use dd_keys::Version;
+use dd_keys::{Parts, PatientKeys, SeriesKeys, StudyKeys, Version};
 use dd_layout::{PlanRecord, record_size, rows};
 use dd_set::{WriteFault, send};
 
@@ -31,6 +33,7 @@ pub(crate) fn send_records<W: Write>(
     ensures sends { let parts = map record_part (map (entries_of versions.now) records.now)
         in SendsTo W.contents W.rest W.failures (items_text (items_of parts)) sent result writer.old writer.new }
     ensures valid { IsOk result → AllByRecursion IsRecord (map (entries_of versions.now) records.now) }
+    ensures keyed { IsOk result → AllByRecursion (IsKeyed versions.now) records.now }
 {
     for planned in records {
         sent = send_record(planned, versions, writer, sent)?;
@@ -50,11 +53,58 @@ fn send_record<W: Write>(
     ensures sends { let text = part_text (record_part (entries_of versions.now planned.now))
         in SendsTo W.contents W.rest W.failures text sent result writer.old writer.new }
     ensures valid { IsOk result → IsRecord (entries_of versions.now planned.now) }
+    ensures keyed { IsKeyed versions.now planned.now }
 {
     let parts = versions[planned.of].parts();
+    whole_patient(&parts.patient);
+    whole_study(&parts.study);
+    whole_series(&parts.series);
+    whole_image(parts);
     let header = item_header(record_size(planned.level, parts) as u32 - 8);
     let sent = send(&header, writer, sent)?;
     send_rows(rows(planned.level), planned, parts, writer, sent)
+}
+
+/// Lends the keys of a patient, for what their types say of them.
+fn whole_patient(patient: &PatientKeys)
+    ensures { IsWholePatient patient.now }
+{
+    let _id = patient.id.as_bytes();
+    let _name = patient.name.as_bytes();
+    let _charset = patient.charset.as_bytes();
+}
+
+/// Lends the keys of a study.
+fn whole_study(study: &StudyKeys)
+    ensures { IsWholeStudy study.now }
+{
+    let _uid = study.uid.as_bytes();
+    let _date = study.date.as_bytes();
+    let _time = study.time.as_bytes();
+    let _accession = study.accession.as_bytes();
+    let _description = study.description.as_bytes();
+    let _id = study.id.as_bytes();
+    let _charset = study.charset.as_bytes();
+}
+
+/// Lends the keys of a series.
+fn whole_series(series: &SeriesKeys)
+    ensures { IsWholeSeries series.now }
+{
+    let _uid = series.uid.as_bytes();
+    let _modality = series.modality.as_bytes();
+    let _number = series.number.as_bytes();
+}
+
+/// Lends what a version has of the image itself.
+fn whole_image(parts: &Parts)
+    ensures { IsWholeImage parts.now }
+{
+    let _digest: &[u8] = &parts.digest;
+    let _number = parts.number.as_bytes();
+    let _class = parts.class.as_bytes();
+    let _transfer = parts.transfer.as_bytes();
+    let _instance = parts.instance.as_bytes();
 }
 
 /// The header of an item with so many bytes (PS3.5 section 7.5).

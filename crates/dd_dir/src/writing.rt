@@ -4,6 +4,7 @@ ghost use Rattle.std.specs.Prelude.{◌≡◌, IfOk, IsOk};
 ghost use Rattle.dd_layout.specs.Plans.{size};
 ghost use Rattle.dd_set.specs.Sends.{SendsTo};
 ghost use Rattle.dd_dir.specs.Directories.{IsDirectory, directory_of};
+ghost use Rattle.dd_dir.specs.Keyed.{IsSent};
 
 use crate::cells::send_cells;
 use crate::records::send_records;
@@ -22,6 +23,19 @@ pub fn write_directory<W: Write>(plan: &Plan, writer: &mut W) -> Result<u64, Wri
     // Where the bytes were sent whole, they are as many as the plan says, and a file of the class of directories.
     ensures size { IfOk result (λ n. n ≡ size plan.now.label plan.now.versions) }
     ensures file { IsOk result → IsDirectory plan.now.label plan.now.versions }
+{
+    write_whole(plan, writer)
+}
+
+/// The same, which also says that each record has the keys of a version.
+pub(crate) fn write_whole<W: Write>(plan: &Plan, writer: &mut W) -> Result<u64, WriteFault>
+    ensures sends { let text = directory_of plan.now.label plan.now.versions
+        in SendsTo W.contents W.rest W.failures text 0 result writer.old writer.new }
+
+    // Where the bytes were sent whole, they are as many as the plan says, and a file of the class of directories.
+    ensures size { IfOk result (λ n. n ≡ size plan.now.label plan.now.versions) }
+    ensures file { IsOk result → IsDirectory plan.now.label plan.now.versions }
+    ensures sent { IsOk result → IsSent plan.now.label plan.now.versions }
 {
     let label = plan.label();
     let records = plan.records();

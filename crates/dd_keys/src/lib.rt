@@ -22,4 +22,5 @@ pub use fault::KeyFault;
 pub use keys::{PatientKeys, SeriesKeys, StudyKeys};
 pub use parts::Parts;
 pub use reading::{ingest, one_version, version_of};
+pub use values::value_at;
 pub use version::{Misfit, Version};

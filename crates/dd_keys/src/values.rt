@@ -23,7 +23,7 @@ use std::alloc::Global;
 
 /// The value of the first element with this tag, without its padding: no bytes where there is no such
 /// element, and None where it is a sequence.
-pub(crate) fn value_at<'a>(set: &DataSet<'a>, tag: Tag) -> Option<&'a [u8]>
+pub fn value_at<'a>(set: &DataSet<'a>, tag: Tag) -> Option<&'a [u8]>
     ensures { option_copied result ≡ value_at tag (set_view set.now) }
 {
     let Some(element) = set.find(tag) else {

@@ -32,7 +32,7 @@ behind_is label versions ((a ∷ b ∷ c ∷ d ∷ []) ∷ rest) h =
 behind_is label versions ((a ∷ b ∷ c ∷ d ∷ e ∷ y) ∷ rest) h = absurd h.0
 
 -- nothing has five parts
-no_fifth : (rest : List Path) → AllByRecursion HasLevel rest → scan 5 rest ≡ None
+pub no_fifth : (rest : List Path) → AllByRecursion HasLevel rest → scan 5 rest ≡ None
 no_fifth [] h = refl
 no_fifth ([] ∷ rest) h = absurd h.0
 no_fifth ((a ∷ []) ∷ rest) h = refl

@@ -36,7 +36,7 @@ same_prefixes paths x = (
       contained x (flat_map prefixes paths) (from_one x there.0 paths (sorted_member paths there.0 there.1) there.2)),
 )
 
-rises : (paths : List Path) → Rises (in_order paths)
+pub rises : (paths : List Path) → Rises (in_order paths)
 rises paths = rising-best paths_ordered paths
 
 pub tree_is_walk : (paths : List Path) → tree_of paths ≡ rows_from [] (in_order paths)
@@ -50,7 +50,7 @@ with_part : (p : Path) → p ≢ [] → (part : List ℕ) × (path : Path) × (p
 with_part [] some = absurd (some refl)
 with_part (part ∷ path) some = (part, path, refl)
 
-above_root : (paths : List Path) → ((p : Path) → Contains paths p → p ≢ []) → Above [] (in_order paths)
+pub above_root : (paths : List Path) → ((p : Path) → Contains paths p → p ≢ []) → Above [] (in_order paths)
 above_root paths some =
     empty_above (in_order paths) (λ p i. with_part p (some p (contained p paths (sorted_member paths p i))))
 

@@ -14,6 +14,7 @@ pub mod Records
 pub mod Refusal
 pub mod Sizes
 pub mod Stages
+pub mod Tables
 pub mod Tree
 pub mod Walk
 pub mod WalkedRecords

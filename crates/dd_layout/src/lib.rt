@@ -20,7 +20,7 @@ mod plan;
 mod ranks;
 mod record;
 mod sizes;
-mod table;
+pub mod table;
 
 pub use cell::{Cell, CellValue};
 pub use directories::{directory_is_a_data_set, directory_is_as_long_as_its_records};

@@ -5,6 +5,7 @@ ghost use Rattle.dd_elem.specs.FileId.{Ranks};
 ghost use Rattle.dd_keys.specs.declared.parts.Parts.{Parts};
 ghost use Rattle.dd_layout.specs.Cells.{IsShort, cell_entries, row_entries, table_entries, whole_value};
 ghost use Rattle.dd_layout.specs.Records.{record_entries};
+ghost use Rattle.dd_layout.specs.Tables.{table_of};
 
 use crate::cell::Cell;
 use crate::field::Field;
@@ -46,6 +47,7 @@ pub fn rows(level: Level) -> &'static [Row]
     ensures exact { (next lower : ℕ) (file : Option Ranks) (parts : Parts)
         → table_entries result.now level next lower file parts ≡ record_entries level next lower file parts }
     ensures few { length result.now ≤ 11 }
+    ensures listed { result.now ≡ table_of level }
 {
     match level {
         Level::Patient => &PATIENT,
@@ -82,61 +84,61 @@ const LOWER: Row = row!(0x0004, 0x1420, UL, Lower);
 const KIND: Row = row!(0x0004, 0x1430, CS, Kind);
 
 /// Referenced File ID.
-const FILE: Row = row!(0x0004, 0x1500, CS, File);
+pub const FILE: Row = row!(0x0004, 0x1500, CS, File);
 
 /// Referenced SOP Class UID in File.
-const CLASS: Row = row!(0x0004, 0x1510, UI, Class);
+pub const CLASS: Row = row!(0x0004, 0x1510, UI, Class);
 
 /// Referenced SOP Instance UID in File.
-const INSTANCE: Row = row!(0x0004, 0x1511, UI, Instance);
+pub const INSTANCE: Row = row!(0x0004, 0x1511, UI, Instance);
 
 /// Referenced Transfer Syntax UID in File.
-const TRANSFER: Row = row!(0x0004, 0x1512, UI, Transfer);
+pub const TRANSFER: Row = row!(0x0004, 0x1512, UI, Transfer);
 
 /// Specific Character Set.
-const CHARSET: Row = row!(0x0008, 0x0005, CS, Charset);
+pub const CHARSET: Row = row!(0x0008, 0x0005, CS, Charset);
 
 /// Study Date.
-const STUDY_DATE: Row = row!(0x0008, 0x0020, DA, StudyDate);
+pub const STUDY_DATE: Row = row!(0x0008, 0x0020, DA, StudyDate);
 
 /// Study Time.
-const STUDY_TIME: Row = row!(0x0008, 0x0030, TM, StudyTime);
+pub const STUDY_TIME: Row = row!(0x0008, 0x0030, TM, StudyTime);
 
 /// Accession Number.
-const ACCESSION: Row = row!(0x0008, 0x0050, SH, Accession);
+pub const ACCESSION: Row = row!(0x0008, 0x0050, SH, Accession);
 
 /// Modality.
-const MODALITY: Row = row!(0x0008, 0x0060, CS, Modality);
+pub const MODALITY: Row = row!(0x0008, 0x0060, CS, Modality);
 
 /// Study Description.
-const DESCRIPTION: Row = row!(0x0008, 0x1030, LO, Description);
+pub const DESCRIPTION: Row = row!(0x0008, 0x1030, LO, Description);
 
 /// The creator of the private elements with the digest.
-const CREATOR: Row = row!(0x0009, 0x0010, LO, Creator);
+pub const CREATOR: Row = row!(0x0009, 0x0010, LO, Creator);
 
 /// The digest, a private element.
-const DIGEST: Row = row!(0x0009, 0x1001, OB, Digest);
+pub const DIGEST: Row = row!(0x0009, 0x1001, OB, Digest);
 
 /// Patient's Name.
-const PATIENT_NAME: Row = row!(0x0010, 0x0010, PN, PatientName);
+pub const PATIENT_NAME: Row = row!(0x0010, 0x0010, PN, PatientName);
 
 /// Patient ID.
-const PATIENT_ID: Row = row!(0x0010, 0x0020, LO, PatientId);
+pub const PATIENT_ID: Row = row!(0x0010, 0x0020, LO, PatientId);
 
 /// Study Instance UID.
-const STUDY_UID: Row = row!(0x0020, 0x000d, UI, StudyUid);
+pub const STUDY_UID: Row = row!(0x0020, 0x000d, UI, StudyUid);
 
 /// Series Instance UID.
-const SERIES_UID: Row = row!(0x0020, 0x000e, UI, SeriesUid);
+pub const SERIES_UID: Row = row!(0x0020, 0x000e, UI, SeriesUid);
 
 /// Study ID.
-const STUDY_ID: Row = row!(0x0020, 0x0010, SH, StudyId);
+pub const STUDY_ID: Row = row!(0x0020, 0x0010, SH, StudyId);
 
 /// Series Number.
-const SERIES_NUMBER: Row = row!(0x0020, 0x0011, IS, SeriesNumber);
+pub const SERIES_NUMBER: Row = row!(0x0020, 0x0011, IS, SeriesNumber);
 
 /// Instance Number.
-const NUMBER: Row = row!(0x0020, 0x0013, IS, Number);
+pub const NUMBER: Row = row!(0x0020, 0x0013, IS, Number);
 
 /// The elements of a PATIENT record (PS3.3 section F.5.1).
 const PATIENT: [Row; 7] = [NEXT, IN_USE, LOWER, KIND, CHARSET, PATIENT_NAME, PATIENT_ID];

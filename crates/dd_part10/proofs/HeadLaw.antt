@@ -54,7 +54,7 @@ clean_plain [] h = refl
 clean_plain (byte ∷ bs) h = ap (λ (s : List ℕ). keep byte s) (clean_plain bs (All-tail IsPlain byte bs h)) ∙ keep_plain byte bs (All-head IsPlain byte bs h)
 
 -- so is a UID
-clean_uid : (uid : List ℕ) → IsUid uid → clean_of uid ≡ uid
+pub clean_uid : (uid : List ℕ) → IsUid uid → clean_of uid ≡ uid
 clean_uid uid h = clean_plain uid (subst (λ (s : List ℕ). All IsPlain s) (sym h.joined) (joined_plain h.components h.each))
 
 -- a padding byte

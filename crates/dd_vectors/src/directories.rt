@@ -67,6 +67,62 @@ const ONE_IMAGE: &str = "\
 822 09000110 4f42 0000 20000000 900e75e1c153f87b21e09f9db68aef627f2dd320eb3afb1f2574594e6c862a92
 866 20001300 4953 0200 '1_";
 
+/// The rest as another tool may write it: lengths are undefined, a record is not in use, and one is of
+/// another type.
+const OTHER_TOOL: &str = "\
+274 04000012 554c 0400 40010000
+286 04000212 554c 0400 40010000
+298 04001212 5553 0200 0000
+308 04002012 5351 0000 ffffffff
+320 feff00e0 ffffffff
+328 04000014 554c 0400 00000000
+340 04001014 5553 0200 ffff
+350 04002014 554c 0400 9c010000
+362 04003014 4353 0800 'PATIENT_
+378 10001000 504e 0800 'DOE^JOHN
+394 10002000 4c4f 0200 'P1
+404 feff0de0 00000000
+412 feff00e0 ffffffff
+420 04000014 554c 0400 00000000
+432 04001014 5553 0200 ffff
+442 04002014 554c 0400 22020000
+454 04003014 4353 0600 'STUDY_
+468 08002000 4441 0800 '20240115
+484 08003000 544d 0600 '101500
+498 08005000 5348 0000
+506 08003010 4c4f 0000
+514 20000d00 5549 0600 '1.2.3~
+528 20001000 5348 0200 '1_
+538 feff0de0 00000000
+546 feff00e0 ffffffff
+554 04000014 554c 0400 00000000
+566 04001014 5553 0200 ffff
+576 04002014 554c 0400 86020000
+588 04003014 4353 0600 'SERIES
+602 08006000 4353 0200 'CT
+612 20000e00 5549 0800 '1.2.3.4~
+628 20001100 4953 0200 '1_
+638 feff0de0 00000000
+646 feff00e0 ffffffff
+654 04000014 554c 0400 32030000
+666 04001014 5553 0200 0000
+676 04002014 554c 0400 00000000
+688 04003014 4353 0600 'IMAGE_
+702 04000015 4353 0a00 'IMAGES\\IM1
+720 04001015 5549 1a00 '1.2.840.10008.5.1.4.1.1.2~
+754 04001115 5549 0a00 '1.2.3.4.5~
+772 04001215 5549 1400 '1.2.840.10008.1.2.1~
+800 20001300 4953 0200 '1_
+810 feff0de0 00000000
+818 feff00e0 ffffffff
+826 04000014 554c 0400 00000000
+838 04001014 5553 0200 ffff
+848 04002014 554c 0400 00000000
+860 04003014 4353 0c00 'SR_DOCUMENT_
+880 04000015 4353 0a00 'IMAGES\\SR1
+898 feff0de0 00000000
+906 feffdde0 00000000";
+
 /// V2, the directory of a file-set that holds nothing: 320 bytes.
 pub fn v2(alloc: Global) -> Result<Vec<u8>, Fail> {
     directory(alloc, NOTHING)
@@ -75,6 +131,11 @@ pub fn v2(alloc: Global) -> Result<Vec<u8>, Fail> {
 /// The directory of the file-set that has V1 alone: 876 bytes.
 pub fn first_directory(alloc: Global) -> Result<Vec<u8>, Fail> {
     directory(alloc, ONE_IMAGE)
+}
+
+/// V3, a directory as another tool may write it: 914 bytes.
+pub fn v3(alloc: Global) -> Result<Vec<u8>, Fail> {
+    directory(alloc, OTHER_TOOL)
 }
 
 /// The directory with these rows behind those of each, or an error where a row is not in its place.

@@ -10,6 +10,6 @@ mod source_file;
 mod texts;
 
 pub use cases::{answered, question};
-pub use directories::{first_directory, v2};
+pub use directories::{first_directory, v2, v3};
 pub use source_file::{SOURCE_ROWS, v1, v1_implicit, v1_with};
 pub use texts::{bytes_of, push_bytes, tag_of, text_of};

@@ -3,7 +3,7 @@ use Rattle.std.proofs.Common.{◌≡◌, ◌==◌, ◌^◌, ◌<◌, ℕ, Bool, 
 use Rattle.std.proofs.Common.{Err, Ok, Result, refl, ap, subst, arith, codes, drop, length, map}
 use Rattle.std.specs.List.{find}
 use Rattle.std.specs.Option.{option_map, unwrap_or}
-use Rattle.std.specs.Prelude.{IfSome, option_and_then, pos, slice_get, ◌++◌}
+use Rattle.std.specs.Prelude.{IfSome, option_and_then, pos, slice_get}
 use Rattle.std.specs.Borrow.{Bor}
 use Rattle.std.specs.Str.{bytes_eq}
 use Rattle.std.specs.Str.Parse.{IsNumeral, ParsesUnsigned, digits_value, signed_digits_value, starts_with_minus}
@@ -113,15 +113,9 @@ limit_parser = Signed (pos 0) (pos 4294967295)
 abbrev pub ArePassed : List Text → Type 0
 ArePassed values = values_kinds false limit_parser values ≡ []
 
-pub joined : (xs ys : List Text) → ArePassed xs → ArePassed ys → ArePassed (xs ++ ys)
-joined [] ys first second = second
-joined (x ∷ xs) ys first second =
-    let one = first_none (value_kinds false limit_parser x) _ first in
-    rw one (joined xs ys (second_none (value_kinds false limit_parser x) _ first) second)
-
 -- the rule is another argument's, or that of `--max-bytes`
 abbrev pub FitsLimit : Rule → Type 0
-FitsLimit = Fits (codes "max-bytes") WithoutMinus ArePassed joined
+FitsLimit = Fits (codes "max-bytes") WithoutMinus ArePassed
 
 pub limit_fits : (a : Rule) → a.action ≡ Some Set → a.parser ≡ Some limit_parser → a.ignore_case ≡ false
     → a.missing ≡ [] → a.defaults ≡ [] → FitsLimit a
@@ -155,18 +149,19 @@ first_passes (v ∷ vs) text passed is =
 
 -- a level with no fault whose rules fit has a number of 32 bits, where it has one
 pub level_limit : (s : Shape) (words : List Text) → Each FitsLimit s.rules
-    → level_fault s [] nothing_held words false [] ≡ [] → HasLimit (rows_after s.rules [] words)
-level_limit s words fits none text first = go (find (λ r. bytes_eq r.id (codes "max-bytes")) rows)
+    → s.args_override_self ≡ false → level_fault s [] nothing_held words false [] ≡ []
+    → HasLimit (rows_after s.rules [] words)
+level_limit s words fits once none text first = go (find (λ r. bytes_eq r.id (codes "max-bytes")) rows)
     (each_found _ (λ r. bytes_eq r.id (codes "max-bytes")) rows fine) first
   where
     rows : List Row
     rows = rows_after s.rules [] words
 
-    fine : Each (Fine (codes "max-bytes") WithoutMinus ArePassed joined) rows
-    fine = level_fine (codes "max-bytes") WithoutMinus ArePassed joined s fits [] words false [] none
+    fine : Each (Fine (codes "max-bytes") WithoutMinus ArePassed) rows
+    fine = level_fine (codes "max-bytes") WithoutMinus ArePassed s fits once [] words false [] none
 
     go : (o : Option Row)
-        → IfSome o (λ r. Fine (codes "max-bytes") WithoutMinus ArePassed joined r
+        → IfSome o (λ r. Fine (codes "max-bytes") WithoutMinus ArePassed r
         × (bytes_eq r.id (codes "max-bytes") ≡ true))
         → option_and_then (λ r. slice_get r.values 0) o ≡ Some text
         → (option_and_then row_text o ≡ Some (without_minus text)) × IsSignedIn (pos 0) (pos 4294967295) text

@@ -1,5 +1,5 @@
 -- Words at which no parse fails name a command of the program.
-use Rattle.std.proofs.Common.{◌≡◌, ◌≤◌, ◌&&◌, ℕ, Bool, true, false, not, List, [], ◌∷◌, Option, Some, None}
+use Rattle.std.proofs.Common.{◌≡◌, ◌≤◌, ◌&&◌, ◌+◌, ℕ, Bool, true, false, not, List, [], ◌∷◌, Option, Some, None}
 use Rattle.std.proofs.Common.{is_some, codes, refl, sym, ap, subst, ◌∙◌, true≢false, length, arith}
 use Rattle.std.proofs.lemmas.List.{length-append}
 use Rattle.std.specs.List.{find, list_any}
@@ -17,20 +17,23 @@ use Rattle.clap.specs.Simple.{label_of, names_of, rows_at, subcommand_of, with_r
 use Rattle.clap.specs.Takes.{is_given}
 use Rattle.clap.specs.declared.error.kind.ErrorKind.TheVariants.{DisplayHelpOnMissingArgumentOrSubcommand}
 use Rattle.clap.specs.declared.error.kind.ErrorKind.TheVariants.{MissingSubcommand}
+use Rattle.clap.specs.declared.builder.value_parser.Reading.TheVariants.{AsWritten}
 use Rattle.clap.specs.Walk.{finished, settled, Held, Names, Outcome, Row, Rule, Step, Text, Waiting, Walk}
 use Rattle.clap.specs.Walk.{after_flag, after_step, answers_to, arg_by_index, arg_by_long, bundle, done, idle}
 use Rattle.clap.specs.Walk.{long_met, long_or_other, next}
 use Rattle.clap.specs.Walk.{nothing_held, option, plain, plain_word, positional, refused, short_or_plain, stop_after}
 use Rattle.clap.specs.Walk.{subcommand, subcommand_met, subcommand_or_other, to_positional, trailing, value, waits}
 use Rattle.clap.specs.Walk.{rows_after, walk, walk_from, walked}
-use Rattle.dicomdir.specs.Line.{NamesCommand, dicomdir_app, given_for, given_paths, index_app}
+use Rattle.dicomdir.specs.Line.{GivesOneSet, NamesCommand, OnlyReads, dicomdir_app}
+use Rattle.dicomdir.specs.Line.{given_for, given_paths, index_app, merge_app, reading_app}
 use Rattle.dicomdir.specs.Line.{least_paths, some_paths, verb_name}
 use Rattle.dicomdir.specs.Line.{writing_app}
 use Rattle.dicomdir.specs.declared.line.Verb.{Verb}
-use Rattle.dicomdir.specs.declared.line.Verb.TheVariants.{Index}
+use Rattle.dicomdir.specs.declared.line.Verb.TheVariants.{Index, Merge, Check, List as ListSet}
 use Rattle.dicomdir.proofs.LineLimit.{FitsLimit, level_limit, limit_fits}
-use Rattle.dicomdir.proofs.LinePaths.{FitsPath, level_path, path_fits}
-use Rattle.dicomdir.proofs.LineRows.{Each, each_found, first_none, other_fits, second_none}
+use Rattle.dicomdir.proofs.LinePaths.{HasOne, HasOneAlone, IsAbsent, joined, level_absent, level_values}
+use Rattle.dicomdir.proofs.LinePaths.{one_fits, some_fits}
+use Rattle.dicomdir.proofs.LineRows.{Each, Fits, each_found, first_none, other_fits, second_none}
 use Rattle.dicomdir.proofs.LineWalk.{level_given}
 
 -- ---- faults that do not come
@@ -201,16 +204,25 @@ help_serves s named none name met other words fault = go (bytes_eq s.name name) 
     go false t = let nothing = rw (t, none) at met in absurd (true≢false (sym nothing))
 
 -- a command of the program
-verb_serves : (verb : Verb) (s : Shape) → s.name ≡ verb_name verb → Each FitsLimit s.rules
+verb_serves : (verb : Verb) (s : Shape) → s.name ≡ verb_name verb → s.args_override_self ≡ false
+    → Each FitsLimit s.rules
     → ((words : List Text) → level_fault s [] nothing_held words false [] ≡ []
-    → least_paths verb ≤ length (given_paths (rows_after s.rules [] words))) → Serves s
-verb_serves verb s named fits enough name met other words none = (
+    → (least_paths verb ≤ length (given_paths (rows_after s.rules [] words)))
+    × (OnlyReads verb → GivesOneSet (rows_after s.rules [] words))) → Serves s
+verb_serves verb s named once fits right name met other words none = (
   verb,
   rows_after s.rules [] words,
   rw named refl,
-  level_limit s words fits none,
-  enough words none,
+  level_limit s words fits once none,
+  (right words none).0,
+  (right words none).1,
 )
+
+-- how many paths a command was given
+paths_length : (given : List Row) → length (given_paths given)
+    ≡ length (given_for (codes "out") given)
+    + (length (given_for (codes "source") given) + length (given_for (codes "set") given))
+paths_length given = simp length-append
 
 -- ---- commands that write a directory
 
@@ -234,29 +246,82 @@ each_of_six : (P : Rule → Type 0) (id uid limit out last help : Rule) → P id
 each_of_six P id uid limit out last help a b c d e f = (a, (b, (c, (d, (e, (f, tt))))))
 
 writing_limits : (verb : Verb) (last : Text) → IsLast last → Each FitsLimit (writing verb last).rules
-writing_limits verb last is = each_of_six FitsLimit _ _ _ _ _ _ (other_fits _ _ _ _ _ refl refl)
-    (other_fits _ _ _ _ _ refl refl) (limit_fits _ refl refl refl refl refl) (other_fits _ _ _ _ _ refl refl)
-    (other_fits _ _ _ _ _ is.after_limit refl) (other_fits _ _ _ _ _ refl refl)
+writing_limits verb last is = each_of_six FitsLimit _ _ _ _ _ _ (other_fits _ _ _ _ refl refl)
+    (other_fits _ _ _ _ refl refl) (limit_fits _ refl refl refl refl refl) (other_fits _ _ _ _ refl refl)
+    (other_fits _ _ _ _ is.after_limit refl) (other_fits _ _ _ _ refl refl)
+
+-- the rule gives this argument a path
+abbrev FitsPath : Text → Rule → Type 0
+FitsPath name = Fits name AsWritten HasOne
 
 writing_outs : (verb : Verb) (last : Text) → IsLast last → Each (FitsPath (codes "out")) (writing verb last).rules
-writing_outs verb last is = each_of_six (FitsPath (codes "out")) _ _ _ _ _ _ (other_fits _ _ _ _ _ refl refl)
-    (other_fits _ _ _ _ _ refl refl) (other_fits _ _ _ _ _ refl refl) (path_fits _ _ tt refl refl refl)
-    (other_fits _ _ _ _ _ is.after_out refl) (other_fits _ _ _ _ _ refl refl)
+writing_outs verb last is = each_of_six (FitsPath (codes "out")) _ _ _ _ _ _ (other_fits _ _ _ _ refl refl)
+    (other_fits _ _ _ _ refl refl) (other_fits _ _ _ _ refl refl)
+    (some_fits _ _ tt refl refl refl)
+    (other_fits _ _ _ _ is.after_out refl) (other_fits _ _ _ _ refl refl)
 
 writing_lasts : (verb : Verb) (last : Text) → IsLast last → Each (FitsPath last) (writing verb last).rules
-writing_lasts verb last is = each_of_six (FitsPath last) _ _ _ _ _ _ (other_fits _ _ _ _ _ is.id refl)
-    (other_fits _ _ _ _ _ is.uid refl) (other_fits _ _ _ _ _ is.limit refl) (other_fits _ _ _ _ _ is.out refl)
-    (path_fits _ _ tt refl refl refl) (other_fits _ _ _ _ _ is.help refl)
+writing_lasts verb last is = each_of_six (FitsPath last) _ _ _ _ _ _ (other_fits _ _ _ _ is.id refl)
+    (other_fits _ _ _ _ is.uid refl) (other_fits _ _ _ _ is.limit refl) (other_fits _ _ _ _ is.out refl)
+    (some_fits _ _ joined refl refl refl) (other_fits _ _ _ _ is.help refl)
 
-writing_serves : (verb : Verb) (last : Text) → IsLast last
+writing_serves : (verb : Verb) (last : Text) → IsLast last → (OnlyReads verb → ⊥)
     → ((given : List Row) → 1 ≤ length (given_for (codes "out") given) → 1 ≤ length (given_for last given)
     → least_paths verb ≤ length (given_paths given)) → Serves (writing verb last)
-writing_serves verb last is enough = verb_serves verb (writing verb last) refl (writing_limits verb last is)
+writing_serves verb last is writes enough = verb_serves verb (writing verb last) refl refl (writing_limits verb last is)
     (λ words none.
-    let given = level_given (writing verb last) [] words [] none refl in
-    enough (rows_after (writing verb last).rules [] words)
-    (level_path (codes "out") (writing verb last) words (writing_outs verb last is) none given.1.1.1.0)
-    (level_path last (writing verb last) words (writing_lasts verb last is) none given.1.1.1.1.0))
+    let given = level_given (writing verb last) [] words [] none refl in (
+      enough (rows_after (writing verb last).rules [] words)
+          (level_values (codes "out") HasOne (writing verb last) words (writing_outs verb last is) refl none
+          given.1.1.1.0)
+          (level_values last HasOne (writing verb last) words (writing_lasts verb last is) refl none given.1.1.1.1.0),
+      λ reads. absurd (writes reads),
+    ))
+
+-- ---- commands that read one file-set
+
+-- such a command
+abbrev reading : Verb → Shape
+reading verb = built_leaf (reading_app (verb_name verb)).top
+
+-- its rules give a set alone
+reading_sets : (verb : Verb) → Each (Fits (codes "set") AsWritten HasOneAlone) (reading verb).rules
+reading_sets verb =
+    (one_fits _ _ tt refl refl refl refl, (other_fits _ _ _ _ refl refl, tt))
+
+-- and no argument of another name
+reading_absent : (verb : Verb) (name : Text) → bytes_eq (codes "set") name ≡ false
+    → bytes_eq (codes "help") name ≡ false → (words : List Text)
+    → level_fault (reading verb) [] nothing_held words false [] ≡ []
+    → find (λ r. bytes_eq r.id name) (rows_after (reading verb).rules [] words) ≡ None
+reading_absent verb name set help words none = level_absent name IsAbsent (reading verb) words
+    (other_fits _ _ _ _ set refl, (other_fits _ _ _ _ help refl, tt)) refl none (λ values never. never)
+
+-- what it was given
+reading_given : (verb : Verb) (words : List Text) → level_fault (reading verb) [] nothing_held words false [] ≡ []
+    → GivesOneSet (rows_after (reading verb).rules [] words)
+reading_given verb words none =
+    let rows = rows_after (reading verb).rules [] words in
+    let given = level_given (reading verb) [] words [] none refl in
+    let one : length (given_for (codes "set") rows) ≡ 1 =
+    level_values (codes "set") HasOneAlone (reading verb) words (reading_sets verb) refl none given.0 in
+    let out : given_for (codes "out") rows ≡ [] = rw (reading_absent verb (codes "out") refl refl words none) refl in
+    let source : given_for (codes "source") rows ≡ [] =
+    rw (reading_absent verb (codes "source") refl refl words none) refl in
+    record {
+      id = rw (reading_absent verb (codes "id") refl refl words none) refl;
+      uid = rw (reading_absent verb (codes "uid") refl refl words none) refl;
+      max_bytes = rw (reading_absent verb (codes "max-bytes") refl refl words none) refl;
+      paths = rw (out, source) one;
+    }
+
+reading_serves : (verb : Verb) → least_paths verb ≡ 1 → Serves (reading verb)
+reading_serves verb least = verb_serves verb (reading verb) refl refl
+    (other_fits _ _ _ _ refl refl, (other_fits _ _ _ _ refl refl, tt))
+    (λ words none.
+    let given = reading_given verb words none in
+    let paths = given.paths in
+    (omega arith, λ reads. given))
 
 -- ---- the commands of the program
 
@@ -269,7 +334,18 @@ index_serves = writing_serves Index (codes "source") (record {
   help = refl;
   after_limit = refl;
   after_out = refl;
-}) (λ given out source. omega (arith, length-append (given_for (codes "out") given) (given_for (codes "source") given)))
+}) (λ reads. reads) (λ given out source. let all = paths_length given in omega arith)
+
+merge_serves : Serves (built_leaf merge_app.top)
+merge_serves = writing_serves Merge (codes "set") (record {
+  id = refl;
+  uid = refl;
+  limit = refl;
+  out = refl;
+  help = refl;
+  after_limit = refl;
+  after_out = refl;
+}) (λ reads. reads) (λ given out set. let all = paths_length given in omega arith)
 
 -- words with no fault name a command
 pub names_command : (words : List Text) → fault_of dicomdir_app words ≡ []
@@ -283,5 +359,14 @@ names_command words none =
     let other : NotHelp stop = walk_not_help app.top (names_of app) (walk_from nothing_held) rest refl tt needs.0 in
     let one = walk_fault app.top (names_of app) (walk_from nothing_held) rest in
     let below : entered_fault app stop ≡ [] = first_none _ _ (second_none one _ none) in
-    let serves : Each Serves app.subs = (index_serves, (help_serves _ refl refl, tt)) in
+    let serves : Each Serves app.subs = (
+      index_serves,
+      (
+        merge_serves,
+        (
+          reading_serves Check refl,
+          (reading_serves ListSet refl, (help_serves _ refl refl, tt)),
+        ),
+      ),
+    ) in
     entered_serves app stop serves other (needs.1 refl) below

@@ -1,6 +1,7 @@
 -- What the rows of a walk with no fault hold of one argument.
 use Rattle.std.proofs.Common.{◌≡◌, ◌&&◌, ℕ, Bool, not, true, false, zero, suc, List, [], ◌∷◌, ◌++◌, Option, Some, None}
-use Rattle.std.proofs.Common.{refl, sym, subst, ◌∙◌, true≢false, length}
+use Rattle.std.proofs.Common.{refl, sym, subst, ap, ◌∙◌, ◌||◌, true≢false, length}
+use Rattle.std.proofs.lemmas.List.{append-nil}
 use Rattle.std.specs.List.{find}
 use Rattle.std.specs.Option.{option_map_or}
 use Rattle.std.specs.Prelude.{IfSome, ◌+◌, drop, encode_utf8, if◌then◌else◌, is_some, min, slice_get}
@@ -8,22 +9,24 @@ use Rattle.std.specs.Str.{bytes_eq, chars}
 use Rattle.std.proofs.lemmas.Slice.Eq.{bytes_eq-Decides}
 use Rattle.clap.specs.Faults.{bundle_fault, bundle_step_fault, flag_word_fault, flags_fault}
 use Rattle.clap.specs.Faults.{long_fault, option_fault, positional_fault, react_fault, settle_fault}
-use Rattle.clap.specs.Faults.{short_fault, use_fault}
-use Rattle.clap.specs.Kinds.{Kinds, or_else}
+use Rattle.clap.specs.Facts.{unwrap_or_range}
+use Rattle.clap.specs.Faults.{repeat_fault, short_fault, use_fault}
+use Rattle.clap.specs.Kinds.{Kinds, or_else, range_kinds}
 use Rattle.clap.specs.Lexer.{short_of}
 use Rattle.clap.specs.Matches.{count_text}
 use Rattle.clap.specs.declared.builder.value_parser.Reading.{Reading}
 use Rattle.clap.specs.declared.builder.action.ArgAction.{ArgAction}
 use Rattle.clap.specs.declared.builder.action.ArgAction.TheVariants.{Set, Append, SetTrue, SetFalse}
 use Rattle.clap.specs.declared.builder.action.ArgAction.TheVariants.{Count, Help, HelpShort, HelpLong, Version}
-use Rattle.clap.specs.declared.error.kind.ErrorKind.TheVariants.{TooManyValues}
+use Rattle.clap.specs.declared.error.kind.ErrorKind.TheVariants.{ArgumentConflict, TooManyValues}
 use Rattle.clap.specs.declared.parser.matches.ValueSource.{ValueSource}
 use Rattle.clap.specs.declared.parser.matches.ValueSource.TheVariants.{CommandLine}
 use Rattle.clap.specs.Walk.{Held, Outcome, Row, Rule, Text, Waiting, Walk, action_of, after_flag}
 use Rattle.clap.specs.Walk.{arg_by_id, arg_by_long, arg_by_short, at_row, attached_value}
-use Rattle.clap.specs.Walk.{bundle, bundle_met, bundle_step, count_of, counted, done, flag_met, has_long, has_short}
+use Rattle.clap.specs.Walk.{bundle, bundle_met, bundle_step, count_of, counted}
+use Rattle.clap.specs.Walk.{done, flag_met, has_long, has_row, has_short}
 use Rattle.clap.specs.Walk.{idle, is_pending, option_word}
-use Rattle.clap.specs.Walk.{long_met, long_or_other, more_values, new_count, option, option_met}
+use Rattle.clap.specs.Walk.{long_met, long_or_other, more_values, most_values, new_count, option, option_met}
 use Rattle.clap.specs.Walk.{plain, plain_word, positional, reacted, reading_by, refused, settled}
 use Rattle.clap.specs.Walk.{settled_rows, short_met, short_or_plain}
 use Rattle.clap.specs.Walk.{takes_several, takes_values, to_positional, used, used_as}
@@ -76,14 +79,38 @@ at_row_each P id change missing (r ∷ rows) changed more all =
 
 -- ---- the rows of one argument
 
--- the action keeps its values
-abbrev pub Stores : ArgAction → Type 0
-Stores Set = Unit {0}
-Stores Append = Unit {0}
-Stores other = ⊥
+-- the action keeps the values of one use, or of all, which are right together
+abbrev pub Stores : (List Text → Type 0) → ArgAction → Type 0
+Stores ok Set = Unit {0}
+Stores ok Append = (xs ys : List Text) → ok xs → ok ys → ok (xs ++ ys)
+Stores ok other = ⊥
 
-module _ (name : Text) (how : Reading) (ok : List Text → Type 0)
-    (joined : (xs ys : List Text) → ok xs → ok ys → ok (xs ++ ys)) where
+-- an argument that was not used has no row
+not_used : (a : Rule) (values : List Text) (rows : List Row) → use_fault false a values rows ≡ []
+    → action_of a ≡ Set → has_row a.id rows ≡ false
+not_used a values rows none set =
+    let acted = second_none (range_kinds (unwrap_or_range a.range).start_inclusive (most_values a) (length values)) _
+    none in
+    go (has_row a.id rows) (first_none (repeat_fault false a.id rows) _ (rw set at acted))
+  where
+    go : (t : Bool) → (if t && not false then ArgumentConflict ∷ [] else []) ≡ [] → t ≡ false
+    go true none = cc
+    go false none = refl
+
+-- where it has none a use adds one
+at_row_absent : (id : Text) (change : Row → List Row) (missing rows : List Row) → has_row id rows ≡ false
+    → at_row id change missing rows ≡ rows ++ missing
+at_row_absent id change missing [] none = refl
+at_row_absent id change missing (r ∷ rows) none =
+    go (bytes_eq r.id id) refl none (at_row_absent id change missing rows)
+  where
+    go : (t : Bool) → bytes_eq r.id id ≡ t → (bytes_eq r.id id || has_row id rows) ≡ false
+        → (has_row id rows ≡ false → at_row id change missing rows ≡ rows ++ missing)
+        → at_row id change missing (r ∷ rows) ≡ (r ∷ rows) ++ missing
+    go true t none rest = let some = rw t at none in absurd (true≢false some)
+    go false t none rest = rw t (ap (λ (x : List Row). r ∷ x) (rest (rw t at none)))
+
+module _ (name : Text) (how : Reading) (ok : List Text → Type 0) where
   -- a row of the argument has its reading, and values that are right
   pub record IsRow (r : Row) : Type 0 where
     pub reading : r.reading ≡ how
@@ -91,7 +118,7 @@ module _ (name : Text) (how : Reading) (ok : List Text → Type 0)
 
   -- the rule is another argument's, or makes such rows
   pub record Fits (a : Rule) : Type 0 where
-    pub stores : bytes_eq a.id name ≡ true → Stores (action_of a)
+    pub stores : bytes_eq a.id name ≡ true → Stores ok (action_of a)
     pub reading : bytes_eq a.id name ≡ true → reading_by a ≡ how
     pub passes : bytes_eq a.id name ≡ true → (again : Bool) (values : List Text) (rows : List Row)
         → use_fault again a values rows ≡ [] → ok (values_or_missing a values)
@@ -115,23 +142,31 @@ module _ (name : Text) (how : Reading) (ok : List Text → Type 0)
 
   -- ---- one use
 
-  more_fine : (id : Text) (s : ValueSource) (values : List Text) (r : Row) → (bytes_eq id name ≡ true → ok values)
+  more_fine : (id : Text) (s : ValueSource) (values : List Text) (r : Row)
+      → (bytes_eq id name ≡ true → (xs : List Text) → ok xs → ok (xs ++ values))
       → bytes_eq r.id id ≡ true → Fine r → Each Fine (more_values s values r)
-  more_fine id s values r right same fine = (
+  more_fine id s values r more same fine = (
     λ named.
         let is : r.id ≡ id = (bytes_eq-Decides r.id id).0 same in
         let there : bytes_eq id name ≡ true = subst (λ (x : Text). bytes_eq x name ≡ true) is named in
         let row = fine named in
-        record { reading = row.reading; values = joined r.values values row.values (right there) },
+        record { reading = row.reading; values = more there r.values row.values },
     tt,
   )
 
   with_values_fine : (id : Text) (r : Reading) (s : ValueSource) (values : List Text) (rows : List Row)
-      → (bytes_eq id name ≡ true → r ≡ how) → (bytes_eq id name ≡ true → ok values) → Each Fine rows
+      → (bytes_eq id name ≡ true → r ≡ how) → (bytes_eq id name ≡ true → ok values)
+      → (bytes_eq id name ≡ true → (xs : List Text) → ok xs → ok (xs ++ values)) → Each Fine rows
       → Each Fine (with_values id r s values rows)
-  with_values_fine id r s values rows read right all = at_row_each Fine id (more_values s values) _ rows
-      (λ row fine same. more_fine id s values row right same fine)
+  with_values_fine id r s values rows read right more all = at_row_each Fine id (more_values s values) _ rows
+      (λ row fine same. more_fine id s values row more same fine)
       (λ named. record { reading = read named; values = right named }, tt) all
+
+  with_values_other : (id : Text) (r : Reading) (s : ValueSource) (values : List Text) (rows : List Row)
+      → bytes_eq id name ≡ false → Each Fine rows → Each Fine (with_values id r s values rows)
+  with_values_other id r s values rows other all = with_values_fine id r s values rows
+      (λ named. absurd (true≢false (sym named ∙ other))) (λ named. absurd (true≢false (sym named ∙ other)))
+      (λ named. absurd (true≢false (sym named ∙ other))) all
 
   without_fine : (id : Text) (rows : List Row) → Each Fine rows → Each Fine (without id rows)
   without_fine id rows all = at_row_each Fine id (λ _. []) [] rows (λ row fine same. tt) tt all
@@ -156,63 +191,69 @@ module _ (name : Text) (how : Reading) (ok : List Text → Type 0)
       } ∷ []) = (λ named. absurd (true≢false (sym named ∙ other)), tt) in
       at_row_each Fine id (new_count CommandLine n) _ (without id rows)
       (λ row fine same. (λ named. absurd (is_other id row other same named), tt)) added (without_fine id rows all)
-  counted_fine id r (v ∷ vs) rows other all = with_values_fine id r _ (v ∷ vs) (without id rows)
-      (λ named. absurd (true≢false (sym named ∙ other))) (λ named. absurd (true≢false (sym named ∙ other)))
-      (without_fine id rows all)
+  counted_fine id r (v ∷ vs) rows other all =
+      with_values_other id r _ (v ∷ vs) (without id rows) other (without_fine id rows all)
 
   used_as_other : (x : ArgAction) (id : Text) (r : Reading) (values : List Text) (rows : List Row)
       → bytes_eq id name ≡ false → Each Fine rows → Each Fine (used_as x id r values rows)
-  used_as_other Set id r values rows other all = with_values_fine id r _ values (without id rows)
-      (λ named. absurd (true≢false (sym named ∙ other))) (λ named. absurd (true≢false (sym named ∙ other)))
-      (without_fine id rows all)
-  used_as_other SetTrue id r values rows other all = with_values_fine id r _ values (without id rows)
-      (λ named. absurd (true≢false (sym named ∙ other))) (λ named. absurd (true≢false (sym named ∙ other)))
-      (without_fine id rows all)
-  used_as_other SetFalse id r values rows other all = with_values_fine id r _ values (without id rows)
-      (λ named. absurd (true≢false (sym named ∙ other))) (λ named. absurd (true≢false (sym named ∙ other)))
-      (without_fine id rows all)
-  used_as_other Append id r values rows other all = with_values_fine id r _ values rows
-      (λ named. absurd (true≢false (sym named ∙ other))) (λ named. absurd (true≢false (sym named ∙ other))) all
+  used_as_other Set id r values rows other all =
+      with_values_other id r _ values (without id rows) other (without_fine id rows all)
+  used_as_other SetTrue id r values rows other all =
+      with_values_other id r _ values (without id rows) other (without_fine id rows all)
+  used_as_other SetFalse id r values rows other all =
+      with_values_other id r _ values (without id rows) other (without_fine id rows all)
+  used_as_other Append id r values rows other all = with_values_other id r _ values rows other all
   used_as_other Count id r values rows other all = counted_fine id r values rows other all
   used_as_other Help id r values rows other all = all
   used_as_other HelpShort id r values rows other all = all
   used_as_other HelpLong id r values rows other all = all
   used_as_other Version id r values rows other all = all
 
+  -- its one use
+  once_fine : (id : Text) (r : Reading) (s : ValueSource) (values : List Text) (rows : List Row)
+      → has_row id rows ≡ false → r ≡ how → ok values → Each Fine rows
+      → Each Fine (with_values id r s values (without id rows))
+  once_fine id r s values rows absent read right all =
+      let same : without id rows ≡ rows = at_row_absent id (λ _. []) [] rows absent ∙ append-nil rows in
+      let added = at_row_absent id (more_values s values) _ rows absent in
+      subst (λ (x : List Row). Each Fine (with_values id r s values x)) (sym same) (subst (Each Fine) (sym added)
+      (each_join Fine rows _ all (λ _. record { reading = read; values = right }, tt)))
+
   used_as_own : (x : ArgAction) (id : Text) (r : Reading) (values : List Text) (rows : List Row)
-      → Stores x → r ≡ how → ok values → Each Fine rows → Each Fine (used_as x id r values rows)
-  used_as_own Set id r values rows stores read right all =
-      with_values_fine id r _ values (without id rows) (λ _. read) (λ _. right) (without_fine id rows all)
-  used_as_own Append id r values rows stores read right all =
-      with_values_fine id r _ values rows (λ _. read) (λ _. right) all
-  used_as_own SetTrue id r values rows stores read right all = absurd stores
-  used_as_own SetFalse id r values rows stores read right all = absurd stores
-  used_as_own Count id r values rows stores read right all = absurd stores
-  used_as_own Help id r values rows stores read right all = absurd stores
-  used_as_own HelpShort id r values rows stores read right all = absurd stores
-  used_as_own HelpLong id r values rows stores read right all = absurd stores
-  used_as_own Version id r values rows stores read right all = absurd stores
+      → Stores ok x → (x ≡ Set → has_row id rows ≡ false) → r ≡ how → ok values → Each Fine rows
+      → Each Fine (used_as x id r values rows)
+  used_as_own Set id r values rows stores absent read right all =
+      once_fine id r _ values rows (absent refl) read right all
+  used_as_own Append id r values rows stores absent read right all =
+      with_values_fine id r _ values rows (λ _. read) (λ _. right) (λ _ xs fine. stores xs values fine right) all
+  used_as_own SetTrue id r values rows stores absent read right all = absurd stores
+  used_as_own SetFalse id r values rows stores absent read right all = absurd stores
+  used_as_own Count id r values rows stores absent read right all = absurd stores
+  used_as_own Help id r values rows stores absent read right all = absurd stores
+  used_as_own HelpShort id r values rows stores absent read right all = absurd stores
+  used_as_own HelpLong id r values rows stores absent read right all = absurd stores
+  used_as_own Version id r values rows stores absent read right all = absurd stores
 
   -- a use of an argument
-  used_fine : (again : Bool) (a : Rule) (values : List Text) (rows : List Row) → Fits a
+  used_fine : (again : Bool) → again ≡ false → (a : Rule) (values : List Text) (rows : List Row) → Fits a
       → use_fault again a values rows ≡ [] → Each Fine rows → Each Fine (used a values rows)
-  used_fine again a values rows fits none all = go (bytes_eq a.id name) refl
+  used_fine again once a values rows fits none all = go (bytes_eq a.id name) refl
     where
       go : (t : Bool) → bytes_eq a.id name ≡ t → Each Fine (used a values rows)
       go true t = used_as_own (action_of a) a.id (reading_by a) (values_or_missing a values) rows (fits.stores t)
-          (fits.reading t) (fits.passes t again values rows none) all
+          (not_used a values rows (rw once at none)) (fits.reading t) (fits.passes t again values rows none) all
       go false t =
           used_as_other (action_of a) a.id (reading_by a) (values_or_missing a values) rows t all
 
   -- ---- the words
 
-  by_id_fine : (again : Bool) (found : Option Rule) (values : List Text) (rows : List Row) → IfSome found Fits
-      → option_map_or (λ a. use_fault again a values rows) found [] ≡ [] → Each Fine rows
+  by_id_fine : (again : Bool) → again ≡ false → (found : Option Rule) (values : List Text) (rows : List Row)
+      → IfSome found Fits → option_map_or (λ a. use_fault again a values rows) found [] ≡ [] → Each Fine rows
       → Each Fine (used_by_id found values rows)
-  by_id_fine again None values rows fits none all = all
-  by_id_fine again (Some a) values rows fits none all = used_fine again a values rows fits none all
+  by_id_fine again once None values rows fits none all = all
+  by_id_fine again once (Some a) values rows fits none all = used_fine again once a values rows fits none all
 
-  module _ (c : List Rule) (each : Each Fits c) (again : Bool) where
+  module _ (c : List Rule) (each : Each Fits c) (again : Bool) (once : again ≡ false) where
     found_fits : (p : Rule → Bool) → IfSome (find p c) Fits
     found_fits p = go (find p c) (each_found Fits p c each)
       where
@@ -225,14 +266,14 @@ module _ (name : Text) (how : Reading) (ok : List Text → Type 0)
         → Each Fine rows → Each Fine (settled_rows c pending rows)
     settled_rows_fine None rows none all = all
     settled_rows_fine (Some p) rows none all =
-        by_id_fine again (arg_by_id c p.0) p.1 rows (found_fits (λ a. bytes_eq a.id p.0)) none all
+        by_id_fine again once (arg_by_id c p.0) p.1 rows (found_fits (λ a. bytes_eq a.id p.0)) none all
 
     pub settled_fine : (h : Held) → settle_fault c again h ≡ [] → Holds h → Holds (settled c h)
     settled_fine h none all = settled_rows_fine h.pending h.rows none all
 
     reacted_fine : (a : Rule) (values : List Text) (h : Held) → Fits a → react_fault c again a values h ≡ []
         → Holds h → Holds (reacted c a values h)
-    reacted_fine a values h fits none all = used_fine again a values (settled c h).rows fits
+    reacted_fine a values h fits none all = used_fine again once a values (settled c h).rows fits
         (second_none (settle_fault c again h) _ none) (settled_fine h (first_none _ _ none) all)
 
     option_fine : (a : Rule) (v : Option Text) (h : Held) → Fits a → option_fault c again a v h ≡ []

@@ -1,5 +1,5 @@
 -- What the rows of a level with no fault hold of one argument.
-use Rattle.std.proofs.Common.{◌≡◌, ℕ, Bool, true, false, List, [], ◌∷◌, ◌++◌, Option, Some, None}
+use Rattle.std.proofs.Common.{◌≡◌, ℕ, Bool, true, false, List, [], ◌∷◌, Option, Some, None}
 use Rattle.std.proofs.Common.{refl, sym, ap, subst, ◌∙◌, ◌&&◌, ◌||◌, not, true≢false}
 use Rattle.std.specs.List.{fold, list_any}
 use Rattle.std.specs.Prelude.{if◌then◌else◌}
@@ -23,32 +23,31 @@ use Rattle.clap.specs.Walk.{value, walk, walk_from, walked, with_default}
 use Rattle.dicomdir.proofs.LineRows.{Each, Fine, Fits, Holds, first_none, long_word_fine, second_none}
 use Rattle.dicomdir.proofs.LineRows.{settled_fine, to_positional_fine}
 
-module _ (name : Text) (how : Reading) (ok : List Text → Type 0)
-    (joined : (xs ys : List Text) → ok xs → ok ys → ok (xs ++ ys)) (s : Shape)
-    (each : Each (Fits name how ok joined) s.rules) where
+module _ (name : Text) (how : Reading) (ok : List Text → Type 0) (s : Shape)
+    (each : Each (Fits name how ok) s.rules) (once : s.args_override_self ≡ false) where
   met_fine : (met : Option Text) (waiting : Waiting) (position : ℕ) (word : Text) (h : Held)
-      → other_fault s met word h ≡ [] → Holds name how ok joined h
-      → Holds name how ok joined (subcommand_or_other s.rules met waiting position word h).0
+      → other_fault s met word h ≡ [] → Holds name how ok h
+      → Holds name how ok (subcommand_or_other s.rules met waiting position word h).0
   met_fine (Some sub) waiting position word h none all = all
   met_fine None waiting position word h none all = go (bytes_eq word (45 ∷ 45 ∷ [])) refl
     where
       go : (t : Bool) → bytes_eq word (45 ∷ 45 ∷ []) ≡ t
-          → Holds name how ok joined (subcommand_or_other s.rules None waiting position word h).0
+          → Holds name how ok (subcommand_or_other s.rules None waiting position word h).0
       go true t = rw t all
-      go false t = rw t (long_word_fine name how ok joined s.rules each s.args_override_self waiting word (long_of word)
+      go false t = rw t (long_word_fine name how ok s.rules each s.args_override_self once waiting word (long_of word)
           h (rw t at none) all)
 
   step_fine : (word : Text) (w : Walk) (h : Held) (step : Step) → step_fault s w.position h step ≡ []
-      → Holds name how ok joined h → Holds name how ok joined (after_step s.rules word w h step).held
+      → Holds name how ok h → Holds name how ok (after_step s.rules word w h step).held
   step_fine word w h (next waiting) none all = all
   step_fine word w h (trailing position) none all = all
   step_fine word w h (subcommand sub) none all = all
   step_fine word w h value none all = go (arg_by_index s.rules w.position) refl
     where
       go : (found : Option Rule) → arg_by_index s.rules w.position ≡ found
-          → Holds name how ok joined (to_positional s.rules (arg_by_index s.rules w.position) word w h).held
+          → Holds name how ok (to_positional s.rules (arg_by_index s.rules w.position) word w h).held
       go None e = rw e all
-      go (Some a) e = rw e (to_positional_fine name how ok joined s.rules each s.args_override_self (Some a) word w h
+      go (Some a) e = rw e (to_positional_fine name how ok s.rules each s.args_override_self once (Some a) word w h
           (rw e at none) all)
 
   turn_fine : (names : Names) (held : Held) (waiting : Waiting) (position : ℕ) (is_trailing : Bool)
@@ -59,8 +58,8 @@ module _ (name : Text) (how : Reading) (ok : List Text → Type 0)
         position = position;
         is_trailing = is_trailing;
         stopped = stopped;
-      }) word ≡ [] → Holds name how ok joined held
-      → Holds name how ok joined (walked s.rules names (record {
+      }) word ≡ [] → Holds name how ok held
+      → Holds name how ok (walked s.rules names (record {
         held = held;
         waiting = waiting;
         position = position;
@@ -76,7 +75,7 @@ module _ (name : Text) (how : Reading) (ok : List Text → Type 0)
       step_fine word _ _ _ (second_none (other_fault s met word held) _ none) fine
 
   walk_fine : (names : Names) (w : Walk) (words : List Text) → walk_fault s names w words ≡ []
-      → Holds name how ok joined w.held → Holds name how ok joined (fold (walked s.rules names) w words).held
+      → Holds name how ok w.held → Holds name how ok (fold (walked s.rules names) w words).held
   unfolding walk_fault
   walk_fine names w [] none all = all
   walk_fine names w (word ∷ rest) none all = walk_fine names (walked s.rules names w word) rest
@@ -84,7 +83,7 @@ module _ (name : Text) (how : Reading) (ok : List Text → Type 0)
       (turn_fine names w.held w.waiting w.position w.is_trailing w.stopped word (first_none _ _ none) all)
 
   -- defaults
-  no_defaults : (c : List Rule) (rows : List Row) → Each (Fits name how ok joined) c → fold with_default rows c ≡ rows
+  no_defaults : (c : List Rule) (rows : List Row) → Each (Fits name how ok) c → fold with_default rows c ≡ rows
   no_defaults [] rows fits = refl
   no_defaults (a ∷ c) rows fits =
       let same : with_default rows a ≡ rows = go (has_row a.id rows) in
@@ -97,16 +96,16 @@ module _ (name : Text) (how : Reading) (ok : List Text → Type 0)
   -- the rows of a level with no fault
   pub level_fine : (names : Names) (words : List Text) (has : Bool) (below : Kinds)
       → level_fault s names nothing_held words has below ≡ []
-      → Each (Fine name how ok joined) (rows_after s.rules names words)
+      → Each (Fine name how ok) (rows_after s.rules names words)
   level_fine names words has below none =
       let end = (walk s.rules names nothing_held words).held in
       let one = walk_fault s names (walk_from nothing_held) words in
       let rest : or_else (settle_fault s.rules s.args_override_self end) _ ≡ [] =
       second_none below _ (second_none one _ none) in
       let held = walk_fine names (walk_from nothing_held) words (first_none one _ none) tt in
-      let fine = settled_fine name how ok joined s.rules each s.args_override_self end
+      let fine = settled_fine name how ok s.rules each s.args_override_self once end
       (first_none _ _ rest) held in
-      subst (Each (Fine name how ok joined)) (sym (no_defaults s.rules (settled s.rules end).rows each)) fine
+      subst (Each (Fine name how ok)) (sym (no_defaults s.rules (settled s.rules end).rows each)) fine
 
 none_passes : {X : Type 0} (p : X → Bool) (xs : List X) → list_any p xs ≡ false → Each (λ x. p x ≡ false) xs
 none_passes p [] none = tt

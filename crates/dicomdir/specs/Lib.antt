@@ -2,6 +2,7 @@ pub mod Choosing
 pub mod Copying
 pub mod FileSupply
 pub mod Files
+pub mod Finding
 pub mod Indexed
 pub mod Indexing
 pub mod Line

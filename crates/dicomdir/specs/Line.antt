@@ -1,6 +1,9 @@
 -- The command line: which commands and arguments the program has, and what a line asks for.
 --
 --   dicomdir index [--id ID] [--uid UID] [--max-bytes N] OUT SRC...
+--   dicomdir merge [--id ID] [--uid UID] [--max-bytes N] OUT SET...
+--   dicomdir check SET
+--   dicomdir list SET
 use Rattle.std.specs.Prelude.{◌≡◌, ◌≢◌, ◌++◌, [], ℕ, List, Option, Some, None, map, string_bytes, String}
 use Rattle.std.specs.Prelude.{codes, length, option_map, pos, ◌≤◌, true, false, unwrap_or}
 use Rattle.std.specs.Str.Parse.{IsNumeral, signed_digits_value, without_leading_sign}
@@ -20,7 +23,7 @@ use Rattle.dicomdir.specs.declared.line.Asked.{Asked}
 use Rattle.dicomdir.specs.declared.line.LineFault.{LineFault}
 use Rattle.dicomdir.specs.declared.line.LineFault.TheVariants.{Refused, Memory}
 use Rattle.dicomdir.specs.declared.line.Verb.{Verb}
-use Rattle.dicomdir.specs.declared.line.Verb.TheVariants.{Index}
+use Rattle.dicomdir.specs.declared.line.Verb.TheVariants.{Index, Merge, Check, List as ListSet}
 
 -- ---- the arguments and commands
 
@@ -54,13 +57,26 @@ writing_app name = with_rule (with_rule (with_rule (with_rule (new_app name)
 abbrev pub index_app : App
 index_app = with_rule (writing_app (codes "index")) (some_paths (codes "source"))
 
+-- `merge [--id ID] [--uid UID] [--max-bytes N] OUT SET...`
+abbrev pub merge_app : App
+merge_app = with_rule (writing_app (codes "merge")) (some_paths (codes "set"))
+
+-- a command that reads one file-set: its name, and then SET
+abbrev pub reading_app : Text → App
+reading_app name = with_rule (new_app name) (one_path (codes "set"))
+
 -- a command line has to name one of the app's commands
 abbrev pub with_command_required : App → App
 with_command_required a = record a { top = record a.top { subcommand_required = true } }
 
 -- the program with its commands
 abbrev pub dicomdir_app : App
-dicomdir_app = with_subcommand (with_command_required (new_app (codes "dicomdir"))) index_app.top
+dicomdir_app = with_subcommand (with_subcommand (with_subcommand (with_subcommand
+    (with_command_required (new_app (codes "dicomdir")))
+    index_app.top)
+    merge_app.top)
+    (reading_app (codes "check")).top)
+    (reading_app (codes "list")).top
 
 -- ---- what a line asks for
 
@@ -71,18 +87,32 @@ words_of words = map (λ word. string_bytes word) words
 -- the command's name in the line
 abbrev pub verb_name : Verb → Text
 verb_name Index = codes "index"
+verb_name Merge = codes "merge"
+verb_name Check = codes "check"
+verb_name ListSet = codes "list"
 
 -- the values that an argument was given
 abbrev pub given_for : Text → List Row → List Text
 given_for name given = unwrap_or (all_of name given) []
 
--- the paths that a command was given
+-- the paths that a command was given: the folder that it writes to, and then those that it reads
 abbrev pub given_paths : List Row → List Text
-given_paths given = given_for (codes "out") given ++ given_for (codes "source") given
+given_paths given = given_for (codes "out") given
+    ++ (given_for (codes "source") given ++ given_for (codes "set") given)
 
 -- a command of this kind is given at least so many paths
 abbrev pub least_paths : Verb → ℕ
 least_paths Index = 2
+least_paths Merge = 2
+least_paths Check = 1
+least_paths ListSet = 1
+
+-- the command reads one file-set, and writes nothing
+abbrev pub OnlyReads : Verb → Type 0
+OnlyReads Index = ⊥
+OnlyReads Merge = ⊥
+OnlyReads Check = Unit {0}
+OnlyReads ListSet = Unit {0}
 
 -- the number that the text of `--max-bytes` spells in decimal, or the most that there is where it is not given
 abbrev pub IsLimit : Option Text → ℕ → Type 0
@@ -98,6 +128,13 @@ pub record Asks (a : Asked) (command : Text) (given : List Row) : Type 0 where
   pub max_bytes : IsLimit (first_of (codes "max-bytes") given) a.max_bytes
   pub paths : words_of a.paths.items ≡ given_paths given
 
+-- the path of one file-set, no ID, no UID, and the limit that stands where none is given
+pub record AsksForOneSet (a : Asked) : Type 0 where
+  pub id : a.id ≡ None
+  pub uid : a.uid ≡ None
+  pub max_bytes : a.max_bytes ≡ 4294967295
+  pub paths : length a.paths.items ≡ 1
+
 -- the command and the values are those of the command that the words name
 abbrev pub IsAsked : Asked → Option (Text × List Row) → Type 0
 IsAsked a None = ⊥
@@ -109,10 +146,17 @@ HasLimit given = (text : Text) → first_of (codes "max-bytes") given ≡ Some t
     → (one_of (codes "max-bytes") given ≡ Some (without_minus text))
     × IsSignedIn (pos 0) (pos 4294967295) text
 
+-- the path of one file-set was given, and no option
+pub record GivesOneSet (given : List Row) : Type 0 where
+  pub id : first_of (codes "id") given ≡ None
+  pub uid : first_of (codes "uid") given ≡ None
+  pub max_bytes : first_of (codes "max-bytes") given ≡ None
+  pub paths : length (given_paths given) ≡ 1
+
 -- the words name a command, and give it what it needs
 abbrev pub NamesCommand : Option (Text × List Row) → Type 0
 NamesCommand found = (verb : Verb) × (given : List Row) × (found ≡ Some (verb_name verb, given)) × HasLimit given
-    × (least_paths verb ≤ length (given_paths given))
+    × (least_paths verb ≤ length (given_paths given)) × (OnlyReads verb → GivesOneSet given)
 
 -- the words give the option `--id` this value
 abbrev pub GivesId : Option (Text × List Row) → Text → Type 0

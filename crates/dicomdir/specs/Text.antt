@@ -21,6 +21,13 @@ pub record FailsAmid (old new : Option (List ℕ)) (failures_old failures_new : 
   pub front : Appends old new (take taken bytes)
   pub failed : HasFailed failures_old failures_new
 
+-- it took some of the bytes from their front, and `rest` is still to be sent
+pub record Sent (bytes rest : List ℕ) (old new : Option (List ℕ)) (failures_old failures_new : ℕ)
+    : Type 0 where
+  pub gone : List ℕ
+  pub parts : bytes ≡ gone ++ rest
+  pub took : TakesAll old new failures_old failures_new gone
+
 -- the parts of a line, one behind the other
 abbrev pub joined : List (Bor (List ℕ)) → List ℕ
 joined parts = concat (map (λ part. part.now) parts)

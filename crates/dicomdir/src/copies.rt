@@ -1,14 +1,15 @@
 //! The images of a file-set, copied into its folder.
-ghost use Rattle.std.specs.Prelude.{◌≡◌, ◌+◌, ◌<◌, All, IfErr, length};
-ghost use Rattle.dicomdir.specs.Trouble.{IsOfWork};
+ghost use Rattle.std.specs.Prelude.{ℕ, All, IfErr};
+ghost use Rattle.dicomdir.specs.Trouble.{IsAmong, IsOfWork};
 
 use crate::copy::{CopyFault, copy_image};
-use crate::engine::Indexed;
 use crate::files::Files;
 use crate::image_path::{ImageFolder, ImagePath, PATH_LENGTH};
+use crate::origins::Origins;
 use crate::paths::path_in;
 use crate::trouble::{ProgramFault, Subject, Trouble};
 use dd_elem::FileId;
+use dd_layout::Plan;
 use std::alloc::Global;
 use std::fmt::InlineText;
 
@@ -20,30 +21,28 @@ pub(crate) const SOURCE_LIMIT: u64 = u32::MAX as u64;
 struct Image {
     /// Its File ID.
     file: FileId,
-    /// The number of the source that it is copied from.
-    at: usize,
-    /// The SHA-256 of that source when it was read.
+    /// The SHA-256 of the file that it is copied from, when that was read.
     digest: [u8; 32],
 }
 
-/// Copies each image from its source to its File ID in the folder, in the order of the plan.
-pub(crate) fn copy_images<F: Files>(
+/// Copies each image from its file to its File ID in the folder, in the order of the plan.
+pub(crate) fn copy_images<F: Files, O: Origins>(
     alloc: Global,
     folder: &str,
-    sources: &[String],
-    indexed: &Indexed,
+    plan: &Plan,
+    origins: &O,
+    picks: &[O::Pick],
     files: &mut F,
 ) -> Result<(), Trouble>
-    requires { All (λ at. at < length sources.now) indexed.now.picks.items }
-    ensures { IfErr result (IsOfWork (length sources.now)) }
+    requires { All (O.has origins.now) picks.now }
+    ensures { IfErr result (IsOfWork (O.paths origins.now)) }
 {
-    let versions = indexed.plan.versions();
-    let mut picks = indexed.picks.as_slice();
-    for record in indexed.plan.records() {
-        if let (Some(file), [at, later @ ..]) = (record.file, picks) {
+    let versions = plan.versions();
+    let mut picks = picks;
+    for record in plan.records() {
+        if let (Some(file), [pick, later @ ..]) = (record.file, picks) {
             let digest = versions[record.of].parts().digest;
-            let at = *at;
-            copy_one(alloc, folder, sources, Image { file, at, digest }, files)?;
+            copy_one(alloc, folder, Image { file, digest }, origins, *pick, files)?;
             picks = later;
         }
     }
@@ -51,25 +50,29 @@ pub(crate) fn copy_images<F: Files>(
 }
 
 /// Copies an image into the folder.
-fn copy_one<F: Files>(
+fn copy_one<F: Files, O: Origins>(
     alloc: Global,
     folder: &str,
-    sources: &[String],
     image: Image,
+    origins: &O,
+    pick: O::Pick,
     files: &mut F,
 ) -> Result<(), Trouble>
-    requires { image.at < length sources.now }
-    ensures { IfErr result (IsOfWork (length sources.now)) }
+    requires { O.has origins.now pick }
+    ensures { IfErr result (IsOfWork (O.paths origins.now)) }
 {
-    let source = Subject::Source(image.at);
-    let Ok(mut reader) = files.source(sources[image.at].as_str()) else {
-        return Err(Trouble::of(source, ProgramFault::Absent));
+    let Ok(path) = origins.path(alloc, pick) else {
+        return Err(Trouble::general(ProgramFault::Memory));
+    };
+    let origin = origins.subject(pick);
+    let Ok(mut reader) = files.source(path.as_str()) else {
+        return Err(Trouble::of(origin, ProgramFault::Absent));
     };
     start_copy(alloc, folder, image.file, files)?;
     match copy_image(&mut reader, files, SOURCE_LIMIT) {
-        Ok(digest) => finish_copy(image, digest, files),
-        Err(CopyFault::Unread) => Err(Trouble::of(source, ProgramFault::Unread)),
-        Err(CopyFault::Changed) => Err(Trouble::of(source, ProgramFault::Changed)),
+        Ok(digest) => finish_copy(image, origin, digest, files),
+        Err(CopyFault::Unread) => Err(Trouble::of(origin, ProgramFault::Unread)),
+        Err(CopyFault::Changed) => Err(Trouble::of(origin, ProgramFault::Changed)),
         Err(CopyFault::Unsent) => {
             Err(Trouble::of(Subject::Image(image.file), ProgramFault::Unsent))
         }
@@ -83,7 +86,7 @@ fn start_copy<F: Files>(
     file: FileId,
     files: &mut F,
 ) -> Result<(), Trouble>
-    ensures { IfErr result (IsOfWork 0) }
+    ensures { (paths : ℕ) → IfErr result (IsOfWork paths) }
 {
     let below = InlineText::<PATH_LENGTH>::of(&ImageFolder(file));
     let Ok(path) = path_in(alloc, folder, below.as_str()) else {
@@ -102,15 +105,21 @@ fn start_copy<F: Files>(
     }
 }
 
-/// Ends the copy of an image, whose SHA-256 must be that of the source when it was read.
-fn finish_copy<F: Files>(image: Image, digest: [u8; 32], files: &mut F) -> Result<(), Trouble>
-    ensures { IfErr result (IsOfWork (image.at + 1)) }
+/// Ends the copy of an image, which must have the SHA-256 of the file that it comes from when that was
+/// read.
+fn finish_copy<F: Files>(
+    image: Image,
+    origin: Subject,
+    digest: [u8; 32],
+    files: &mut F,
+) -> Result<(), Trouble>
+    ensures { (paths : ℕ) → IsAmong paths origin → IfErr result (IsOfWork paths) }
 {
     if files.finish().is_err() {
         return Err(Trouble::of(Subject::Image(image.file), ProgramFault::Unsent));
     }
     if digest != image.digest {
-        return Err(Trouble::of(Subject::Source(image.at), ProgramFault::Changed));
+        return Err(Trouble::of(origin, ProgramFault::Changed));
     }
     Ok(())
 }

@@ -12,6 +12,7 @@ use crate::engine::{Indexed, index_engine};
 use crate::engine_fault::EngineFault;
 use crate::file_supply::FileSupply;
 use crate::files::Files;
+use crate::origins::SourceFiles;
 use crate::paths::{DIRECTORY, path_in};
 use crate::trouble::{ProgramFault, Subject, Trouble};
 use dd_dir::write_directory;
@@ -111,7 +112,15 @@ pub(crate) fn finished<F: Files>(
     requires { IsWithin (length sources.now) indexed.now }
     ensures { IfErr result (IsOfWork (length sources.now)) }
 {
-    copy_images(alloc, folder, sources, indexed, files)?;
+    let origins = SourceFiles { paths: sources };
+    copy_images(
+        alloc,
+        folder,
+        &indexed.plan,
+        &origins,
+        &indexed.picks,
+        files,
+    )?;
     if files.folder(folder).is_err() {
         return Err(Trouble::of(Subject::Folder, ProgramFault::Folder));
     }

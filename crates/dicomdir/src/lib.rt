@@ -1,21 +1,25 @@
 //! The program `dicomdir`, over any files and outputs: its command line, and the file-set that it makes
 //! of sources (PS3.3 annex F, PS3.10 section 8).
 //!
-//! What it promises stands at `index_engine`, `copy_image`, `read_words` and `run`.
+//! What it promises stands at `index_engine`, `copy_image`, `finding_of`, `read_words` and `run`.
 #![tactic(auto)]
 
 mod choice;
 mod copies;
 mod copy;
+mod digest;
 mod engine;
 mod engine_fault;
 mod file_supply;
 mod files;
+mod findings;
 mod image_path;
 mod index;
 mod line;
+mod line_buffer;
 mod mem_files;
 mod mem_reader;
+mod origins;
 mod paths;
 mod picks;
 mod program;
@@ -27,9 +31,11 @@ mod watched;
 
 pub use choice::Choice;
 pub use copy::{CopyFault, copy_image};
+pub use digest::digest_text;
 pub use engine::{Indexed, index_engine};
 pub use engine_fault::EngineFault;
 pub use files::{Files, NotDone, NotThere};
+pub use findings::{Finding, finding_of};
 pub use line::{Asked, LineFault, Verb, read_words};
 pub use mem_files::MemFiles;
 pub use mem_reader::MemReader;

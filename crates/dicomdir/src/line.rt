@@ -6,6 +6,7 @@ ghost use Rattle.clap.specs.Words.{subcommand_of, subcommand_rows_of};
 ghost use Rattle.dicomdir.specs.Line.{Asks, HasApp, HasLimit, HasRule, IsAsked, IsLimit, IsRefusedFor, NamesCommand};
 ghost use Rattle.dicomdir.specs.Line.{dicomdir_app, given_for, given_paths, index_app, least_paths, number_option};
 ghost use Rattle.dicomdir.specs.Line.{one_path, some_paths, text_option, verb_name, words_of, writing_app};
+ghost use Rattle.dicomdir.specs.Line.{AsksForOneSet, GivesOneSet, OnlyReads, merge_app, reading_app};
 
 use clap::error::ErrorKind;
 use clap::{Arg, ArgMatches, Command, value_parser};
@@ -17,9 +18,16 @@ use thiserror::Error;
 pub enum Verb {
     /// Builds the directory of a file-set from its files: `index OUT SRC...`.
     Index,
+    /// Builds the directory of a file-set from other file-sets: `merge OUT SET...`.
+    Merge,
+    /// Compares the files of a file-set with its directory: `check SET`.
+    Check,
+    /// Lists the records of a directory: `list SET`.
+    List,
 }
 
-/// What a command line asks for.
+/// What a command line asks for. `check` and `list` have one path alone, no ID, no UID, and 4294967295 as
+/// the most bytes.
 #[derive(Debug, Drop)]
 pub struct Asked {
     /// The command.
@@ -30,8 +38,8 @@ pub struct Asked {
     pub uid: Option<String>,
     /// The most bytes that the directory may have: 4294967295 where the line does not say.
     pub max_bytes: u32,
-    /// The paths of the line: the folder that the command writes to, then those that it reads, in their
-    /// order.
+    /// The paths of the line: the folder that the command writes to, if it does, then those that it reads,
+    /// in their order.
     pub paths: Vec<String>,
 }
 
@@ -148,14 +156,63 @@ fn index_command<'a>(alloc: Global) -> Result<Command<'a>, AllocError>
     ))
 }
 
+/// The command `merge`.
+fn merge_command<'a>(alloc: Global) -> Result<Command<'a>, AllocError>
+    ensures { IfOk result (HasApp merge_app) }
+{
+    let about = "Makes a file-set of others: copies their images and writes its DICOMDIR";
+    writing(alloc, "merge", about)?.arg(paths(
+        alloc,
+        "set",
+        "SET",
+        "Folders of the file-sets, each with the DICOMDIR that this program wrote",
+    ))
+}
+
+/// A command that reads one file-set.
+fn reading<'a>(alloc: Global, name: &'a str, about: &'a str) -> Result<Command<'a>, AllocError>
+    ensures { IfOk result (HasApp (reading_app name.entry.now)) }
+{
+    Command::new(alloc, name)
+        .about(about)
+        .arg(path(alloc, "set", "SET", "Folder of the file-set"))
+}
+
+/// The command `check`.
+fn check_command<'a>(alloc: Global) -> Result<Command<'a>, AllocError>
+    ensures { IfOk result (HasApp (reading_app (codes "check"))) }
+{
+    reading(
+        alloc,
+        "check",
+        "Tells which files of a file-set are not those that its DICOMDIR names",
+    )
+}
+
+/// The command `list`.
+fn list_command<'a>(alloc: Global) -> Result<Command<'a>, AllocError>
+    ensures { IfOk result (HasApp (reading_app (codes "list"))) }
+{
+    reading(
+        alloc,
+        "list",
+        "Lists the records of a DICOMDIR, those of other programs too",
+    )
+}
+
 /// The program with its commands.
 fn program<'a>(alloc: Global) -> Result<Command<'a>, AllocError>
     ensures { IfOk result (HasApp dicomdir_app) }
 {
     Command::new(alloc, "dicomdir")
-        .about("Makes DICOM file-sets and their directory, the file DICOMDIR")
+        .about(
+            "Makes, merges, checks and lists DICOM file-sets with their directory, the file DICOMDIR",
+        )
         .subcommand_required(true)
-        .subcommand(index_command(alloc)?)
+        .subcommand(index_command(alloc)?)?
+        .subcommand(merge_command(alloc)?)?
+        .subcommand(check_command(alloc)?)?
+        .subcommand(list_command(alloc)?)
 }
 
 /// The value of an option, or `None` where it is not given.
@@ -194,13 +251,14 @@ fn append_values(
     Ok(())
 }
 
-/// The paths: the folder that is written to, and then those that are read.
+/// The paths: the folder that is written to, if any, and then those that are read.
 fn paths_of(alloc: Global, given: &ArgMatches<'_>) -> Result<Vec<String>, AllocError>
     ensures { IfOk result (λ paths. words_of paths.items ≡ given_paths (rows_of (found_of given.now))) }
 {
     let mut paths = Vec::new(alloc);
     append_values(alloc, given, "out", &mut paths)?;
     append_values(alloc, given, "source", &mut paths)?;
+    append_values(alloc, given, "set", &mut paths)?;
     Ok(paths)
 }
 
@@ -208,8 +266,10 @@ fn paths_of(alloc: Global, given: &ArgMatches<'_>) -> Result<Vec<String>, AllocE
 fn asked_by(alloc: Global, verb: Verb, given: &ArgMatches<'_>) -> Result<Asked, AllocError>
     requires limit { HasLimit (rows_of (found_of given.now)) }
     requires paths { least_paths verb ≤ length (given_paths (rows_of (found_of given.now))) }
+    requires set { OnlyReads verb → GivesOneSet (rows_of (found_of given.now)) }
     ensures values { IfOk result (λ asked. Asks asked (verb_name verb) (rows_of (found_of given.now))) }
     ensures paths { IfOk result (λ asked. least_paths asked.verb ≤ length asked.paths.items) }
+    ensures set { IfOk result (λ asked. OnlyReads asked.verb → AsksForOneSet asked) }
 {
     Ok(Asked {
         verb,
@@ -225,9 +285,13 @@ fn asked_of(alloc: Global, found: &ArgMatches<'_>) -> Result<Asked, AllocError>
     requires { NamesCommand (subcommand_rows_of found.now) }
     ensures values { IfOk result (λ asked. IsAsked asked (subcommand_rows_of found.now)) }
     ensures paths { IfOk result (λ asked. least_paths asked.verb ≤ length asked.paths.items) }
+    ensures set { IfOk result (λ asked. OnlyReads asked.verb → AsksForOneSet asked) }
 {
     match found.subcommand() {
         Some(("index", given)) => asked_by(alloc, Verb::Index, given),
+        Some(("merge", given)) => asked_by(alloc, Verb::Merge, given),
+        Some(("check", given)) => asked_by(alloc, Verb::Check, given),
+        Some(("list", given)) => asked_by(alloc, Verb::List, given),
         _ => unreachable!(),
     }
 }
@@ -253,6 +317,7 @@ pub fn read_words(alloc: Global, words: &[String]) -> Result<Asked, LineFault>
     ensures asked { IfOk result (λ asked.
         IsAsked asked (subcommand_of dicomdir_app (words_of words.now))) }
     ensures paths { IfOk result (λ asked. least_paths asked.verb ≤ length asked.paths.items) }
+    ensures set { IfOk result (λ asked. OnlyReads asked.verb → AsksForOneSet asked) }
     ensures passes { IfErr result (λ fault.
         takes dicomdir_app (words_of words.now) ≡ true
         → fault ≡ LineFault.Memory) }

@@ -29,6 +29,8 @@ use std::fmt::{self, InlineText};
 /// version, and `DONE <n> instances, <size> bytes`. A refusal is one line on the error output, `FAULT
 /// <path>: <fault>`, with `-` where it concerns no path; a text about the command line is the parser's.
 /// What is printed to the error output may get lost.
+///
+/// `merge`, `check` and `list` are taken and refused with status 1: they are not there yet.
 pub fn run<F: Files, O: Write, E: Write>(
     alloc: Global,
     words: Vec<String>,
@@ -78,6 +80,7 @@ fn run_asked<F: Files, O: Write, E: Write>(
     };
     match asked.verb {
         Verb::Index => run_index(alloc, asked, &choice, files, out, err),
+        Verb::Merge | Verb::Check | Verb::List => not_yet(err),
     }
 }
 
@@ -102,6 +105,14 @@ fn choice_of(asked: &Asked) -> Result<Choice, ProgramFault>
         },
     };
     Ok(Choice { id, uid })
+}
+
+/// Refuses a command that is not done yet, and answers the status.
+fn not_yet<E: Write>(err: &mut E) -> u8
+    ensures { result ≡ 1 }
+{
+    let _ = print_line(&["error: this command is not there yet"], err);
+    1
 }
 
 /// Runs `index`.

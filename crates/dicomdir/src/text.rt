@@ -2,6 +2,7 @@
 ghost use Rattle.std.specs.Prelude.{◌≡◌, OnErr, OnOk};
 ghost use Rattle.dicomdir.specs.Text.{FailsAmid, TakesAll, line_text};
 
+use crate::line_buffer::LineBuffer;
 use dd_elem::Write;
 use std::fmt;
 
@@ -13,7 +14,17 @@ pub fn send_text<W: Write>(text: &str, to: &mut W) -> fmt::Result
         (W.failures to.old) (W.failures to.new) text.now) }
     ensures rest { W.rest to.new ≡ W.rest to.old }
 {
-    let bytes = text.as_bytes();
+    send_bytes(text.as_bytes(), to)
+}
+
+/// Sends bytes, all of them or up to where the writer fails.
+pub(crate) fn send_bytes<W: Write>(bytes: &[u8], to: &mut W) -> fmt::Result
+    ensures sent { OnOk result (TakesAll (W.contents to.old) (W.contents to.new)
+        (W.failures to.old) (W.failures to.new) bytes.now) }
+    ensures unsent { OnErr result (FailsAmid (W.contents to.old) (W.contents to.new)
+        (W.failures to.old) (W.failures to.new) bytes.now) }
+    ensures rest { W.rest to.new ≡ W.rest to.old }
+{
     let mut at = 0;
     while at < bytes.len() {
         match to.write(&bytes[at..]) {
@@ -25,7 +36,7 @@ pub fn send_text<W: Write>(text: &str, to: &mut W) -> fmt::Result
 }
 
 /// Prints the parts of a line, one behind the other, and the end of the line: all of it or up to where
-/// the writer fails.
+/// the writer fails. A line that is not long is one write.
 pub fn print_line<W: Write>(parts: &[&str], to: &mut W) -> fmt::Result
     ensures sent { OnOk result (TakesAll (W.contents to.old) (W.contents to.new)
         (W.failures to.old) (W.failures to.new) (line_text parts.now)) }
@@ -33,10 +44,12 @@ pub fn print_line<W: Write>(parts: &[&str], to: &mut W) -> fmt::Result
         (W.failures to.old) (W.failures to.new) (line_text parts.now)) }
     ensures rest { W.rest to.new ≡ W.rest to.old }
 {
+    let mut line = LineBuffer::new();
     for part in parts {
-        send_text(part, to)?;
+        line.add(part.as_bytes(), to)?;
     }
-    send_text("\n", to)
+    line.add(b"\n", to)?;
+    line.flush(to)
 }
 
 /// A device that a text is printed to as it comes.

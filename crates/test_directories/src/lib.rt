@@ -4,6 +4,10 @@
 #[cfg(test)]
 mod derivation;
 #[cfg(test)]
+mod own;
+#[cfg(test)]
 mod publishing;
 #[cfg(test)]
 mod sending;
+#[cfg(test)]
+mod walks;

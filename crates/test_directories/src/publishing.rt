@@ -63,7 +63,7 @@ pub(crate) fn limits_of(bytes: &str) -> Result<Limits, Fail> {
 }
 
 /// The directory of the images with these letters.
-fn published(alloc: Global, letters: &str) -> Result<Vec<u8>, Fail> {
+pub(crate) fn published(alloc: Global, letters: &str) -> Result<Vec<u8>, Fail> {
     let catalogue = taken(alloc, letters)?;
     Ok(publish(alloc, &catalogue, &label_of("")?, limits_of("")?)?)
 }

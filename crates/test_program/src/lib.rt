@@ -4,11 +4,15 @@
 #[cfg(test)]
 mod copies;
 #[cfg(test)]
+mod digests;
+#[cfg(test)]
 mod disc;
 #[cfg(test)]
 mod engine;
 #[cfg(test)]
 mod faults;
+#[cfg(test)]
+mod findings;
 #[cfg(test)]
 mod lines;
 #[cfg(test)]

@@ -26,6 +26,13 @@ dicomdir index --max-bytes 4294967295 set image.dcm > Index - - 4294967295 set i
 dicomdir index --max-bytes 0007 set image.dcm > Index - - 7 set image.dcm
 dicomdir index --max-bytes +876 set image.dcm > Index - - 876 set image.dcm
 dicomdir index --max-bytes=-0 set image.dcm > Index - - 0 set image.dcm
+dicomdir merge set a > Merge - - 4294967295 set a
+dicomdir merge --id DISC1 set b a b --uid 2.25.1 > Merge DISC1 2.25.1 4294967295 set b a b
+dicomdir merge --max-bytes 7 set check > Merge - - 7 set check
+dicomdir check set > Check - - 4294967295 set
+dicomdir check -- --id > Check - - 4294967295 --id
+dicomdir list set > List - - 4294967295 set
+dicomdir list '' > List - - 4294967295 ''
 dicomdir > 2 true
 dicomdir build --uid 2.25.1 set image.dcm > 2 true
 dicomdir index > 2 true
@@ -44,6 +51,15 @@ dicomdir index --out set image.dcm > 2 true
 dicomdir --uid 2.25.1 index set image.dcm > 2 true
 dicomdir index set image.dcm --uid > 2 true
 dicomdir index set image.dcm --max-bytes > 2 true
+dicomdir merge > 2 true
+dicomdir merge out > 2 true
+dicomdir merge --max-bytes 4294967296 out set > 2 true
+dicomdir check > 2 true
+dicomdir check a b > 2 true
+dicomdir check --uid 2.25.1 a > 2 true
+dicomdir list > 2 true
+dicomdir list a b > 2 true
+dicomdir list --max-bytes 7 a > 2 true
 dicomdir help build > 2 true
 dicomdir --version > 2 true
 dicomdir --help > 0 false
@@ -51,7 +67,10 @@ dicomdir -h > 0 false
 dicomdir help > 0 false
 dicomdir help index > 0 false
 dicomdir index --help > 0 false
-dicomdir index -h > 0 false";
+dicomdir index -h > 0 false
+dicomdir merge -h > 0 false
+dicomdir check --help > 0 false
+dicomdir help list > 0 false";
 
 /// Appends a word, an empty one as `''`.
 fn push_word(text: &mut String, word: &str) -> Result<(), Fail> {

@@ -44,6 +44,46 @@ fn lines_are_printed_as_far_as_they_go(rt: HostRuntime) -> Result<(), Fail> {
     Ok(())
 }
 
+/// After how many bytes a device fails to which a line of 300, 300 and 600 characters is printed, whether it was, and
+/// how many of its bytes the device holds.
+const LONG: &str = "\
+2000 > true 1201
+1201 > true 1201
+1200 > false 1200
+700 > false 700
+300 > false 300
+299 > false 299";
+
+fn repeated(alloc: Global, character: char, count: u32) -> Result<String, AllocError> {
+    let mut text = String::new(alloc);
+    for _ in 0..count {
+        text.push(character)?;
+    }
+    Ok(text)
+}
+
+fn printed_long(alloc: Global, case: &str) -> Result<String, Fail> {
+    let mut sink = Sink::new(alloc, Some(question(case).parse()?));
+    let first = repeated(alloc, 'a', 300)?;
+    let second = repeated(alloc, 'b', 300)?;
+    let third = repeated(alloc, 'c', 600)?;
+    let is_printed = print_line(&[&first, &second, &third], &mut sink).is_ok();
+    let line = format!(in alloc; "{first}{second}{third}\n")?;
+    if !line.as_bytes().starts_with(sink.bytes()) {
+        return Err("other bytes were printed".into());
+    }
+    let held = sink.bytes().len();
+    Ok(answered(alloc, case, &format_args!("{is_printed} {held}"))?)
+}
+
+#[test]
+fn long_lines_are_printed_as_far_as_they_go(rt: HostRuntime) -> Result<(), Fail> {
+    for case in LONG.split('\n') {
+        assert_eq!(rt; printed_long(rt.alloc(), case)?.as_str(), case);
+    }
+    Ok(())
+}
+
 #[test]
 fn an_empty_text_does_not_fail(rt: HostRuntime) {
     let mut sink = Sink::new(rt.alloc(), Some(0));

@@ -1,7 +1,12 @@
-use Rattle.std.proofs.Common.{◌≡◌, ◌++◌, ℕ, List, [], refl, ap, subst, ◌∙◌}
+use Rattle.std.proofs.Common.{◌≡◌, ◌++◌, ℕ, List, [], refl, sym, ap, subst, ◌∙◌}
 use Rattle.dd_elem.specs.Sink.{Store}
 use Rattle.dd_layout.specs.Layouts.{Layout}
 use Rattle.dd_dir.specs.Directories.{IsDirectory, directory_of}
+use Rattle.dd_dir.specs.Keyed.{IsSent}
+use Rattle.dd_dir.specs.SaysItself.{SaysItself}
+use Rattle.dd_dir.specs.Visits.{Realises}
+use Rattle.dd_dir.proofs.OwnDirectories.{directory_says}
+use Rattle.dd_dir.proofs.Realised.{tree_realised}
 use Rattle.dd_dir.proofs.publishing.publish.Goals as goal
 
 pub returns-in-Ok-clause-bytes : goal.returns-in-Ok-clause-bytes
@@ -16,3 +21,20 @@ pub returns-in-Ok-clause-file : goal.returns-in-Ok-clause-file
 returns-in-Ok-clause-file c = λ ok.
     subst (λ (plan : Layout). IsDirectory plan.label plan.versions) c.in_ok-plan.ensures.planned
     (c.in-Ok.ensures.file refl)
+
+pub returns-in-Ok-clause-realised : goal.returns-in-Ok-clause-realised
+returns-in-Ok-clause-realised c =
+    let label = c.args.label.now in
+    let m = c.args.catalogue.now in
+    let sent = subst (λ (plan : Layout). IsSent plan.label plan.versions) c.in_ok-plan.ensures.planned
+    (c.in-Ok.ensures.sent refl) in
+    subst (λ (bytes : List ℕ). Realises label m bytes) (sym (returns-in-Ok-clause-bytes c)) (tree_realised label m sent)
+
+pub returns-in-Ok-clause-own : goal.returns-in-Ok-clause-own
+returns-in-Ok-clause-own c =
+    let label = c.args.label.now in
+    let m = c.args.catalogue.now in
+    let sent = subst (λ (plan : Layout). IsSent plan.label plan.versions) c.in_ok-plan.ensures.planned
+    (c.in-Ok.ensures.sent refl) in
+    subst (λ (bytes : List ℕ). SaysItself m bytes) (sym (returns-in-Ok-clause-bytes c))
+    (directory_says label m c.versions-versions.ensures.rising sent)

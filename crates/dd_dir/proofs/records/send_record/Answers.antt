@@ -1,10 +1,12 @@
-use Rattle.std.proofs.Common.{ap, sym, ◌∙◌, arith}
+use Rattle.std.proofs.Common.{ap, sym, subst, ◌∙◌, arith}
 use Rattle.std.proofs.lemmas.Result.{err_from_is_err_and}
+use Rattle.dd_keys.specs.Fitting.{Fits}
 use Rattle.dd_layout.specs.Records.{record_part}
 use Rattle.dd_layout.specs.Sizes.{record_size}
 use Rattle.dd_set.specs.Single.{part_text}
 use Rattle.dd_set.proofs.Going.{first_fails, then_sends, sends_same}
 use Rattle.dd_dir.specs.Directories.{entries_of}
+use Rattle.dd_dir.proofs.KeyedRecords.{keyed_is}
 use Rattle.dd_dir.proofs.RecordTexts.{entries_are, record_parts, second_fits}
 use Rattle.dd_dir.proofs.RowTexts.{text_of}
 use Rattle.dd_dir.proofs.records.send_record.Goals as goal
@@ -64,3 +66,25 @@ returns-clause-valid g c = λ ok.
     let are = entries_are c.args.versions.now planned c.index-versions-planned.result c.parts-parts.result.now
     c.requires.sound.0 c.index-versions-planned.is c.parts-parts.ensures.value in
     rw are (c.record_size.ensures.valid 31 planned.next planned.lower planned.file c.requires.sound.1)
+
+pub returns-in_err-sent-clause-keyed : goal.returns-in_err-sent-clause-keyed
+returns-in_err-sent-clause-keyed g c =
+    keyed_is c.args.versions.now c.args.planned.now c.index-versions-planned.result c.parts-parts.result.now
+    c.requires.sound.0 c.index-versions-planned.is c.parts-parts.ensures.value (record {
+      fits = subst Fits (sym c.parts-parts.ensures.value) c.parts-parts.ensures.fits;
+      patient = c.whole_patient.ensures;
+      study = c.whole_study.ensures;
+      series = c.whole_series.ensures;
+      image = c.whole_image.ensures;
+    })
+
+pub returns-clause-keyed : goal.returns-clause-keyed
+returns-clause-keyed g c =
+    keyed_is c.args.versions.now c.args.planned.now c.index-versions-planned.result c.parts-parts.result.now
+    c.requires.sound.0 c.index-versions-planned.is c.parts-parts.ensures.value (record {
+      fits = subst Fits (sym c.parts-parts.ensures.value) c.parts-parts.ensures.fits;
+      patient = c.whole_patient.ensures;
+      study = c.whole_study.ensures;
+      series = c.whole_series.ensures;
+      image = c.whole_image.ensures;
+    })

@@ -1,6 +1,8 @@
 use Rattle.std.proofs.Common.{true, refl}
 use Rattle.std.proofs.lemmas.Result.{err_from_is_err_and}
 use Rattle.dd_set.proofs.Going.{goes_on_fails, goes_on_piece}
+use Rattle.dd_dir.specs.Keyed.{IsKeyed}
+use Rattle.dd_dir.proofs.KeyedRecords.{row_more}
 use Rattle.dd_dir.proofs.RecordTexts.{record_at, record_valid}
 use Rattle.dd_dir.proofs.records.send_records.Goals as goal
 
@@ -20,4 +22,7 @@ loop-planned-preserved g c =
     record {
       goes = goes_on_piece _ _ _ _ _ _ _ _ _ _ _ _ _ c.loop-planned.invariant.goes at c.in_ok-sent.ensures.sends;
       valid = λ rest. c.loop-planned.invariant.valid (valid rest);
+      keyed = λ rest. c.loop-planned.invariant.keyed (row_more (IsKeyed c.args.versions.now) c.args.records.now
+          c.loop-planned.planned-index c.planned-item.result c.loop-planned-test.true c.planned-item.is
+          c.in_ok-sent.ensures.keyed rest);
     }

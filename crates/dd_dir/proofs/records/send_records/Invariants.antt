@@ -2,10 +2,11 @@ use Rattle.std.proofs.Common.{drop, map}
 use Rattle.std.specs.List.{AllByRecursion}
 use Rattle.dd_set.proofs.Going.{GoesOn}
 use Rattle.dd_dir.specs.Directories.{IsRecord, entries_of}
+use Rattle.dd_dir.specs.Keyed.{IsKeyed}
 use Rattle.dd_dir.proofs.RecordTexts.{records_text}
 use Rattle.dd_dir.proofs.records.send_records.Given as goal
 
--- the records that are left are still to be sent, and all are valid where those are
+-- the records that are left are still to be sent, and all are valid and keyed where those are
 abbrev pub invariant-loop-planned : goal.invariant-loop-planned
 invariant-loop-planned g l = record {
   goes : GoesOn (records_text l.versions l.records) (records_text l.versions (drop l.planned-index l.records))
@@ -14,4 +15,6 @@ invariant-loop-planned g l = record {
       (g.W.Write.failures l.writer);
   valid : AllByRecursion IsRecord (map (entries_of l.versions) (drop l.planned-index l.records))
       → AllByRecursion IsRecord (map (entries_of l.versions) l.records);
+  keyed : AllByRecursion (IsKeyed l.versions) (drop l.planned-index l.records)
+      → AllByRecursion (IsKeyed l.versions) l.records;
 }

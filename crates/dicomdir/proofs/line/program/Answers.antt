@@ -10,5 +10,8 @@ pub returns : goal.returns
 returns c =
     let start : HasApp (with_command_required (new_app (codes "dicomdir"))) c.subcommand_required.result =
     record { app = search rules; local = search rules } in
-    IfOk-weaker c.subcommand.result _ _
-    (λ m adds. with_sub _ _ _ _ _ start c.in_ok-index_command.ensures adds) c.subcommand.ensures
+    let index = with_sub _ _ _ _ _ start c.in_ok-index_command.ensures c.in_ok-subcommand.ensures in
+    let merge = with_sub _ _ _ _ _ index c.in_ok-merge_command.ensures c.in_ok-subcommand-2.ensures in
+    let check = with_sub _ _ _ _ _ merge c.in_ok-check_command.ensures c.in_ok-subcommand-3.ensures in
+    IfOk-weaker c.subcommand-4.result _ _
+    (λ m adds. with_sub _ _ _ _ _ check c.in_ok-list_command.ensures adds) c.subcommand-4.ensures

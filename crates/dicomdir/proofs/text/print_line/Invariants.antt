@@ -1,11 +1,11 @@
--- The parts before the next one are sent.
+-- The parts before the next one are taken up: what of them did not go waits.
 use Rattle.std.proofs.Common.{◌≡◌}
 use Rattle.dicomdir.proofs.TextLemmas.{SentTo}
 use Rattle.dicomdir.proofs.text.print_line.Given as goal
 
 abbrev pub invariant-loop-part : goal.invariant-loop-part
 invariant-loop-part g l = record {
-  sent : SentTo l.parts l.part-index
+  sent : SentTo l.parts l.part-index l.line
       (g.W.Write.contents l.initial.to) (g.W.Write.contents l.to)
       (g.W.Write.failures l.initial.to) (g.W.Write.failures l.to);
   stays : g.W.Write.rest l.to ≡ g.W.Write.rest l.initial.to;

@@ -1,7 +1,7 @@
 -- The writer took the bytes before `at`, and did not fail.
 use Rattle.std.proofs.Common.{◌≡◌, length, ◌-◌, ◌≤◌, take}
 use Rattle.dicomdir.specs.Text.{TakesAll}
-use Rattle.dicomdir.proofs.text.send_text.Given as goal
+use Rattle.dicomdir.proofs.text.send_bytes.Given as goal
 
 abbrev pub invariant-loop-at : goal.invariant-loop-at
 invariant-loop-at g l = record {

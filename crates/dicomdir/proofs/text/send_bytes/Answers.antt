@@ -1,7 +1,7 @@
 -- A write that takes bytes does not fail, and the writer then took the bytes before the new `at`.
 use Rattle.std.proofs.Common.{rules, arith, ◌∙◌}
 use Rattle.dicomdir.proofs.TextLemmas.{appends_rest}
-use Rattle.dicomdir.proofs.text.send_text.Goals as goal
+use Rattle.dicomdir.proofs.text.send_bytes.Goals as goal
 
 pub loop-at-preserved : goal.loop-at-preserved
 loop-at-preserved g c = record {

@@ -1,0 +1,69 @@
+-- Harmony keeps the image of each version: its path and the fields of the image itself.
+use Rattle.std.specs.Prelude.{◌≡◌, ℕ, List, [], ◌∷◌, Option, Some, map, find}
+use Rattle.std.proofs.Common.{refl, sym, ◌∙◌, ap, subst, inl, inr}
+use Rattle.dd_keys.specs.declared.parts.Parts.{Parts}
+use Rattle.dd_catalogue.specs.Agreement.{IsSameImage, HaveSameImages}
+use Rattle.dd_catalogue.specs.BestLaws.{Member, member_of, contained}
+use Rattle.dd_catalogue.specs.Clash.{conflicts, pair_or, clash}
+use Rattle.dd_catalogue.specs.Harmony.{patient_of, study_of, series_of, agreed, harmonised}
+use Rattle.dd_catalogue.specs.Rising.{by_test}
+use Rattle.dd_catalogue.proofs.Harmonies.{member-map}
+use Rattle.dd_catalogue.proofs.Harmonised.{is_like, patients_ordered, studies_ordered, series_ordered, member-unmap}
+
+pub agreed_image : (m : List Parts) (v : Parts) → Member v m → IsSameImage v (agreed m v)
+agreed_image m v i = record {
+  patient = sym (is_like patient_of patients_ordered m v i).like;
+  study = sym (is_like study_of studies_ordered m v i).like;
+  series = sym (is_like series_of series_ordered m v i).like;
+  instance = refl;
+  digest = refl;
+  number = refl;
+  class = refl;
+  transfer = refl;
+}
+
+pub harmony_keeps_images : (m : List Parts) → HaveSameImages m (harmonised m)
+harmony_keeps_images m = record {
+  first = λ v c. let i = member_of v m c in
+      (agreed m v, contained (agreed m v) (harmonised m) (member-map (agreed m) v m i), agreed_image m v i);
+  second = λ w c. let from = member-unmap (agreed m) w m (member_of w (harmonised m) c) in
+      (from.0, contained from.0 m from.1, subst (λ x. IsSameImage from.0 x) from.2 (agreed_image m from.0 from.1));
+}
+
+-- ---- what an image's path and fields alone determine
+
+map_kept : {V A : Type 0} (f : V → V) (g : V → A) (m : List V) → ((v : V) → Member v m → g (f v) ≡ g v)
+    → map g (map f m) ≡ map g m
+map_kept f g [] h = refl
+map_kept f g (v ∷ m) h = λ j. h v (inl refl) j ∷ map_kept f g m (λ w i. h w (inr i)) j
+
+-- what is the same for versions of one image is the same, in its order, of a set and of its harmony
+pub harmony_keeps : {A : Type 0} (g : Parts → A) → ((v w : Parts) → IsSameImage v w → g v ≡ g w) → (m : List Parts)
+    → map g (harmonised m) ≡ map g m
+harmony_keeps g same m = map_kept (agreed m) g m (λ v i. sym (same v (agreed m v) (agreed_image m v i)))
+
+-- ---- conflicts
+
+same_conflicts : (v v' w w' : Parts) → IsSameImage v v' → IsSameImage w w' → conflicts v' w' ≡ conflicts v w
+same_conflicts v v' w w' one other =
+    rw (one.patient, one.study, one.series, other.patient, other.study, other.series) refl
+
+clash_by_pair : (f : Parts → Parts) (v : Parts) (m : List Parts) (other : Option (List ℕ × List ℕ))
+    → IsSameImage v (f v) → ((w : Parts) → Member w m → IsSameImage w (f w))
+    → pair_or (f v) (find (conflicts (f v)) (map f m)) other ≡ pair_or v (find (conflicts v) m) other
+clash_by_pair f v [] other one h = refl
+clash_by_pair f v (w ∷ m) other one h =
+    let same = same_conflicts v (f v) w (f w) one (h w (inl refl)) in
+    by_test (conflicts v w)
+    (λ e. rw (same ∙ e, e) (λ j. Some (sym one.instance j, sym (h w (inl refl)).instance j)))
+    (λ e. rw (same ∙ e, e) (clash_by_pair f v m other one (λ u i. h u (inr i))))
+
+same_clash : (f : Parts → Parts) (m : List Parts) → ((v : Parts) → Member v m → IsSameImage v (f v))
+    → clash (map f m) ≡ clash m
+same_clash f [] h = refl
+same_clash f (v ∷ m) h =
+    clash_by_pair f v m (clash (map f m)) (h v (inl refl)) (λ w i. h w (inr i))
+    ∙ ap (λ x. pair_or v (find (conflicts v) m) x) (same_clash f m (λ w i. h w (inr i)))
+
+pub harmony_keeps_clash : (m : List Parts) → clash (harmonised m) ≡ clash m
+harmony_keeps_clash m = same_clash (agreed m) m (λ v i. agreed_image m v i)

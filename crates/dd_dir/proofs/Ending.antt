@@ -1,0 +1,148 @@
+-- What is known of the slots before the first step, and how many are left after the last.
+use Rattle.std.proofs.Common.{◌≡◌, ℕ, ◌+◌, ◌≤◌, ◌==◌, Bool, true, false, List, [], ◌∷◌, length, map, Option, Some}
+use Rattle.std.proofs.Common.{None, option_map}
+use Rattle.std.proofs.Common.{if◌then◌else◌, refl, sym, ap, subst, ◌∙◌, arith, ◌≢◌, ◌⊎◌, inl, inr}
+use Rattle.std.proofs.lemmas.List.{length-map}
+use Rattle.dd_part10.proofs.Tags.{neq_eqb}
+use Rattle.dd_set.specs.Elements.{Elements}
+use Rattle.dd_set.specs.declared.set.DataSet.{DataSet}
+use Rattle.dd_set.specs.declared.set.Item.{Item}
+use Rattle.dd_set.specs.Views.{set_view, items_view}
+use Rattle.dd_dir.specs.declared.fault.DirFault.{DirFault}
+use Rattle.dd_dir.specs.declared.fault.DirFault.TheVariants.{Memory}
+use Rattle.dd_dir.specs.Gives.{Fails, Follows}
+use Rattle.dd_dir.specs.Reading.{Contents, stands_of, count_unseen, AreTrees, IsWalkOf, EndElsewhere, RefusesOf}
+use Rattle.dd_dir.specs.Saying.{sets_of}
+use Rattle.dd_dir.specs.Slots.{Rises, AreLeft, reached, count_left, slots_view}
+use Rattle.dd_dir.specs.Trees.{Trees, places, last_root_or}
+use Rattle.dd_dir.specs.Walks.{Seen, nothing, with_all, AreApart, Stops}
+use Rattle.dd_dir.proofs.Lifting.{same_start}
+use Rattle.dd_dir.proofs.Moved.{sets_many}
+use Rattle.dd_dir.proofs.WalkFiles.{refuses_stop}
+use Rattle.dd_dir.proofs.WalkLaws.{stop_fault}
+
+pub all_left : (sets : List Elements) → AreLeft sets (map (λ (set : Elements). Some set) sets)
+all_left [] = tt
+all_left (set ∷ sets) = (refl, all_left sets)
+
+chosen_false : (b : Bool) → (if b then false else false) ≡ false
+chosen_false true = refl
+chosen_false false = refl
+
+none_at : (starts : List ℕ) (sets : List Elements) (p : ℕ)
+    → reached starts (map (λ (set : Elements). Some set) sets) p ≡ false
+none_at [] sets p = refl
+none_at (start ∷ starts) [] p = refl
+none_at (start ∷ starts) (set ∷ sets) p =
+    ap (λ (b : Bool). if p == start then false else b) (none_at starts sets p) ∙ chosen_false (p == start)
+
+pub none_reached : (starts : List ℕ) (sets : List Elements)
+    → reached starts (map (λ (set : Elements). Some set) sets) ≡ nothing
+none_reached starts sets = λ i p. none_at starts sets p i
+
+pub count_full : (sets : List Elements) → count_left (map (λ (set : Elements). Some set) sets) ≡ length sets
+count_full [] = refl
+count_full (set ∷ sets) = omega (arith, count_full sets)
+
+-- ---- those that are left
+
+-- places are counted alike by tests that are equal on them
+count_alike : (seen other : Seen) (low : ℕ) (ps : List ℕ) → Rises low ps → ((p : ℕ) → low ≤ p → seen p ≡ other p)
+    → count_unseen seen ps ≡ count_unseen other ps
+count_alike seen other low [] rise alike = refl
+count_alike seen other low (p ∷ ps) rise alike =
+    let rest = count_alike seen other (p + 1) ps rise.1 (λ q above. alike q (omega (arith, rise.0))) in
+    rw (alike p rise.0, rest) refl
+
+above_other : (p start : ℕ) → start + 1 ≤ p → (p == start) ≡ false
+above_other p start above = neq_eqb p start (λ e. absurd (omega arith))
+
+pub count_reached : (low : ℕ) (starts : List ℕ) (slots : List (Option Elements)) → Rises low starts
+    → length starts ≡ length slots
+    → count_left slots ≡ count_unseen (reached starts slots) starts
+count_reached low [] [] rise same = refl
+count_reached low [] (slot ∷ slots) rise same = absurd (omega arith)
+count_reached low (start ∷ starts) [] rise same = absurd (omega arith)
+count_reached low (start ∷ starts) (None ∷ slots) rise same =
+    let rest = count_reached (start + 1) starts slots rise.1 (omega arith) in
+    let alike = count_alike (reached starts slots) (reached (start ∷ starts) (None ∷ slots)) (start + 1) starts rise.1
+    (λ p above. rw (above_other p start above) refl) in
+    rw (same_start start) (rest ∙ alike)
+count_reached low (start ∷ starts) (Some held ∷ slots) rise same =
+    let rest = count_reached (start + 1) starts slots rise.1 (omega arith) in
+    let alike = count_alike (reached starts slots) (reached (start ∷ starts) (Some held ∷ slots))
+    (start + 1) starts rise.1
+    (λ p above. rw (above_other p start above) refl) in
+    rw (same_start start) (ap (λ (n : ℕ). 1 + n) (rest ∙ alike))
+
+-- ---- the whole
+
+pub full_left : (sets : List Elements) (slots : List (Option Elements))
+    → slots ≡ map (λ (set : Elements). Some set) sets
+    → AreLeft sets slots
+full_left sets slots is = subst (λ (xs : List (Option Elements)). AreLeft sets xs) (sym is) (all_left sets)
+
+full_unseen : (starts : List ℕ) (sets : List Elements) (slots : List (Option Elements))
+    → slots ≡ map (λ (set : Elements). Some set) sets → reached starts slots ≡ nothing
+full_unseen starts sets slots is = ap (λ (xs : List (Option Elements)). reached starts xs) is ∙ none_reached starts sets
+
+pub slots_many : (slots : List (Option DataSet)) (parts : List Item)
+    → slots_view slots ≡ map (λ (set : Elements). Some set) (sets_of (items_view parts)) → length slots ≡ length parts
+slots_many slots parts is =
+    sym (length-map slots (λ (slot : Option DataSet). option_map set_view slot))
+    ∙ ap (λ (xs : List (Option Elements)). length xs) is
+    ∙ length-map (sets_of (items_view parts)) (λ (set : Elements). Some set) ∙ sets_many parts
+
+pub slots_left : (slots : List (Option Elements)) (parts : List Item)
+    → slots ≡ map (λ (set : Elements). Some set) (sets_of (items_view parts)) → count_left slots ≡ length parts
+slots_left slots parts is =
+    ap (λ (xs : List (Option Elements)). count_left xs) is ∙ count_full (sets_of (items_view parts)) ∙ sets_many parts
+
+-- why the records form no trees
+pub fails_as : (contents : Contents) (slots : List (Option Elements)) (fault : DirFault)
+    → slots ≡ map (λ (set : Elements). Some set) contents.sets
+    → Fails contents.starts contents.sets contents.first 0 slots fault
+    → (fault ≡ Memory) ⊎ RefusesOf contents fault
+fails_as contents slots fault is (inl memory) = inl memory
+fails_as contents slots fault is (inr stops) =
+    let moved = subst (λ (seen : Seen). Stops (stands_of contents) contents.first 0 seen fault)
+    (full_unseen contents.starts contents.sets slots is) stops in
+    inr (refuses_stop contents fault (stop_fault (stands_of contents) contents.first 0 nothing fault moved) moved)
+
+-- the trees that they form
+pub follows_trees : (contents : Contents) (slots new : List (Option Elements)) (trees : Trees)
+    → slots ≡ map (λ (set : Elements). Some set) contents.sets
+    → Follows contents.starts contents.sets contents.first 0 slots new trees → AreTrees contents trees
+follows_trees contents slots new trees is follows = record {
+  chain = follows.chain;
+  apart = subst (λ (seen : Seen). AreApart seen (places trees))
+      (full_unseen contents.starts contents.sets slots is) follows.apart;
+}
+
+pub ends_elsewhere : (contents : Contents) (slots new : List (Option Elements)) (trees : Trees)
+    → slots ≡ map (λ (set : Elements). Some set) contents.sets
+    → Follows contents.starts contents.sets contents.first 0 slots new trees → last_root_or 0 trees ≢ contents.last
+    → EndElsewhere contents
+ends_elsewhere contents slots new trees is follows other = record {
+  trees = trees;
+  are_trees = follows_trees contents slots new trees is follows;
+  elsewhere = other;
+}
+
+pub walk_of : (contents : Contents) (slots new : List (Option Elements)) (trees : Trees) (id : List ℕ) (unreached : ℕ)
+    → slots ≡ map (λ (set : Elements). Some set) contents.sets → Rises 0 contents.starts
+    → length contents.starts ≡ length new
+    → Follows contents.starts contents.sets contents.first 0 slots new trees → last_root_or 0 trees ≡ contents.last
+    → id ≡ contents.id → unreached ≡ count_left new
+    → IsWalkOf contents (record { id = id; trees = trees; unreached = unreached })
+walk_of contents slots new trees id unreached is rise same follows ends id_is count = record {
+  trees = follows_trees contents slots new trees is follows;
+  ends = ends;
+  id = id_is;
+  unreached =
+      let adds : reached contents.starts new ≡ with_all (places trees) nothing =
+      follows.adds ∙ ap (λ (seen : Seen). with_all (places trees) seen)
+      (full_unseen contents.starts contents.sets slots is) in
+      count ∙ count_reached 0 contents.starts new rise same
+      ∙ ap (λ (seen : Seen). count_unseen seen contents.starts) adds;
+}

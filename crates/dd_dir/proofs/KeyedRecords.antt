@@ -1,0 +1,36 @@
+-- Records of versions whose parts are whole, one after the other.
+use Rattle.std.proofs.Common.{◌≡◌, ℕ, ◌+◌, ◌<◌, List, ◌∷◌, length, drop, get_or, Some}
+use Rattle.std.proofs.Common.{sym, ap, subst, ◌∙◌}
+use Rattle.std.specs.List.{AllByRecursion}
+use Rattle.std.proofs.lemmas.List.{at_drop_more}
+use Rattle.std.proofs.lemmas.Option.{slice_get-get_or}
+use Rattle.dd_elem.specs.Clean.{clean_of}
+use Rattle.dd_keys.specs.declared.parts.Parts.{Parts}
+use Rattle.dd_layout.specs.declared.level.Level.{Level}
+use Rattle.dd_layout.specs.declared.level.Level.TheVariants.{Patient, Study, Series, Image}
+use Rattle.dd_layout.specs.declared.record.PlanRecord.{PlanRecord}
+use Rattle.dd_part10.proofs.HeadLaw.{clean_uid}
+use Rattle.dd_dir.specs.Keyed.{IsKeyed, IsKeyedBy, key_by}
+use Rattle.dd_dir.specs.WholeParts.{IsWhole}
+
+-- the version that was found
+pub keyed_is : (versions : List Parts) (row : PlanRecord) (found parts : Parts) → row.of < length versions
+    → found ≡ get_or versions row.of found → parts ≡ found → IsWhole parts → IsKeyed versions row
+keyed_is versions row found parts within is same whole =
+    let there = slice_get-get_or versions row.of found within ∙ ap Some (sym (same ∙ is)) in
+    subst (IsKeyedBy row) (sym there) whole
+
+-- its keys have no padding
+pub clean_key : (level : Level) (v : Parts) → IsWhole v → clean_of (key_by level v) ≡ key_by level v
+clean_key Patient v whole = whole.patient.id.clean
+clean_key Study v whole = clean_uid v.study.uid whole.study.uid
+clean_key Series v whole = clean_uid v.series.uid whole.series.uid
+clean_key Image v whole = clean_uid v.instance whole.image.instance
+
+-- what holds of one and of those behind it
+pub row_more : (P : PlanRecord → Type 0) (rows : List PlanRecord) (i : ℕ) (row : PlanRecord) → i < length rows
+    → row ≡ get_or rows i row → P row → AllByRecursion P (drop (i + 1) rows) → AllByRecursion P (drop i rows)
+row_more P rows i row within is holds rest =
+    let left : drop i rows ≡ row ∷ drop (i + 1) rows =
+    at_drop_more (λ rs. rs) rows i row within ∙ ap (λ (r : PlanRecord). r ∷ drop (i + 1) rows) (sym is) in
+    subst (λ (rs : List PlanRecord). AllByRecursion P rs) (sym left) (holds, rest)

@@ -1,0 +1,10 @@
+use Rattle.dd_dir.proofs.Deciding.{only_walk, only_fault}
+use Rattle.dd_dir.proofs.reading.read_directory.Goals as goal
+
+pub returns-clause-only : goal.returns-clause-only
+returns-clause-only c = λ walk is.
+    only_walk c.args.bytes.now c.whole.result walk is c.whole.ensures.walk c.whole.ensures.refused
+
+pub returns-clause-refuses : goal.returns-clause-refuses
+returns-clause-refuses c = λ fault refuses.
+    only_fault c.args.bytes.now c.whole.result fault refuses c.whole.ensures.walk c.whole.ensures.refused

@@ -1,0 +1,34 @@
+-- Records of versions whose parts are whole, so that they are read back from them.
+use Rattle.std.specs.Prelude.{◌<◌, ◌^◌, ℕ, List, length, All, Option, Some, None, slice_get}
+use Rattle.std.specs.List.{AllByRecursion}
+use Rattle.dd_keys.specs.declared.parts.Parts.{Parts}
+use Rattle.dd_layout.specs.declared.label.Label.{Label}
+use Rattle.dd_layout.specs.declared.level.Level.{Level}
+use Rattle.dd_layout.specs.declared.level.Level.TheVariants.{Patient, Study, Series, Image}
+use Rattle.dd_layout.specs.declared.record.PlanRecord.{PlanRecord}
+use Rattle.dd_layout.specs.Layouts.{IsSound}
+use Rattle.dd_layout.specs.Plans.{records_of, size}
+use Rattle.dd_dir.specs.Directories.{IsDirectory}
+use Rattle.dd_dir.specs.WholeParts.{IsWhole}
+
+-- Patient ID, Study Instance UID, Series Instance UID, SOP Instance UID
+abbrev pub key_by : Level → Parts → List ℕ
+key_by Patient parts = parts.patient.id
+key_by Study parts = parts.study.uid
+key_by Series parts = parts.series.uid
+key_by Image parts = parts.instance
+
+-- the version that a record is of is whole
+abbrev pub IsKeyedBy : PlanRecord → Option Parts → Type 0
+IsKeyedBy row None = ⊥
+IsKeyedBy row (Some version) = IsWhole version
+
+abbrev pub IsKeyed : List Parts → PlanRecord → Type 0
+IsKeyed versions row = IsKeyedBy row (slice_get versions row.of)
+
+-- what is known of a directory that was sent whole
+pub record IsSent (label : Label) (versions : List Parts) : Type 0 where
+  pub file : IsDirectory label versions
+  pub small : size label versions < 2 ^ 32
+  pub sound : All (IsSound (length versions)) (records_of label versions)
+  pub keyed : AllByRecursion (IsKeyed versions) (records_of label versions)

@@ -1,0 +1,60 @@
+-- What the values of the pass over a directory's records stand for.
+use Rattle.std.specs.Prelude.{◌≡◌, true, List, [], ◌∷◌, ◌++◌, find, Option, Some, None, is_some, Result}
+use Rattle.dd_set.specs.Elements.{Elements}
+use Rattle.dd_set.specs.Views.{set_view}
+use Rattle.dd_layout.specs.declared.level.Level.{Level}
+use Rattle.dd_layout.specs.declared.level.Level.TheVariants.{Patient, Study, Series, Image}
+use Rattle.dd_layout.specs.Tables.{table_of}
+use Rattle.dd_dir.specs.declared.listing.Above.{Above as AboveValue}
+use Rattle.dd_dir.specs.declared.listing.Above.TheVariants as values
+use Rattle.dd_dir.specs.declared.listing.Listed.{Listed as ListedValue}
+use Rattle.dd_dir.specs.declared.own_fault.OwnFault.{OwnFault}
+use Rattle.dd_dir.specs.ForestViews.{Branch}
+use Rattle.dd_dir.specs.Own.{Above, root, in_patient, in_study, in_series, in_image, Listed, below, fault_at, followed}
+use Rattle.dd_dir.specs.Own.{digest_in, is_bad, level_in, listed_at, listed_in, unless}
+use Rattle.dd_dir.specs.OwnVersions.{Answers}
+
+abbrev pub above_view : AboveValue → Above
+above_view values.Root = root
+above_view (values.Patient patient) = in_patient (set_view patient.now)
+above_view (values.Study patient study) = in_study (set_view patient.now) (set_view study.now)
+above_view (values.Series patient study series) =
+    in_series (set_view patient.now) (set_view study.now) (set_view series.now)
+above_view values.Image = in_image
+
+abbrev pub listed_view : ListedValue → Listed
+listed_view listed = record {
+  patient = set_view listed.patient.now;
+  study = set_view listed.study.now;
+  series = set_view listed.series.now;
+  own = set_view listed.own.now;
+}
+
+abbrev pub listed_values : Option ListedValue → List Listed
+listed_values None = []
+listed_values (Some listed) = listed_view listed ∷ []
+
+-- the images of one tree, which stands there
+abbrev pub listed_of : Above → Branch → Result (List Listed) OwnFault
+listed_of above branch = followed
+    (unless (fault_at (level_in above) branch.node) (listed_at above branch.node.set))
+    (listed_in (below above branch.node.set) branch.below)
+
+-- the answer of a pass that adds images to a list, where these are to come: all were added, or it is their fault
+abbrev pub Adds : {F : Type 0} → List Listed → List Listed → Result (List Listed) OwnFault → Result F OwnFault
+    → Type 0
+Adds {F} old new to_come result = Answers to_come (λ images (done : F). new ≡ old ++ images) result
+
+-- ---- records that were checked
+
+-- all keys of the record are what they have to be
+abbrev pub Passes : Level → Elements → Type 0
+Passes level set = find (is_bad set) (table_of level) ≡ None
+
+-- an image whose records pass their checks
+pub record IsListed (image : Listed) : Type 0 where
+  pub patient : Passes Patient image.patient
+  pub study : Passes Study image.study
+  pub series : Passes Series image.series
+  pub own : Passes Image image.own
+  pub digest : is_some (digest_in image.own) ≡ true

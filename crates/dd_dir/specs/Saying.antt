@@ -1,0 +1,81 @@
+-- What the elements of a directory and of its records say (PS3.3 sections F.3.2.1 and F.3.2.2).
+use Rattle.std.specs.Prelude.{ℕ, Bool, ◌==◌, List, [], ◌∷◌, length, Option, Some, None, option_and_then, unwrap_or}
+use Rattle.std.specs.Prelude.{if◌then◌else◌}
+use Rattle.std.specs.Int.{w16, w32, from_le_bytes}
+use Rattle.dd_elem.specs.Clean.{clean_of}
+use Rattle.dd_elem.specs.declared.tag.Tag.{Tag}
+use Rattle.dd_set.specs.Elements.{Elements, Content, bytes, items, Entry, Items, no_items, item}
+use Rattle.dd_set.specs.Find.{find_in}
+use Rattle.dd_layout.specs.Entries.{tag}
+
+-- ---- values
+
+-- the bytes of a value that is no sequence
+abbrev pub bytes_of : Content → Option (List ℕ)
+bytes_of (bytes v) = Some v
+bytes_of (items form parts) = None
+
+-- the value of the element with this tag, where it is there and holds bytes
+abbrev pub value_of : Tag → Elements → Option (List ℕ)
+value_of wanted set = option_and_then (λ (e : Entry). bytes_of e.content) (find_in wanted set)
+
+-- the number that 4 bytes are, and whether 2 bytes are FFFFH
+abbrev pub number_of : List ℕ → Option ℕ
+number_of v = if length v == 4 then Some (from_le_bytes w32 v) else None
+
+abbrev pub flag_of : List ℕ → Option Bool
+flag_of v = if length v == 2 then Some (from_le_bytes w16 v == 0xffff) else None
+
+-- text without its padding, where something is left
+abbrev pub text_of : List ℕ → Option (List ℕ)
+text_of v = if length (clean_of v) == 0 then None else Some (clean_of v)
+
+-- ---- a record
+
+-- the offsets of the next record of its level and of the first one below it, whether it is in use, and its type
+pub record Says : Type 0 where
+  pub next : ℕ
+  pub lower : ℕ
+  pub in_use : Bool
+  pub kind : List ℕ
+
+abbrev pub says_by : Option ℕ → Option Bool → Option ℕ → Option (List ℕ) → Option Says
+says_by None flag lower kind = None
+says_by (Some next) None lower kind = None
+says_by (Some next) (Some in_use) None kind = None
+says_by (Some next) (Some in_use) (Some lower) None = None
+says_by (Some next) (Some in_use) (Some lower) (Some kind) =
+    Some (record { next = next; lower = lower; in_use = in_use; kind = kind })
+
+-- what the elements of a record say, where all four are there and have their form
+unfoldable pub says_of : Elements → Option Says
+says_of set = says_by (option_and_then number_of (value_of (tag 0x0004 0x1400) set))
+    (option_and_then flag_of (value_of (tag 0x0004 0x1410) set))
+    (option_and_then number_of (value_of (tag 0x0004 0x1420) set))
+    (option_and_then text_of (value_of (tag 0x0004 0x1430) set))
+
+-- ---- a directory
+
+-- the data sets of items
+abbrev pub sets_of : Items → List Elements
+sets_of no_items = []
+sets_of (item form set rest) = set ∷ sets_of rest
+
+abbrev pub item_sets_of : Content → Option (List Elements)
+item_sets_of (bytes v) = None
+item_sets_of (items form parts) = Some (sets_of parts)
+
+-- the data sets of the records, where they are items
+abbrev pub records_in : Elements → Option (List Elements)
+records_in set = option_and_then (λ (e : Entry). item_sets_of e.content) (find_in (tag 0x0004 0x1220) set)
+
+-- the offsets of the first and of the last root record
+abbrev pub first_in : Elements → Option ℕ
+first_in set = option_and_then number_of (value_of (tag 0x0004 0x1200) set)
+
+abbrev pub last_in : Elements → Option ℕ
+last_in set = option_and_then number_of (value_of (tag 0x0004 0x1202) set)
+
+-- the File-set ID without its padding, and nothing where there is none
+abbrev pub id_in : Elements → List ℕ
+id_in set = clean_of (unwrap_or (value_of (tag 0x0004 0x1130) set) [])

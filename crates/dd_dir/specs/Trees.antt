@@ -1,0 +1,31 @@
+-- Records as trees: each with those below it and those that come after it (PS3.3 section F.4).
+use Rattle.std.specs.Prelude.{ℕ, Bool, List, [], ◌∷◌, ◌++◌}
+use Rattle.dd_set.specs.Elements.{Elements}
+
+-- a record: its offset, its type, whether it is in use, and its elements
+pub record Node : Type 0 where
+  pub at : ℕ
+  pub kind : List ℕ
+  pub in_use : Bool
+  pub set : Elements
+
+-- trees in a row: a record, the trees below it, and the trees after it
+pub data Trees : Type 0 where
+  no_trees : Trees
+  tree : Node → Trees → Trees → Trees
+
+-- the offsets of all records, depth first
+abbrev pub places : Trees → List ℕ
+places no_trees = []
+places (tree node below after) = node.at ∷ (places below ++ places after)
+
+-- the offset of the last root, and `before` where there is none
+abbrev pub last_root_or : ℕ → Trees → ℕ
+last_root_or before no_trees = before
+last_root_or before (tree node below after) = last_root_or node.at after
+
+-- what following the offsets of a directory gives: its File-set ID, the records reached, and how many were not reached
+pub record Walk : Type 0 where
+  pub id : List ℕ
+  pub trees : Trees
+  pub unreached : ℕ

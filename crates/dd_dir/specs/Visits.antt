@@ -1,0 +1,92 @@
+-- What following the offsets of a directory visits, told by the records in its bytes (PS3.3 sections F.4 and F.5).
+use Rattle.std.specs.Prelude.{◌≡◌, ℕ, true, List, [], ◌∷◌, ◌++◌, length, map, filter, Contains, Option, Some, None}
+use Rattle.std.specs.Prelude.{unwrap_or}
+use Rattle.dd_elem.specs.Clean.{clean_of}
+use Rattle.dd_elem.specs.declared.tag.Tag.{Tag}
+use Rattle.dd_keys.specs.declared.parts.Parts.{Parts}
+use Rattle.dd_catalogue.specs.Harmony.{harmonised}
+use Rattle.dd_set.specs.Elements.{Elements, elements_of}
+use Rattle.dd_layout.specs.declared.label.Label.{Label}
+use Rattle.dd_layout.specs.Entries.{tag}
+use Rattle.dd_layout.specs.Paths.{Path, is_path, leads_to, parent_of}
+use Rattle.dd_layout.specs.Plans.{at, at_or_none, level_of, path_of, record_at, tree}
+use Rattle.dd_layout.specs.Records.{kind_of}
+use Rattle.dd_dir.specs.Directories.{entries_of}
+use Rattle.dd_dir.specs.Reading.{IsWalk}
+use Rattle.dd_dir.specs.Saying.{value_of}
+use Rattle.dd_dir.specs.Trees as trees
+use Rattle.dd_dir.specs.Trees.{Node, Trees, Walk, no_trees}
+
+-- ---- what is visited
+
+-- the value of a key without its padding, and nothing where there is none
+abbrev pub key_of : Tag → Elements → List ℕ
+key_of wanted set = clean_of (unwrap_or (value_of wanted set) [])
+
+-- the key by which a record is known that stands below so many others: Patient ID, Study Instance UID, Series Instance
+-- UID, Referenced SOP Instance UID in File
+abbrev pub own_key : Path → Elements → List ℕ
+own_key [] set = key_of (tag 0x0010 0x0020) set
+own_key (patient ∷ []) set = key_of (tag 0x0020 0x000d) set
+own_key (patient ∷ study ∷ []) set = key_of (tag 0x0020 0x000e) set
+own_key (patient ∷ study ∷ series ∷ front) set = key_of (tag 0x0004 0x1511) set
+
+-- a record that is visited: the keys of the records above it and its own, the offset of the record right above it or 0,
+-- and the record
+pub record Visit : Type 0 where
+  pub path : Path
+  pub above : ℕ
+  pub node : Node
+
+-- the records of these trees, depth first, below the record with these keys at this offset
+abbrev pub visits_below : Path → ℕ → Trees → List Visit
+visits_below front above no_trees = []
+visits_below front above (trees.tree node below after) =
+    let path = front ++ own_key front node.set ∷ [] in
+    record { path = path; above = above; node = node }
+    ∷ (visits_below path node.at below ++ visits_below front above after)
+
+abbrev pub visits_of : Walk → List Visit
+visits_of walk = visits_below [] 0 walk.trees
+
+-- ---- what is to be visited
+
+-- the offset of the record above, and 0 at the top
+abbrev pub or_root : Path → Option Path
+or_root [] = None
+or_root (part ∷ path) = Some (part ∷ path)
+
+abbrev pub above_of : Label → List Parts → Path → ℕ
+above_of label versions x = at_or_none label versions (or_root (parent_of x))
+
+-- the record of a path of the tree of these versions, which are in harmony
+abbrev pub node_at : Label → List Parts → Path → Node
+node_at label versions x = record {
+  at = at label versions x;
+  kind = kind_of (level_of x);
+  in_use = true;
+  set = elements_of (entries_of versions (record_at label versions x));
+}
+
+abbrev pub visit_at : Label → List Parts → Path → Visit
+visit_at label versions x =
+    record { path = x; above = above_of label versions x; node = node_at label versions x }
+
+-- ---- the tree realised
+
+-- Following the offsets visits each of these versions exactly once, beneath its own series, study and patient, and
+-- nothing else: no other instance, and no record that has none of them beneath it.
+pub record VisitsEachOnce (m : List Parts) (paths : List Path) : Type 0 where
+  pub once : (v : Parts) → Contains m v → length (filter (is_path (path_of v)) paths) ≡ 1
+  pub others : (x : Path) → Contains paths x → (v : Parts) × Contains m v × (leads_to x (path_of v) ≡ true)
+
+-- The bytes have one walk. The records that it visits are those of the tree of these versions in harmony, one by one:
+-- the keys of each and of those above it as its bytes say them, its offset, that of the record above, its type and all
+-- its elements; all are in use, and none is left unreached.
+pub record Realises (label : Label) (m : List Parts) (file : List ℕ) : Type 0 where
+  pub walk : Walk
+  pub is_walk : IsWalk file walk
+  pub only : (other : Walk) → IsWalk file other → other ≡ walk
+  pub visits : visits_of walk ≡ map (visit_at label (harmonised m)) (tree (harmonised m))
+  pub reached : walk.unreached ≡ 0
+  pub each : VisitsEachOnce m (map (λ visit. visit.path) (visits_of walk))

@@ -1,0 +1,109 @@
+//! What a directory says of its records.
+
+ghost use Rattle.std.specs.Prelude.{◌≡◌, ◌+◌, ◌<◌, ◌^◌, EachIndex, List, ℕ, length, map, slice_index};
+ghost use Rattle.dd_set.specs.declared.syntax.Syntax.TheVariants.{Explicit};
+ghost use Rattle.dd_set.specs.Spelling.{Spells, elements_text};
+ghost use Rattle.dd_set.specs.Views.{set_view};
+ghost use Rattle.dd_dir.specs.Gives.{Tells};
+ghost use Rattle.dd_dir.specs.Reading.{is_directory_meta, contents_in};
+ghost use Rattle.dd_dir.specs.Saying.{id_in};
+
+use crate::fault::DirFault;
+use crate::slots::items_of;
+use crate::values::{number_at, value_of};
+use dd_elem::{Tag, clean};
+use dd_layout::RECORDS;
+use dd_part10::Meta;
+use dd_set::{DataSet, Item, Syntax};
+use std::alloc::Global;
+
+/// File-set ID.
+const SET_ID: Tag = Tag {
+    group: 0x0004,
+    element: 0x1130,
+};
+
+/// Offset of the First Directory Record of the Root Directory Entity.
+const FIRST_ROOT: Tag = Tag {
+    group: 0x0004,
+    element: 0x1200,
+};
+
+/// Offset of the Last Directory Record of the Root Directory Entity.
+const LAST_ROOT: Tag = Tag {
+    group: 0x0004,
+    element: 0x1202,
+};
+
+/// What a directory says: its File-set ID, the places of the first and of the last root record, and
+/// where the items start that may be records.
+#[derive(Debug, Drop)]
+pub(crate) struct Directory<'a> {
+    pub(crate) id: &'a [u8],
+    pub(crate) first: u32,
+    pub(crate) last: u32,
+    pub(crate) starts: Vec<u64>,
+    pub(crate) items: Vec<Item<'a>>,
+}
+
+/// Are the class and the transfer syntax those of a directory (PS3.10 section 8.6)?
+pub(crate) fn is_directory_meta(meta: &Meta) -> bool
+    ensures { result ≡ is_directory_meta meta.now }
+{
+    meta.class.as_bytes() == b"1.2.840.10008.1.3.10".as_slice()
+        && meta.transfer.as_bytes() == b"1.2.840.10008.1.2.1".as_slice()
+}
+
+/// What a data set says that stands behind `at` bytes.
+#[tactic(auto, unfolding(crate::specs::Reading::contents_in))]
+pub(crate) fn directory_of<'a>(
+    alloc: Global,
+    set: DataSet<'a>,
+    at: u64,
+) -> Result<Directory<'a>, DirFault>
+    requires spelled { Spells Explicit (set_view set) (elements_text (set_view set)) }
+    requires fits { at + length (elements_text (set_view set)) < 2 ^ 64 }
+    ensures { (front : List ℕ) → length front ≡ at → Tells (contents_in front (set_view set.entry)) result }
+{
+    let Some(first) = number_at(&set, FIRST_ROOT) else {
+        return Err(DirFault::NotDirectory);
+    };
+    let Some(last) = number_at(&set, LAST_ROOT) else {
+        return Err(DirFault::NotDirectory);
+    };
+    let Some(mut starts) = set.item_starts(alloc, Syntax::Explicit, RECORDS)? else {
+        return Err(DirFault::NotDirectory);
+    };
+    shift(&mut starts, at);
+    let id = id_of(&set);
+    let Some(items) = items_of(set, RECORDS) else {
+        return Err(DirFault::NotDirectory);
+    };
+    Ok(Directory {
+        id,
+        first,
+        last,
+        starts,
+        items,
+    })
+}
+
+/// The File-set ID without its padding, and nothing where there is none.
+fn id_of<'a>(set: &DataSet<'a>) -> &'a [u8]
+    ensures { result.now ≡ id_in (set_view set.now) }
+{
+    match value_of(set, SET_ID) {
+        Some(value) => clean(value),
+        None => &[],
+    }
+}
+
+/// Moves these places by so many bytes.
+fn shift(starts: &mut [u64], by: u64)
+    requires { EachIndex starts.old (λ k. slice_index starts.old k + by < 2 ^ 64) }
+    ensures { starts.new ≡ map (λ start. start + by) starts.old }
+{
+    for start in starts.iter_mut() {
+        *start += by;
+    }
+}

@@ -1,0 +1,30 @@
+//! What a directory holds, as trees of its records.
+
+use dd_set::DataSet;
+
+/// The records of a directory as their offsets join them (PS3.3 section F.4). The values are slices of
+/// the bytes that it was read from.
+#[derive(Debug, Drop)]
+pub struct Forest<'a> {
+    /// The File-set ID without its padding; empty where there is none.
+    pub id: &'a [u8],
+    /// The root records, in the order of their offsets.
+    pub trees: Vec<Tree<'a>>,
+    /// How many items no offset reaches.
+    pub unreached: u64,
+}
+
+/// A record, and those below it.
+#[derive(Debug, Drop)]
+pub struct Tree<'a> {
+    /// Where it starts: the offset of its Item tag from the first byte of the file.
+    pub at: u32,
+    /// Its type (0004,1430) without its padding, such as `PATIENT`.
+    pub kind: &'a [u8],
+    /// Whether its in-use flag (0004,1410) is FFFFH.
+    pub in_use: bool,
+    /// Its elements.
+    pub set: DataSet<'a>,
+    /// The records below it, in the order of their offsets.
+    pub below: Vec<Tree<'a>>,
+}

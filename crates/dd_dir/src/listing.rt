@@ -1,0 +1,116 @@
+//! The images that the records of a directory list.
+
+ghost use Rattle.std.specs.Prelude.{◌≡◌, map};
+ghost use Rattle.dd_set.specs.Views.{set_view};
+ghost use Rattle.dd_dir.specs.ForestViews.{tree_view, trees_view};
+ghost use Rattle.dd_dir.specs.Own.{below, level_in, listed_at, listed_in};
+ghost use Rattle.dd_dir.specs.OwnViews.{Adds, above_view, listed_of, listed_values, listed_view};
+
+use crate::forest::Tree;
+use crate::own_checks::fault_at;
+use crate::own_fault::OwnFault;
+use dd_layout::Level;
+use dd_set::DataSet;
+
+/// The records above a record: none at the root, and else one of each level down to an image.
+#[derive(Clone, Copy)]
+pub(crate) enum Above<'f, 'a> {
+    /// It is at the root.
+    Root,
+    /// It is below this patient.
+    Patient(&'f DataSet<'a>),
+    /// It is below this study of the patient.
+    Study(&'f DataSet<'a>, &'f DataSet<'a>),
+    /// It is below this series of the study of the patient.
+    Series(&'f DataSet<'a>, &'f DataSet<'a>, &'f DataSet<'a>),
+    /// It is below an image.
+    Image,
+}
+
+/// The record of an image, and those above it.
+#[derive(Clone, Copy)]
+pub(crate) struct Listed<'f, 'a> {
+    /// The PATIENT record.
+    pub(crate) patient: &'f DataSet<'a>,
+    /// The STUDY record.
+    pub(crate) study: &'f DataSet<'a>,
+    /// The SERIES record.
+    pub(crate) series: &'f DataSet<'a>,
+    /// Its own record.
+    pub(crate) own: &'f DataSet<'a>,
+}
+
+/// The level of a record that stands there: None below an image.
+fn level_in(above: Above<'_, '_>) -> Option<Level>
+    ensures { result ≡ level_in (above_view above.entry) }
+{
+    match above {
+        Above::Root => Some(Level::Patient),
+        Above::Patient(_) => Some(Level::Study),
+        Above::Study(_, _) => Some(Level::Series),
+        Above::Series(_, _, _) => Some(Level::Image),
+        Above::Image => None,
+    }
+}
+
+/// What is above the records below a record that stands there.
+fn below<'f, 'a>(above: Above<'f, 'a>, set: &'f DataSet<'a>) -> Above<'f, 'a>
+    ensures { above_view result ≡ below (above_view above.entry) (set_view set.now) }
+{
+    match above {
+        Above::Root => Above::Patient(set),
+        Above::Patient(patient) => Above::Study(patient, set),
+        Above::Study(patient, study) => Above::Series(patient, study, set),
+        Above::Series(_, _, _) | Above::Image => Above::Image,
+    }
+}
+
+/// The image that a record lists which stands there: none but below a series.
+fn listed_at<'f, 'a>(above: Above<'f, 'a>, set: &'f DataSet<'a>) -> Option<Listed<'f, 'a>>
+    ensures { listed_values result ≡ listed_at (above_view above.entry) (set_view set.now) }
+{
+    match above {
+        Above::Series(patient, study, series) => Some(Listed {
+            patient,
+            study,
+            series,
+            own: set,
+        }),
+        Above::Root | Above::Patient(_) | Above::Study(_, _) | Above::Image => None,
+    }
+}
+
+/// Adds the images of these trees, which stand there, depth first; or answers the first fault.
+#[cycle(listing)]
+pub(crate) fn list<'f, 'a>(
+    trees: &'f [Tree<'a>],
+    above: Above<'f, 'a>,
+    images: &mut Vec<Listed<'f, 'a>>,
+) -> Result<(), OwnFault>
+    ensures { Adds (map listed_view images.old.items) (map listed_view images.new.items)
+        (listed_in (above_view above.entry) (trees_view trees.now)) result }
+{
+    for tree in trees {
+        list_one(tree, above, images)?;
+    }
+    Ok(())
+}
+
+/// Adds the images of this tree.
+#[cycle(listing)]
+fn list_one<'f, 'a>(
+    tree: &'f Tree<'a>,
+    above: Above<'f, 'a>,
+    images: &mut Vec<Listed<'f, 'a>>,
+) -> Result<(), OwnFault>
+    ensures { Adds (map listed_view images.old.items) (map listed_view images.new.items)
+        (listed_of (above_view above.entry) (tree_view tree.now)) result }
+{
+    if let Some(fault) = fault_at(level_in(above), tree) {
+        return Err(fault);
+    }
+    if let Some(image) = listed_at(above, &tree.set) {
+        images.push(image)?;
+    }
+    list(&tree.below, below(above, &tree.set), images)
+}

@@ -1,0 +1,157 @@
+//! The checks of a record of a directory that is written here.
+
+ghost use Rattle.std.specs.Prelude.{◌≡◌, map, option_map};
+ghost use Rattle.dd_set.specs.Views.{set_view};
+ghost use Rattle.dd_dir.specs.ForestViews.{tree_view};
+ghost use Rattle.dd_dir.specs.Own.{digest_in, fault_at, is_bad, is_key, is_own, is_sound, key_fault};
+ghost use Rattle.dd_dir.specs.Own.{lacks_digest, suits};
+
+use crate::forest::Tree;
+use crate::own_fault::OwnFault;
+use dd_elem::{Key, Uid, is_file_id};
+use dd_keys::{is_image_class, value_at};
+use dd_layout::table::{CREATOR, DIGEST};
+use dd_layout::{Field, Level, PRIVATE_CREATOR, Row, rows};
+use dd_part10::Meta;
+use dd_set::{DataSet, Value};
+
+/// The first check that a record of this level fails: below an image there is none.
+pub(crate) fn fault_at(level: Option<Level>, tree: &Tree<'_>) -> Option<OwnFault>
+    ensures { result ≡ fault_at level (tree_view tree.now).node }
+{
+    let Some(level) = level else {
+        return Some(OwnFault::ForeignRecord(tree.at));
+    };
+    if !is_own(level, tree) {
+        return Some(OwnFault::ForeignRecord(tree.at));
+    }
+    if lacks_digest(level, &tree.set) {
+        return Some(OwnFault::NoDigest(tree.at));
+    }
+    key_fault(tree.at, level, &tree.set)
+}
+
+/// Is the record in use, and of the type of this level?
+fn is_own(level: Level, tree: &Tree<'_>) -> bool
+    ensures { result ≡ is_own level (tree_view tree.now).node }
+{
+    tree.in_use && tree.kind == level.kind()
+}
+
+/// Is the record of an image without a digest?
+fn lacks_digest(level: Level, set: &DataSet<'_>) -> bool
+    ensures { result ≡ lacks_digest level (set_view set.now) }
+{
+    match level {
+        Level::Image => digest_in(set).is_none(),
+        Level::Patient | Level::Study | Level::Series => false,
+    }
+}
+
+/// The digest of the file of an IMAGE record, where it stands in the block of private elements of its
+/// creator (PS3.5 section 7.8.1) and has 32 bytes.
+pub fn digest_in(set: &DataSet<'_>) -> Option<[u8; 32]>
+    ensures { result ≡ digest_in (set_view set.now) }
+{
+    if value_at(set, CREATOR.tag)? != PRIVATE_CREATOR {
+        return None;
+    }
+    match set.find(DIGEST.tag)?.value {
+        Value::Bytes(digest) => <[u8; 32]>::try_from(digest).ok(),
+        Value::Items { .. } => None,
+    }
+}
+
+/// The first element of the table of this level that is not what the record must have there.
+fn key_fault(at: u32, level: Level, set: &DataSet<'_>) -> Option<OwnFault>
+    ensures { result ≡ key_fault at level (set_view set.now) }
+{
+    rows(level)
+        .iter()
+        .find(|row| is_bad(set, row))
+        .map(|row| OwnFault::RecordKey(at, row.tag))
+}
+
+/// Is the element of the row a key, and not what it must be?
+fn is_bad(set: &DataSet<'_>, row: &Row) -> bool
+    ensures { result ≡ is_bad (set_view set.now) row.now }
+{
+    is_key(row.field) && !is_sound(row.field, value_at(set, row.tag))
+}
+
+/// Is the field a key: neither the links, the flag nor the type of a record, nor the digest of a file
+/// and its creator?
+fn is_key(field: Field) -> bool
+    ensures { result ≡ is_key field }
+{
+    !matches!(
+        field,
+        Field::Next | Field::InUse | Field::Lower | Field::Kind | Field::Creator | Field::Digest
+    )
+}
+
+/// Is the value no sequence, of at most 1,024 bytes, and what the field must be?
+fn is_sound(field: Field, value: Option<&[u8]>) -> bool
+    ensures { result ≡ is_sound field (option_map (λ bytes. bytes.now) value.entry) }
+{
+    match value {
+        None => false,
+        Some(bytes) => bytes.len() <= Key::MAX_LEN && suits(field, bytes),
+    }
+}
+
+/// Are the bytes what the field must be?
+fn suits(field: Field, bytes: &[u8]) -> bool
+    ensures { result ≡ suits field bytes.now }
+{
+    match field {
+        Field::File => is_file_id(bytes),
+        Field::Class => is_class(bytes),
+        Field::Transfer => is_transfer(bytes),
+        Field::Instance | Field::StudyUid | Field::SeriesUid => Uid::new(bytes).is_ok(),
+        Field::PatientId
+        | Field::StudyDate
+        | Field::StudyTime
+        | Field::StudyId
+        | Field::Modality
+        | Field::SeriesNumber
+        | Field::Number => !bytes.is_empty(),
+        Field::Next
+        | Field::InUse
+        | Field::Lower
+        | Field::Kind
+        | Field::Charset
+        | Field::PatientName
+        | Field::Accession
+        | Field::Description
+        | Field::Creator
+        | Field::Digest => true,
+    }
+}
+
+/// Are the bytes the UID of an image class that is taken?
+fn is_class(bytes: &[u8]) -> bool
+    ensures { result ≡ suits Field.Class bytes.now }
+{
+    match Uid::new(bytes) {
+        Ok(class) => is_image_class(&class),
+        Err(_) => false,
+    }
+}
+
+/// Are the bytes the UID of a transfer syntax that is read?
+fn is_transfer(bytes: &[u8]) -> bool
+    ensures { result ≡ suits Field.Transfer bytes.now }
+{
+    match Uid::new(bytes) {
+        Ok(transfer) => {
+            let meta = Meta {
+                class: transfer,
+                instance: transfer,
+                transfer,
+            };
+            meta.syntax().is_some()
+        }
+        Err(_) => false,
+    }
+}

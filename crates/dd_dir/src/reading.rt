@@ -1,0 +1,87 @@
+//! Directories of any producer, read from their bytes.
+
+ghost use Rattle.std.specs.Prelude.{◌≡◌, ◌<◌, ◌⊎◌, IfOk, IfErr, IsErrAnd, MatchResult, Err, length};
+ghost use Rattle.dd_part10.specs.declared.fault.FileFault.TheVariants as file_faults;
+ghost use Rattle.dd_part10.specs.Memory.{GroupWants, SetWants};
+ghost use Rattle.dd_set.specs.declared.fault.SetFault.TheVariants as set_faults;
+ghost use Rattle.dd_dir.specs.declared.fault.DirFault.{DirFault};
+ghost use Rattle.dd_dir.specs.declared.fault.DirFault.TheVariants.{File, Memory};
+ghost use Rattle.dd_dir.specs.ForestViews.{walk_view};
+ghost use Rattle.dd_dir.specs.Gives.{IsWantOfMemory, directory_view};
+ghost use Rattle.dd_dir.specs.Reading.{Contents, IsDirectoryFile, IsWalk, IsWalkOf, Refuses, RefusesOf};
+ghost use Rattle.dd_dir.specs.Slots.{Rises};
+ghost use Rattle.dd_dir.specs.Trees.{Walk};
+
+use crate::directory::{Directory, directory_of, is_directory_meta};
+use crate::fault::DirFault;
+use crate::forest::Forest;
+use crate::slots::{count_left, slots_of};
+use crate::walk::{chain, last_root};
+use dd_part10::parse_file;
+use std::alloc::Global;
+
+/// The records of a directory, joined by their offsets (PS3.3 section F.3.2, PS3.10 section 8.6).
+pub fn read_directory<'a>(alloc: Global, bytes: &'a [u8]) -> Result<Forest<'a>, DirFault>
+    // What is answered is the walk of the bytes.
+    ensures walk { IfOk result (λ forest. IsWalk bytes.now (walk_view forest)) }
+    // A walk is answered, unless memory runs out.
+    ensures only { (walk : Walk) → IsWalk bytes.now walk
+        → MatchResult result (λ forest. walk_view forest ≡ walk) IsWantOfMemory }
+    // A refusal for other than memory says why the bytes have no walk.
+    ensures refused { IfErr result (λ fault. IsWantOfMemory fault ⊎ Refuses bytes.now fault) }
+    // Bytes that have none are refused so, unless memory runs out.
+    ensures refuses { (fault : DirFault) → Refuses bytes.now fault
+        → IsErrAnd result (λ other. IsWantOfMemory other ⊎ (other ≡ fault)) }
+    // Memory runs out only where it is wanted: while the bytes are read as a file, or for the records of a
+    // directory that has some.
+    ensures group { result ≡ Err (File (file_faults.Meta set_faults.Memory)) → GroupWants bytes.now }
+    ensures set { result ≡ Err (File (file_faults.Set set_faults.Memory)) → SetWants bytes.now }
+    ensures records { result ≡ Err Memory
+        → (contents : Contents) × IsDirectoryFile bytes.now contents × (0 < length contents.starts) }
+{
+    whole(alloc, bytes)
+}
+
+/// The records, by what the bytes say alone.
+fn whole<'a>(alloc: Global, bytes: &'a [u8]) -> Result<Forest<'a>, DirFault>
+    ensures walk { IfOk result (λ forest. IsWalk bytes.now (walk_view forest)) }
+    ensures refused { IfErr result (λ fault. IsWantOfMemory fault ⊎ Refuses bytes.now fault) }
+    ensures group { result ≡ Err (File (file_faults.Meta set_faults.Memory)) → GroupWants bytes.now }
+    ensures set { result ≡ Err (File (file_faults.Set set_faults.Memory)) → SetWants bytes.now }
+    ensures records { result ≡ Err Memory
+        → (contents : Contents) × IsDirectoryFile bytes.now contents × (0 < length contents.starts) }
+{
+    let file = parse_file(alloc, bytes).map_err(DirFault::File)?;
+    if !is_directory_meta(&file.meta) {
+        return Err(DirFault::NotDirectory);
+    }
+    let directory = directory_of(alloc, file.set, file.set_at)?;
+    walked(alloc, directory)
+}
+
+/// The trees of these records.
+fn walked<'a>(alloc: Global, directory: Directory<'a>) -> Result<Forest<'a>, DirFault>
+    requires rise { Rises 0 directory.starts.items }
+    requires each { length directory.starts.items ≡ length directory.items.items }
+    ensures walk { IfOk result (λ forest. IsWalkOf (directory_view directory.entry) (walk_view forest)) }
+    ensures refused { IfErr result (λ fault. (fault ≡ Memory) ⊎ RefusesOf (directory_view directory.entry) fault) }
+    ensures memory { result ≡ Err Memory → 0 < length directory.entry.starts.items }
+{
+    let Directory {
+        id,
+        first,
+        last,
+        starts,
+        items,
+    } = directory;
+    let mut slots = slots_of(alloc, items)?;
+    let trees = chain(alloc, &starts, &mut slots, first, 0)?;
+    if last_root(&trees) != last {
+        return Err(DirFault::LastRoot);
+    }
+    Ok(Forest {
+        id,
+        trees,
+        unreached: count_left(&slots),
+    })
+}

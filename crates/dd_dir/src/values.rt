@@ -1,0 +1,69 @@
+//! Values of elements, by their tags.
+
+ghost use Rattle.std.specs.Prelude.{◌≡◌, option_and_then, option_map};
+ghost use Rattle.dd_set.specs.Views.{set_view};
+ghost use Rattle.dd_dir.specs.Saying.{value_of, number_of, flag_of, text_of};
+
+use dd_elem::{Tag, clean};
+use dd_set::{DataSet, Value};
+
+/// What an in-use flag holds where the record is in use.
+const IN_USE: u16 = 0xffff;
+
+/// The value of the element with this tag, where it is there and holds bytes.
+pub(crate) fn value_of<'a>(set: &DataSet<'a>, tag: Tag) -> Option<&'a [u8]>
+    ensures { option_map (λ value. value.now) result ≡ value_of tag (set_view set.now) }
+{
+    match set.find(tag)?.value {
+        Value::Bytes(value) => Some(value),
+        Value::Items { .. } => None,
+    }
+}
+
+/// The number that an element holds, where it holds 4 bytes.
+pub(crate) fn number_at(set: &DataSet<'_>, tag: Tag) -> Option<u32>
+    ensures { result ≡ option_and_then number_of (value_of tag (set_view set.now)) }
+{
+    number_of(value_of(set, tag)?)
+}
+
+fn number_of(value: &[u8]) -> Option<u32>
+    ensures { result ≡ number_of value.now }
+{
+    match value {
+        [first, second, third, fourth] => {
+            Some(u32::from_le_bytes([*first, *second, *third, *fourth]))
+        }
+        _ => None,
+    }
+}
+
+/// Whether an element holds FFFFH, where it holds 2 bytes.
+pub(crate) fn flag_at(set: &DataSet<'_>, tag: Tag) -> Option<bool>
+    ensures { result ≡ option_and_then flag_of (value_of tag (set_view set.now)) }
+{
+    flag_of(value_of(set, tag)?)
+}
+
+fn flag_of(value: &[u8]) -> Option<bool>
+    ensures { result ≡ flag_of value.now }
+{
+    match value {
+        [first, second] => Some(u16::from_le_bytes([*first, *second]) == IN_USE),
+        _ => None,
+    }
+}
+
+/// The text of an element without its padding, where something is left.
+pub(crate) fn text_at<'a>(set: &DataSet<'a>, tag: Tag) -> Option<&'a [u8]>
+    ensures { option_map (λ text. text.now) result ≡ option_and_then text_of (value_of tag (set_view set.now)) }
+{
+    text_of(value_of(set, tag)?)
+}
+
+fn text_of(value: &[u8]) -> Option<&[u8]>
+    ensures { option_map (λ text. text.now) result ≡ text_of value.now }
+{
+    let text = clean(value);
+    if text.is_empty() { None } else { Some(text) }
+}

@@ -1,0 +1,112 @@
+//! Records as trees, by their offsets.
+
+ghost use Rattle.std.specs.Prelude.{◌≡◌, ◌≢◌, ◌<◌, ◌≤◌, List, IfOk, Err, length};
+ghost use Rattle.dd_set.specs.Elements.{Elements};
+ghost use Rattle.dd_dir.specs.declared.fault.DirFault.TheVariants.{Memory};
+ghost use Rattle.dd_dir.specs.ForestViews.{trees_view};
+ghost use Rattle.dd_dir.specs.Gives.{IsStep, IsTree, AreFollowed};
+ghost use Rattle.dd_dir.specs.Slots.{Rises, AreLeft, count_left, slots_view};
+ghost use Rattle.dd_dir.specs.Trees.{last_root_or};
+ghost use Rattle.dd_dir.specs.Walks.{max_levels};
+
+use crate::fault::DirFault;
+use crate::forest::Tree;
+use crate::said::{Said, said_by};
+use crate::slots::lift;
+use dd_set::DataSet;
+use std::alloc::Global;
+
+/// Records are at most so many levels deep.
+const MAX_LEVELS: u32 = 32;
+
+/// The record at this place, taken out of its slot, and what it says.
+#[tactic(auto, unfolding(crate::specs::Walks::step_at))]
+fn step<'a>(
+    starts: &[u64],
+    slots: &mut [Option<DataSet<'a>>],
+    place: u32,
+    level: u32,
+) -> Result<(DataSet<'a>, Said<'a>), DirFault>
+    requires rise { Rises 0 starts.now }
+    requires each { length starts.now ≡ length slots.old }
+    ensures exact { (sets : List Elements) → AreLeft sets (slots_view slots.old)
+        → IsStep starts.now sets place level (slots_view slots.old) (slots_view slots.new) result }
+    ensures fewer { IfOk result (λ _. count_left (slots_view slots.new) < count_left (slots_view slots.old)) }
+    ensures room { IfOk result (λ _. level < max_levels) }
+    ensures memory { result ≢ Err Memory }
+{
+    let set = lift(starts, slots, place)?;
+    if level >= MAX_LEVELS {
+        return Err(DirFault::TooDeep(place));
+    }
+    match said_by(&set) {
+        None => Err(DirFault::RecordShape(place)),
+        Some(said) => Ok((set, said)),
+    }
+}
+
+/// The record at this place with those below it, and the place of the next one.
+#[cycle(walk)]
+fn tree<'a>(
+    alloc: Global,
+    starts: &[u64],
+    slots: &mut [Option<DataSet<'a>>],
+    place: u32,
+    level: u32,
+) -> Result<(Tree<'a>, u32), DirFault>
+    requires rise { Rises 0 starts.now }
+    requires each { length starts.now ≡ length slots.old }
+    requires some { place ≢ 0 }
+    ensures exact { (sets : List Elements) → AreLeft sets (slots_view slots.old)
+        → IsTree starts.now sets place level (slots_view slots.old) (slots_view slots.new) result }
+    ensures fewer { IfOk result (λ _. count_left (slots_view slots.new) < count_left (slots_view slots.old)) }
+    ensures memory { result ≡ Err Memory → 0 < count_left (slots_view slots.old) }
+{
+    let (set, said) = step(starts, slots, place, level)?;
+    let below = chain(alloc, starts, slots, said.lower, level + 1)?;
+    let tree = Tree {
+        at: place,
+        kind: said.kind,
+        in_use: said.in_use,
+        set,
+        below,
+    };
+    Ok((tree, said.next))
+}
+
+/// The records of a level from this place on, each with those below it.
+#[cycle(walk)]
+pub(crate) fn chain<'a>(
+    alloc: Global,
+    starts: &[u64],
+    slots: &mut [Option<DataSet<'a>>],
+    first: u32,
+    level: u32,
+) -> Result<Vec<Tree<'a>>, DirFault>
+    requires rise { Rises 0 starts.now }
+    requires each { length starts.now ≡ length slots.old }
+    ensures exact { (sets : List Elements) → AreLeft sets (slots_view slots.old)
+        → AreFollowed starts.now sets first level (slots_view slots.old) (slots_view slots.new) result }
+    ensures fewer { IfOk result (λ _. count_left (slots_view slots.new) ≤ count_left (slots_view slots.old)) }
+    ensures memory { result ≡ Err Memory → 0 < count_left (slots_view slots.old) }
+{
+    let mut trees = Vec::new(alloc);
+    let mut place = first;
+    'siblings: while place != 0 {
+        let (joined, next) = tree(alloc, starts, slots, place, level)?;
+        trees.push(joined)?;
+        place = next;
+    }
+    Ok(trees)
+}
+
+/// The place of the last of these trees, and 0 where there is none.
+pub(crate) fn last_root(trees: &[Tree<'_>]) -> u32
+    ensures { result ≡ last_root_or 0 (trees_view trees.now) }
+{
+    let mut last = 0;
+    for tree in trees {
+        last = tree.at;
+    }
+    last
+}

@@ -1,0 +1,110 @@
+//! What is found of the file that a record names.
+ghost use Rattle.std.specs.Prelude.{◌≡◌, ◌≤◌, ◌+◌, ℕ, List, None, Some};
+ghost use Rattle.std.specs.Io.KnownBytes.{Consumes};
+ghost use Rattle.dd_elem.specs.Device.{Gives};
+ghost use Rattle.dd_elem.specs.FileIdForm.{IsFileId};
+ghost use Rattle.dd_set.specs.Views.{set_view};
+ghost use Rattle.dd_dir.specs.ForestViews.{tree_view};
+ghost use Rattle.dicomdir.specs.Finding.{FindsBy, FindsIn, IsDigest, NamesFile, compared, file_in};
+
+use dd_dir::{Tree, digest_in};
+use dd_elem::{Read, is_file_id};
+use dd_keys::value_at;
+use dd_layout::table::FILE;
+use sha2::{Digest, Sha256};
+
+/// What is wrong with the file that a record names.
+#[derive(Clone, Copy, Debug, PartialEq, Eq)]
+pub enum Finding {
+    /// The name is no File ID (PS3.10 section 8.2).
+    BadId,
+    /// There is no such file, or it could not be opened.
+    Missing,
+    /// A read of it failed, or it is too long.
+    Unreadable,
+    /// It has another SHA-256 than the record says.
+    Differs {
+        /// That of the record.
+        recorded: [u8; 32],
+        /// That of the file.
+        found: [u8; 32],
+    },
+}
+
+// The most bytes of one read.
+const PIECE: usize = 64 * 1024;
+
+/// What is found of the file that a record names: nothing where the record is not in use or names none.
+/// `file` reads it, where it could be opened; it may have `limit` bytes.
+///
+/// It is read once, to its end, to a failure or to `limit` bytes and one more, whether the record has a
+/// digest or not; where its name is no File ID it is not read. This takes no memory.
+pub fn finding_of<R: Read>(tree: &Tree<'_>, file: Option<&mut R>, limit: u64) -> Option<Finding>
+    ensures unnamed { ¬ NamesFile (tree_view tree.now).node → result ≡ None }
+    ensures misnamed { NamesFile (tree_view tree.now).node → ¬ IsFileId (file_in (tree_view tree.now).node)
+        → result ≡ Some Finding.BadId }
+    ensures named { NamesFile (tree_view tree.now).node → IsFileId (file_in (tree_view tree.now).node)
+        → FindsIn R.has_given R.remaining R.calls R.failures limit (tree_view tree.now).node result
+        file.entry file.exit }
+{
+    let name = value_at(&tree.set, FILE.tag).unwrap_or(&[]);
+    if !tree.in_use || name.is_empty() {
+        return None;
+    }
+    if !is_file_id(name) {
+        return Some(Finding::BadId);
+    }
+    match file {
+        None => Some(Finding::Missing),
+        Some(reader) => finding_by(tree, reader, limit),
+    }
+}
+
+/// What is found of the file by reading it.
+fn finding_by<R: Read>(tree: &Tree<'_>, reader: &mut R, limit: u64) -> Option<Finding>
+    ensures { FindsBy R.has_given R.remaining R.calls R.failures limit (tree_view tree.now).node result
+        reader.old reader.new }
+{
+    match digest_of(reader, limit) {
+        None => Some(Finding::Unreadable),
+        Some(found) => compared(digest_in(&tree.set), found),
+    }
+}
+
+/// The SHA-256 of what a reader gives to its end, of which there may be `limit` bytes: None where it
+/// fails or gives a byte more.
+fn digest_of<R: Read>(reader: &mut R, limit: u64) -> Option<[u8; 32]>
+    ensures digest { (given : List ℕ) × Gives R.has_given reader.old reader.new given
+        × Consumes (R.remaining reader.old) (R.remaining reader.new) given
+        × IsDigest result limit given (R.remaining reader.new) (R.failures reader.old) (R.failures reader.new) }
+    ensures calls { R.calls reader.new ≤ R.calls reader.old + limit + 1 }
+{
+    let mut hasher = Sha256::new();
+    let mut left = limit;
+    let mut buffer = [0u8; PIECE];
+    loop {
+        let wanted = left.min(PIECE as u64 - 1) as usize + 1;
+        let room = &mut buffer[..wanted];
+        match reader.read(room) {
+            Err(_) => return None,
+            Ok(0) => return Some(hasher.finalize()),
+            Ok(n) => {
+                if n as u64 > left {
+                    return None;
+                }
+                hasher.update(&room[..n]);
+                left -= n as u64;
+            }
+        }
+    }
+}
+
+/// What is found where the record may have a digest and this is that of the file.
+fn compared(recorded: Option<[u8; 32]>, found: [u8; 32]) -> Option<Finding>
+    ensures { result ≡ compared recorded found }
+{
+    match recorded {
+        Some(recorded) if recorded != found => Some(Finding::Differs { recorded, found }),
+        _ => None,
+    }
+}

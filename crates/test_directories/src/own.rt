@@ -1,0 +1,95 @@
+//! Directories that are written here, read back: their catalogues, and where their files are.
+
+use crate::walks::changed;
+use dd_catalogue::Catalogue;
+use dd_dir::{Place, catalogue_of, places_of, read_directory};
+use dd_vectors::{answered, question};
+use std::alloc::{AllocError, Global};
+use std::test::Fail;
+
+/// A directory (`v2`, `v3`, `one` or letters of images) and what is put into its bytes at a place; and the
+/// instances of its catalogue, or why it is refused.
+const CATALOGUES: &str = "\
+v2 > 0
+one > 1 1.2.3.4.5
+1234 > 4 1.2.3.4.5 1.2.3.4.6 1.2.3.5.1 1.2.9.1.1
+v3 > 62 ForeignRecord 646
+v3 674 ffff > 61 NoDigest 646
+one 348 0000 > 62 ForeignRecord 320
+one 402 2020 > 63 RecordKey 320 (0010,0020)
+one 454 'IMAGE_ > 62 ForeignRecord 404
+one 810 'dd > 61 NoDigest 622
+one 686 'p > 63 RecordKey 622 (0004,1500)
+one 730 '9 > 63 RecordKey 622 (0004,1510)
+one 782 '9 > 63 RecordKey 622 (0004,1512)
+one 514 '. > 63 RecordKey 404 (0020,000D)";
+
+/// A directory with what is put into its bytes; and the instance and the File ID of each image, in the order
+/// of their records, or why it is refused.
+const PLACES: &str = "\
+v2 > 0
+one > 1 1.2.3.4.5 PT000001\\ST000001\\SE000001\\IM000001
+1234 > 4 1.2.3.4.5 PT000001\\ST000001\\SE000001\\IM000001 \
+1.2.3.4.6 PT000001\\ST000001\\SE000001\\IM000002 \
+1.2.3.5.1 PT000001\\ST000001\\SE000002\\IM000001 \
+1.2.9.1.1 PT000002\\ST000001\\SE000001\\IM000001
+v3 > 62 ForeignRecord 646
+v3 674 ffff > 61 NoDigest 646
+one 348 0000 > 62 ForeignRecord 320
+one 402 2020 > 63 RecordKey 320 (0010,0020)";
+
+/// How many versions a catalogue has, and their instances.
+fn instances(alloc: Global, catalogue: &Catalogue) -> Result<String, AllocError> {
+    let count = catalogue.len();
+    let mut text = format!(in alloc; "{count}")?;
+    for version in catalogue.versions() {
+        let instance = version.parts().instance;
+        write!(text, " {instance}")?;
+    }
+    Ok(text)
+}
+
+fn catalogue(alloc: Global, case: &str) -> Result<String, Fail> {
+    let bytes = changed(alloc, question(case))?;
+    let forest = read_directory(alloc, &bytes)?;
+    match catalogue_of(alloc, &forest) {
+        Ok(catalogue) => Ok(answered(alloc, case, &instances(alloc, &catalogue)?)?),
+        Err(fault) => Ok(answered(alloc, case, &fault)?),
+    }
+}
+
+#[test]
+fn catalogues_of_directories(rt: HostRuntime) -> Result<(), Fail> {
+    for case in CATALOGUES.split('\n') {
+        assert_eq!(rt; catalogue(rt.alloc(), case)?.as_str(), case);
+    }
+    Ok(())
+}
+
+/// How many images there are, and the instance and the File ID of each.
+fn files(alloc: Global, places: &[Place<'_>]) -> Result<String, Fail> {
+    let count = places.len();
+    let mut text = format!(in alloc; "{count}")?;
+    for place in places {
+        let (uid, file) = (place.uid, str::from_utf8(place.file)?);
+        write!(text, " {uid} {file}")?;
+    }
+    Ok(text)
+}
+
+fn places(alloc: Global, case: &str) -> Result<String, Fail> {
+    let bytes = changed(alloc, question(case))?;
+    let forest = read_directory(alloc, &bytes)?;
+    match places_of(alloc, &forest) {
+        Ok(places) => Ok(answered(alloc, case, &files(alloc, &places)?)?),
+        Err(fault) => Ok(answered(alloc, case, &fault)?),
+    }
+}
+
+#[test]
+fn files_of_directories(rt: HostRuntime) -> Result<(), Fail> {
+    for case in PLACES.split('\n') {
+        assert_eq!(rt; places(rt.alloc(), case)?.as_str(), case);
+    }
+    Ok(())
+}

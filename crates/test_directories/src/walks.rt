@@ -1,0 +1,162 @@
+//! Directories of any producer, read.
+
+use crate::publishing::published;
+use dd_dir::{Forest, Tree, read_directory};
+use dd_vectors::{answered, bytes_of, first_directory, push_bytes, question, v1, v2, v3};
+use std::alloc::Global;
+use std::test::Fail;
+
+/// A directory (`v2`, `v3` or letters of images) and what is put into its bytes at a place; and its records,
+/// each before those below it in brackets, and how many are not reached, or why it is refused.
+const CHANGED: &str = "\
+v2 > 0
+v1 > 52 NotDirectory
+one > (320 PATIENT(404 STUDY(530 SERIES(622 IMAGE)))) 0
+one 348 0000 > (320 PATIENT inactive(404 STUDY(530 SERIES(622 IMAGE)))) 0
+one 336 40010000 > 55 Twice 320
+one 282 41010000 > 54 Dangling 321
+one 282 00000000 > 56 LastRoot
+one 282 00000000 294 00000000 > 4
+one 370 '________ > 53 RecordShape 320
+one 332 5551 > 51 File 27 Set 3 BadVr
+one 274 04000112 > 52 NotDirectory
+one 286 04000112 > 52 NotDirectory
+one 308 04002112 > 52 NotDirectory
+one 184 '2 > 52 NotDirectory
+one 128 '4 > 51 File 21 NotPart10
+1234 > (320 PATIENT(404 STUDY(530 SERIES(622 IMAGE)(876 IMAGE))(1130 SERIES(1222 IMAGE))))\
+(1476 PATIENT(1560 STUDY(1686 SERIES(1778 IMAGE)))) 0
+1234 1168 6e020000 > 55 Twice 622
+1234 294 40010000 > 56 LastRoot
+1234 294 40010000 336 00000000 > (320 PATIENT(404 STUDY(530 SERIES(622 IMAGE)(876 IMAGE))\
+(1130 SERIES(1222 IMAGE)))) 4
+1234 336 43010000 358 41010000 > 54 Dangling 321
+v3 > (320 PATIENT(412 STUDY(546 SERIES(646 IMAGE inactive)(818 SR DOCUMENT)))) 0";
+
+/// So many records, each below the one before; and how many levels there are, or why they are refused.
+const DEEP: &str = "\
+1 > 1
+32 > 32
+33 > 58 TooDeep 1984";
+
+/// The directory of this name.
+fn directory(alloc: Global, name: &str) -> Result<Vec<u8>, Fail> {
+    match name {
+        "v1" => v1(alloc),
+        "v2" => v2(alloc),
+        "v3" => v3(alloc),
+        "one" => first_directory(alloc),
+        letters => published(alloc, letters),
+    }
+}
+
+/// Puts bytes at a place.
+fn put(bytes: &mut [u8], place: usize, new: &[u8]) -> Result<(), Fail> {
+    let end = place.checked_add(new.len()).ok_or("no place")?;
+    let old = bytes.get_mut(place..end).ok_or("no bytes there")?;
+    old.copy_from_slice(new);
+    Ok(())
+}
+
+/// The directory that a question names, with the changes that follow.
+pub(crate) fn changed(alloc: Global, question: &str) -> Result<Vec<u8>, Fail> {
+    let mut words = question.split(' ');
+    let mut bytes = directory(alloc, words.next().ok_or("no name")?)?;
+    while let Some(place) = words.next() {
+        let new = bytes_of(alloc, words.next().ok_or("no bytes")?)?;
+        put(&mut bytes, place.parse()?, &new)?;
+    }
+    Ok(bytes)
+}
+
+/// Puts a record behind the text, with those below it in its brackets.
+fn push_record(text: &mut String, tree: &Tree<'_>) -> Result<(), Fail> {
+    let (at, kind) = (tree.at, str::from_utf8(tree.kind)?);
+    let flag = if tree.in_use { "" } else { " inactive" };
+    write!(text, "({at} {kind}{flag}")?;
+    for below in &tree.below {
+        push_record(text, below)?;
+    }
+    text.push(')')?;
+    Ok(())
+}
+
+/// The records of a walk.
+fn records(alloc: Global, forest: &Forest<'_>) -> Result<String, Fail> {
+    let mut text = String::new(alloc);
+    for root in &forest.trees {
+        push_record(&mut text, root)?;
+    }
+    Ok(text)
+}
+
+fn read(alloc: Global, case: &str) -> Result<String, Fail> {
+    let bytes = changed(alloc, question(case))?;
+    match read_directory(alloc, &bytes) {
+        Ok(forest) => {
+            let (records, unreached) = (records(alloc, &forest)?, forest.unreached);
+            let space = if records.is_empty() { "" } else { " " };
+            Ok(answered(alloc, case, &format_args!("{records}{space}{unreached}"))?)
+        }
+        Err(fault) => Ok(answered(alloc, case, &fault)?),
+    }
+}
+
+#[test]
+fn walks_of_directories(rt: HostRuntime) -> Result<(), Fail> {
+    for case in CHANGED.split('\n') {
+        assert_eq!(rt; read(rt.alloc(), case)?.as_str(), case);
+    }
+    Ok(())
+}
+
+/// The elements of a record before the offset of the first one below, and behind it.
+const FRONT: &str =
+    "feff00e0 2c000000 04000014 554c 0400 00000000 04001014 5553 0200 ffff 04002014 554c 0400";
+
+const BACK: &str = "04003014 4353 0200 'X_";
+
+/// A directory of so many records, each below the one before.
+fn deep(alloc: Global, count: u32) -> Result<Vec<u8>, Fail> {
+    let mut bytes = v2(alloc)?;
+    for root in [282, 294] {
+        put(&mut bytes, root, &320u32.to_le_bytes())?;
+    }
+    put(&mut bytes, 316, &count.saturating_mul(52).to_le_bytes())?;
+    for at in 1..=count {
+        let next = at.saturating_mul(52).saturating_add(320);
+        let lower = if at == count { 0 } else { next };
+        push_bytes(alloc, &mut bytes, FRONT)?;
+        bytes.extend_from_slice(&lower.to_le_bytes())?;
+        push_bytes(alloc, &mut bytes, BACK)?;
+    }
+    Ok(bytes)
+}
+
+/// How many levels a record and those below it have.
+fn levels(tree: &Tree<'_>) -> u32 {
+    let mut most = 0;
+    for below in &tree.below {
+        most = u32::max(most, levels(below));
+    }
+    most.saturating_add(1)
+}
+
+fn read_deep(alloc: Global, case: &str) -> Result<String, Fail> {
+    let bytes = deep(alloc, question(case).parse()?)?;
+    match read_directory(alloc, &bytes) {
+        Ok(forest) => {
+            let root = forest.trees.first().ok_or("no record")?;
+            Ok(answered(alloc, case, &levels(root))?)
+        }
+        Err(fault) => Ok(answered(alloc, case, &fault)?),
+    }
+}
+
+#[test]
+fn levels_of_directories(rt: HostRuntime) -> Result<(), Fail> {
+    for case in DEEP.split('\n') {
+        assert_eq!(rt; read_deep(rt.alloc(), case)?.as_str(), case);
+    }
+    Ok(())
+}
