@@ -62,10 +62,15 @@ pub(crate) fn limits_of(bytes: &str) -> Result<Limits, Fail> {
     Ok(Limits::new(bytes, 999_999).ok_or("no limits")?)
 }
 
+/// The directory of the images with these letters, under this File-set ID.
+pub(crate) fn named(alloc: Global, id: &str, letters: &str) -> Result<Vec<u8>, Fail> {
+    let catalogue = taken(alloc, letters)?;
+    Ok(publish(alloc, &catalogue, &label_of(id)?, limits_of("")?)?)
+}
+
 /// The directory of the images with these letters.
 pub(crate) fn published(alloc: Global, letters: &str) -> Result<Vec<u8>, Fail> {
-    let catalogue = taken(alloc, letters)?;
-    Ok(publish(alloc, &catalogue, &label_of("")?, limits_of("")?)?)
+    named(alloc, "", letters)
 }
 
 #[test]

@@ -1,17 +1,20 @@
 //! Directories of any producer, read.
 
-use crate::publishing::published;
+use crate::publishing::{named, published};
 use dd_dir::{Forest, Tree, read_directory};
 use dd_vectors::{answered, bytes_of, first_directory, push_bytes, question, v1, v2, v3};
 use std::alloc::Global;
 use std::test::Fail;
 
-/// A directory (`v2`, `v3` or letters of images) and what is put into its bytes at a place; and its records,
-/// each before those below it in brackets, and how many are not reached, or why it is refused.
+/// A directory (`v1`, `v2`, `v3`, `one`, `disc` or letters of images) and what is put into its bytes at a place;
+/// and its File-set ID, its records, each before those below it in brackets, and how many items are not reached,
+/// or why it is refused.
 const CHANGED: &str = "\
 v2 > 0
 v1 > 52 NotDirectory
 one > (320 PATIENT(404 STUDY(530 SERIES(622 IMAGE)))) 0
+disc > DISC1 (326 PATIENT(410 STUDY(536 SERIES(628 IMAGE)))) 0
+one 370 'PRIVATE_ > (320 PRIVATE(404 STUDY(530 SERIES(622 IMAGE)))) 0
 one 348 0000 > (320 PATIENT inactive(404 STUDY(530 SERIES(622 IMAGE)))) 0
 one 336 40010000 > 55 Twice 320
 one 282 41010000 > 54 Dangling 321
@@ -46,6 +49,7 @@ fn directory(alloc: Global, name: &str) -> Result<Vec<u8>, Fail> {
         "v2" => v2(alloc),
         "v3" => v3(alloc),
         "one" => first_directory(alloc),
+        "disc" => named(alloc, "DISC1", "1"),
         letters => published(alloc, letters),
     }
 }
@@ -81,11 +85,17 @@ fn push_record(text: &mut String, tree: &Tree<'_>) -> Result<(), Fail> {
     Ok(())
 }
 
-/// The records of a walk.
+/// The File-set ID and the records of a walk, a space behind each that is there.
 fn records(alloc: Global, forest: &Forest<'_>) -> Result<String, Fail> {
-    let mut text = String::new(alloc);
+    let mut text = String::from_str(alloc, str::from_utf8(forest.id)?)?;
+    if !forest.id.is_empty() {
+        text.push(' ')?;
+    }
     for root in &forest.trees {
         push_record(&mut text, root)?;
+    }
+    if !forest.trees.is_empty() {
+        text.push(' ')?;
     }
     Ok(text)
 }
@@ -95,8 +105,7 @@ fn read(alloc: Global, case: &str) -> Result<String, Fail> {
     match read_directory(alloc, &bytes) {
         Ok(forest) => {
             let (records, unreached) = (records(alloc, &forest)?, forest.unreached);
-            let space = if records.is_empty() { "" } else { " " };
-            Ok(answered(alloc, case, &format_args!("{records}{space}{unreached}"))?)
+            Ok(answered(alloc, case, &format_args!("{records}{unreached}"))?)
         }
         Err(fault) => Ok(answered(alloc, case, &fault)?),
     }
