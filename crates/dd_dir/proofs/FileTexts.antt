@@ -11,7 +11,7 @@ use Rattle.dd_elem.specs.FileId.{AreRanks, IsRank, Ranks, six_digits, text_of}
 use Rattle.dd_elem.specs.FileIdForm.{IsFileId, IsFileIdComponent, is_file_id_form}
 use Rattle.dd_elem.specs.SetId.{IsIdCharacter}
 use Rattle.dd_elem.proofs.Cleaning.{clean_of-unpadded}
-use Rattle.dd_elem.proofs.FileIdForms.{is_file_id_form_decides}
+use Rattle.dd_elem.proofs.FileIdForms.{form_decides}
 use Rattle.dd_elem.proofs.SixDigits.{length-six_digits}
 
 -- ---- the components
@@ -73,7 +73,7 @@ text_is ranks are =
     }
 
 pub text_suits : (ranks : Ranks) → AreRanks ranks → is_file_id_form (text_of ranks) ≡ true
-text_suits ranks are = (is_file_id_form_decides (text_of ranks)).1 (text_is ranks are)
+text_suits ranks are = (form_decides (text_of ranks)).1 (text_is ranks are)
 
 pub text_short : (ranks : Ranks) → AreRanks ranks → length (text_of ranks) ≤ 1024
 unfolding text_of

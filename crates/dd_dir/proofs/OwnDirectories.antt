@@ -2,14 +2,13 @@
 use Rattle.std.specs.Prelude.{◌≡◌, ◌≢◌, ℕ, true, List, [], ◌∷◌, filter, map, unwrap_or, Option}
 use Rattle.std.specs.List.{AllByRecursion}
 use Rattle.std.proofs.Common.{refl, sym, ◌∙◌, ap, ap₂, subst, inl, inr}
-use Rattle.std.proofs.lemmas.Cmp.{nat_list_cmp_total}
-use Rattle.std.proofs.lemmas.Option.{same_Some}
 use Rattle.dd_elem.specs.FileId.{Ranks, text_of}
 use Rattle.dd_catalogue.specs.Best.{SameMembers}
 use Rattle.dd_catalogue.specs.BestLaws.{Member, best_of_rising, contained, member_of}
-use Rattle.dd_catalogue.specs.BestMembers.{at-member, best_of_same}
+use Rattle.dd_catalogue.specs.BestMembers.{best_of_same}
 use Rattle.dd_catalogue.specs.Harmony.{harmonised}
-use Rattle.dd_catalogue.specs.Versions.{IsCatalogue, instance_of, kept, versions_ordered}
+use Rattle.dd_catalogue.specs.Versions.{IsCatalogue, versions_ordered}
+use Rattle.dd_catalogue.proofs.Clashes.{one_version}
 use Rattle.dd_catalogue.proofs.Harmonies.{harmonised_rises, member-map}
 use Rattle.dd_keys.specs.declared.parts.Parts.{Parts}
 use Rattle.dd_layout.specs.declared.label.Label.{Label}
@@ -229,13 +228,6 @@ row_said versions node (y ∷ rest) a b c d each (inr i) =
 
 -- ---- the versions of a catalogue
 
--- a catalogue has one version of an instance
-one_version : (m : List Parts) (v w : Parts) → IsCatalogue m → Member v m → Member w m → v.instance ≡ w.instance
-    → v ≡ w
-one_version m v w up i j same = same_Some v w
-    (sym (at-member instance_of nat_list_cmp_total v m up i) ∙ ap (λ k. kept m k) same
-    ∙ at-member instance_of nat_list_cmp_total w m up j)
-
 path_among : (versions : List Parts) (v : Parts) → Member v versions → Member (path_of v) (tree versions)
 path_among versions v i =
     let paths = map path_of versions in
@@ -257,7 +249,8 @@ all_said label versions alike sent up =
           let path : u.0.patient.id ∷ u.0.study.uid ∷ u.0.series.uid ∷ u.0.instance ∷ []
           ≡ v.patient.id ∷ v.study.uid ∷ v.series.uid ∷ v.instance ∷ [] = u.2 in
           let same : u.0.instance ≡ v.instance = cc in
-          let one = one_version versions u.0 v up (said_among versions node rows u.0 each u.1) i same in
+          let among = said_among versions node rows u.0 each u.1 in
+          let one = one_version versions u.0 v up (contained u.0 versions among) (contained v versions i) same in
           contained v (said node rows) (subst (λ (w : Parts). Member w (said node rows)) one u.1)),
     )
 

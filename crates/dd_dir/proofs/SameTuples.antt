@@ -1,7 +1,7 @@
 -- Versions in harmony that have one patient, study or series have one tuple of its keys.
-use Rattle.std.specs.Prelude.{◌≡◌, ℕ, List, [], ◌∷◌, map}
+use Rattle.std.specs.Prelude.{◌≡◌, ℕ, List, map}
 use Rattle.std.specs.declared.cmp.Ordering.{Ordering}
-use Rattle.std.proofs.Common.{refl, sym, ◌∙◌, ap, inl, inr}
+use Rattle.std.proofs.Common.{sym, ◌∙◌, ap}
 use Rattle.std.proofs.lemmas.Option.{same_Some}
 use Rattle.dd_elem.specs.Ordered.{bytes_cmp}
 use Rattle.dd_keys.specs.Orders.{patient_total, patient_apart, study_total, study_apart}
@@ -13,6 +13,7 @@ use Rattle.dd_catalogue.specs.Harmony.{agreed, greatest_like, harmonised, patien
 use Rattle.dd_catalogue.specs.Harmony.{series_of, study_key, study_of}
 use Rattle.dd_catalogue.specs.Rising.{Orders}
 use Rattle.dd_catalogue.proofs.Harmonies.{best_like}
+use Rattle.dd_catalogue.proofs.Harmonised.{member-unmap}
 use Rattle.dd_catalogue.proofs.Places.{by_key}
 
 -- the greatest tuples of one key are one
@@ -29,13 +30,6 @@ same_like tuple {key = key} {order = order} o m v w i j same =
     same_Some (greatest_like tuple key order m v) (greatest_like tuple key order m w)
     (sym one ∙ ap (λ k. best_at key bytes_cmp order (map tuple m) k) keys ∙ other)
 
--- the version that one in harmony was made of
-harmony_of : (m n : List Parts) (w : Parts) → Member w (map (agreed m) n)
-    → (v : Parts) × Member v n × (agreed m v ≡ w)
-harmony_of m [] w i = absurd i
-harmony_of m (v ∷ n) w (inl e) = (v, inl refl, e)
-harmony_of m (v ∷ n) w (inr i) = let rest = harmony_of m n w i in (rest.0, inr rest.1, rest.2)
-
 -- versions of one patient, study or series have its keys alike
 pub record AreAlike (versions : List Parts) : Type 0 where
   pub patient : (v w : Parts) → Member v versions → Member w versions → v.patient.id ≡ w.patient.id
@@ -48,22 +42,22 @@ pub record AreAlike (versions : List Parts) : Type 0 where
 pub harmony_is_alike : (m : List Parts) → AreAlike (harmonised m)
 harmony_is_alike m = record {
   patient = λ v w i j same.
-      let a = harmony_of m m v i in
-      let b = harmony_of m m w j in
+      let a = member-unmap (agreed m) v m i in
+      let b = member-unmap (agreed m) w m j in
       ap patient_of (sym a.2)
       ∙ same_like patient_of (by_key patient_key patient_total patient_apart) m a.0 b.0 a.1 b.1
       (ap (λ (u : Parts). u.patient.id) a.2 ∙ same ∙ ap (λ (u : Parts). u.patient.id) (sym b.2))
       ∙ ap patient_of b.2;
   study = λ v w i j same.
-      let a = harmony_of m m v i in
-      let b = harmony_of m m w j in
+      let a = member-unmap (agreed m) v m i in
+      let b = member-unmap (agreed m) w m j in
       ap study_of (sym a.2)
       ∙ same_like study_of (by_key study_key study_total study_apart) m a.0 b.0 a.1 b.1
       (ap (λ (u : Parts). u.study.uid) a.2 ∙ same ∙ ap (λ (u : Parts). u.study.uid) (sym b.2))
       ∙ ap study_of b.2;
   series = λ v w i j same.
-      let a = harmony_of m m v i in
-      let b = harmony_of m m w j in
+      let a = member-unmap (agreed m) v m i in
+      let b = member-unmap (agreed m) w m j in
       ap series_of (sym a.2)
       ∙ same_like series_of (by_key series_key series_total series_apart) m a.0 b.0 a.1 b.1
       (ap (λ (u : Parts). u.series.uid) a.2 ∙ same ∙ ap (λ (u : Parts). u.series.uid) (sym b.2))

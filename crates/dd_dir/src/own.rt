@@ -31,7 +31,8 @@ pub struct Place<'a> {
 /// The best of the versions of the images that a directory lists whose records are those that are
 /// written here. Otherwise the first check that a record fails, depth first: it is not in use or its type
 /// is not the one of its level, it is of an image without a digest, or the first of its elements in the
-/// order of tags is not what it must be. Memory where a growth was refused: never where there is no image.
+/// order of tags is not what it must be. Memory where a growth was refused: never where all
+/// records are right and none is of an image.
 pub fn catalogue_of(alloc: Global, forest: &Forest<'_>) -> Result<Catalogue, OwnFault>
     ensures { Answers (own (walk_view forest.now))
         (λ images catalogue. catalogue ≡ best_of (map version_of images)) result }

@@ -66,8 +66,8 @@ IsFileId_from_is_file_id_form bytes e =
     }
 
 -- the test decides
-pub is_file_id_form_decides : (bytes : List ℕ) → Decides (is_file_id_form bytes) (IsFileId bytes)
-is_file_id_form_decides bytes = (IsFileId_from_is_file_id_form bytes, is_file_id_form_from_IsFileId bytes)
+pub form_decides : (bytes : List ℕ) → Decides (is_file_id_form bytes) (IsFileId bytes)
+form_decides bytes = (IsFileId_from_is_file_id_form bytes, is_file_id_form_from_IsFileId bytes)
 
 -- what answers as the test does decides
 pub decides_from_is : (bytes : List ℕ) (result : Bool) → result ≡ is_file_id_form bytes → Decides result (IsFileId bytes)

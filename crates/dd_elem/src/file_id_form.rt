@@ -7,7 +7,7 @@ ghost use Rattle.dd_elem.specs.FileIdForm.{IsFileId, is_file_id_component, is_fi
 
 /// Are the bytes a File ID: 1 to 8 components joined by `\`, each of 1 to 8 characters of `A` to `Z`,
 /// `0` to `9` and `_` (PS3.10 sections 8.2 and 8.5)?
-#[tactic(auto, using(crate::proofs::FileIdForms::is_file_id_form_decides), unfolding(crate::specs::FileIdForm::is_file_id_form))]
+#[tactic(auto, using(crate::proofs::FileIdForms::form_decides), unfolding(crate::specs::FileIdForm::is_file_id_form))]
 pub fn is_file_id(bytes: &[u8]) -> bool
     ensures form { IsTrue result ↔ IsFileId bytes.now }
     ensures test { result ≡ is_file_id_form bytes.now }

@@ -24,3 +24,4 @@ pub use parts::Parts;
 pub use reading::{ingest, one_version, version_of};
 pub use values::value_at;
 pub use version::{Misfit, Version};
+pub use whole::read_whole;

@@ -16,11 +16,7 @@ const PIECE: usize = 65_536;
 ///
 /// Read where the reader fails, FileTooLong where it gives `limit` bytes and one more, and Memory
 /// where a growth is refused. It makes at most `limit` + 1 reads.
-pub(crate) fn read_whole<R: Read>(
-    alloc: Global,
-    reader: &mut R,
-    limit: u64,
-) -> Result<Vec<u8>, KeyFault>
+pub fn read_whole<R: Read>(alloc: Global, reader: &mut R, limit: u64) -> Result<Vec<u8>, KeyFault>
     ensures gave { (given : List ℕ) × Gives R.has_given reader.old reader.new given
         × Consumes (R.remaining reader.old) (R.remaining reader.new) given
         × IsWholeAnswer result limit given (R.remaining reader.new)
