@@ -3,6 +3,7 @@
 
 use std::alloc::{AllocError, Global};
 use std::fmt::Display;
+use std::test::Fail;
 
 /// What stands between the question and the answer.
 const ARROW: &str = " > ";
@@ -19,4 +20,33 @@ pub fn question(case: &str) -> &str {
 pub fn answered<T: Display>(alloc: Global, case: &str, answer: &T) -> Result<String, AllocError> {
     let question = question(case);
     format!(in alloc; "{question}{ARROW}{answer}")
+}
+
+/// The words of a command line, where `''` stands for an empty one.
+pub fn words_of(alloc: Global, line: &str) -> Result<Vec<String>, AllocError> {
+    let mut words = Vec::new(alloc);
+    for word in line.split(' ') {
+        let word = if word == "''" { "" } else { word };
+        words.push(String::from_str(alloc, word)?)?;
+    }
+    Ok(words)
+}
+
+/// After how many bytes a device fails, or never at `-`.
+pub fn failing(text: &str) -> Result<Option<u64>, Fail> {
+    match text {
+        "-" => Ok(None),
+        number => Ok(Some(number.parse()?)),
+    }
+}
+
+/// Puts what a device holds behind the text, with `|` at the end of each line.
+pub fn push_lines(text: &mut String, bytes: &[u8]) -> Result<(), AllocError> {
+    for byte in bytes {
+        text.push(match byte {
+            b'\n' => '|',
+            other => char::from(*other),
+        })?;
+    }
+    Ok(())
 }

@@ -1,6 +1,6 @@
 //! The bytes of directories, with the place of each row.
 
-use crate::texts::push_bytes;
+use crate::texts::{push_bytes, put_at};
 use std::alloc::Global;
 use std::test::Fail;
 
@@ -123,6 +123,12 @@ const OTHER_TOOL: &str = "\
 898 feff0de0 00000000
 906 feffdde0 00000000";
 
+/// The elements of a record before the offset of the first one below, and behind it.
+const RECORD: &str =
+    "feff00e0 2c000000 04000014 554c 0400 00000000 04001014 5553 0200 ffff 04002014 554c 0400";
+
+const TYPE: &str = "04003014 4353 0200 'X_";
+
 /// V2, the directory of a file-set that holds nothing: 320 bytes.
 pub fn v2(alloc: Global) -> Result<Vec<u8>, Fail> {
     directory(alloc, NOTHING)
@@ -157,4 +163,21 @@ fn push_rows(alloc: Global, bytes: &mut Vec<u8>, rows: &str) -> Result<(), Fail>
         push_bytes(alloc, bytes, words)?;
     }
     Ok(())
+}
+
+/// A directory of so many records, each below the one before.
+pub fn deep(alloc: Global, count: u32) -> Result<Vec<u8>, Fail> {
+    let mut bytes = v2(alloc)?;
+    for root in [282, 294] {
+        put_at(&mut bytes, root, &320u32.to_le_bytes())?;
+    }
+    put_at(&mut bytes, 316, &count.saturating_mul(52).to_le_bytes())?;
+    for at in 1..=count {
+        let next = at.saturating_mul(52).saturating_add(320);
+        let lower = if at == count { 0 } else { next };
+        push_bytes(alloc, &mut bytes, RECORD)?;
+        bytes.extend_from_slice(&lower.to_le_bytes())?;
+        push_bytes(alloc, &mut bytes, TYPE)?;
+    }
+    Ok(bytes)
 }

@@ -55,3 +55,25 @@ pub fn tag_of(text: &str) -> Result<Tag, Fail> {
         element: u16::from_str_radix(element, 16)?,
     })
 }
+
+/// Puts bytes at places among these bytes: words between spaces or commas, a place and then the word that names
+/// its bytes, and so on. No words change nothing.
+pub fn put_words(alloc: Global, bytes: &mut [u8], words: &str) -> Result<(), Fail> {
+    if words.is_empty() {
+        return Ok(());
+    }
+    let mut words = words.split([' ', ',']);
+    while let Some(place) = words.next() {
+        let new = bytes_of(alloc, words.next().ok_or("no bytes")?)?;
+        put_at(bytes, place.parse()?, &new)?;
+    }
+    Ok(())
+}
+
+/// Puts bytes at a place among these bytes.
+pub fn put_at(bytes: &mut [u8], place: usize, new: &[u8]) -> Result<(), Fail> {
+    let end = place.checked_add(new.len()).ok_or("no place")?;
+    let old = bytes.get_mut(place..end).ok_or("no bytes there")?;
+    old.copy_from_slice(new);
+    Ok(())
+}

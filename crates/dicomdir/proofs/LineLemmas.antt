@@ -6,9 +6,11 @@ use Rattle.clap.specs.Words.{AddsSubcommand, App, Row, Text, kind_of, with_subco
 use Rattle.clap.specs.declared.builder.command.Command.{Command}
 use Rattle.clap.specs.declared.error.Error.{Error}
 use Rattle.clap.specs.declared.error.kind.ErrorKind.TheVariants.{OutOfMemory}
-use Rattle.dicomdir.specs.Line.{AsksBadName, GivesId, GivesUid, HasApp, HasBadName, IsAsked, IsFaultOf}
+use Rattle.dicomdir.specs.Line.{AsksBadName, GivesId, GivesUid, HasApp, HasBadName, IsAsked, IsCheck, IsFaultOf}
+use Rattle.dicomdir.specs.Line.{verb_name}
 use Rattle.dicomdir.specs.declared.line.Asked.{Asked}
 use Rattle.dicomdir.specs.declared.line.LineFault.{LineFault}
+use Rattle.dicomdir.specs.declared.line.Verb.TheVariants.{Check}
 use Rattle.dicomdir.specs.declared.line.LineFault.TheVariants.{Refused, Memory}
 
 -- the parser's want of memory is the fault Memory
@@ -45,6 +47,11 @@ pub given_id : (a : Asked) (found : Option (Text × List Row)) (id : Text) → I
     → GivesId found id → option_map string_bytes a.id ≡ Some id
 given_id a None id h gives = absurd h
 given_id a (Some (command, given)) id h gives = h.id ∙ gives
+
+-- a line asks for a check where its words name it
+pub asked_check : (a : Asked) (found : Option (Text × List Row)) → IsAsked a found → a.verb ≡ Check → IsCheck found
+asked_check a None h is = absurd h
+asked_check a (Some (command, given)) h is = sym h.verb ∙ ap verb_name is
 
 -- a name that is none is one that the words give
 pub asked_bad : (a : Asked) (found : Option (Text × List Row)) → IsAsked a found → AsksBadName a → HasBadName found

@@ -7,6 +7,7 @@ use Rattle.std.specs.Io.KnownBytes.{Consumes, IsAtEnd}
 use Rattle.std.specs.Str.{bytes_eq}
 use Rattle.sha2.specs.Sha256.{sha256}
 use Rattle.dd_elem.specs.Device.{Gives, HasFailed, HasWorked}
+use Rattle.dd_elem.specs.FileIdForm.{IsFileId}
 use Rattle.dd_keys.specs.Values.{value_at}
 use Rattle.dd_layout.specs.Entries.{tag}
 use Rattle.dd_dir.specs.Trees.{Node}
@@ -21,6 +22,10 @@ file_in node = unwrap_or (value_at (tag 0x0004 0x1500) node.set) []
 -- it is in use, and names a file
 abbrev pub NamesFile : Node → Type 0
 NamesFile node = (node.in_use ≡ true) × (file_in node ≢ [])
+
+-- it names one by a File ID
+abbrev pub HasFileId : Node → Type 0
+HasFileId node = NamesFile node × IsFileId (file_in node)
 
 -- ---- a file that is read
 
@@ -70,3 +75,9 @@ FindsIn has_given remaining calls failures limit node finding None left = findin
 FindsIn has_given remaining calls failures limit node finding (Some file) (inr (inl left)) =
     FindsBy has_given remaining calls failures limit node finding file.now left.0.now
 FindsIn has_given remaining calls failures limit node finding (Some file) left = ⊥
+
+-- a file that may be missing is not read: its reader is left as it came in
+abbrev pub IsUnread : {R : Type 0} → Option (MutBor R) → Unit {0} ⊎ ((MutBor R × Unit {0}) ⊎ ⊥) → Type 0
+IsUnread None left = Unit {0}
+IsUnread (Some file) (inr (inl left)) = left.0.now ≡ file.now
+IsUnread (Some file) left = ⊥

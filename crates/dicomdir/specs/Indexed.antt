@@ -11,7 +11,8 @@ use Rattle.dicomdir.specs.declared.engine.Indexed.{Indexed}
 use Rattle.dicomdir.specs.declared.engine_fault.EngineFault.{EngineFault}
 use Rattle.dicomdir.specs.declared.engine_fault.EngineFault.TheVariants.{Memory, Absent, Unread, Plan}
 use Rattle.dicomdir.specs.Choosing.{label_for, refusal_for}
-use Rattle.dicomdir.specs.Indexing.{Answer, accepted, best_of_sources, picks_of, skipped}
+use Rattle.dicomdir.specs.Indexing.{Answer, accepted, best_of_sources, files_of, skipped}
+use Rattle.dicomdir.specs.Picking.{ArePicked}
 use Rattle.dicomdir.specs.Supply.{AllStay, AreAnswers, EndsWith}
 
 -- a refusal of a plan, in the words of an index
@@ -27,8 +28,8 @@ pub record IsIndexed (choice : Choice) (limits : Bounds) (answers : List Answer)
   pub plan : let m = best_of_sources (accepted answers) in indexed.plan ≡ layout_of (label_for choice m) m
   pub allowed : refusal_for choice limits (best_of_sources (accepted answers)) ≡ None
   pub skipped : indexed.skipped.items ≡ skipped answers
-  pub picks : let m = best_of_sources (accepted answers) in indexed.picks.items
-      ≡ picks_of (accepted answers) (harmonised m) (records_of (label_for choice m) (harmonised m))
+  pub picks : let m = best_of_sources (accepted answers) in ArePicked (files_of (accepted answers)) (harmonised m)
+      (records_of (label_for choice m) (harmonised m)) indexed.picks.items
 
 -- the answer where these are the answers for the sources
 abbrev pub Indexes : Choice → Bounds → List Answer → Result Indexed EngineFault → Type 0

@@ -1,3 +1,4 @@
+pub mod Checking
 pub mod Choosing
 pub mod Copying
 pub mod FileSupply
@@ -6,11 +7,17 @@ pub mod Finding
 pub mod Indexed
 pub mod Indexing
 pub mod Line
+pub mod Listing
 pub mod MemFiles
 pub mod MemLaws
 pub mod MemReader
+pub mod MergeSteps
+pub mod Merged
+pub mod Merging
 pub mod Paths
 pub mod Picking
+pub mod Published
 pub mod Supply
+pub mod Telling
 pub mod Text
 pub mod Trouble

@@ -158,6 +158,11 @@ abbrev pub NamesCommand : Option (Text × List Row) → Type 0
 NamesCommand found = (verb : Verb) × (given : List Row) × (found ≡ Some (verb_name verb, given)) × HasLimit given
     × (least_paths verb ≤ length (given_paths given)) × (OnlyReads verb → GivesOneSet given)
 
+-- the command that they name is `check`
+abbrev pub IsCheck : Option (Text × List Row) → Type 0
+IsCheck None = ⊥
+IsCheck (Some (command, given)) = command ≡ verb_name Check
+
 -- the words give the option `--id` this value
 abbrev pub GivesId : Option (Text × List Row) → Text → Type 0
 GivesId None id = ⊥

@@ -1,10 +1,10 @@
--- What goes wrong in a run: which faults are the command line's, and which sources are concerned.
+-- What goes wrong in a run: which faults are the command line's, and which paths are concerned.
 use Rattle.std.specs.Prelude.{◌≡◌, ◌⊎◌, ◌<◌, ℕ}
 use Rattle.dd_elem.specs.declared.set_id.BadSetId.{BadSetId}
 use Rattle.dd_elem.specs.declared.uid.BadUid.{BadUid}
 use Rattle.dicomdir.specs.declared.trouble.ProgramFault.{ProgramFault}
 use Rattle.dicomdir.specs.declared.trouble.Subject.{Subject}
-use Rattle.dicomdir.specs.declared.trouble.Subject.TheVariants.{General, Source, Folder, Directory, Image, ImageFolder}
+use Rattle.dicomdir.specs.declared.trouble.Subject.TheVariants as subject
 use Rattle.dicomdir.specs.declared.trouble.Trouble.{Trouble}
 use Rattle.dicomdir.specs.declared.trouble.ProgramFault.TheVariants.{SetId, Uid}
 
@@ -12,16 +12,33 @@ use Rattle.dicomdir.specs.declared.trouble.ProgramFault.TheVariants.{SetId, Uid}
 abbrev pub IsBadLine : ProgramFault → Type 0
 IsBadLine fault = ((bad : BadUid) × (fault ≡ Uid bad)) ⊎ ((bad : BadSetId) × (fault ≡ SetId bad))
 
--- a source that is concerned is one of so many
+-- a path that is concerned is one of so many
 abbrev pub IsAmong : ℕ → Subject → Type 0
-IsAmong sources General = Unit {0}
-IsAmong sources (Source at) = at < sources
-IsAmong sources Folder = Unit {0}
-IsAmong sources Directory = Unit {0}
-IsAmong sources (Image file) = Unit {0}
-IsAmong sources (ImageFolder file) = Unit {0}
+IsAmong paths subject.General = Unit {0}
+IsAmong paths (subject.Source at) = at < paths
+IsAmong paths (subject.SetDirectory at) = at < paths
+IsAmong paths (subject.SetFile at file) = at < paths
+IsAmong paths subject.Folder = Unit {0}
+IsAmong paths subject.Directory = Unit {0}
+IsAmong paths (subject.Image file) = Unit {0}
+IsAmong paths (subject.ImageFolder file) = Unit {0}
 
--- what goes wrong with these sources when the command line is not at fault
-pub record IsOfWork (sources : ℕ) (trouble : Trouble) : Type 0 where
-  pub named : IsAmong sources trouble.subject
+-- it is the source of this number
+abbrev pub IsSource : ℕ → Subject → Type 0
+IsSource at named = named ≡ subject.Source at
+
+-- it is a file in the folder of this number
+abbrev pub IsFileOf : ℕ → Subject → Type 0
+IsFileOf set subject.General = ⊥
+IsFileOf set (subject.Source at) = ⊥
+IsFileOf set (subject.SetDirectory at) = ⊥
+IsFileOf set (subject.SetFile at file) = at ≡ set
+IsFileOf set subject.Folder = ⊥
+IsFileOf set subject.Directory = ⊥
+IsFileOf set (subject.Image file) = ⊥
+IsFileOf set (subject.ImageFolder file) = ⊥
+
+-- what goes wrong with these paths when the command line is not at fault
+pub record IsOfWork (paths : ℕ) (trouble : Trouble) : Type 0 where
+  pub named : IsAmong paths trouble.subject
   pub line : ¬ IsBadLine trouble.fault

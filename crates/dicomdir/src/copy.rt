@@ -23,8 +23,8 @@ pub enum CopyFault {
     Changed,
 }
 
-// The most bytes of one read.
-const PIECE: usize = 64 * 1024;
+/// The most bytes of one read.
+pub(crate) const PIECE: usize = 64 * 1024;
 
 /// Copies what a reader gives to its end, of which there may be `limit` bytes, and answers the SHA-256
 /// of it.

@@ -1,12 +1,14 @@
 //! What is found of the file that a record names.
-ghost use Rattle.std.specs.Prelude.{◌≡◌, ◌≤◌, ◌+◌, ℕ, List, None, Some};
+ghost use Rattle.std.specs.Prelude.{◌≡◌, ◌≤◌, ◌+◌, ℕ, List, IfSome, None, Some};
 ghost use Rattle.std.specs.Io.KnownBytes.{Consumes};
 ghost use Rattle.dd_elem.specs.Device.{Gives};
 ghost use Rattle.dd_elem.specs.FileIdForm.{IsFileId};
 ghost use Rattle.dd_set.specs.Views.{set_view};
 ghost use Rattle.dd_dir.specs.ForestViews.{tree_view};
-ghost use Rattle.dicomdir.specs.Finding.{FindsBy, FindsIn, IsDigest, NamesFile, compared, file_in};
+ghost use Rattle.dicomdir.specs.Finding.{FindsBy, FindsIn, HasFileId, IsDigest, IsUnread, NamesFile, compared};
+ghost use Rattle.dicomdir.specs.Finding.{file_in};
 
+use crate::copy::PIECE;
 use dd_dir::{Tree, digest_in};
 use dd_elem::{Read, is_file_id};
 use dd_keys::value_at;
@@ -31,9 +33,6 @@ pub enum Finding {
     },
 }
 
-// The most bytes of one read.
-const PIECE: usize = 64 * 1024;
-
 /// What is found of the file that a record names: nothing where the record is not in use or names none.
 /// `file` reads it, where it could be opened; it may have `limit` bytes.
 ///
@@ -46,18 +45,67 @@ pub fn finding_of<R: Read>(tree: &Tree<'_>, file: Option<&mut R>, limit: u64) ->
     ensures named { NamesFile (tree_view tree.now).node → IsFileId (file_in (tree_view tree.now).node)
         → FindsIn R.has_given R.remaining R.calls R.failures limit (tree_view tree.now).node result
         file.entry file.exit }
+
+    // Where the name is no File ID the reader is left as it came in.
+    ensures unread { ¬ HasFileId (tree_view tree.now).node → IsUnread file.entry file.exit }
 {
-    let name = value_at(&tree.set, FILE.tag).unwrap_or(&[]);
-    if !tree.in_use || name.is_empty() {
+    let Some(reader) = file else {
+        return unopened(tree);
+    };
+    if id_of(tree).is_none() {
+        return misnamed(tree);
+    }
+    finding_by(tree, reader, limit)
+}
+
+/// The File ID that a record has, without its padding: no bytes where it has none.
+pub(crate) fn file_in<'t>(tree: &'t Tree<'_>) -> &'t [u8]
+    ensures { result.now ≡ file_in (tree_view tree.now).node }
+{
+    match value_at(&tree.set, FILE.tag) {
+        Some(id) => id,
+        None => &[],
+    }
+}
+
+/// The File ID of the file that a record names, where it is in use and the name is a File ID.
+pub(crate) fn id_of<'t>(tree: &'t Tree<'_>) -> Option<&'t [u8]>
+    ensures some { IfSome result (λ id. HasFileId (tree_view tree.now).node
+        × (id.now ≡ file_in (tree_view tree.now).node)) }
+    ensures none { result ≡ None → ¬ HasFileId (tree_view tree.now).node }
+{
+    let id = file_in(tree);
+    if tree.in_use && is_file_id(id) {
+        Some(id)
+    } else {
+        None
+    }
+}
+
+/// What is found of a record whose file is not opened.
+pub(crate) fn unopened(tree: &Tree<'_>) -> Option<Finding>
+    ensures missing { HasFileId (tree_view tree.now).node → result ≡ Some Finding.Missing }
+    ensures bad { NamesFile (tree_view tree.now).node → ¬ IsFileId (file_in (tree_view tree.now).node)
+        → result ≡ Some Finding.BadId }
+    ensures unnamed { ¬ NamesFile (tree_view tree.now).node → result ≡ None }
+{
+    match id_of(tree) {
+        Some(_) => Some(Finding::Missing),
+        None => misnamed(tree),
+    }
+}
+
+/// What is found of a record by the name alone: `BadId` where it is in use and the name is no File ID.
+fn misnamed(tree: &Tree<'_>) -> Option<Finding>
+    ensures bad { NamesFile (tree_view tree.now).node → ¬ IsFileId (file_in (tree_view tree.now).node)
+        → result ≡ Some Finding.BadId }
+    ensures unnamed { ¬ NamesFile (tree_view tree.now).node → result ≡ None }
+{
+    let id = file_in(tree);
+    if !tree.in_use || id.is_empty() || is_file_id(id) {
         return None;
     }
-    if !is_file_id(name) {
-        return Some(Finding::BadId);
-    }
-    match file {
-        None => Some(Finding::Missing),
-        Some(reader) => finding_by(tree, reader, limit),
-    }
+    Some(Finding::BadId)
 }
 
 /// What is found of the file by reading it.

@@ -1,7 +1,7 @@
 //! Where an image stands in the folder of a file-set.
 
 use dd_elem::FileId;
-use std::fmt::{self, Write};
+use std::fmt::{self, InlineText, Write};
 
 /// How many characters the path of an image has in its file-set: those of the text of a File ID.
 pub(crate) const PATH_LENGTH: usize = 35;
@@ -27,6 +27,24 @@ pub(crate) struct ImageFolder(pub(crate) FileId);
 impl fmt::Display for ImageFolder {
     fn fmt<W: fmt::Write>(&self, f: &mut fmt::Formatter<W>) -> fmt::Result {
         write_path(&self.0.text(), FOLDER_LENGTH, f)
+    }
+}
+
+/// How many characters a File ID has at most: 8 components of 8, and what stands between them (PS3.10
+/// section 8.2).
+const FILE_ID_LENGTH: usize = 71;
+
+/// The text of the path of a file in the folder of its file-set.
+pub(crate) type PathText = InlineText<FILE_ID_LENGTH>;
+
+/// The path of a file in the folder of its file-set: these bytes, a File ID, with `/` between the
+/// components.
+#[derive(Clone, Copy)]
+pub(crate) struct Components<'a>(pub(crate) &'a [u8]);
+
+impl fmt::Display for Components<'_> {
+    fn fmt<W: fmt::Write>(&self, f: &mut fmt::Formatter<W>) -> fmt::Result {
+        write_path(self.0, self.0.len(), f)
     }
 }
 

@@ -121,25 +121,25 @@ fn writing<'a>(alloc: Global, name: &'a str, about: &'a str) -> Result<Command<'
             alloc,
             "id",
             "ID",
-            "ID of the file-set, such as DISC1; empty where none is given",
+            "ID of the file-set, such as DISC1; by default empty",
         ))?
         .arg(option(
             alloc,
             "uid",
             "UID",
-            "UID of the file-set; where none is given it follows from the content",
+            "UID of the file-set; by default made from its content",
         ))?
         .arg(number(
             alloc,
             "max-bytes",
             "N",
-            "Most bytes of DICOMDIR; 4294967295 where none is given",
+            "Most bytes of DICOMDIR; by default 4294967295",
         ))?
         .arg(path(
             alloc,
             "out",
             "OUT",
-            "Folder of the file-set, made where missing; no file in it is overwritten",
+            "Folder of the file-set, made where missing; nothing is overwritten",
         ))
 }
 
@@ -147,7 +147,7 @@ fn writing<'a>(alloc: Global, name: &'a str, about: &'a str) -> Result<Command<'
 fn index_command<'a>(alloc: Global) -> Result<Command<'a>, AllocError>
     ensures { IfOk result (HasApp index_app) }
 {
-    let about = "Makes a file-set: copies the images into a folder and writes its DICOMDIR";
+    let about = "Makes a file-set of files: copies the images, writes its DICOMDIR";
     writing(alloc, "index", about)?.arg(paths(
         alloc,
         "source",
@@ -160,12 +160,12 @@ fn index_command<'a>(alloc: Global) -> Result<Command<'a>, AllocError>
 fn merge_command<'a>(alloc: Global) -> Result<Command<'a>, AllocError>
     ensures { IfOk result (HasApp merge_app) }
 {
-    let about = "Makes a file-set of others: copies their images and writes its DICOMDIR";
+    let about = "Makes a file-set of others: copies their images, writes its DICOMDIR";
     writing(alloc, "merge", about)?.arg(paths(
         alloc,
         "set",
         "SET",
-        "Folders of the file-sets, each with the DICOMDIR that this program wrote",
+        "Folders of the file-sets, each with a DICOMDIR of this program",
     ))
 }
 
@@ -205,9 +205,7 @@ fn program<'a>(alloc: Global) -> Result<Command<'a>, AllocError>
     ensures { IfOk result (HasApp dicomdir_app) }
 {
     Command::new(alloc, "dicomdir")
-        .about(
-            "Makes, merges, checks and lists DICOM file-sets with their directory, the file DICOMDIR",
-        )
+        .about("Makes, merges, checks and lists DICOM file-sets with their DICOMDIR")
         .subcommand_required(true)
         .subcommand(index_command(alloc)?)?
         .subcommand(merge_command(alloc)?)?

@@ -1,34 +1,44 @@
 //! What the images of a file-set are copied from.
-ghost use Rattle.std.specs.Prelude.{◌≡◌, ◌<◌, ℕ, List, [], IfOk, length, map, slice_index_or, string_bytes};
-ghost use Rattle.dicomdir.specs.Trouble.{IsAmong};
+ghost use Rattle.std.specs.Prelude.{◌≡◌, ◌<◌, ℕ, List, [], All, IfOk, length, map, slice_index_or, string_bytes};
+ghost use Rattle.dicomdir.specs.Paths.{IsPathIn, id_path};
+ghost use Rattle.dicomdir.specs.Trouble.{IsAmong, IsFileOf, IsSource};
 
+use crate::file_path::file_path;
+use crate::image_path::{Components, PathText};
+use crate::merge::Pick;
 use crate::trouble::Subject;
 use dd_elem::Memory;
 use std::alloc::Global;
 
 /// Files that images are copied from.
 pub(crate) trait Origins {
+    ghost use Rattle.dicomdir.specs.declared.trouble.Subject.{Subject};
+
     /// Says which of the files is meant.
     type Pick: Copy;
 
     // There is such a file.
     ghost has: { Self → Self.Pick → Type 0 };
 
-    // Its path.
-    ghost path_of: { Self → Self.Pick → List ℕ };
-
     // How many paths the command line gives.
     ghost paths: { Self → ℕ };
+
+    // It stands at this path.
+    ghost stands_at: { Self → Self.Pick → List ℕ → Type 0 };
+
+    // This is what a trouble with it concerns.
+    ghost is_subject: { Self → Self.Pick → Subject → Type 0 };
 
     /// The path of the file. Memory where a growth is refused.
     fn path(&self, alloc: Global, pick: Self::Pick) -> Result<String, Memory>
         requires { has self.now pick }
-        ensures { IfOk result (λ path. string_bytes path ≡ path_of self.now pick) };
+        ensures { IfOk result (λ path. stands_at self.now pick (string_bytes path)) };
 
     /// What a trouble with the file concerns.
     fn subject(&self, pick: Self::Pick) -> Subject
         requires { has self.now pick }
-        ensures { IsAmong (paths self.now) result };
+        ensures subject { is_subject self.now pick result }
+        ensures among { IsAmong (paths self.now) result };
 }
 
 /// Sources, each by its number.
@@ -43,7 +53,9 @@ impl Origins for SourceFiles<'_> {
 
     ghost has = { λ s at. at < length s.paths.now };
 
-    ghost path_of = { λ s at. slice_index_or (map (λ path. string_bytes path) s.paths.now) at [] };
+    ghost stands_at = { λ s at path. path ≡ slice_index_or (map (λ path. string_bytes path) s.paths.now) at [] };
+
+    ghost is_subject = { λ _ at subject. IsSource at subject };
 
     ghost paths = { λ s. length s.paths.now };
 
@@ -53,5 +65,34 @@ impl Origins for SourceFiles<'_> {
 
     fn subject(&self, at: usize) -> Subject {
         Subject::Source(at)
+    }
+}
+
+/// Files of file-sets, each by the number of its set and its File ID.
+#[derive(Clone, Copy)]
+pub(crate) struct SetFiles<'a> {
+    /// The folders of the file-sets.
+    pub(crate) folders: &'a [String],
+}
+
+impl<'a> Origins for SetFiles<'a> {
+    type Pick = Pick<'a>;
+
+    ghost has = { λ s pick. pick.set < length s.folders.now };
+
+    ghost stands_at = { λ s pick path. All (λ byte. byte < 128) pick.file.now
+        → IsPathIn (slice_index_or (map (λ folder. string_bytes folder) s.folders.now) pick.set [])
+        (id_path pick.file.now) path };
+
+    ghost is_subject = { λ _ pick subject. IsFileOf pick.set subject };
+
+    ghost paths = { λ s. length s.folders.now };
+
+    fn path(&self, alloc: Global, pick: Pick<'a>) -> Result<String, Memory> {
+        file_path(alloc, self.folders[pick.set].as_str(), pick.file)
+    }
+
+    fn subject(&self, pick: Pick<'a>) -> Subject {
+        Subject::SetFile(pick.set, PathText::of(&Components(pick.file)))
     }
 }

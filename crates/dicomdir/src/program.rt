@@ -3,16 +3,24 @@ ghost use Rattle.std.specs.Prelude.{◌≡◌, ◌<◌, ◌≤◌, ◌⊎◌, �
 ghost use Rattle.clap.specs.Words.{subcommand_of, takes};
 ghost use Rattle.dd_elem.specs.Device.{HasFailed};
 ghost use Rattle.dd_layout.specs.Plans.{size};
-ghost use Rattle.dicomdir.specs.Line.{AsksBadName, HasBadName, dicomdir_app, least_paths, words_of};
+ghost use Rattle.dicomdir.specs.Line.{AsksBadName, HasBadName, IsCheck, dicomdir_app, least_paths, words_of};
 ghost use Rattle.dicomdir.specs.Text.{TakesAll, done_text};
 ghost use Rattle.dicomdir.specs.Trouble.{IsBadLine};
 
+use crate::checking::{CheckFault, check_records};
 use crate::choice::Choice;
+use crate::file_set::finished;
 use crate::files::Files;
-use crate::index::{finished, planned};
+use crate::gathering::is_want_of_memory;
+use crate::index::planned;
 use crate::line::{Asked, LineFault, Verb, read_words};
+use crate::listing::list_records;
+use crate::merging::{merged, sets_read, slices};
+use crate::origins::{SetFiles, SourceFiles};
+use crate::set_directory::{directory_bytes, refusal_of};
 use crate::text::{Text, print_line};
 use crate::trouble::{ProgramFault, Trouble, WORDS_LENGTH, tell};
+use dd_dir::{DirFault, read_directory};
 use dd_elem::{SetId, Uid, Write};
 use dd_keys::KeyFault;
 use dd_layout::Plan;
@@ -21,8 +29,8 @@ use std::alloc::Global;
 use std::fmt::{self, InlineText};
 
 /// Runs a command line, the first word being the program's name, and answers the status: 0 where the
-/// work is done or help was asked for, 1 where the run was refused or the output failed, and 2 where the
-/// command line is at fault.
+/// work is done or help was asked for, 1 where the run was refused or the output failed, 2 where the
+/// command line is at fault, and 3 where `check` found something.
 ///
 /// `index [--id ID] [--uid UID] [--max-bytes N] OUT SRC...` copies the images to their File IDs in the
 /// folder OUT and writes OUT/DICOMDIR. It prints `SKIP <path>: <fault>` for each source that has no
@@ -30,7 +38,12 @@ use std::fmt::{self, InlineText};
 /// <path>: <fault>`, with `-` where it concerns no path; a text about the command line is the parser's.
 /// What is printed to the error output may get lost.
 ///
-/// `merge`, `check` and `list` are taken and refused with status 1: they are not there yet.
+/// `merge [--id ID] [--uid UID] [--max-bytes N] OUT SET...` makes such a file-set of the images of other
+/// file-sets, each a folder with the DICOMDIR that was written here. All these are read before the first
+/// is looked at, and the plan stands before the first image is copied.
+///
+/// `check SET` compares the files of a file-set with its directory, of any producer, and prints what it
+/// finds, or `OK <n> records`. `list SET` prints its records.
 pub fn run<F: Files, O: Write, E: Write>(
     alloc: Global,
     words: Vec<String>,
@@ -38,7 +51,10 @@ pub fn run<F: Files, O: Write, E: Write>(
     out: &mut O,
     err: &mut E,
 ) -> u8
-    ensures status { result ≤ 2 }
+    ensures status { result ≤ 3 }
+
+    // Only `check` finds something.
+    ensures findings { result ≡ 3 → IsCheck (subcommand_of dicomdir_app (words_of words.items)) }
 
     // A command line at fault leaves the files and the output as they were.
     ensures line { result ≡ 2 → (files.new ≡ files.old) × (out.new ≡ out.old) }
@@ -68,7 +84,8 @@ fn run_asked<F: Files, O: Write, E: Write>(
     err: &mut E,
 ) -> u8
     requires { least_paths asked.now.verb ≤ length asked.now.paths.items }
-    ensures status { result ≤ 2 }
+    ensures status { result ≤ 3 }
+    ensures findings { result ≡ 3 → asked.now.verb ≡ Verb.Check }
     ensures line { result ≡ 2 → (files.new ≡ files.old) × (out.new ≡ out.old) }
     ensures bad { result ≡ 2 → AsksBadName asked.now }
     ensures good { result ≡ 0 → ¬ AsksBadName asked.now }
@@ -80,7 +97,9 @@ fn run_asked<F: Files, O: Write, E: Write>(
     };
     match asked.verb {
         Verb::Index => run_index(alloc, asked, &choice, files, out, err),
-        Verb::Merge | Verb::Check | Verb::List => not_yet(err),
+        Verb::Merge => run_merge(alloc, asked, &choice, files, out, err),
+        Verb::Check => run_check(alloc, asked, files, out, err),
+        Verb::List => run_list(alloc, asked, files, out, err),
     }
 }
 
@@ -107,14 +126,6 @@ fn choice_of(asked: &Asked) -> Result<Choice, ProgramFault>
     Ok(Choice { id, uid })
 }
 
-/// Refuses a command that is not done yet, and answers the status.
-fn not_yet<E: Write>(err: &mut E) -> u8
-    ensures { result ≡ 1 }
-{
-    let _ = print_line(&["error: this command is not there yet"], err);
-    1
-}
-
 /// Runs `index`.
 fn run_index<F: Files, O: Write, E: Write>(
     alloc: Global,
@@ -139,9 +150,124 @@ fn run_index<F: Files, O: Write, E: Write>(
     if tell_skipped(&indexed.skipped, sources, out).is_err() {
         return 1;
     }
-    match finished(alloc, folder, sources, &indexed, files) {
+    let origins = SourceFiles { paths: sources };
+    match finished(
+        alloc,
+        folder,
+        &indexed.plan,
+        &origins,
+        &indexed.picks,
+        files,
+    ) {
         Ok(()) => tell_done(&indexed.plan, out),
         Err(trouble) => tell(&trouble, folder, sources, err),
+    }
+}
+
+/// Runs `merge`.
+fn run_merge<F: Files, O: Write, E: Write>(
+    alloc: Global,
+    asked: &Asked,
+    choice: &Choice,
+    files: &mut F,
+    out: &mut O,
+    err: &mut E,
+) -> u8
+    requires { 2 ≤ length asked.now.paths.items }
+    ensures status { result ≤ 1 }
+    ensures done { result ≡ 0 → err.new ≡ err.old }
+{
+    let [folder, sets @ ..] = asked.paths.as_slice() else {
+        unreachable!()
+    };
+    let folder = folder.as_str();
+    let directories = match sets_read(alloc, folder, sets, files) {
+        Ok(directories) => directories,
+        Err(trouble) => return tell(&trouble, folder, sets, err),
+    };
+    let Ok(slices) = slices(alloc, &directories) else {
+        return tell(&Trouble::general(ProgramFault::Memory), folder, sets, err);
+    };
+    let merged = match merged(alloc, &slices, choice, asked.max_bytes) {
+        Ok(merged) => merged,
+        Err(trouble) => return tell(&trouble, folder, sets, err),
+    };
+    let origins = SetFiles { folders: sets };
+    match finished(alloc, folder, &merged.plan, &origins, &merged.picks, files) {
+        Ok(()) => tell_done(&merged.plan, out),
+        Err(trouble) => tell(&trouble, folder, sets, err),
+    }
+}
+
+/// Runs `check`.
+fn run_check<F: Files, O: Write, E: Write>(
+    alloc: Global,
+    asked: &Asked,
+    files: &mut F,
+    out: &mut O,
+    err: &mut E,
+) -> u8
+    requires { 1 ≤ length asked.now.paths.items }
+    ensures status { (result ≤ 1) ⊎ (result ≡ 3) }
+    ensures done { result ≡ 0 → err.new ≡ err.old }
+{
+    let sets = asked.paths.as_slice();
+    let folder = sets[0].as_str();
+    let bytes = match directory_bytes(alloc, 0, folder, files) {
+        Ok(bytes) => bytes,
+        Err(trouble) => return tell(&trouble, folder, sets, err),
+    };
+    let forest = match read_directory(alloc, &bytes) {
+        Ok(forest) => forest,
+        Err(fault) if !is_want_of_memory(&fault) => return tell_broken(&fault, out),
+        Err(_) => return tell(&Trouble::general(ProgramFault::Memory), folder, sets, err),
+    };
+    match check_records(alloc, folder, &forest, files, out) {
+        Ok(false) => 0,
+        Ok(true) => 3,
+        Err(CheckFault::Unsent) => 1,
+        Err(CheckFault::Memory) => {
+            tell(&Trouble::general(ProgramFault::Memory), folder, sets, err)
+        }
+    }
+}
+
+/// Tells why a directory can't be read, as a finding, and answers the status.
+fn tell_broken<O: Write>(fault: &DirFault, out: &mut O) -> u8
+    ensures status { (result ≡ 1) ⊎ (result ≡ 3) }
+    ensures failed { result ≡ 1 → HasFailed (O.failures out.old) (O.failures out.new) }
+{
+    let words = InlineText::<WORDS_LENGTH>::of(fault);
+    match print_line(&["BROKEN ", words.as_str()], out) {
+        Ok(()) => 3,
+        Err(_) => 1,
+    }
+}
+
+/// Runs `list`.
+fn run_list<F: Files, O: Write, E: Write>(
+    alloc: Global,
+    asked: &Asked,
+    files: &mut F,
+    out: &mut O,
+    err: &mut E,
+) -> u8
+    requires { 1 ≤ length asked.now.paths.items }
+    ensures status { result ≤ 1 }
+    ensures done { result ≡ 0 → err.new ≡ err.old }
+{
+    let sets = asked.paths.as_slice();
+    let folder = sets[0].as_str();
+    let bytes = match directory_bytes(alloc, 0, folder, files) {
+        Ok(bytes) => bytes,
+        Err(trouble) => return tell(&trouble, folder, sets, err),
+    };
+    match read_directory(alloc, &bytes) {
+        Ok(forest) => match list_records(&forest, out) {
+            Ok(()) => 0,
+            Err(_) => 1,
+        },
+        Err(fault) => tell(&refusal_of(0, fault), folder, sets, err),
     }
 }
 

@@ -3,9 +3,10 @@ ghost use Rattle.std.specs.Prelude.{◌≡◌, ◌↔◌, ◌⊎◌, IsTrue, len
 ghost use Rattle.dd_keys.specs.Faults.{SaysMemory};
 ghost use Rattle.dicomdir.specs.Trouble.{IsAmong, IsBadLine};
 
-use crate::image_path::{ImageFolder, ImagePath, PATH_LENGTH};
+use crate::image_path::{ImageFolder, ImagePath, PATH_LENGTH, PathText};
 use crate::paths::{DIRECTORY, is_joined_by_slash};
 use crate::text::print_line;
+use dd_dir::{DirFault, OwnFault};
 use dd_elem::{BadSetId, BadUid, FileId, Write};
 use dd_keys::KeyFault;
 use dd_layout::PlanFault;
@@ -26,6 +27,15 @@ pub enum ProgramFault {
     /// The command line gives a File-set ID that is none.
     #[error(transparent)]
     SetId(BadSetId),
+    /// The directory has more bytes than are read.
+    #[error("39 FileTooLong")]
+    TooLong,
+    /// The file-set has no directory that can be read.
+    #[error(transparent)]
+    Dir(DirFault),
+    /// The directory has a record that is not as those that are written here.
+    #[error(transparent)]
+    Own(OwnFault),
     /// A growth was refused.
     #[error("91 Memory")]
     Memory,
@@ -50,13 +60,17 @@ pub enum ProgramFault {
 }
 
 /// What a fault concerns.
-#[derive(Clone, Copy, Debug, PartialEq, Eq)]
+#[derive(Clone, Copy)]
 pub enum Subject {
     /// No file and no folder.
     General,
-    /// The source of this number.
+    /// The path of this number: a source, or the folder of a file-set that is read.
     Source(usize),
-    /// The folder of the file-set.
+    /// The directory in that folder.
+    SetDirectory(usize),
+    /// The file in that folder that has this path there.
+    SetFile(usize, PathText),
+    /// The folder of the file-set that is made.
     Folder,
     /// The directory in that folder.
     Directory,
@@ -67,7 +81,7 @@ pub enum Subject {
 }
 
 /// A fault, and what it concerns.
-#[derive(Clone, Copy, Debug, PartialEq, Eq)]
+#[derive(Clone, Copy)]
 pub struct Trouble {
     /// What it concerns.
     pub subject: Subject,
@@ -110,7 +124,7 @@ pub(crate) const WORDS_LENGTH: usize = 256;
 
 /// Tells a trouble in a line, with no memory, and answers the status that the run ends with: 2 where the
 /// command line is at fault, and else 1. The line names the path that the trouble concerns: one of these
-/// sources, this folder, or what stands in it. A failure of the writer changes nothing.
+/// sources, this folder, or what stands in one of them. A failure of the writer changes nothing.
 pub fn tell<W: Write>(trouble: &Trouble, folder: &str, sources: &[String], to: &mut W) -> u8
     requires { IsAmong (length sources.now) trouble.now.subject }
     ensures line { result ≡ 2 ↔ IsBadLine trouble.now.fault }
@@ -121,6 +135,10 @@ pub fn tell<W: Write>(trouble: &Trouble, folder: &str, sources: &[String], to: &
     match trouble.subject {
         Subject::General => print_fault("-", words, to),
         Subject::Source(at) => print_fault(sources[at].as_str(), words, to),
+        Subject::SetDirectory(at) => print_inside(sources[at].as_str(), DIRECTORY, words, to),
+        Subject::SetFile(at, path) => {
+            print_inside(sources[at].as_str(), path.as_str(), words, to);
+        }
         Subject::Folder => print_fault(folder, words, to),
         Subject::Directory => print_inside(folder, DIRECTORY, words, to),
         Subject::Image(file) => {

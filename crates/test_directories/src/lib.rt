@@ -3,6 +3,7 @@
 
 #[cfg(test)]
 mod derivation;
+mod fields;
 #[cfg(test)]
 mod own;
 #[cfg(test)]

@@ -2,7 +2,7 @@
 
 use crate::publishing::{named, published};
 use dd_dir::{Forest, Tree, read_directory};
-use dd_vectors::{answered, bytes_of, first_directory, push_bytes, question, v1, v2, v3};
+use dd_vectors::{answered, deep, first_directory, put_words, question, v1, v2, v3};
 use std::alloc::Global;
 use std::test::Fail;
 
@@ -54,22 +54,11 @@ fn directory(alloc: Global, name: &str) -> Result<Vec<u8>, Fail> {
     }
 }
 
-/// Puts bytes at a place.
-fn put(bytes: &mut [u8], place: usize, new: &[u8]) -> Result<(), Fail> {
-    let end = place.checked_add(new.len()).ok_or("no place")?;
-    let old = bytes.get_mut(place..end).ok_or("no bytes there")?;
-    old.copy_from_slice(new);
-    Ok(())
-}
-
 /// The directory that a question names, with the changes that follow.
 pub(crate) fn changed(alloc: Global, question: &str) -> Result<Vec<u8>, Fail> {
-    let mut words = question.split(' ');
-    let mut bytes = directory(alloc, words.next().ok_or("no name")?)?;
-    while let Some(place) = words.next() {
-        let new = bytes_of(alloc, words.next().ok_or("no bytes")?)?;
-        put(&mut bytes, place.parse()?, &new)?;
-    }
+    let (name, changes) = question.split_once(' ').unwrap_or((question, ""));
+    let mut bytes = directory(alloc, name)?;
+    put_words(alloc, &mut bytes, changes)?;
     Ok(bytes)
 }
 
@@ -117,29 +106,6 @@ fn walks_of_directories(rt: HostRuntime) -> Result<(), Fail> {
         assert_eq!(rt; read(rt.alloc(), case)?.as_str(), case);
     }
     Ok(())
-}
-
-/// The elements of a record before the offset of the first one below, and behind it.
-const FRONT: &str =
-    "feff00e0 2c000000 04000014 554c 0400 00000000 04001014 5553 0200 ffff 04002014 554c 0400";
-
-const BACK: &str = "04003014 4353 0200 'X_";
-
-/// A directory of so many records, each below the one before.
-fn deep(alloc: Global, count: u32) -> Result<Vec<u8>, Fail> {
-    let mut bytes = v2(alloc)?;
-    for root in [282, 294] {
-        put(&mut bytes, root, &320u32.to_le_bytes())?;
-    }
-    put(&mut bytes, 316, &count.saturating_mul(52).to_le_bytes())?;
-    for at in 1..=count {
-        let next = at.saturating_mul(52).saturating_add(320);
-        let lower = if at == count { 0 } else { next };
-        push_bytes(alloc, &mut bytes, FRONT)?;
-        bytes.extend_from_slice(&lower.to_le_bytes())?;
-        push_bytes(alloc, &mut bytes, BACK)?;
-    }
-    Ok(bytes)
 }
 
 /// How many levels a record and those below it have.

@@ -1,7 +1,7 @@
 //! Images that are copied from one device to another.
 
 use dd_elem::{ByteSource, Sink};
-use dd_vectors::{answered, bytes_of, question, v1};
+use dd_vectors::{answered, bytes_of, failing, question, v1};
 use dicomdir::copy_image;
 use std::alloc::Global;
 use std::test::Fail;
@@ -21,14 +21,6 @@ const COPIES: &str = "\
 100 200 - 454 > 93 Unread 200
 100 - 150 454 > 96 Unsent 150
 100 - 454 454 > digest 454";
-
-/// After how many bytes a device fails, or never at `-`.
-pub(crate) fn failing(text: &str) -> Result<Option<u64>, Fail> {
-    match text {
-        "-" => Ok(None),
-        number => Ok(Some(number.parse()?)),
-    }
-}
 
 fn copied(alloc: Global, case: &str) -> Result<String, Fail> {
     let (piece, rest) = question(case).split_once(' ').ok_or("no piece")?;

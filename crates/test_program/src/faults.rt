@@ -1,23 +1,30 @@
 //! The words of the faults of the program, some of which no run shows here.
 
+use dd_dir::{DirFault, OwnFault};
 use dd_elem::{BadSetId, BadUid};
 use dd_layout::PlanFault;
-use dicomdir::{CopyFault, EngineFault, ProgramFault};
+use dicomdir::{CopyFault, EngineFault, MergeFault, ProgramFault};
 use std::test::Fail;
 
 /// Faults of the program, in words.
-const PROGRAM: &str = "43 TooLarge, 71 BadUid, 72 BadSetId, 91 Memory, 92 Absent, 93 Unread, \
-                       94 Create, 95 Folder, 96 Unsent, 97 Changed";
+const PROGRAM: &str = "39 FileTooLong, 43 TooLarge, 56 LastRoot, 61 NoDigest 646, 71 BadUid, \
+                       72 BadSetId, 91 Memory, 92 Absent, 93 Unread, 94 Create, 95 Folder, \
+                       96 Unsent, 97 Changed";
 
-/// Faults of an index, and of a copy.
+/// Faults of an index, of a merge and of a copy.
 const ENGINE: &str = "43 TooLarge, 91 Memory, 92 Absent, 93 Unread";
+
+const MERGE: &str = "43 TooLarge, 56 LastRoot, 61 NoDigest 646, 91 Memory";
 
 const COPY: &str = "93 Unread, 96 Unsent, 97 Changed";
 
 /// The fault with these words.
 fn fault_of(words: &str) -> Option<ProgramFault> {
     match words {
+        "39 FileTooLong" => Some(ProgramFault::TooLong),
         "43 TooLarge" => Some(ProgramFault::Plan(PlanFault::TooLarge)),
+        "56 LastRoot" => Some(ProgramFault::Dir(DirFault::LastRoot)),
+        "61 NoDigest 646" => Some(ProgramFault::Own(OwnFault::NoDigest(646))),
         "71 BadUid" => Some(ProgramFault::Uid(BadUid)),
         "72 BadSetId" => Some(ProgramFault::SetId(BadSetId)),
         "91 Memory" => Some(ProgramFault::Memory),
@@ -37,6 +44,16 @@ fn engine_fault_of(words: &str) -> Option<EngineFault> {
         "91 Memory" => Some(EngineFault::Memory),
         "92 Absent" => Some(EngineFault::Absent(7)),
         "93 Unread" => Some(EngineFault::Unread(7)),
+        _ => None,
+    }
+}
+
+fn merge_fault_of(words: &str) -> Option<MergeFault> {
+    match words {
+        "43 TooLarge" => Some(MergeFault::Plan(PlanFault::TooLarge)),
+        "56 LastRoot" => Some(MergeFault::Dir(7, DirFault::LastRoot)),
+        "61 NoDigest 646" => Some(MergeFault::Own(7, OwnFault::NoDigest(646))),
+        "91 Memory" => Some(MergeFault::Memory),
         _ => None,
     }
 }
@@ -63,6 +80,15 @@ fn faults_of_the_program_in_words(rt: HostRuntime) -> Result<(), Fail> {
 fn faults_of_an_index_in_words(rt: HostRuntime) -> Result<(), Fail> {
     for words in ENGINE.split(", ") {
         let fault = engine_fault_of(words).ok_or("no fault")?;
+        assert_eq!(rt; format!(in rt.alloc(); "{fault}")?.as_str(), words);
+    }
+    Ok(())
+}
+
+#[test]
+fn faults_of_a_merge_in_words(rt: HostRuntime) -> Result<(), Fail> {
+    for words in MERGE.split(", ") {
+        let fault = merge_fault_of(words).ok_or("no fault")?;
         assert_eq!(rt; format!(in rt.alloc(); "{fault}")?.as_str(), words);
     }
     Ok(())

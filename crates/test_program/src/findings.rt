@@ -1,10 +1,9 @@
 //! What is found of the files that records name.
 
-use crate::copies::failing;
 use dd_dir::Tree;
 use dd_elem::ByteSource;
 use dd_set::{Syntax, parse};
-use dd_vectors::{answered, bytes_of, question, v1};
+use dd_vectors::{answered, bytes_of, failing, question, v1};
 use dicomdir::{Finding, finding_of};
 use std::alloc::Global;
 use std::test::Fail;

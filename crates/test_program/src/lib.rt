@@ -1,12 +1,10 @@
-//! Tests of the program `dicomdir`: its command line, what it prints, and its runs over files in memory.
+//! Tests of what the program `dicomdir` is made of: its command line, what it prints, and its engine.
 #![tactic(auto)]
 
 #[cfg(test)]
 mod copies;
 #[cfg(test)]
 mod digests;
-#[cfg(test)]
-mod disc;
 #[cfg(test)]
 mod engine;
 #[cfg(test)]
@@ -17,7 +15,3 @@ mod findings;
 mod lines;
 #[cfg(test)]
 mod printing;
-#[cfg(test)]
-mod runs;
-#[cfg(test)]
-mod words;

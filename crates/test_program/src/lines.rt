@@ -1,7 +1,6 @@
 //! What lines are taken, and the status and output of those that are not.
 
-use crate::words::words_of;
-use dd_vectors::{answered, question};
+use dd_vectors::{answered, question, words_of};
 use dicomdir::{Asked, LineFault, read_words};
 use std::alloc::Global;
 use std::test::Fail;

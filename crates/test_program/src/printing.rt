@@ -1,7 +1,7 @@
 //! What is printed to a device.
 
 use dd_elem::Sink;
-use dd_vectors::{answered, question};
+use dd_vectors::{answered, push_lines, question};
 use dicomdir::{print_line, send_text};
 use std::alloc::{AllocError, Global};
 use std::test::Fail;
@@ -15,17 +15,6 @@ const PRINTED: &str = "\
 10 > true false [91 Memory|]
 7 > false false [91 Memo]
 0 > false false []";
-
-/// Puts the bytes behind the text, with `|` at the end of each line.
-pub(crate) fn push_lines(text: &mut String, bytes: &[u8]) -> Result<(), AllocError> {
-    for byte in bytes {
-        text.push(match byte {
-            b'\n' => '|',
-            other => char::from(*other),
-        })?;
-    }
-    Ok(())
-}
 
 fn printed(alloc: Global, case: &str) -> Result<String, Fail> {
     let mut sink = Sink::new(alloc, Some(question(case).parse()?));

@@ -1,9 +1,12 @@
-use Rattle.std.proofs.Common.{◌<◌, All, List, ap, arith, length, refl, subst, sym, ◌∙◌}
+use Rattle.std.proofs.Common.{◌<◌, All, List, ap, arith, length, refl, subst, sym, ◌∙◌, ℕ}
+use Rattle.dd_catalogue.specs.Harmony.{harmonised}
 use Rattle.dd_keys.specs.declared.parts.Parts.{Parts}
 use Rattle.dd_layout.specs.Layouts.{layout_of}
+use Rattle.dd_layout.specs.Plans.{records_of}
 use Rattle.dicomdir.specs.Choosing.{label_for, refusal_for}
-use Rattle.dicomdir.specs.Indexing.{accepted}
-use Rattle.dicomdir.proofs.Planning.{best_is, picks_below, planned_picks, planned_versions, skipped_below, zip_is}
+use Rattle.dicomdir.specs.Indexing.{accepted, best_of_sources, files_of}
+use Rattle.dicomdir.proofs.ImagePicks.{holds_of_picks}
+use Rattle.dicomdir.proofs.Planning.{accepted_below, best_is, planned_picks, planned_versions, skipped_below, zip_is}
 use Rattle.dicomdir.proofs.engine.planned.Goals as goal
 
 pub picks-requires : goal.picks-requires
@@ -31,7 +34,8 @@ returns-clause-indexes c = λ answers held.
     let choice = c.args.choice.now in
     record {
       plan = c.in_ok-plan.ensures.planned ∙ ap (λ (m : List Parts). layout_of (label_for choice m) m) best;
-      allowed = ap (λ (m : List Parts). refusal_for choice c.args.limits m) (sym best) ∙ c.in_ok-plan.ensures.allowed refl;
+      allowed = ap (λ (m : List Parts). refusal_for choice c.args.limits m) (sym best)
+          ∙ c.in_ok-plan.ensures.allowed refl;
       skipped = ap (λ p. p.2.items) parts ∙ held.skips;
       picks = planned_picks sources _ choice c.in_ok-catalogue.catalogue c.in_ok-plan.plan c.in_ok-picks.picks.items
           best zips c.in_ok-plan.ensures.planned c.in_ok-picks.ensures.all;
@@ -43,6 +47,9 @@ returns-clause-within c = λ answers held.
     record {
       skipped = subst (λ skips. All (λ skip. skip.0 < length answers) skips) (sym indexed.skipped)
           (skipped_below (length answers) 0 answers (omega arith));
-      picks = subst (λ picks. All (λ at. at < length answers) picks) (sym indexed.picks)
-          (picks_below answers c.args.choice.now);
+      picks =
+          let m = best_of_sources (accepted answers) in
+          holds_of_picks (λ (at : ℕ). at < length answers) (files_of (accepted answers)) (harmonised m)
+          (records_of (label_for c.args.choice.now m) (harmonised m)) _
+          (accepted_below (length answers) 0 answers (omega arith)) indexed.picks;
     }

@@ -1,32 +1,24 @@
-use Rattle.std.proofs.Common.{◌≡◌, ◌∙◌, sym, ap, IfOk, map, subst, rules}
+use Rattle.std.proofs.Common.{◌∙◌, Some, ap, map, rules}
+use Rattle.std.proofs.lemmas.Result.{IfOk-weaker}
 use Rattle.std.specs.List.{zip}
-use Rattle.dd_keys.specs.declared.parts.Parts.{Parts}
 use Rattle.dd_layout.specs.Plans.{records_of}
-use Rattle.dicomdir.specs.Picking.{of_file, source_of}
-use Rattle.dicomdir.proofs.ImagePicks.{held, no_picks, same_picks}
+use Rattle.dicomdir.specs.Picking.{found_of}
+use Rattle.dicomdir.proofs.SourcePicks.{no_picks, sources_held}
 use Rattle.dicomdir.proofs.picks.picks.Goals as goal
-use Rattle.dicomdir.proofs.picks.picks.Goals.{After-deref}
 
 pub returns-then-is_empty-clause-all : goal.returns-then-is_empty-clause-all
 returns-then-is_empty-clause-all c =
-    c.new.ensures.items
-    ∙ sym (no_picks c.args.places.now c.args.versions.now c.args.plan.now.versions c.args.plan.now.label (search rules)
-    c.requires)
+    ap (map (λ pick. Some pick)) c.new.ensures.items
+    ∙ no_picks c.args.places.now c.args.versions.now c.args.plan.now.versions c.args.plan.now.label (search rules)
+    c.requires
 
-same : (c : After-deref) (version : Parts) → of_file version (map source_of c.deref.result.now)
-    ≡ of_file version (zip c.args.places.now c.args.versions.now)
-same c version =
-    ap (λ l. of_file version (map source_of l)) c.deref.ensures.value ∙ c.in_ok-marks.ensures.stable version
-
-pub picks_among-requires-clause-held : goal.picks_among-requires-clause-held
-picks_among-requires-clause-held c =
-    held (map source_of c.deref.result.now) (zip c.args.places.now c.args.versions.now) c.args.plan.now.versions
-    c.requires (same c)
+pub first_marks-requires : goal.first_marks-requires
+first_marks-requires c =
+    sources_held (zip c.args.places.now c.args.versions.now) c.in_ok-marks.marks.items c.args.plan.now.versions
+    c.requires c.in_ok-marks.ensures
 
 pub returns-clause-all : goal.returns-clause-all
-returns-clause-all c =
-    subst (λ l. IfOk c.picks_among.result (λ picks. picks.items ≡ l))
-    (same_picks (map source_of c.deref.result.now) (zip c.args.places.now c.args.versions.now) c.args.plan.now.versions
-    (records_of c.args.plan.now.label c.args.plan.now.versions)
-    (same (goal.at.returns-clause-all c).After-deref))
-    c.picks_among.ensures
+returns-clause-all c = IfOk-weaker c.first_marks.result _ _ (λ picks is.
+    is ∙ ap (λ l. found_of l c.args.plan.now.versions (records_of c.args.plan.now.label c.args.plan.now.versions))
+    c.in_ok-marks.ensures)
+    c.first_marks.ensures

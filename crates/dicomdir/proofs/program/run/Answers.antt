@@ -1,8 +1,13 @@
 use Rattle.std.proofs.Common.{subst, sym}
 use Rattle.clap.specs.Words.{subcommand_of}
-use Rattle.dicomdir.specs.Line.{HasBadName, dicomdir_app, words_of}
-use Rattle.dicomdir.proofs.LineLemmas.{asked_bad, given_bad}
+use Rattle.dicomdir.specs.Line.{HasBadName, IsCheck, dicomdir_app, words_of}
+use Rattle.dicomdir.proofs.LineLemmas.{asked_bad, asked_check, given_bad}
 use Rattle.dicomdir.proofs.program.run.Goals as goal
+
+pub returns-in-Ok-clause-findings : goal.returns-in-Ok-clause-findings
+returns-in-Ok-clause-findings g c = λ is.
+    subst (λ words. IsCheck (subcommand_of dicomdir_app (words_of words))) c.as_slice.ensures.value
+    (asked_check c.in-Ok.asked _ c.in-Ok.ensures.asked (c.run_asked.ensures.findings is))
 
 pub returns-in-Ok-clause-words : goal.returns-in-Ok-clause-words
 returns-in-Ok-clause-words g c = λ is _.

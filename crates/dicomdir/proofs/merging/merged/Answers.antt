@@ -1,0 +1,12 @@
+use Rattle.std.proofs.Common.{length, map, subst}
+use Rattle.std.proofs.lemmas.List.{length-map}
+use Rattle.dicomdir.specs.Merged.{IsAt}
+use Rattle.dicomdir.proofs.FaultsNamed.{fault_at}
+use Rattle.dicomdir.proofs.merging.merged.Goals as goal
+
+pub returns-in-Err-clause-trouble : goal.returns-in-Err-clause-trouble
+returns-in-Err-clause-trouble c =
+    let sets = map (λ set. set.now) c.args.sets.now in
+    c.trouble_of.ensures (length c.args.sets.now) (subst (λ n. IsAt n c.in-Err.fault)
+    (length-map c.args.sets.now (λ set. set.now))
+    (fault_at c.args.choice.now c.limits_of.result sets c.in-Err.fault c.in-Err.ensures.merges))

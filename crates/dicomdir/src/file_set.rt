@@ -1,0 +1,118 @@
+//! A file-set in its folder: its images and its directory.
+ghost use Rattle.std.specs.Prelude.{◌≡◌, ℕ, All, IfErr, IsErr, IsOk, option_map};
+ghost use Rattle.dd_dir.specs.Directories.{directory_of};
+ghost use Rattle.dd_elem.specs.Device.{counted, HasFailed};
+ghost use Rattle.dicomdir.specs.Files.{ended, grown, published, started};
+ghost use Rattle.dicomdir.specs.Trouble.{IsBadLine, IsOfWork};
+
+use crate::copies::copy_images;
+use crate::files::Files;
+use crate::origins::Origins;
+use crate::paths::{DIRECTORY, path_in};
+use crate::trouble::{ProgramFault, Subject, Trouble};
+use dd_dir::write_directory;
+use dd_layout::{Limits, Plan};
+use std::alloc::Global;
+
+// The most records below one record of a directory.
+const LEVEL_LIMIT: u32 = 999_999;
+
+/// The limits of a directory that may have so many bytes.
+pub(crate) fn limits_of(max_bytes: u32) -> Limits {
+    Limits::new(max_bytes, LEVEL_LIMIT).unwrap()
+}
+
+/// Refuses a folder whose directory can be opened.
+pub(crate) fn refuse_taken<F: Files>(
+    alloc: Global,
+    folder: &str,
+    files: &mut F,
+) -> Result<(), Trouble>
+    ensures { (paths : ℕ) → IfErr result (IsOfWork paths) }
+{
+    let Ok(path) = path_in(alloc, folder, DIRECTORY) else {
+        return Err(Trouble::general(ProgramFault::Memory));
+    };
+    match files.source(path.as_str()) {
+        Ok(_) => Err(Trouble::of(Subject::Directory, ProgramFault::Create)),
+        Err(_) => Ok(()),
+    }
+}
+
+/// Copies each image of the plan into the folder, from where it is picked, and then writes the directory
+/// there.
+pub(crate) fn finished<F: Files, O: Origins>(
+    alloc: Global,
+    folder: &str,
+    plan: &Plan,
+    origins: &O,
+    picks: &[O::Pick],
+    files: &mut F,
+) -> Result<(), Trouble>
+    requires { All (O.has origins.now) picks.now }
+    ensures { IfErr result (IsOfWork (O.paths origins.now)) }
+{
+    copy_images(alloc, folder, plan, origins, picks, files)?;
+    if files.folder(folder).is_err() {
+        return Err(Trouble::of(Subject::Folder, ProgramFault::Folder));
+    }
+    let Ok(path) = path_in(alloc, folder, DIRECTORY) else {
+        return Err(Trouble::general(ProgramFault::Memory));
+    };
+    match publish(path.as_str(), plan, files) {
+        Ok(()) => Ok(()),
+        Err(fault) => Err(Trouble::of(Subject::Directory, fault)),
+    }
+}
+
+/// Starts the directory at this path, writes it and ends it. Create where it could not be started, Unsent
+/// where a write failed or its end.
+#[tactic(auto, using(crate::proofs::Publishing::held_published))]
+fn publish<F: Files>(path: &str, plan: &Plan, files: &mut F) -> Result<(), ProgramFault>
+    ensures line { IfErr result (λ fault. ¬ IsBadLine fault) }
+
+    // Where the files tell what they hold, the file at that path is the directory, and no other file changed.
+    ensures holds { IsOk result → F.held files.new
+        ≡ option_map (published path.now (directory_of plan.now.label plan.now.versions)) (F.held files.old) }
+{
+    start_directory(path, files)?;
+    send_directory(plan, files)?;
+    finish_directory(files)
+}
+
+/// Starts the directory.
+fn start_directory<F: Files>(path: &str, files: &mut F) -> Result<(), ProgramFault>
+    ensures refused { IsErr result → F.refusals files.new ≡ counted (F.refusals files.old) }
+    ensures fault { IfErr result (λ fault. fault ≡ ProgramFault.Create) }
+    ensures made { IsOk result → F.held files.new ≡ option_map (started path.now) (F.held files.old) }
+{
+    match files.create(path) {
+        Ok(()) => Ok(()),
+        Err(_) => Err(ProgramFault::Create),
+    }
+}
+
+/// Writes the directory.
+fn send_directory<F: Files>(plan: &Plan, files: &mut F) -> Result<(), ProgramFault>
+    ensures unsent { IsErr result → HasFailed (F.Write.failures files.old) (F.Write.failures files.new) }
+    ensures fault { IfErr result (λ fault. fault ≡ ProgramFault.Unsent) }
+    ensures holds { IsOk result → F.held files.new
+        ≡ option_map (grown (directory_of plan.now.label plan.now.versions)) (F.held files.old) }
+{
+    match write_directory(plan, files) {
+        Ok(_) => Ok(()),
+        Err(_) => Err(ProgramFault::Unsent),
+    }
+}
+
+/// Ends the directory.
+fn finish_directory<F: Files>(files: &mut F) -> Result<(), ProgramFault>
+    ensures refused { IsErr result → F.refusals files.new ≡ counted (F.refusals files.old) }
+    ensures fault { IfErr result (λ fault. fault ≡ ProgramFault.Unsent) }
+    ensures closed { IsOk result → F.held files.new ≡ option_map ended (F.held files.old) }
+{
+    match files.finish() {
+        Ok(()) => Ok(()),
+        Err(_) => Err(ProgramFault::Unsent),
+    }
+}

@@ -1,0 +1,69 @@
+//! A file-set of others.
+ghost use Rattle.std.specs.Prelude.{◌≡◌, ◌<◌, ℕ, All, IfErr, IfOk, length};
+ghost use Rattle.dicomdir.specs.Merged.{IsAt};
+ghost use Rattle.dicomdir.specs.Trouble.{IsOfWork};
+
+use crate::choice::Choice;
+use crate::file_set::{limits_of, refuse_taken};
+use crate::files::Files;
+use crate::merge::{Merged, merge_engine};
+use crate::merge_fault::MergeFault;
+use crate::set_directory::read_directories;
+use crate::trouble::{ProgramFault, Subject, Trouble};
+use dd_elem::Memory;
+use std::alloc::Global;
+
+/// The directories of all these sets, read whole. Refused, in this order, where the folder has a
+/// directory already, and where one of these can't be opened or read.
+pub(crate) fn sets_read<F: Files>(
+    alloc: Global,
+    folder: &str,
+    sets: &[String],
+    files: &mut F,
+) -> Result<Vec<Vec<u8>>, Trouble>
+    ensures trouble { IfErr result (IsOfWork (length sets.now)) }
+    ensures all { IfOk result (λ all. length all.items ≡ length sets.now) }
+{
+    refuse_taken(alloc, folder, files)?;
+    read_directories(alloc, sets, files)
+}
+
+/// Plans the directory of the best versions of all these sets, each of which has the bytes of its
+/// directory. It may have so many bytes.
+pub(crate) fn merged<'a>(
+    alloc: Global,
+    sets: &'a [&'a [u8]],
+    choice: &Choice,
+    max_bytes: u32,
+) -> Result<Merged<'a>, Trouble>
+    ensures trouble { IfErr result (IsOfWork (length sets.now)) }
+    ensures within { IfOk result (λ merged. All (λ pick. pick.set < length sets.now) merged.picks.items) }
+{
+    match merge_engine(alloc, sets, choice, limits_of(max_bytes)) {
+        Ok(merged) => Ok(merged),
+        Err(fault) => Err(trouble_of(fault)),
+    }
+}
+
+/// The bytes of all directories.
+pub(crate) fn slices<'a>(alloc: Global, all: &'a [Vec<u8>]) -> Result<Vec<&'a [u8]>, Memory>
+    ensures { IfOk result (λ slices. length slices.items ≡ length all.now) }
+{
+    let mut slices = Vec::with_capacity(alloc, all.len())?;
+    for bytes in all {
+        slices.push(bytes.as_slice())?;
+    }
+    Ok(slices)
+}
+
+/// What the fault of a merge comes to.
+fn trouble_of(fault: MergeFault) -> Trouble
+    ensures { (sets : ℕ) → IsAt sets fault → IsOfWork sets result }
+{
+    match fault {
+        MergeFault::Memory => Trouble::general(ProgramFault::Memory),
+        MergeFault::Dir(at, fault) => Trouble::of(Subject::Source(at), ProgramFault::Dir(fault)),
+        MergeFault::Own(at, fault) => Trouble::of(Subject::Source(at), ProgramFault::Own(fault)),
+        MergeFault::Plan(fault) => Trouble::general(ProgramFault::Plan(fault)),
+    }
+}

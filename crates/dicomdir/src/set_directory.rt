@@ -1,0 +1,66 @@
+//! The directories of file-sets, read from their folders.
+ghost use Rattle.std.specs.Prelude.{◌≡◌, ◌<◌, ℕ, IfErr, IfOk, length};
+ghost use Rattle.dicomdir.specs.Trouble.{IsOfWork};
+
+use crate::copies::SOURCE_LIMIT;
+use crate::files::Files;
+use crate::gathering::is_want_of_memory;
+use crate::paths::{DIRECTORY, path_in};
+use crate::trouble::{ProgramFault, Subject, Trouble};
+use dd_dir::DirFault;
+use dd_keys::{KeyFault, read_whole};
+use std::alloc::Global;
+
+/// Reads the directories of all these file-sets whole, in their order.
+pub(crate) fn read_directories<F: Files>(
+    alloc: Global,
+    folders: &[String],
+    files: &mut F,
+) -> Result<Vec<Vec<u8>>, Trouble>
+    ensures trouble { IfErr result (IsOfWork (length folders.now)) }
+    ensures all { IfOk result (λ all. length all.items ≡ length folders.now) }
+{
+    let mut all = Vec::new(alloc);
+    for (at, folder) in folders.iter().enumerate() {
+        let bytes = directory_bytes(alloc, at, folder.as_str(), files)?;
+        if all.push(bytes).is_err() {
+            return Err(Trouble::general(ProgramFault::Memory));
+        }
+    }
+    Ok(all)
+}
+
+/// Reads the directory of the file-set in this folder, which has this number, whole. Absent where it
+/// can't be opened, Unread where a read fails, TooLong where it has more than 4,294,967,295 bytes.
+pub(crate) fn directory_bytes<F: Files>(
+    alloc: Global,
+    at: usize,
+    folder: &str,
+    files: &mut F,
+) -> Result<Vec<u8>, Trouble>
+    ensures { (paths : ℕ) → at < paths → IfErr result (IsOfWork paths) }
+{
+    let Ok(path) = path_in(alloc, folder, DIRECTORY) else {
+        return Err(Trouble::general(ProgramFault::Memory));
+    };
+    let Ok(mut reader) = files.source(path.as_str()) else {
+        return Err(Trouble::of(Subject::SetDirectory(at), ProgramFault::Absent));
+    };
+    match read_whole(alloc, &mut reader, SOURCE_LIMIT) {
+        Ok(bytes) => Ok(bytes),
+        Err(KeyFault::Read) => Err(Trouble::of(Subject::SetDirectory(at), ProgramFault::Unread)),
+        Err(KeyFault::FileTooLong) => Err(Trouble::of(Subject::Source(at), ProgramFault::TooLong)),
+        Err(_) => Err(Trouble::general(ProgramFault::Memory)),
+    }
+}
+
+/// What it comes to that the file-set of this number has no directory that can be read.
+pub(crate) fn refusal_of(at: usize, fault: DirFault) -> Trouble
+    ensures { (paths : ℕ) → at < paths → IsOfWork paths result }
+{
+    if is_want_of_memory(&fault) {
+        Trouble::general(ProgramFault::Memory)
+    } else {
+        Trouble::of(Subject::Source(at), ProgramFault::Dir(fault))
+    }
+}

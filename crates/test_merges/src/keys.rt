@@ -1,0 +1,105 @@
+//! The keys that images have after a merge of catalogues, and after one of their directories.
+
+use crate::directories::{directories, label, slices, widest};
+use dd_dir::write_directory;
+use dd_elem::Sink;
+use dd_keys::Version;
+use dd_layout::{Label, lay_out};
+use dd_samples::{taken, told};
+use dd_vectors::{answered, question};
+use dicomdir::{Choice, merge_engine};
+use std::alloc::Global;
+use std::test::Fail;
+
+/// Images of two catalogues; and each image in their join: the first byte of its digest, the description of its
+/// study, and its instance. Before the join nothing of one study replaces the rest.
+const CATALOGUES: &str = "\
+xy z > 2 'B 1.2.3.4.5, 1 'B 1.2.3.4.6
+z xy > 2 'B 1.2.3.4.5, 1 'B 1.2.3.4.6
+1 C > 170 'B 1.2.3.4.5, 170 'B 1.2.3.4.6";
+
+/// Directories, and the same of each image of all. In a directory each study has one description.
+const DIRECTORIES: &str = "\
+xy z > 2 'Z 1.2.3.4.5, 1 'Z 1.2.3.4.6
+z xy > 2 'Z 1.2.3.4.5, 1 'Z 1.2.3.4.6
+z > 2 'B 1.2.3.4.5
+AC > 170 'B 1.2.3.4.5, 170 'B 1.2.3.4.6
+1 C > 170 'B 1.2.3.4.5, 170 'B 1.2.3.4.6";
+
+/// The versions of a plan, each told.
+fn all_told(alloc: Global, versions: &[Version]) -> Result<String, Fail> {
+    let mut text = String::new(alloc);
+    for version in versions {
+        if !text.is_empty() {
+            text.push_str(", ")?;
+        }
+        text.push_str(told(alloc, version)?.as_str())?;
+    }
+    Ok(text)
+}
+
+/// The images of the join of two catalogues.
+fn joined(alloc: Global, one: &str, other: &str) -> Result<String, Fail> {
+    let mut catalogue = taken(alloc, one)?;
+    catalogue.merge(&taken(alloc, other)?)?;
+    let plan = lay_out(alloc, &catalogue, &label()?, widest()?)?;
+    all_told(alloc, plan.versions())
+}
+
+fn catalogues(alloc: Global, case: &str) -> Result<String, Fail> {
+    let (one, other) = question(case).split_once(' ').ok_or("no other")?;
+    Ok(answered(alloc, case, &joined(alloc, one, other)?)?)
+}
+
+#[test]
+fn catalogues_are_joined_before_studies_agree(rt: HostRuntime) -> Result<(), Fail> {
+    for case in CATALOGUES.split('\n') {
+        assert_eq!(rt; catalogues(rt.alloc(), case)?.as_str(), case);
+    }
+    Ok(())
+}
+
+/// The images of a merge of these directories.
+fn merged(alloc: Global, sets: &[Vec<u8>]) -> Result<String, Fail> {
+    let sets = slices(alloc, sets)?;
+    let Label { id, uid } = label()?;
+    let uid = Some(uid);
+    let merged = merge_engine(alloc, &sets, &Choice { id, uid }, widest()?)?;
+    all_told(alloc, merged.plan.versions())
+}
+
+fn read_back(alloc: Global, case: &str) -> Result<String, Fail> {
+    let sets = directories(alloc, question(case))?;
+    Ok(answered(alloc, case, &merged(alloc, &sets)?)?)
+}
+
+#[test]
+fn directories_are_merged_as_they_are_written(rt: HostRuntime) -> Result<(), Fail> {
+    for case in DIRECTORIES.split('\n') {
+        assert_eq!(rt; read_back(rt.alloc(), case)?.as_str(), case);
+    }
+    Ok(())
+}
+
+/// Directories.
+const ALONE: &str = "empty first 1 12 1234 AC xy";
+
+/// Does a merge of this directory alone write it again?
+fn is_written_again(alloc: Global, name: &str) -> Result<bool, Fail> {
+    let sets = directories(alloc, name)?;
+    let sets = slices(alloc, &sets)?;
+    let Label { id, uid } = label()?;
+    let uid = Some(uid);
+    let merged = merge_engine(alloc, &sets, &Choice { id, uid }, widest()?)?;
+    let mut sink = Sink::new(alloc, None);
+    write_directory(&merged.plan, &mut sink)?;
+    Ok(sets.first() == Some(&sink.bytes()))
+}
+
+#[test]
+fn a_directory_alone_is_written_again(rt: HostRuntime) -> Result<(), Fail> {
+    for name in ALONE.split(' ') {
+        assert!(rt; is_written_again(rt.alloc(), name)?, "of {name}");
+    }
+    Ok(())
+}

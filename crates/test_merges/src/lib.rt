@@ -1,0 +1,9 @@
+//! Tests of merges of directories.
+#![tactic(auto)]
+
+#[cfg(test)]
+mod directories;
+#[cfg(test)]
+mod keys;
+#[cfg(test)]
+mod picks;

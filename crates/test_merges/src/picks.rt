@@ -1,0 +1,80 @@
+//! Which files a merge picks, and why there is none.
+
+use crate::directories::{directories, label, slices};
+use dd_layout::{Label, Limits};
+use dd_vectors::{answered, question};
+use dicomdir::{Choice, MergeFault, Merged, merge_engine};
+use std::alloc::Global;
+use std::test::Fail;
+
+/// The most bytes of a directory, the most records below one parent, and the directories; and the size of the
+/// directory of all, and for each image the number of its set and its File ID there, or why there is none.
+const PICKS: &str = "\
+876 1 first first > 876 0 PT000001\\ST000001\\SE000001\\IM000001
+876 1 empty first first > 876 1 PT000001\\ST000001\\SE000001\\IM000001
+320 0 empty > 320
+876 1 a b > 876 1 PT000001\\ST000001\\SE000001\\IM000001
+876 1 b a b > 876 0 PT000001\\ST000001\\SE000001\\IM000001
+1130 2 2 12 > 1130 1 PT000001\\ST000001\\SE000001\\IM000001 0 PT000001\\ST000001\\SE000001\\IM000001
+2032 2 12 34 1234 > 2032 0 PT000001\\ST000001\\SE000001\\IM000001 0 PT000001\\ST000001\\SE000001\\IM000002 \
+1 PT000001\\ST000001\\SE000001\\IM000001 1 PT000002\\ST000001\\SE000001\\IM000001
+876 1 12,1026,'5 > 876 0 PT000001\\ST000001\\SE000001\\IM000001
+876 1 first,686,'X first > 876 0 XT000001\\ST000001\\SE000001\\IM000001
+875 1 first first > Plan: 43 TooLarge
+876 1 1 2 > Plan: 42 TooMany Image
+2032 1 12 34 > Plan: 42 TooMany Patient
+0 0 5 1 > Plan: 41 Conflict 1.2.3.4.5 1.2.8.4.1
+876 1 first,336,40010000 > Dir 0: 55 Twice 320
+0 0 first first,294,41010000 v3 > Dir 1: 56 LastRoot
+0 0 1 5 first,128,'4 > Dir 2: 51 File 21 NotPart10
+0 0 first v3 first,294,41010000 > Own 1: 62 ForeignRecord 646
+0 0 v3,674,ffff v3 > Own 0: 61 NoDigest 646
+0 0 5 1 first,402,2020 > Own 2: 63 RecordKey 320 (0010,0020)";
+
+/// The size of a merge, and what is picked.
+fn told(alloc: Global, merged: &Merged<'_>) -> Result<String, Fail> {
+    let size = merged.plan.size();
+    let mut text = format!(in alloc; "{size}")?;
+    for pick in &merged.picks {
+        let (set, file) = (pick.set, str::from_utf8(pick.file)?);
+        write!(text, " {set} {file}")?;
+    }
+    Ok(text)
+}
+
+/// The refusal of a merge, with the number of the set.
+fn refused(alloc: Global, fault: MergeFault) -> Result<String, Fail> {
+    Ok(match fault {
+        MergeFault::Dir(at, fault) => format!(in alloc; "Dir {at}: {fault}")?,
+        MergeFault::Own(at, fault) => format!(in alloc; "Own {at}: {fault}")?,
+        MergeFault::Plan(fault) => format!(in alloc; "Plan: {fault}")?,
+        MergeFault::Memory => String::from_str(alloc, "Memory")?,
+    })
+}
+
+/// What comes of a merge of these directories.
+fn merged(alloc: Global, limits: Limits, sets: &[Vec<u8>]) -> Result<String, Fail> {
+    let sets = slices(alloc, sets)?;
+    let Label { id, uid } = label()?;
+    let uid = Some(uid);
+    match merge_engine(alloc, &sets, &Choice { id, uid }, limits) {
+        Ok(merged) => told(alloc, &merged),
+        Err(fault) => refused(alloc, fault),
+    }
+}
+
+fn picked(alloc: Global, case: &str) -> Result<String, Fail> {
+    let (bytes, rest) = question(case).split_once(' ').ok_or("no bytes")?;
+    let (per_level, words) = rest.split_once(' ').ok_or("no count")?;
+    let limits = Limits::new(bytes.parse()?, per_level.parse()?).ok_or("no limits")?;
+    let sets = directories(alloc, words)?;
+    Ok(answered(alloc, case, &merged(alloc, limits, &sets)?)?)
+}
+
+#[test]
+fn files_are_picked_or_sets_refused(rt: HostRuntime) -> Result<(), Fail> {
+    for case in PICKS.split('\n') {
+        assert_eq!(rt; picked(rt.alloc(), case)?.as_str(), case);
+    }
+    Ok(())
+}

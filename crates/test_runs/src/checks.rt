@@ -1,0 +1,59 @@
+//! File-sets that are checked against their directories.
+
+use crate::scripts::ran;
+use std::test::Fail;
+
+/// What is on the disc beside the rest, the line, its status, what both outputs hold, and whether some file has
+/// changed: file-sets as they should be; each finding; several in one run; directories that can't be read; and
+/// outputs that fail.
+const CHECKS: &str = "\
+d=set: - - dicomdir check d > 0 [OK 4 records|] [] kept
+d=set: - - dicomdir check d/ > 0 [OK 4 records|] [] kept
+d/DICOMDIR=empty: - - dicomdir check d > 0 [OK 0 records|] [] kept
+DICOMDIR=first PT000001/ST000001/SE000001/IM000001=a.dcm: - - dicomdir check '' > 0 [OK 4 records|] [] kept
+index d a.dcm d.dcm: - - dicomdir check d > 0 [OK 5 records|] [] kept
+d/DICOMDIR=v3 d/IMAGES/SR1=note.txt: - - dicomdir check d > 0 [OK 5 records|] [] kept
+d/DICOMDIR=first,650,0000: - - dicomdir check d > 0 [OK 4 records|] [] kept
+d/DICOMDIR=first: - - dicomdir check d > 3 [MISSING PT000001\\ST000001\\SE000001\\IM000001|] [] kept
+d/DICOMDIR=v3: - - dicomdir check d > 3 [MISSING IMAGES\\SR1|] [] kept
+d=set d/PT000001/ST000001/SE000001/IM000001=e.dcm: - - dicomdir check d > \
+3 [DIFFERS PT000001\\ST000001\\SE000001\\IM000001 900e75e1c153f87b21e09f9db68aef627f2dd320eb3afb1f2574594e6c862a92 \
+3701174b5ad976c7de170363bdf11977a0101e4fa19672b64e1cb1470846b2ca|] [] kept
+d=set d/DICOMDIR=first,686,'p d/pT000001/ST000001/SE000001/IM000001=note.txt: - - dicomdir check d > \
+3 [BADID 622|] [] kept
+d/DICOMDIR=first,282,00000000,294,00000000: - - dicomdir check d > 3 [UNREACHED 4|] [] kept
+index d a.dcm d.dcm; d/PT000001/ST000001/SE000001/IM000002=note.txt: - - dicomdir check d > \
+3 [DIFFERS PT000001\\ST000001\\SE000001\\IM000002 e1c339749fc4c0b910f737b0ec323ff2d686545cf4d85bf8318cdf7554bb1e82 \
+453361fd925712bb2f4ef496dfa3480f0d7a1e22fc15dc69e72aeb8086c135ce|] [] kept
+index s a.dcm d.dcm --uid 2.25.0; d/DICOMDIR=s/DICOMDIR d/PT000001/ST000001/SE000001/IM000002=note.txt: \
+- - dicomdir check d > 3 [MISSING PT000001\\ST000001\\SE000001\\IM000001|\
+DIFFERS PT000001\\ST000001\\SE000001\\IM000002 e1c339749fc4c0b910f737b0ec323ff2d686545cf4d85bf8318cdf7554bb1e82 \
+453361fd925712bb2f4ef496dfa3480f0d7a1e22fc15dc69e72aeb8086c135ce|] [] kept
+index s a.dcm d.dcm --uid 2.25.0; d/DICOMDIR=s/DICOMDIR,686,'p: - - dicomdir check d > \
+3 [BADID 622|MISSING PT000001\\ST000001\\SE000001\\IM000002|] [] kept
+d/DICOMDIR=v3,674,ffff: - - dicomdir check d > 3 [MISSING IMAGES\\IM1|MISSING IMAGES\\SR1|] [] kept
+d/DICOMDIR=v3,674,ffff d/IMAGES/IM1=note.txt: - - dicomdir check d > 3 [MISSING IMAGES\\SR1|] [] kept
+d/DICOMDIR=v3,674,ffff,710,'i: - - dicomdir check d > 3 [BADID 646|MISSING IMAGES\\SR1|] [] kept
+d/DICOMDIR=v3,674,ffff,888,'i d/IMAGES/IM1=note.txt: - - dicomdir check d > 3 [BADID 818|] [] kept
+d/DICOMDIR=v3,584,32030000: - - dicomdir check d > 3 [MISSING IMAGES\\SR1|UNREACHED 1|] [] kept
+d/DICOMDIR=first,294,41010000: - - dicomdir check d > 3 [BROKEN 56 LastRoot|] [] kept
+d/DICOMDIR=first,336,40010000: - - dicomdir check d > 3 [BROKEN 55 Twice 320|] [] kept
+d/DICOMDIR=first,282,41010000: - - dicomdir check d > 3 [BROKEN 54 Dangling 321|] [] kept
+d/DICOMDIR=first,370,'________: - - dicomdir check d > 3 [BROKEN 53 RecordShape 320|] [] kept
+d/DICOMDIR=a.dcm: - - dicomdir check d > 3 [BROKEN 52 NotDirectory|] [] kept
+d/DICOMDIR=note.txt: - - dicomdir check d > 3 [BROKEN 51 File 21 NotPart10|] [] kept
+d/DICOMDIR=deep: - - dicomdir check d > 3 [BROKEN 58 TooDeep 1984|] [] kept
+d/DICOMDIR=empty: - - dicomdir check nowhere > 1 [] [FAULT nowhere/DICOMDIR: 92 Absent|] kept
+d/DICOMDIR=empty: - 0 dicomdir check nowhere > 1 [] [] kept
+d=set: 0 - dicomdir check d > 1 [] [] kept
+d/DICOMDIR=first: 9 - dicomdir check d > 1 [MISSING P] [] kept
+d/DICOMDIR=note.txt: 9 - dicomdir check d > 1 [BROKEN 51] [] kept
+d/DICOMDIR=first: - 0 dicomdir check d > 3 [MISSING PT000001\\ST000001\\SE000001\\IM000001|] [] kept";
+
+#[test]
+fn sets_are_checked(rt: HostRuntime) -> Result<(), Fail> {
+    for case in CHECKS.split('\n') {
+        assert_eq!(rt; ran(rt.alloc(), case)?.as_str(), case);
+    }
+    Ok(())
+}

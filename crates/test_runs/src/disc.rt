@@ -1,0 +1,95 @@
+//! Files in memory, as runs find them.
+
+use dd_vectors::{deep, first_directory, put_words, v1, v1_with, v2, v3};
+use dicomdir::MemFiles;
+use std::alloc::Global;
+use std::test::Fail;
+
+/// Images: the path of each, and how it differs from V1. The class of b.dcm is no image's. c.dcm and
+/// e.dcm are other versions of V1, and c.dcm has a greater digest than V1, e.dcm a smaller one. d.dcm is
+/// another instance.
+const IMAGES: &str = "\
+a.dcm none
+b.dcm 0002,0000 UL 88000000; 0002,0002 UI '1.2.840.10008.5.1.4.1.1.88.11~
+c.dcm 0010,0010 PN 'DOE^JUDY
+d.dcm 0002,0003 UI '1.2.3.4.6~; 0008,0018 UI '1.2.3.4.6~
+e.dcm 0010,0010 PN 'DOE^JANE";
+
+/// The path of the first image in its file-set.
+pub(crate) const FIRST_IMAGE: &str = "out/PT000001/ST000001/SE000001/IM000001";
+
+/// Images, a part of V1, a text, a folder that has a directory, and one that has an image.
+pub(crate) fn disc(alloc: Global) -> Result<MemFiles, Fail> {
+    let mut files = MemFiles::new(alloc);
+    for line in IMAGES.split('\n') {
+        let (path, changes) = line.split_once(' ').ok_or("no image")?;
+        files.put(path, &v1_with(alloc, changes)?)?;
+    }
+    put_others(alloc, &mut files)?;
+    Ok(files)
+}
+
+fn put_others(alloc: Global, files: &mut MemFiles) -> Result<(), Fail> {
+    let image = v1(alloc)?;
+    files.put("part.dcm", image.get(..450).ok_or("fewer bytes")?)?;
+    files.put("note.txt", b"no image")?;
+    files.put("full/DICOMDIR", b"")?;
+    files.put("taken/PT000001/ST000001/SE000001/IM000001", b"")?;
+    Ok(())
+}
+
+/// The disc with more files.
+pub(crate) fn disc_with(alloc: Global, words: &str) -> Result<MemFiles, Fail> {
+    let mut files = disc(alloc)?;
+    put_files(alloc, &mut files, words)?;
+    Ok(files)
+}
+
+/// Puts more files: words `path=name`, where the name is that of a file that is there, or `first` for the
+/// directory that has V1 alone, `empty` for that of nothing, `v3` for that of another tool or `deep` for one of
+/// 33 levels, with `,` before each place and each word of bytes that are put there; and words `folder=set`,
+/// where the folder gets the directory that has V1 alone, and V1.
+pub(crate) fn put_files(alloc: Global, files: &mut MemFiles, words: &str) -> Result<(), Fail> {
+    for word in words.split(' ') {
+        match word.split_once('=').ok_or("no name")? {
+            (folder, "set") => put_set(alloc, files, folder)?,
+            (path, name) => put_copy(alloc, files, path, name)?,
+        }
+    }
+    Ok(())
+}
+
+fn put_set(alloc: Global, files: &mut MemFiles, folder: &str) -> Result<(), Fail> {
+    let directory = format!(in alloc; "{folder}/DICOMDIR")?;
+    files.put(directory.as_str(), &first_directory(alloc)?)?;
+    let image = format!(in alloc; "{folder}/PT000001/ST000001/SE000001/IM000001")?;
+    files.put(image.as_str(), &v1(alloc)?)?;
+    Ok(())
+}
+
+fn put_copy(alloc: Global, files: &mut MemFiles, path: &str, name: &str) -> Result<(), Fail> {
+    let (name, changes) = name.split_once(',').unwrap_or((name, ""));
+    let mut bytes = bytes_with_name(alloc, files, name)?;
+    put_words(alloc, &mut bytes, changes)?;
+    files.put(path, &bytes)?;
+    Ok(())
+}
+
+fn bytes_with_name(alloc: Global, files: &MemFiles, name: &str) -> Result<Vec<u8>, Fail> {
+    match name {
+        "first" => first_directory(alloc),
+        "empty" => v2(alloc),
+        "v3" => v3(alloc),
+        "deep" => deep(alloc, 33),
+        name => Ok(files.bytes(name).ok_or("no such file")?.to_vec(alloc)?),
+    }
+}
+
+/// Do both hold the same files, each with its path and its bytes?
+pub(crate) fn are_equal(alloc: Global, files: &MemFiles, others: &MemFiles) -> Result<bool, Fail> {
+    let text = format!(in alloc; "{files:?}")?;
+    let other = format!(in alloc; "{others:?}")?;
+    let (stored, _) = text.as_str().split_once(", current: ").ok_or("no files")?;
+    let (others, _) = other.as_str().split_once(", current: ").ok_or("no files")?;
+    Ok(stored == others)
+}

@@ -1,0 +1,15 @@
+//! Tests of runs of the program `dicomdir` over files in memory.
+#![tactic(auto)]
+
+#[cfg(test)]
+mod checks;
+#[cfg(test)]
+mod disc;
+#[cfg(test)]
+mod lists;
+#[cfg(test)]
+mod merges;
+#[cfg(test)]
+mod runs;
+#[cfg(test)]
+mod scripts;

@@ -1,0 +1,86 @@
+//! File-sets that are merged.
+
+use crate::scripts::{are_same, ran};
+use std::test::Fail;
+
+/// What is on the disc beside the rest, the line, its status, what both outputs hold, and whether some file is new
+/// or has changed. Every directory is read before one is parsed, and a set that is refused leaves all as it was.
+const MERGES: &str = "\
+d1=set: - - dicomdir merge o d1 d1 --uid 2.25.0 > 0 [DONE 1 instances, 876 bytes|] [] changed
+d1=set: - - dicomdir merge o d1 --uid 2.25.0 --id DISC1 > 0 [DONE 1 instances, 882 bytes|] [] changed
+d1=set: - - dicomdir merge o d1 > 0 [DONE 1 instances, 914 bytes|] [] changed
+d1=set d2/DICOMDIR=empty: - - dicomdir merge o d2 d1 d2 --uid 2.25.0 > 0 [DONE 1 instances, 876 bytes|] [] changed
+d1/DICOMDIR=empty: - - dicomdir merge o d1 --uid 2.25.0 > 0 [DONE 0 instances, 320 bytes|] [] changed
+index d1 a.dcm; index d2 d.dcm: - - dicomdir merge o d1 d2 --uid 2.25.0 > \
+0 [DONE 2 instances, 1130 bytes|] [] changed
+d1=set: - - dicomdir merge o d1 --uid 2.25.0 --max-bytes 876 > 0 [DONE 1 instances, 876 bytes|] [] changed
+d1=set: - - dicomdir merge o d1 --uid 2.25.0 --max-bytes 875 > 1 [] [FAULT -: 43 TooLarge|] kept
+d1=set d2/DICOMDIR=first,402,'P2,772,'6: - - dicomdir merge o d2 d1 > \
+1 [] [FAULT -: 41 Conflict 1.2.3.4.5 1.2.3.4.6|] kept
+d1=set d3/DICOMDIR=v3: - - dicomdir merge o d3 > 1 [] [FAULT d3: 62 ForeignRecord 646|] kept
+d1=set d3/DICOMDIR=v3: - - dicomdir merge o d1 d3/ > 1 [] [FAULT d3/: 62 ForeignRecord 646|] kept
+d3/DICOMDIR=v3,674,ffff: - - dicomdir merge o d3 > 1 [] [FAULT d3: 61 NoDigest 646|] kept
+d1=set d3/DICOMDIR=first,402,2020: - - dicomdir merge o d1 d3 d1 > \
+1 [] [FAULT d3: 63 RecordKey 320 (0010,0020)|] kept
+d1=set d3/DICOMDIR=first,294,41010000: - - dicomdir merge o d1 d3 > 1 [] [FAULT d3: 56 LastRoot|] kept
+d3/DICOMDIR=v3 d4/DICOMDIR=note.txt: - - dicomdir merge o d3 d4 > 1 [] [FAULT d3: 62 ForeignRecord 646|] kept
+d3/DICOMDIR=v3 d4/DICOMDIR=note.txt: - - dicomdir merge o d4 d3 > 1 [] [FAULT d4: 51 File 21 NotPart10|] kept
+d3/DICOMDIR=v3: - - dicomdir merge o d3 nowhere > 1 [] [FAULT nowhere/DICOMDIR: 92 Absent|] kept
+d1=set: - - dicomdir merge o no d1 nowhere > 1 [] [FAULT no/DICOMDIR: 92 Absent|] kept
+d1=set: - - dicomdir merge full d1 > 1 [] [FAULT full/DICOMDIR: 94 Create|] kept
+d1=set: - - dicomdir merge full nowhere > 1 [] [FAULT full/DICOMDIR: 94 Create|] kept
+d1=set: - - dicomdir merge d1 d1 > 1 [] [FAULT d1/DICOMDIR: 94 Create|] kept
+d1=set: - - dicomdir merge taken d1 > 1 [] [FAULT taken/PT000001/ST000001/SE000001/IM000001: 94 Create|] kept
+d1/DICOMDIR=first: - - dicomdir merge o d1 > \
+1 [] [FAULT d1/PT000001/ST000001/SE000001/IM000001: 92 Absent|] kept
+DICOMDIR=first: - - dicomdir merge o '' > 1 [] [FAULT PT000001/ST000001/SE000001/IM000001: 92 Absent|] kept
+d1=set d2/DICOMDIR=first: - - dicomdir merge o d2 d1 > \
+1 [] [FAULT d2/PT000001/ST000001/SE000001/IM000001: 92 Absent|] kept
+d1=set d2/DICOMDIR=first,772,'6: - - dicomdir merge o d2/ d1 > \
+1 [] [FAULT d2/PT000001/ST000001/SE000001/IM000001: 92 Absent|] changed
+d1=set d1/PT000001/ST000001/SE000001/IM000001=c.dcm: - - dicomdir merge o d1 > \
+1 [] [FAULT d1/PT000001/ST000001/SE000001/IM000001: 97 Changed|] changed
+d1=set: - - dicomdir merge full nowhere --uid 1.02 > 2 [] [FAULT -: 71 BadUid|] kept
+d1=set: - - dicomdir merge full nowhere --id bad --uid 1.02 > 2 [] [FAULT -: 72 BadSetId|] kept
+d1=set: 0 - dicomdir merge o d1 --uid 2.25.0 > 1 [] [] changed
+d1=set: - 0 dicomdir merge o d1 --uid 2.25.0 --max-bytes 0 > 1 [] [] kept";
+
+#[test]
+fn merges_say_how_they_ended(rt: HostRuntime) -> Result<(), Fail> {
+    for case in MERGES.split('\n') {
+        assert_eq!(rt; ran(rt.alloc(), case)?.as_str(), case);
+    }
+    Ok(())
+}
+
+/// Steps, a line, and a step that leaves the same files: sets in any order and number, and their sources; the
+/// first place of an image, by the File ID that the set has for it; and what stays after a refusal.
+const SAME: &str = "\
+d1=set: merge o d1 d1 --uid 2.25.0 > o=set
+index d1 a.dcm b.dcm --uid 2.25.0: merge o2 d1 d1 --uid 2.25.0 > o2=set
+d1=set d2/DICOMDIR=first: merge o d1 d2 --uid 2.25.0 > o=set
+d1/DICOMDIR=first,686,'X d1/XT000001/ST000001/SE000001/IM000001=a.dcm: merge o d1 --uid 2.25.0 > o=set
+d1/DICOMDIR=first,686,'A\\B\\C\\D\\E\\F\\G\\HHHHHHHH______________ d1/A/B/C/D/E/F/G/HHHHHHHH=a.dcm: \
+merge o d1 --uid 2.25.0 > o=set
+DICOMDIR=first PT000001/ST000001/SE000001/IM000001=a.dcm: merge o '' --uid 2.25.0 > o=set
+index d1 b.dcm: merge o d1 --uid 2.25.0 > o/DICOMDIR=empty
+index d1 a.dcm; index d2 d.dcm: merge o d1 d2 > index o a.dcm d.dcm
+index d1 a.dcm --id DISC1; index d2 d.dcm --uid 2.25.7: merge o d2 d1 d2 --id DISC2 > index o a.dcm d.dcm --id DISC2
+index d1 a.dcm d.dcm; index d2 b.dcm; index d3 d.dcm: merge o d1 d2 d3 > index o d.dcm a.dcm
+index d1 a.dcm; index d2 c.dcm; index d3 e.dcm: merge o d1 d2 d3 > index o a.dcm c.dcm e.dcm
+index d1 a.dcm; index d2 d.dcm; index d3 c.dcm: merge o d1 d2 d3 > merge o d1 d3 d2
+index d1 a.dcm; index d2 d.dcm; index d3 c.dcm: merge o d1 d2 d3 > merge o d2 d1 d3
+index d1 a.dcm; index d2 d.dcm; index d3 c.dcm: merge o d1 d2 d3 > merge o d2 d3 d1
+index d1 a.dcm; index d2 d.dcm; index d3 c.dcm: merge o d1 d2 d3 > merge o d3 d1 d2
+index d1 a.dcm; index d2 d.dcm; index d3 c.dcm: merge o d1 d2 d3 > merge o d3 d2 d1
+d1=set d2/DICOMDIR=first,772,'6: merge o d1 d2 > o/PT000001/ST000001/SE000001/IM000001=a.dcm
+d1=set d1/PT000001/ST000001/SE000001/IM000001=c.dcm: merge o d1 > \
+o/PT000001/ST000001/SE000001/IM000001=c.dcm";
+
+#[test]
+fn merges_leave_the_same_files(rt: HostRuntime) -> Result<(), Fail> {
+    for case in SAME.split('\n') {
+        assert!(rt; are_same(rt.alloc(), case)?, "of {case}");
+    }
+    Ok(())
+}

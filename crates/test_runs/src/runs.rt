@@ -1,0 +1,265 @@
+//! Runs over files in memory, each with its status, what it prints, and what becomes of the files.
+
+use crate::disc::{FIRST_IMAGE, are_equal, disc, disc_with};
+use dd_elem::Sink;
+use dd_vectors::{answered, failing, push_lines, question, words_of};
+use dicomdir::{MemFiles, run};
+use std::alloc::Global;
+use std::test::Fail;
+
+/// Runs: after how many bytes the output and the error output fail, the line, the status, what both hold,
+/// and whether some file is new or has changed. `|` ends a line. A run that is refused changes no file; an
+/// error output that fails changes nothing else.
+const RUNS: &str = "\
+- - dicomdir index out a.dcm b.dcm --uid 2.25.0 > \
+0 [SKIP b.dcm: 32 NotImage 1.2.840.10008.5.1.4.1.1.88.11|DONE 1 instances, 876 bytes|] [] changed
+- - dicomdir index out a.dcm --uid 2.25.0 > 0 [DONE 1 instances, 876 bytes|] [] changed
+- - dicomdir index out a.dcm --uid 2.25.0 --id DISC1 > 0 [DONE 1 instances, 882 bytes|] [] changed
+- - dicomdir index out a.dcm --uid 2.25.0 --id= > 0 [DONE 1 instances, 876 bytes|] [] changed
+- - dicomdir index out a.dcm > 0 [DONE 1 instances, 914 bytes|] [] changed
+- - dicomdir index out a.dcm --uid 2.25.0 --max-bytes 875 > 1 [] [FAULT -: 43 TooLarge|] kept
+- - dicomdir index out a.dcm b.dcm --uid 2.25.0 --max-bytes 875 > 1 [] [FAULT -: 43 TooLarge|] kept
+- - dicomdir index out a.dcm --uid 2.25.0 --max-bytes 876 > 0 [DONE 1 instances, 876 bytes|] [] changed
+- - dicomdir index out a.dcm --max-bytes 875 > 1 [] [FAULT -: 43 TooLarge|] kept
+- - dicomdir index out a.dcm --max-bytes 913 > 1 [] [FAULT -: 43 TooLarge|] kept
+- - dicomdir index out a.dcm --max-bytes 914 > 0 [DONE 1 instances, 914 bytes|] [] changed
+- - dicomdir index out b.dcm --uid 2.25.0 > \
+0 [SKIP b.dcm: 32 NotImage 1.2.840.10008.5.1.4.1.1.88.11|DONE 0 instances, 320 bytes|] [] changed
+- - dicomdir index out note.txt --uid 2.25.0 > \
+0 [SKIP note.txt: 31 File 21 NotPart10|DONE 0 instances, 320 bytes|] [] changed
+- - dicomdir index out part.dcm a.dcm note.txt part.dcm --uid 2.25.0 > \
+0 [SKIP part.dcm: 31 File 27 Set 1 Truncated|SKIP note.txt: 31 File 21 NotPart10|\
+SKIP part.dcm: 31 File 27 Set 1 Truncated|DONE 1 instances, 876 bytes|] [] changed
+- - dicomdir index out a.dcm c.dcm a.dcm e.dcm --uid 2.25.0 > 0 [DONE 1 instances, 876 bytes|] [] changed
+- - dicomdir index out a.dcm d.dcm --uid 2.25.0 > 0 [DONE 2 instances, 1130 bytes|] [] changed
+0 - dicomdir index out a.dcm --uid 2.25.0 > 1 [] [] changed
+9 - dicomdir index out a.dcm --uid 2.25.0 > 1 [DONE 1 in] [] changed
+9 - dicomdir index out a.dcm b.dcm --uid 2.25.0 > 1 [SKIP b.dc] [] kept
+- 0 dicomdir index out a.dcm --uid 2.25.0 > 0 [DONE 1 instances, 876 bytes|] [] changed
+- - dicomdir index out a.dcm --uid 2.25.x > 2 [] [FAULT -: 71 BadUid|] kept
+- - dicomdir index out a.dcm --uid '' > 2 [] [FAULT -: 71 BadUid|] kept
+- - dicomdir index full none.dcm --uid 1.02 > 2 [] [FAULT -: 71 BadUid|] kept
+- - dicomdir index full none.dcm --id bad > 2 [] [FAULT -: 72 BadSetId|] kept
+- - dicomdir index full none.dcm --uid 1.02 --id bad > 2 [] [FAULT -: 72 BadSetId|] kept
+- - dicomdir index out none.dcm --uid 2.25.0 > 1 [] [FAULT none.dcm: 92 Absent|] kept
+- - dicomdir index out b.dcm a.dcm no.dcm none.dcm > 1 [] [FAULT no.dcm: 92 Absent|] kept
+- - dicomdir index full a.dcm --uid 2.25.0 > 1 [] [FAULT full/DICOMDIR: 94 Create|] kept
+- - dicomdir index full/ b.dcm none.dcm > 1 [] [FAULT full/DICOMDIR: 94 Create|] kept
+- - dicomdir index taken a.dcm --uid 2.25.0 > \
+1 [] [FAULT taken/PT000001/ST000001/SE000001/IM000001: 94 Create|] kept
+- - dicomdir index taken note.txt a.dcm > \
+1 [SKIP note.txt: 31 File 21 NotPart10|] [FAULT taken/PT000001/ST000001/SE000001/IM000001: 94 Create|] kept
+- 6 dicomdir index out none.dcm --uid 2.25.0 > 1 [] [FAULT ] kept
+- 0 dicomdir index out none.dcm --uid 2.25.x > 2 [] [] kept";
+
+/// Lines at fault or that ask for help, the status, and which output the parser's text went to.
+const TEXTS: &str = "\
+- - dicomdir > 2 to the error output
+- - dicomdir index --uid 2.25.0 a.dcm > 2 to the error output
+- - dicomdir index --uid 2.25.0 out > 2 to the error output
+- - dicomdir index out a.dcm --uid > 2 to the error output
+- - dicomdir index out a.dcm --uid 2.25.0 --max-bytes 4294967296 > 2 to the error output
+- - dicomdir burn out a.dcm --uid 2.25.0 > 2 to the error output
+- - dicomdir merge out > 2 to the error output
+- - dicomdir merge out full --max-bytes 4294967296 > 2 to the error output
+- - dicomdir check > 2 to the error output
+- - dicomdir list full full > 2 to the error output
+0 - dicomdir burn out a.dcm --uid 2.25.0 > 2 to the error output
+- 0 dicomdir burn out a.dcm --uid 2.25.0 > 2 to none
+- - dicomdir --help > 0 to the output
+- - dicomdir help index > 0 to the output
+- - dicomdir merge --help > 0 to the output
+- - dicomdir check --help > 0 to the output
+- - dicomdir help list > 0 to the output
+- 0 dicomdir index -h > 0 to the output
+0 - dicomdir --help > 1 to none
+9 - dicomdir --help > 1 to the output";
+
+/// Runs a line whose first two words say after how many bytes the output and the error output fail, and
+/// says the status and what both hold.
+pub(crate) fn end_of(alloc: Global, line: &str, files: &mut MemFiles) -> Result<String, Fail> {
+    let (output, line) = line.split_once(' ').ok_or("no output")?;
+    let (errors, line) = line.split_once(' ').ok_or("no error output")?;
+    let mut out = Sink::new(alloc, failing(output)?);
+    let mut err = Sink::new(alloc, failing(errors)?);
+    let status = run(alloc, words_of(alloc, line)?, files, &mut out, &mut err);
+    told(alloc, status, &out, &err)
+}
+
+fn told(alloc: Global, status: u8, out: &Sink, err: &Sink) -> Result<String, Fail> {
+    let mut text = format!(in alloc; "{status} [")?;
+    push_lines(&mut text, out.bytes())?;
+    text.push_str("] [")?;
+    push_lines(&mut text, err.bytes())?;
+    text.push(']')?;
+    Ok(text)
+}
+
+/// The end of a run, and whether all files are as they were.
+fn ended(alloc: Global, line: &str) -> Result<(String, bool), Fail> {
+    let mut files = disc(alloc)?;
+    let end = end_of(alloc, line, &mut files)?;
+    Ok((end, are_equal(alloc, &files, &disc(alloc)?)?))
+}
+
+fn ran(alloc: Global, case: &str) -> Result<String, Fail> {
+    let (end, are_kept) = ended(alloc, question(case))?;
+    let files = if are_kept { "kept" } else { "changed" };
+    Ok(answered(alloc, case, &format_args!("{end} {files}"))?)
+}
+
+#[test]
+fn runs_say_how_they_ended(rt: HostRuntime) -> Result<(), Fail> {
+    for case in RUNS.split('\n') {
+        assert_eq!(rt; ran(rt.alloc(), case)?.as_str(), case);
+    }
+    Ok(())
+}
+
+/// Which of the outputs of an end are not empty.
+fn place_of(outputs: &str) -> &'static str {
+    match (outputs.starts_with(']'), outputs.ends_with("[]")) {
+        (true, true) => "none",
+        (false, true) => "the output",
+        (true, false) => "the error output",
+        (false, false) => "both",
+    }
+}
+
+fn text(alloc: Global, case: &str) -> Result<String, Fail> {
+    let (end, are_kept) = ended(alloc, question(case))?;
+    let (status, outputs) = end.as_str().split_once(" [").ok_or("no output")?;
+    let place = if are_kept {
+        place_of(outputs)
+    } else {
+        "a file"
+    };
+    Ok(answered(alloc, case, &format_args!("{status} to {place}"))?)
+}
+
+#[test]
+fn texts_of_the_parser_go_to_one_output(rt: HostRuntime) -> Result<(), Fail> {
+    for case in TEXTS.split('\n') {
+        assert_eq!(rt; text(rt.alloc(), case)?.as_str(), case);
+    }
+    Ok(())
+}
+
+/// Runs, and which files are new then, each as a copy of which.
+const FILES: &str = "\
+index out a.dcm b.dcm --uid 2.25.0 > out/DICOMDIR=first out/PT000001/ST000001/SE000001/IM000001=a.dcm
+index out/ b.dcm a.dcm a.dcm --uid 2.25.0 > out/DICOMDIR=first out/PT000001/ST000001/SE000001/IM000001=a.dcm
+index '' e.dcm a.dcm --uid 2.25.0 > DICOMDIR=first PT000001/ST000001/SE000001/IM000001=a.dcm
+index out b.dcm --uid 2.25.0 > out/DICOMDIR=empty";
+
+/// The files after a run.
+fn files_after(alloc: Global, line: &str) -> Result<MemFiles, Fail> {
+    let mut files = disc(alloc)?;
+    let line = format!(in alloc; "- - dicomdir {line}")?;
+    end_of(alloc, line.as_str(), &mut files)?;
+    Ok(files)
+}
+
+fn makes(alloc: Global, line: &str, words: &str) -> Result<bool, Fail> {
+    let files = files_after(alloc, line)?;
+    are_equal(alloc, &files, &disc_with(alloc, words)?)
+}
+
+#[test]
+fn a_run_adds_the_directory_and_its_images_alone(rt: HostRuntime) -> Result<(), Fail> {
+    for case in FILES.split('\n') {
+        let (line, words) = case.split_once(" > ").ok_or("no files")?;
+        assert!(rt; makes(rt.alloc(), line, words)?, "of {line}");
+    }
+    Ok(())
+}
+
+/// Sources, and others of which the same files are made.
+const SAME: &str = "\
+a.dcm d.dcm > d.dcm a.dcm
+a.dcm d.dcm > d.dcm a.dcm d.dcm a.dcm a.dcm
+a.dcm d.dcm > b.dcm d.dcm note.txt a.dcm
+a.dcm c.dcm > c.dcm a.dcm
+a.dcm c.dcm > c.dcm
+a.dcm c.dcm e.dcm d.dcm > d.dcm e.dcm c.dcm";
+
+fn are_same(alloc: Global, one: &str, other: &str) -> Result<bool, Fail> {
+    let one = format!(in alloc; "index out {one}")?;
+    let other = format!(in alloc; "index out {other}")?;
+    let files = files_after(alloc, one.as_str())?;
+    are_equal(alloc, &files, &files_after(alloc, other.as_str())?)
+}
+
+#[test]
+fn neither_order_nor_repeats_change_the_files(rt: HostRuntime) -> Result<(), Fail> {
+    for case in SAME.split('\n') {
+        let (one, other) = case.split_once(" > ").ok_or("no others")?;
+        assert!(rt; are_same(rt.alloc(), one, other)?, "of {case}");
+    }
+    Ok(())
+}
+
+/// Versions of one instance, and which is copied.
+const KEPT: &str = "\
+a.dcm > a.dcm
+a.dcm c.dcm > c.dcm
+c.dcm a.dcm > c.dcm
+e.dcm a.dcm > a.dcm
+a.dcm e.dcm > a.dcm
+e.dcm c.dcm a.dcm > c.dcm";
+
+fn is_kept(alloc: Global, sources: &str, kept: &str) -> Result<bool, Fail> {
+    let line = format!(in alloc; "index out {sources}")?;
+    let files = files_after(alloc, line.as_str())?;
+    let image = files.bytes(FIRST_IMAGE).ok_or("no image")?;
+    Ok(image == files.bytes(kept).ok_or("no such file")?)
+}
+
+#[test]
+fn the_greater_version_is_copied(rt: HostRuntime) -> Result<(), Fail> {
+    for case in KEPT.split('\n') {
+        let (sources, kept) = case.split_once(" > ").ok_or("no version")?;
+        assert!(rt; is_kept(rt.alloc(), sources, kept)?, "of {case}");
+    }
+    Ok(())
+}
+
+/// Sources that change at their second opening to what another has, how a run over them ends, and which
+/// files are new then.
+const CHANGED: &str = "\
+a.dcm c.dcm > 1 [] [FAULT a.dcm: 97 Changed|] > out/PT000001/ST000001/SE000001/IM000001=c.dcm
+a.dcm note.txt > 1 [] [FAULT a.dcm: 97 Changed|] > out/PT000001/ST000001/SE000001/IM000001=note.txt
+a.dcm a.dcm > 0 [DONE 1 instances, 876 bytes|] [] > \
+out/PT000001/ST000001/SE000001/IM000001=a.dcm out/DICOMDIR=first";
+
+/// Runs over a source that changes, and says how that ends.
+fn end_by_change(alloc: Global, path: &str, files: &mut MemFiles) -> Result<String, Fail> {
+    let line = format!(in alloc; "- - dicomdir index out {path} --uid 2.25.0")?;
+    end_of(alloc, line.as_str(), files)
+}
+
+/// The disc, and a source on it that is to have what another has.
+fn changing(alloc: Global, path: &str, other: &str) -> Result<MemFiles, Fail> {
+    let mut files = disc(alloc)?;
+    let bytes = files.bytes(other).ok_or("no such file")?.to_vec(alloc)?;
+    files.put_later(path, &bytes)?;
+    Ok(files)
+}
+
+fn changed(alloc: Global, question: &str, end: &str, words: &str) -> Result<bool, Fail> {
+    let (path, other) = question.split_once(' ').ok_or("no other")?;
+    let mut files = changing(alloc, path, other)?;
+    let is_end = end_by_change(alloc, path, &mut files)?.as_str() == end;
+    let words = format!(in alloc; "{path}={other} {words}")?;
+    Ok(is_end && are_equal(alloc, &files, &disc_with(alloc, words.as_str())?)?)
+}
+
+#[test]
+fn sources_that_change_are_refused(rt: HostRuntime) -> Result<(), Fail> {
+    for case in CHANGED.split('\n') {
+        let (question, rest) = case.split_once(" > ").ok_or("no end")?;
+        let (end, words) = rest.split_once(" > ").ok_or("no files")?;
+        assert!(rt; changed(rt.alloc(), question, end, words)?, "of {case}");
+    }
+    Ok(())
+}

@@ -1,0 +1,57 @@
+//! Runs over the disc as it is after steps: files that are put there, and runs that are done.
+
+use crate::disc::{are_equal, disc, put_files};
+use crate::runs::end_of;
+use dd_vectors::{answered, question};
+use dicomdir::MemFiles;
+use std::alloc::Global;
+use std::test::Fail;
+
+/// The disc after steps, between which `; ` stands.
+fn disc_after(alloc: Global, steps: &str) -> Result<MemFiles, Fail> {
+    let mut files = disc(alloc)?;
+    for step in steps.split("; ") {
+        take_step(alloc, step, &mut files)?;
+    }
+    Ok(files)
+}
+
+/// Runs a line, which must be done, or puts files.
+fn take_step(alloc: Global, step: &str, files: &mut MemFiles) -> Result<(), Fail> {
+    if !step.starts_with("index ") && !step.starts_with("merge ") {
+        return put_files(alloc, files, step);
+    }
+    if !end_by(alloc, step, files)?.as_str().starts_with("0 ") {
+        return Err("a step was refused".into());
+    }
+    Ok(())
+}
+
+/// Runs a line, and says how that ends.
+fn end_by(alloc: Global, line: &str, files: &mut MemFiles) -> Result<String, Fail> {
+    let line = format!(in alloc; "- - dicomdir {line}")?;
+    end_of(alloc, line.as_str(), files)
+}
+
+/// The case `steps: line` with how the line ends: the status, what both outputs hold, and whether some file is
+/// new or has changed.
+pub(crate) fn ran(alloc: Global, case: &str) -> Result<String, Fail> {
+    let (steps, line) = question(case).split_once(": ").ok_or("no steps")?;
+    let mut files = disc_after(alloc, steps)?;
+    let end = end_of(alloc, line, &mut files)?;
+    let are_kept = are_equal(alloc, &files, &disc_after(alloc, steps)?)?;
+    let kept = if are_kept { "kept" } else { "changed" };
+    Ok(answered(alloc, case, &format_args!("{end} {kept}"))?)
+}
+
+/// After the steps of a case `steps: line > step`, does the line, however it ends, leave the files that the last
+/// step does?
+pub(crate) fn are_same(alloc: Global, case: &str) -> Result<bool, Fail> {
+    let (question, step) = case.split_once(" > ").ok_or("no other step")?;
+    let (steps, line) = question.split_once(": ").ok_or("no steps")?;
+    let mut files = disc_after(alloc, steps)?;
+    end_by(alloc, line, &mut files)?;
+    let mut others = disc_after(alloc, steps)?;
+    take_step(alloc, step, &mut others)?;
+    are_equal(alloc, &files, &others)
+}
