@@ -1,7 +1,7 @@
 //! The elements of records, as they are read back.
 
 use crate::publishing::published;
-use dd_dir::{Tree, catalogue_of, read_directory};
+use dd_dir::{Forest, Tree, catalogue_of, read_directory};
 use dd_elem::Sink;
 use dd_samples::taken;
 use dd_set::{Syntax, write_set};
@@ -48,13 +48,23 @@ aaaaaaaaaaaaaaaaaaaaaaaaaaaaaaaaaaaaaaaaaaaaaaaaaaaaaaaaaaaaaaaa 20001300 4953 0
 04001215 5549 1400 '1.2.840.10008.1.2.1~ 09001000 4c4f 0c00 'DD_FILESET_1 09000110 4f42 0000 20000000 \
 aaaaaaaaaaaaaaaaaaaaaaaaaaaaaaaaaaaaaaaaaaaaaaaaaaaaaaaaaaaaaaaa 20001300 4953 0200 '1_";
 
-/// The record at this offset among these and those below them.
-fn record_at<'f, 'a>(trees: &'f [Tree<'a>], at: u32) -> Option<&'f Tree<'a>> {
-    for tree in trees {
-        if tree.at == at {
-            return Some(tree);
+/// The record at this offset, which is this one or stands below it.
+fn record_at<'f, 'a>(tree: &'f Tree<'a>, at: u32) -> Option<&'f Tree<'a>> {
+    if tree.at == at {
+        return Some(tree);
+    }
+    for below in &tree.below {
+        if let Some(found) = record_at(below, at) {
+            return Some(found);
         }
-        if let Some(found) = record_at(&tree.below, at) {
+    }
+    None
+}
+
+/// The record at this offset in a directory.
+fn record_in<'f, 'a>(forest: &'f Forest<'a>, at: u32) -> Option<&'f Tree<'a>> {
+    for root in &forest.trees {
+        if let Some(found) = record_at(root, at) {
             return Some(found);
         }
     }
@@ -62,8 +72,8 @@ fn record_at<'f, 'a>(trees: &'f [Tree<'a>], at: u32) -> Option<&'f Tree<'a>> {
 }
 
 /// Has the record at this place these elements, and no others?
-fn has(alloc: Global, trees: &[Tree<'_>], place: &str, elements: &str) -> Result<bool, Fail> {
-    let record = record_at(trees, place.parse()?).ok_or("no record")?;
+fn has(alloc: Global, forest: &Forest<'_>, place: &str, elements: &str) -> Result<bool, Fail> {
+    let record = record_in(forest, place.parse()?).ok_or("no record")?;
     let mut sink = Sink::new(alloc, None);
     write_set(&record.set, Syntax::Explicit, &mut sink)?;
     Ok(sink.bytes() == bytes_of(alloc, elements)?.as_slice())
@@ -75,10 +85,7 @@ fn elements_of_records(rt: HostRuntime) -> Result<(), Fail> {
     let forest = read_directory(rt.alloc(), &bytes)?;
     for case in ELEMENTS.split('\n') {
         let (place, elements) = case.split_once(" > ").ok_or("no elements")?;
-        assert!(rt;
-            has(rt.alloc(), &forest.trees, place, elements)?,
-            "of {place}"
-        );
+        assert!(rt; has(rt.alloc(), &forest, place, elements)?, "of {place}");
     }
     Ok(())
 }
