@@ -3,6 +3,7 @@
 
 #[cfg(test)]
 mod derivation;
+#[cfg(test)]
 mod fields;
 #[cfg(test)]
 mod own;
