@@ -1,8 +1,12 @@
 pub mod Again
+pub mod Along
 pub mod Before
+pub mod CleanedFronts
 pub mod Counting
+pub mod Cut
 pub mod Entries
 pub mod Even
+pub mod Feeding
 pub mod Fronts
 pub mod Going
 pub mod HeaderLaws
@@ -11,8 +15,12 @@ pub mod Loops
 pub mod Looser
 pub mod Parts
 pub mod Places
+pub mod Scanned
 pub mod Seen
+pub mod Shorter
+pub mod ReadingOn
 pub mod Sound
 pub mod Steps
+pub mod StreamEnds
 pub mod Taken
 pub mod Unkept

@@ -1,16 +1,14 @@
 -- Reading elements and items one after the other, as a loop does.
-use Rattle.std.proofs.Common.{◌≡◌, ℕ, zero, suc, ◌+◌, ◌-◌, ◌%◌, ◌<◌, ◌≤◌, Bool, true, false, eqb, List, [], ◌∷◌, ◌++◌, Option, Some, None, Result, Ok, Err, refl, sym, ap, subst, ◌∙◌, arith, map}
+use Rattle.std.proofs.Common.{◌≡◌, ℕ, zero, suc, ◌+◌, ◌-◌, ◌<◌, false, eqb, List, [], ◌∷◌, ◌++◌, Some, None, Result, Ok, Err, refl, sym, ap, ◌∙◌, arith}
 use Rattle.std.proofs.lemmas.Bool.{false_from_ne_true, eqb-true}
 use Rattle.dd_elem.specs.Tag.{number_of}
 use Rattle.dd_set.specs.declared.fault.SetFault.{SetFault}
 use Rattle.dd_set.specs.declared.fault.SetFault.TheVariants.{Truncated, Order, BadVr, Reserved, OddLength, UndefinedLength, UnexpectedTag, BadDelimiter, Overrun, TooDeep, Memory}
 use Rattle.dd_set.specs.declared.syntax.Length.{Length}
-use Rattle.dd_set.specs.declared.syntax.Length.TheVariants.{Defined}
 use Rattle.dd_set.specs.declared.syntax.Syntax.{Syntax}
 use Rattle.dd_set.specs.Elements.{Elements, no_elements, element, Items, no_items, item, Entry, Part, elements_of, items_of}
 use Rattle.dd_set.specs.Gives.{Fails}
-use Rattle.dd_set.specs.Reading.{At, Reads, ◌>>=◌, SequenceReader, ItemReader, element_at, next_elements, elements_at, item_at, next_items, items_at, less, leaves_fewer, set_with, item_reader, part_at}
-use Rattle.dd_set.specs.Spelling.{undefined_length}
+use Rattle.dd_set.specs.Reading.{At, Reads, ◌>>=◌, SequenceReader, ItemReader, element_at, elements_at, item_at, items_at}
 
 -- these in front
 abbrev pub items_before : List Part → Items → Items
@@ -123,15 +121,3 @@ module _ (sequence : SequenceReader) (syntax : Syntax) (form : Length) where
 -- numbers that differ fail their test
 pub differ : (a b : ℕ) → (a ≡ b → ⊥) → eqb a b ≡ false
 differ a b h = false_from_ne_true (eqb a b) (λ e. h (eqb-true a b e))
-
--- the set of an item of defined length, one level further in
-pub part_is : (levels inner n : ℕ) (syntax : Syntax) (at end : At) (set : Elements) → levels ≡ suc inner → eqb n undefined_length ≡ false → eqb (n % 2) 1 ≡ false → leaves_fewer at.left n ≡ false
-    → set_with (item_reader inner) syntax Defined (record { left = Some n; bytes = at.bytes }) ≡ Ok (set, end)
-    → item_reader levels syntax n at ≡ Ok (record { length = Defined; set = set }, record { left = less at.left n; bytes = end.bytes })
-unfolding part_at
-part_is levels inner n syntax at end set e a b d h = rw (e, a, b, d, h) refl
-
-pub part_fails : (levels inner n : ℕ) (syntax : Syntax) (at : At) (e : SetFault) → levels ≡ suc inner → eqb n undefined_length ≡ false → eqb (n % 2) 1 ≡ false → leaves_fewer at.left n ≡ false
-    → Fails e (set_with (item_reader inner) syntax Defined (record { left = Some n; bytes = at.bytes })) → Fails e (item_reader levels syntax n at)
-unfolding part_at
-part_fails levels inner n syntax at e is a b d h = fails_along e (set_with (item_reader inner) syntax Defined (record { left = Some n; bytes = at.bytes })) _ h (λ f k. rw (is, a, b, d, k) refl)

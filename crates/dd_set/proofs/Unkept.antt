@@ -5,12 +5,12 @@ use Rattle.std.proofs.Common.{refl, sym, ap, subst, ◌∙◌}
 use Rattle.std.proofs.lemmas.Bool.{cases_lt, lt-ltb}
 use Rattle.dd_elem.specs.Tag.{number_of}
 use Rattle.dd_set.specs.declared.fault.SetFault.{SetFault}
-use Rattle.dd_set.specs.declared.fault.SetFault.TheVariants.{Truncated, Order, OddLength, UnexpectedTag, BadDelimiter}
-use Rattle.dd_set.specs.declared.fault.SetFault.TheVariants.{Overrun, Memory}
+use Rattle.dd_set.specs.declared.fault.SetFault.TheVariants.{Truncated}
+use Rattle.dd_set.specs.declared.fault.SetFault.TheVariants.{Memory}
 use Rattle.dd_set.specs.declared.syntax.Length.{Length}
 use Rattle.dd_set.specs.declared.syntax.Length.TheVariants.{Defined, Undefined}
 use Rattle.dd_set.specs.declared.syntax.Syntax.{Syntax}
-use Rattle.dd_set.specs.Elements.{Elements, no_elements, Items, items, Content, Entry, Part}
+use Rattle.dd_set.specs.Elements.{Elements, Items, items, Entry, Part}
 use Rattle.dd_set.specs.Memory.{keeps_no_item, unkept_sequence, keeps_no_element, unkept_set, unkept_item, WantsMemory}
 use Rattle.dd_set.specs.Reading.{At, Reads, Shape, ◌>>=◌, SequenceReader, SetReader, ItemReader, take_at, less}
 use Rattle.dd_set.specs.Reading.{leaves_fewer, within, undefined_at, defined_at, content_at, tag_of, long_of}
@@ -248,10 +248,7 @@ set_wants levels syntax form low start at end e (inl same) is =
     ∙ element_wants levels syntax form at end e first
 set_wants levels syntax form low start at end e (inr wants) is = wants
 
--- the set of an item of defined length wants memory, one level further in
-pub part_wants : (levels inner n : ℕ) (syntax : Syntax) (at : At) → levels ≡ suc inner
-    → (n == undefined_length) ≡ false → (n % 2 == 1) ≡ false → leaves_fewer at.left n ≡ false
-    → unkept_set (unkept_item inner) syntax Defined (record { left = Some n; bytes = at.bytes }) ≡ Err Memory
-    → unkept_item levels syntax n at ≡ Err Memory
-unfolding part_at
-part_wants levels inner n syntax at is a b d h = rw (is, a, b, d, h) refl
+-- an item is one level further in
+pub deeper_unkept : (levels inner n : ℕ) (syntax : Syntax) (at : At) → levels ≡ suc inner
+    → unkept_item levels syntax n at ≡ part_at (unkept_set (unkept_item inner)) syntax n at
+deeper_unkept levels inner n syntax at e = rw e refl

@@ -1,7 +1,6 @@
 -- Where reading wants memory: the same reading where nothing has a place, in which the first item or element that was
 -- read whole finds none. All else about the bytes is checked as by `Reading`.
-use Rattle.std.specs.Prelude.{◌≡◌, ℕ, zero, suc, List, Option, Some, None, Result, Ok, Err}
-use Rattle.dd_set.specs.declared.fault.SetFault.{SetFault}
+use Rattle.std.specs.Prelude.{◌≡◌, ℕ, zero, suc, List, Option, Some, None, Ok, Err}
 use Rattle.dd_set.specs.declared.fault.SetFault.TheVariants.{TooDeep, Memory}
 use Rattle.dd_set.specs.declared.syntax.Length.TheVariants.{Defined}
 use Rattle.dd_set.specs.declared.syntax.Syntax.{Syntax}

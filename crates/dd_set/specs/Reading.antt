@@ -1,6 +1,6 @@
 -- Reading a data set from left to right, check by check: the set, or the first check that fails (PS3.5 sections 7.1 and
 -- 7.5). Each step takes bytes from where the one before it left off.
-use Rattle.std.specs.Prelude.{◌≡◌, ℕ, zero, suc, ◌+◌, ◌-◌, ◌%◌, List, [], ◌∷◌, length, take, drop, Bool, true, false, ◌&&◌, Option, Some, None, Result, Ok, Err, nat_lt, ◌==◌, if◌then◌else◌}
+use Rattle.std.specs.Prelude.{ℕ, zero, suc, ◌+◌, ◌-◌, ◌%◌, List, length, take, drop, Bool, false, ◌&&◌, Option, Some, None, Result, Ok, Err, nat_lt, ◌==◌, if◌then◌else◌}
 use Rattle.std.specs.Int.{w16, w32, from_le_bytes}
 use Rattle.dd_elem.specs.declared.tag.Tag.{Tag}
 use Rattle.dd_elem.specs.declared.vr.Vr.{Vr}

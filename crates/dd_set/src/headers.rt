@@ -1,7 +1,8 @@
 //! What stands before a value, and which values may stand there.
 
-ghost use Rattle.std.specs.Prelude.{◌≡◌, ◌≤◌, ◌<◌, ◌^◌, ◌↔◌, ℕ, length, IsTrue, IsSome, Some, None, true, false};
+ghost use Rattle.std.specs.Prelude.{◌≡◌, ◌≤◌, ◌↔◌, ℕ, length, take, drop, IsTrue, Some, None, true, false};
 ghost use Rattle.dd_elem.specs.Vr.{is_long_of};
+ghost use Rattle.dd_set.specs.Reading.{tag_of, long_of, short_of, ends_set, ends_sequence, is_item};
 ghost use Rattle.dd_set.specs.Spelling.{item_syntax, length_limit, HoldsBytes, shape_text, header_text};
 
 use crate::syntax::{Length, Syntax};
@@ -19,15 +20,21 @@ pub const MAX_LEVELS: u32 = 32;
 
 /// The tag that an item begins with (PS3.5 section 7.5).
 pub const ITEM: Tag = Tag {
-    group: 0xfffe,
+    group: DELIMITER_GROUP,
     element: 0xe000,
 };
 
-/// The end of an item whose length is undefined: a tag and the length 0.
-pub const ITEM_END: [u8; 8] = [0xfe, 0xff, 0x0d, 0xe0, 0, 0, 0, 0];
+/// The tag that ends an item whose length is undefined.
+pub const ITEM_END: Tag = Tag {
+    group: DELIMITER_GROUP,
+    element: 0xe00d,
+};
 
-/// The end of a sequence whose length is undefined.
-pub const SEQUENCE_END: [u8; 8] = [0xfe, 0xff, 0xdd, 0xe0, 0, 0, 0, 0];
+/// The tag that ends a sequence whose length is undefined.
+pub const SEQUENCE_END: Tag = Tag {
+    group: DELIMITER_GROUP,
+    element: 0xe0dd,
+};
 
 /// The syntax of the items that a sequence of this form has under this value representation, where
 /// it may stand there (PS3.5 sections 6.2.2 and 7.5.1).
@@ -110,4 +117,69 @@ pub fn long_header(tag: Tag, vr: Vr, value_length: u32) -> [u8; 12]
     header[4..6].copy_from_slice(&vr.letters());
     LittleEndian::write_u32(&mut header[8..], value_length);
     header
+}
+
+/// The tag that a header begins with.
+pub fn tag_in(head: &[u8]) -> Tag
+    requires { length head.now ≡ 8 }
+    ensures { result ≡ tag_of head.now }
+{
+    Tag {
+        group: u16::from_le_bytes([head[0], head[1]]),
+        element: u16::from_le_bytes([head[2], head[3]]),
+    }
+}
+
+/// The number in the last four bytes.
+pub fn long_in(head: &[u8]) -> u32
+    requires { length head.now ≡ 8 }
+    ensures { result ≡ long_of head.now }
+{
+    u32::from_le_bytes([head[4], head[5], head[6], head[7]])
+}
+
+/// The number in the last two bytes.
+pub fn short_in(head: &[u8]) -> u16
+    requires { length head.now ≡ 8 }
+    ensures { result ≡ short_of head.now }
+{
+    u16::from_le_bytes([head[6], head[7]])
+}
+
+/// The two letters in the middle.
+pub fn letters_in(head: &[u8]) -> [u8; 2]
+    requires { length head.now ≡ 8 }
+    ensures { result ≡ take 2 (drop 4 head.now) }
+{
+    [head[4], head[5]]
+}
+
+/// Whether the header ends a set of this form.
+pub fn ends_set(form: Length, head: &[u8]) -> bool
+    requires { length head.now ≡ 8 }
+    ensures { result ≡ ends_set form head.now }
+{
+    match form {
+        Length::Defined => false,
+        Length::Undefined => tag_in(head) == ITEM_END,
+    }
+}
+
+/// Whether the header ends a sequence of this form.
+pub fn ends_sequence(form: Length, head: &[u8]) -> bool
+    requires { length head.now ≡ 8 }
+    ensures { result ≡ ends_sequence form head.now }
+{
+    match form {
+        Length::Defined => false,
+        Length::Undefined => tag_in(head) == SEQUENCE_END,
+    }
+}
+
+/// Whether the header begins an item.
+pub fn is_item(head: &[u8]) -> bool
+    requires { length head.now ≡ 8 }
+    ensures { result ≡ is_item head.now }
+{
+    tag_in(head) == ITEM
 }

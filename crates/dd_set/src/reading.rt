@@ -6,22 +6,20 @@ ghost use Rattle.dd_set.specs.Elements.{Elements};
 ghost use Rattle.dd_set.specs.Gives.{Gives};
 ghost use Rattle.dd_set.specs.Memory.{unkept_sequence, unkept_set, unkept_item, WantsMemory};
 ghost use Rattle.dd_set.specs.Places.{at_view, shape_view};
-ghost use Rattle.dd_set.specs.Reading.{item_reader, sequence_with, set_with, content_at, body_at, element_at, item_at, part_at, read_all};
+ghost use Rattle.dd_set.specs.Reading.{item_reader, sequence_with, set_with, content_at, element_at, item_at, read_all};
 ghost use Rattle.dd_set.specs.Spelling.{Spells};
 ghost use Rattle.dd_set.specs.Views.{set_view, element_view, value_view, item_view, items_view};
 
-use crate::cursor::{
-    Cursor, Shape, ends_sequence, ends_set, header_shape, is_item, long_in, tag_in,
-};
+use crate::checks::{Header, Reach, Shape, Sort, reach_of, sort_of};
+use crate::cursor::Cursor;
 use crate::fault::SetFault;
-use crate::headers::{DELIMITER_GROUP, MAX_LEVELS, UNDEFINED_LENGTH, item_syntax};
+use crate::headers::MAX_LEVELS;
 use crate::set::{DataSet, Element, Item, Value};
 use crate::syntax::{Length, Syntax};
 use std::alloc::Global;
 
 /// The value behind a header.
 #[cycle(parser)]
-#[tactic(auto, unfolding(crate::specs::Reading::content_at))]
 fn content<'a>(
     alloc: Global,
     levels: u32,
@@ -35,64 +33,26 @@ fn content<'a>(
     ensures memory { result ≡ Err Memory
         → content_at (unkept_sequence (unkept_item levels)) syntax (shape_view shape) (at_view at.entry) ≡ Err Memory }
 {
-    let n = u64::from(shape.length);
-    if shape.length == UNDEFINED_LENGTH {
-        let Some(inner) = item_syntax(syntax, shape.vr, Length::Undefined) else {
-            return Err(SetFault::UndefinedLength);
-        };
-        let (items, end) = sequence(alloc, levels, inner, Length::Undefined, at)?;
-        let length = Length::Undefined;
-        return Ok((Value::Items { length, items }, end));
+    match sort_of(syntax, shape, at.left)? {
+        Sort::Bytes(n) => {
+            let (bytes, end) = at.take(u64::from(n))?;
+            Ok((Value::Bytes(bytes), end))
+        }
+        Sort::Open(inner) => {
+            let length = Length::Undefined;
+            let (items, end) = sequence(alloc, levels, inner, length, at)?;
+            Ok((Value::Items { length, items }, end))
+        }
+        Sort::Closed(inner, n) => {
+            let (length, n) = (Length::Defined, u64::from(n));
+            let (items, end) = sequence(alloc, levels, inner, length, at.within(n))?;
+            Ok((Value::Items { length, items }, at.behind(n, end)))
+        }
     }
-    if shape.length % 2 == 1 {
-        return Err(SetFault::OddLength);
-    }
-    if at.leaves_fewer(n) {
-        return Err(SetFault::Overrun);
-    }
-    let Some(inner) = item_syntax(syntax, shape.vr, Length::Defined) else {
-        let (bytes, end) = at.take(n)?;
-        return Ok((Value::Bytes(bytes), end));
-    };
-    let (items, end) = sequence(alloc, levels, inner, Length::Defined, at.within(n))?;
-    let length = Length::Defined;
-    Ok((Value::Items { length, items }, at.behind(n, end)))
-}
-
-/// An element whose header begins with `head`, with a tag not below the number `low`.
-#[cycle(parser)]
-#[tactic(auto, unfolding(crate::specs::Reading::body_at))]
-fn body<'a>(
-    alloc: Global,
-    levels: u32,
-    syntax: Syntax,
-    low: u64,
-    head: &[u8],
-    at: Cursor<'a>,
-) -> Result<(Element<'a>, Cursor<'a>), SetFault>
-    requires { length head.now ≡ 8 }
-    ensures exact { Gives (λ x. (element_view x.0, at_view x.1)) result
-        (body_at (sequence_with (item_reader levels)) syntax low head.now (at_view at.entry)) }
-    ensures shorter { IfOk result (λ x. length x.1.rest.now ≤ length at.entry.rest.now) }
-    ensures memory { result ≡ Err Memory
-        → body_at (unkept_sequence (unkept_item levels)) syntax low head.now (at_view at.entry) ≡ Err Memory }
-{
-    let tag = tag_in(head);
-    if tag.group == DELIMITER_GROUP {
-        return Err(SetFault::UnexpectedTag);
-    }
-    if u64::from(tag.number()) < low {
-        return Err(SetFault::Order);
-    }
-    let (shape, at) = header_shape(syntax, head, at)?;
-    let vr = shape.vr;
-    let (value, at) = content(alloc, levels, syntax, shape, at)?;
-    Ok((Element { tag, vr, value }, at))
 }
 
 /// The next element of a set, or None at its end.
 #[cycle(parser)]
-#[tactic(auto, unfolding(crate::specs::Reading::element_at))]
 fn element<'a>(
     alloc: Global,
     levels: u32,
@@ -108,18 +68,13 @@ fn element<'a>(
     ensures memory { result ≡ Err Memory
         → element_at (unkept_sequence (unkept_item levels)) syntax form low (at_view at.entry) ≡ Err Memory }
 {
-    if at.is_over(form) {
+    let (header, at) = at.front(syntax, form, low)?;
+    let Some(Header { tag, shape }) = header else {
         return Ok((None, at));
-    }
-    let (head, at) = at.take(8)?;
-    if ends_set(form, head) {
-        if long_in(head) != 0 {
-            return Err(SetFault::BadDelimiter);
-        }
-        return Ok((None, at));
-    }
-    let (element, at) = body(alloc, levels, syntax, low, head, at)?;
-    Ok((Some(element), at))
+    };
+    let vr = shape.vr;
+    let (value, at) = content(alloc, levels, syntax, shape, at)?;
+    Ok((Some(Element { tag, vr, value }), at))
 }
 
 /// The elements of a set, to its end.
@@ -154,7 +109,6 @@ fn set<'a>(
 
 /// The next item of a sequence, or None at its end.
 #[cycle(parser)]
-#[tactic(auto, unfolding(crate::specs::Reading::item_at))]
 fn item<'a>(
     alloc: Global,
     levels: u32,
@@ -168,20 +122,11 @@ fn item<'a>(
     ensures not_longer { IfOk result (λ x. length x.1.rest.now ≤ length at.entry.rest.now) }
     ensures memory { result ≡ Err Memory → item_at (unkept_item levels) syntax form (at_view at.entry) ≡ Err Memory }
 {
-    if at.is_over(form) {
+    let (length, at) = at.item_front(form)?;
+    let Some(n) = length else {
         return Ok((None, at));
-    }
-    let (head, at) = at.take(8)?;
-    if ends_sequence(form, head) {
-        if long_in(head) != 0 {
-            return Err(SetFault::BadDelimiter);
-        }
-        return Ok((None, at));
-    }
-    if !is_item(head) {
-        return Err(SetFault::UnexpectedTag);
-    }
-    let (item, at) = part(alloc, levels, syntax, long_in(head), at)?;
+    };
+    let (item, at) = part(alloc, levels, syntax, n, at)?;
     Ok((Some(item), at))
 }
 
@@ -215,7 +160,6 @@ fn sequence<'a>(
 /// An item behind its tag, with the length that its header gives, where so many levels may still
 /// nest.
 #[cycle(parser)]
-#[tactic(auto, unfolding(crate::specs::Reading::part_at))]
 fn part<'a>(
     alloc: Global,
     levels: u32,
@@ -231,21 +175,18 @@ fn part<'a>(
         return Err(SetFault::TooDeep);
     }
     let inner = levels - 1;
-    if n == UNDEFINED_LENGTH {
-        let length = Length::Undefined;
-        let (set, end) = set(alloc, inner, syntax, length, at)?;
-        return Ok((Item { length, set }, end));
+    match reach_of(n, at.left)? {
+        Reach::Open => {
+            let length = Length::Undefined;
+            let (set, end) = set(alloc, inner, syntax, length, at)?;
+            Ok((Item { length, set }, end))
+        }
+        Reach::Closed(n) => {
+            let (length, n) = (Length::Defined, u64::from(n));
+            let (set, end) = set(alloc, inner, syntax, length, at.within(n))?;
+            Ok((Item { length, set }, at.behind(n, end)))
+        }
     }
-    if n % 2 == 1 {
-        return Err(SetFault::OddLength);
-    }
-    let n = u64::from(n);
-    if at.leaves_fewer(n) {
-        return Err(SetFault::Overrun);
-    }
-    let length = Length::Defined;
-    let (set, end) = set(alloc, inner, syntax, length, at.within(n))?;
-    Ok((Item { length, set }, at.behind(n, end)))
 }
 
 /// The whole of the bytes as one set.

@@ -80,7 +80,7 @@ fn send_element<W: Write>(
             let count = items_length(items, *length, inner, levels);
             let sent = send_front(element.tag, element.vr, count, writer, sent)?;
             let sent = send_items(items, inner, levels, writer, sent)?;
-            send_end(*length, &SEQUENCE_END, writer, sent)
+            send_end(*length, SEQUENCE_END, writer, sent)
         }
     }
 }
@@ -170,22 +170,17 @@ fn send_item<W: Write>(
     let count = set_length(&item.set, item.length, syntax, below);
     let sent = send(&plain_header(ITEM, count), writer, sent)?;
     let sent = send_set(&item.set, syntax, below, writer, sent)?;
-    send_end(item.length, &ITEM_END, writer, sent)
+    send_end(item.length, ITEM_END, writer, sent)
 }
 
 /// Sends the mark of an end where the form wants one.
-fn send_end<W: Write>(
-    form: Length,
-    mark: &[u8],
-    writer: &mut W,
-    sent: u64,
-) -> Result<u64, WriteFault>
-    requires { sent + length (mark_text form mark.now) < 2 ^ 64 }
-    ensures { let text = mark_text form mark.now
+fn send_end<W: Write>(form: Length, mark: Tag, writer: &mut W, sent: u64) -> Result<u64, WriteFault>
+    requires { sent + length (mark_text form (header_text mark None 0)) < 2 ^ 64 }
+    ensures { let text = mark_text form (header_text mark None 0)
         in SendsTo W.contents W.rest W.failures text sent result writer.old writer.new }
 {
     match form {
         Length::Defined => Ok(sent),
-        Length::Undefined => send(mark, writer, sent),
+        Length::Undefined => send(&plain_header(mark, 0), writer, sent),
     }
 }

@@ -1,5 +1,5 @@
-//! Tests of data sets: read from bytes, their elements found, and sent to a writer. The bytes are spelled
-//! by PS3.5 sections 6 and 7.
+//! Tests of data sets: read from bytes, their elements found, scanned from a reader, and sent to a
+//! writer. The bytes are spelled by PS3.5 sections 6 and 7.
 #![tactic(auto)]
 
 #[cfg(test)]
@@ -8,6 +8,8 @@ mod outlines;
 mod reading;
 #[cfg(test)]
 mod refusals;
+#[cfg(test)]
+mod scanning;
 #[cfg(test)]
 mod sending;
 #[cfg(test)]

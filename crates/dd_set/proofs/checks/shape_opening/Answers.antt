@@ -1,0 +1,47 @@
+-- A long header, whose length stands behind its first eight bytes.
+use Rattle.std.proofs.Common.{◌≡◌, ◌∙◌, ℕ, true, false, eqb, ap, sym, List, take, drop, Option, Some, Ok, Err, refl}
+use Rattle.std.specs.Int.{w32, from_le_bytes}
+use Rattle.dd_elem.specs.declared.tag.Tag.{Tag}
+use Rattle.dd_elem.specs.declared.vr.Vr.{Vr}
+use Rattle.dd_elem.specs.Vr.{is_long_of, vr_of}
+use Rattle.dd_set.specs.declared.fault.SetFault.TheVariants.{Reserved}
+use Rattle.dd_set.specs.declared.syntax.Syntax.TheVariants.{Explicit}
+use Rattle.dd_set.specs.Checks.{long_header_at}
+use Rattle.dd_set.specs.Headers.{Header, tagged_at, header_with, there, long_length_at}
+use Rattle.dd_set.specs.Reading.{At, Reads, ◌>>=◌, Shape, take_at, short_of, shape_at, long_at}
+use Rattle.dd_set.proofs.Loops.{differ}
+use Rattle.dd_set.proofs.checks.shape_opening.Goals as goal
+
+abbrev shape_with : Vr → List ℕ × At → Reads Shape
+shape_with vr n = Ok (record { vr = Some vr; length = from_le_bytes w32 n.0 }, n.1)
+
+abbrev length_with : List ℕ × At → Reads ℕ
+length_with n = Ok (from_le_bytes w32 n.0, n.1)
+
+abbrev whole_with : Tag → Vr → ℕ × At → Reads (Option Header)
+whole_with tag vr n = Ok (Some (record { tag = tag; shape = record { vr = Some vr; length = n.0 } }), n.1)
+
+behind_length : (tag : Tag) (vr : Vr) (r : Reads (List ℕ)) → (r >>= shape_with vr >>= header_with tag >>= there) ≡ (r >>= length_with >>= whole_with tag vr)
+behind_length tag vr (Ok n) = refl
+behind_length tag vr (Err e) = refl
+
+long_header : (tag : Tag) (vr : Vr) (head : List ℕ) (at : At) → vr_of (take 2 (drop 4 head)) ≡ Some vr → is_long_of vr ≡ true → eqb (short_of head) 0 ≡ true
+    → tagged_at Explicit tag head at ≡ long_header_at tag vr at
+unfolding shape_at long_at long_length_at
+long_header tag vr head at named long zero = rw (named, long, zero) (behind_length tag vr (take_at 4 at))
+
+reserved_header : (tag : Tag) (vr : Vr) (head : List ℕ) (at : At) → vr_of (take 2 (drop 4 head)) ≡ Some vr → is_long_of vr ≡ true → eqb (short_of head) 0 ≡ false
+    → tagged_at Explicit tag head at ≡ Err Reserved
+unfolding shape_at long_at
+reserved_header tag vr head at named long other = rw (named, long, other) refl
+
+pub returns-then-short_in-ne0 : goal.returns-then-short_in-ne0
+returns-then-short_in-ne0 c = λ at.
+    let named = ap vr_of (sym c.letters_in.ensures) ∙ sym c.in-Some.ensures.exact in
+    rw c.in-Explicit.is (reserved_header c.args.tag c.in-Some.vr c.args.head.now at named (sym c.is_long.ensures ∙ c.if-is_long.true) (differ _ _ (λ zero. c.if-short_in-ne0.true (c.short_in.ensures ∙ zero))))
+
+pub returns-then-is_long : goal.returns-then-is_long
+returns-then-is_long c = λ at.
+    let named = ap vr_of (sym c.letters_in.ensures) ∙ sym c.in-Some.ensures.exact in
+    let zero : short_of c.args.head.now ≡ 0 = sym c.short_in.ensures ∙ c.if-short_in-ne0.false in
+    rw c.in-Explicit.is (long_header c.args.tag c.in-Some.vr c.args.head.now at named (sym c.is_long.ensures ∙ c.if-is_long.true) (ap (λ n. eqb n 0) zero))

@@ -1,0 +1,25 @@
+use Rattle.std.proofs.Common.{◌∙◌, sym}
+use Rattle.std.proofs.lemmas.Result.{err_from_is_err_and}
+use Rattle.dd_set.specs.Reading.{At, item_reader, sequence_with}
+use Rattle.dd_set.proofs.Along.{scans_same}
+use Rattle.dd_set.proofs.Scanned.{tells_bytes, items_told}
+use Rattle.dd_set.proofs.top_set.take_wanted.Goals as goal
+
+pub returns-in-Bytes-clause-found : goal.returns-in-Bytes-clause-found
+returns-in-Bytes-clause-found g c =
+    let reader = sequence_with (item_reader c.args.levels) in
+    scans_same _ _ _ _ _ _ c.take_cleaned.ensures.found (λ all rest t few h.
+    let is = rw c.in-Bytes.is at (c.in_ok-n.ensures reader all) in
+    rw is (tells_bytes _ _ rest h))
+
+pub returns-in_err-left-clause-found : goal.returns-in_err-left-clause-found
+returns-in_err-left-clause-found g c =
+    let p = err_from_is_err_and c.from_residual-in_err-left.result c.from_residual-in_err-left.ensures.1 in
+    rw (p.1, p.2) (scans_same _ _ _ _ _ _ c.in_err-left.ensures.found (λ all rest t few h. h))
+
+pub returns-clause-found : goal.returns-clause-found
+returns-clause-found g c =
+    let reader = sequence_with (item_reader c.args.levels) in
+    scans_same _ _ _ _ _ _ c.in_ok-left.ensures.found (λ all rest t few h.
+    let at : At = record { left = c.args.left; bytes = all } in
+    (h.0, items_told reader c.in_ok-n.field-0 at _ h.0 c.in_default.not-Bytes (sym (c.in_ok-n.ensures reader all) ∙ h.1), h.1))

@@ -1,0 +1,26 @@
+-- What a function that reads from a feed returned, against reading in memory. The feed holds no place to stand at: what
+-- the nearest enclosing length leaves is returned, and `rest` is still to come.
+use Rattle.std.specs.Prelude.{◌≡◌, ℕ, List, Option, Result, Ok, Err}
+use Rattle.dd_set.specs.declared.fault.SetFault.{SetFault}
+use Rattle.dd_set.specs.Gives.{Fails}
+use Rattle.dd_set.specs.Reading.{Reads}
+
+-- a value, seen by `view`, is the one that reading gives
+abbrev pub Finds : {X Y : Type 0} → (X → Y) → Result (X × Option ℕ) SetFault → Reads Y → List ℕ → Type 0
+Finds view (Ok x) read rest = read ≡ Ok (view x.0, record { left = x.1; bytes = rest })
+Finds view (Err e) read rest = Fails e read
+
+-- reading gives this value
+abbrev pub Takes : {Y : Type 0} → Y → Result (Option ℕ) SetFault → Reads Y → List ℕ → Type 0
+Takes y (Ok left) read rest = read ≡ Ok (y, record { left = left; bytes = rest })
+Takes y (Err e) read rest = Fails e read
+
+-- reading gives some value, which is let go
+abbrev pub Skips : {Y : Type 0} → Result (Option ℕ) SetFault → Reads Y → List ℕ → Type 0
+Skips {Y} (Ok left) read rest = (y : Y) × (read ≡ Ok (y, record { left = left; bytes = rest }))
+Skips (Err e) read rest = Fails e read
+
+-- reading gives some value, and what is returned tells it
+abbrev pub Tells : {X Y Z : Type 0} → (X → Z) → (Y → Z) → Result (X × Option ℕ) SetFault → Reads Y → List ℕ → Type 0
+Tells {X} {Y} view told (Ok x) read rest = (y : Y) × (view x.0 ≡ told y) × (read ≡ Ok (y, record { left = x.1; bytes = rest }))
+Tells view told (Err e) read rest = Fails e read

@@ -1,0 +1,207 @@
+//! The checks of the grammar, each over what a header says and over numbers alone.
+
+ghost use Rattle.std.specs.Prelude.{◌≡◌, ◌==◌, ℕ, List, length, unwrap_or, None};
+ghost use Rattle.dd_set.specs.Checks.{opened, sorted, reached};
+ghost use Rattle.dd_set.specs.Headers.{opening_at, tagged_at, item_opening};
+ghost use Rattle.dd_set.specs.Places.{shape_view};
+ghost use Rattle.dd_set.specs.Reading.{At, SequenceReader, SetReader, leaves_fewer, less, is_over, content_at, part_at};
+
+use crate::fault::SetFault;
+use crate::headers::{
+    DELIMITER_GROUP, UNDEFINED_LENGTH, ends_sequence, ends_set, is_item, item_syntax, letters_in,
+    long_in, short_in, tag_in,
+};
+use crate::syntax::{Length, Syntax};
+use dd_elem::{Tag, Vr};
+
+/// The value representation and the length of a header.
+#[derive(Clone, Copy)]
+pub struct Shape {
+    pub vr: Option<Vr>,
+    pub length: u32,
+}
+
+/// What the header of an element says.
+#[derive(Clone, Copy)]
+pub struct Header {
+    pub tag: Tag,
+    pub shape: Shape,
+}
+
+/// What the first eight bytes of a header say.
+#[derive(Clone, Copy)]
+pub enum Opening {
+    /// The set ends here.
+    End,
+    /// The whole header.
+    Whole(Header),
+    /// A header whose length stands in four bytes more.
+    Long(Tag, Vr),
+}
+
+/// What stands behind a header.
+#[derive(Clone, Copy)]
+pub enum Sort {
+    /// So many bytes.
+    Bytes(u32),
+    /// Items in this syntax, up to a delimiter.
+    Open(Syntax),
+    /// Items in this syntax, in so many bytes.
+    Closed(Syntax, u32),
+}
+
+/// How far the set of an item reaches.
+#[derive(Clone, Copy)]
+pub enum Reach {
+    /// Up to a delimiter.
+    Open,
+    /// So many bytes.
+    Closed(u32),
+}
+
+/// Whether the enclosing length leaves fewer than n bytes.
+pub fn leaves_fewer(left: Option<u64>, n: u64) -> bool
+    ensures { result ≡ leaves_fewer left n }
+{
+    match left {
+        None => false,
+        Some(left) => left < n,
+    }
+}
+
+/// What the enclosing length leaves behind n bytes.
+pub fn less(left: Option<u64>, n: u64) -> Option<u64>
+    ensures { result ≡ less left n }
+{
+    match left {
+        None => None,
+        Some(left) => Some(left.saturating_sub(n)),
+    }
+}
+
+/// Whether a set or a sequence of this form ends here by its length, where the enclosing length leaves
+/// so much. None where it ends with the bytes.
+pub fn ends_here(form: Length, left: Option<u64>) -> Option<bool>
+    ensures exact { (bytes : List ℕ) → is_over form (record { left = left; bytes = bytes })
+        ≡ unwrap_or result (length bytes == 0) }
+    ensures none { result ≡ None → (form ≡ Length.Defined) × (left ≡ None) }
+{
+    match (form, left) {
+        (Length::Undefined, _) => Some(false),
+        (Length::Defined, Some(left)) => Some(left == 0),
+        (Length::Defined, None) => None,
+    }
+}
+
+/// What the first eight bytes of a header say in a set of this form, where tags below the number
+/// `low` may not follow.
+#[tactic(auto, unfolding(crate::specs::Headers::opening_at, crate::specs::Headers::header_at))]
+pub fn element_opening(
+    syntax: Syntax,
+    form: Length,
+    low: u64,
+    head: &[u8],
+) -> Result<Opening, SetFault>
+    requires { length head.now ≡ 8 }
+    ensures { (at : At) → opening_at syntax form low head.now at ≡ opened result at }
+{
+    if ends_set(form, head) {
+        if long_in(head) != 0 {
+            return Err(SetFault::BadDelimiter);
+        }
+        return Ok(Opening::End);
+    }
+    let tag = tag_in(head);
+    if tag.group == DELIMITER_GROUP {
+        return Err(SetFault::UnexpectedTag);
+    }
+    if u64::from(tag.number()) < low {
+        return Err(SetFault::Order);
+    }
+    shape_opening(syntax, tag, head)
+}
+
+/// What the first eight bytes of a header with this tag say.
+#[tactic(auto, unfolding(crate::specs::Reading::shape_at))]
+fn shape_opening(syntax: Syntax, tag: Tag, head: &[u8]) -> Result<Opening, SetFault>
+    requires { length head.now ≡ 8 }
+    ensures { (at : At) → tagged_at syntax tag head.now at ≡ opened result at }
+{
+    let Syntax::Explicit = syntax else {
+        let (vr, length) = (None, long_in(head));
+        let shape = Shape { vr, length };
+        return Ok(Opening::Whole(Header { tag, shape }));
+    };
+    let Some(vr) = Vr::from_letters(letters_in(head)) else {
+        return Err(SetFault::BadVr);
+    };
+    if vr.is_long() {
+        if short_in(head) != 0 {
+            return Err(SetFault::Reserved);
+        }
+        return Ok(Opening::Long(tag, vr));
+    }
+    let (vr, length) = (Some(vr), u32::from(short_in(head)));
+    let shape = Shape { vr, length };
+    Ok(Opening::Whole(Header { tag, shape }))
+}
+
+/// The length of the item that the eight bytes begin, or None where they end the sequence.
+#[tactic(auto, unfolding(crate::specs::Headers::item_opening))]
+pub fn item_opening(form: Length, head: &[u8]) -> Result<Option<u32>, SetFault>
+    requires { length head.now ≡ 8 }
+    ensures { result ≡ item_opening form head.now }
+{
+    if ends_sequence(form, head) {
+        if long_in(head) != 0 {
+            return Err(SetFault::BadDelimiter);
+        }
+        return Ok(None);
+    }
+    if !is_item(head) {
+        return Err(SetFault::UnexpectedTag);
+    }
+    Ok(Some(long_in(head)))
+}
+
+/// What stands behind a header, where the enclosing length leaves so much.
+#[tactic(auto, unfolding(crate::specs::Reading::content_at))]
+pub fn sort_of(syntax: Syntax, shape: Shape, left: Option<u64>) -> Result<Sort, SetFault>
+    ensures { (sequence : SequenceReader) (bytes : List ℕ) → let at : At = record { left = left; bytes = bytes }
+        in content_at sequence syntax (shape_view shape) at ≡ sorted sequence result at }
+{
+    if shape.length == UNDEFINED_LENGTH {
+        return match item_syntax(syntax, shape.vr, Length::Undefined) {
+            Some(inner) => Ok(Sort::Open(inner)),
+            None => Err(SetFault::UndefinedLength),
+        };
+    }
+    if shape.length % 2 == 1 {
+        return Err(SetFault::OddLength);
+    }
+    if leaves_fewer(left, u64::from(shape.length)) {
+        return Err(SetFault::Overrun);
+    }
+    match item_syntax(syntax, shape.vr, Length::Defined) {
+        Some(inner) => Ok(Sort::Closed(inner, shape.length)),
+        None => Ok(Sort::Bytes(shape.length)),
+    }
+}
+
+/// How far the set of an item of this length reaches, where the enclosing length leaves so much.
+#[tactic(auto, unfolding(crate::specs::Reading::part_at))]
+pub fn reach_of(n: u32, left: Option<u64>) -> Result<Reach, SetFault>
+    ensures { (set : SetReader) (syntax : Syntax) (bytes : List ℕ) → let at : At = record { left = left; bytes = bytes }
+        in part_at set syntax n at ≡ reached set syntax result at }
+{
+    if n == UNDEFINED_LENGTH {
+        return Ok(Reach::Open);
+    }
+    if n % 2 == 1 {
+        return Err(SetFault::OddLength);
+    }
+    if leaves_fewer(left, u64::from(n)) {
+        return Err(SetFault::Overrun);
+    }
+    Ok(Reach::Closed(n))
+}

@@ -1,0 +1,35 @@
+//! What a scan finds.
+
+use dd_elem::Tag;
+
+/// What was found in a data set.
+#[derive(Debug, Drop, PartialEq)]
+pub struct Scan {
+    /// The tag of its first element, or None where the set is empty.
+    pub first: Option<Tag>,
+    /// The wanted elements that it has, in the order of their tags.
+    pub found: Vec<Found>,
+}
+
+/// A wanted element.
+#[derive(Debug, Drop, PartialEq)]
+pub struct Found {
+    /// Its tag.
+    pub tag: Tag,
+    /// What is known of its value.
+    pub value: FoundValue,
+}
+
+/// What is kept of the value of a wanted element.
+#[derive(Debug, Drop, PartialEq)]
+pub enum FoundValue {
+    /// The element is a sequence.
+    Items,
+    /// Of bytes without their padding (PS3.5 section 6.2) the front, and how many they are.
+    Bytes {
+        /// The first 1,024 of them.
+        front: Vec<u8>,
+        /// How many they are.
+        length: u64,
+    },
+}

@@ -1,0 +1,112 @@
+//! Values, items and sets of a feed let go, with all checks of the grammar. `left` is what the nearest
+//! enclosing length leaves.
+
+ghost use Rattle.std.specs.Prelude.{◌≤◌};
+ghost use Rattle.dd_set.specs.Feeds.{Scans};
+ghost use Rattle.dd_set.specs.Places.{shape_view};
+ghost use Rattle.dd_set.specs.Reading.{item_reader, sequence_with, set_with, content_at};
+ghost use Rattle.dd_set.specs.Skips.{Skips};
+
+use crate::checks::{Reach, Shape, Sort, less, reach_of, sort_of};
+use crate::fault::SetFault;
+use crate::feed::Feed;
+use crate::syntax::{Length, Syntax};
+use crate::taking::{front, item_front, pass};
+
+/// Lets the value behind a header go.
+#[cycle(skipping)]
+pub fn skip_content<F: Feed>(
+    feed: &mut F,
+    levels: u32,
+    syntax: Syntax,
+    shape: Shape,
+    left: Option<u64>,
+) -> Result<Option<u64>, SetFault>
+    ensures found { Scans F.moves F.tells feed.old feed.new (λ bytes rest. Skips result
+        (content_at (sequence_with (item_reader levels)) syntax (shape_view shape)
+        (record { left = left; bytes = bytes })) rest) }
+    ensures fewer { F.most feed.new ≤ F.most feed.old }
+{
+    match sort_of(syntax, shape, left)? {
+        Sort::Bytes(n) => pass(feed, n, left),
+        Sort::Open(inner) => skip_items(feed, levels, inner, Length::Undefined, left),
+        Sort::Closed(inner, n) => {
+            let n = u64::from(n);
+            skip_items(feed, levels, inner, Length::Defined, Some(n))?;
+            Ok(less(left, n))
+        }
+    }
+}
+
+/// Lets the elements of a set go, to its end.
+#[cycle(skipping)]
+fn skip_set<F: Feed>(
+    feed: &mut F,
+    levels: u32,
+    syntax: Syntax,
+    form: Length,
+    mut left: Option<u64>,
+) -> Result<Option<u64>, SetFault>
+    ensures found { Scans F.moves F.tells feed.old feed.new (λ bytes rest. Skips result
+        (set_with (item_reader levels) syntax form (record { left = left; bytes = bytes })) rest) }
+    ensures fewer { F.most feed.new ≤ F.most feed.old }
+{
+    let mut low = 0;
+    'elements: loop {
+        let (header, behind) = front(feed, syntax, form, low, left)?;
+        let Some(header) = header else {
+            return Ok(behind);
+        };
+        low = u64::from(header.tag.number()) + 1;
+        left = skip_content(feed, levels, syntax, header.shape, behind)?;
+    }
+}
+
+/// Lets the items of a sequence go, to its end.
+#[cycle(skipping)]
+fn skip_items<F: Feed>(
+    feed: &mut F,
+    levels: u32,
+    syntax: Syntax,
+    form: Length,
+    mut left: Option<u64>,
+) -> Result<Option<u64>, SetFault>
+    ensures found { Scans F.moves F.tells feed.old feed.new (λ bytes rest. Skips result
+        (sequence_with (item_reader levels) syntax form (record { left = left; bytes = bytes })) rest) }
+    ensures fewer { F.most feed.new ≤ F.most feed.old }
+{
+    'items: loop {
+        let (length, behind) = item_front(feed, form, left)?;
+        let Some(n) = length else {
+            return Ok(behind);
+        };
+        left = skip_part(feed, levels, syntax, n, behind)?;
+    }
+}
+
+/// Lets an item go behind its header, where so many levels may still nest.
+#[cycle(skipping)]
+fn skip_part<F: Feed>(
+    feed: &mut F,
+    levels: u32,
+    syntax: Syntax,
+    n: u32,
+    left: Option<u64>,
+) -> Result<Option<u64>, SetFault>
+    ensures found { Scans F.moves F.tells feed.old feed.new (λ bytes rest. Skips result
+        (item_reader levels syntax n (record { left = left; bytes = bytes })) rest) }
+    ensures fewer { F.most feed.new ≤ F.most feed.old }
+{
+    if levels == 0 {
+        return Err(SetFault::TooDeep);
+    }
+    let inner = levels - 1;
+    match reach_of(n, left)? {
+        Reach::Open => skip_set(feed, inner, syntax, Length::Undefined, left),
+        Reach::Closed(n) => {
+            let n = u64::from(n);
+            skip_set(feed, inner, syntax, Length::Defined, Some(n))?;
+            Ok(less(left, n))
+        }
+    }
+}

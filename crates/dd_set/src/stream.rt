@@ -1,0 +1,94 @@
+//! The bytes of a reader as a feed.
+
+ghost use Rattle.std.specs.Prelude.{◌≡◌, ◌≤◌, [], IsSome, None};
+ghost use Rattle.std.proofs.Common.{refl, ◌∙◌};
+ghost use Rattle.dd_set.specs.Streams.{Moves, Tells, most_of};
+ghost use Rattle.dd_set.specs.StreamLaws.{moves_none, moves_then, tells_then};
+
+use crate::end::End;
+use crate::feed::Feed;
+use crate::kept::{Kept, PIECE};
+use dd_elem::Read;
+
+/// The bytes of a reader as a feed: it reads them in pieces of 64 KiB, and at most so many and one
+/// more. It is at its end where the reader is, where the reader fails, and behind the one byte more;
+/// `end` says which.
+#[derive(Drop)]
+pub struct Stream<'r, R: Read> {
+    /// The reader.
+    pub reader: &'r mut R,
+    /// The bytes that it gave and that were not taken yet.
+    pub kept: Kept,
+    /// How many bytes it may still give.
+    pub left: u64,
+    /// How it came to its end, where it has.
+    pub end: Option<End>,
+}
+
+impl<R: Read> Stream<'_, R> {
+    /// Has some bytes to give, unless the stream is at its end.
+    fn refill(&mut self)
+        ensures same { self.new.reader.ghost_name ≡ self.old.reader.ghost_name }
+        ensures moved { Moves R.remaining R.failures R.calls R.has_given self.old.reader.now self.new.reader.now
+            (record { held = self.old.kept; left = self.old.left; end = self.old.end })
+            (record { held = self.new.kept; left = self.new.left; end = self.new.end }) [] }
+        ensures ready { self.new.kept ≡ [] → IsSome self.new.end }
+        ensures fewer { most_of (record { held = self.new.kept; left = self.new.left; end = self.new.end })
+            ≤ most_of (record { held = self.old.kept; left = self.old.left; end = self.old.end }) }
+    {
+        if self.kept.len() > 0 || self.end.is_some() {
+            return;
+        }
+        let most = self.left.min(PIECE as u64 - 1) as usize + 1;
+        match self.kept.refill(self.reader, most) {
+            None => self.end = Some(End::Failed),
+            Some(0) => self.end = Some(End::Ended),
+            Some(n) => {
+                if n as u64 > self.left {
+                    self.end = Some(End::TooLong);
+                } else {
+                    self.left -= n as u64;
+                }
+            }
+        }
+    }
+}
+
+impl<R: Read> Feed for Stream<'_, R> {
+    ghost moves = { λ old new taken. (new.reader.ghost_name ≡ old.reader.ghost_name)
+        × Moves R.remaining R.failures R.calls R.has_given old.reader.now new.reader.now
+        (record { held = old.kept; left = old.left; end = old.end })
+        (record { held = new.kept; left = new.left; end = new.end }) taken };
+
+    ghost tells = { λ stream rest. Tells (record { held = stream.kept; left = stream.left; end = stream.end }) rest };
+
+    ghost most = { λ stream. most_of (record { held = stream.kept; left = stream.left; end = stream.end }) };
+
+    fn give(&mut self, room: &mut [u8]) -> usize {
+        self.refill();
+        self.kept.give(room)
+    }
+
+    fn pass(&mut self, n: u64) -> u64 {
+        self.refill();
+        self.kept.pass(n)
+    }
+
+    ghost stays = { λ s. (
+      refl,
+      moves_none R.remaining R.failures R.calls R.has_given s.reader.now
+          (record { held = s.kept; left = s.left; end = s.end }),
+    ) };
+
+    ghost goes = { λ a b c xs ys m n. (
+      n.0 ∙ m.0,
+      moves_then R.remaining R.failures R.calls R.has_given
+          a.reader.now b.reader.now c.reader.now (record { held = a.kept; left = a.left; end = a.end })
+          (record { held = b.kept; left = b.left; end = b.end }) (record { held = c.kept; left = c.left; end = c.end })
+          xs ys m.1 n.1,
+    ) };
+
+    ghost told = { λ a b xs ys m t. tells_then R.remaining R.failures R.calls R.has_given a.reader.now b.reader.now
+        (record { held = a.kept; left = a.left; end = a.end }) (record { held = b.kept; left = b.left; end = b.end })
+        xs ys m.1 t };
+}

@@ -1,0 +1,167 @@
+//! Headers and bytes taken from a feed. `left` is what the nearest enclosing length leaves.
+
+ghost use Rattle.std.specs.Prelude.{◌+◌, ◌≤◌, ◌<◌, length, IfOk, OnSome, None, option_map};
+ghost use Rattle.dd_set.specs.Checks.{header_view};
+ghost use Rattle.dd_set.specs.declared.syntax.Length.TheVariants.{Defined};
+ghost use Rattle.dd_set.specs.Feeds.{Scans};
+ghost use Rattle.dd_set.specs.Headers.{eight_at, head_at, long_length_at, front_at, item_front_at};
+ghost use Rattle.dd_set.specs.Reading.{take_at};
+ghost use Rattle.dd_set.specs.Skips.{Finds, Takes, Skips};
+
+use crate::checks::{
+    Header, Opening, Shape, element_opening, ends_here, item_opening, leaves_fewer, less,
+};
+use crate::fault::SetFault;
+use crate::feed::Feed;
+use crate::filling::{fill, skip};
+use crate::syntax::{Length, Syntax};
+
+/// Takes as many bytes as there is room for.
+pub fn take<F: Feed>(
+    feed: &mut F,
+    room: &mut [u8],
+    left: Option<u64>,
+) -> Result<Option<u64>, SetFault>
+    ensures found { Scans F.moves F.tells feed.old feed.new (λ bytes rest.
+        Takes room.new result (take_at (length room.new) (record { left = left; bytes = bytes })) rest) }
+    ensures fewer { F.most feed.new ≤ F.most feed.old }
+    ensures less { IfOk result (λ _. length room.new + F.most feed.new ≤ F.most feed.old) }
+{
+    let n = room.len();
+    if leaves_fewer(left, n as u64) {
+        return Err(SetFault::Overrun);
+    }
+    if fill(feed, room) < n {
+        return Err(SetFault::Truncated);
+    }
+    Ok(less(left, n as u64))
+}
+
+/// Lets n bytes go.
+pub fn pass<F: Feed>(feed: &mut F, n: u32, left: Option<u64>) -> Result<Option<u64>, SetFault>
+    ensures found { Scans F.moves F.tells feed.old feed.new (λ bytes rest.
+        Skips result (take_at n (record { left = left; bytes = bytes })) rest) }
+    ensures fewer { F.most feed.new ≤ F.most feed.old }
+{
+    let n = u64::from(n);
+    if leaves_fewer(left, n) {
+        return Err(SetFault::Overrun);
+    }
+    if skip(feed, n) < n {
+        return Err(SetFault::Truncated);
+    }
+    Ok(less(left, n))
+}
+
+/// Takes the eight bytes that a header begins with.
+fn eight<F: Feed>(
+    feed: &mut F,
+    left: Option<u64>,
+) -> Result<(Option<[u8; 8]>, Option<u64>), SetFault>
+    ensures found { Scans F.moves F.tells feed.old feed.new (λ bytes rest.
+        Finds (λ head. head) result (eight_at (record { left = left; bytes = bytes })) rest) }
+    ensures fewer { F.most feed.new ≤ F.most feed.old }
+    ensures some { IfOk result (λ x. OnSome x.0 (F.most feed.new < F.most feed.old)) }
+{
+    let mut head = [0; 8];
+    let left = take(feed, &mut head, left)?;
+    Ok((Some(head), left))
+}
+
+/// Takes the eight bytes that a header begins with, or None at the end of the feed.
+fn eight_or_end<F: Feed>(feed: &mut F) -> Result<(Option<[u8; 8]>, Option<u64>), SetFault>
+    ensures found { Scans F.moves F.tells feed.old feed.new (λ bytes rest.
+        Finds (λ head. head) result (head_at Defined (record { left = None; bytes = bytes })) rest) }
+    ensures fewer { F.most feed.new ≤ F.most feed.old }
+    ensures some { IfOk result (λ x. OnSome x.0 (F.most feed.new < F.most feed.old)) }
+{
+    let mut head = [0; 8];
+    let n = fill(feed, &mut head);
+    if n == 0 {
+        return Ok((None, None));
+    }
+    if n < head.len() {
+        return Err(SetFault::Truncated);
+    }
+    Ok((Some(head), None))
+}
+
+/// Takes the eight bytes that a header begins with, or None where a set or a sequence of this form
+/// ends by its length.
+fn head<F: Feed>(
+    feed: &mut F,
+    form: Length,
+    left: Option<u64>,
+) -> Result<(Option<[u8; 8]>, Option<u64>), SetFault>
+    ensures found { Scans F.moves F.tells feed.old feed.new (λ bytes rest.
+        Finds (λ head. head) result (head_at form (record { left = left; bytes = bytes })) rest) }
+    ensures fewer { F.most feed.new ≤ F.most feed.old }
+    ensures some { IfOk result (λ x. OnSome x.0 (F.most feed.new < F.most feed.old)) }
+{
+    match ends_here(form, left) {
+        Some(true) => Ok((None, left)),
+        Some(false) => eight(feed, left),
+        None => eight_or_end(feed),
+    }
+}
+
+/// The length of a long header, behind its first eight bytes.
+fn long<F: Feed>(feed: &mut F, left: Option<u64>) -> Result<(u32, Option<u64>), SetFault>
+    ensures found { Scans F.moves F.tells feed.old feed.new (λ bytes rest.
+        Finds (λ n. n) result (long_length_at (record { left = left; bytes = bytes })) rest) }
+    ensures fewer { F.most feed.new ≤ F.most feed.old }
+{
+    let mut length = [0; 4];
+    let left = take(feed, &mut length, left)?;
+    Ok((u32::from_le_bytes(length), left))
+}
+
+/// The next header of a set of this form, or None at the end of the set. Tags below the number `low`
+/// may not follow.
+pub fn front<F: Feed>(
+    feed: &mut F,
+    syntax: Syntax,
+    form: Length,
+    low: u64,
+    left: Option<u64>,
+) -> Result<(Option<Header>, Option<u64>), SetFault>
+    ensures found { Scans F.moves F.tells feed.old feed.new (λ bytes rest.
+        Finds (option_map header_view) result (front_at syntax form low (record { left = left; bytes = bytes })) rest) }
+    ensures fewer { F.most feed.new ≤ F.most feed.old }
+    ensures some { IfOk result (λ x. OnSome x.0 (F.most feed.new < F.most feed.old)) }
+{
+    let (head, left) = head(feed, form, left)?;
+    let Some(head) = head else {
+        return Ok((None, left));
+    };
+    match element_opening(syntax, form, low, &head)? {
+        Opening::End => Ok((None, left)),
+        Opening::Whole(header) => Ok((Some(header), left)),
+        Opening::Long(tag, vr) => {
+            let (length, left) = long(feed, left)?;
+            let shape = Shape {
+                vr: Some(vr),
+                length,
+            };
+            Ok((Some(Header { tag, shape }), left))
+        }
+    }
+}
+
+/// The length of the next item of a sequence of this form, or None at the end of the sequence.
+pub fn item_front<F: Feed>(
+    feed: &mut F,
+    form: Length,
+    left: Option<u64>,
+) -> Result<(Option<u32>, Option<u64>), SetFault>
+    ensures found { Scans F.moves F.tells feed.old feed.new (λ bytes rest.
+        Finds (λ n. n) result (item_front_at form (record { left = left; bytes = bytes })) rest) }
+    ensures fewer { F.most feed.new ≤ F.most feed.old }
+    ensures some { IfOk result (λ x. OnSome x.0 (F.most feed.new < F.most feed.old)) }
+{
+    let (head, left) = head(feed, form, left)?;
+    match head {
+        None => Ok((None, left)),
+        Some(head) => Ok((item_opening(form, &head)?, left)),
+    }
+}

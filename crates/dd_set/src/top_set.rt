@@ -1,0 +1,138 @@
+//! A data set of a feed, of which only what is told of wanted elements is kept.
+
+ghost use Rattle.std.specs.Prelude.{◌≡◌, ◌≤◌, ◌++◌, Some, None, IfOk, IfErr, map, option_map, unwrap_or};
+ghost use Rattle.dd_set.specs.declared.fault.SetFault.TheVariants.{Memory};
+ghost use Rattle.dd_set.specs.Feeds.{Scans};
+ghost use Rattle.dd_set.specs.Places.{shape_view};
+ghost use Rattle.dd_set.specs.Reading.{item_reader, sequence_with, content_at, read_all};
+ghost use Rattle.dd_set.specs.Scan.{ScanGives, is_wanted, found_hit, value_told, told_of, told_where, noted, whole_with};
+ghost use Rattle.dd_set.specs.Skips.{Tells};
+
+use crate::checks::{Shape, Sort, sort_of};
+use crate::cleaning::take_cleaned;
+use crate::fault::SetFault;
+use crate::feed::Feed;
+use crate::found::{Found, FoundValue, Scan};
+use crate::headers::MAX_LEVELS;
+use crate::skipping::skip_content;
+use crate::syntax::{Length, Syntax};
+use crate::taking::front;
+use dd_elem::Tag;
+use std::alloc::Global;
+
+/// Takes the data set that the bytes of a feed spell, all that are still to come, with every check of
+/// `parse` in its order. Keeps its first tag, and of each wanted element of the set itself whether it
+/// is a sequence, or else the front of its value without the padding.
+#[tactic(auto, unfolding(crate::specs::Reading::read_all))]
+pub fn take_set<F: Feed>(
+    alloc: Global,
+    feed: &mut F,
+    syntax: Syntax,
+    wanted: &[Tag],
+) -> Result<Scan, SetFault>
+    // Whatever was still to come, this is what is told of it, or its first check that fails.
+    ensures found { Scans F.moves F.tells feed.old feed.new
+        (λ bytes rest. ScanGives wanted.now result (read_all syntax bytes)) }
+    ensures fewer { F.most feed.new ≤ F.most feed.old }
+{
+    take_elements(alloc, feed, MAX_LEVELS, syntax, wanted)
+}
+
+/// Takes the elements of a set to the end of the feed, below which so many levels may nest.
+fn take_elements<F: Feed>(
+    alloc: Global,
+    feed: &mut F,
+    levels: u32,
+    syntax: Syntax,
+    wanted: &[Tag],
+) -> Result<Scan, SetFault>
+    ensures found { Scans F.moves F.tells feed.old feed.new
+        (λ bytes rest. ScanGives wanted.now result (whole_with (item_reader levels) syntax bytes)) }
+    ensures fewer { F.most feed.new ≤ F.most feed.old }
+{
+    let mut scan = Scan {
+        first: None,
+        found: Vec::new(alloc),
+    };
+    let mut left = None;
+    let mut low = 0;
+    'elements: loop {
+        let (header, behind) = front(feed, syntax, Length::Defined, low, left)?;
+        let Some(header) = header else {
+            return Ok(scan);
+        };
+        let tag = header.tag;
+        low = u64::from(tag.number()) + 1;
+        let keeps = is_wanted(wanted, tag);
+        let (value, behind) = take_value(alloc, feed, levels, syntax, header.shape, behind, keeps)?;
+        left = behind;
+        note(&mut scan, tag, value)?;
+    }
+}
+
+/// Whether the tag is among these.
+fn is_wanted(wanted: &[Tag], tag: Tag) -> bool
+    ensures { result ≡ is_wanted wanted.now tag }
+{
+    wanted.iter().any(|other| *other == tag)
+}
+
+/// Notes an element with this tag, and what is kept of its value.
+fn note(scan: &mut Scan, tag: Tag, value: Option<FoundValue>) -> Result<(), SetFault>
+    ensures first { IfOk result (λ _. scan.new.first ≡ Some (unwrap_or scan.old.first tag)) }
+    ensures found { IfOk result (λ _. map found_hit scan.new.found.items
+        ≡ map found_hit scan.old.found.items ++ noted tag (option_map value_told value)) }
+    ensures memory { IfErr result (λ e. e ≡ Memory) }
+{
+    scan.first = Some(scan.first.unwrap_or(tag));
+    let Some(value) = value else {
+        return Ok(());
+    };
+    scan.found.push(Found { tag, value })?;
+    Ok(())
+}
+
+/// Takes the value behind a header, and keeps what is told of it, where it is wanted.
+fn take_value<F: Feed>(
+    alloc: Global,
+    feed: &mut F,
+    levels: u32,
+    syntax: Syntax,
+    shape: Shape,
+    left: Option<u64>,
+    keeps: bool,
+) -> Result<(Option<FoundValue>, Option<u64>), SetFault>
+    ensures found { Scans F.moves F.tells feed.old feed.new (λ bytes rest.
+        Tells (option_map value_told) (told_where keeps) result
+        (content_at (sequence_with (item_reader levels)) syntax (shape_view shape)
+        (record { left = left; bytes = bytes })) rest) }
+    ensures fewer { F.most feed.new ≤ F.most feed.old }
+{
+    if !keeps {
+        let left = skip_content(feed, levels, syntax, shape, left)?;
+        return Ok((None, left));
+    }
+    let (value, left) = take_wanted(alloc, feed, levels, syntax, shape, left)?;
+    Ok((Some(value), left))
+}
+
+/// Takes the value behind a header, and keeps what is told of it.
+fn take_wanted<F: Feed>(
+    alloc: Global,
+    feed: &mut F,
+    levels: u32,
+    syntax: Syntax,
+    shape: Shape,
+    left: Option<u64>,
+) -> Result<(FoundValue, Option<u64>), SetFault>
+    ensures found { Scans F.moves F.tells feed.old feed.new (λ bytes rest. Tells value_told told_of result
+        (content_at (sequence_with (item_reader levels)) syntax (shape_view shape)
+        (record { left = left; bytes = bytes })) rest) }
+    ensures fewer { F.most feed.new ≤ F.most feed.old }
+{
+    if let Sort::Bytes(n) = sort_of(syntax, shape, left)? {
+        return take_cleaned(alloc, feed, n, left);
+    }
+    let left = skip_content(feed, levels, syntax, shape, left)?;
+    Ok((FoundValue::Items, left))
+}
