@@ -6,5 +6,8 @@ pub mod Found
 pub mod Only
 pub mod Wanting
 pub mod Whole
+pub mod Faults
+pub mod Cuts
+pub mod Taken
 pub mod Heads
 pub mod HeadLaw

@@ -1,11 +1,16 @@
 -- Where reading a file wants memory.
 use Rattle.std.proofs.Common.{◌≡◌, List, ℕ, Result, Ok, Err, ◌∙◌}
+use Rattle.dd_set.specs.declared.syntax.Syntax.{Syntax}
 use Rattle.dd_set.specs.declared.syntax.Syntax.TheVariants.{Explicit}
 use Rattle.dd_set.specs.Memory.{WantsMemory}
 use Rattle.dd_part10.specs.declared.fault.FileFault.{FileFault}
-use Rattle.dd_part10.specs.Memory.{GroupWants}
-use Rattle.dd_part10.specs.Reading.{behind_prefix, behind_length}
-use Rattle.dd_part10.proofs.Steps.{onward}
+use Rattle.dd_part10.specs.declared.fault.FileFault.TheVariants.{OtherSyntax}
+use Rattle.dd_part10.specs.declared.meta.Meta.{Meta}
+use Rattle.dd_part10.specs.Memory.{GroupWants, HasHead, SetWants}
+use Rattle.dd_part10.specs.Reading.{behind_prefix, behind_length, meta_in}
+use Rattle.dd_part10.specs.Syntaxes.{syntax_of}
+use Rattle.dd_part10.specs.Taking.{syntax_in}
+use Rattle.dd_part10.proofs.Steps.{onward, there}
 
 -- the fault that was handed on is that of the answer
 pub fault_is : {X : Type 0} (r : Result X FileFault) (y e fault : FileFault) → r ≡ Err y → y ≡ e → r ≡ Err fault
@@ -22,3 +27,22 @@ group_wants file rest group set front split wants =
           ∙ split;
       wants = wants;
     }
+
+pub has_head : (file rest group set : List ℕ) (meta : Meta) (syntax : Syntax) → behind_prefix file ≡ Ok rest → behind_length rest ≡ Ok (group, set) → meta_in group ≡ Ok meta → syntax_in meta ≡ Ok syntax
+    → HasHead file
+has_head file rest group set meta syntax front split holds named =
+    record {
+      group = group;
+      set = set;
+      meta = meta;
+      syntax = syntax;
+      parts = onward (behind_prefix file) rest behind_length front ∙ split;
+      holds = holds;
+      known = there (syntax_of meta.transfer) (OtherSyntax meta.transfer) syntax named;
+    }
+
+pub set_wants : (file rest group set : List ℕ) (meta : Meta) (syntax : Syntax) → behind_prefix file ≡ Ok rest → behind_length rest ≡ Ok (group, set) → meta_in group ≡ Ok meta → syntax_in meta ≡ Ok syntax
+    → WantsMemory syntax set → SetWants file
+unfolding has_head
+set_wants file rest group set meta syntax front split holds named wants =
+    record { head = has_head file rest group set meta syntax front split holds named; wants = wants }

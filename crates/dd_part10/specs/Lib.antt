@@ -4,4 +4,6 @@ pub mod Meta
 pub mod File
 pub mod Reading
 pub mod Gives
+pub mod Taking
+pub mod Streaming
 pub mod Head

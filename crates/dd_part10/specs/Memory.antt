@@ -1,6 +1,6 @@
 -- Where reading a file wants memory: for group 0002, once all that stands before it is right, and for the data set,
--- once all of group 0002 is.
-use Rattle.std.specs.Prelude.{◌≡◌, ◌≢◌, List, ℕ, Option, Some, Result, Ok, Err}
+-- once all of group 0002 is. And why a file is refused that is read from a reader.
+use Rattle.std.specs.Prelude.{◌≡◌, ◌≢◌, List, ℕ, Some, Result, Ok, Err}
 use Rattle.dd_set.specs.declared.fault.SetFault.TheVariants.{Memory}
 use Rattle.dd_set.specs.declared.syntax.Syntax.{Syntax}
 use Rattle.dd_set.specs.declared.syntax.Syntax.TheVariants.{Explicit}
@@ -8,7 +8,7 @@ use Rattle.dd_set.specs.Memory.{WantsMemory}
 use Rattle.dd_part10.specs.declared.fault.FileFault.{FileFault}
 use Rattle.dd_part10.specs.declared.fault.FileFault.TheVariants as faults
 use Rattle.dd_part10.specs.declared.meta.Meta.{Meta}
-use Rattle.dd_part10.specs.Reading.{◌>>=◌, behind_prefix, behind_length, meta_in}
+use Rattle.dd_part10.specs.Reading.{◌>>=◌, behind_prefix, behind_length, meta_in, read_file}
 use Rattle.dd_part10.specs.Syntaxes.{syntax_of}
 
 -- the preamble, the prefix and the group length are there, and reading the bytes that it counts wants memory
@@ -18,8 +18,8 @@ pub record GroupWants (file : List ℕ) : Type 0 where
   pub parts : (behind_prefix file >>= behind_length) ≡ Ok (group, set)
   pub wants : WantsMemory Explicit group
 
--- all before the data set is right, and reading the data set wants memory
-pub record SetWants (file : List ℕ) : Type 0 where
+-- all before the data set is right
+pub record HasHead (file : List ℕ) : Type 0 where
   pub group : List ℕ
   pub set : List ℕ
   pub meta : Meta
@@ -27,7 +27,18 @@ pub record SetWants (file : List ℕ) : Type 0 where
   pub parts : (behind_prefix file >>= behind_length) ≡ Ok (group, set)
   pub holds : meta_in group ≡ Ok meta
   pub known : syntax_of meta.transfer ≡ Some syntax
-  pub wants : WantsMemory syntax set
+
+-- all before the data set is right, and reading the data set wants memory
+pub record SetWants (file : List ℕ) : Type 0 where
+  pub head : HasHead file
+  pub wants : WantsMemory head.syntax head.set
+
+-- Why a file of which little is kept is refused: by the first check that it fails; or by want of memory, for group 0002
+-- where reading it wants some, and for the data set where all before it is right.
+abbrev pub IsRefused : FileFault → List ℕ → Type 0
+IsRefused (faults.Meta Memory) file = GroupWants file
+IsRefused (faults.Set Memory) file = HasHead file
+IsRefused fault file = read_file file ≡ Err fault
 
 -- a step that wants no memory
 abbrev pub WantsNone : {X : Type 0} → Result X FileFault → Type 0

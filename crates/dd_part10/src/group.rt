@@ -1,6 +1,6 @@
 //! Group 0002: the group length and the meta information.
 
-ghost use Rattle.std.specs.Prelude.{◌≡◌, ◌≢◌, Err, option_map};
+ghost use Rattle.std.specs.Prelude.{◌≡◌, ◌≢◌, ◌≤◌, Err, IfOk, length, option_map};
 ghost use Rattle.dd_set.specs.declared.fault.SetFault.TheVariants.{Memory};
 ghost use Rattle.dd_set.specs.declared.syntax.Syntax.TheVariants.{Explicit};
 ghost use Rattle.dd_set.specs.Memory.{WantsMemory};
@@ -9,6 +9,7 @@ ghost use Rattle.dd_part10.specs.declared.fault.FileFault.TheVariants as faults;
 ghost use Rattle.dd_part10.specs.Gives.{Gives};
 ghost use Rattle.dd_part10.specs.Memory.{WantsNone};
 ghost use Rattle.dd_part10.specs.Reading.{behind, behind_length, is_meta_tag, is_alone, uid_at, uids_in, meta_in};
+ghost use Rattle.dd_part10.specs.Taking.{count_in, syntax_in};
 
 use crate::fault::FileFault;
 use crate::meta::Meta;
@@ -17,7 +18,10 @@ use dd_set::{DataSet, Syntax, Value, parse};
 use std::alloc::Global;
 
 /// The most bytes that group 0002 may have behind its group length.
-const MAX_GROUP_LENGTH: u32 = 65_536;
+pub const MAX_GROUP_LENGTH: u32 = 65_536;
+
+/// How many bytes the group length has.
+pub const COUNT_LENGTH: usize = 12;
 
 /// The group of the file meta information.
 pub const META_GROUP: u16 = 0x0002;
@@ -51,24 +55,38 @@ pub fn behind<'a>(front: &[u8], bytes: &'a [u8]) -> Option<&'a [u8]>
     bytes.strip_prefix(front)
 }
 
-/// The bytes that the group length at the front counts, and the others behind them.
-#[tactic(auto, unfolding(crate::specs::Reading::behind_length))]
-pub fn split_group(bytes: &[u8]) -> Result<(&[u8], &[u8]), FileFault>
-    ensures exact { Gives (λ x. (x.0.now, x.1.now)) result (behind_length bytes.now) }
+/// The number in the group length at the front.
+#[tactic(auto, unfolding(crate::specs::Taking::count_in))]
+pub fn read_count(front: &[u8]) -> Result<u32, FileFault>
+    ensures exact { Gives (λ n. n) result (count_in front.now) }
+    ensures few { IfOk result (λ n. n ≤ 65536) }
+    ensures whole { IfOk result (λ n. 12 ≤ length front.now) }
     ensures memory { WantsNone result }
 {
-    let Some(rest) = behind(b"\x02\0\0\0UL\x04\0", bytes) else {
+    let Some(rest) = behind(b"\x02\0\0\0UL\x04\0", front) else {
         return Err(FileFault::GroupLength);
     };
     if rest.len() < 4 {
         return Err(FileFault::GroupLength);
     }
-    let (count, rest) = rest.split_at(4);
-    let count = u32::from_le_bytes([count[0], count[1], count[2], count[3]]);
-    if count > MAX_GROUP_LENGTH || rest.len() < count as usize {
+    let count = u32::from_le_bytes([rest[0], rest[1], rest[2], rest[3]]);
+    if count > MAX_GROUP_LENGTH {
         return Err(FileFault::GroupLength);
     }
-    Ok(rest.split_at(count as usize))
+    Ok(count)
+}
+
+/// The bytes that the group length at the front counts, and the others behind them.
+pub fn split_group(bytes: &[u8]) -> Result<(&[u8], &[u8]), FileFault>
+    ensures exact { Gives (λ x. (x.0.now, x.1.now)) result (behind_length bytes.now) }
+    ensures memory { WantsNone result }
+{
+    let count = read_count(bytes)? as usize;
+    let rest = &bytes[COUNT_LENGTH..];
+    if rest.len() < count {
+        return Err(FileFault::GroupLength);
+    }
+    Ok(rest.split_at(count))
 }
 
 /// The meta information in the bytes that the group length counts.
@@ -83,6 +101,17 @@ pub fn read_meta(alloc: Global, bytes: &[u8]) -> Result<Meta, FileFault>
         return Err(FileFault::GroupLength);
     }
     uids_in(&group)
+}
+
+/// The syntax of the data set that the meta information names.
+pub fn named_syntax(meta: &Meta) -> Result<Syntax, FileFault>
+    ensures exact { Gives (λ syntax. syntax) result (syntax_in meta.now) }
+    ensures memory { WantsNone result }
+{
+    match meta.syntax() {
+        Some(syntax) => Ok(syntax),
+        None => Err(FileFault::OtherSyntax(meta.transfer)),
+    }
 }
 
 /// Are all elements of group 0002, and none a group length?

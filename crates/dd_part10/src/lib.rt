@@ -2,8 +2,9 @@
 //!
 //! Its one promise: what is read as a file is one, what is one is read, and a refusal names the first
 //! check that the bytes fail. Only where a growth is refused, while group 0002 or the data set is read
-//! and all before it is right, is the answer want of memory instead. A head that is written is the head
-//! of a file with its meta information.
+//! and all before it is right, is the answer want of memory instead. `read_file` makes the same checks on
+//! the bytes of a reader, and holds nothing of the data set but what was asked for. A head that is written
+//! is the head of a file with its meta information.
 #![tactic(auto)]
 
 mod fault;
@@ -12,9 +13,17 @@ mod group;
 mod head;
 mod meta;
 mod reading;
+mod scanned;
+mod stream_fault;
+mod streaming;
+mod taking;
 
 pub use fault::FileFault;
 pub use file::DicomFile;
 pub use head::{head_makes_file, head_size, write_head};
 pub use meta::Meta;
 pub use reading::parse_file;
+pub use scanned::Scanned;
+pub use stream_fault::StreamFault;
+pub use streaming::read_file;
+pub use taking::take_file;

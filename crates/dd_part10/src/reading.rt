@@ -4,21 +4,28 @@ ghost use Rattle.std.specs.Prelude.{◌≡◌, ◌≢◌, ℕ, ◌<◌, ◌^◌,
 ghost use Rattle.dd_set.specs.declared.fault.SetFault.TheVariants.{Memory};
 ghost use Rattle.dd_set.specs.Elements.{Elements};
 ghost use Rattle.dd_set.specs.Memory.{WantsMemory};
+ghost use Rattle.dd_set.specs.Scan.{first_of};
 ghost use Rattle.dd_set.specs.Views.{set_view};
 ghost use Rattle.dd_part10.specs.declared.fault.FileFault.TheVariants as faults;
 ghost use Rattle.dd_part10.specs.declared.meta.Meta.{Meta};
 ghost use Rattle.dd_part10.specs.File.{IsFile};
 ghost use Rattle.dd_part10.specs.Gives.{Gives, file_view};
 ghost use Rattle.dd_part10.specs.Memory.{GroupWants, SetWants, WantsNone};
-ghost use Rattle.dd_part10.specs.Reading.{behind_prefix, set_in, starts_above, read_file};
+ghost use Rattle.dd_part10.specs.Reading.{behind_prefix, set_in, read_file};
+ghost use Rattle.dd_part10.specs.Taking.{may_follow};
 
 use crate::fault::FileFault;
 use crate::file::DicomFile;
-use crate::group::{GROUP_AT, META_GROUP, behind, read_meta, split_group};
+use crate::group::{GROUP_AT, META_GROUP, behind, named_syntax, read_meta, split_group};
+use dd_elem::Tag;
 use dd_set::{DataSet, Syntax, parse};
 use std::alloc::Global;
 
+/// How many bytes stand before the prefix.
 const PREAMBLE_LENGTH: usize = 128;
+
+/// The place of the first byte behind the prefix.
+pub const PREFIX_END: usize = 132;
 
 /// The DICOM file that the bytes are (PS3.10 section 7): 128 bytes of any preamble, `DICM`, the group
 /// length (0002,0000) with at most 65,536, group 0002 in Explicit VR with the UIDs of `Meta`, and a
@@ -51,9 +58,7 @@ fn whole<'a>(alloc: Global, bytes: &'a [u8]) -> Result<DicomFile<'a>, FileFault>
     let rest = behind_prefix(bytes)?;
     let (group, rest) = split_group(rest)?;
     let meta = read_meta(alloc, group)?;
-    let Some(syntax) = meta.syntax() else {
-        return Err(FileFault::OtherSyntax(meta.transfer));
-    };
+    let syntax = named_syntax(&meta)?;
     let set = read_set(alloc, syntax, rest)?;
     Ok(DicomFile {
         meta,
@@ -64,7 +69,7 @@ fn whole<'a>(alloc: Global, bytes: &'a [u8]) -> Result<DicomFile<'a>, FileFault>
 
 /// What stands behind the preamble and the prefix.
 #[tactic(auto, unfolding(crate::specs::Reading::behind_prefix))]
-fn behind_prefix(bytes: &[u8]) -> Result<&[u8], FileFault>
+pub fn behind_prefix(bytes: &[u8]) -> Result<&[u8], FileFault>
     ensures exact { Gives (λ rest. rest.now) result (behind_prefix bytes.now) }
     ensures room { length bytes.now < 2 ^ 64 }
     ensures memory { WantsNone result }
@@ -86,18 +91,28 @@ fn read_set<'a>(alloc: Global, syntax: Syntax, bytes: &'a [u8]) -> Result<DataSe
     ensures set { result ≡ Err (faults.Set Memory) → WantsMemory syntax bytes.now }
 {
     let set = parse(alloc, syntax, bytes).map_err(FileFault::Set)?;
-    if !starts_above(&set) {
+    if !may_follow(first_tag(&set)) {
         return Err(FileFault::GroupLength);
     }
     Ok(set)
 }
 
-/// Is the first element, if there is one, of a higher group than 0002?
-fn starts_above(set: &DataSet<'_>) -> bool
-    ensures { result ≡ starts_above (set_view set.now) }
+/// The tag of the first element.
+fn first_tag(set: &DataSet<'_>) -> Option<Tag>
+    ensures { result ≡ first_of (set_view set.now) }
 {
     match set.elements.first() {
+        None => None,
+        Some(first) => Some(first.tag),
+    }
+}
+
+/// May a data set with this first tag follow group 0002?
+pub fn may_follow(first: Option<Tag>) -> bool
+    ensures { result ≡ may_follow first }
+{
+    match first {
         None => true,
-        Some(first) => first.tag.group > META_GROUP,
+        Some(tag) => tag.group > META_GROUP,
     }
 }

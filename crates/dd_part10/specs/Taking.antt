@@ -1,0 +1,102 @@
+-- A file taken from a feed, front by front, against reading it in memory. Where `bytes` were to come at first, `rest` is
+-- still to come.
+use Rattle.std.specs.Prelude.{◌≡◌, ℕ, List, length, take, drop, map, Option, Some, None, Result, Ok, Err, Bool, true, nat_lt, if◌then◌else◌}
+use Rattle.std.specs.Int.{w32, from_le_bytes}
+use Rattle.std.specs.Option.{ok_or}
+use Rattle.dd_elem.specs.declared.tag.Tag.{Tag}
+use Rattle.dd_elem.specs.declared.vr.Vr.TheVariants.{UL}
+use Rattle.dd_set.specs.declared.fault.SetFault.TheVariants.{Memory}
+use Rattle.dd_set.specs.declared.found.Scan.{Scan}
+use Rattle.dd_set.specs.declared.syntax.Syntax.{Syntax}
+use Rattle.dd_set.specs.declared.syntax.Syntax.TheVariants.{Explicit}
+use Rattle.dd_set.specs.Elements.{Elements}
+use Rattle.dd_set.specs.Memory.{WantsMemory}
+use Rattle.dd_set.specs.Scan.{IsScan, found_hit, hits_of}
+use Rattle.dd_set.specs.Spelling.{header_text}
+use Rattle.dd_part10.specs.declared.fault.FileFault.{FileFault}
+use Rattle.dd_part10.specs.declared.fault.FileFault.TheVariants.{GroupLength, OtherSyntax}
+use Rattle.dd_part10.specs.declared.fault.FileFault.TheVariants as faults
+use Rattle.dd_part10.specs.declared.meta.Meta.{Meta}
+use Rattle.dd_part10.specs.declared.scanned.Scanned.{Scanned}
+use Rattle.dd_part10.specs.File.{max_group_length}
+use Rattle.dd_part10.specs.Gives.{Fails}
+use Rattle.dd_part10.specs.Memory.{HasHead, IsRefused}
+use Rattle.dd_part10.specs.Meta.{meta_group, group_length_tag}
+use Rattle.dd_part10.specs.Reading.{◌>>=◌, FileParts, behind, behind_prefix, behind_length, meta_in, set_in, read_file}
+use Rattle.dd_part10.specs.Syntaxes.{syntax_of}
+
+-- ---- the checks, each of the front that it looks at
+
+-- the number that the group length at the front holds
+unfoldable pub count_in : List ℕ → Result ℕ FileFault
+count_in front = ok_or (behind (header_text group_length_tag (Some UL) 4) front) GroupLength
+    >>= λ rest. if nat_lt (length rest) 4 then Err GroupLength else (if nat_lt max_group_length (from_le_bytes w32 rest) then Err GroupLength else Ok (from_le_bytes w32 rest))
+
+-- so many bytes, and the others behind them
+abbrev pub split_at : ℕ → List ℕ → Result (List ℕ × List ℕ) FileFault
+split_at n bs = if nat_lt (length bs) n then Err GroupLength else Ok (take n bs, drop n bs)
+
+-- the syntax that the meta information names
+abbrev pub syntax_in : Meta → Result Syntax FileFault
+syntax_in meta = ok_or (syntax_of meta.transfer) (OtherSyntax meta.transfer)
+
+-- a data set with this first tag may follow group 0002
+abbrev pub may_follow : Option Tag → Bool
+may_follow None = true
+may_follow (Some tag) = nat_lt meta_group tag.group
+
+-- ---- what was taken
+
+-- the preamble and the prefix
+abbrev pub PrefixTaken : {X : Type 0} → Result X FileFault → List ℕ → List ℕ → Type 0
+PrefixTaken (Ok x) bytes rest = behind_prefix bytes ≡ Ok rest
+PrefixTaken (Err e) bytes rest = Fails e (behind_prefix bytes)
+
+-- the group length
+abbrev pub CountTaken : Result ℕ FileFault → List ℕ → List ℕ → Type 0
+CountTaken (Ok n) bytes rest = behind_length bytes ≡ split_at n rest
+CountTaken (Err e) bytes rest = Fails e (behind_length bytes)
+
+-- the group length is there, and reading the bytes that it counts wants memory
+pub record MetaWants (bytes : List ℕ) : Type 0 where
+  pub group : List ℕ
+  pub set : List ℕ
+  pub parts : behind_length bytes ≡ Ok (group, set)
+  pub wants : WantsMemory Explicit group
+
+-- the group length, and the meta information in the bytes that it counts
+abbrev pub MetaTaken : Result Meta FileFault → List ℕ → List ℕ → Type 0
+MetaTaken (Ok meta) bytes rest = (group : List ℕ) × (behind_length bytes ≡ Ok (group, rest)) × (meta_in group ≡ Ok meta)
+MetaTaken (Err e) bytes rest = Fails e (behind_length bytes >>= λ parts. meta_in parts.0)
+    × (e ≡ faults.Meta Memory → MetaWants bytes)
+
+-- so many bytes, of a file whose group length counts them
+abbrev pub GroupTaken : ℕ → Result Meta FileFault → List ℕ → List ℕ → Type 0
+GroupTaken n result mid rest = (bytes : List ℕ) → behind_length bytes ≡ split_at n mid → MetaTaken result bytes rest
+
+-- a file with this head has the data set in the bytes behind it
+abbrev pub whole_with : Meta → ℕ → Result Elements FileFault → Result FileParts FileFault
+whole_with meta set_at set = set >>= λ s. Ok (record { meta = meta; set = s; set_at = set_at })
+
+-- all that stands before the data set: what is read of the file is this, and the data set in the syntax that it names
+abbrev pub HeadTaken : Result (Meta × Syntax) FileFault → List ℕ → List ℕ → Type 0
+HeadTaken (Ok (meta, syntax)) bytes rest = (set_at : ℕ) × (read_file bytes ≡ whole_with meta set_at (set_in syntax rest))
+    × HasHead bytes
+HeadTaken (Err e) bytes rest = IsRefused e bytes
+
+-- the data set that reading gives
+abbrev pub SetTaken : List Tag → Result Scan FileFault → Result Elements FileFault → Type 0
+SetTaken wanted (Ok scan) read = (set : Elements) × (read ≡ Ok set) × IsScan wanted scan set
+SetTaken wanted (Err e) read = Fails e read
+
+-- ---- a file
+
+-- a scan tells this file: its meta information, and the wanted elements of its data set
+pub record IsScanned (wanted : List Tag) (scanned : Scanned) (file : FileParts) : Type 0 where
+  pub meta : scanned.meta ≡ file.meta
+  pub found : map found_hit scanned.found.items ≡ hits_of wanted file.set
+
+-- a returned scan tells the file that reading the bytes gives
+abbrev pub FileTaken : List Tag → Result Scanned FileFault → List ℕ → Type 0
+FileTaken wanted (Ok scanned) bytes = (file : FileParts) × (read_file bytes ≡ Ok file) × IsScanned wanted scanned file
+FileTaken wanted (Err e) bytes = IsRefused e bytes

@@ -1,0 +1,69 @@
+//! A file read from a reader.
+
+ghost use Rattle.std.specs.Prelude.{◌≡◌, ◌≤◌, ◌<◌, ◌+◌, ◌^◌, ℕ, List, [], None};
+ghost use Rattle.std.specs.Io.KnownBytes.{Consumes};
+ghost use Rattle.dd_elem.specs.Device.{Gives};
+ghost use Rattle.dd_part10.specs.Streaming.{IsFileAnswer};
+
+use crate::scanned::Scanned;
+use crate::stream_fault::StreamFault;
+use crate::taking::take_file;
+use dd_elem::{Read, Tag};
+use dd_set::{End, Kept, Stream, finish};
+use std::alloc::Global;
+
+/// What is told of the DICOM file that the bytes of a reader are, to its end (PS3.10 section 7): its
+/// meta information, and the wanted elements of its data set, each once and in the order of tags. Of
+/// the bytes of a wanted element it keeps the first 1,024 without the padding, and of the data set
+/// nothing else.
+///
+/// 14 Read exactly where the reader fails, and 15 TooLong exactly where it gives `limit` bytes and one
+/// more. Else the refusals are those of `parse_file` on what the reader gave. It makes at most `limit` + 1
+/// reads, and reads on to the end before it answers.
+pub fn read_file<R: Read>(
+    alloc: Global,
+    reader: &mut R,
+    wanted: &[Tag],
+    limit: u64,
+) -> Result<Scanned, StreamFault>
+    ensures gave { (given : List ℕ) × Gives R.has_given reader.old reader.new given
+        × Consumes (R.remaining reader.old) (R.remaining reader.new) given
+        × IsFileAnswer result wanted.now limit given (R.remaining reader.new)
+        (R.failures reader.old) (R.failures reader.new) }
+    ensures calls { R.calls reader.new ≤ R.calls reader.old + limit + 1 }
+{
+    let mut stream = Stream {
+        reader,
+        kept: Kept::new(),
+        left: limit,
+        end: None,
+    };
+    read_stream(alloc, &mut stream, wanted)
+}
+
+/// The same over a stream from which nothing was read.
+fn read_stream<R: Read>(
+    alloc: Global,
+    stream: &mut Stream<'_, R>,
+    wanted: &[Tag],
+) -> Result<Scanned, StreamFault>
+    requires empty { stream.old.kept ≡ [] }
+    requires open { stream.old.end ≡ None }
+    requires room { stream.old.left < 2 ^ 64 }
+    ensures same { stream.new.reader.ghost_name ≡ stream.old.reader.ghost_name }
+    ensures gave { (given : List ℕ) × Gives R.has_given stream.old.reader.now stream.new.reader.now given
+        × Consumes (R.remaining stream.old.reader.now) (R.remaining stream.new.reader.now) given
+        × IsFileAnswer result wanted.now stream.old.left given (R.remaining stream.new.reader.now)
+        (R.failures stream.old.reader.now) (R.failures stream.new.reader.now) }
+    ensures calls { R.calls stream.new.reader.now ≤ R.calls stream.old.reader.now + stream.old.left + 1 }
+{
+    let answer = take_file(alloc, stream, wanted);
+    match finish(stream) {
+        End::Failed => Err(StreamFault::Read),
+        End::TooLong => Err(StreamFault::TooLong),
+        End::Ended => match answer {
+            Ok(scanned) => Ok(scanned),
+            Err(fault) => Err(StreamFault::File(fault)),
+        },
+    }
+}

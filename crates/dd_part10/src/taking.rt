@@ -1,0 +1,114 @@
+//! A file taken from a feed.
+
+ghost use Rattle.std.specs.Prelude.{◌≢◌, ◌≤◌, length, IfOk, Err};
+ghost use Rattle.dd_set.specs.declared.fault.SetFault.TheVariants.{Memory};
+ghost use Rattle.dd_set.specs.Feeds.{Scans};
+ghost use Rattle.dd_part10.specs.declared.fault.FileFault.TheVariants as faults;
+ghost use Rattle.dd_part10.specs.Memory.{WantsNone};
+ghost use Rattle.dd_part10.specs.Reading.{set_in};
+ghost use Rattle.dd_part10.specs.Taking.{PrefixTaken, CountTaken, GroupTaken, MetaTaken, HeadTaken, SetTaken, FileTaken};
+
+use crate::fault::FileFault;
+use crate::group::{COUNT_LENGTH, MAX_GROUP_LENGTH, named_syntax, read_count, read_meta};
+use crate::meta::Meta;
+use crate::reading::{PREFIX_END, behind_prefix, may_follow};
+use crate::scanned::Scanned;
+use dd_elem::Tag;
+use dd_set::{Feed, Scan, Syntax, fill, take_set};
+use std::alloc::Global;
+
+/// The most bytes of group 0002 that have room in a short one.
+const SHORT_GROUP: usize = 1024;
+
+/// Takes the file that the bytes of a feed are, all that are still to come, with every check of
+/// `parse_file` in its order. Keeps its meta information, and of each wanted element of the data set
+/// whether it is a sequence, or else the first 1,024 bytes of its value without the padding.
+pub fn take_file<F: Feed>(alloc: Global, feed: &mut F, wanted: &[Tag]) -> Result<Scanned, FileFault>
+    // Whatever was still to come, this is what is told of it, or why it is refused.
+    ensures found { Scans F.moves F.tells feed.old feed.new
+        (λ bytes rest. FileTaken wanted.now result bytes) }
+{
+    let (meta, syntax) = take_head(alloc, feed)?;
+    let scan = take_data_set(alloc, feed, syntax, wanted)?;
+    Ok(Scanned {
+        meta,
+        found: scan.found,
+    })
+}
+
+/// Takes all that stands before the data set, and answers what it says and the syntax of the data set.
+fn take_head<F: Feed>(alloc: Global, feed: &mut F) -> Result<(Meta, Syntax), FileFault>
+    ensures found { Scans F.moves F.tells feed.old feed.new (λ bytes rest. HeadTaken result bytes rest) }
+{
+    take_prefix(feed)?;
+    let meta = take_meta(alloc, feed)?;
+    let syntax = named_syntax(&meta)?;
+    Ok((meta, syntax))
+}
+
+/// Takes the preamble and the prefix.
+fn take_prefix<F: Feed>(feed: &mut F) -> Result<(), FileFault>
+    ensures found { Scans F.moves F.tells feed.old feed.new (λ bytes rest. PrefixTaken result bytes rest) }
+    ensures memory { WantsNone result }
+{
+    let mut front = [0; PREFIX_END];
+    let n = fill(feed, &mut front);
+    behind_prefix(&front[..n])?;
+    Ok(())
+}
+
+/// Takes the group length, and answers its number.
+fn take_count<F: Feed>(feed: &mut F) -> Result<u32, FileFault>
+    ensures found { Scans F.moves F.tells feed.old feed.new (λ bytes rest. CountTaken result bytes rest) }
+    ensures few { IfOk result (λ n. n ≤ 65536) }
+    ensures memory { WantsNone result }
+{
+    let mut front = [0; COUNT_LENGTH];
+    let n = fill(feed, &mut front);
+    read_count(&front[..n])
+}
+
+/// Takes group 0002, and answers the meta information.
+fn take_meta<F: Feed>(alloc: Global, feed: &mut F) -> Result<Meta, FileFault>
+    ensures found { Scans F.moves F.tells feed.old feed.new (λ bytes rest. MetaTaken result bytes rest) }
+    ensures memory { result ≢ Err (faults.Set Memory) }
+{
+    let count = take_count(feed)? as usize;
+    if count <= SHORT_GROUP {
+        let mut room = [0; SHORT_GROUP];
+        take_group(alloc, feed, &mut room[..count])
+    } else {
+        let mut room = [0; MAX_GROUP_LENGTH as usize];
+        take_group(alloc, feed, &mut room[..count])
+    }
+}
+
+/// Takes as many bytes as there is room for, and answers the meta information that they spell.
+fn take_group<F: Feed>(alloc: Global, feed: &mut F, group: &mut [u8]) -> Result<Meta, FileFault>
+    ensures found { Scans F.moves F.tells feed.old feed.new
+        (λ bytes rest. GroupTaken (length group.old) result bytes rest) }
+    ensures memory { result ≢ Err (faults.Set Memory) }
+{
+    if fill(feed, group) < group.len() {
+        return Err(FileFault::GroupLength);
+    }
+    read_meta(alloc, group)
+}
+
+/// Takes the data set behind group 0002, to the end of the feed.
+fn take_data_set<F: Feed>(
+    alloc: Global,
+    feed: &mut F,
+    syntax: Syntax,
+    wanted: &[Tag],
+) -> Result<Scan, FileFault>
+    ensures found { Scans F.moves F.tells feed.old feed.new
+        (λ bytes rest. SetTaken wanted.now result (set_in syntax bytes)) }
+    ensures memory { result ≢ Err (faults.Meta Memory) }
+{
+    let scan = take_set(alloc, feed, syntax, wanted).map_err(FileFault::Set)?;
+    if !may_follow(scan.first) {
+        return Err(FileFault::GroupLength);
+    }
+    Ok(scan)
+}
