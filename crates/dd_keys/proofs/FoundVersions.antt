@@ -1,7 +1,7 @@
 -- What is read of a file that passes the checks is its version, and a file of a version passes them and gives it.
 use Rattle.std.proofs.Common.{◌≡◌, ◌≢◌, ◌<◌, ◌^◌, ◌⊎◌, inl, inr, length, ⊎_elim, ℕ, true, List, [], ◌∷◌, Some, None}
-use Rattle.std.proofs.Common.{Result, Ok, Err, is_some, refl, sym, ap, ◌∙◌}
-use Rattle.std.specs.Prelude.{Contains, unwrap_or, IsErr, IfErr}
+use Rattle.std.proofs.Common.{Result, Ok, Err, refl, sym, ap, ◌∙◌}
+use Rattle.std.specs.Prelude.{Contains, IsErr, IfErr}
 use Rattle.std.proofs.lemmas.Bool.{cond-true}
 use Rattle.sha2.specs.Sha256.{sha256}
 use Rattle.dd_set.specs.Elements.{Elements}
@@ -20,9 +20,8 @@ use Rattle.dd_keys.specs.declared.fault.KeyFault.TheVariants.{File, NotImage}
 use Rattle.dd_keys.specs.Classes.{image_classes, is_image_class}
 use Rattle.dd_keys.specs.Faults.{table_fault, fault_of, first_fault, IsWantOfMemory}
 use Rattle.dd_keys.specs.Answers.{Answers}
-use Rattle.dd_keys.specs.Fitting.{Fits}
 use Rattle.dd_keys.specs.Table.{charset_row, class_row, instance_row, study_date_row, study_time_row, accession_row, modality_row, description_row, patient_name_row, patient_id_row, study_row, series_row, study_id_row, series_number_row, instance_number_row}
-use Rattle.dd_keys.specs.Values.{or_other, value_at, parts_in, patient_in, study_in, series_in}
+use Rattle.dd_keys.specs.Values.{or_other, parts_in, patient_in, study_in, series_in}
 use Rattle.dd_keys.specs.Versions.{HasPatient, HasStudy, HasSeries, IsVersion}
 use Rattle.dd_keys.specs.declared.keys.PatientKeys.{PatientKeys}
 use Rattle.dd_keys.specs.declared.keys.StudyKeys.{StudyKeys}
@@ -71,24 +70,11 @@ found_version file f is_file image none =
       instance_again = has_wanted_uid instance_row f.meta f.set f.meta.instance p.instance refl;
     }
 
--- ---- its parts fit
+-- ---- what stands for an empty value is not empty
 
-or_other_some : (value : List ℕ) (byte : ℕ) (other : List ℕ) → or_other value (byte ∷ other) ≢ []
+pub or_other_some : (value : List ℕ) (byte : ℕ) (other : List ℕ) → or_other value (byte ∷ other) ≢ []
 or_other_some [] byte other = λ none. absurd (cc)
 or_other_some (first ∷ value) byte other = λ none. absurd (cc)
-
-pub parts_fit : (file digest : List ℕ) (f : FileParts) → IsFile file f.meta f.set f.set_at → Contains image_classes f.meta.class → Fits (parts_in digest f)
-parts_fit file digest f is_file image = record {
-  transfer = ap is_some is_file.known;
-  class = image;
-  study_date = or_other_some (unwrap_or (value_at study_date_row.tag f.set) []) _ _;
-  study_time = or_other_some (unwrap_or (value_at study_time_row.tag f.set) []) _ _;
-  modality = or_other_some (unwrap_or (value_at modality_row.tag f.set) []) _ _;
-  patient_id = or_other_some (unwrap_or (value_at patient_id_row.tag f.set) []) _ _;
-  study_id = or_other_some (unwrap_or (value_at study_id_row.tag f.set) []) _ _;
-  series_number = or_other_some (unwrap_or (value_at series_number_row.tag f.set) []) _ _;
-  instance_number = or_other_some (unwrap_or (value_at instance_number_row.tag f.set) []) _ _;
-}
 
 -- ---- a file of a version passes, and gives it
 
@@ -163,11 +149,6 @@ first_fault_none file version h =
     ap fault_of (file_only file h.meta h.set h.set_at h.is_file)
     ∙ cond-true (is_image_class h.meta.class) _ _ (version_image file version h)
     ∙ version_passes file version h
-
--- a file that is refused by no check
-pub file_passes : (file : List ℕ) (f : FileParts) → read_file file ≡ Ok f → is_image_class f.meta.class ≡ true
-    → table_fault f ≡ None → first_fault file ≡ None
-file_passes file f is image none = ap fault_of is ∙ cond-true (is_image_class f.meta.class) _ _ image ∙ none
 
 -- a refusal of the parse is the first check that fails, or want of memory
 pub file_refused : (file : List ℕ) (e : FileFault) → Fails e (read_file file)

@@ -4,7 +4,6 @@ use Rattle.std.specs.Prelude.{unwrap_or}
 use Rattle.std.proofs.lemmas.Bool.{ltb-false, le-ltb, cond-true, cond-false}
 use Rattle.std.proofs.lemmas.Slice.Eq.{bytes_eq-Decides}
 use Rattle.dd_elem.specs.Clean.{clean_of}
-use Rattle.dd_elem.specs.Key.{IsKey}
 use Rattle.dd_elem.specs.Uid.{IsUid, is_uid}
 use Rattle.dd_elem.specs.declared.tag.Tag.{Tag}
 use Rattle.dd_elem.proofs.Cleaning.{clean_of-clean_of}
@@ -21,7 +20,7 @@ use Rattle.dd_keys.specs.Versions.{HasKey, HasUid}
 
 -- ---- a value is its own clean
 
-content_value-clean : (content : Content) (value : List ℕ) → content_value content ≡ Some value → clean_of value ≡ value
+pub content_value-clean : (content : Content) (value : List ℕ) → content_value content ≡ Some value → clean_of value ≡ value
 content_value-clean (bytes given) value e =
     let is : clean_of given ≡ value = cc in
     ap clean_of (sym is) ∙ clean_of-clean_of given ∙ is
@@ -31,7 +30,7 @@ entry_value-clean : (entry : Option Entry) (value : List ℕ) → entry_value en
 entry_value-clean None value e = let is : [] ≡ value = cc in ap clean_of (sym is) ∙ is
 entry_value-clean (Some entry) value e = content_value-clean entry.content value e
 
-value_at-clean : (tag : Tag) (set : Elements) (value : List ℕ) → value_at tag set ≡ Some value → clean_of value ≡ value
+pub value_at-clean : (tag : Tag) (set : Elements) (value : List ℕ) → value_at tag set ≡ Some value → clean_of value ≡ value
 value_at-clean tag set value e = entry_value-clean (find_in tag set) value e
 
 -- ---- tests that end in no fault
@@ -57,7 +56,7 @@ pub record KeyHeld (held : Option (List ℕ)) : Type 0 where
   pub is : held ≡ Some value
   pub short : length value ≤ 1024
 
-key_held : (tag : Tag) (held : Option (List ℕ)) → key_fault_of tag held ≡ None → KeyHeld held
+pub key_held : (tag : Tag) (held : Option (List ℕ)) → key_fault_of tag held ≡ None → KeyHeld held
 key_held tag None e = absurd (cc)
 key_held tag (Some value) e = record {
   value = value;
@@ -75,13 +74,6 @@ has_key row set e =
       short = h.short;
       is = ap (λ (held : Option (List ℕ)). or_other (unwrap_or held []) row.when_empty) h.is;
     }
-
--- the value of a row whose checks pass is a key
-pub value_is_key : (row : KeyRow) (set : Elements) (value : List ℕ) → key_fault row set ≡ None → Some value ≡ value_at row.tag set → IsKey value
-value_is_key row set value e is =
-    let h = key_held row.tag (value_at row.tag set) e in
-    let same : h.value ≡ value = cc in
-    record { clean = value_at-clean row.tag set value (sym is); short = subst (λ (v : List ℕ). length v ≤ 1024) same h.short }
 
 -- a row that has its key passes
 pub key_passes : (set : Elements) (row : KeyRow) (key : List ℕ) → HasKey set row key → key_fault row set ≡ None
@@ -107,7 +99,7 @@ same_as_wanted tag (Some wanted) value e other is =
     let equal : value ≡ wanted = (bytes_eq-Decides value wanted).0 (continues (bytes_eq value wanted) None (MetaMismatch tag) e).passes in
     cc
 
-uid_held : (tag : Tag) (wanted held : Option (List ℕ)) → uid_fault_of tag wanted held ≡ None → UidHeld wanted held
+pub uid_held : (tag : Tag) (wanted held : Option (List ℕ)) → uid_fault_of tag wanted held ≡ None → UidHeld wanted held
 uid_held tag wanted None e = absurd (cc)
 uid_held tag wanted (Some []) e = absurd (cc)
 uid_held tag wanted (Some (byte ∷ value)) e =

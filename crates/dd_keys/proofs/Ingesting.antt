@@ -1,15 +1,19 @@
 -- What a reader gave to its end is answered as the bytes of a file are.
 use Rattle.std.proofs.Common.{◌≡◌, ◌<◌, ◌⊎◌, inl, inr, ℕ, Bool, true, false, List, [], ◌∷◌, length, map}
 use Rattle.std.proofs.Common.{Option, Some, None, Result, Ok, Err, if◌then◌else◌, nat_lt}
-use Rattle.std.proofs.Common.{refl, subst, ⊎_elim, ◌∙◌, arith}
+use Rattle.std.proofs.Common.{refl, ap, subst, ⊎_elim, arith}
 use Rattle.std.specs.Prelude.{IfSome}
 use Rattle.dd_elem.specs.Uid.{is_uid}
 use Rattle.dd_elem.specs.declared.tag.Tag.{Tag}
 use Rattle.dd_set.specs.declared.fault.SetFault.TheVariants as parsing
+use Rattle.dd_part10.specs.Memory.{GroupWants, HasHead, IsRefused}
 use Rattle.dd_part10.specs.Reading.{FileParts, read_file, behind_prefix}
+use Rattle.dd_part10.specs.Streaming.{IsFileAnswer}
+use Rattle.dd_part10.specs.declared.stream_fault.StreamFault.{StreamFault}
+use Rattle.dd_part10.specs.declared.stream_fault.StreamFault.TheVariants as faults
 use Rattle.dd_part10.specs.declared.fault.FileFault.{FileFault}
 use Rattle.dd_part10.specs.declared.fault.FileFault.TheVariants.{NotPart10, Meta, Set}
-use Rattle.dd_keys.specs.Answers.{Answers, AnswersReader, IsReadWhole}
+use Rattle.dd_keys.specs.Answers.{Answers, AnswersReader, IsReadWhole, refusal_of}
 use Rattle.dd_keys.specs.Classes.{is_image_class}
 use Rattle.dd_keys.specs.declared.fault.KeyFault.{KeyFault}
 use Rattle.dd_keys.specs.declared.fault.KeyFault.TheVariants.{File, Read, FileTooLong, MetaMismatch, Memory}
@@ -18,6 +22,7 @@ use Rattle.dd_keys.specs.Faults.{key_fault_of, wanted_uid, mismatch_of, uid_faul
 use Rattle.dd_keys.specs.Faults.{fault_of, first_fault, IsWantOfMemory, SaysMemory}
 use Rattle.dd_keys.specs.Table.{Row, key, uid, rows}
 use Rattle.dd_keys.specs.Values.{value_at}
+use Rattle.dd_keys.proofs.FoundVersions.{refusal_answers}
 
 -- ---- no check of a file has the fault of a reader
 
@@ -90,7 +95,7 @@ nothing_wants : (fault : KeyFault) → IsWantOfMemory [] fault → ⊥
 unfolding behind_prefix
 nothing_wants Memory want = let fails = nothing_fails in absurd (cc)
 nothing_wants (File (Meta parsing.Memory)) want = let none = want.parts in absurd (cc)
-nothing_wants (File (Set parsing.Memory)) want = let none = want.parts in absurd (cc)
+nothing_wants (File (Set parsing.Memory)) want = let none = want.head.parts in absurd (cc)
 nothing_wants fault want = want
 
 memory_of_byte : (file : List ℕ) (fault : KeyFault) → IsWantOfMemory file fault ⊎ (first_fault file ≡ Some fault)
@@ -102,9 +107,31 @@ memory_of_byte [] fault (inr is) says =
     absurd (subst SaysMemory same says)
 memory_of_byte (byte ∷ file) fault h says = omega arith
 
+-- what was refused for want of memory is not empty
+
+group_of_byte : (file : List ℕ) → GroupWants file → 0 < length file
+unfolding behind_prefix
+group_of_byte [] want = let none = want.parts in absurd (cc)
+group_of_byte (byte ∷ file) want = omega arith
+
+head_of_byte : (file : List ℕ) → HasHead file → 0 < length file
+unfolding behind_prefix
+head_of_byte [] head = let none = head.parts in absurd (cc)
+head_of_byte (byte ∷ file) head = omega arith
+
 -- ---- the answer
 
-answers_reader : (limit : ℕ) (given : List ℕ) (left : Option (List ℕ)) (old new : ℕ) (answer : Result Parts KeyFault)
+wanting_reader : (limit : ℕ) (given : List ℕ) (left : Option (List ℕ)) (old new : ℕ) (e : FileFault)
+    → IsReadWhole limit given left old new → 0 < length given → SaysMemory (File e)
+    → AnswersReader limit given left old new (Err (File e))
+wanting_reader limit given left old new e read some says = record {
+  read = λ e. absurd (cc);
+  long = λ e. absurd (cc);
+  memory = λ _. (some, read.within, read.worked);
+  whole = λ _ _ no. absurd (no says);
+}
+
+pub answers_reader : (limit : ℕ) (given : List ℕ) (left : Option (List ℕ)) (old new : ℕ) (answer : Result Parts KeyFault)
     → IsReadWhole limit given left old new → Answers given answer → AnswersReader limit given left old new answer
 answers_reader limit given left old new (Ok parts) read h = record {
   read = λ e. absurd (cc);
@@ -121,9 +148,31 @@ answers_reader limit given left old new (Err fault) read h =
       whole = λ _ _ _. (read, h);
     }
 
--- the answer for bytes that are those that the reader gave
-pub whole_answers : (limit : ℕ) (file bytes given : List ℕ) (left : Option (List ℕ)) (old new : ℕ)
-    (answer : Result Parts KeyFault) → file ≡ bytes → bytes ≡ given → IsReadWhole limit given left old new
-    → Answers file answer → AnswersReader limit given left old new answer
-whole_answers limit file bytes given left old new answer same all read h =
-    answers_reader limit given left old new answer read (subst (λ (f : List ℕ). Answers f answer) (same ∙ all) h)
+-- the bytes are no file, or memory ran out
+file_refused : (limit : ℕ) (given : List ℕ) (left : Option (List ℕ)) (old new : ℕ) (e : FileFault)
+    → IsReadWhole limit given left old new → IsRefused e given → AnswersReader limit given left old new (Err (File e))
+file_refused limit given left old new (Meta parsing.Memory) read h =
+    wanting_reader limit given left old new (Meta parsing.Memory) read (group_of_byte given h) tt
+file_refused limit given left old new (Set parsing.Memory) read h =
+    wanting_reader limit given left old new (Set parsing.Memory) read (head_of_byte given h) tt
+file_refused limit given left old new e read h = answers_reader limit given left old new (Err (File e)) read
+    (refusal_answers given (File e) (inr (ap fault_of h)))
+
+-- a refusal of the file that a reader gives
+pub refused_reader : (wanted : List Tag) (limit : ℕ) (given : List ℕ) (left : Option (List ℕ)) (old new : ℕ)
+    (e : StreamFault) → IsFileAnswer (Err e) wanted limit given left old new
+    → AnswersReader limit given left old new (Err (refusal_of e))
+refused_reader wanted limit given left old new faults.Read h = record {
+  read = λ e. h;
+  long = λ e. absurd (cc);
+  memory = λ says. absurd says;
+  whole = λ no _ _. absurd (no refl);
+}
+refused_reader wanted limit given left old new faults.TooLong h = record {
+  read = λ e. absurd (cc);
+  long = λ e. h;
+  memory = λ says. absurd says;
+  whole = λ _ no _. absurd (no refl);
+}
+refused_reader wanted limit given left old new (faults.File e) h = file_refused limit given left old new e
+    (record { within = h.0.0; ended = h.0.1; worked = h.0.2 }) h.1

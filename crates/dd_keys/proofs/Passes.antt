@@ -1,9 +1,13 @@
 -- No check of the table fails exactly where those of each row pass.
 use Rattle.std.proofs.Common.{◌≡◌, List, [], ◌∷◌, Option, Some, None, map, refl}
+use Rattle.dd_elem.specs.declared.tag.Tag.{Tag}
+use Rattle.dd_set.specs.Scan.{Told}
 use Rattle.dd_part10.specs.Reading.{FileParts}
+use Rattle.dd_part10.specs.declared.meta.Meta.{Meta}
 use Rattle.dd_keys.specs.declared.fault.KeyFault.{KeyFault}
-use Rattle.dd_keys.specs.Faults.{first, key_fault, uid_fault, row_fault, table_fault}
-use Rattle.dd_keys.specs.Table.{rows, charset_row, class_row, instance_row, study_date_row, study_time_row, accession_row, modality_row, description_row, patient_name_row, patient_id_row, study_row, series_row, study_id_row, series_number_row, instance_number_row}
+use Rattle.dd_keys.specs.Faults.{first, row_fault, table_fault}
+use Rattle.dd_keys.specs.Told.{told_row_fault, told_table_fault}
+use Rattle.dd_keys.specs.Table.{Row, key, uid, rows, charset_row, class_row, instance_row, study_date_row, study_time_row, accession_row, modality_row, description_row, patient_name_row, patient_id_row, study_row, series_row, study_id_row, series_number_row, instance_number_row}
 
 -- none of these is there
 abbrev NoneThere : List (Option KeyFault) → Type 0
@@ -27,27 +31,26 @@ first_none [] none = refl
 first_none (fault ∷ faults) none = first_more fault faults none.0 (first_none faults none.1)
 
 -- the checks of each row pass
-pub record Passes (file : FileParts) : Type 0 where
-  pub charset : key_fault charset_row file.set ≡ None
-  pub class : uid_fault class_row file.meta file.set ≡ None
-  pub instance : uid_fault instance_row file.meta file.set ≡ None
-  pub study_date : key_fault study_date_row file.set ≡ None
-  pub study_time : key_fault study_time_row file.set ≡ None
-  pub accession : key_fault accession_row file.set ≡ None
-  pub modality : key_fault modality_row file.set ≡ None
-  pub description : key_fault description_row file.set ≡ None
-  pub patient_name : key_fault patient_name_row file.set ≡ None
-  pub patient_id : key_fault patient_id_row file.set ≡ None
-  pub study : uid_fault study_row file.meta file.set ≡ None
-  pub series : uid_fault series_row file.meta file.set ≡ None
-  pub study_id : key_fault study_id_row file.set ≡ None
-  pub series_number : key_fault series_number_row file.set ≡ None
-  pub instance_number : key_fault instance_number_row file.set ≡ None
+pub record Passes (fault : Row → Option KeyFault) : Type 0 where
+  pub charset : fault (key charset_row) ≡ None
+  pub class : fault (uid class_row) ≡ None
+  pub instance : fault (uid instance_row) ≡ None
+  pub study_date : fault (key study_date_row) ≡ None
+  pub study_time : fault (key study_time_row) ≡ None
+  pub accession : fault (key accession_row) ≡ None
+  pub modality : fault (key modality_row) ≡ None
+  pub description : fault (key description_row) ≡ None
+  pub patient_name : fault (key patient_name_row) ≡ None
+  pub patient_id : fault (key patient_id_row) ≡ None
+  pub study : fault (uid study_row) ≡ None
+  pub series : fault (uid series_row) ≡ None
+  pub study_id : fault (key study_id_row) ≡ None
+  pub series_number : fault (key series_number_row) ≡ None
+  pub instance_number : fault (key instance_number_row) ≡ None
 
-pub passes : (file : FileParts) → table_fault file ≡ None → Passes file
-unfolding table_fault
-passes file e =
-    let n = none_there (map (row_fault file) rows) e in
+all_pass : (fault : Row → Option KeyFault) → first (map fault rows) ≡ None → Passes fault
+all_pass fault e =
+    let n = none_there (map fault rows) e in
     let more = n.1.1.1.1.1 in
     let last = more.1.1.1.1.1 in
     record {
@@ -68,10 +71,9 @@ passes file e =
       instance_number = last.1.1.1.1.0;
     }
 
-pub table_fault_none : (file : FileParts) → Passes file → table_fault file ≡ None
-unfolding table_fault
-table_fault_none file p =
-    first_none (map (row_fault file) rows) (
+none_fails : (fault : Row → Option KeyFault) → Passes fault → first (map fault rows) ≡ None
+none_fails fault p =
+    first_none (map fault rows) (
       p.charset,
       (
         p.class,
@@ -105,3 +107,16 @@ table_fault_none file p =
         ),
       ),
     )
+
+pub passes : (file : FileParts) → table_fault file ≡ None → Passes (row_fault file)
+unfolding table_fault
+passes file e = all_pass (row_fault file) e
+
+pub table_fault_none : (file : FileParts) → Passes (row_fault file) → table_fault file ≡ None
+unfolding table_fault
+table_fault_none file p = none_fails (row_fault file) p
+
+-- the same by what is told
+pub told_passes : (meta : Meta) (tells : Tag → Told) → told_table_fault meta tells ≡ None → Passes (told_row_fault meta tells)
+unfolding told_table_fault
+told_passes meta tells e = all_pass (told_row_fault meta tells) e

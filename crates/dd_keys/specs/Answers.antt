@@ -3,8 +3,10 @@ use Rattle.std.specs.Prelude.{◌≡◌, ◌≢◌, ◌⊎◌, ◌+◌, ◌<◌,
 use Rattle.std.specs.Prelude.{Option, Some, Result, Err, IfOk, IfErr, MatchResult}
 use Rattle.std.specs.Io.KnownBytes.{IsAtEnd}
 use Rattle.dd_elem.specs.Device.{HasFailed, HasWorked}
+use Rattle.dd_part10.specs.declared.stream_fault.StreamFault.{StreamFault}
+use Rattle.dd_part10.specs.declared.stream_fault.StreamFault.TheVariants as faults
 use Rattle.dd_keys.specs.declared.fault.KeyFault.{KeyFault}
-use Rattle.dd_keys.specs.declared.fault.KeyFault.TheVariants.{Read, FileTooLong}
+use Rattle.dd_keys.specs.declared.fault.KeyFault.TheVariants.{File, Read, FileTooLong}
 use Rattle.dd_keys.specs.declared.parts.Parts.{Parts}
 use Rattle.dd_keys.specs.Faults.{IsWantOfMemory, SaysMemory, first_fault}
 use Rattle.dd_keys.specs.Versions.{IsVersion}
@@ -40,3 +42,9 @@ pub record AnswersReader (limit : ℕ) (given : List ℕ) (left : Option (List �
   -- each other answer is that for the bytes that it gave to its end
   pub whole : answer ≢ Err Read → answer ≢ Err FileTooLong → IfErr answer (λ fault. ¬ SaysMemory fault)
       → IsReadWhole limit given left old new × Answers given answer
+
+-- the refusal of a file that was not read
+abbrev pub refusal_of : StreamFault → KeyFault
+refusal_of faults.Read = Read
+refusal_of faults.TooLong = FileTooLong
+refusal_of (faults.File fault) = File fault

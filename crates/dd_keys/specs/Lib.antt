@@ -1,10 +1,11 @@
 pub mod Answers
+pub mod Carried
 pub mod Classes
 pub mod Faults
 pub mod Fitting
 pub mod Orders
 pub mod RowViews
 pub mod Table
+pub mod Told
 pub mod Values
 pub mod Versions
-pub mod Whole

@@ -2,32 +2,30 @@
 
 ghost use Rattle.std.specs.Prelude.{◌≡◌, map};
 ghost use Rattle.std.specs.Option.{option_copied};
-ghost use Rattle.dd_set.specs.Views.{set_view};
-ghost use Rattle.dd_part10.specs.Gives.{file_view};
-ghost use Rattle.dd_keys.specs.Faults.{first, key_fault, mismatch_of, row_fault, table_fault, uid_fault, wanted_uid};
+ghost use Rattle.dd_keys.specs.Faults.{first, mismatch_of, wanted_uid};
 ghost use Rattle.dd_keys.specs.RowViews.{key_row_view, row_view, uid_row_view};
+ghost use Rattle.dd_keys.specs.Told.{told_key_fault, told_uid_fault, told_row_fault, told_table_fault};
 
 use crate::fault::KeyFault;
 use crate::rows::{KeyRow, MetaUid, ROWS, Row, UidRow};
-use crate::values::value_at;
+use crate::told::{Shown, Values};
 use dd_elem::{Key, Tag, Uid};
-use dd_part10::{DicomFile, Meta};
-use dd_set::DataSet;
+use dd_part10::Meta;
 
 /// The first check of the table that a file fails.
-#[tactic(auto, unfolding(crate::specs::Faults::table_fault))]
-pub(crate) fn table_fault(file: &DicomFile<'_>) -> Option<KeyFault>
-    ensures { result ≡ table_fault (file_view file.now) }
+#[tactic(auto, unfolding(crate::specs::Told::told_table_fault))]
+pub(crate) fn table_fault<V: Values>(meta: &Meta, values: &V) -> Option<KeyFault>
+    ensures { result ≡ told_table_fault meta.now (V.tells values.now) }
 {
-    first_fault(&ROWS, file)
+    first_fault(&ROWS, meta, values)
 }
 
 /// The first check of these rows that a file fails.
-fn first_fault(mut rows: &[Row], file: &DicomFile<'_>) -> Option<KeyFault>
-    ensures { result ≡ first (map (λ row. row_fault (file_view file.now) (row_view row)) rows.entry.now) }
+fn first_fault<V: Values>(mut rows: &[Row], meta: &Meta, values: &V) -> Option<KeyFault>
+    ensures { result ≡ first (map (λ row. told_row_fault meta.now (V.tells values.now) (row_view row)) rows.entry.now) }
 {
     while let [row, rest @ ..] = rows {
-        if let Some(fault) = row.fault(file) {
+        if let Some(fault) = row.fault(meta, values) {
             return Some(fault);
         }
         rows = rest;
@@ -37,44 +35,47 @@ fn first_fault(mut rows: &[Row], file: &DicomFile<'_>) -> Option<KeyFault>
 
 impl Row {
     /// The first check of the row that a file fails.
-    fn fault(&self, file: &DicomFile<'_>) -> Option<KeyFault>
-        ensures { result ≡ row_fault (file_view file.now) (row_view self.now) }
+    fn fault<V: Values>(&self, meta: &Meta, values: &V) -> Option<KeyFault>
+        ensures { result ≡ told_row_fault meta.now (V.tells values.now) (row_view self.now) }
     {
         match self {
-            Row::Key(row) => row.fault(&file.set),
-            Row::Uid(row) => row.fault(&file.meta, &file.set),
+            Row::Key(row) => row.fault(values),
+            Row::Uid(row) => row.fault(meta, values),
         }
     }
 }
 
 impl KeyRow {
     /// The first check of a key that a data set fails.
-    fn fault(&self, set: &DataSet<'_>) -> Option<KeyFault>
-        ensures { result ≡ key_fault (key_row_view self.now) (set_view set.now) }
+    fn fault<V: Values>(&self, values: &V) -> Option<KeyFault>
+        ensures { result ≡ told_key_fault self.now.tag (V.tells values.now self.now.tag) }
     {
-        match value_at(set, self.tag) {
-            None => Some(KeyFault::KeyIsSequence(self.tag)),
-            Some(value) if value.len() > Key::MAX_LEN => Some(KeyFault::KeyTooLong(self.tag)),
-            Some(_) => None,
+        match values.value(self.tag) {
+            Shown::Items => Some(KeyFault::KeyIsSequence(self.tag)),
+            Shown::Bytes { length, .. } if length > Key::MAX_LEN as u64 => {
+                Some(KeyFault::KeyTooLong(self.tag))
+            }
+            Shown::Bytes { .. } => None,
         }
     }
 }
 
 impl UidRow {
-    /// The first check of a UID that a data set fails.
-    fn fault(&self, meta: &Meta, set: &DataSet<'_>) -> Option<KeyFault>
-        ensures { result ≡ uid_fault (uid_row_view self.now) meta.now (set_view set.now) }
+    /// The first check of a UID that a data set fails. A UID has at most 64 bytes, so that the front of a
+    /// longer value is none, as the value is none.
+    fn fault<V: Values>(&self, meta: &Meta, values: &V) -> Option<KeyFault>
+        ensures { result ≡ told_uid_fault (uid_row_view self.now) meta.now (V.tells values.now self.now.tag) }
     {
-        let Some(value) = value_at(set, self.tag) else {
+        let Shown::Bytes { front, .. } = values.value(self.tag) else {
             return Some(KeyFault::KeyIsSequence(self.tag));
         };
-        if value.is_empty() {
+        if front.is_empty() {
             return Some(KeyFault::MissingKey(self.tag));
         }
-        if Uid::new(value).is_err() {
+        if Uid::new(front).is_err() {
             return Some(KeyFault::BadKeyUid(self.tag));
         }
-        mismatch(self.tag, wanted_uid(meta, self.same_as), value)
+        mismatch(self.tag, wanted_uid(meta, self.same_as), front)
     }
 }
 

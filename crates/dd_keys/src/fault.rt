@@ -11,7 +11,7 @@ use thiserror::Error;
 /// want of memory.
 #[derive(Clone, Copy, Debug, PartialEq, Eq, Error)]
 pub enum KeyFault {
-    /// The bytes are no file; or a growth was refused while they were parsed.
+    /// The bytes are no file; or a growth was refused while they were read as one.
     #[error("31 File {0}")]
     File(FileFault),
     /// The file is of this SOP class, which is no image class that is taken.
@@ -38,7 +38,7 @@ pub enum KeyFault {
     /// The file has more bytes than the limit.
     #[error("39 FileTooLong")]
     FileTooLong,
-    /// A growth was refused: after all checks, or while the file was read.
+    /// A growth was refused after all checks.
     #[error("91 Memory")]
     Memory,
 }

@@ -8,14 +8,15 @@
 
 mod checks;
 mod classes;
+mod digesting;
 mod fault;
 mod keys;
 mod parts;
 mod reading;
 mod rows;
+mod told;
 mod values;
 mod version;
-mod whole;
 
 pub use classes::is_image_class;
 pub use fault::KeyFault;
@@ -24,4 +25,3 @@ pub use parts::Parts;
 pub use reading::{ingest, one_version, version_of};
 pub use values::value_at;
 pub use version::{Misfit, Version};
-pub use whole::read_whole;

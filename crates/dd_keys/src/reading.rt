@@ -1,22 +1,27 @@
 //! Reading a version from the bytes of its file.
 
-ghost use Rattle.std.specs.Prelude.{◌≡◌, ◌<◌, ◌≤◌, ◌+◌, ◌^◌, ℕ, List, length, None};
+ghost use Rattle.std.specs.Prelude.{◌≡◌, ◌<◌, ◌≤◌, ◌+◌, ◌^◌, ℕ, List, [], length, None, IsSome};
 ghost use Rattle.std.specs.Io.KnownBytes.{Consumes};
+ghost use Rattle.sha2.specs.Hashers.{Holds256};
 ghost use Rattle.dd_elem.specs.Device.{Gives};
 ghost use Rattle.dd_set.specs.Bytes.{AreBytes};
+ghost use Rattle.dd_part10.specs.Syntaxes.{syntax_of};
 ghost use Rattle.dd_keys.specs.declared.parts.Parts.{Parts};
-ghost use Rattle.dd_keys.specs.Answers.{Answers, AnswersReader};
+ghost use Rattle.dd_keys.specs.Answers.{Answers, AnswersReader, refusal_of};
 ghost use Rattle.dd_keys.specs.Faults.{first_fault};
+ghost use Rattle.dd_keys.specs.Told.{AreFronts, IsJudged, told_fault, told_parts};
 ghost use Rattle.dd_keys.specs.Versions.{IsVersion};
 
 use crate::checks::table_fault;
 use crate::classes::is_image_class;
+use crate::digesting::Digesting;
 use crate::fault::KeyFault;
+use crate::rows::WANTED;
+use crate::told::Values;
 use crate::values::parts_in;
 use crate::version::Version;
-use crate::whole::read_whole;
 use dd_elem::Read;
-use dd_part10::parse_file;
+use dd_part10::{Meta, StreamFault, parse_file, read_file};
 use sha2::{Digest, Sha256};
 use std::alloc::Global;
 
@@ -29,29 +34,83 @@ pub fn version_of(alloc: Global, bytes: &[u8]) -> Result<Version, KeyFault>
     ensures { Answers bytes.now result }
 {
     let file = parse_file(alloc, bytes)?;
-    if !is_image_class(&file.meta.class) {
-        return Err(KeyFault::NotImage(file.meta.class));
-    }
-    if let Some(fault) = table_fault(&file) {
-        return Err(fault);
-    }
-    let parts = parts_in(alloc, &file, Sha256::digest(bytes))?;
-    Ok(Version::fitting(parts))
+    version_from(alloc, &file.meta, &file.set, Sha256::digest(bytes))
 }
 
-/// The version whose file a reader gives, which is read to its end.
+/// The version whose file a reader gives, which is read to its end as a stream: nothing of it is held but
+/// fixed buffers and the first 1,024 bytes of each element that gives a key.
 ///
 /// `Read` where the reader fails and `FileTooLong` where it gives `limit` bytes and one more; both come
 /// before every check. Else the answer is that of `version_of` for the bytes that the reader gave. Or
-/// want of memory, also while it is read. It makes at most `limit` + 1 reads.
+/// want of memory, once a byte was read: `File` with that of the file, and `Memory` behind all checks. It
+/// makes at most `limit` + 1 reads.
 pub fn ingest<R: Read>(alloc: Global, reader: &mut R, limit: u64) -> Result<Version, KeyFault>
     ensures gave { (given : List ℕ) × Gives R.has_given reader.old reader.new given
         × Consumes (R.remaining reader.old) (R.remaining reader.new) given
         × AnswersReader limit given (R.remaining reader.new) (R.failures reader.old) (R.failures reader.new) result }
     ensures calls { R.calls reader.new ≤ R.calls reader.old + limit + 1 }
 {
-    let file = read_whole(alloc, reader, limit)?;
-    version_of(alloc, file.as_slice())
+    let mut digesting = Digesting {
+        reader,
+        hasher: Sha256::new(),
+    };
+    ingest_digesting(alloc, &mut digesting, limit)
+}
+
+/// The same over a reader that digests what passes, of which nothing passed yet.
+fn ingest_digesting<R: Read>(
+    alloc: Global,
+    digesting: &mut Digesting<'_, R>,
+    limit: u64,
+) -> Result<Version, KeyFault>
+    requires { Holds256 digesting.old.hasher [] }
+    ensures same { digesting.new.reader.ghost_name ≡ digesting.old.reader.ghost_name }
+    ensures gave { (given : List ℕ) × Gives R.has_given digesting.old.reader.now digesting.new.reader.now given
+        × Consumes (R.remaining digesting.old.reader.now) (R.remaining digesting.new.reader.now) given
+        × AnswersReader limit given (R.remaining digesting.new.reader.now)
+        (R.failures digesting.old.reader.now) (R.failures digesting.new.reader.now) result }
+    ensures calls { R.calls digesting.new.reader.now ≤ R.calls digesting.old.reader.now + limit + 1 }
+{
+    let scanned = match read_file(alloc, digesting, &WANTED, limit) {
+        Ok(scanned) => scanned,
+        Err(fault) => return Err(refusal(fault)),
+    };
+    let digest = digesting.hasher.finalize_reset();
+    version_from(alloc, &scanned.meta, &scanned.found, digest)
+}
+
+/// The refusal of a file that was not read.
+fn refusal(fault: StreamFault) -> KeyFault
+    ensures { result ≡ refusal_of fault }
+{
+    match fault {
+        StreamFault::Read => KeyFault::Read,
+        StreamFault::TooLong => KeyFault::FileTooLong,
+        StreamFault::File(fault) => KeyFault::File(fault),
+    }
+}
+
+/// The version of a file with this meta information, these values of its data set and this digest; or the
+/// first check that fails, of its class and of the table; or want of memory behind them.
+fn version_from<V: Values>(
+    alloc: Global,
+    meta: &Meta,
+    values: &V,
+    digest: [u8; 32],
+) -> Result<Version, KeyFault>
+    requires known { IsSome (syntax_of meta.now.transfer) }
+    requires fronts { AreFronts (V.tells values.now) }
+    ensures { IsJudged (told_fault meta.now (V.tells values.now))
+        (told_parts (V.tells values.now) digest meta.now) result }
+{
+    if !is_image_class(&meta.class) {
+        return Err(KeyFault::NotImage(meta.class));
+    }
+    if let Some(fault) = table_fault(meta, values) {
+        return Err(fault);
+    }
+    let parts = parts_in(alloc, meta, values, digest)?;
+    Ok(Version::fitting(parts))
 }
 
 /// Law: bytes of any memory are a file of a version exactly where they fail no check, and then of one

@@ -64,6 +64,16 @@ macro_rules! uid_row {
     };
 }
 
+/// The tag of a row.
+macro_rules! tag_of {
+    ($row:ident) => {
+        Tag {
+            group: $row.tag.group,
+            element: $row.tag.element,
+        }
+    };
+}
+
 /// Specific Character Set.
 pub(crate) const CHARSET: KeyRow = key_row!(0x0008, 0x0005, b"");
 
@@ -126,4 +136,23 @@ pub(crate) const ROWS: [Row; 15] = [
     Row::Key(STUDY_ID),
     Row::Key(SERIES_NUMBER),
     Row::Key(INSTANCE_NUMBER),
+];
+
+/// The tags of the rows, in their order.
+pub(crate) const WANTED: [Tag; 15] = [
+    tag_of!(CHARSET),
+    tag_of!(CLASS),
+    tag_of!(INSTANCE),
+    tag_of!(STUDY_DATE),
+    tag_of!(STUDY_TIME),
+    tag_of!(ACCESSION),
+    tag_of!(MODALITY),
+    tag_of!(DESCRIPTION),
+    tag_of!(PATIENT_NAME),
+    tag_of!(PATIENT_ID),
+    tag_of!(STUDY),
+    tag_of!(SERIES),
+    tag_of!(STUDY_ID),
+    tag_of!(SERIES_NUMBER),
+    tag_of!(INSTANCE_NUMBER),
 ];

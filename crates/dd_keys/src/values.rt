@@ -5,10 +5,10 @@ ghost use Rattle.std.specs.Option.{option_copied};
 ghost use Rattle.dd_elem.specs.Clean.{clean_of};
 ghost use Rattle.dd_elem.specs.Key.{IsKey};
 ghost use Rattle.dd_set.specs.Views.{set_view};
-ghost use Rattle.dd_part10.specs.Gives.{file_view};
-ghost use Rattle.dd_keys.specs.Faults.{key_fault, uid_fault, table_fault};
 ghost use Rattle.dd_keys.specs.RowViews.{key_row_view, uid_row_view};
-ghost use Rattle.dd_keys.specs.Values.{value_at, key_in, uid_in, patient_in, study_in, series_in, parts_in};
+ghost use Rattle.dd_keys.specs.Told.{AreFronts, told_key_fault, told_uid_fault, told_table_fault};
+ghost use Rattle.dd_keys.specs.Told.{told_key, told_uid, told_patient, told_study, told_series, told_parts};
+ghost use Rattle.dd_keys.specs.Values.{value_at};
 
 use crate::keys::{PatientKeys, SeriesKeys, StudyKeys};
 use crate::parts::Parts;
@@ -16,8 +16,9 @@ use crate::rows::{
     ACCESSION, CHARSET, DESCRIPTION, INSTANCE_NUMBER, KeyRow, MODALITY, PATIENT_ID, PATIENT_NAME,
     SERIES, SERIES_NUMBER, STUDY, STUDY_DATE, STUDY_ID, STUDY_TIME, UidRow,
 };
+use crate::told::{Shown, Values};
 use dd_elem::{Key, KeyRefused, Memory, Tag, Uid, clean};
-use dd_part10::{DicomFile, Meta};
+use dd_part10::Meta;
 use dd_set::{DataSet, Value};
 use std::alloc::Global;
 
@@ -49,33 +50,34 @@ fn keep(alloc: Global, bytes: &[u8]) -> Result<Key, Memory>
 
 impl KeyRow {
     /// The key that a data set gives.
-    fn key(&self, alloc: Global, set: &DataSet<'_>) -> Result<Key, Memory>
-        requires passes { key_fault (key_row_view self.now) (set_view set.now) ≡ None }
+    fn key<V: Values>(&self, alloc: Global, values: &V) -> Result<Key, Memory>
+        requires passes { told_key_fault self.now.tag (V.tells values.now self.now.tag) ≡ None }
+        requires fronts { AreFronts (V.tells values.now) }
         requires clean { clean_of self.now.when_empty.now ≡ self.now.when_empty.now }
         requires short { length self.now.when_empty.now ≤ 1024 }
-        ensures { IfOk result (λ key. key ≡ key_in (key_row_view self.now) (set_view set.now)) }
+        ensures { IfOk result (λ key. key ≡ told_key (V.tells values.now) (key_row_view self.now)) }
     {
-        let Some(value) = value_at(set, self.tag) else {
+        let Shown::Bytes { front, .. } = values.value(self.tag) else {
             unreachable!()
         };
-        if value.is_empty() {
+        if front.is_empty() {
             keep(alloc, self.when_empty)
         } else {
-            keep(alloc, value)
+            keep(alloc, front)
         }
     }
 }
 
 impl UidRow {
     /// The UID that a data set gives.
-    fn uid(&self, meta: &Meta, set: &DataSet<'_>) -> Uid
-        requires { uid_fault (uid_row_view self.now) meta.now (set_view set.now) ≡ None }
-        ensures { result ≡ uid_in self.now.tag (set_view set.now) }
+    fn uid<V: Values>(&self, meta: &Meta, values: &V) -> Uid
+        requires { told_uid_fault (uid_row_view self.now) meta.now (V.tells values.now self.now.tag) ≡ None }
+        ensures { result ≡ told_uid (V.tells values.now) self.now.tag }
     {
-        let Some(value) = value_at(set, self.tag) else {
+        let Shown::Bytes { front, .. } = values.value(self.tag) else {
             unreachable!()
         };
-        let Ok(uid) = Uid::new(value) else {
+        let Ok(uid) = Uid::new(front) else {
             unreachable!()
         };
         uid
@@ -83,62 +85,67 @@ impl UidRow {
 }
 
 /// The keys of the patient of a file that passes the checks of the table.
-fn patient_keys(alloc: Global, file: &DicomFile<'_>) -> Result<PatientKeys, Memory>
-    requires { table_fault (file_view file.now) ≡ None }
-    ensures { IfOk result (λ patient. patient ≡ patient_in (set_view file.now.set)) }
+fn patient_keys<V: Values>(alloc: Global, meta: &Meta, values: &V) -> Result<PatientKeys, Memory>
+    requires passes { told_table_fault meta.now (V.tells values.now) ≡ None }
+    requires fronts { AreFronts (V.tells values.now) }
+    ensures { IfOk result (λ patient. patient ≡ told_patient (V.tells values.now)) }
 {
     Ok(PatientKeys {
-        id: PATIENT_ID.key(alloc, &file.set)?,
-        name: PATIENT_NAME.key(alloc, &file.set)?,
-        charset: CHARSET.key(alloc, &file.set)?,
+        id: PATIENT_ID.key(alloc, values)?,
+        name: PATIENT_NAME.key(alloc, values)?,
+        charset: CHARSET.key(alloc, values)?,
     })
 }
 
 /// The keys of its study.
-fn study_keys(alloc: Global, file: &DicomFile<'_>) -> Result<StudyKeys, Memory>
-    requires { table_fault (file_view file.now) ≡ None }
-    ensures { IfOk result (λ study. study ≡ study_in (set_view file.now.set)) }
+fn study_keys<V: Values>(alloc: Global, meta: &Meta, values: &V) -> Result<StudyKeys, Memory>
+    requires passes { told_table_fault meta.now (V.tells values.now) ≡ None }
+    requires fronts { AreFronts (V.tells values.now) }
+    ensures { IfOk result (λ study. study ≡ told_study (V.tells values.now)) }
 {
     Ok(StudyKeys {
-        uid: STUDY.uid(&file.meta, &file.set),
-        date: STUDY_DATE.key(alloc, &file.set)?,
-        time: STUDY_TIME.key(alloc, &file.set)?,
-        accession: ACCESSION.key(alloc, &file.set)?,
-        description: DESCRIPTION.key(alloc, &file.set)?,
-        id: STUDY_ID.key(alloc, &file.set)?,
-        charset: CHARSET.key(alloc, &file.set)?,
+        uid: STUDY.uid(meta, values),
+        date: STUDY_DATE.key(alloc, values)?,
+        time: STUDY_TIME.key(alloc, values)?,
+        accession: ACCESSION.key(alloc, values)?,
+        description: DESCRIPTION.key(alloc, values)?,
+        id: STUDY_ID.key(alloc, values)?,
+        charset: CHARSET.key(alloc, values)?,
     })
 }
 
 /// The keys of its series.
-fn series_keys(alloc: Global, file: &DicomFile<'_>) -> Result<SeriesKeys, Memory>
-    requires { table_fault (file_view file.now) ≡ None }
-    ensures { IfOk result (λ series. series ≡ series_in (set_view file.now.set)) }
+fn series_keys<V: Values>(alloc: Global, meta: &Meta, values: &V) -> Result<SeriesKeys, Memory>
+    requires passes { told_table_fault meta.now (V.tells values.now) ≡ None }
+    requires fronts { AreFronts (V.tells values.now) }
+    ensures { IfOk result (λ series. series ≡ told_series (V.tells values.now)) }
 {
     Ok(SeriesKeys {
-        uid: SERIES.uid(&file.meta, &file.set),
-        modality: MODALITY.key(alloc, &file.set)?,
-        number: SERIES_NUMBER.key(alloc, &file.set)?,
+        uid: SERIES.uid(meta, values),
+        modality: MODALITY.key(alloc, values)?,
+        number: SERIES_NUMBER.key(alloc, values)?,
     })
 }
 
 /// The parts of the version of a file with this digest, which passes all checks.
-pub(crate) fn parts_in(
+pub(crate) fn parts_in<V: Values>(
     alloc: Global,
-    file: &DicomFile<'_>,
+    meta: &Meta,
+    values: &V,
     digest: [u8; 32],
 ) -> Result<Parts, Memory>
-    requires { table_fault (file_view file.now) ≡ None }
-    ensures { IfOk result (λ parts. parts ≡ parts_in digest (file_view file.now)) }
+    requires passes { told_table_fault meta.now (V.tells values.now) ≡ None }
+    requires fronts { AreFronts (V.tells values.now) }
+    ensures { IfOk result (λ parts. parts ≡ told_parts (V.tells values.now) digest meta.now) }
 {
     Ok(Parts {
         digest,
-        patient: patient_keys(alloc, file)?,
-        study: study_keys(alloc, file)?,
-        series: series_keys(alloc, file)?,
-        number: INSTANCE_NUMBER.key(alloc, &file.set)?,
-        class: file.meta.class,
-        transfer: file.meta.transfer,
-        instance: file.meta.instance,
+        patient: patient_keys(alloc, meta, values)?,
+        study: study_keys(alloc, meta, values)?,
+        series: series_keys(alloc, meta, values)?,
+        number: INSTANCE_NUMBER.key(alloc, values)?,
+        class: meta.class,
+        transfer: meta.transfer,
+        instance: meta.instance,
     })
 }

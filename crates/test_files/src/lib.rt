@@ -1,4 +1,5 @@
-//! Tests of DICOM files (PS3.10 section 7): read from bytes, and their heads sent to a writer.
+//! Tests of DICOM files (PS3.10 section 7): read from bytes and from a reader, and their heads sent to a
+//! writer.
 #![tactic(auto)]
 
 #[cfg(test)]
@@ -7,5 +8,7 @@ mod heads;
 mod reading;
 #[cfg(test)]
 mod refusals;
+#[cfg(test)]
+mod streaming;
 #[cfg(test)]
 mod vectors;

@@ -1,6 +1,7 @@
 //! Bytes that are no file, each with the first check that they fail.
 
-use dd_part10::{FileFault, parse_file};
+use dd_elem::ByteSource;
+use dd_part10::{FileFault, StreamFault, parse_file, read_file};
 use dd_set::SetFault;
 use dd_vectors::{answered, bytes_of, question, v1, v1_with};
 use std::alloc::Global;
@@ -18,6 +19,9 @@ const CUT: &str = "\
 276 > taken
 453 > 27 Set 1 Truncated
 454 > taken";
+
+/// Where V1 can be cut: behind its group 0002, and behind each element of its data set.
+const ENDS: &str = "276 310 328 344 358 368 384 394 408 424 434 444 454";
 
 /// V1 with other bytes from a place on: in the preamble, in the prefix, in the header of the group length
 /// and in that of another element of group 0002.
@@ -43,9 +47,19 @@ const OTHER: &str = "\
 0002,0000 UL 7e000000; 0002,0003 SQ > 24 MetaUid (0002,0003)
 0002,0010 UI '1.2.840.10008.1.2.2~ > 25 OtherSyntax 1.2.840.10008.1.2.2";
 
-/// The words of the fault by which the bytes are refused, or `taken`.
+/// Is a file with these bytes refused by this fault where it is read from a reader?
+fn is_refused_alike(alloc: Global, bytes: &[u8], fault: Option<FileFault>) -> bool {
+    let mut reader = ByteSource::new(bytes, 44, None);
+    let answer = read_file(alloc, &mut reader, &[], 4096);
+    answer.err() == fault.map(StreamFault::File)
+}
+
+/// The words of the fault by which the bytes are refused, in memory and from a reader, or `taken`.
 fn answer(alloc: Global, bytes: &[u8]) -> Result<String, Fail> {
     let fault = parse_file(alloc, bytes).err();
+    if !is_refused_alike(alloc, bytes, fault) {
+        return Err("another answer from a reader".into());
+    }
     match fault {
         None => Ok(String::from_str(alloc, "taken")?),
         Some(fault) => Ok(format!(in alloc; "{fault}")?),
@@ -64,6 +78,37 @@ fn cut(alloc: Global, case: &str) -> Result<String, Fail> {
 fn a_file_cut_short(rt: HostRuntime) -> Result<(), Fail> {
     for case in CUT.split('\n') {
         assert_eq!(rt; cut(rt.alloc(), case)?.as_str(), case);
+    }
+    Ok(())
+}
+
+/// The fault of the first n bytes of V1.
+fn fault_of_front(n: usize) -> Result<Option<FileFault>, Fail> {
+    if n < 132 {
+        return Ok(Some(FileFault::NotPart10));
+    }
+    if n < 276 {
+        return Ok(Some(FileFault::GroupLength));
+    }
+    for end in ENDS.split(' ') {
+        if n == end.parse::<usize>()? {
+            return Ok(None);
+        }
+    }
+    Ok(Some(FileFault::Set(SetFault::Truncated)))
+}
+
+#[test]
+fn a_file_cut_anywhere(rt: HostRuntime) -> Result<(), Fail> {
+    let bytes = v1(rt.alloc())?;
+    for n in 0..bytes.len() {
+        let front = bytes.get(..n).ok_or("fewer bytes")?;
+        let fault = fault_of_front(n)?;
+        assert!(rt;
+            parse_file(rt.alloc(), front).err() == fault,
+            "of {n} bytes"
+        );
+        assert!(rt; is_refused_alike(rt.alloc(), front, fault), "of {n} bytes");
     }
     Ok(())
 }

@@ -1,7 +1,7 @@
 //! The files that tests read, by name.
 
 use dd_part10::{Meta, parse_file};
-use dd_vectors::{SOURCE_ROWS, tag_of, v1, v1_implicit, v2};
+use dd_vectors::{SOURCE_ROWS, first_directory, tag_of, v1, v1_implicit, v2};
 use std::alloc::Global;
 use std::test::Fail;
 
@@ -11,6 +11,7 @@ pub(crate) fn file_named(alloc: Global, name: &str) -> Result<Vec<u8>, Fail> {
         "v1" => v1(alloc),
         "v1 implicit" => v1_implicit(alloc),
         "v2" => v2(alloc),
+        "first directory" => first_directory(alloc),
         _ => Err("no file of this name".into()),
     }
 }

@@ -1,38 +1,102 @@
 //! Versions of files that a reader gives.
 
+use crate::reading::text_of_keys;
+use crate::refusals::with_patient_id;
 use dd_elem::{ByteSource, Ordered};
-use dd_keys::{ingest, version_of};
-use dd_vectors::{answered, question, v1};
+use dd_keys::{Version, ingest, version_of};
+use dd_vectors::{answered, push_bytes, question, v1, v1_with};
 use std::alloc::Global;
 use std::test::Fail;
 
-/// V1, of 454 bytes: how many come in one read, after how many the reader fails, and the limit.
+/// How many bytes come in one read, after how many the reader fails, the limit, and the file: V1 of 454
+/// bytes, whole or its front of so many bytes, or V1 with other elements. A failure and one byte more than
+/// the limit come before every check, wherever it fails.
 const READ: &str = "\
-1 1000 454 > taken
-100 455 454 > taken
-100000 1000 1000 > taken
-1 1000 453 > 39 FileTooLong
-100 1000 453 > 39 FileTooLong
-100 454 454 > 38 Read
-1 200 454 > 38 Read
-100 0 454 > 38 Read
-100 200 199 > 39 FileTooLong
-100 1000 0 > 39 FileTooLong";
+1 1000 454 whole > taken
+7 1000 454 whole > taken
+100 455 454 whole > taken
+4096 1000 454 whole > taken
+100000 1000 1000 whole > taken
+1 1000 453 whole > 39 FileTooLong
+100 1000 453 whole > 39 FileTooLong
+100 454 454 whole > 38 Read
+1 200 454 whole > 38 Read
+100 0 454 whole > 38 Read
+100 200 199 whole > 39 FileTooLong
+100 1000 0 whole > 39 FileTooLong
+1 132 454 131 > 31 File 21 NotPart10
+1 131 454 131 > 38 Read
+7 1000 454 275 > 31 File 22 GroupLength
+4096 1000 454 453 > 31 File 27 Set 1 Truncated
+7 1000 453 453 > 31 File 27 Set 1 Truncated
+7 1000 452 453 > 39 FileTooLong
+7 1000 500 0010,0020 SQ > 36 KeyIsSequence (0010,0020)
+7 440 500 0010,0020 SQ > 38 Read
+7 300 500 0010,0020 SQ > 38 Read
+7 1000 440 0010,0020 SQ > 39 FileTooLong
+7 1000 500 0020,000D SQ > 36 KeyIsSequence (0020,000D)
+1 1000 500 0008,0016 absent > 33 MissingKey (0008,0016)
+4096 1000 500 0020,000D UI '1..2.3 > 34 BadKeyUid (0020,000D)
+100 1000 500 0008,0018 UI '1.2.3.4.6~ > 37 MetaMismatch (0008,0018)
+7 1000 500 0002,0000 UL 88000000; 0002,0002 UI '1.2.840.10008.5.1.4.1.1.88.11~ > \
+32 NotImage 1.2.840.10008.5.1.4.1.1.88.11
+7 450 500 0002,0000 UL 88000000; 0002,0002 UI '1.2.840.10008.5.1.4.1.1.88.11~ > 38 Read";
 
-/// What becomes of V1 where such a reader gives it: `taken` where it has the version of its bytes.
-fn ingested(alloc: Global, question: &str) -> Result<String, Fail> {
-    let (piece, rest) = question.split_once(' ').ok_or("no piece")?;
-    let (fails, limit) = rest.split_once(' ').ok_or("no limit")?;
-    let bytes = v1(alloc)?;
-    let mut source = ByteSource::new(&bytes, piece.parse()?, Some(fails.parse()?));
-    match ingest(alloc, &mut source, limit.parse()?) {
+/// V1 and behind it (7FE0,0010) with 1,000,000 bytes of zero: how many bytes come in one read, the limit, and
+/// the SHA-256 and the keys.
+const LARGE: &str = "\
+1 1000466 > \
+efcd87e22343fd137453c1ffbda35b482032867d71027bbfdc706b672e5a5d5b \
+'P1 'DOE^JOHN ' '1.2.3 '20240115 '101500 ' ' '1 ' '1.2.3.4 'CT '1 '1 \
+'1.2.840.10008.5.1.4.1.1.2 '1.2.840.10008.1.2.1 '1.2.3.4.5
+7 1000466 > \
+efcd87e22343fd137453c1ffbda35b482032867d71027bbfdc706b672e5a5d5b \
+'P1 'DOE^JOHN ' '1.2.3 '20240115 '101500 ' ' '1 ' '1.2.3.4 'CT '1 '1 \
+'1.2.840.10008.5.1.4.1.1.2 '1.2.840.10008.1.2.1 '1.2.3.4.5
+4096 1000466 > \
+efcd87e22343fd137453c1ffbda35b482032867d71027bbfdc706b672e5a5d5b \
+'P1 'DOE^JOHN ' '1.2.3 '20240115 '101500 ' ' '1 ' '1.2.3.4 'CT '1 '1 \
+'1.2.840.10008.5.1.4.1.1.2 '1.2.840.10008.1.2.1 '1.2.3.4.5
+4096 1000465 > 39 FileTooLong";
+
+/// The file of this name.
+fn file_of(alloc: Global, name: &str) -> Result<Vec<u8>, Fail> {
+    if name == "whole" {
+        return v1(alloc);
+    }
+    let Ok(size) = name.parse() else {
+        return v1_with(alloc, name);
+    };
+    let mut bytes = v1(alloc)?;
+    bytes.truncate(size);
+    Ok(bytes)
+}
+
+/// What the answer says: `taken` where the version is that of the bytes.
+fn outcome(
+    alloc: Global,
+    bytes: &[u8],
+    source: &mut ByteSource<'_>,
+    limit: u64,
+) -> Result<String, Fail> {
+    match ingest(alloc, source, limit) {
         Ok(version) => {
-            let is_same = version.compare(&version_of(alloc, &bytes)?).is_eq();
+            let is_same = version.compare(&version_of(alloc, bytes)?).is_eq();
             let word = if is_same { "taken" } else { "another" };
             Ok(String::from_str(alloc, word)?)
         }
         Err(fault) => Ok(format!(in alloc; "{fault}")?),
     }
+}
+
+/// What becomes of such a file where such a reader gives it.
+fn ingested(alloc: Global, question: &str) -> Result<String, Fail> {
+    let (piece, rest) = question.split_once(' ').ok_or("no piece")?;
+    let (fails, rest) = rest.split_once(' ').ok_or("no failure")?;
+    let (limit, name) = rest.split_once(' ').ok_or("no file")?;
+    let bytes = file_of(alloc, name)?;
+    let mut source = ByteSource::new(&bytes, piece.parse()?, Some(fails.parse()?));
+    outcome(alloc, &bytes, &mut source, limit.parse()?)
 }
 
 fn read(alloc: Global, case: &str) -> Result<String, Fail> {
@@ -45,5 +109,69 @@ fn a_reader_gives_the_version_of_its_bytes(rt: HostRuntime) -> Result<(), Fail> 
     for case in READ.split('\n') {
         assert_eq!(rt; read(rt.alloc(), case)?.as_str(), case);
     }
+    Ok(())
+}
+
+/// V1 with the large element behind it: 1,000,466 bytes.
+fn large_file(alloc: Global) -> Result<Vec<u8>, Fail> {
+    let mut bytes = v1(alloc)?;
+    push_bytes(alloc, &mut bytes, "e07f1000 4f57 0000 40420f00")?;
+    for _ in 0..1000 {
+        bytes.extend_from_slice(&[0; 1000])?;
+    }
+    Ok(bytes)
+}
+
+/// The SHA-256 and the keys of a version.
+fn text_of_version(alloc: Global, version: &Version) -> Result<String, Fail> {
+    let digits = hex::encode(alloc, version.parts().digest)?;
+    let keys = text_of_keys(alloc, version.parts())?;
+    Ok(format!(in alloc; "{digits} {keys}")?)
+}
+
+/// What becomes of the large file where a reader gives it so.
+fn large(alloc: Global, question: &str) -> Result<String, Fail> {
+    let (piece, limit) = question.split_once(' ').ok_or("no piece")?;
+    let bytes = large_file(alloc)?;
+    let mut source = ByteSource::new(&bytes, piece.parse()?, None);
+    match ingest(alloc, &mut source, limit.parse()?) {
+        Ok(version) => text_of_version(alloc, &version),
+        Err(fault) => Ok(format!(in alloc; "{fault}")?),
+    }
+}
+
+fn read_large(alloc: Global, case: &str) -> Result<String, Fail> {
+    let answer = large(alloc, question(case))?;
+    Ok(answered(alloc, case, &answer)?)
+}
+
+#[test]
+fn the_digest_covers_what_stands_behind_the_keys(rt: HostRuntime) -> Result<(), Fail> {
+    for case in LARGE.split('\n') {
+        assert_eq!(rt; read_large(rt.alloc(), case)?.as_str(), case);
+    }
+    Ok(())
+}
+
+/// What becomes of V1 with a Patient ID of so many letters and this padding, in pieces of so many bytes.
+fn long(alloc: Global, piece: u64, letters: usize, padding: &str) -> Result<String, Fail> {
+    let bytes = with_patient_id(alloc, letters, padding)?;
+    let mut source = ByteSource::new(&bytes, piece, None);
+    match ingest(alloc, &mut source, 2000) {
+        Ok(version) => {
+            let kept = version.parts().patient.id.as_bytes().len();
+            Ok(format!(in alloc; "{kept} bytes")?)
+        }
+        Err(fault) => Ok(format!(in alloc; "{fault}")?),
+    }
+}
+
+#[test]
+fn keys_of_a_reader_have_1024_bytes(rt: HostRuntime) -> Result<(), Fail> {
+    assert_eq!(rt; long(rt.alloc(), 7, 1024, "____")?.as_str(), "1024 bytes");
+    assert_eq!(rt;
+        long(rt.alloc(), 7, 1025, "_")?.as_str(),
+        "35 KeyTooLong (0010,0020)"
+    );
     Ok(())
 }

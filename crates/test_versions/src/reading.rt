@@ -92,7 +92,8 @@ fn push_keys(alloc: Global, text: &mut String, keys: &[&[u8]]) -> Result<(), Fai
     Ok(())
 }
 
-fn text_of_keys(alloc: Global, parts: &Parts) -> Result<String, Fail> {
+/// A word for each key of these parts.
+pub(crate) fn text_of_keys(alloc: Global, parts: &Parts) -> Result<String, Fail> {
     let mut text = String::new(alloc);
     push_keys(alloc, &mut text, &first_keys(parts))?;
     push_keys(alloc, &mut text, &last_keys(parts))?;

@@ -89,10 +89,18 @@ fn patient_id(alloc: Global, letters: usize, padding: &str) -> Result<String, Fa
     Ok(change)
 }
 
-/// What becomes of V1 with such a Patient ID.
+/// V1 with such a Patient ID.
+pub(crate) fn with_patient_id(
+    alloc: Global,
+    letters: usize,
+    padding: &str,
+) -> Result<Vec<u8>, Fail> {
+    v1_with(alloc, patient_id(alloc, letters, padding)?.as_str())
+}
+
+/// What becomes of it.
 fn long(alloc: Global, letters: usize, padding: &str) -> Result<String, Fail> {
-    let bytes = v1_with(alloc, patient_id(alloc, letters, padding)?.as_str())?;
-    match version_of(alloc, &bytes) {
+    match version_of(alloc, &with_patient_id(alloc, letters, padding)?) {
         Ok(version) => {
             let kept = version.parts().patient.id.as_bytes().len();
             Ok(format!(in alloc; "{kept} bytes")?)

@@ -1,12 +1,11 @@
-use Rattle.dd_part10.specs.Gives.{file_view}
-use Rattle.dd_keys.proofs.Passes.{passes}
+use Rattle.dd_keys.proofs.Passes.{told_passes}
 use Rattle.dd_keys.proofs.values.series_keys.Goals as goal
 
 pub uid-requires : goal.uid-requires
-uid-requires c = (passes (file_view c.args.file.now) c.requires).series
+uid-requires g c = (told_passes c.args.meta.now (g.V.Values.tells c.args.values.now) c.requires.passes).series
 
 pub key-requires-clause-passes : goal.key-requires-clause-passes
-key-requires-clause-passes c = (passes (file_view c.args.file.now) c.requires).modality
+key-requires-clause-passes g c = (told_passes c.args.meta.now (g.V.Values.tells c.args.values.now) c.requires.passes).modality
 
 pub key-requires-2-clause-passes : goal.key-requires-2-clause-passes
-key-requires-2-clause-passes c = (passes (file_view c.args.file.now) c.requires).series_number
+key-requires-2-clause-passes g c = (told_passes c.args.meta.now (g.V.Values.tells c.args.values.now) c.requires.passes).series_number

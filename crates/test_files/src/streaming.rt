@@ -1,0 +1,131 @@
+//! Files read from a reader.
+
+use crate::vectors::{file_named, meta_of};
+use dd_elem::{ByteSource, Tag};
+use dd_part10::{Meta, Scanned, StreamFault, read_file};
+use dd_set::{Found, FoundValue};
+use dd_vectors::{answered, bytes_of, failing, put_at, question, tag_of, text_of, v1};
+use std::alloc::Global;
+use std::test::Fail;
+
+/// Reads of V1, which has 454 bytes, with other bytes in one place: the place, the bytes, the most bytes
+/// of a read, the limit, after how many bytes the reader fails, and the wanted tags. The bytes are one of
+/// the preamble as it is, one of the prefix, and the group of the first element of the data set.
+const READS: &str = "\
+0 00 1 454 - 0010,0020 > as parsed; (0010,0020) 'P1 2
+0 00 7 454 - 0010,0020 > as parsed; (0010,0020) 'P1 2
+0 00 4096 454 - 0010,0020 > as parsed; (0010,0020) 'P1 2
+0 00 454 454 - 0020,0013 0008,0016 > \
+as parsed; (0008,0016) '1.2.840.10008.5.1.4.1.1.2 25; (0020,0013) '1 1
+0 00 7 4096 - 0010,0020 0002,0003 0010,0021 > as parsed; (0010,0020) 'P1 2
+0 00 44 454 - > as parsed
+0 00 7 454 - 0010,0020 0010,0020 > as parsed; (0010,0020) 'P1 2
+0 00 44 453 - 0010,0020 > 15 TooLong
+0 00 4096 453 - 0010,0020 > 15 TooLong
+0 00 1 0 - 0010,0020 > 15 TooLong
+0 00 44 454 0 0010,0020 > 14 Read
+0 00 44 454 453 0010,0020 > 14 Read
+0 00 44 454 454 0010,0020 > 14 Read
+0 00 44 453 454 0010,0020 > 15 TooLong
+128 64 44 454 - 0010,0020 > 21 NotPart10
+128 64 44 454 453 0010,0020 > 14 Read
+128 64 44 454 128 0010,0020 > 14 Read
+128 64 44 453 - 0010,0020 > 15 TooLong
+276 02 44 454 - 0010,0020 > 22 GroupLength
+276 02 44 454 453 0010,0020 > 14 Read
+276 02 44 454 276 0010,0020 > 14 Read
+276 02 44 453 - 0010,0020 > 15 TooLong";
+
+/// Files, and what is told of their Directory Record Sequence, Referenced Image Sequence and Patient ID, which
+/// the directory holds in an item alone.
+const FILES: &str = "\
+v1 > as parsed; (0010,0020) 'P1 2
+v1 implicit > as parsed; (0008,1140) items; (0010,0020) 'P1 2
+v2 > as parsed; (0004,1220) items
+first directory > as parsed; (0004,1220) items";
+
+/// The tag of an element that was found, and `items`, or the front of its value and the length.
+fn value(alloc: Global, found: &Found) -> Result<String, Fail> {
+    let tag = found.tag;
+    let FoundValue::Bytes { front, length } = &found.value else {
+        return Ok(format!(in alloc; "; {tag} items")?);
+    };
+    let front = text_of(alloc, front)?;
+    Ok(format!(in alloc; "; {tag} {front} {length}")?)
+}
+
+/// What was read: whether the meta information is this one, and of each element that was found the tag,
+/// the front of the value and the length; or the fault.
+fn told(
+    alloc: Global,
+    answer: Result<Scanned, StreamFault>,
+    parsed: &Meta,
+) -> Result<String, Fail> {
+    let scanned = match answer {
+        Ok(scanned) => scanned,
+        Err(fault) => return Ok(format!(in alloc; "{fault}")?),
+    };
+    if scanned.meta != *parsed {
+        return Err("other meta information".into());
+    }
+    let mut text = String::from_str(alloc, "as parsed")?;
+    for found in &scanned.found {
+        text.push_str(value(alloc, found)?.as_str())?;
+    }
+    Ok(text)
+}
+
+/// V1 with these bytes from this place on.
+fn changed(alloc: Global, place: &str, change: &str) -> Result<Vec<u8>, Fail> {
+    let mut bytes = v1(alloc)?;
+    put_at(&mut bytes, place.parse()?, &bytes_of(alloc, change)?)?;
+    Ok(bytes)
+}
+
+fn read(alloc: Global, parsed: &Meta, case: &str) -> Result<String, Fail> {
+    let mut words = question(case).split(' ');
+    let place = words.next().ok_or("no place")?;
+    let bytes = changed(alloc, place, words.next().ok_or("no bytes")?)?;
+    let piece = words.next().ok_or("no piece")?.parse()?;
+    let limit = words.next().ok_or("no limit")?.parse()?;
+    let fails = failing(words.next().ok_or("no failure")?)?;
+    let mut wanted = Vec::new(alloc);
+    for word in words {
+        wanted.push(tag_of(word)?)?;
+    }
+    let mut reader = ByteSource::new(&bytes, piece, fails);
+    let answer = read_file(alloc, &mut reader, &wanted, limit);
+    Ok(answered(alloc, case, &told(alloc, answer, parsed)?)?)
+}
+
+#[test]
+fn one_file_read_in_many_ways(rt: HostRuntime) -> Result<(), Fail> {
+    let parsed = meta_of(rt.alloc(), &v1(rt.alloc())?)?;
+    for case in READS.split('\n') {
+        assert_eq!(rt; read(rt.alloc(), &parsed, case)?.as_str(), case);
+    }
+    Ok(())
+}
+
+fn read_whole(alloc: Global, piece: u64, case: &str) -> Result<String, Fail> {
+    let bytes = file_named(alloc, question(case))?;
+    let parsed = meta_of(alloc, &bytes)?;
+    let mut reader = ByteSource::new(&bytes, piece, None);
+    let wanted: [Tag; 3] = [
+        tag_of("0010,0020")?,
+        tag_of("0008,1140")?,
+        tag_of("0004,1220")?,
+    ];
+    let answer = read_file(alloc, &mut reader, &wanted, 4096);
+    Ok(answered(alloc, case, &told(alloc, answer, &parsed)?)?)
+}
+
+#[test]
+fn files_read_for_some_elements(rt: HostRuntime) -> Result<(), Fail> {
+    for piece in [1, 7, 4096] {
+        for case in FILES.split('\n') {
+            assert_eq!(rt; read_whole(rt.alloc(), piece, case)?.as_str(), case);
+        }
+    }
+    Ok(())
+}
