@@ -1,5 +1,5 @@
 -- What a directory that is written here says of the images that it lists: their versions, and where their files are.
-use Rattle.std.specs.Prelude.{◌≡◌, ◌≢◌, ℕ, List, [], unwrap_or, Result, Ok, Err}
+use Rattle.std.specs.Prelude.{◌≡◌, ◌≢◌, ℕ, List, [], map, unwrap_or, Result, Ok, Err}
 use Rattle.dd_keys.specs.Values.{value_at}
 use Rattle.dd_keys.specs.declared.keys.PatientKeys.{PatientKeys}
 use Rattle.dd_keys.specs.declared.keys.SeriesKeys.{SeriesKeys}
@@ -8,6 +8,7 @@ use Rattle.dd_keys.specs.declared.parts.Parts.{Parts}
 use Rattle.dd_layout.specs.declared.table.Row.{Row}
 use Rattle.dd_layout.specs.declared.table.TheConstants as row
 use Rattle.dd_set.specs.Elements.{Elements}
+use Rattle.dd_dir.specs.declared.own.Own.{Own}
 use Rattle.dd_dir.specs.declared.own.Place.{Place}
 use Rattle.dd_dir.specs.declared.own_fault.OwnFault.{OwnFault}
 use Rattle.dd_dir.specs.declared.own_fault.OwnFault.TheVariants.{Memory}
@@ -79,6 +80,11 @@ abbrev pub place_view : Place → Located
 place_view place = record { uid = place.uid; digest = place.digest; file = place.file.now }
 
 -- ---- answers
+
+-- it tells of these images their versions, and where their files are
+pub record Tells (images : List Listed) (told : Own) : Type 0 where
+  pub versions : told.versions.items ≡ map version_of images
+  pub places : map place_view told.places.items ≡ map place_of images
 
 -- The answer where the records list these images, or fail by this fault: what the images give, or the fault. Memory is
 -- wanted only where there is an image, or a fault.

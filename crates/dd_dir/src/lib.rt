@@ -32,7 +32,7 @@ pub use laws::{
     directory_is_as_long_as_planned, four_images_have_two_roots, harmony_keeps_the_directory,
     same_versions_same_directory,
 };
-pub use own::{Place, catalogue_of, places_of};
+pub use own::{Own, Place, catalogue_of, own_of, places_of};
 pub use own_checks::digest_in;
 pub use own_fault::OwnFault;
 pub use publishing::{assemble, publish};

@@ -4,7 +4,7 @@ ghost use Rattle.std.specs.Prelude.{◌≡◌, ◌≢◌, [], map, All, IfOk, On
 ghost use Rattle.dd_catalogue.specs.Versions.{best_of};
 ghost use Rattle.dd_dir.specs.ForestViews.{walk_view};
 ghost use Rattle.dd_dir.specs.Own.{own};
-ghost use Rattle.dd_dir.specs.OwnVersions.{Answers, place_of, place_view, version_of};
+ghost use Rattle.dd_dir.specs.OwnVersions.{Answers, Tells, place_of, place_view, version_of};
 ghost use Rattle.dd_dir.specs.OwnViews.{IsListed, listed_view};
 
 use crate::forest::Forest;
@@ -26,6 +26,35 @@ pub struct Place<'a> {
     pub digest: [u8; 32],
     /// Its File ID, without padding.
     pub file: &'a [u8],
+}
+
+/// What a directory that is written here says of the images that it lists, in the order of their records,
+/// depth first.
+#[derive(Debug)]
+pub struct Own<'a> {
+    /// The version of each.
+    pub versions: Vec<Version>,
+    /// Where the file of each is.
+    pub places: Vec<Place<'a>>,
+}
+
+// By hand, so that letting go of it is one call.
+impl Drop for Own<'_> {
+    fn drop(self) {
+        let Own {
+            versions: _versions,
+            places: _places,
+        } = self;
+    }
+}
+
+/// What a directory says whose records are those that are written here; its records are gone over once.
+/// Refused as `catalogue_of` refuses.
+pub fn own_of<'a>(alloc: Global, forest: &Forest<'a>) -> Result<Own<'a>, OwnFault>
+    ensures { Answers (own (walk_view forest.now)) Tells result }
+{
+    let images = listed(alloc, forest)?;
+    Ok(told(alloc, &images)?)
 }
 
 /// The best of the versions of the images that a directory lists whose records are those that are
@@ -62,13 +91,24 @@ fn listed<'f, 'a>(alloc: Global, forest: &'f Forest<'a>) -> Result<Vec<Listed<'f
     Ok(images)
 }
 
+/// What is told of these images.
+fn told<'a>(alloc: Global, images: &[Listed<'_, 'a>]) -> Result<Own<'a>, Memory>
+    requires { All (λ image. IsListed (listed_view image)) images.now }
+    ensures all { IfOk result (λ own. Tells (map listed_view images.now) own) }
+    ensures some { OnErr result (images.now ≢ []) }
+{
+    let versions = versions(alloc, images)?;
+    let places = places(alloc, images)?;
+    Ok(Own { versions, places })
+}
+
 /// The versions of these images.
 fn versions(alloc: Global, images: &[Listed<'_, '_>]) -> Result<Vec<Version>, Memory>
     requires { All (λ image. IsListed (listed_view image)) images.now }
     ensures all { IfOk result (λ versions. versions.items ≡ map version_of (map listed_view images.now)) }
     ensures some { OnErr result (images.now ≢ []) }
 {
-    let mut versions = Vec::new(alloc);
+    let mut versions = Vec::with_capacity(alloc, images.len())?;
     for image in images {
         versions.push(version_of(alloc, image)?)?;
     }

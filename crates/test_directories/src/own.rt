@@ -1,8 +1,9 @@
-//! Directories that are written here, read back: their catalogues, and where their files are.
+//! Directories that are written here, read back: their catalogues, where their files are, and what they list.
 
 use crate::walks::changed;
 use dd_catalogue::Catalogue;
-use dd_dir::{Place, catalogue_of, places_of, read_directory};
+use dd_dir::{Own, Place, catalogue_of, own_of, places_of, read_directory};
+use dd_samples::told;
 use dd_vectors::{answered, question};
 use std::alloc::{AllocError, Global};
 use std::test::Fail;
@@ -33,6 +34,23 @@ one > 1 1.2.3.4.5 PT000001\\ST000001\\SE000001\\IM000001
 1.2.3.4.6 PT000001\\ST000001\\SE000001\\IM000002 \
 1.2.3.5.1 PT000001\\ST000001\\SE000002\\IM000001 \
 1.2.9.1.1 PT000002\\ST000001\\SE000001\\IM000001
+v3 > 62 ForeignRecord 646
+v3 674 ffff > 61 NoDigest 646
+one 348 0000 > 62 ForeignRecord 320
+one 402 2020 > 63 RecordKey 320 (0010,0020)";
+
+/// A directory with what is put into its bytes; and the first byte of the digest, the description, the instance
+/// and the File ID of each image, in the order of their records, or why it is refused.
+const IMAGES: &str = "\
+v2 > 0
+12 > 2, 170 ' 1.2.3.4.5 PT000001\\ST000001\\SE000001\\IM000001, \
+170 ' 1.2.3.4.6 PT000001\\ST000001\\SE000001\\IM000002
+12 1026 '5 > 2, 170 ' 1.2.3.4.5 PT000001\\ST000001\\SE000001\\IM000001, \
+170 ' 1.2.3.4.5 PT000001\\ST000001\\SE000001\\IM000002
+17 > 2, 170 ' 1.2.3.4.9 PT000001\\ST000001\\SE000001\\IM000001, \
+170 ' 1.2.3.4.5 PT000001\\ST000001\\SE000002\\IM000001
+yz > 2, 2 'B 1.2.3.4.5 PT000001\\ST000001\\SE000001\\IM000001, \
+1 'B 1.2.3.4.6 PT000001\\ST000001\\SE000001\\IM000002
 v3 > 62 ForeignRecord 646
 v3 674 ffff > 61 NoDigest 646
 one 348 0000 > 62 ForeignRecord 320
@@ -90,6 +108,34 @@ fn places(alloc: Global, case: &str) -> Result<String, Fail> {
 fn files_of_directories(rt: HostRuntime) -> Result<(), Fail> {
     for case in PLACES.split('\n') {
         assert_eq!(rt; places(rt.alloc(), case)?.as_str(), case);
+    }
+    Ok(())
+}
+
+/// How many images there are, and what is told of the version of each, with its File ID.
+fn images(alloc: Global, own: &Own<'_>) -> Result<String, Fail> {
+    let count = own.places.len();
+    let mut text = format!(in alloc; "{count}")?;
+    for (version, place) in own.versions.iter().zip(&own.places) {
+        let (version, file) = (told(alloc, version)?, str::from_utf8(place.file)?);
+        write!(text, ", {version} {file}")?;
+    }
+    Ok(text)
+}
+
+fn own(alloc: Global, case: &str) -> Result<String, Fail> {
+    let bytes = changed(alloc, question(case))?;
+    let forest = read_directory(alloc, &bytes)?;
+    match own_of(alloc, &forest) {
+        Ok(own) => Ok(answered(alloc, case, &images(alloc, &own)?)?),
+        Err(fault) => Ok(answered(alloc, case, &fault)?),
+    }
+}
+
+#[test]
+fn images_of_directories(rt: HostRuntime) -> Result<(), Fail> {
+    for case in IMAGES.split('\n') {
+        assert_eq!(rt; own(rt.alloc(), case)?.as_str(), case);
     }
     Ok(())
 }

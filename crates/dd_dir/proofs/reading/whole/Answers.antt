@@ -137,3 +137,6 @@ returns-clause-records c = λ memory.
           (set_view f.set) f.set_at contents is_file class told,
       c.walked.ensures.memory memory,
     )
+
+pub returns-in_err-file-clause-set : goal.returns-in_err-file-clause-set
+returns-in_err-file-clause-set c = λ memory. c.parse_file.ensures.set (search rules)
