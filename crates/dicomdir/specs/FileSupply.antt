@@ -2,7 +2,7 @@
 use Rattle.std.specs.Prelude.{ℕ, List, Option, slice_get, slice_index_or}
 use Rattle.std.specs.Option.{option_and_then}
 use Rattle.dd_elem.specs.declared.counts.Counts.{Counts}
-use Rattle.dicomdir.specs.Files.{Held}
+use Rattle.dd_files.specs.Files.{Held}
 
 -- the bytes of the file at the path of a source
 abbrev pub told_by : Option Held → List (List ℕ) → ℕ → Option (List ℕ)

@@ -2,19 +2,14 @@
 ghost use Rattle.std.specs.Prelude.{ℕ, All, IfErr};
 ghost use Rattle.dicomdir.specs.Trouble.{IsAmong, IsOfWork};
 
-use crate::copy::{CopyFault, copy_image};
-use crate::files::Files;
 use crate::image_path::{ImageFolder, ImagePath, PATH_LENGTH};
 use crate::origins::Origins;
-use crate::paths::path_in;
 use crate::trouble::{ProgramFault, Subject, Trouble};
 use dd_elem::FileId;
+use dd_files::{CopyFault, Files, SOURCE_LIMIT, copy_image, path_in};
 use dd_layout::Plan;
 use std::alloc::Global;
 use std::fmt::InlineText;
-
-/// The most bytes of a source.
-pub(crate) const SOURCE_LIMIT: u64 = u32::MAX as u64;
 
 /// An image of the file-set.
 #[derive(Clone, Copy)]

@@ -2,15 +2,14 @@
 ghost use Rattle.std.specs.Prelude.{◌≡◌, ℕ, All, IfErr, IsErr, IsOk, option_map};
 ghost use Rattle.dd_dir.specs.Directories.{directory_of};
 ghost use Rattle.dd_elem.specs.Device.{counted, HasFailed};
-ghost use Rattle.dicomdir.specs.Files.{ended, grown, published, started};
+ghost use Rattle.dd_files.specs.Files.{ended, grown, published, started};
 ghost use Rattle.dicomdir.specs.Trouble.{IsBadLine, IsOfWork};
 
 use crate::copies::copy_images;
-use crate::files::Files;
 use crate::origins::Origins;
-use crate::paths::{DIRECTORY, path_in};
 use crate::trouble::{ProgramFault, Subject, Trouble};
 use dd_dir::write_directory;
+use dd_files::{DIRECTORY, Files, path_in};
 use dd_layout::{Limits, Plan};
 use std::alloc::Global;
 

@@ -1,13 +1,13 @@
 //! Files as sources.
 ghost use Rattle.std.specs.Prelude.{◌≡◌, length, map, string_bytes, Option};
 ghost use Rattle.std.specs.Borrow.{GName};
-ghost use Rattle.dicomdir.specs.Files.{Held};
+ghost use Rattle.dd_files.specs.Files.{Held};
 ghost use Rattle.dicomdir.specs.FileSupply.{told_by, counts_at};
 
-use crate::files::{Files, NotThere};
-use crate::supply::Supply;
 use crate::watched::Watched;
 use dd_elem::Counts;
+use dd_engine::Supply;
+use dd_files::{Files, NotThere};
 
 /// Files that are read as sources, by their paths. The calls among the counts of a source are the
 /// refusals to open it, and the failures are those of its readers.

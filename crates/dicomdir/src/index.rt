@@ -1,17 +1,14 @@
 //! A file-set of sources: the plan of its directory.
 ghost use Rattle.std.specs.Prelude.{◌≡◌, ℕ, IfErr, IfOk, length};
-ghost use Rattle.dicomdir.specs.Indexed.{IsNamed, IsWithin};
+ghost use Rattle.dd_engine.specs.Indexed.{IsNamed, IsWithin};
 ghost use Rattle.dicomdir.specs.Trouble.{IsOfWork};
 
-use crate::choice::Choice;
-use crate::copies::SOURCE_LIMIT;
-use crate::engine::{Indexed, index_engine};
-use crate::engine_fault::EngineFault;
 use crate::file_set::{limits_of, refuse_taken};
 use crate::file_supply::FileSupply;
-use crate::files::Files;
 use crate::trouble::{ProgramFault, Subject, Trouble};
 use dd_elem::{Counts, Memory};
+use dd_engine::{Choice, EngineFault, Indexed, index_engine};
+use dd_files::{Files, SOURCE_LIMIT};
 use dd_layout::Limits;
 use std::alloc::Global;
 

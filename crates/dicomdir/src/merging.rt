@@ -1,16 +1,14 @@
 //! A file-set of others.
 ghost use Rattle.std.specs.Prelude.{◌≡◌, ◌<◌, ℕ, All, IfErr, IfOk, length};
-ghost use Rattle.dicomdir.specs.Merged.{IsAt};
+ghost use Rattle.dd_engine.specs.Merged.{IsAt};
 ghost use Rattle.dicomdir.specs.Trouble.{IsOfWork};
 
-use crate::choice::Choice;
 use crate::file_set::{limits_of, refuse_taken};
-use crate::files::Files;
-use crate::merge::{Merged, merge_engine};
-use crate::merge_fault::MergeFault;
 use crate::set_directory::read_directories;
 use crate::trouble::{ProgramFault, Subject, Trouble};
 use dd_elem::Memory;
+use dd_engine::{Choice, MergeFault, Merged, merge_engine};
+use dd_files::Files;
 use std::alloc::Global;
 
 /// The directories of all these sets, read whole. Refused, in this order, where the folder has a

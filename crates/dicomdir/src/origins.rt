@@ -1,13 +1,13 @@
 //! What the images of a file-set are copied from.
 ghost use Rattle.std.specs.Prelude.{◌≡◌, ◌<◌, ℕ, List, [], All, IfOk, length, map, slice_index_or, string_bytes};
-ghost use Rattle.dicomdir.specs.Paths.{IsPathIn, id_path};
+ghost use Rattle.dd_files.specs.Paths.{IsPathIn, id_path};
 ghost use Rattle.dicomdir.specs.Trouble.{IsAmong, IsFileOf, IsSource};
 
-use crate::file_path::file_path;
 use crate::image_path::{Components, PathText};
-use crate::merge::Pick;
 use crate::trouble::Subject;
 use dd_elem::Memory;
+use dd_engine::Pick;
+use dd_files::file_path;
 use std::alloc::Global;
 
 /// Files that images are copied from.

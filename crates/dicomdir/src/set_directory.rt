@@ -2,13 +2,10 @@
 ghost use Rattle.std.specs.Prelude.{◌≡◌, ◌<◌, ℕ, IfErr, IfOk, length};
 ghost use Rattle.dicomdir.specs.Trouble.{IsOfWork};
 
-use crate::copies::SOURCE_LIMIT;
-use crate::files::Files;
-use crate::gathering::is_want_of_memory;
-use crate::paths::{DIRECTORY, path_in};
 use crate::trouble::{ProgramFault, Subject, Trouble};
 use dd_dir::DirFault;
-use dd_keys::{KeyFault, read_whole};
+use dd_engine::is_want_of_memory;
+use dd_files::{DIRECTORY, Files, SOURCE_LIMIT, WholeFault, path_in, read_whole};
 use std::alloc::Global;
 
 /// Reads the directories of all these file-sets whole, in their order.
@@ -48,9 +45,9 @@ pub(crate) fn directory_bytes<F: Files>(
     };
     match read_whole(alloc, &mut reader, SOURCE_LIMIT) {
         Ok(bytes) => Ok(bytes),
-        Err(KeyFault::Read) => Err(Trouble::of(Subject::SetDirectory(at), ProgramFault::Unread)),
-        Err(KeyFault::FileTooLong) => Err(Trouble::of(Subject::Source(at), ProgramFault::TooLong)),
-        Err(_) => Err(Trouble::general(ProgramFault::Memory)),
+        Err(WholeFault::Read) => Err(Trouble::of(Subject::SetDirectory(at), ProgramFault::Unread)),
+        Err(WholeFault::TooLong) => Err(Trouble::of(Subject::Source(at), ProgramFault::TooLong)),
+        Err(WholeFault::Memory) => Err(Trouble::general(ProgramFault::Memory)),
     }
 }
 

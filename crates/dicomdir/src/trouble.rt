@@ -1,17 +1,13 @@
 //! What goes wrong in a run, and how it is told.
-ghost use Rattle.std.specs.Prelude.{◌≡◌, ◌↔◌, ◌⊎◌, IsTrue, length};
-ghost use Rattle.dd_keys.specs.Faults.{SaysMemory};
+ghost use Rattle.std.specs.Prelude.{◌≡◌, ◌↔◌, ◌⊎◌, length};
 ghost use Rattle.dicomdir.specs.Trouble.{IsAmong, IsBadLine};
 
 use crate::image_path::{ImageFolder, ImagePath, PATH_LENGTH, PathText};
-use crate::paths::{DIRECTORY, is_joined_by_slash};
-use crate::text::print_line;
 use dd_dir::{DirFault, OwnFault};
 use dd_elem::{BadSetId, BadUid, FileId, Write};
-use dd_keys::KeyFault;
+use dd_files::{DIRECTORY, is_joined_by_slash};
 use dd_layout::PlanFault;
-use dd_part10::FileFault;
-use dd_set::SetFault;
+use dd_report::print_line;
 use std::fmt::InlineText;
 use thiserror::Error;
 
@@ -106,17 +102,6 @@ impl Trouble {
     {
         Trouble { subject, fault }
     }
-}
-
-/// Does the fault say that a growth was refused?
-pub(crate) fn is_want_of_memory(fault: &KeyFault) -> bool
-    ensures { IsTrue result ↔ SaysMemory fault.now }
-{
-    matches!(
-        fault,
-        KeyFault::Memory
-            | KeyFault::File(FileFault::Meta(SetFault::Memory) | FileFault::Set(SetFault::Memory))
-    )
 }
 
 // No fault has as many bytes.

@@ -1,7 +1,7 @@
 use Rattle.std.proofs.Common.{length, map, subst}
 use Rattle.std.proofs.lemmas.List.{length-map}
-use Rattle.dicomdir.specs.Merged.{IsAt}
-use Rattle.dicomdir.proofs.FaultsNamed.{fault_at}
+use Rattle.dd_engine.specs.Merged.{IsAt}
+use Rattle.dd_engine.proofs.FaultsNamed.{fault_at}
 use Rattle.dicomdir.proofs.merging.merged.Goals as goal
 
 pub returns-in-Err-clause-trouble : goal.returns-in-Err-clause-trouble

@@ -1,7 +1,7 @@
 use Rattle.std.proofs.Common.{subst, sym}
 use Rattle.clap.specs.Words.{subcommand_of}
-use Rattle.dicomdir.specs.Line.{HasBadName, IsCheck, dicomdir_app, words_of}
-use Rattle.dicomdir.proofs.LineLemmas.{asked_bad, asked_check, given_bad}
+use Rattle.dd_line.specs.Line.{HasBadName, IsCheck, dicomdir_app, words_of}
+use Rattle.dd_line.proofs.LineLemmas.{asked_bad, asked_check, given_bad}
 use Rattle.dicomdir.proofs.program.run.Goals as goal
 
 pub returns-in-Ok-clause-findings : goal.returns-in-Ok-clause-findings

@@ -1,6 +1,7 @@
 use Rattle.std.proofs.Common.{ap, ap₂, length, subst, ◌∙◌}
 use Rattle.std.specs.Fmt.{decimal}
-use Rattle.dicomdir.specs.Text.{TakesAll, done_parts}
+use Rattle.dd_report.specs.Text.{TakesAll}
+use Rattle.dicomdir.specs.Done.{done_parts}
 use Rattle.dicomdir.proofs.program.tell_done.Goals as goal
 
 pub returns-in-Ok-clause-done : goal.returns-in-Ok-clause-done

@@ -1,0 +1,224 @@
+-- What a reader gave is answered as its source, and the answers of all sources are kept in their order.
+use Rattle.std.proofs.Common.{◌≡◌, ◌≢◌, ◌<◌, ◌≤◌, ◌+◌, ℕ, zero, suc, List, [], ◌∷◌, ◌++◌, length, map}
+use Rattle.std.proofs.Common.{Option, Some, None, Ok, Err, refl, sym, ap, subst, inl, inr, ◌∙◌, arith}
+use Rattle.std.proofs.lemmas.List.{append-nil, length-append, map-append}
+use Rattle.std.proofs.lemmas.Bool.{cases_eq}
+use Rattle.std.specs.Prelude.{IfErr, IfSome, slice_get}
+use Rattle.std.specs.Io.KnownBytes.{Consumes}
+use Rattle.dd_elem.specs.Device.{HasFailed, HasWorked, IsLive, counted, last_count}
+use Rattle.dd_keys.specs.Answers.{Answers, AnswersReader}
+use Rattle.dd_keys.specs.declared.fault.KeyFault.{KeyFault}
+use Rattle.dd_keys.specs.declared.fault.KeyFault.TheVariants.{FileTooLong}
+use Rattle.dd_keys.specs.declared.parts.Parts.{Parts}
+use Rattle.dd_engine.specs.Indexing.{Answer, Sourced, accepted_from, accepted, skipped_from, versions_of}
+use Rattle.dd_engine.specs.declared.engine_fault.EngineFault.{EngineFault}
+use Rattle.dd_engine.specs.declared.engine_fault.EngineFault.TheVariants.{Memory, Absent, Unread, Plan}
+use Rattle.dd_engine.specs.declared.reading.Sources.{Sources}
+use Rattle.dd_engine.specs.Supply.{AllStay, OthersStay, StayBelow, EndsWith, added}
+use Rattle.dd_engine.specs.Supply.{AnswersSource, AreAnswers, Holds, IsAnswer, IsOfSource}
+
+-- ---- the answer of a reader is that of its source
+
+-- a reader with an answer for its source did not fail
+pub unfailed : (limit : ℕ) (given : List ℕ) (left : Option (List ℕ)) (old new : ℕ) (answer : Answer)
+    → AnswersReader limit given left old new answer → IfErr answer IsOfSource → HasWorked old new
+unfailed limit given left old new (Ok version) h settled = (h.whole (λ e. cc) (λ e. cc) tt).0.worked
+unfailed limit given left old new (Err FileTooLong) h settled = (h.long refl).1
+unfailed limit given left old new (Err fault) h settled =
+    (h.whole (λ e. settled.0 (cc)) (λ e. cc) settled.1).0.worked
+
+-- what was told, of a reader that has come to its end within the limit
+whole_source : (limit : ℕ) (file given rest : List ℕ) (answer : Answer) → file ≡ given ++ rest → rest ≡ []
+    → length given ≤ limit → answer ≢ Err FileTooLong → Answers given answer → AnswersSource limit file answer
+whole_source limit file given rest answer all ended within short h =
+    let same : file ≡ given = all ∙ ap (λ (bytes : List ℕ). given ++ bytes) ended ∙ append-nil given in
+    record {
+      long = (λ e. absurd (short e), λ more. absurd (omega (arith, ap length same)));
+      whole = λ _. subst (λ (bytes : List ℕ). Answers bytes answer) (sym same) h;
+    }
+
+long_source : (limit : ℕ) (file given rest : List ℕ) → file ≡ given ++ rest → length given ≡ limit + 1
+    → AnswersSource limit file (Err FileTooLong)
+long_source limit file given rest all many =
+    let size : length file ≡ length given + length rest = ap length all ∙ length-append given rest in
+    record {
+      long = (λ _. omega arith, λ _. refl);
+      whole = λ within. absurd (omega arith);
+    }
+
+source_told : (limit : ℕ) (file given rest : List ℕ) (old new : ℕ) (answer : Answer) → file ≡ given ++ rest
+    → AnswersReader limit given (Some rest) old new answer → IfErr answer IsOfSource
+    → AnswersSource limit file answer
+source_told limit file given rest old new (Ok version) all h settled =
+    let read = h.whole (λ e. cc) (λ e. cc) tt in
+    whole_source limit file given rest (Ok version) all read.0.ended read.0.within (λ e. cc) read.1
+source_told limit file given rest old new (Err FileTooLong) all h settled =
+    long_source limit file given rest all (h.long refl).0
+source_told limit file given rest old new (Err fault) all h settled =
+    let read = h.whole (λ e. settled.0 (cc)) (λ e. cc) settled.1 in
+    whole_source limit file given rest (Err fault) all read.0.ended read.0.within (λ e. cc) read.1
+
+told_right : (limit : ℕ) (told left : Option (List ℕ)) (given : List ℕ) (old new : ℕ) (answer : Answer)
+    → Consumes told left given → AnswersReader limit given left old new answer → IfErr answer IsOfSource
+    → IfSome told (λ file. AnswersSource limit file answer)
+told_right limit None left given old new answer known h settled = tt
+told_right limit (Some file) None given old new answer known h settled = absurd known
+told_right limit (Some file) (Some rest) given old new answer known h settled =
+    source_told limit file given rest old new answer known h settled
+
+-- what a reader has left, which is what is told where it is
+consumes_told : (told start left : Option (List ℕ)) (given : List ℕ) → IfSome told (λ file. start ≡ Some file)
+    → Consumes start left given → Consumes told left given
+consumes_told None start left given same known = tt
+consumes_told (Some file) start left given same known =
+    subst (λ (first : Option (List ℕ)). Consumes first left given) same known
+
+-- the answer for a source
+pub source_answer : (limit : ℕ) (told start left : Option (List ℕ)) (given : List ℕ) (old new : ℕ) (answer : Answer)
+    → IfSome told (λ file. start ≡ Some file) → Consumes start left given
+    → AnswersReader limit given left old new answer → IfErr answer IsOfSource → IsAnswer limit told answer
+source_answer limit told start left given old new answer same known h settled = record {
+  settled = settled;
+  right = told_right limit told left given old new answer (consumes_told told start left given same known) h settled;
+}
+
+-- ---- the counts of sources
+
+-- nothing is added to a count that is not at its last value
+none_more : (old more : ℕ) → more ≡ 0 → old < last_count → added old more ≡ old
+none_more old more none below = omega arith
+
+-- the count of a source stays where no read of its reader failed
+unread_here : (at sources failures : ℕ) (old before new : ℕ → ℕ) → at < sources → old at < last_count
+    → AllStay old before → (at < sources → new at ≡ added (before at) failures) → failures ≡ 0 → new at ≡ old at
+unread_here at sources failures old before new there below same here none =
+    let last : before at < last_count = subst (λ (n : ℕ). n < last_count) (sym (same.stays at)) below in
+    here there ∙ none_more (before at) failures none last ∙ same.stays at
+
+pub unread_stays : (at sources rest failures : ℕ) (old before new : ℕ → ℕ) → at < sources → rest ≡ sources
+    → old at < last_count → AllStay old before → (at < rest → new at ≡ added (before at) failures)
+    → OthersStay at before new → failures ≡ 0 → AllStay old new
+unread_stays at sources rest failures old before new there many below same here others none =
+    let in_rest : at < rest = omega arith in
+    let stays = unread_here at rest failures old before new in_rest below same here none in
+    record {
+      stays = λ other. elim (cases_eq other at) [
+        | inl is ↦ subst (λ (one : ℕ). new one ≡ old one) (sym is) stays
+        | inr apart ↦ others.stays other apart ∙ same.stays other
+      ];
+    }
+
+-- what stayed twice
+pub all_later : (old before new : ℕ → ℕ) → AllStay old before → AllStay before new → AllStay old new
+all_later old before new one two = record { stays = λ at. two.stays at ∙ one.stays at }
+
+below_later : (at : ℕ) (old before new : ℕ → ℕ) → AllStay old before → StayBelow at before new → StayBelow at old new
+below_later at old before new one two = record { stays = λ other less. two.stays other less ∙ one.stays other }
+
+-- a fault of a source after others that did not fail
+pub ends_later : (fault : EngineFault) (sources rest : ℕ) (old before new first next last : ℕ → ℕ) → rest ≡ sources
+    → AllStay old before → AllStay first next → EndsWith fault rest before new next last
+    → EndsWith fault sources old new first last
+ends_later Memory sources rest old before new first next last same one two h =
+    (all_later old before new one h.0, all_later first next last two h.1)
+ends_later (Absent at) sources rest old before new first next last same one two h = (
+  subst (λ (n : ℕ). at < n) same h.0,
+  h.1 ∙ ap counted (one.stays at),
+  below_later at old before new one h.2,
+  below_later at first next last two h.3,
+)
+ends_later (Unread at) sources rest old before new first next last same one two h = (
+  subst (λ (n : ℕ). at < n) same h.0,
+  subst (λ (n : ℕ). HasFailed n (last at)) (two.stays at) h.1,
+  below_later at old before new one h.2,
+  below_later at first next last two h.3,
+)
+ends_later (Plan fault) sources rest old before new first next last same one two h = absurd h
+
+-- a source was live before others were read that did not fail
+pub live_before : (at : ℕ) (old before first next : ℕ → ℕ) → AllStay old before → AllStay first next
+    → IsLive (before at) (next at) → IsLive (old at) (first at)
+live_before at old before first next one two live = (
+  subst (λ (n : ℕ). n < last_count) (one.stays at) live.0,
+  subst (λ (n : ℕ). n < last_count) (two.stays at) live.1,
+)
+
+-- ---- one answer more
+
+some_more : (P : Answer → Type 0) (answers : List Answer) (answer : Answer) (at : ℕ)
+    → IfSome (slice_get answers at) P → (at ≡ length answers → P answer)
+    → IfSome (slice_get (answers ++ answer ∷ []) at) P
+some_more P [] answer zero h last = last refl
+some_more P [] answer (suc at) h last = tt
+some_more P (one ∷ answers) answer zero h last = h
+some_more P (one ∷ answers) answer (suc at) h last = some_more P answers answer at h (λ e. last (ap suc e))
+
+-- the answers with that for the next source
+pub answers_more : (limit next : ℕ) (told : ℕ → Option (List ℕ)) (answers : List Answer) (answer : Answer)
+    → length answers ≡ next → AreAnswers limit told answers → IsAnswer limit (told next) answer
+    → AreAnswers limit told (answers ++ answer ∷ [])
+answers_more limit next told answers answer many h last = record {
+  each = λ at. some_more (IsAnswer limit (told at)) answers answer at (h.each at)
+      (λ is. subst (λ (n : ℕ). IsAnswer limit (told n) answer) (sym (is ∙ many)) last);
+}
+
+accepted_more : (at next : ℕ) (answers : List Answer) (answer : Answer) → at + length answers ≡ next
+    → accepted_from at (answers ++ answer ∷ []) ≡ accepted_from at answers ++ accepted_from next (answer ∷ [])
+accepted_more at next [] answer many =
+    let is : at ≡ next = omega arith in ap (λ (n : ℕ). accepted_from n (answer ∷ [])) is
+accepted_more at next (Ok version ∷ answers) answer many =
+    ap (λ (rest : List Sourced). (at, version) ∷ rest) (accepted_more (suc at) next answers answer (omega arith))
+accepted_more at next (Err fault ∷ answers) answer many = accepted_more (suc at) next answers answer (omega arith)
+
+skipped_more : (at next : ℕ) (answers : List Answer) (answer : Answer) → at + length answers ≡ next
+    → skipped_from at (answers ++ answer ∷ []) ≡ skipped_from at answers ++ skipped_from next (answer ∷ [])
+skipped_more at next [] answer many =
+    let is : at ≡ next = omega arith in ap (λ (n : ℕ). skipped_from n (answer ∷ [])) is
+skipped_more at next (Ok version ∷ answers) answer many = skipped_more (suc at) next answers answer (omega arith)
+skipped_more at next (Err fault ∷ answers) answer many =
+    ap (λ (rest : List (ℕ × KeyFault)). (at, fault) ∷ rest) (skipped_more (suc at) next answers answer (omega arith))
+
+-- what is held grows by what the answer gives
+holds_more : (at : ℕ) (answers : List Answer) (answer : Answer) (old new : Sources) → length answers ≡ at
+    → Holds answers old
+    → new.versions.items ≡ old.versions.items ++ versions_of (accepted_from at (answer ∷ []))
+    → new.places.items ≡ old.places.items ++ map (λ source. source.0) (accepted_from at (answer ∷ []))
+    → new.skipped.items ≡ old.skipped.items ++ skipped_from at (answer ∷ [])
+    → Holds (answers ++ answer ∷ []) new
+holds_more at answers answer old new many h versions places skips =
+    let more = accepted_more 0 at answers answer (omega arith) in
+    let last = accepted_from at (answer ∷ []) in
+    record {
+      versions = versions ∙ ap (λ (front : List Parts). front ++ versions_of last) h.versions
+          ∙ sym (ap versions_of more ∙ map-append (λ (source : Sourced). source.1) (accepted answers) last);
+      places = places ∙ ap (λ (front : List ℕ). front ++ map (λ source. source.0) last) h.places
+          ∙ sym (ap (map (λ (source : Sourced). source.0)) more
+          ∙ map-append (λ (source : Sourced). source.0) (accepted answers) last);
+      skips = skips ∙ ap (λ (front : List (ℕ × KeyFault)). front ++ skipped_from at (answer ∷ [])) h.skips
+          ∙ sym (skipped_more 0 at answers answer (omega arith));
+    }
+
+pub holds_version : (at : ℕ) (answers : List Answer) (answer : Answer) (version : Parts) (old new : Sources)
+    → answer ≡ Ok version → length answers ≡ at → Holds answers old
+    → new.versions.items ≡ old.versions.items ++ version ∷ [] → new.places.items ≡ old.places.items ++ at ∷ []
+    → new.skipped.items ≡ old.skipped.items → Holds (answers ++ answer ∷ []) new
+holds_version at answers answer version old new is many h versions places skips =
+    let all = skips ∙ sym (append-nil old.skipped.items) in
+    subst (λ (one : Answer). Holds (answers ++ one ∷ []) new) (sym is)
+    (holds_more at answers (Ok version) old new many h versions places all)
+
+pub holds_skipped : (at : ℕ) (answers : List Answer) (answer : Answer) (fault : KeyFault) (old new : Sources)
+    → answer ≡ Err fault → length answers ≡ at → Holds answers old
+    → new.versions.items ≡ old.versions.items → new.places.items ≡ old.places.items
+    → new.skipped.items ≡ old.skipped.items ++ (at, fault) ∷ [] → Holds (answers ++ answer ∷ []) new
+holds_skipped at answers answer fault old new is many h versions places skips =
+    let all = versions ∙ sym (append-nil old.versions.items) in
+    let numbers = places ∙ sym (append-nil old.places.items) in
+    subst (λ (one : Answer). Holds (answers ++ one ∷ []) new) (sym is)
+    (holds_more at answers (Err fault) old new many h all numbers skips)
+
+-- what of a source was told before others were read
+pub answer_before : (limit at : ℕ) (old before : ℕ → Option (List ℕ)) (answer : Answer) → before ≡ old
+    → IsAnswer limit (before at) answer → IsAnswer limit (old at) answer
+answer_before limit at old before answer same h =
+    subst (λ (told : ℕ → Option (List ℕ)). IsAnswer limit (told at) answer) same h

@@ -1,0 +1,185 @@
+-- The files of the images of a plan: one image more, the same marks of each file, and that each version has a file.
+use denote.Enum.Bare.{sameb}
+use Rattle.std.specs.Prelude.{◌≡◌, ◌≢◌, ◌+◌, ◌<◌, ℕ, true, false, List, [], ◌∷◌, ◌++◌, All, Contains, length, map}
+use Rattle.std.specs.Prelude.{filter, get_or, take, Option, None, Some, slice_get, option_map}
+use Rattle.std.specs.List.{AllByRecursion}
+use Rattle.std.specs.Ordering.{is_eq}
+use Rattle.std.proofs.Common.{refl, sym, ◌∙◌, ap, subst, inl, inr, arith}
+use Rattle.std.proofs.lemmas.Cmp.{tied_itself}
+use Rattle.std.proofs.lemmas.List.{append-nil, get_or_default, get_or-map, length-map, map-append}
+use Rattle.std.proofs.lemmas.List.{take_more}
+use Rattle.std.proofs.lemmas.List.Elements.{All-from_recursion, filter-append}
+use Rattle.std.proofs.lemmas.Option.{same_Some, slice_get_read}
+use Rattle.dd_catalogue.specs.BestLaws.{Member, member_of}
+use Rattle.dd_catalogue.specs.BestMembers.{best_is_best}
+use Rattle.dd_catalogue.specs.Harmony.{agreed, harmonised}
+use Rattle.dd_catalogue.specs.Rising.{by_test}
+use Rattle.dd_catalogue.specs.Versions.{best_of, versions_ordered}
+use Rattle.dd_keys.specs.declared.parts.Parts.{Parts}
+use Rattle.dd_layout.specs.contracts.level.Level.{the_type}
+use Rattle.dd_layout.specs.declared.level.Level.{Level}
+use Rattle.dd_layout.specs.declared.level.Level.TheVariants.{Patient, Study, Series, Image}
+use Rattle.dd_layout.specs.declared.record.PlanRecord.{PlanRecord}
+use Rattle.dd_engine.specs.Picking.{AreHeld, ArePicked, FileKey, file_of, found, found_by, found_of, is_image, is_one}
+use Rattle.dd_engine.proofs.FirstMarks.{file_total, one_file}
+
+-- ---- one record more
+
+-- what the test of a level says
+pub tested : (row : PlanRecord) → sameb the_type row.level Image ≡ is_image row
+tested row = by row.level where
+  by : (level : Level) → sameb the_type level Image ≡ is_image (record row { level = level })
+  by Patient = refl
+  by Study = refl
+  by Series = refl
+  by Image = refl
+
+picks_more : {T : Type 0} (marks : List (T × FileKey)) (versions : List Parts) (rows : List PlanRecord) (i : ℕ)
+    (row : PlanRecord) → i < length rows → row ≡ get_or rows i row
+    → found_of marks versions (take (i + 1) rows)
+    ≡ found_of marks versions (take i rows) ++ found_of marks versions (row ∷ [])
+picks_more marks versions rows i row below is =
+    ap (found_of marks versions) (take_more rows i row below ∙ ap (λ x. take i rows ++ x ∷ []) (sym is))
+    ∙ ap (map (λ x. found_by marks (slice_get versions x.of))) (filter-append is_image (take i rows) (row ∷ []))
+    ∙ map-append (λ x. found_by marks (slice_get versions x.of)) (filter is_image (take i rows))
+    (filter is_image (row ∷ []))
+
+pub image_more : {T : Type 0} (marks : List (T × FileKey)) (versions : List Parts) (rows : List PlanRecord) (i : ℕ)
+    (row : PlanRecord) (version : Parts) (picks : List T) (at : T) → i < length rows → row ≡ get_or rows i row
+    → is_image row ≡ true → row.of < length versions → version ≡ get_or versions row.of version
+    → Some at ≡ found marks (file_of version)
+    → map (λ pick. Some pick) picks ≡ found_of marks versions (take i rows)
+    → map (λ pick. Some pick) (picks ++ at ∷ []) ≡ found_of marks versions (take (i + 1) rows)
+image_more marks versions rows i row version picks at below is image within read first was =
+    let here : found_of marks versions (row ∷ []) ≡ found marks (file_of version) ∷ [] =
+    rw image (ap (λ o. found_by marks o ∷ []) (slice_get_read versions _ row.of version refl within read)) in
+    map-append (λ pick. Some pick) picks (at ∷ [])
+    ∙ ap (λ l. l ++ Some at ∷ []) was
+    ∙ ap (λ o. found_of marks versions (take i rows) ++ o ∷ []) first
+    ∙ ap (λ l. found_of marks versions (take i rows) ++ l) (sym here)
+    ∙ sym (picks_more marks versions rows i row below is)
+
+pub other_more : {T : Type 0} (marks : List (T × FileKey)) (versions : List Parts) (rows : List PlanRecord) (i : ℕ)
+    (row : PlanRecord) (picks : List T) → i < length rows → row ≡ get_or rows i row → is_image row ≡ false
+    → map (λ pick. Some pick) picks ≡ found_of marks versions (take i rows)
+    → map (λ pick. Some pick) picks ≡ found_of marks versions (take (i + 1) rows)
+other_more marks versions rows i row picks below is other was =
+    let here : found_of marks versions (row ∷ []) ≡ [] = rw other refl in
+    was ∙ sym (append-nil (found_of marks versions (take i rows)))
+    ∙ ap (λ l. found_of marks versions (take i rows) ++ l) (sym here)
+    ∙ sym (picks_more marks versions rows i row below is)
+
+-- ---- what is found, in other words
+
+-- where the same is found of each file
+pub same_found : {T : Type 0} (marks others : List (T × FileKey)) (versions : List Parts) (rows : List PlanRecord)
+    → ((file : FileKey) → found marks file ≡ found others file)
+    → found_of marks versions rows ≡ found_of others versions rows
+same_found marks others versions rows same = λ j. map (λ row. each (slice_get versions row.of) j) (filter is_image rows)
+  where
+    each : (o : Option Parts) → found_by marks o ≡ found_by others o
+    each None = refl
+    each (Some version) = same (file_of version)
+
+pub twice : {A B C : Type 0} (g : B → C) (f : A → B) (xs : List A) → map g (map f xs) ≡ map (λ x. g (f x)) xs
+twice g f [] = refl
+twice g f (x ∷ xs) = ap (λ l. g (f x) ∷ l) (twice g f xs)
+
+-- where places are told otherwise
+found_told : {T U : Type 0} (f : T → U) (marks : List (T × FileKey)) (file : FileKey)
+    → option_map f (found marks file) ≡ found (map (λ mark. (f mark.0, mark.1)) marks) file
+found_told f [] file = refl
+found_told f (mark ∷ marks) file = by_test (is_one mark.1 file)
+    (λ e. rw e refl)
+    (λ e. rw e (found_told f marks file))
+
+told_by : {T U : Type 0} (f : T → U) (marks : List (T × FileKey)) (o : Option Parts)
+    → option_map f (found_by marks o) ≡ found_by (map (λ mark. (f mark.0, mark.1)) marks) o
+told_by f marks None = refl
+told_by f marks (Some version) = found_told f marks (file_of version)
+
+given : {T U : Type 0} (f : T → U) (picks : List T)
+    → map (λ pick. Some pick) (map f picks) ≡ map (option_map f) (map (λ pick. Some pick) picks)
+given f [] = refl
+given f (pick ∷ picks) = ap (λ l. Some (f pick) ∷ l) (given f picks)
+
+pub picks_told : {T U : Type 0} (f : T → U) (marks : List (T × FileKey)) (versions : List Parts)
+    (rows : List PlanRecord) (picks : List T) → ArePicked marks versions rows picks
+    → ArePicked (map (λ mark. (f mark.0, mark.1)) marks) versions rows (map f picks)
+picks_told f marks versions rows picks is =
+    given f picks ∙ ap (map (option_map f)) is
+    ∙ twice (option_map f) (λ row. found_by marks (slice_get versions row.of)) (filter is_image rows)
+    ∙ (λ j. map (λ row. told_by f marks (slice_get versions row.of) j) (filter is_image rows))
+
+-- ---- what holds of all places holds of those that are picked
+
+nothing : {T : Type 0} (at : T) → ◌≡◌ {A = Option T} None (Some at) → ⊥
+nothing at is = cc
+
+holds_of_found : {T : Type 0} (P : T → Type 0) (marks : List (T × FileKey)) (file : FileKey) (at : T)
+    → AllByRecursion (λ mark. P mark.0) marks → found marks file ≡ Some at → P at
+holds_of_found P [] file at all is = absurd (nothing at is)
+holds_of_found P (mark ∷ marks) file at all is = by_test (is_one mark.1 file)
+    (λ e. let here = rw e at is in subst P (same_Some mark.0 at here) all.0)
+    (λ e. let there = rw e at is in holds_of_found P marks file at all.1 there)
+
+holds_by : {T : Type 0} (P : T → Type 0) (marks : List (T × FileKey)) (o : Option Parts) (at : T)
+    → AllByRecursion (λ mark. P mark.0) marks → found_by marks o ≡ Some at → P at
+holds_by P marks None at all is = absurd (nothing at is)
+holds_by P marks (Some version) at all is = holds_of_found P marks (file_of version) at all is
+
+pub holds_of_picks : {T : Type 0} (P : T → Type 0) (marks : List (T × FileKey)) (versions : List Parts)
+    (rows : List PlanRecord) (picks : List T) → AllByRecursion (λ mark. P mark.0) marks
+    → ArePicked marks versions rows picks → All P picks
+holds_of_picks {T} P marks versions rows picks all is =
+    All-from_recursion P picks (each picks (filter is_image rows) is) where
+      each : (picks : List T) (images : List PlanRecord)
+          → map (λ pick. Some pick) picks ≡ map (λ row. found_by marks (slice_get versions row.of)) images
+          → AllByRecursion P picks
+      each [] images is = tt
+      each (pick ∷ picks) [] is = absurd (cc is)
+      each (pick ∷ picks) (row ∷ images) is =
+          let first : Some pick ≡ found_by marks (slice_get versions row.of) = cc is in
+          let rest : map (λ pick. Some pick) picks ≡ map (λ row. found_by marks (slice_get versions row.of)) images
+          = cc is in
+          (holds_by P marks (slice_get versions row.of) pick all (sym first), each picks images rest)
+
+-- ---- each version of a plan has a file
+
+own_file : (version : Parts) → is_one (file_of version) (file_of version) ≡ true
+own_file version = one_file (file_of version) (file_of version) ∙ ap is_eq (tied_itself file_total (file_of version))
+
+among : (versions : List Parts) (version other : Parts) → is_one (file_of version) (file_of other) ≡ true
+    → Member version versions → filter (λ file. is_one file (file_of other)) (map (λ v. file_of v) versions) ≢ []
+among [] version other e there = absurd there
+among (first ∷ versions) version other e (inl is) =
+    let here : is_one (file_of first) (file_of other) ≡ true = ap (λ v. is_one (file_of v) (file_of other)) is ∙ e in
+    rw here (λ none. cc none)
+among (first ∷ versions) version other e (inr there) = by_test (is_one (file_of first) (file_of other))
+    (λ f. rw f (λ none. cc none))
+    (λ f. rw f (among versions version other e there))
+
+each_held : (versions : List Parts)
+    → AreHeld (map (λ v. file_of v) versions) (harmonised (best_of versions))
+each_held versions k d below =
+    let m = best_of versions in
+    let within : k < length m = omega (arith, below, length-map m (agreed m)) in
+    let version = get_or m k d in
+    let there : Contains m version = (k, within, get_or_default m k version d within) in
+    let from = ((best_is_best versions_ordered versions).each version).0 there in
+    subst (λ other. filter (λ file. is_one file (file_of other)) (map (λ v. file_of v) versions) ≢ [])
+    (sym (get_or-map (agreed m) m k d d within))
+    (among versions version (agreed m version) (own_file version) (member_of version versions from.member))
+
+pub held : (versions planned : List Parts) (files : List FileKey) → planned ≡ harmonised (best_of versions)
+    → files ≡ map (λ v. file_of v) versions → AreHeld files planned
+held versions planned files is all =
+    subst (λ l. AreHeld l planned) (sym all)
+    (subst (λ l. AreHeld (map (λ v. file_of v) versions) l) (sym is) (each_held versions))
+
+-- and it is held where the files of each version stay
+pub held_too : (files others : List FileKey) (planned : List Parts) → AreHeld others planned
+    → ((file : FileKey) → filter (λ one. is_one one file) files ≡ filter (λ one. is_one one file) others)
+    → AreHeld files planned
+held_too files others planned all same k d below none =
+    all k d below (sym (same (file_of (get_or planned k d))) ∙ none)

@@ -1,0 +1,12 @@
+mod Answering
+pub mod FaultsNamed
+mod FirstMarks
+mod ImagePicks
+mod MergePlans
+mod MergedMaps
+mod PicksWithin
+mod PlacesPicked
+mod Planning
+mod SamePlans
+mod SetsGathered
+mod SourcePicks

@@ -1,0 +1,20 @@
+use Rattle.std.proofs.Common.{◌≡◌, ◌<◌, ℕ, List, length}
+use Rattle.dd_elem.specs.Device.{IsLive}
+use Rattle.dd_engine.specs.Indexing.{Answer}
+use Rattle.dd_engine.specs.Supply.{AllStay, AreAnswers, Holds}
+use Rattle.dd_engine.proofs.reading.read_sources.Given as goal
+
+-- what is held so far are the answers for the sources so far, of which none failed
+abbrev pub invariant-loop-at : goal.invariant-loop-at
+invariant-loop-at g l = record {
+  answers : List Answer;
+  many : length answers ≡ l.at;
+  right : AreAnswers l.limit (g.S.Supply.told l.fn.supply) answers;
+  held : Holds answers l.sources;
+  refusals : AllStay (g.S.Supply.refusals l.fn.supply) (g.S.Supply.refusals l.supply);
+  unread : AllStay (g.S.Supply.unread l.fn.supply) (g.S.Supply.unread l.supply);
+  live : (at : ℕ) → at < l.at → IsLive (g.S.Supply.refusals l.fn.supply at) (g.S.Supply.unread l.fn.supply at);
+  sources : g.S.Supply.sources l.supply ≡ g.S.Supply.sources l.fn.supply;
+  told : g.S.Supply.told l.supply ≡ g.S.Supply.told l.fn.supply;
+  rest : g.S.Supply.rest l.supply ≡ g.S.Supply.rest l.fn.supply;
+}

@@ -1,0 +1,31 @@
+-- The label that a file-set gets, and why its catalogue is not laid out.
+use Rattle.std.specs.Prelude.{ℕ, List, Option, None, Some}
+use Rattle.dd_keys.specs.declared.parts.Parts.{Parts}
+use Rattle.dd_layout.specs.declared.fault.PlanFault.{PlanFault}
+use Rattle.dd_layout.specs.declared.label.Label.{Label}
+use Rattle.dd_layout.specs.Bounds.{Bounds}
+use Rattle.dd_layout.specs.Refusal.{refusal}
+use Rattle.dd_engine.specs.declared.choice.Choice.{Choice}
+use Rattle.dd_dir.specs.Directories.{derived, unnamed_label}
+
+-- the UID that is asked for, or else the one derived from the directory
+abbrev pub uid_by : Option (List ℕ) → List ℕ → List Parts → List ℕ
+uid_by None id m = derived id m
+uid_by (Some uid) id m = uid
+
+abbrev pub label_for : Choice → List Parts → Label
+label_for choice m = record { id = choice.id; uid = uid_by choice.uid choice.id m }
+
+-- the first refusal of two
+abbrev pub either : Option PlanFault → Option PlanFault → Option PlanFault
+either None other = other
+either (Some fault) other = Some fault
+
+-- where no UID is asked for, deriving one comes first
+abbrev pub derivation : Option (List ℕ) → List ℕ → Bounds → List Parts → Option PlanFault
+derivation None id limits m = refusal (unnamed_label id) limits m
+derivation (Some uid) id limits m = None
+
+abbrev pub refusal_for : Choice → Bounds → List Parts → Option PlanFault
+refusal_for choice limits m =
+    either (derivation choice.uid choice.id limits m) (refusal (label_for choice m) limits m)

@@ -1,0 +1,74 @@
+-- What an index of a supply of sources answers.
+use Rattle.std.specs.Prelude.{◌≡◌, ◌<◌, ℕ, List, All, length, Option, None, Some, Result, Ok, Err}
+use Rattle.dd_catalogue.specs.Harmony.{harmonised}
+use Rattle.dd_layout.specs.declared.fault.PlanFault.{PlanFault}
+use Rattle.dd_layout.specs.declared.fault.PlanFault.TheVariants as plans
+use Rattle.dd_layout.specs.Bounds.{Bounds}
+use Rattle.dd_layout.specs.Layouts.{layout_of}
+use Rattle.dd_layout.specs.Plans.{records_of}
+use Rattle.dd_engine.specs.declared.choice.Choice.{Choice}
+use Rattle.dd_engine.specs.declared.engine.Indexed.{Indexed}
+use Rattle.dd_engine.specs.declared.engine_fault.EngineFault.{EngineFault}
+use Rattle.dd_engine.specs.declared.engine_fault.EngineFault.TheVariants.{Memory, Absent, Unread, Plan}
+use Rattle.dd_engine.specs.Choosing.{label_for, refusal_for}
+use Rattle.dd_engine.specs.Indexing.{Answer, accepted, best_of_sources, files_of, skipped}
+use Rattle.dd_engine.specs.Picking.{ArePicked}
+use Rattle.dd_engine.specs.Supply.{AllStay, AreAnswers, EndsWith}
+
+-- a refusal of a plan, in the words of an index
+abbrev pub as_engine : PlanFault → EngineFault
+as_engine plans.Memory = Memory
+as_engine (plans.Conflict one other) = Plan (plans.Conflict one other)
+as_engine (plans.TooMany level) = Plan (plans.TooMany level)
+as_engine plans.TooLarge = Plan plans.TooLarge
+
+-- where these are the answers for the sources: the best of their versions is laid out under the label that is asked
+-- for, the others are skipped, and each image is picked from the first source that has its file
+pub record IsIndexed (choice : Choice) (limits : Bounds) (answers : List Answer) (indexed : Indexed) : Type 0 where
+  pub plan : let m = best_of_sources (accepted answers) in indexed.plan ≡ layout_of (label_for choice m) m
+  pub allowed : refusal_for choice limits (best_of_sources (accepted answers)) ≡ None
+  pub skipped : indexed.skipped.items ≡ skipped answers
+  pub picks : let m = best_of_sources (accepted answers) in ArePicked (files_of (accepted answers)) (harmonised m)
+      (records_of (label_for choice m) (harmonised m)) indexed.picks.items
+
+-- the answer where these are the answers for the sources
+abbrev pub Indexes : Choice → Bounds → List Answer → Result Indexed EngineFault → Type 0
+Indexes choice limits answers (Ok indexed) = IsIndexed choice limits answers indexed
+Indexes choice limits answers (Err (Plan fault)) =
+    refusal_for choice limits (best_of_sources (accepted answers)) ≡ Some fault
+Indexes choice limits answers (Err Memory) = Unit {0}
+Indexes choice limits answers (Err (Absent at)) = ⊥
+Indexes choice limits answers (Err (Unread at)) = ⊥
+
+-- the answer for so many sources, of which these bytes are told; where a source failed, nothing is said of the others
+abbrev pub AnswersSupply : Choice → Bounds → ℕ → (ℕ → Option (List ℕ)) → ℕ → Result Indexed EngineFault → Type 0
+AnswersSupply choice limits limit told sources (Err (Absent at)) = at < sources
+AnswersSupply choice limits limit told sources (Err (Unread at)) = at < sources
+AnswersSupply choice limits limit told sources (Err Memory) = Unit {0}
+AnswersSupply choice limits limit told sources (Err (Plan fault)) = (answers : List Answer)
+    × (length answers ≡ sources) × AreAnswers limit told answers × Indexes choice limits answers (Err (Plan fault))
+AnswersSupply choice limits limit told sources (Ok indexed) = (answers : List Answer)
+    × (length answers ≡ sources) × AreAnswers limit told answers × Indexes choice limits answers (Ok indexed)
+
+-- ---- numbers of sources
+
+-- the sources that are skipped and those that images are copied from are among so many
+pub record IsWithin (sources : ℕ) (indexed : Indexed) : Type 0 where
+  pub skipped : All (λ skip. skip.0 < sources) indexed.skipped.items
+  pub picks : All (λ at. at < sources) indexed.picks.items
+
+-- a source that a fault names is among so many
+abbrev pub IsNamed : ℕ → EngineFault → Type 0
+IsNamed sources Memory = Unit {0}
+IsNamed sources (Absent at) = at < sources
+IsNamed sources (Unread at) = at < sources
+IsNamed sources (Plan fault) = Unit {0}
+
+-- Indexing `sources` sources ended with a fault; the refusals were `refusals` and are `refused`, the failures of their
+-- readers were `unread` and are `failed`: where memory ran out, or the versions have no place in a directory, no source
+-- failed.
+abbrev pub FailsBy : EngineFault → ℕ → (ℕ → ℕ) → (ℕ → ℕ) → (ℕ → ℕ) → (ℕ → ℕ) → Type 0
+FailsBy Memory sources refusals refused unread failed = AllStay refusals refused × AllStay unread failed
+FailsBy (Absent at) sources refusals refused unread failed = EndsWith (Absent at) sources refusals refused unread failed
+FailsBy (Unread at) sources refusals refused unread failed = EndsWith (Unread at) sources refusals refused unread failed
+FailsBy (Plan fault) sources refusals refused unread failed = AllStay refusals refused × AllStay unread failed

@@ -1,0 +1,9 @@
+pub mod Choosing
+pub mod Indexed
+pub mod Indexing
+pub mod MergeSteps
+pub mod Merged
+pub mod Merging
+pub mod Picking
+pub mod Published
+pub mod Supply

@@ -1,0 +1,69 @@
+-- Sources by number: how their counts change, and what reading all of them gives.
+use Rattle.std.specs.Prelude.{◌≡◌, ◌≢◌, ◌↔◌, ◌+◌, ◌<◌, ◌≤◌, min, ℕ, List, length, map, slice_get}
+use Rattle.std.specs.Prelude.{Option, IfSome, Err, IfErr}
+use Rattle.dd_elem.specs.Device.{counted, last_count, HasFailed}
+use Rattle.dd_keys.specs.Answers.{Answers}
+use Rattle.dd_keys.specs.declared.fault.KeyFault.{KeyFault}
+use Rattle.dd_keys.specs.declared.fault.KeyFault.TheVariants.{Read, FileTooLong}
+use Rattle.dd_keys.specs.Faults.{SaysMemory}
+use Rattle.dd_engine.specs.declared.engine_fault.EngineFault.{EngineFault}
+use Rattle.dd_engine.specs.declared.engine_fault.EngineFault.TheVariants.{Memory, Absent, Unread, Plan}
+use Rattle.dd_engine.specs.declared.reading.Sources.{Sources}
+use Rattle.dd_engine.specs.Indexing.{Answer, accepted, skipped, versions_of}
+
+-- ---- the counts of a supply, by the number of the source
+
+-- a count of `n` after `m` more
+abbrev pub added : ℕ → ℕ → ℕ
+added n m = min (n + m) last_count
+
+-- the counts of all sources are as they were
+pub record AllStay (old new : ℕ → ℕ) : Type 0 where
+  pub stays : (at : ℕ) → new at ≡ old at
+
+-- those of all sources but one are
+pub record OthersStay (at : ℕ) (old new : ℕ → ℕ) : Type 0 where
+  pub stays : (other : ℕ) → other ≢ at → new other ≡ old other
+
+-- those of all sources before one are
+pub record StayBelow (at : ℕ) (old new : ℕ → ℕ) : Type 0 where
+  pub stays : (before : ℕ) → before < at → new before ≡ old before
+
+-- Reading `sources` sources ended with a fault; the refusals were `refusals` and are `refused`, the failures of their
+-- readers were `unread` and are `failed`. A source that is named failed in this, and none before it did; where memory
+-- ran out none failed.
+abbrev pub EndsWith : EngineFault → ℕ → (ℕ → ℕ) → (ℕ → ℕ) → (ℕ → ℕ) → (ℕ → ℕ) → Type 0
+EndsWith Memory sources refusals refused unread failed = AllStay refusals refused × AllStay unread failed
+EndsWith (Absent at) sources refusals refused unread failed = (at < sources)
+    × (refused at ≡ counted (refusals at)) × StayBelow at refusals refused × StayBelow at unread failed
+EndsWith (Unread at) sources refusals refused unread failed = (at < sources)
+    × HasFailed (unread at) (failed at) × StayBelow at refusals refused × StayBelow at unread failed
+EndsWith (Plan fault) sources refusals refused unread failed = ⊥
+
+-- ---- the answers for sources
+
+-- the fault says neither that a read failed nor that a growth was refused
+abbrev pub IsOfSource : KeyFault → Type 0
+IsOfSource fault = (fault ≢ Read) × ¬ SaysMemory fault
+
+-- the answer for a source of these bytes, of which it may have `limit`
+pub record AnswersSource (limit : ℕ) (file : List ℕ) (answer : Answer) : Type 0 where
+  -- it is too long exactly where it has more
+  pub long : (answer ≡ Err FileTooLong) ↔ (limit < length file)
+  -- and else the answer is that for the bytes of a file
+  pub whole : length file ≤ limit → Answers file answer
+
+-- the answer for a source, whether its bytes are told or not
+pub record IsAnswer (limit : ℕ) (told : Option (List ℕ)) (answer : Answer) : Type 0 where
+  pub settled : IfErr answer IsOfSource
+  pub right : IfSome told (λ file. AnswersSource limit file answer)
+
+-- they are the answers for the first sources
+pub record AreAnswers (limit : ℕ) (told : ℕ → Option (List ℕ)) (answers : List Answer) : Type 0 where
+  pub each : (at : ℕ) → IfSome (slice_get answers at) (IsAnswer limit (told at))
+
+-- what was read has the versions among the answers, each with its source, and the sources without one
+pub record Holds (answers : List Answer) (read : Sources) : Type 0 where
+  pub versions : read.versions.items ≡ versions_of (accepted answers)
+  pub places : read.places.items ≡ map (λ source. source.0) (accepted answers)
+  pub skips : read.skipped.items ≡ skipped answers

@@ -1,0 +1,91 @@
+//! From sources to the plan of their directory.
+
+ghost use Rattle.std.specs.Prelude.{◌≡◌, List, IfErr, IfOk, IsOk, length};
+ghost use Rattle.dd_engine.specs.Indexed.{AnswersSupply, FailsBy, Indexes, IsNamed, IsWithin};
+ghost use Rattle.dd_engine.specs.Indexing.{Answer};
+ghost use Rattle.dd_engine.specs.Supply.{AllStay, Holds};
+
+use crate::choice::{Choice, plan_for};
+use crate::engine_fault::EngineFault;
+use crate::picks::picks;
+use crate::reading::{Sources, read_sources};
+use crate::supply::Supply;
+use dd_catalogue::Catalogue;
+use dd_keys::KeyFault;
+use dd_layout::{Limits, Plan};
+use std::alloc::Global;
+
+/// What an index of sources has.
+#[derive(Debug)]
+pub struct Indexed {
+    /// The plan of the directory of the best versions of all sources.
+    pub plan: Plan,
+    /// The sources that have no version, by their numbers, each with its fault.
+    pub skipped: Vec<(usize, KeyFault)>,
+    /// For each image of the plan, in the order of its records, the first source that has its file.
+    pub picks: Vec<usize>,
+}
+
+// By hand, so that letting go of it is one call.
+impl Drop for Indexed {
+    fn drop(self) {
+        let Indexed {
+            plan: _plan,
+            skipped: _skipped,
+            picks: _picks,
+        } = self;
+    }
+}
+
+/// Reads all sources, each to its end or to `file_limit` bytes and one more, and plans the directory of
+/// the best of their versions under the label that is asked for. A source without a version is skipped.
+///
+/// Absent and Unread name the first source that could not be opened or whose reader failed; a Plan fault
+/// is the refusal of these versions; Memory where a growth was refused. Each reader is ended before the
+/// answer.
+pub fn index_engine<S: Supply>(
+    alloc: Global,
+    supply: &mut S,
+    choice: &Choice,
+    limits: Limits,
+    file_limit: u64,
+) -> Result<Indexed, EngineFault>
+    ensures answers { AnswersSupply choice.now limits file_limit (S.told supply.old) (S.sources supply.old) result }
+    ensures within { IfOk result (IsWithin (S.sources supply.old)) }
+
+    // The source that a fault names failed, and none before it.
+    ensures named { IfErr result (IsNamed (S.sources supply.old)) }
+    ensures fault { IfErr result (λ fault. FailsBy fault (S.sources supply.old)
+        (S.refusals supply.old) (S.refusals supply.new) (S.unread supply.old) (S.unread supply.new)) }
+    ensures worked { IsOk result → AllStay (S.refusals supply.old) (S.refusals supply.new)
+        × AllStay (S.unread supply.old) (S.unread supply.new) }
+
+    // What stays.
+    ensures kept { (S.sources supply.new ≡ S.sources supply.old) × (S.told supply.new ≡ S.told supply.old)
+        × (S.rest supply.new ≡ S.rest supply.old) }
+{
+    let sources = read_sources(alloc, supply, file_limit)?;
+    planned(alloc, sources, choice, limits)
+}
+
+/// What an index has of the sources that were read.
+fn planned(
+    alloc: Global,
+    sources: Sources,
+    choice: &Choice,
+    limits: Limits,
+) -> Result<Indexed, EngineFault>
+    requires { (answers : List Answer) × Holds answers sources }
+    ensures indexes { (answers : List Answer) → Holds answers sources → Indexes choice.now limits answers result }
+    ensures within { (answers : List Answer) → Holds answers sources → IfOk result (IsWithin (length answers)) }
+{
+    let (versions, places, skipped) = sources.into_parts();
+    let catalogue = Catalogue::from_versions(alloc, &versions)?;
+    let plan = plan_for(alloc, &catalogue, choice, limits)?;
+    let picks = picks(alloc, &plan, &versions, &places)?;
+    Ok(Indexed {
+        plan,
+        skipped,
+        picks,
+    })
+}

@@ -1,0 +1,181 @@
+//! What directories list, gathered.
+
+ghost use Rattle.std.specs.Prelude.{◌≡◌, ◌⊎◌, ◌↔◌, ◌++◌, List, [], ℕ, map, IsTrue, OnOk};
+ghost use Rattle.dd_dir.specs.Gives.{IsWantOfMemory};
+ghost use Rattle.dd_dir.specs.Own.{Listed};
+ghost use Rattle.dd_dir.specs.OwnVersions.{Tells, place_view};
+ghost use Rattle.dd_dir.specs.Reading.{Refuses};
+ghost use Rattle.dd_engine.specs.Merging.{pick_view, place_key, place_pick};
+ghost use Rattle.dd_engine.specs.MergeSteps.{AnswersSet, FailsAt, Gathers, GathersAll};
+ghost use Rattle.dd_engine.specs.MergeSteps.{name_view, own_fault};
+
+use crate::merge::Pick;
+use crate::merge_fault::MergeFault;
+use dd_dir::{DirFault, Own, OwnFault, Place, own_of, read_directory};
+use dd_elem::{Memory, Uid};
+use dd_keys::Version;
+use dd_part10::FileFault;
+use dd_set::SetFault;
+use std::alloc::Global;
+
+/// What tells a file from others.
+#[derive(Clone, Copy)]
+pub(crate) struct FileName {
+    /// The SOP Instance UID of its image.
+    pub(crate) uid: Uid,
+    /// Its SHA-256.
+    pub(crate) digest: [u8; 32],
+}
+
+/// What sets list, in their order.
+pub(crate) struct Gathered<'a> {
+    /// The versions of all images.
+    pub(crate) versions: Vec<Version>,
+    /// Their files.
+    pub(crate) names: Vec<FileName>,
+    /// Where these are.
+    pub(crate) picks: Vec<Pick<'a>>,
+}
+
+// By hand, so that letting go of it is one call.
+impl Drop for Gathered<'_> {
+    fn drop(self) {
+        let Gathered {
+            versions: _versions,
+            names: _names,
+            picks: _picks,
+        } = self;
+    }
+}
+
+impl<'a> Gathered<'a> {
+    /// Of no set.
+    fn new(alloc: Global) -> Gathered<'a>
+        ensures { Gathers [] result }
+    {
+        Gathered {
+            versions: Vec::new(alloc),
+            names: Vec::new(alloc),
+            picks: Vec::new(alloc),
+        }
+    }
+
+    /// Adds what the set of this number lists.
+    fn keep(&mut self, at: usize, mut own: Own<'a>) -> Result<(), Memory>
+        ensures versions { OnOk result (self.new.versions.items ≡ self.old.versions.items ++ own.entry.versions.items) }
+        ensures names { OnOk result (map (λ name. name_view name) self.new.names.items
+            ≡ map (λ name. name_view name) self.old.names.items
+            ++ map (λ place. place_key (place_view place)) own.entry.places.items) }
+        ensures picks { OnOk result (map (λ pick. pick_view pick) self.new.picks.items
+            ≡ map (λ pick. pick_view pick) self.old.picks.items
+            ++ map (λ place. place_pick (at, place_view place)) own.entry.places.items) }
+    {
+        self.versions.append(&mut own.versions)?;
+        add_names(&mut self.names, &own.places)?;
+        add_picks(&mut self.picks, at, &own.places)
+    }
+}
+
+/// What all these sets list. The first that is no directory that is written here is named.
+pub(crate) fn gather<'a>(alloc: Global, sets: &[&'a [u8]]) -> Result<Gathered<'a>, MergeFault>
+    ensures { GathersAll (map (λ set. set.now) sets.now) result }
+{
+    let mut gathered = Gathered::new(alloc);
+    for at in 0..sets.len() {
+        add_set(alloc, at, sets[at], &mut gathered)?;
+    }
+    Ok(gathered)
+}
+
+/// Adds what this set lists, which has this number.
+fn add_set<'a>(
+    alloc: Global,
+    at: usize,
+    set: &'a [u8],
+    gathered: &mut Gathered<'a>,
+) -> Result<(), MergeFault>
+    ensures { (before : List (ℕ × Listed)) → Gathers before gathered.old
+        → AnswersSet (λ images done. Gathers (before ++ map (λ image. (at, image)) images) gathered.new)
+        at set.now result }
+{
+    let own = own_set(alloc, at, set)?;
+    gathered.keep(at, own)?;
+    Ok(())
+}
+
+/// What this set lists, which has this number.
+fn own_set<'a>(alloc: Global, at: usize, set: &'a [u8]) -> Result<Own<'a>, MergeFault>
+    ensures { AnswersSet Tells at set.now result }
+{
+    let forest = match read_directory(alloc, set) {
+        Ok(forest) => forest,
+        Err(fault) => return Err(dir_fault(at, fault)),
+    };
+    match own_of(alloc, &forest) {
+        Ok(own) => Ok(own),
+        Err(fault) => Err(own_fault(at, fault)),
+    }
+}
+
+/// The fault of the set of this number, as a merge's.
+fn dir_fault(at: usize, fault: DirFault) -> MergeFault
+    ensures { (set : List ℕ) → IsWantOfMemory fault ⊎ Refuses set fault → FailsAt at set result }
+{
+    if is_want_of_memory(&fault) {
+        MergeFault::Memory
+    } else {
+        MergeFault::Dir(at, fault)
+    }
+}
+
+/// Does the fault say that a growth was refused?
+pub fn is_want_of_memory(fault: &DirFault) -> bool
+    ensures { IsTrue result ↔ IsWantOfMemory fault.now }
+{
+    matches!(
+        fault,
+        DirFault::Memory
+            | DirFault::File(FileFault::Meta(SetFault::Memory) | FileFault::Set(SetFault::Memory))
+    )
+}
+
+/// The fault of the records of the set of this number, as a merge's.
+fn own_fault(at: usize, fault: OwnFault) -> MergeFault
+    ensures { result ≡ own_fault at fault }
+{
+    match fault {
+        OwnFault::Memory => MergeFault::Memory,
+        fault => MergeFault::Own(at, fault),
+    }
+}
+
+/// Adds the files of these places.
+fn add_names(to: &mut Vec<FileName>, places: &[Place<'_>]) -> Result<(), Memory>
+    ensures { OnOk result (map (λ name. name_view name) to.new.items
+        ≡ map (λ name. name_view name) to.old.items ++ map (λ place. place_key (place_view place)) places.now) }
+{
+    to.reserve(places.len())?;
+    for place in places {
+        to.push(FileName {
+            uid: place.uid,
+            digest: place.digest,
+        })?;
+    }
+    Ok(())
+}
+
+/// Adds where the files of these places are, of the set of this number.
+fn add_picks<'a>(to: &mut Vec<Pick<'a>>, at: usize, places: &[Place<'a>]) -> Result<(), Memory>
+    ensures { OnOk result (map (λ pick. pick_view pick) to.new.items
+        ≡ map (λ pick. pick_view pick) to.old.items
+        ++ map (λ place. place_pick (at, place_view place)) places.now) }
+{
+    to.reserve(places.len())?;
+    for place in places {
+        to.push(Pick {
+            set: at,
+            file: place.file,
+        })?;
+    }
+    Ok(())
+}

@@ -1,0 +1,25 @@
+//! The engines: from sources, or from directories, to the plan of the directory of the best versions of all
+//! their images (PS3.3 annex F).
+//!
+//! What it promises stands at `index_engine` and `merge_engine`.
+#![tactic(auto)]
+
+mod choice;
+mod engine;
+mod engine_fault;
+mod gathering;
+mod marks;
+mod merge;
+mod merge_fault;
+mod picks;
+mod place_picks;
+mod reading;
+mod supply;
+
+pub use choice::Choice;
+pub use engine::{Indexed, index_engine};
+pub use engine_fault::EngineFault;
+pub use gathering::is_want_of_memory;
+pub use merge::{Merged, Pick, merge_engine};
+pub use merge_fault::MergeFault;
+pub use supply::Supply;

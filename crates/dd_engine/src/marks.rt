@@ -1,0 +1,85 @@
+//! Where the first file of each image of a plan is, of many.
+
+ghost use Rattle.std.specs.Prelude.{◌≡◌, ◌≢◌, [], Some, IfOk, map, filter};
+ghost use Rattle.std.specs.List.Sorted.{IsSorted};
+ghost use Rattle.dd_layout.specs.Plans.{records_of};
+ghost use Rattle.dd_engine.specs.Picking.{AreHeld, ArePicked, file_cmp, file_of, found, is_one};
+ghost use Rattle.dd_engine.specs.Picking.{key_of, mark_cmp, mark_view};
+
+use dd_elem::{Memory, Ordered, Uid};
+use dd_keys::Version;
+use dd_layout::{Level, Plan};
+use std::alloc::Global;
+use std::cmp::Ordering;
+
+/// Says where the file with this SOP Instance UID and this digest is.
+#[derive(Clone, Copy)]
+pub(crate) struct Mark<'a, T> {
+    /// The SOP Instance UID.
+    pub(crate) instance: &'a Uid,
+    /// The digest.
+    pub(crate) digest: &'a [u8; 32],
+    /// Where the file is.
+    pub(crate) at: T,
+}
+
+/// For each image of the plan, in the order of the records, where the first of these files is that is
+/// its file. Memory where a growth was refused.
+pub(crate) fn first_marks<T: Copy>(
+    alloc: Global,
+    plan: &Plan,
+    mut marks: Vec<Mark<'_, T>>,
+) -> Result<Vec<T>, Memory>
+    requires { AreHeld (map (λ mark. key_of mark) marks.items) plan.now.versions }
+    ensures { IfOk result (λ picks. ArePicked (map (λ mark. mark_view mark) marks.entry.items) plan.now.versions
+        (records_of plan.now.label plan.now.versions) picks.items) }
+{
+    marks.sort_by(|one: &Mark<'_, T>, other: &Mark<'_, T>| compare(
+        one,
+        other.instance,
+        other.digest,
+    ))?;
+    picks_among(alloc, plan, &marks)
+}
+
+/// Which file stands first, that of the mark or this one: by SOP Instance UID, then by digest?
+fn compare<T>(mark: &Mark<'_, T>, instance: &Uid, digest: &[u8; 32]) -> Ordering
+    ensures { result ≡ file_cmp (key_of mark.now) (record { instance = instance.now; digest = digest.now }) }
+{
+    let own = mark.digest;
+    mark.instance
+        .compare(instance)
+        .then(own[..].cmp(&digest[..]))
+}
+
+/// The same, of marks in the order of their files.
+fn picks_among<T: Copy>(alloc: Global, plan: &Plan, marks: &[Mark<'_, T>]) -> Result<Vec<T>, Memory>
+    requires order { IsSorted mark_cmp marks.now }
+    requires held { AreHeld (map (λ mark. key_of mark) marks.now) plan.now.versions }
+    ensures { IfOk result (λ picks. ArePicked (map (λ mark. mark_view mark) marks.now) plan.now.versions
+        (records_of plan.now.label plan.now.versions) picks.items) }
+{
+    let versions = plan.versions();
+    let mut picks = Vec::with_capacity(alloc, versions.len())?;
+    for record in plan.records() {
+        if record.level == Level::Image {
+            picks.push(first_mark(marks, &versions[record.of]))?;
+        }
+    }
+    Ok(picks)
+}
+
+/// Where the first of these files is that is the file of the version.
+fn first_mark<T: Copy>(marks: &[Mark<'_, T>], version: &Version) -> T
+    requires order { IsSorted mark_cmp marks.now }
+    requires held { filter (λ file. is_one file (file_of version.now)) (map (λ mark. key_of mark) marks.now) ≢ [] }
+    ensures { Some result ≡ found (map (λ mark. mark_view mark) marks.now) (file_of version.now) }
+{
+    let parts = version.parts();
+    let first = marks.partition_point(|mark: &Mark<'_, T>| compare(
+        mark,
+        &parts.instance,
+        &parts.digest,
+    ).is_lt());
+    marks[first].at
+}

@@ -1,0 +1,47 @@
+//! Why directories have no directory of all their images.
+ghost use Rattle.std.specs.Prelude.{◌≡◌};
+ghost use Rattle.dd_engine.specs.declared.merge_fault.MergeFault.TheVariants as faults;
+
+use dd_dir::{DirFault, OwnFault};
+use dd_elem;
+use dd_layout::PlanFault;
+use thiserror::Error;
+
+/// Why a merge was not made.
+#[derive(Clone, Copy, Debug, PartialEq, Eq, Error)]
+pub enum MergeFault {
+    /// The set of this number is no directory that can be read.
+    #[error("{1}")]
+    Dir(usize, DirFault),
+    /// The directory of this number has a record that is not as those that are written here.
+    #[error("{1}")]
+    Own(usize, OwnFault),
+    /// The versions have no place in a directory.
+    #[error(transparent)]
+    Plan(PlanFault),
+    /// A growth was refused.
+    #[error("91 Memory")]
+    Memory,
+}
+
+impl From<dd_elem::Memory> for MergeFault {
+    ghost from_gives = { λ _ fault. fault ≡ faults.Memory };
+
+    fn from(_refused: dd_elem::Memory) -> MergeFault {
+        MergeFault::Memory
+    }
+}
+
+impl From<PlanFault> for MergeFault {
+    ghost use Rattle.dd_engine.specs.MergeSteps.{plan_fault};
+
+    ghost from_gives = { λ plan fault. fault ≡ plan_fault plan };
+
+    /// Want of memory is the merge's own.
+    fn from(fault: PlanFault) -> MergeFault {
+        match fault {
+            PlanFault::Memory => MergeFault::Memory,
+            fault => MergeFault::Plan(fault),
+        }
+    }
+}

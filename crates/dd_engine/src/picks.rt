@@ -1,0 +1,56 @@
+//! Which source each image of a directory is copied from.
+
+ghost use Rattle.std.specs.Prelude.{◌≡◌, ◌≢◌, [], IfOk, OnErr, map};
+ghost use Rattle.std.specs.List.{zip};
+ghost use Rattle.dd_catalogue.specs.Harmony.{harmonised};
+ghost use Rattle.dd_layout.specs.Plans.{records_of};
+ghost use Rattle.dd_engine.specs.Indexing.{best_of_sources, files_of};
+ghost use Rattle.dd_engine.specs.Picking.{ArePicked, mark_view};
+
+use crate::marks::{Mark, first_marks};
+use dd_elem::Memory;
+use dd_keys::Version;
+use dd_layout::Plan;
+use std::alloc::Global;
+
+/// For each image of the plan, in the order of the records, the number of the first source with its SOP
+/// Instance UID and its digest. The sources are given by their versions and, in the same order, their
+/// numbers. Memory where a growth was refused: never where there are no versions.
+pub(crate) fn picks(
+    alloc: Global,
+    plan: &Plan,
+    versions: &[Version],
+    places: &[usize],
+) -> Result<Vec<usize>, Memory>
+    requires { plan.now.versions ≡ harmonised (best_of_sources (zip places.now versions.now)) }
+    ensures all { IfOk result (λ picks. ArePicked (files_of (zip places.now versions.now)) plan.now.versions
+        (records_of plan.now.label plan.now.versions) picks.items) }
+    ensures some { OnErr result (versions.now ≢ []) }
+{
+    if versions.is_empty() {
+        return Ok(Vec::new(alloc));
+    }
+    let marks = marks(alloc, versions, places)?;
+    first_marks(alloc, plan, marks)
+}
+
+/// A mark of each source.
+fn marks<'a>(
+    alloc: Global,
+    versions: &'a [Version],
+    places: &[usize],
+) -> Result<Vec<Mark<'a, usize>>, Memory>
+    ensures { IfOk result (λ marks. map (λ mark. mark_view mark) marks.items
+        ≡ files_of (zip places.now versions.now)) }
+{
+    let mut marks = Vec::with_capacity(alloc, versions.len())?;
+    for (at, version) in places.iter().zip(versions) {
+        let parts = version.parts();
+        marks.push(Mark {
+            instance: &parts.instance,
+            digest: &parts.digest,
+            at: *at,
+        })?;
+    }
+    Ok(marks)
+}

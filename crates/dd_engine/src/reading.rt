@@ -1,0 +1,160 @@
+//! The versions of all sources.
+ghost use Rattle.std.specs.Prelude.{◌≡◌, ◌↔◌, ◌<◌, ◌++◌, ◌∷◌, ℕ, List, [], length, IsOk, IfOk, IfErr, OnOk, IsTrue};
+ghost use Rattle.dd_elem.specs.Device.{IsLive};
+ghost use Rattle.dd_keys.specs.Faults.{SaysMemory};
+ghost use Rattle.dd_engine.specs.Indexing.{Answer};
+ghost use Rattle.dd_engine.specs.Supply.{AllStay, AreAnswers, EndsWith, Holds, IsAnswer, IsOfSource};
+
+use crate::engine_fault::EngineFault;
+use crate::supply::Supply;
+use dd_elem::Memory;
+use dd_keys::{KeyFault, Version, ingest};
+use dd_part10::FileFault;
+use dd_set::SetFault;
+use std::alloc::Global;
+
+/// What was read of sources, in their order.
+pub(crate) struct Sources {
+    /// The versions of those that have one.
+    pub(crate) versions: Vec<Version>,
+    /// The number of the source of each version.
+    pub(crate) places: Vec<usize>,
+    /// The sources that have none, each with its fault.
+    pub(crate) skipped: Vec<(usize, KeyFault)>,
+}
+
+// By hand, so that letting go of sources is one call.
+impl Drop for Sources {
+    fn drop(self) {
+        let Sources {
+            versions: _versions,
+            places: _places,
+            skipped: _skipped,
+        } = self;
+    }
+}
+
+impl Sources {
+    /// The versions, the numbers of their sources, and the sources that have none.
+    pub(crate) fn into_parts(self) -> (Vec<Version>, Vec<usize>, Vec<(usize, KeyFault)>)
+        ensures { result ≡ (self.versions, self.places, self.skipped) }
+    {
+        let Sources {
+            versions,
+            places,
+            skipped,
+        } = self;
+        (versions, places, skipped)
+    }
+
+    /// Of no source.
+    fn new(alloc: Global) -> Sources
+        ensures { Holds [] result }
+    {
+        Sources {
+            versions: Vec::new(alloc),
+            places: Vec::new(alloc),
+            skipped: Vec::new(alloc),
+        }
+    }
+
+    /// Keeps the answer for the next source, which is `at`.
+    fn keep(&mut self, at: usize, answer: Result<Version, KeyFault>) -> Result<(), Memory>
+        ensures { OnOk result ((answers : List Answer) → length answers ≡ at → Holds answers self.old
+            → Holds (answers ++ answer ∷ []) self.new) }
+    {
+        match answer {
+            Ok(version) => {
+                self.versions.push(version)?;
+                self.places.push(at)?;
+            }
+            Err(fault) => self.skipped.push((at, fault))?,
+        }
+        Ok(())
+    }
+}
+
+/// The versions of all sources, which are read in their order, each to its end or to `limit` bytes and
+/// one more. Each reader is ended before the answer.
+///
+/// Absent and Unread name the first source that could not be opened or whose reader failed. Memory
+/// where a growth is refused.
+pub(crate) fn read_sources<S: Supply>(
+    alloc: Global,
+    supply: &mut S,
+    limit: u64,
+) -> Result<Sources, EngineFault>
+    // What was read are the answers for the sources.
+    ensures read { IfOk result (λ read. (answers : List Answer) × (length answers ≡ S.sources supply.old)
+        × AreAnswers limit (S.told supply.old) answers × Holds answers read) }
+
+    // Then no source failed.
+    ensures refusals { IsOk result → AllStay (S.refusals supply.old) (S.refusals supply.new) }
+    ensures unread { IsOk result → AllStay (S.unread supply.old) (S.unread supply.new) }
+    ensures live { IsOk result → (at : ℕ) → at < S.sources supply.old
+        → IsLive (S.refusals supply.old at) (S.unread supply.old at) }
+
+    // The source that a fault names failed, and none before it.
+    ensures fault { IfErr result (λ fault. EndsWith fault (S.sources supply.old)
+        (S.refusals supply.old) (S.refusals supply.new) (S.unread supply.old) (S.unread supply.new)) }
+
+    // What stays.
+    ensures kept { (S.sources supply.new ≡ S.sources supply.old) × (S.told supply.new ≡ S.told supply.old)
+        × (S.rest supply.new ≡ S.rest supply.old) }
+{
+    let mut sources = Sources::new(alloc);
+    for at in 0..supply.count() {
+        let answer = read_one(alloc, supply, at, limit)?;
+        sources.keep(at, answer)?;
+    }
+    Ok(sources)
+}
+
+/// The version of a source, or why it has none.
+fn read_one<S: Supply>(
+    alloc: Global,
+    supply: &mut S,
+    at: usize,
+    limit: u64,
+) -> Result<Result<Version, KeyFault>, EngineFault>
+    requires { at < S.sources supply.old }
+    ensures answer { IfOk result (IsAnswer limit (S.told supply.old at)) }
+    ensures live { IsOk result → IsLive (S.refusals supply.old at) (S.unread supply.old at) }
+    ensures refusals { IsOk result → AllStay (S.refusals supply.old) (S.refusals supply.new) }
+    ensures unread { IsOk result → AllStay (S.unread supply.old) (S.unread supply.new) }
+    ensures fault { IfErr result (λ fault. EndsWith fault (S.sources supply.old)
+        (S.refusals supply.old) (S.refusals supply.new) (S.unread supply.old) (S.unread supply.new)) }
+    ensures kept { (S.sources supply.new ≡ S.sources supply.old) × (S.told supply.new ≡ S.told supply.old)
+        × (S.rest supply.new ≡ S.rest supply.old) }
+{
+    let Ok(mut reader) = supply.begin(at) else {
+        return Err(EngineFault::Absent(at));
+    };
+    let answer = ingest(alloc, &mut reader, limit);
+    supply.end(at, reader);
+    match answer {
+        Ok(version) => Ok(Ok(version)),
+        Err(fault) if is_of_source(&fault) => Ok(Err(fault)),
+        Err(KeyFault::Read) => Err(EngineFault::Unread(at)),
+        Err(_) => Err(EngineFault::Memory),
+    }
+}
+
+/// Does the fault say that the source has no version, and not that its reader failed or a growth was
+/// refused?
+fn is_of_source(fault: &KeyFault) -> bool
+    ensures { IsTrue result ↔ IsOfSource fault.now }
+{
+    !matches!(fault, KeyFault::Read) && !is_want_of_memory(fault)
+}
+
+/// Does the fault say that a growth was refused?
+fn is_want_of_memory(fault: &KeyFault) -> bool
+    ensures { IsTrue result ↔ SaysMemory fault.now }
+{
+    matches!(
+        fault,
+        KeyFault::Memory
+            | KeyFault::File(FileFault::Meta(SetFault::Memory) | FileFault::Set(SetFault::Memory))
+    )
+}

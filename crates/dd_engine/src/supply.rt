@@ -1,0 +1,69 @@
+//! Sources by number, which are read one by one.
+ghost use Rattle.std.specs.Prelude.{◌≡◌, ◌<◌, ℕ, List, [], Option, Some, IfSome, IsOk, IsErr, IfOk};
+ghost use Rattle.dd_elem.specs.Device.{counted, IsLive};
+ghost use Rattle.dd_engine.specs.Supply.{added, AllStay, OthersStay};
+
+use dd_elem::Read;
+use dd_files::NotThere;
+
+/// Sources, of which each is a number below `count`. For each source its refusals and the failures of
+/// its readers count, up to `u64::MAX`; a source with a count there is refused.
+pub trait Supply {
+    /// A reader of a source.
+    type In: Read + Drop;
+
+    // How many sources there are.
+    ghost sources: { Self → ℕ };
+
+    // The bytes of each source, where they are told.
+    ghost told: { Self → ℕ → Option (List ℕ) };
+
+    // How often the opening of each source was refused.
+    ghost refusals: { Self → ℕ → ℕ };
+
+    // How often reads of each source failed, by the readers that were taken back.
+    ghost unread: { Self → ℕ → ℕ };
+
+    // What no opening and no end of a reader changes.
+    ghost Rest: { Type 0 };
+
+    ghost rest: { Self → Rest };
+
+    /// How many sources there are.
+    fn count(&self) -> usize
+        ensures { result ≡ sources self.now };
+
+    /// Opens a source for reading. It is refused, too, where there is none of this number.
+    fn begin(&mut self, at: usize) -> Result<Self::In, NotThere>
+        ensures there { IsOk result → at < sources self.old }
+        ensures live { IsOk result → IsLive (refusals self.old at) (unread self.old at) }
+
+        // A refusal counts for this source, and nothing else does.
+        ensures worked { IsOk result → AllStay (refusals self.old) (refusals self.new) }
+        ensures refused { IsErr result → at < sources self.old
+            → refusals self.new at ≡ counted (refusals self.old at) }
+        ensures others { OthersStay at (refusals self.old) (refusals self.new) }
+        ensures failures { AllStay (unread self.old) (unread self.new) }
+
+        // The reader is as new, and what it has left are the bytes of the source.
+        ensures fresh { IfOk result (λ reader. (Self.In.calls reader ≡ 0)
+            × (Self.In.failures reader ≡ 0) × Self.In.has_given reader []) }
+        ensures left { IfOk result (λ reader. IfSome (told self.old at) (λ file.
+            Self.In.remaining reader ≡ Some file)) }
+
+        // What stays.
+        ensures kept { (sources self.new ≡ sources self.old) × (told self.new ≡ told self.old)
+            × (rest self.new ≡ rest self.old) };
+
+    /// Takes back a reader of a source.
+    fn end(&mut self, at: usize, used: Self::In)
+        // Its failures count for this source, and nothing else does.
+        ensures failed { at < sources self.old
+            → unread self.new at ≡ added (unread self.old at) (Self.In.failures used) }
+        ensures others { OthersStay at (unread self.old) (unread self.new) }
+        ensures openings { AllStay (refusals self.old) (refusals self.new) }
+
+        // What stays.
+        ensures kept { (sources self.new ≡ sources self.old) × (told self.new ≡ told self.old)
+            × (rest self.new ≡ rest self.old) };
+}

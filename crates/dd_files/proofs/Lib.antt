@@ -1,0 +1,2 @@
+mod CopySteps
+pub mod FilePaths

@@ -1,0 +1,43 @@
+-- What the last read gave stands behind what was read before.
+use Rattle.std.proofs.Common.{◌++◌, take, arith}
+use Rattle.std.proofs.lemmas.Grind.{common_steps}
+use Rattle.dd_elem.proofs.Known.{gives_more, consumes_more}
+use Rattle.dd_set.proofs.Going.{goes_then}
+use Rattle.dd_files.proofs.CopySteps.{front_goes, stops_amid}
+use Rattle.dd_files.proofs.copy.copy_image.Goals as goal
+
+pub returns-then-n-left-clause-copied : goal.returns-then-n-left-clause-copied
+returns-then-n-left-clause-copied g c = (
+  c.loop-hasher.invariant.given ++ take c.in-Ok.n c.read.new.buf,
+  gives_more _ _ _ _ _ _ c.loop-hasher.invariant.gave c.in-Ok.ensures.gives,
+  consumes_more _ _ _ _ _ c.loop-hasher.invariant.known c.in-Ok.ensures.left.0,
+  (
+    grind (arith, common_steps),
+    grind (arith, common_steps),
+    front_goes _ _ _ _ _ _ c.loop-hasher.invariant.went,
+  ),
+)
+
+pub returns-in-Err-send-clause-copied : goal.returns-in-Err-send-clause-copied
+returns-in-Err-send-clause-copied g c = (
+  c.loop-hasher.invariant.given ++ take c.in-Ok.n c.read.new.buf,
+  gives_more _ _ _ _ _ _ c.loop-hasher.invariant.gave c.in-Ok.ensures.gives,
+  consumes_more _ _ _ _ _ c.loop-hasher.invariant.known c.in-Ok.ensures.left.0,
+  (
+    grind (arith, common_steps),
+    grind (arith, common_steps),
+    stops_amid _ _ _ _ _ _ _ _ _ c.loop-hasher.invariant.went c.in-Err-send.ensures.err,
+  ),
+)
+
+pub loop-hasher-preserved : goal.loop-hasher-preserved
+loop-hasher-preserved g c = record {
+  given = c.loop-hasher.invariant.given ++ take c.in-Ok.n c.read.new.buf;
+  counted = grind (arith, common_steps);
+  gave = gives_more _ _ _ _ _ _ c.loop-hasher.invariant.gave c.in-Ok.ensures.gives;
+  known = consumes_more _ _ _ _ _ c.loop-hasher.invariant.known c.in-Ok.ensures.left.0;
+  same = grind (arith, common_steps);
+  calls = grind (arith, common_steps);
+  hashed = c.update.ensures _ c.loop-hasher.invariant.hashed;
+  went = goes_then _ _ _ _ _ _ _ _ c.loop-hasher.invariant.went c.in-Ok-send.ensures.ok.1;
+}

@@ -1,0 +1,5 @@
+pub mod Copying
+pub mod FileLaws
+pub mod Files
+pub mod Paths
+pub mod Whole

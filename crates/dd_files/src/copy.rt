@@ -1,0 +1,71 @@
+//! An image copied.
+ghost use Rattle.std.specs.Prelude.{ℕ, List, ◌+◌, ◌≤◌};
+ghost use Rattle.std.specs.Io.KnownBytes.{Consumes};
+ghost use Rattle.dd_elem.specs.Device.{Gives};
+ghost use Rattle.dd_files.specs.Copying.{IsCopied};
+
+use dd_elem::{Read, Write};
+use dd_set::send;
+use sha2::{Digest, Sha256};
+use thiserror::Error;
+
+/// Why an image was not copied.
+#[derive(Clone, Copy, Debug, PartialEq, Eq, Error)]
+pub enum CopyFault {
+    /// The reader failed.
+    #[error("93 Unread")]
+    Unread,
+    /// The writer failed.
+    #[error("96 Unsent")]
+    Unsent,
+    /// The reader gave more bytes than the limit, so the image is not what it was.
+    #[error("97 Changed")]
+    Changed,
+}
+
+/// The most bytes of one read.
+pub(crate) const PIECE: usize = 64 * 1024;
+
+/// Copies what a reader gives to its end, of which there may be `limit` bytes, and answers the SHA-256
+/// of it.
+///
+/// 93 Unread where the reader fails, 96 Unsent where the writer does, and 97 Changed where the reader
+/// gives `limit` bytes and one more. The writer then holds a front of what the reader gave. It makes at
+/// most `limit` + 1 reads, and takes no memory.
+pub fn copy_image<R: Read, W: Write>(
+    reader: &mut R,
+    writer: &mut W,
+    limit: u64,
+) -> Result<[u8; 32], CopyFault>
+    ensures copied { (given : List ℕ) × Gives R.has_given reader.old reader.new given
+        × Consumes (R.remaining reader.old) (R.remaining reader.new) given
+        × IsCopied result limit given (R.remaining reader.new)
+        (R.failures reader.old) (R.failures reader.new)
+        (W.contents writer.old, W.rest writer.old) (W.contents writer.new, W.rest writer.new)
+        (W.failures writer.old) (W.failures writer.new) }
+    ensures calls { R.calls reader.new ≤ R.calls reader.old + limit + 1 }
+{
+    let mut hasher = Sha256::new();
+    let mut left = limit;
+    let mut buffer = [0u8; PIECE];
+    loop {
+        let wanted = left.min(PIECE as u64 - 1) as usize + 1;
+        let room = &mut buffer[..wanted];
+        match reader.read(room) {
+            Err(_) => return Err(CopyFault::Unread),
+            Ok(0) => return Ok(hasher.finalize()),
+            Ok(n) => {
+                if n as u64 > left {
+                    return Err(CopyFault::Changed);
+                }
+                let piece = &room[..n];
+                match send(piece, writer, 0) {
+                    Ok(_) => {}
+                    Err(_) => return Err(CopyFault::Unsent),
+                }
+                hasher.update(piece);
+                left -= n as u64;
+            }
+        }
+    }
+}

@@ -1,0 +1,47 @@
+//! The digest of a file, and its text.
+ghost use Rattle.std.specs.Prelude.{◌≡◌, ◌≤◌, ◌+◌, ℕ, List};
+ghost use Rattle.std.specs.Io.KnownBytes.{Consumes};
+ghost use Rattle.dd_elem.specs.Device.{Gives};
+ghost use Rattle.dd_files.specs.Whole.{IsDigest};
+ghost use Rattle.hex.specs.Hex.{encode_lower};
+
+use crate::copy::PIECE;
+use dd_elem::Read;
+use sha2::{Digest, Sha256};
+
+/// The digest in hexadecimal, with lower case letters.
+pub fn digest_text(digest: &[u8; 32]) -> [u8; 64]
+    ensures { result ≡ encode_lower digest.now }
+{
+    let mut text = [0; 64];
+    hex::encode_to_slice(digest.as_slice(), &mut text).unwrap();
+    text
+}
+
+/// The SHA-256 of what a reader gives to its end, of which there may be `limit` bytes: None where it
+/// fails or gives a byte more.
+pub fn digest_of<R: Read>(reader: &mut R, limit: u64) -> Option<[u8; 32]>
+    ensures digest { (given : List ℕ) × Gives R.has_given reader.old reader.new given
+        × Consumes (R.remaining reader.old) (R.remaining reader.new) given
+        × IsDigest result limit given (R.remaining reader.new) (R.failures reader.old) (R.failures reader.new) }
+    ensures calls { R.calls reader.new ≤ R.calls reader.old + limit + 1 }
+{
+    let mut hasher = Sha256::new();
+    let mut left = limit;
+    let mut buffer = [0u8; PIECE];
+    loop {
+        let wanted = left.min(PIECE as u64 - 1) as usize + 1;
+        let room = &mut buffer[..wanted];
+        match reader.read(room) {
+            Err(_) => return None,
+            Ok(0) => return Some(hasher.finalize()),
+            Ok(n) => {
+                if n as u64 > left {
+                    return None;
+                }
+                hasher.update(&room[..n]);
+                left -= n as u64;
+            }
+        }
+    }
+}

@@ -1,0 +1,99 @@
+//! Files: what is read from them and written to them.
+ghost use Rattle.std.specs.Prelude.{◌≡◌, ℕ, List, [], Option, None, IsSome, IfSome, IsOk, IsErr, IfOk, option_map};
+ghost use Rattle.std.specs.Io.KnownBytes.{Appends};
+ghost use Rattle.dd_elem.specs.Device.{counted, HasWorked};
+ghost use Rattle.dd_files.specs.Files.{Held, ended, grown, started, written};
+
+use dd_elem::{Read, Write};
+use thiserror::Error;
+
+/// The most bytes of a file that is read.
+pub const SOURCE_LIMIT: u64 = u32::MAX as u64;
+
+/// The file is not there, or it was not opened.
+#[derive(Clone, Copy, Debug, PartialEq, Eq, Error)]
+#[error("not there")]
+pub struct NotThere;
+
+/// The folder or the file was not made, or the file was not ended.
+#[derive(Clone, Copy, Debug, PartialEq, Eq, Error)]
+#[error("not done")]
+pub struct NotDone;
+
+/// Files that are read one by one, and one at a time that is written. Each refusal counts, up to
+/// `u64::MAX`, and a call where that is reached is refused. No call but `write` is a write.
+pub trait Files: Write {
+    /// A reader of a file.
+    type In: Read + Drop;
+
+    // How many calls were refused.
+    ghost refusals: { Self → ℕ };
+
+    // What the files hold, where they tell it.
+    ghost held: { Self → Option Held };
+
+    /// Opens a file for reading.
+    fn source(&mut self, path: &str) -> Result<Self::In, NotThere>
+        ensures worked { IsOk result → HasWorked (refusals self.old) (refusals self.new) }
+        ensures refused { IsErr result → refusals self.new ≡ counted (refusals self.old) }
+
+        // The reader is as new, and what it has left are the bytes of the file.
+        ensures fresh { IfOk result (λ reader. (Self.In.calls reader ≡ 0)
+            × (Self.In.failures reader ≡ 0) × Self.In.has_given reader []) }
+        ensures left { IfOk result (λ reader. IfSome (held self.old) (λ files.
+            IsSome (files.bytes_at path.now)
+            × (Self.In.remaining reader ≡ files.bytes_at path.now))) }
+
+        // What stays.
+        ensures counts { (Self.calls self.new ≡ Self.calls self.old)
+            × (Self.failures self.new ≡ Self.failures self.old) }
+        ensures kept { held self.new ≡ held self.old };
+
+    /// Makes a folder with its parents. One that is there is right.
+    fn folder(&mut self, path: &str) -> Result<(), NotDone>
+        ensures worked { IsOk result → HasWorked (refusals self.old) (refusals self.new) }
+        ensures refused { IsErr result → refusals self.new ≡ counted (refusals self.old) }
+
+        // What stays.
+        ensures counts { (Self.calls self.new ≡ Self.calls self.old)
+            × (Self.failures self.new ≡ Self.failures self.old) }
+        ensures kept { held self.new ≡ held self.old };
+
+    /// Starts a new file, to which later writes go. It is refused where the name is taken.
+    fn create(&mut self, path: &str) -> Result<(), NotDone>
+        ensures worked { IsOk result → HasWorked (refusals self.old) (refusals self.new) }
+        ensures refused { IsErr result → refusals self.new ≡ counted (refusals self.old) }
+
+        // The file was not there, and holds nothing yet.
+        ensures free { IsOk result → IfSome (held self.old) (λ files. files.bytes_at path.now ≡ None) }
+        ensures empty { IsOk result → IfSome (Self.contents self.new) (λ bytes. bytes ≡ []) }
+        ensures started { IsOk result → held self.new ≡ option_map (started path.now) (held self.old) }
+
+        // What stays.
+        ensures counts { (Self.calls self.new ≡ Self.calls self.old)
+            × (Self.failures self.new ≡ Self.failures self.old) }
+        ensures kept { IsErr result → held self.new ≡ held self.old };
+
+    /// Ends the file that is being written.
+    fn finish(&mut self) -> Result<(), NotDone>
+        ensures worked { IsOk result → HasWorked (refusals self.old) (refusals self.new) }
+        ensures refused { IsErr result → refusals self.new ≡ counted (refusals self.old) }
+        ensures ended { IsOk result → held self.new ≡ option_map ended (held self.old) }
+
+        // What stays.
+        ensures counts { (Self.calls self.new ≡ Self.calls self.old)
+            × (Self.failures self.new ≡ Self.failures self.old) }
+        ensures kept { IsErr result → held self.new ≡ held self.old };
+
+    // No write counts as a refusal.
+    ghost same_refusals: { (old new : Self) → Self.rest new ≡ Self.rest old
+        → refusals new ≡ refusals old };
+
+    // The writer's bytes are those of the file that is being written.
+    ghost same_contents: { (files : Self) → IfSome (held files) (λ now. Self.contents files ≡ written now) };
+
+    // What writes add goes to the end of that file, and no other file changes.
+    ghost written_grows: { (old new : Self) (bytes : List ℕ) → Self.rest new ≡ Self.rest old
+        → Appends (Self.contents old) (Self.contents new) bytes
+        → held new ≡ option_map (grown bytes) (held old) };
+}

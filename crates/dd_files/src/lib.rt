@@ -1,0 +1,18 @@
+//! Files: the trait that a program reads and writes them by, where they stand in a folder, and what
+//! reading one to its end gives.
+//!
+//! Its promise: `copy_image`, `digest_of` and `read_whole` answer only of all that a reader gave, and say
+//! else whether the reader failed, the writer did, or there was more than the limit.
+#![tactic(auto)]
+
+mod copy;
+mod digest;
+mod files;
+mod paths;
+mod whole;
+
+pub use copy::{CopyFault, copy_image};
+pub use digest::{digest_of, digest_text};
+pub use files::{Files, NotDone, NotThere, SOURCE_LIMIT};
+pub use paths::{DIRECTORY, file_path, is_joined_by_slash, path_in};
+pub use whole::{WholeFault, read_whole};

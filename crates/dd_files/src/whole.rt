@@ -1,0 +1,55 @@
+//! A file read whole.
+
+ghost use Rattle.std.specs.Prelude.{ℕ, List, ◌+◌, ◌≤◌};
+ghost use Rattle.std.specs.Io.KnownBytes.{Consumes};
+ghost use Rattle.dd_elem.specs.Device.{Gives};
+ghost use Rattle.dd_files.specs.Whole.{IsWholeAnswer};
+
+use crate::copy::PIECE;
+use dd_elem::Read;
+use std::alloc::Global;
+
+/// Why a file was not read whole.
+#[derive(Clone, Copy, Debug, PartialEq, Eq)]
+pub enum WholeFault {
+    /// A read failed.
+    Read,
+    /// It has more bytes than the limit.
+    TooLong,
+    /// A growth was refused.
+    Memory,
+}
+
+/// Reads to the end, and gives the bytes, of which there may be `limit`.
+///
+/// Read where the reader fails, TooLong where it gives `limit` bytes and one more, and Memory
+/// where a growth is refused. It makes at most `limit` + 1 reads.
+pub fn read_whole<R: Read>(alloc: Global, reader: &mut R, limit: u64) -> Result<Vec<u8>, WholeFault>
+    ensures gave { (given : List ℕ) × Gives R.has_given reader.old reader.new given
+        × Consumes (R.remaining reader.old) (R.remaining reader.new) given
+        × IsWholeAnswer result limit given (R.remaining reader.new)
+        (R.failures reader.old) (R.failures reader.new) }
+    ensures calls { R.calls reader.new ≤ R.calls reader.old + limit + 1 }
+{
+    let mut all = Vec::new(alloc);
+    let mut left = limit;
+    let mut buffer = [0u8; PIECE];
+    loop {
+        let wanted = left.min(PIECE as u64 - 1) as usize + 1;
+        let room = &mut buffer[..wanted];
+        match reader.read(room) {
+            Err(_) => return Err(WholeFault::Read),
+            Ok(0) => return Ok(all),
+            Ok(n) => {
+                if n as u64 > left {
+                    return Err(WholeFault::TooLong);
+                }
+                let piece = &room[..n];
+                if all.extend_from_slice(piece).is_err() {
+                    return Err(WholeFault::Memory);
+                }
+                left -= n as u64;
+            }
+        }
+    }
+}

@@ -1,0 +1,6 @@
+pub mod LineLemmas
+mod LineLimit
+mod LineNames
+mod LinePaths
+mod LineRows
+mod LineWalk

@@ -1,0 +1,71 @@
+-- What the fault of a parser's error says, and which ID and UID the words give.
+use Rattle.std.proofs.Common.{◌≡◌, IfErr, List, None, Ok, Option, Some, Err, Result, inl, inr, sym, ap, ap₂}
+use Rattle.std.proofs.Common.{option_map, string_bytes, ◌||◌, ◌∙◌}
+use Rattle.std.specs.Prelude.{IsErrAnd}
+use Rattle.clap.specs.Words.{AddsSubcommand, App, Row, Text, kind_of, with_subcommand}
+use Rattle.clap.specs.declared.builder.command.Command.{Command}
+use Rattle.clap.specs.declared.error.Error.{Error}
+use Rattle.clap.specs.declared.error.kind.ErrorKind.TheVariants.{OutOfMemory}
+use Rattle.dd_line.specs.Line.{AsksBadName, GivesId, GivesUid, HasApp, HasBadName, IsAsked, IsCheck, IsFaultOf}
+use Rattle.dd_line.specs.Line.{verb_name}
+use Rattle.dd_line.specs.declared.line.Asked.{Asked}
+use Rattle.dd_line.specs.declared.line.LineFault.{LineFault}
+use Rattle.dd_line.specs.declared.line.Verb.TheVariants.{Check}
+use Rattle.dd_line.specs.declared.line.LineFault.TheVariants.{Refused, Memory}
+
+-- the parser's want of memory is the fault Memory
+memory_of_kind : (e : Error) (fault : LineFault) → IsFaultOf e fault → kind_of e ≡ OutOfMemory → fault ≡ Memory
+memory_of_kind e (Refused x) h memory = absurd (h.0 memory)
+memory_of_kind e Memory h memory = cc
+
+-- where an error of the parser can only be want of memory, so can the fault that it becomes
+pub memory_alone : {T : Type 0} (r : Result T LineFault) (e : Error) (Taken : Type 0) → IsErrAnd r (IsFaultOf e)
+    → (Taken → kind_of e ≡ OutOfMemory) → IfErr r (λ fault. Taken → fault ≡ Memory)
+memory_alone (Ok x) e Taken is memory = tt
+memory_alone (Err fault) e Taken is memory = λ taken. memory_of_kind e fault is (memory taken)
+
+-- what a line asks for has the UID that its words give
+pub asked_uid : (a : Asked) (found : Option (Text × List Row)) (uid : Text) → IsAsked a found
+    → option_map string_bytes a.uid ≡ Some uid → GivesUid found uid
+asked_uid a None uid h is = absurd h
+asked_uid a (Some (command, given)) uid h is = sym h.uid ∙ is
+
+-- and has it where they give one
+pub given_uid : (a : Asked) (found : Option (Text × List Row)) (uid : Text) → IsAsked a found
+    → GivesUid found uid → option_map string_bytes a.uid ≡ Some uid
+given_uid a None uid h gives = absurd h
+given_uid a (Some (command, given)) uid h gives = h.uid ∙ gives
+
+-- what a line asks for has the ID that its words give
+pub asked_id : (a : Asked) (found : Option (Text × List Row)) (id : Text) → IsAsked a found
+    → option_map string_bytes a.id ≡ Some id → GivesId found id
+asked_id a None id h is = absurd h
+asked_id a (Some (command, given)) id h is = sym h.id ∙ is
+
+-- and has it where they give one
+pub given_id : (a : Asked) (found : Option (Text × List Row)) (id : Text) → IsAsked a found
+    → GivesId found id → option_map string_bytes a.id ≡ Some id
+given_id a None id h gives = absurd h
+given_id a (Some (command, given)) id h gives = h.id ∙ gives
+
+-- a line asks for a check where its words name it
+pub asked_check : (a : Asked) (found : Option (Text × List Row)) → IsAsked a found → a.verb ≡ Check → IsCheck found
+asked_check a None h is = absurd h
+asked_check a (Some (command, given)) h is = sym h.verb ∙ ap verb_name is
+
+-- a name that is none is one that the words give
+pub asked_bad : (a : Asked) (found : Option (Text × List Row)) → IsAsked a found → AsksBadName a → HasBadName found
+asked_bad a found h (inl (id, is, bad)) = inl (id, asked_id a found id h is, bad)
+asked_bad a found h (inr (uid, is, bad)) = inr (uid, asked_uid a found uid h is, bad)
+
+pub given_bad : (a : Asked) (found : Option (Text × List Row)) → IsAsked a found → HasBadName found → AsksBadName a
+given_bad a found h (inl (id, gives, bad)) = inl (id, given_id a found id h gives, bad)
+given_bad a found h (inr (uid, gives, bad)) = inr (uid, given_uid a found uid h gives, bad)
+
+-- the app of a command with one subcommand more
+pub with_sub : (x y : App) (old sub new : Command) → HasApp x old → HasApp y sub → AddsSubcommand old sub new
+    → HasApp (with_subcommand x y.top) new
+with_sub x y old sub new h k adds = record {
+  app = adds.shape k.local ∙ ap₂ with_subcommand h.app (ap (λ (a : App). a.top) k.app);
+  local = adds.globals ∙ ap₂ ◌||◌ h.local k.local;
+}

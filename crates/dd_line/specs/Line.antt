@@ -1,0 +1,206 @@
+-- The command line: which commands and arguments the program has, and what a line asks for.
+--
+--   dicomdir index [--id ID] [--uid UID] [--max-bytes N] OUT SRC...
+--   dicomdir merge [--id ID] [--uid UID] [--max-bytes N] OUT SET...
+--   dicomdir check SET
+--   dicomdir list SET
+use Rattle.std.specs.Prelude.{◌≡◌, ◌≢◌, ◌++◌, [], ℕ, List, Option, Some, None, map, string_bytes, String}
+use Rattle.std.specs.Prelude.{codes, length, option_map, pos, ◌≤◌, true, false, unwrap_or}
+use Rattle.std.specs.Str.Parse.{IsNumeral, signed_digits_value, without_leading_sign}
+use Rattle.clap.specs.Words.{App, IsSignedIn, Row, Rule, Text, all_of, app_of, first_of, kind_of}
+use Rattle.clap.specs.Words.{new_app, new_rule, one_of, rule_of, with_rule, without_minus}
+use Rattle.clap.specs.Words.{IsAmong, Kinds, with_subcommand}
+use Rattle.clap.specs.declared.builder.arg.Arg.{Arg}
+use Rattle.clap.specs.declared.builder.command.Command.{Command}
+use Rattle.clap.specs.declared.builder.command.Command.TheViews.{out-Command as fields_of}
+use Rattle.clap.specs.declared.builder.value_parser.ValueParser.TheVariants.{Signed}
+use Rattle.clap.specs.declared.error.Error.{Error}
+use Rattle.clap.specs.declared.error.kind.ErrorKind.TheVariants.{OutOfMemory}
+use Rattle.std.specs.Prelude.{◌⊎◌}
+use Rattle.dd_elem.specs.SetId.{IsSetId}
+use Rattle.dd_elem.specs.Uid.{IsUid}
+use Rattle.dd_line.specs.declared.line.Asked.{Asked}
+use Rattle.dd_line.specs.declared.line.LineFault.{LineFault}
+use Rattle.dd_line.specs.declared.line.LineFault.TheVariants.{Refused, Memory}
+use Rattle.dd_line.specs.declared.line.Verb.{Verb}
+use Rattle.dd_line.specs.declared.line.Verb.TheVariants.{Index, Merge, Check, List as ListSet}
+
+-- ---- the arguments and commands
+
+-- an option `--NAME VALUE` that may be left out
+abbrev pub text_option : Text → Rule
+text_option name = record (new_rule name) { long = Some name; value_names = 1 }
+
+-- an option whose value is a number of 32 bits
+abbrev pub number_option : Text → Rule
+number_option name = record (text_option name) { parser = Some (Signed (pos 0) (pos 4294967295)) }
+
+-- a path that has to be given
+abbrev pub one_path : Text → Rule
+one_path name = record (new_rule name) { value_names = 1; required = true }
+
+-- one path or more
+abbrev pub some_paths : Text → Rule
+some_paths name = record (one_path name) {
+  range = Some (record { start_inclusive = 1; end_inclusive = 18446744073709551615 });
+}
+
+-- a command that writes a directory: `[--id ID] [--uid UID] [--max-bytes N] OUT`
+abbrev pub writing_app : Text → App
+writing_app name = with_rule (with_rule (with_rule (with_rule (new_app name)
+    (text_option (codes "id")))
+    (text_option (codes "uid")))
+    (number_option (codes "max-bytes")))
+    (one_path (codes "out"))
+
+-- `index [--id ID] [--uid UID] [--max-bytes N] OUT SRC...`
+abbrev pub index_app : App
+index_app = with_rule (writing_app (codes "index")) (some_paths (codes "source"))
+
+-- `merge [--id ID] [--uid UID] [--max-bytes N] OUT SET...`
+abbrev pub merge_app : App
+merge_app = with_rule (writing_app (codes "merge")) (some_paths (codes "set"))
+
+-- a command that reads one file-set: its name, and then SET
+abbrev pub reading_app : Text → App
+reading_app name = with_rule (new_app name) (one_path (codes "set"))
+
+-- a command line has to name one of the app's commands
+abbrev pub with_command_required : App → App
+with_command_required a = record a { top = record a.top { subcommand_required = true } }
+
+-- the program with its commands
+abbrev pub dicomdir_app : App
+dicomdir_app = with_subcommand (with_subcommand (with_subcommand (with_subcommand
+    (with_command_required (new_app (codes "dicomdir")))
+    index_app.top)
+    merge_app.top)
+    (reading_app (codes "check")).top)
+    (reading_app (codes "list")).top
+
+-- ---- what a line asks for
+
+-- the words as texts
+abbrev pub words_of : {Z : Type 0} → List (String Z) → List Text
+words_of words = map (λ word. string_bytes word) words
+
+-- the command's name in the line
+abbrev pub verb_name : Verb → Text
+verb_name Index = codes "index"
+verb_name Merge = codes "merge"
+verb_name Check = codes "check"
+verb_name ListSet = codes "list"
+
+-- the values that an argument was given
+abbrev pub given_for : Text → List Row → List Text
+given_for name given = unwrap_or (all_of name given) []
+
+-- the paths that a command was given: the folder that it writes to, and then those that it reads
+abbrev pub given_paths : List Row → List Text
+given_paths given = given_for (codes "out") given
+    ++ (given_for (codes "source") given ++ given_for (codes "set") given)
+
+-- a command of this kind is given at least so many paths
+abbrev pub least_paths : Verb → ℕ
+least_paths Index = 2
+least_paths Merge = 2
+least_paths Check = 1
+least_paths ListSet = 1
+
+-- the command reads one file-set, and writes nothing
+abbrev pub OnlyReads : Verb → Type 0
+OnlyReads Index = ⊥
+OnlyReads Merge = ⊥
+OnlyReads Check = Unit {0}
+OnlyReads ListSet = Unit {0}
+
+-- the number that the text of `--max-bytes` spells in decimal, or the most that there is where it is not given
+abbrev pub IsLimit : Option Text → ℕ → Type 0
+IsLimit None limit = limit ≡ 4294967295
+IsLimit (Some text) limit =
+    IsNumeral 10 (without_leading_sign text) × (signed_digits_value 10 text ≡ pos limit)
+
+-- the values are those that the named command's arguments were given
+pub record Asks (a : Asked) (command : Text) (given : List Row) : Type 0 where
+  pub verb : verb_name a.verb ≡ command
+  pub id : option_map string_bytes a.id ≡ first_of (codes "id") given
+  pub uid : option_map string_bytes a.uid ≡ first_of (codes "uid") given
+  pub max_bytes : IsLimit (first_of (codes "max-bytes") given) a.max_bytes
+  pub paths : words_of a.paths.items ≡ given_paths given
+
+-- the path of one file-set, no ID, no UID, and the limit that stands where none is given
+pub record AsksForOneSet (a : Asked) : Type 0 where
+  pub id : a.id ≡ None
+  pub uid : a.uid ≡ None
+  pub max_bytes : a.max_bytes ≡ 4294967295
+  pub paths : length a.paths.items ≡ 1
+
+-- the command and the values are those of the command that the words name
+abbrev pub IsAsked : Asked → Option (Text × List Row) → Type 0
+IsAsked a None = ⊥
+IsAsked a (Some (command, given)) = Asks a command given
+
+-- the text that `--max-bytes` was given, if any, is a number of 32 bits
+abbrev pub HasLimit : List Row → Type 0
+HasLimit given = (text : Text) → first_of (codes "max-bytes") given ≡ Some text
+    → (one_of (codes "max-bytes") given ≡ Some (without_minus text))
+    × IsSignedIn (pos 0) (pos 4294967295) text
+
+-- the path of one file-set was given, and no option
+pub record GivesOneSet (given : List Row) : Type 0 where
+  pub id : first_of (codes "id") given ≡ None
+  pub uid : first_of (codes "uid") given ≡ None
+  pub max_bytes : first_of (codes "max-bytes") given ≡ None
+  pub paths : length (given_paths given) ≡ 1
+
+-- the words name a command, and give it what it needs
+abbrev pub NamesCommand : Option (Text × List Row) → Type 0
+NamesCommand found = (verb : Verb) × (given : List Row) × (found ≡ Some (verb_name verb, given)) × HasLimit given
+    × (least_paths verb ≤ length (given_paths given)) × (OnlyReads verb → GivesOneSet given)
+
+-- the command that they name is `check`
+abbrev pub IsCheck : Option (Text × List Row) → Type 0
+IsCheck None = ⊥
+IsCheck (Some (command, given)) = command ≡ verb_name Check
+
+-- the words give the option `--id` this value
+abbrev pub GivesId : Option (Text × List Row) → Text → Type 0
+GivesId None id = ⊥
+GivesId (Some (command, given)) id = first_of (codes "id") given ≡ Some id
+
+-- the words give the option `--uid` this value
+abbrev pub GivesUid : Option (Text × List Row) → Text → Type 0
+GivesUid None uid = ⊥
+GivesUid (Some (command, given)) uid = first_of (codes "uid") given ≡ Some uid
+
+-- the words give an ID or a UID that is none
+abbrev pub HasBadName : Option (Text × List Row) → Type 0
+HasBadName found = ((id : Text) × GivesId found id × ¬ IsSetId id)
+    ⊎ ((uid : Text) × GivesUid found uid × ¬ IsUid uid)
+
+-- the same of what a line asks for
+abbrev pub AsksBadName : Asked → Type 0
+AsksBadName a = ((id : Text) × (option_map string_bytes a.id ≡ Some id) × ¬ IsSetId id)
+    ⊎ ((uid : Text) × (option_map string_bytes a.uid ≡ Some uid) × ¬ IsUid uid)
+
+-- a refusal is for want of memory, or has one of the kinds
+abbrev pub IsRefusedFor : Kinds → LineFault → Type 0
+IsRefusedFor kinds (Refused e) = (kind_of e ≢ OutOfMemory) × IsAmong (kind_of e) kinds
+IsRefusedFor kinds Memory = Unit {0}
+
+-- the fault of an error of the parser
+abbrev pub IsFaultOf : Error → LineFault → Type 0
+IsFaultOf e (Refused x) = (kind_of e ≢ OutOfMemory) × (x ≡ e)
+IsFaultOf e Memory = kind_of e ≡ OutOfMemory
+
+-- ---- what the building of the parser says
+
+-- the argument has these rules, and belongs to its own command alone
+pub record HasRule (r : Rule) (a : Arg) : Type 0 where
+  pub rule : rule_of a ≡ r
+  pub local : a.global ≡ false
+
+-- the command is this one, and none of its arguments is passed on to other commands
+pub record HasApp (x : App) (c : Command) : Type 0 where
+  pub app : app_of c ≡ x
+  pub local : (fields_of c).has_globals ≡ false

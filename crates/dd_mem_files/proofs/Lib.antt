@@ -1,0 +1,2 @@
+mod Rest
+mod Stored

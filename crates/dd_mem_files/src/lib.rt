@@ -1,0 +1,10 @@
+//! Files in memory, for tests.
+//!
+//! Its promise: they are `Files` that tell what they hold, and that change only as these say.
+#![tactic(auto)]
+
+mod mem_files;
+mod mem_reader;
+
+pub use mem_files::MemFiles;
+pub use mem_reader::MemReader;

@@ -1,0 +1,4 @@
+mod GoingOn
+mod ListedLines
+mod TextLemmas
+mod ToldTrees

@@ -1,0 +1,53 @@
+-- What is found in a tree more is told behind what was told before.
+use Rattle.std.proofs.Common.{◌≡◌, ◌∙◌, Err, refl}
+use Rattle.std.specs.Prelude.{◌||◌}
+use Rattle.std.proofs.lemmas.Result.{err_from_is_err_and}
+use Rattle.dd_report.proofs.ToldTrees.{branch_told, ends_told, more_told}
+use Rattle.dd_report.proofs.checking.+findings.Goals as goal
+use Rattle.dd_report.proofs.checking.+findings.Goals.{check_trees-then-branch, check_trees-else-branch}
+
+pub check_tree-returns-then-here-clause-checks : goal.check_tree-returns-then-here-clause-checks
+check_tree-returns-then-here-clause-checks g t c =
+    branch_told (g.F.Files.held c.args.files.now) (g.F.Files.held c.check_record.new.files) c.args.folder.now
+    c.args.tree.now c.deref.result.now c.in_ok-here.here c.in_ok-below.below c.in_ok-here.here _ _ _
+    c.in_ok-here.ensures.kept c.deref.ensures.value (rw c.if-here.true refl) c.in_ok-here.ensures.checks
+    c.in_ok-below.ensures.checks
+
+pub check_tree-returns-else-here-clause-checks : goal.check_tree-returns-else-here-clause-checks
+check_tree-returns-else-here-clause-checks g t c =
+    branch_told (g.F.Files.held c.args.files.now) (g.F.Files.held c.check_record.new.files) c.args.folder.now
+    c.args.tree.now c.deref.result.now c.in_ok-here.here c.in_ok-below.below c.in_ok-below.below _ _ _
+    c.in_ok-here.ensures.kept c.deref.ensures.value (rw c.if-here.false refl) c.in_ok-here.ensures.checks
+    c.in_ok-below.ensures.checks
+
+pub check_tree-returns-in_err-below-clause-checks : goal.check_tree-returns-in_err-below-clause-checks
+check_tree-returns-in_err-below-clause-checks g t c =
+    let r = c.from_residual-in_err-below.result in
+    let p = err_from_is_err_and r c.from_residual-in_err-below.ensures.1 in
+    let fails : r ≡ Err c.in_err-below.field-0.0 = rw (p.1, p.2) refl in
+    ends_told _ _ r c.check_trees.result c.in_err-below.field-0.0 c.in_ok-here.ensures.checks.0
+    _ _ _ fails c.in_err-below.was c.in_ok-here.ensures.checks.3
+    c.check_trees.ensures.checks
+
+pub check_trees-returns-in_err-found-clause-checks : goal.check_trees-returns-in_err-found-clause-checks
+check_trees-returns-in_err-found-clause-checks g t c =
+    let r = c.from_residual.result in
+    let p = err_from_is_err_and r c.from_residual.ensures.1 in
+    let fails : r ≡ Err c.in_err-found.field-0.0 = rw (p.1, p.2) refl in
+    ends_told _ _ r c.check_tree.result c.in_err-found.field-0.0 c.loop-tree.invariant.told.0
+    _ _ _ fails c.in_err-found.was c.loop-tree.invariant.told.3
+    c.check_tree.ensures.checks
+
+pub check_trees-loop-tree-preserved : goal.check_trees-loop-tree-preserved
+check_trees-loop-tree-preserved g t c =
+    let both : c.if-branch.found ≡ (c.in_ok-found.found || c.loop-tree.found) = elim c.if-branch.branch [
+      | check_trees-then-branch w ↦ w.found-is ∙ rw w.if-branch.true refl
+      | check_trees-else-branch w ↦ w.found-is ∙ rw w.if-branch.false refl
+    ] in
+    record {
+      told = more_told (g.F.Files.held c.args.files.now) (g.F.Files.held c.loop-tree.files) c.args.folder.now
+          c.args.trees.now c.loop-tree.tree-index c.tree-item.result c.in_ok-found.found c.loop-tree.found
+          c.if-branch.found _ _ _ c.loop-tree-test.true c.tree-item.is c.loop-tree.invariant.kept both
+          c.loop-tree.invariant.told c.in_ok-found.ensures.checks;
+      kept = c.in_ok-found.ensures.kept ∙ c.loop-tree.invariant.kept;
+    }

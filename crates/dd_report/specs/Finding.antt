@@ -1,0 +1,66 @@
+-- What a check of a record finds of the file that it names (PS3.3 section F.3.2.2, Referenced File ID).
+use Rattle.std.proofs.Common.{inl, inr}
+use Rattle.std.specs.Prelude.{◌≡◌, ◌≢◌, ◌⊎◌, ℕ, ◌+◌, ◌≤◌, List, [], Option, None, Some, true, unwrap_or}
+use Rattle.std.specs.Prelude.{if◌then◌else◌}
+use Rattle.std.specs.Borrow.{MutBor}
+use Rattle.std.specs.Io.KnownBytes.{Consumes}
+use Rattle.std.specs.Str.{bytes_eq}
+use Rattle.sha2.specs.Sha256.{sha256}
+use Rattle.dd_elem.specs.Device.{Gives}
+use Rattle.dd_elem.specs.FileIdForm.{IsFileId}
+use Rattle.dd_keys.specs.Values.{value_at}
+use Rattle.dd_layout.specs.Entries.{tag}
+use Rattle.dd_dir.specs.Trees.{Node}
+use Rattle.dd_dir.specs.Own.{digest_in}
+use Rattle.dd_files.specs.Whole.{ReadAmiss, ReadWhole}
+use Rattle.dd_report.specs.declared.findings.Finding.{Finding}
+use Rattle.dd_report.specs.declared.findings.Finding.TheVariants.{Differs, Missing, Unreadable}
+
+-- the File ID of a record, without its padding: no bytes where it has none
+abbrev pub file_in : Node → List ℕ
+file_in node = unwrap_or (value_at (tag 0x0004 0x1500) node.set) []
+
+-- it is in use, and names a file
+abbrev pub NamesFile : Node → Type 0
+NamesFile node = (node.in_use ≡ true) × (file_in node ≢ [])
+
+-- it names one by a File ID
+abbrev pub HasFileId : Node → Type 0
+HasFileId node = NamesFile node × IsFileId (file_in node)
+
+-- ---- a file that is read
+
+-- it differs where the record has another digest than it has
+abbrev pub compared : Option (List ℕ) → List ℕ → Option Finding
+compared None found = None
+compared (Some recorded) found = if bytes_eq recorded found then None else Some (Differs recorded found)
+
+-- what is found of it
+abbrev pub IsFound : Option Finding → Option (List ℕ) → ℕ → List ℕ → Option (List ℕ) → ℕ → ℕ → Type 0
+IsFound finding recorded limit given left failures after =
+    ((finding ≡ compared recorded (sha256 given)) × ReadWhole limit given left failures after)
+    ⊎ ((finding ≡ Some Unreadable) × ReadAmiss limit given failures after)
+
+-- What is found of it by reading it once, to its end, to a failure or to a byte more than the limit. Readers tell what
+-- they gave, what they have left and what they count.
+pub record FindsBy {R : Type 0} (has_given : R → List ℕ → Type 0) (remaining : R → Option (List ℕ))
+    (calls failures : R → ℕ) (limit : ℕ) (node : Node) (finding : Option Finding) (old new : R) : Type 0 where
+  pub given : List ℕ
+  pub gave : Gives has_given old new given
+  pub known : Consumes (remaining old) (remaining new) given
+  pub reads : calls new ≤ calls old + limit + 1
+  pub found : IsFound finding (digest_in node.set) limit given (remaining new) (failures old) (failures new)
+
+-- the same of a file that may be missing, as its reader comes in and as it is left
+abbrev pub FindsIn : {R : Type 0} → (R → List ℕ → Type 0) → (R → Option (List ℕ)) → (R → ℕ) → (R → ℕ) → ℕ → Node
+    → Option Finding → Option (MutBor R) → Unit {0} ⊎ ((MutBor R × Unit {0}) ⊎ ⊥) → Type 0
+FindsIn has_given remaining calls failures limit node finding None left = finding ≡ Some Missing
+FindsIn has_given remaining calls failures limit node finding (Some file) (inr (inl left)) =
+    FindsBy has_given remaining calls failures limit node finding file.now left.0.now
+FindsIn has_given remaining calls failures limit node finding (Some file) left = ⊥
+
+-- a file that may be missing is not read: its reader is left as it came in
+abbrev pub IsUnread : {R : Type 0} → Option (MutBor R) → Unit {0} ⊎ ((MutBor R × Unit {0}) ⊎ ⊥) → Type 0
+IsUnread None left = Unit {0}
+IsUnread (Some file) (inr (inl left)) = left.0.now ≡ file.now
+IsUnread (Some file) left = ⊥

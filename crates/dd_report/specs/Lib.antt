@@ -1,0 +1,5 @@
+pub mod Checking
+pub mod Finding
+pub mod Listing
+pub mod Telling
+pub mod Text

@@ -1,0 +1,71 @@
+-- What a listing of a directory's records says (PS3.3 section F.3).
+use Rattle.std.specs.Prelude.{ℕ, min, List, [], ◌∷◌, ◌++◌, length, Option, None, Some, codes}
+use Rattle.std.specs.Prelude.{if◌then◌else◌}
+use Rattle.std.specs.Fmt.{decimal}
+use Rattle.std.specs.List.{repeat}
+use Rattle.std.specs.Str.{bytes_eq}
+use Rattle.dd_elem.specs.declared.tag.Tag.{Tag}
+use Rattle.dd_elem.specs.Device.{counted, last_count}
+use Rattle.dd_keys.specs.Values.{value_at}
+use Rattle.dd_layout.specs.declared.level.Level.TheVariants.{Patient, Study, Series}
+use Rattle.dd_layout.specs.declared.table.TheConstants.{FILE, PATIENT_ID, SERIES_UID, STUDY_UID}
+use Rattle.dd_layout.specs.Records.{kind_of}
+use Rattle.dd_dir.specs.ForestViews.{Branch}
+use Rattle.dd_dir.specs.Trees.{Node, Trees, Walk, no_trees, places, tree}
+use Rattle.dd_report.specs.Telling.{shown_line}
+
+-- ---- the line of a record
+
+-- the element that a record of this type is known by: the Patient ID, the UID of the study or of the series, and for
+-- all others the File ID
+abbrev pub label_tag : List ℕ → Tag
+label_tag kind =
+    if bytes_eq kind (kind_of Patient) then PATIENT_ID.tag
+    else (if bytes_eq kind (kind_of Study) then STUDY_UID.tag
+    else (if bytes_eq kind (kind_of Series) then SERIES_UID.tag else FILE.tag))
+
+-- a value, and `-` where there is none or no byte of it
+abbrev pub or_dash : Option (List ℕ) → List ℕ
+or_dash None = codes "-"
+or_dash (Some []) = codes "-"
+or_dash (Some (byte ∷ value)) = byte ∷ value
+
+abbrev pub label_of : Node → List ℕ
+label_of node = or_dash (value_at (label_tag node.kind) node.set)
+
+abbrev pub flag_of : Node → List ℕ
+flag_of node = if node.in_use then [] else codes " inactive"
+
+-- three words with spaces between them, and a mark at once behind the last
+abbrev pub spaced : List ℕ → List ℕ → List ℕ → List ℕ → List (List ℕ)
+spaced first second third mark = first ∷ codes " " ∷ second ∷ codes " " ∷ third ∷ mark ∷ []
+
+-- two spaces for each level, and then what the record says
+abbrev pub record_parts : Node → List (List ℕ)
+record_parts node = spaced (decimal node.at) node.kind (label_of node) (flag_of node)
+
+abbrev pub record_line : ℕ → Node → List ℕ
+record_line level node = repeat level (codes "  ") ++ shown_line (record_parts node)
+
+-- ---- the lines of all records
+
+-- depth first: of each record its line and the lines of those below it, then of those after it. Levels count.
+abbrev pub lines_of : ℕ → Trees → List ℕ
+lines_of level no_trees = []
+lines_of level (tree node below after) =
+    (record_line level node ++ lines_of (counted level) below) ++ lines_of level after
+
+-- those of a record and of the records below it
+abbrev pub branch_lines : ℕ → Branch → List ℕ
+branch_lines level branch = record_line level branch.node ++ lines_of (counted level) branch.below
+
+-- how many records there are, as a count
+abbrev pub records_in : Trees → ℕ
+records_in trees = min (length (places trees)) last_count
+
+abbrev pub totals_line : Walk → List ℕ
+totals_line walk = shown_line (
+    decimal (records_in walk.trees) ∷ codes " records, " ∷ decimal walk.unreached ∷ codes " unreached" ∷ [])
+
+abbrev pub listing_text : Walk → List ℕ
+listing_text walk = lines_of 0 walk.trees ++ totals_line walk

@@ -1,0 +1,40 @@
+-- Text on its way to a writer through a buffer, and lines of it.
+use Rattle.std.specs.Prelude.{ℕ, List, [], ◌∷◌, ◌++◌, map, nat_le, ◌&&◌, Option, Result, Ok, Err}
+use Rattle.std.specs.Prelude.{if◌then◌else◌}
+use Rattle.std.specs.Borrow.{Bor}
+use Rattle.std.specs.List.{concat}
+use Rattle.dd_report.specs.Text.{FailsAmid, Sent}
+
+-- what waits in the buffer, what the writer holds, and its count of failures
+pub record Way : Type 0 where
+  pub waits : List ℕ
+  pub holds : Option (List ℕ)
+  pub failures : ℕ
+
+abbrev pub way : List ℕ → Option (List ℕ) → ℕ → Way
+way waits holds failures = record { waits = waits; holds = holds; failures = failures }
+
+-- a text went on its way: a front of what waited and of it is sent, and the rest waits
+abbrev pub GoesOn : List ℕ → Way → Way → Type 0
+GoesOn text old new = Sent (old.waits ++ text) new.waits old.holds new.holds old.failures new.failures
+
+-- the answer of a call that sends a text on its way: it went, or the writer failed in what waited and in it
+abbrev pub Tells : {T E : Type 0} → Result T E → List ℕ → Way → Way → Type 0
+Tells (Ok done) text old new = GoesOn text old new
+Tells (Err fault) text old new = FailsAmid old.holds new.holds old.failures new.failures (old.waits ++ text)
+
+-- ---- lines
+
+-- a byte as it prints: `?` for one outside 20 to 7E
+abbrev pub shown_byte : ℕ → ℕ
+shown_byte byte = if nat_le 0x20 byte && nat_le byte 0x7e then byte else 63
+
+abbrev pub shown : List ℕ → List ℕ
+shown text = map shown_byte text
+
+-- a line of these parts, one behind the other, as it prints
+abbrev pub shown_line : List (List ℕ) → List ℕ
+shown_line parts = shown (concat parts) ++ 10 ∷ []
+
+abbrev pub parts_of : List (Bor (List ℕ)) → List (List ℕ)
+parts_of parts = map (λ part. part.now) parts

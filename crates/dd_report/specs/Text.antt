@@ -1,0 +1,35 @@
+-- What sending a text to a writer does to the bytes that it holds and to its count of failures.
+use Rattle.std.specs.Prelude.{◌≡◌, ℕ, ◌<◌, List, [], ◌∷◌, ◌++◌, length, map, take, Option}
+use Rattle.std.specs.Borrow.{Bor}
+use Rattle.std.specs.List.{concat}
+use Rattle.std.specs.Io.KnownBytes.{Appends}
+use Rattle.dd_elem.specs.Device.{HasFailed}
+
+-- a writer with these contents and this count of failures, before and after, took all the bytes and
+-- did not fail
+abbrev pub TakesAll : Option (List ℕ) → Option (List ℕ) → ℕ → ℕ → List ℕ → Type 0
+TakesAll old new failures_old failures_new bytes =
+    (failures_new ≡ failures_old) × Appends old new bytes
+
+-- it failed, after it had taken some of the bytes from their front, but not all
+pub record FailsAmid (old new : Option (List ℕ)) (failures_old failures_new : ℕ) (bytes : List ℕ)
+    : Type 0 where
+  pub taken : ℕ
+  pub within : taken < length bytes
+  pub front : Appends old new (take taken bytes)
+  pub failed : HasFailed failures_old failures_new
+
+-- it took some of the bytes from their front, and `rest` is still to be sent
+pub record Sent (bytes rest : List ℕ) (old new : Option (List ℕ)) (failures_old failures_new : ℕ)
+    : Type 0 where
+  pub gone : List ℕ
+  pub parts : bytes ≡ gone ++ rest
+  pub took : TakesAll old new failures_old failures_new gone
+
+-- the parts of a line, one behind the other
+abbrev pub joined : List (Bor (List ℕ)) → List ℕ
+joined parts = concat (map (λ part. part.now) parts)
+
+-- with the end of the line
+abbrev pub line_text : List (Bor (List ℕ)) → List ℕ
+line_text parts = joined parts ++ 10 ∷ []

@@ -1,0 +1,127 @@
+//! What is found of the file that a record names.
+ghost use Rattle.std.specs.Prelude.{◌≡◌, IfSome, None, Some};
+ghost use Rattle.dd_elem.specs.FileIdForm.{IsFileId};
+ghost use Rattle.dd_set.specs.Views.{set_view};
+ghost use Rattle.dd_dir.specs.ForestViews.{tree_view};
+ghost use Rattle.dd_report.specs.Finding.{FindsBy, FindsIn, HasFileId, IsUnread, NamesFile, compared};
+ghost use Rattle.dd_report.specs.Finding.{file_in};
+
+use dd_dir::{Tree, digest_in};
+use dd_elem::{Read, is_file_id};
+use dd_files::digest_of;
+use dd_keys::value_at;
+use dd_layout::table::FILE;
+
+/// What is wrong with the file that a record names.
+#[derive(Clone, Copy, Debug, PartialEq, Eq)]
+pub enum Finding {
+    /// The name is no File ID (PS3.10 section 8.2).
+    BadId,
+    /// There is no such file, or it could not be opened.
+    Missing,
+    /// A read of it failed, or it is too long.
+    Unreadable,
+    /// It has another SHA-256 than the record says.
+    Differs {
+        /// That of the record.
+        recorded: [u8; 32],
+        /// That of the file.
+        found: [u8; 32],
+    },
+}
+
+/// What is found of the file that a record names: nothing where the record is not in use or names none.
+/// `file` reads it, where it could be opened; it may have `limit` bytes.
+///
+/// It is read once, to its end, to a failure or to `limit` bytes and one more, whether the record has a
+/// digest or not; where its name is no File ID it is not read. This takes no memory.
+pub fn finding_of<R: Read>(tree: &Tree<'_>, file: Option<&mut R>, limit: u64) -> Option<Finding>
+    ensures unnamed { ¬ NamesFile (tree_view tree.now).node → result ≡ None }
+    ensures misnamed { NamesFile (tree_view tree.now).node → ¬ IsFileId (file_in (tree_view tree.now).node)
+        → result ≡ Some Finding.BadId }
+    ensures named { NamesFile (tree_view tree.now).node → IsFileId (file_in (tree_view tree.now).node)
+        → FindsIn R.has_given R.remaining R.calls R.failures limit (tree_view tree.now).node result
+        file.entry file.exit }
+
+    // Where the name is no File ID the reader is left as it came in.
+    ensures unread { ¬ HasFileId (tree_view tree.now).node → IsUnread file.entry file.exit }
+{
+    let Some(reader) = file else {
+        return unopened(tree);
+    };
+    if id_of(tree).is_none() {
+        return misnamed(tree);
+    }
+    finding_by(tree, reader, limit)
+}
+
+/// The File ID that a record has, without its padding: no bytes where it has none.
+pub(crate) fn file_in<'t>(tree: &'t Tree<'_>) -> &'t [u8]
+    ensures { result.now ≡ file_in (tree_view tree.now).node }
+{
+    match value_at(&tree.set, FILE.tag) {
+        Some(id) => id,
+        None => &[],
+    }
+}
+
+/// The File ID of the file that a record names, where it is in use and the name is a File ID.
+pub(crate) fn id_of<'t>(tree: &'t Tree<'_>) -> Option<&'t [u8]>
+    ensures some { IfSome result (λ id. HasFileId (tree_view tree.now).node
+        × (id.now ≡ file_in (tree_view tree.now).node)) }
+    ensures none { result ≡ None → ¬ HasFileId (tree_view tree.now).node }
+{
+    let id = file_in(tree);
+    if tree.in_use && is_file_id(id) {
+        Some(id)
+    } else {
+        None
+    }
+}
+
+/// What is found of a record whose file is not opened.
+pub(crate) fn unopened(tree: &Tree<'_>) -> Option<Finding>
+    ensures missing { HasFileId (tree_view tree.now).node → result ≡ Some Finding.Missing }
+    ensures bad { NamesFile (tree_view tree.now).node → ¬ IsFileId (file_in (tree_view tree.now).node)
+        → result ≡ Some Finding.BadId }
+    ensures unnamed { ¬ NamesFile (tree_view tree.now).node → result ≡ None }
+{
+    match id_of(tree) {
+        Some(_) => Some(Finding::Missing),
+        None => misnamed(tree),
+    }
+}
+
+/// What is found of a record by the name alone: `BadId` where it is in use and the name is no File ID.
+fn misnamed(tree: &Tree<'_>) -> Option<Finding>
+    ensures bad { NamesFile (tree_view tree.now).node → ¬ IsFileId (file_in (tree_view tree.now).node)
+        → result ≡ Some Finding.BadId }
+    ensures unnamed { ¬ NamesFile (tree_view tree.now).node → result ≡ None }
+{
+    let id = file_in(tree);
+    if !tree.in_use || id.is_empty() || is_file_id(id) {
+        return None;
+    }
+    Some(Finding::BadId)
+}
+
+/// What is found of the file by reading it.
+fn finding_by<R: Read>(tree: &Tree<'_>, reader: &mut R, limit: u64) -> Option<Finding>
+    ensures { FindsBy R.has_given R.remaining R.calls R.failures limit (tree_view tree.now).node result
+        reader.old reader.new }
+{
+    match digest_of(reader, limit) {
+        None => Some(Finding::Unreadable),
+        Some(found) => compared(digest_in(&tree.set), found),
+    }
+}
+
+/// What is found where the record may have a digest and this is that of the file.
+fn compared(recorded: Option<[u8; 32]>, found: [u8; 32]) -> Option<Finding>
+    ensures { result ≡ compared recorded found }
+{
+    match recorded {
+        Some(recorded) if recorded != found => Some(Finding::Differs { recorded, found }),
+        _ => None,
+    }
+}

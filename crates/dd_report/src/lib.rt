@@ -1,0 +1,16 @@
+//! What is told of a directory, its records and the files that they name; and lines to a device, with no
+//! memory.
+//!
+//! What it promises stands at `list_records`, `check_records`, `finding_of`, `print_line` and `send_text`.
+#![tactic(auto)]
+
+mod checking;
+mod findings;
+mod line_buffer;
+mod listing;
+mod text;
+
+pub use checking::{CheckFault, check_records};
+pub use findings::{Finding, finding_of};
+pub use listing::list_records;
+pub use text::{Text, print_line, send_text};

@@ -1,0 +1,138 @@
+//! Lines on their way to a device.
+ghost use Rattle.std.specs.Prelude.{◌≡◌, ◌+◌, ◌++◌, ◌≤◌, ◌↔◌, ℕ, List, [], IsTrue, OnErr, OnOk, codes, length, take};
+ghost use Rattle.std.specs.List.{repeat};
+ghost use Rattle.dd_report.specs.Telling.{Tells, parts_of, shown, shown_byte, shown_line, way};
+ghost use Rattle.dd_report.specs.Text.{FailsAmid, Sent, TakesAll};
+
+use crate::text::send_bytes;
+use dd_elem::Write;
+use std::fmt;
+use std::marker::Model;
+
+// The most bytes that wait.
+const ROOM: usize = 8 * 1024;
+
+/// The bytes of lines that wait to be sent, so that a line, or many, are one write. They take no memory:
+/// where there are more, a front goes earlier.
+#[derive(Drop)]
+pub(crate) struct LineBuffer {
+    bytes: [u8; ROOM],
+    used: usize,
+}
+
+impl Model for LineBuffer {
+    ghost Value = { List ℕ };
+
+    ghost view = { λ b. take b.used b.bytes };
+
+    ghost invariant = { λ b. b.used ≤ 8192 };
+}
+
+impl LineBuffer {
+    /// Of lines of which nothing is said yet.
+    pub(crate) fn new() -> LineBuffer
+        ensures { result ≡ [] }
+    {
+        LineBuffer {
+            bytes: [0; ROOM],
+            used: 0,
+        }
+    }
+
+    /// Adds bytes to the lines. What goes to the device by this is a front of what waited and of these, and
+    /// the rest of it waits then.
+    pub(crate) fn add<W: Write>(&mut self, more: &[u8], to: &mut W) -> fmt::Result
+        ensures sent { OnOk result (Sent (self.old ++ more.now) self.new (W.contents to.old) (W.contents to.new)
+            (W.failures to.old) (W.failures to.new)) }
+        ensures unsent { OnErr result (FailsAmid (W.contents to.old) (W.contents to.new)
+            (W.failures to.old) (W.failures to.new) (self.old ++ more.now)) }
+        ensures rest { W.rest to.new ≡ W.rest to.old }
+    {
+        if self.has_room(more.len()) {
+            self.keep(more);
+            return Ok(());
+        }
+        self.flush(to)?;
+        if self.has_room(more.len()) {
+            self.keep(more);
+            return Ok(());
+        }
+        send_bytes(more, to)?;
+        Ok(())
+    }
+
+    /// Adds two spaces for each level.
+    pub(crate) fn add_indent<W: Write>(&mut self, level: u64, to: &mut W) -> fmt::Result
+        ensures { Tells result (repeat level (codes "  ")) (way self.old (W.contents to.old) (W.failures to.old))
+            (way self.new (W.contents to.new) (W.failures to.new)) }
+    {
+        for _ in 0..level {
+            self.add(b"  ", to)?;
+        }
+        Ok(())
+    }
+
+    /// Adds a line of these parts, one behind the other, with `?` for each byte that does not print.
+    pub(crate) fn add_line<W: Write>(&mut self, parts: &[&[u8]], to: &mut W) -> fmt::Result
+        ensures { Tells result (shown_line (parts_of parts.now)) (way self.old (W.contents to.old) (W.failures to.old))
+            (way self.new (W.contents to.new) (W.failures to.new)) }
+    {
+        for part in parts {
+            self.add_shown(part, to)?;
+        }
+        self.add(b"\n", to)
+    }
+
+    /// Adds bytes to the line, `?` for each that does not print.
+    fn add_shown<W: Write>(&mut self, text: &[u8], to: &mut W) -> fmt::Result
+        ensures { Tells result (shown text.now) (way self.old (W.contents to.old) (W.failures to.old))
+            (way self.new (W.contents to.new) (W.failures to.new)) }
+    {
+        for byte in text {
+            self.add(&[shown_byte(*byte)], to)?;
+        }
+        Ok(())
+    }
+
+    /// Sends what waits.
+    pub(crate) fn flush<W: Write>(&mut self, to: &mut W) -> fmt::Result
+        ensures sent { OnOk result (TakesAll (W.contents to.old) (W.contents to.new)
+            (W.failures to.old) (W.failures to.new) self.old) }
+        ensures empty { OnOk result (self.new ≡ []) }
+        ensures unsent { OnErr result (FailsAmid (W.contents to.old) (W.contents to.new)
+            (W.failures to.old) (W.failures to.new) self.old) }
+        ensures rest { W.rest to.new ≡ W.rest to.old }
+    {
+        send_bytes(&self.bytes[..self.used], to)?;
+        self.used = 0;
+        Ok(())
+    }
+
+    /// Is there room for so many bytes more?
+    fn has_room(&self, more: usize) -> bool
+        ensures { IsTrue result ↔ (length self.now + more ≤ 8192) }
+    {
+        more <= ROOM - self.used
+    }
+
+    /// Keeps bytes behind those that wait.
+    fn keep(&mut self, more: &[u8])
+        requires { length self.old + length more.now ≤ 8192 }
+        ensures { self.new ≡ self.old ++ more.now }
+    {
+        let end = self.used + more.len();
+        let all = &mut self.bytes[..];
+        all[self.used..end].copy_from_slice(more);
+        self.used = end;
+    }
+}
+
+/// The byte as it prints: `?` for one outside 20 to 7E.
+fn shown_byte(byte: u8) -> u8
+    ensures { result ≡ shown_byte byte }
+{
+    match byte {
+        0x20..=0x7e => byte,
+        _ => b'?',
+    }
+}

@@ -1,0 +1,162 @@
+//! The records of a directory as lines.
+ghost use Rattle.std.specs.Prelude.{◌≡◌, ◌++◌, OnErr, OnOk, option_copied};
+ghost use Rattle.dd_dir.specs.ForestViews.{tree_view, trees_view, walk_view};
+ghost use Rattle.dd_elem.specs.Device.{counted};
+ghost use Rattle.dd_report.specs.Listing.{branch_lines, flag_of, label_of, label_tag, lines_of, listing_text};
+ghost use Rattle.dd_report.specs.Listing.{record_line, records_in, spaced, totals_line};
+ghost use Rattle.dd_report.specs.Telling.{Tells, shown_line, way};
+ghost use Rattle.dd_report.specs.Text.{FailsAmid, TakesAll};
+
+use crate::line_buffer::LineBuffer;
+use dd_dir::{Forest, Tree};
+use dd_elem::{Tag, Write};
+use dd_keys::value_at;
+use dd_layout::Level;
+use dd_layout::table::{FILE, PATIENT_ID, SERIES_UID, STUDY_UID};
+use itoa::Buffer;
+use std::fmt;
+
+/// Lists the records of a directory: a line for each, depth first, and how many they are. This takes no
+/// memory.
+pub fn list_records<W: Write>(forest: &Forest<'_>, to: &mut W) -> fmt::Result
+    ensures sent { OnOk result (TakesAll (W.contents to.old) (W.contents to.new)
+        (W.failures to.old) (W.failures to.new) (listing_text (walk_view forest.now))) }
+    ensures unsent { OnErr result (FailsAmid (W.contents to.old) (W.contents to.new)
+        (W.failures to.old) (W.failures to.new) (listing_text (walk_view forest.now))) }
+{
+    let mut lines = LineBuffer::new();
+    list_trees(&forest.trees, 0, &mut lines, to)?;
+    list_totals(forest, &mut lines, to)?;
+    lines.flush(to)
+}
+
+/// Lists these records of a level, and those below them.
+#[cycle(lines)]
+fn list_trees<W: Write>(
+    trees: &[Tree<'_>],
+    level: u64,
+    lines: &mut LineBuffer,
+    to: &mut W,
+) -> fmt::Result
+    ensures { Tells result (lines_of level (trees_view trees.now))
+        (way lines.old (W.contents to.old) (W.failures to.old))
+        (way lines.new (W.contents to.new) (W.failures to.new)) }
+{
+    for tree in trees {
+        list_tree(tree, level, lines, to)?;
+    }
+    Ok(())
+}
+
+/// Lists this record, and those below it.
+#[cycle(lines)]
+fn list_tree<W: Write>(
+    tree: &Tree<'_>,
+    level: u64,
+    lines: &mut LineBuffer,
+    to: &mut W,
+) -> fmt::Result
+    ensures { Tells result (branch_lines level (tree_view tree.now))
+        (way lines.old (W.contents to.old) (W.failures to.old))
+        (way lines.new (W.contents to.new) (W.failures to.new)) }
+{
+    list_record(tree, level, lines, to)?;
+    list_trees(&tree.below, level.saturating_add(1), lines, to)
+}
+
+/// Lists this record.
+fn list_record<W: Write>(
+    tree: &Tree<'_>,
+    level: u64,
+    lines: &mut LineBuffer,
+    to: &mut W,
+) -> fmt::Result
+    ensures { Tells result (record_line level (tree_view tree.now).node)
+        (way lines.old (W.contents to.old) (W.failures to.old))
+        (way lines.new (W.contents to.new) (W.failures to.new)) }
+{
+    lines.add_indent(level, to)?;
+    let mut at = Buffer::new();
+    let at = at.format(tree.at).as_bytes();
+    add_words(at, tree.kind, label_of(tree), flag_of(tree), lines, to)
+}
+
+/// Adds a line of these words, with spaces between the first three.
+fn add_words<W: Write>(
+    at: &[u8],
+    kind: &[u8],
+    label: &[u8],
+    flag: &[u8],
+    lines: &mut LineBuffer,
+    to: &mut W,
+) -> fmt::Result
+    ensures { Tells result (shown_line (spaced at.now kind.now label.now flag.now))
+        (way lines.old (W.contents to.old) (W.failures to.old))
+        (way lines.new (W.contents to.new) (W.failures to.new)) }
+{
+    lines.add_line(&[at, b" ", kind, b" ", label, flag], to)
+}
+
+/// What the record is known by.
+fn label_of<'t>(tree: &'t Tree<'_>) -> &'t [u8]
+    ensures { result.now ≡ label_of (tree_view tree.now).node }
+{
+    match value_at(&tree.set, label_tag(tree.kind)) {
+        None | Some([]) => b"-",
+        Some(value) => value,
+    }
+}
+
+/// The element that records of this type are known by.
+fn label_tag(kind: &[u8]) -> Tag
+    ensures { result ≡ label_tag kind.now }
+{
+    if kind == Level::Patient.kind() {
+        PATIENT_ID.tag
+    } else if kind == Level::Study.kind() {
+        STUDY_UID.tag
+    } else if kind == Level::Series.kind() {
+        SERIES_UID.tag
+    } else {
+        FILE.tag
+    }
+}
+
+/// How a record is marked that is not in use.
+fn flag_of<'t>(tree: &'t Tree<'_>) -> &'t [u8]
+    ensures { result.now ≡ flag_of (tree_view tree.now).node }
+{
+    if tree.in_use { b"" } else { b" inactive" }
+}
+
+/// Lists how many records there are, and how many items no offset reaches.
+fn list_totals<W: Write>(forest: &Forest<'_>, lines: &mut LineBuffer, to: &mut W) -> fmt::Result
+    ensures { Tells result (totals_line (walk_view forest.now))
+        (way lines.old (W.contents to.old) (W.failures to.old))
+        (way lines.new (W.contents to.new) (W.failures to.new)) }
+{
+    let (mut count, mut unreached) = (Buffer::new(), Buffer::new());
+    let count = count.format(records_in(&forest.trees)).as_bytes();
+    let unreached = unreached.format(forest.unreached).as_bytes();
+    lines.add_line(&[count, b" records, ", unreached, b" unreached"], to)
+}
+
+/// How many records there are in these trees, as a count.
+#[cycle(counts)]
+pub(crate) fn records_in(trees: &[Tree<'_>]) -> u64
+    ensures { result ≡ records_in (trees_view trees.now) }
+{
+    let mut count: u64 = 0;
+    for tree in trees {
+        count = count.saturating_add(records_of(tree));
+    }
+    count
+}
+
+/// How many records there are in this tree, as a count.
+#[cycle(counts)]
+fn records_of(tree: &Tree<'_>) -> u64
+    ensures { result ≡ counted (records_in (tree_view tree.now).below) }
+{
+    records_in(&tree.below).saturating_add(1)
+}

@@ -1,0 +1,67 @@
+//! Printing to a device, with no memory.
+ghost use Rattle.std.specs.Prelude.{◌≡◌, OnErr, OnOk};
+ghost use Rattle.dd_report.specs.Text.{FailsAmid, TakesAll, line_text};
+
+use crate::line_buffer::LineBuffer;
+use dd_elem::Write;
+use std::fmt;
+
+/// Sends the bytes of a text, all of them or up to where the writer fails.
+pub fn send_text<W: Write>(text: &str, to: &mut W) -> fmt::Result
+    ensures sent { OnOk result (TakesAll (W.contents to.old) (W.contents to.new)
+        (W.failures to.old) (W.failures to.new) text.now) }
+    ensures unsent { OnErr result (FailsAmid (W.contents to.old) (W.contents to.new)
+        (W.failures to.old) (W.failures to.new) text.now) }
+    ensures rest { W.rest to.new ≡ W.rest to.old }
+{
+    send_bytes(text.as_bytes(), to)
+}
+
+/// Sends bytes, all of them or up to where the writer fails.
+pub(crate) fn send_bytes<W: Write>(bytes: &[u8], to: &mut W) -> fmt::Result
+    ensures sent { OnOk result (TakesAll (W.contents to.old) (W.contents to.new)
+        (W.failures to.old) (W.failures to.new) bytes.now) }
+    ensures unsent { OnErr result (FailsAmid (W.contents to.old) (W.contents to.new)
+        (W.failures to.old) (W.failures to.new) bytes.now) }
+    ensures rest { W.rest to.new ≡ W.rest to.old }
+{
+    let mut at = 0;
+    while at < bytes.len() {
+        match to.write(&bytes[at..]) {
+            Ok(taken) if taken > 0 => at += taken,
+            _ => return Err(fmt::Error),
+        }
+    }
+    Ok(())
+}
+
+/// Prints the parts of a line, one behind the other, and the end of the line: all of it or up to where
+/// the writer fails. A line that is not long is one write.
+pub fn print_line<W: Write>(parts: &[&str], to: &mut W) -> fmt::Result
+    ensures sent { OnOk result (TakesAll (W.contents to.old) (W.contents to.new)
+        (W.failures to.old) (W.failures to.new) (line_text parts.now)) }
+    ensures unsent { OnErr result (FailsAmid (W.contents to.old) (W.contents to.new)
+        (W.failures to.old) (W.failures to.new) (line_text parts.now)) }
+    ensures rest { W.rest to.new ≡ W.rest to.old }
+{
+    let mut line = LineBuffer::new();
+    for part in parts {
+        line.add(part.as_bytes(), to)?;
+    }
+    line.add(b"\n", to)?;
+    line.flush(to)
+}
+
+/// A device that a text is printed to as it comes.
+#[derive(Drop)]
+pub struct Text<'a, W: Write> {
+    /// The device.
+    pub to: &'a mut W,
+}
+
+impl<W: Write> fmt::Write for Text<'_, W> {
+    /// Sends the bytes of a text, as `send_text` does.
+    fn write_str(&mut self, text: &str) -> fmt::Result {
+        send_text(text, self.to)
+    }
+}

@@ -1,7 +1,0 @@
-use Rattle.std.proofs.Common.{◌≡◌, ◌++◌, map, take}
-use Rattle.dicomdir.specs.Line.{words_of}
-use Rattle.dicomdir.proofs.line.append_values.Given as goal
-
-abbrev pub invariant-loop-value : goal.invariant-loop-value
-invariant-loop-value l =
-    words_of l.paths.items ≡ words_of l.initial.paths.items ++ map (λ v. v.now) (take l.value-index l.values)

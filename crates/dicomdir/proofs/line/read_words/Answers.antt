@@ -1,9 +1,0 @@
--- Words that are taken name a command.
-use Rattle.std.proofs.Common.{subst, sym}
-use Rattle.dicomdir.specs.Line.{NamesCommand, words_of}
-use Rattle.dicomdir.proofs.LineNames.{names_command}
-use Rattle.dicomdir.proofs.line.read_words.Goals as goal
-
-pub asked_of-requires : goal.asked_of-requires
-asked_of-requires c = subst NamesCommand (sym c.in_ok-found.ensures.found)
-    (names_command (words_of c.args.words.now) c.in_ok-found.ensures.kinds)

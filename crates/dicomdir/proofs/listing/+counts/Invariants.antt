@@ -1,8 +1,0 @@
--- The trees so far are counted.
-use Rattle.std.proofs.Common.{◌≡◌, take}
-use Rattle.dd_dir.specs.ForestViews.{trees_view}
-use Rattle.dicomdir.specs.Listing.{records_in}
-use Rattle.dicomdir.proofs.listing.+counts.Given as goal
-
-abbrev pub invariant-records_in-loop-tree : goal.invariant-records_in-loop-tree
-invariant-records_in-loop-tree l = l.count ≡ records_in (trees_view (take l.tree-index l.trees))
