@@ -5,6 +5,8 @@ ghost use Rattle.std.specs.List.{list_all, slice_split};
 ghost use Rattle.dd_elem.specs.SetId.{is_id_character};
 ghost use Rattle.dd_elem.specs.FileIdForm.{IsFileId, is_file_id_component, is_file_id_form};
 
+use crate::set_id::is_id_character;
+
 /// Are the bytes a File ID: 1 to 8 components joined by `\`, each of 1 to 8 characters of `A` to `Z`,
 /// `0` to `9` and `_` (PS3.10 sections 8.2 and 8.5)?
 #[tactic(auto, using(crate::proofs::FileIdForms::form_decides), unfolding(crate::specs::FileIdForm::is_file_id_form))]
@@ -40,7 +42,5 @@ fn is_component(bytes: &[u8]) -> bool
 fn are_id_characters(bytes: &[u8]) -> bool
     ensures { result ≡ list_all is_id_character bytes.now }
 {
-    bytes
-        .iter()
-        .all(|byte| matches!(byte, b'A'..=b'Z' | b'0'..=b'9' | b'_'))
+    bytes.iter().all(|byte| is_id_character(*byte))
 }

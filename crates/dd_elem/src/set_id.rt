@@ -72,8 +72,8 @@ fn has_form(bytes: &[u8]) -> bool
     bytes.len() <= 16 && bytes.iter().all(|byte| is_id_character(*byte))
 }
 
-/// May the character stand in the ID of a file-set?
-fn is_id_character(byte: u8) -> bool
+/// May the character stand in the ID of a file-set, or in a File ID?
+pub(crate) fn is_id_character(byte: u8) -> bool
     ensures { result ≡ is_id_character byte }
 {
     matches!(byte, b'A'..=b'Z' | b'0'..=b'9' | b'_')

@@ -13,17 +13,63 @@ use crate::fault::SetFault;
 use crate::feed::Feed;
 use crate::filling::fill;
 use crate::found::FoundValue;
+use crate::taking::take;
 use dd_elem::clean;
 use std::alloc::Global;
 
 /// How many bytes of a value are kept.
 const KEPT: usize = 1024;
 
+/// How many bytes a short value has at most: room for as many is made for each value, and for most
+/// values this is enough.
+const SHORT: usize = 64;
+
 /// The most bytes of a value that are looked at together behind those.
 const PIECE: usize = 256;
 
 /// Takes a value of n bytes, and keeps its front without its padding.
 pub fn take_cleaned<F: Feed>(
+    alloc: Global,
+    feed: &mut F,
+    n: u32,
+    left: Option<u64>,
+) -> Result<(FoundValue, Option<u64>), SetFault>
+    ensures found { Scans F.moves F.tells feed.old feed.new
+        (λ bytes rest. Tells value_told (λ v. told_of (value v)) result
+        (take_at n (record { left = left; bytes = bytes })) rest) }
+    ensures fewer { F.most feed.new ≤ F.most feed.old }
+{
+    let length = n as usize;
+    if length <= SHORT {
+        let mut room = [0; SHORT];
+        take_short(alloc, feed, &mut room[..length], left)
+    } else {
+        take_long(alloc, feed, n, left)
+    }
+}
+
+/// Takes a value of as many bytes as there is room for, and keeps it without its padding.
+fn take_short<F: Feed>(
+    alloc: Global,
+    feed: &mut F,
+    room: &mut [u8],
+    left: Option<u64>,
+) -> Result<(FoundValue, Option<u64>), SetFault>
+    requires { length room.old ≤ 64 }
+    ensures found { Scans F.moves F.tells feed.old feed.new
+        (λ bytes rest. Tells value_told (λ v. told_of (value v)) result
+        (take_at (length room.old) (record { left = left; bytes = bytes })) rest) }
+    ensures fewer { F.most feed.new ≤ F.most feed.old }
+{
+    let left = take(feed, room, left)?;
+    let cleaned = clean(room);
+    let length = cleaned.len() as u64;
+    let front = cleaned.to_vec(alloc)?;
+    Ok((FoundValue::Bytes { front, length }, left))
+}
+
+/// Takes a value of n bytes, and keeps its front without its padding.
+fn take_long<F: Feed>(
     alloc: Global,
     feed: &mut F,
     n: u32,

@@ -10,7 +10,7 @@ use dd_elem::Read;
 use std::marker::Model;
 
 /// The most bytes of one read.
-pub const PIECE: usize = 65_536;
+pub const PIECE: usize = 16_384;
 
 /// The bytes of the last read that were not taken yet.
 #[derive(Drop)]
@@ -27,7 +27,7 @@ impl Model for Kept {
 
     ghost view = { λ k. take k.len (drop k.at k.bytes) };
 
-    ghost invariant = { λ k. k.at + k.len ≤ 65536 };
+    ghost invariant = { λ k. k.at + k.len ≤ 16384 };
 }
 
 impl Kept {

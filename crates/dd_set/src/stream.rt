@@ -10,7 +10,7 @@ use crate::feed::Feed;
 use crate::kept::{Kept, PIECE};
 use dd_elem::Read;
 
-/// The bytes of a reader as a feed: it reads them in pieces of 64 KiB, and at most so many and one
+/// The bytes of a reader as a feed: it reads them in pieces of 16 KiB, and at most so many and one
 /// more. It is at its end where the reader is, where the reader fails, and behind the one byte more;
 /// `end` says which.
 #[derive(Drop)]

@@ -8,7 +8,7 @@ use Rattle.dd_set.specs.Scan.{Told, cleaned}
 use Rattle.dd_set.proofs.Along.{scans_none}
 use Rattle.dd_set.proofs.CleanedFronts.{cleaned_front}
 use Rattle.dd_set.proofs.Feeding.{take_overruns, take_ends, take_whole, over_length, front_length}
-use Rattle.dd_set.proofs.cleaning.take_cleaned.Goals as goal
+use Rattle.dd_set.proofs.cleaning.take_long.Goals as goal
 
 told_cleaned : (front same : List ℕ) (n m : ℕ) → front ≡ same → n ≡ m → ◌≡◌ {A = Told} (cleaned front n) (cleaned same m)
 told_cleaned front same n m e f = rw (e, f) refl
