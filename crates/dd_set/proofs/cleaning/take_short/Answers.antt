@@ -1,0 +1,26 @@
+-- The whole value, which is shorter than what is kept of one.
+use Rattle.std.proofs.Common.{◌≡◌, ◌∙◌, ◌≤◌, ℕ, List, length, ap, sym, refl, arith}
+use Rattle.std.proofs.lemmas.List.{take_all}
+use Rattle.dd_elem.specs.Clean.{clean_of}
+use Rattle.dd_elem.proofs.Cleaning.{length-clean_of}
+use Rattle.dd_set.specs.Scan.{Told, cleaned}
+use Rattle.dd_set.proofs.Along.{scans_same}
+use Rattle.dd_set.proofs.cleaning.take_short.Goals as goal
+
+told_cleaned : (front same : List ℕ) (n m : ℕ) → front ≡ same → n ≡ m → ◌≡◌ {A = Told} (cleaned front n) (cleaned same m)
+told_cleaned front same n m e f = rw (e, f) refl
+
+pub returns-clause-found : goal.returns-clause-found
+returns-clause-found g c =
+    let room = c.take.new.room in
+    let same : length room ≡ length c.args.room.now = c.take.auto.room in
+    let kept = c.in_ok-front.ensures.items_if_clones_equal (λ x y h. h) in
+    let cleaned_is = c.clean-cleaned.ensures.exact in
+    let most : length c.args.room.now ≤ 64 = c.requires in
+    let few : length (clean_of room) ≤ 1024 = omega (arith, length-clean_of room) in
+    scans_same _ _ _ _ _ _ c.in_ok-left.ensures.found (λ all rest t fewer h.
+    (
+      room,
+      told_cleaned _ _ _ _ (kept ∙ cleaned_is ∙ sym (take_all 1024 (clean_of room) few)) (ap length cleaned_is),
+      rw (sym same) h,
+    ))
