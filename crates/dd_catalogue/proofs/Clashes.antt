@@ -23,16 +23,16 @@ same_decides x y = (
   (λ e. ap is_eq (ap (λ z. bytes_cmp x z) (sym e) ∙ tied_itself nat_list_cmp_total x)),
 )
 
-splits_decides : (part part' whole whole' : List ℕ)
-    → Decides (same part part' && not (same whole whole')) ((part ≡ part') × (whole ≢ whole'))
-splits_decides part part' whole whole' = by_test (same part part')
-    (λ e. by_test (same whole whole')
-    (λ f. ((λ g. cc (e, f, g)), (λ h. absurd (h.1 ((same_decides whole whole').0 f)))))
+splits_decides : (uid uid' owner owner' : List ℕ)
+    → Decides (same uid uid' && not (same owner owner')) ((uid ≡ uid') × (owner ≢ owner'))
+splits_decides uid uid' owner owner' = by_test (same uid uid')
+    (λ e. by_test (same owner owner')
+    (λ f. ((λ g. cc (e, f, g)), (λ h. absurd (h.1 ((same_decides owner owner').0 f)))))
     (λ f. (
-      (λ g. ((same_decides part part').0 e, (λ s. let is = (same_decides whole whole').1 s in cc (f, is)))),
+      (λ g. ((same_decides uid uid').0 e, (λ s. let is = (same_decides owner owner').1 s in cc (f, is)))),
       (λ h. rw (e, f) refl),
     )))
-    (λ e. ((λ g. cc (e, g)), (λ h. let is = (same_decides part part').1 h.0 in cc (e, is))))
+    (λ e. ((λ g. cc (e, g)), (λ h. let is = (same_decides uid uid').1 h.0 in cc (e, is))))
 
 pub conflicts_decides : (v w : Parts) → Decides (conflicts v w) (Conflict v w)
 conflicts_decides v w =

@@ -10,5 +10,5 @@ pub mod Joined
 pub mod Merging
 pub mod Places
 pub mod Retold
-pub mod Torn
+pub mod TwoOwners
 pub mod Woven

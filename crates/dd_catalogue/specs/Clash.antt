@@ -38,9 +38,9 @@ IsClash m (Some pair) = (v : Parts) × (w : Parts) × IsFirstConflict m v w × (
 abbrev pub same : List ℕ → List ℕ → Bool
 same x y = is_eq (bytes_cmp x y)
 
--- two values have one part, but different wholes
+-- two values have one UID, but different owners
 abbrev pub splits : {V : Type 0} → (V → List ℕ) → (V → List ℕ) → V → V → Bool
-splits part whole v w = same (part v) (part w) && not (same (whole v) (whole w))
+splits uid owner v w = same (uid v) (uid w) && not (same (owner v) (owner w))
 
 -- the test of a conflict
 abbrev pub conflicts : Parts → Parts → Bool

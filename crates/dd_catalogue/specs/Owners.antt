@@ -1,4 +1,4 @@
--- What a study and a series belong to.
+-- What a study and a series are filed under.
 use Rattle.std.specs.Prelude.{◌≡◌, ℕ, Bool, not, true, List, is_some, unwrap_or, Contains}
 use Rattle.std.specs.Cmp.{IsTotalOrder}
 use Rattle.std.specs.Ordering.{on, then_cmp, is_eq}
@@ -11,41 +11,44 @@ use Rattle.dd_keys.specs.declared.parts.Parts.{Parts}
 use Rattle.dd_catalogue.specs.Best.{at}
 use Rattle.dd_catalogue.specs.Clash.{splits}
 
--- a part, and the whole that it belongs to
-pub record Belonging : Type 0 where
-  pub part : List ℕ
-  pub whole : List ℕ
+-- the UID of a study and the ID of the patient that it is filed under, or the UID of a series and that of its study
+pub record Filing : Type 0 where
+  pub uid : List ℕ
+  pub owner : List ℕ
 
-abbrev pub part_of : Belonging → List ℕ
-part_of owned = owned.part
+abbrev pub uid_of : Filing → List ℕ
+uid_of filed = filed.uid
 
-abbrev pub whole_of : Belonging → List ℕ
-whole_of owned = owned.whole
+abbrev pub owner_of : Filing → List ℕ
+owner_of filed = filed.owner
 
-abbrev pub owned_cmp : Belonging → Belonging → Ordering
-owned_cmp = then_cmp (on part_of bytes_cmp) (on whole_of bytes_cmp)
+abbrev pub filing_cmp : Filing → Filing → Ordering
+filing_cmp = then_cmp (on uid_of bytes_cmp) (on owner_of bytes_cmp)
 
-pub owned_total : IsTotalOrder owned_cmp
-owned_total = then_total (on_total part_of nat_list_cmp_total) (on_total whole_of nat_list_cmp_total)
+pub filing_total : IsTotalOrder filing_cmp
+filing_total = then_total (on_total uid_of nat_list_cmp_total) (on_total owner_of nat_list_cmp_total)
 
-pub owned_apart : TellsApart owned_cmp
-owned_apart x y tie =
+pub filing_apart : TellsApart filing_cmp
+filing_apart x y tie =
     let both = both_tie _ _ tie in
-    let part_is = exact_bytes x.part y.part both.first in
-    let whole_is = exact_bytes x.whole y.whole both.second in
-    λ i. record { part = part_is i; whole = whole_is i }
+    let uid_is = exact_bytes x.uid y.uid both.first in
+    let owner_is = exact_bytes x.owner y.owner both.second in
+    λ i. record { uid = uid_is i; owner = owner_is i }
 
--- a study belongs to a patient, a series to a study
-abbrev pub study_owned : Parts → Belonging
-study_owned v = record { part = v.study.uid; whole = v.patient.id }
+-- a study is filed under its patient, a series under its study
+abbrev pub study_filing : Parts → Filing
+study_filing v = record { uid = v.study.uid; owner = v.patient.id }
 
-abbrev pub series_owned : Parts → Belonging
-series_owned v = record { part = v.series.uid; whole = v.study.uid }
+abbrev pub series_filing : Parts → Filing
+series_filing v = record { uid = v.series.uid; owner = v.study.uid }
 
--- it belongs to another whole than the table says
-abbrev pub is_astray : List Belonging → Belonging → Bool
-is_astray table one = not (is_eq (bytes_cmp (unwrap_or (at part_of bytes_cmp table one.part) one).whole one.whole))
+-- it is filed under another owner than the table says
+abbrev pub is_of_another_owner : List Filing → Filing → Bool
+is_of_another_owner table one =
+    not (is_eq (bytes_cmp (unwrap_or (at uid_of bytes_cmp table one.uid) one).owner one.owner))
 
--- the table has each part that belongs to two wholes
-abbrev pub HasTorn : List Belonging → List Belonging → Type 0
-HasTorn owned table = (a b : Belonging) → Contains owned a → Contains owned b → splits part_of whole_of a b ≡ true → is_some (at part_of bytes_cmp table a.part) ≡ true
+-- the table has each study or series that is filed under two owners
+abbrev pub HasThoseOfTwoOwners : List Filing → List Filing → Type 0
+HasThoseOfTwoOwners filed table =
+    (a b : Filing) → Contains filed a → Contains filed b → splits uid_of owner_of a b ≡ true
+    → is_some (at uid_of bytes_cmp table a.uid) ≡ true

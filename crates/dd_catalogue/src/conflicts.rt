@@ -4,10 +4,10 @@ ghost use Rattle.std.specs.Prelude.{◌≡◌, ◌≢◌, ◌||◌, [], None, fi
 ghost use Rattle.dd_elem.specs.Ordered.{bytes_cmp};
 ghost use Rattle.dd_catalogue.specs.Best.{at};
 ghost use Rattle.dd_catalogue.specs.Clash.{clash, conflicts, pair_or};
-ghost use Rattle.dd_catalogue.specs.Owners.{part_of, series_owned, study_owned};
+ghost use Rattle.dd_catalogue.specs.Owners.{uid_of, series_filing, study_filing};
 
 use crate::lent::Greatest;
-use crate::owners::{Owned, series_owners, study_owners, torn};
+use crate::owners::{Filed, of_two_owners, series_owners, study_owners};
 use dd_elem::{Memory, Ordered, Uid};
 use dd_keys::Version;
 use std::alloc::Global;
@@ -27,22 +27,22 @@ pub(crate) fn first_clash(alloc: Global, versions: &[Version]) -> Result<Option<
 }
 
 /// The same, where these are the owners of the versions' studies and series. A version is compared with
-/// the later ones only if its study or its series is torn.
+/// the later ones only if its study or its series is filed under two owners.
 fn clash_by<'b, 'a>(
     alloc: Global,
     versions: &[Version],
-    owned_studies: &'b [Owned<'a>],
-    owned_series: &'b [Owned<'a>],
+    filed_studies: &'b [Filed<'a>],
+    filed_series: &'b [Filed<'a>],
 ) -> Result<Option<(Uid, Uid)>, Memory>
-    requires studies { owned_studies.now ≡ map study_owned versions.now }
-    requires series { owned_series.now ≡ map series_owned versions.now }
+    requires studies { filed_studies.now ≡ map study_filing versions.now }
+    requires series { filed_series.now ≡ map series_filing versions.now }
     ensures { IfOk result (λ pair. pair ≡ clash versions.now) }
 {
-    let studies = torn(alloc, owned_studies)?;
-    let series = torn(alloc, owned_series)?;
+    let studies = of_two_owners(alloc, filed_studies)?;
+    let series = of_two_owners(alloc, filed_series)?;
     let mut later = versions;
     while let [version, rest @ ..] = later {
-        if is_torn(version, &studies, &series) {
+        if is_of_two_owners(version, &studies, &series) {
             if let Some(pair) = pair_with(version, rest) {
                 return Ok(Some(pair));
             }
@@ -53,13 +53,13 @@ fn clash_by<'b, 'a>(
 }
 
 /// Has the version a study of two patients, or a series of two studies?
-fn is_torn<'b, 'a>(
+fn is_of_two_owners<'b, 'a>(
     version: &Version,
-    studies: &Greatest<'b, Owned<'a>>,
-    series: &Greatest<'b, Owned<'a>>,
+    studies: &Greatest<'b, Filed<'a>>,
+    series: &Greatest<'b, Filed<'a>>,
 ) -> bool
-    ensures { result ≡ (is_some (at part_of bytes_cmp studies.now version.now.study.uid)
-        || is_some (at part_of bytes_cmp series.now version.now.series.uid)) }
+    ensures { result ≡ (is_some (at uid_of bytes_cmp studies.now version.now.study.uid)
+        || is_some (at uid_of bytes_cmp series.now version.now.series.uid)) }
 {
     let parts = version.parts();
     studies.get(parts.study.uid.as_bytes()).is_some()

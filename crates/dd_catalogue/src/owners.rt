@@ -1,7 +1,7 @@
-//! What studies and series belong to.
+//! What studies and series are filed under.
 
 ghost use Rattle.std.specs.Prelude.{◌≡◌, map, filter, IfOk};
-ghost use Rattle.dd_catalogue.specs.Owners.{HasTorn, is_astray, series_owned, study_owned};
+ghost use Rattle.dd_catalogue.specs.Owners.{HasThoseOfTwoOwners, is_of_another_owner, series_filing, study_filing};
 
 use crate::lent::{Greatest, Keyed, lent};
 use dd_elem::{Memory, Ordered};
@@ -10,43 +10,45 @@ use std::alloc::Global;
 use std::cmp::Ordering;
 use std::marker::Model;
 
-/// A part, and the whole that it belongs to.
+/// A study and the patient that it is filed under, or a series and its study.
 #[derive(Drop)]
-pub(crate) struct Owned<'a> {
-    part: &'a [u8],
-    whole: &'a [u8],
+pub(crate) struct Filed<'a> {
+    /// Study or Series Instance UID.
+    uid: &'a [u8],
+    /// Patient ID, or Study Instance UID.
+    owner: &'a [u8],
 }
 
-impl<'a> Model for Owned<'a> {
-    ghost use Rattle.dd_catalogue.specs.Owners.{Belonging};
+impl<'a> Model for Filed<'a> {
+    ghost use Rattle.dd_catalogue.specs.Owners.{Filing};
 
-    ghost Value = { Belonging };
+    ghost Value = { Filing };
 
-    ghost view = { λ owned. record { part = owned.part.now; whole = owned.whole.now } };
+    ghost view = { λ filed. record { uid = filed.uid.now; owner = filed.owner.now } };
 }
 
-/// By the part, then by the whole.
-impl<'a> Ordered for Owned<'a> {
-    ghost use Rattle.dd_catalogue.specs.Owners.{owned_cmp, owned_total, owned_apart};
+/// By the UID, then by the owner.
+impl<'a> Ordered for Filed<'a> {
+    ghost use Rattle.dd_catalogue.specs.Owners.{filing_cmp, filing_total, filing_apart};
 
-    ghost order = { owned_cmp };
+    ghost order = { filing_cmp };
 
-    ghost total = { owned_total };
+    ghost total = { filing_total };
 
-    ghost apart = { owned_apart };
+    ghost apart = { filing_apart };
 
     fn compare(&self, other: &Self) -> Ordering {
-        self.part.cmp(other.part).then(self.whole.cmp(other.whole))
+        self.uid.cmp(other.uid).then(self.owner.cmp(other.owner))
     }
 }
 
-impl<'a> Keyed for Owned<'a> {
-    ghost use Rattle.dd_catalogue.specs.Owners.{part_of};
+impl<'a> Keyed for Filed<'a> {
+    ghost use Rattle.dd_catalogue.specs.Owners.{uid_of};
 
-    ghost key_of = { part_of };
+    ghost key_of = { uid_of };
 
     fn key(&self) -> &[u8] {
-        self.part
+        self.uid
     }
 }
 
@@ -54,64 +56,65 @@ impl<'a> Keyed for Owned<'a> {
 pub(crate) fn study_owners<'a>(
     alloc: Global,
     versions: &'a [Version],
-) -> Result<Vec<Owned<'a>>, Memory>
-    ensures { IfOk result (λ owned. owned.items ≡ map study_owned versions.now) }
+) -> Result<Vec<Filed<'a>>, Memory>
+    ensures { IfOk result (λ filed. filed.items ≡ map study_filing versions.now) }
 {
-    let mut owned = Vec::with_capacity(alloc, versions.len())?;
+    let mut filed = Vec::with_capacity(alloc, versions.len())?;
     for version in versions {
         let parts = version.parts();
-        owned.push(Owned {
-            part: parts.study.uid.as_bytes(),
-            whole: parts.patient.id.as_bytes(),
+        filed.push(Filed {
+            uid: parts.study.uid.as_bytes(),
+            owner: parts.patient.id.as_bytes(),
         })?;
     }
-    Ok(owned)
+    Ok(filed)
 }
 
 /// The series of these versions, each with its study.
 pub(crate) fn series_owners<'a>(
     alloc: Global,
     versions: &'a [Version],
-) -> Result<Vec<Owned<'a>>, Memory>
-    ensures { IfOk result (λ owned. owned.items ≡ map series_owned versions.now) }
+) -> Result<Vec<Filed<'a>>, Memory>
+    ensures { IfOk result (λ filed. filed.items ≡ map series_filing versions.now) }
 {
-    let mut owned = Vec::with_capacity(alloc, versions.len())?;
+    let mut filed = Vec::with_capacity(alloc, versions.len())?;
     for version in versions {
         let parts = version.parts();
-        owned.push(Owned {
-            part: parts.series.uid.as_bytes(),
-            whole: parts.study.uid.as_bytes(),
+        filed.push(Filed {
+            uid: parts.series.uid.as_bytes(),
+            owner: parts.study.uid.as_bytes(),
         })?;
     }
-    Ok(owned)
+    Ok(filed)
 }
 
-/// A table with each part that belongs to two wholes.
-pub(crate) fn torn<'b, 'a>(
+/// A table with each study or series that is filed under two owners.
+pub(crate) fn of_two_owners<'b, 'a>(
     alloc: Global,
-    owned: &'b [Owned<'a>],
-) -> Result<Greatest<'b, Owned<'a>>, Memory>
-    ensures { IfOk result (λ table. HasTorn owned.now table) }
+    filed: &'b [Filed<'a>],
+) -> Result<Greatest<'b, Filed<'a>>, Memory>
+    ensures { IfOk result (λ table. HasThoseOfTwoOwners filed.now table) }
 {
-    let greatest = Greatest::of(alloc, lent(alloc, owned)?)?;
-    let astray = astray(alloc, owned, &greatest)?;
-    Greatest::of(alloc, astray)
+    let greatest = Greatest::of(alloc, lent(alloc, filed)?)?;
+    let others = of_another_owner(alloc, filed, &greatest)?;
+    Greatest::of(alloc, others)
 }
 
-/// The parts that belong to another whole than the table says.
-fn astray<'b, 'a>(
+/// Those that are filed under another owner than the table says.
+fn of_another_owner<'b, 'a>(
     alloc: Global,
-    owned: &'b [Owned<'a>],
-    table: &Greatest<'b, Owned<'a>>,
-) -> Result<Vec<&'b Owned<'a>>, Memory>
-    ensures { IfOk result (λ astray. map (λ one. one.now) astray.items ≡ filter (is_astray table.now) owned.now) }
+    filed: &'b [Filed<'a>],
+    table: &Greatest<'b, Filed<'a>>,
+) -> Result<Vec<&'b Filed<'a>>, Memory>
+    ensures { IfOk result (λ others. map (λ one. one.now) others.items
+        ≡ filter (is_of_another_owner table.now) filed.now) }
 {
-    let mut astray = Vec::new(alloc);
-    for one in owned {
+    let mut others = Vec::new(alloc);
+    for one in filed {
         let greatest = table.like(one);
-        if greatest.whole.cmp(one.whole).is_ne() {
-            astray.push(one)?;
+        if greatest.owner.cmp(one.owner).is_ne() {
+            others.push(one)?;
         }
     }
-    Ok(astray)
+    Ok(others)
 }
