@@ -9,7 +9,7 @@ use Rattle.std.proofs.lemmas.Map.Lookups.{exact_bytes}
 use Rattle.dd_elem.specs.Ordered.{bytes_cmp}
 use Rattle.dd_keys.specs.declared.parts.Parts.{Parts}
 use Rattle.dd_catalogue.specs.BestLaws.{Member, member_of, contained}
-use Rattle.dd_catalogue.specs.BestMembers.{above_member, at-member}
+use Rattle.dd_catalogue.proofs.BestMembers.{above_member, at-member}
 use Rattle.dd_catalogue.specs.Clash.{same, splits, conflicts, clash, Conflict, IsBelow, IsFirstConflict}
 use Rattle.dd_catalogue.specs.Clash.{IsClash}
 use Rattle.dd_catalogue.specs.Rising.{by_order, by_test, by_option, is_eq_Equal, less_turned, greater_turned}

@@ -1,6 +1,7 @@
 pub mod Again
 pub mod Agreements
 pub mod Behind
+pub mod BestMembers
 pub mod Clashes
 pub mod Gathering
 pub mod Harmonies

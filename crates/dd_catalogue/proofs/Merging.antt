@@ -8,7 +8,7 @@ use Rattle.std.proofs.lemmas.List.Sorted.{Contains-permutation, IsPermutation-sy
 use Rattle.dd_catalogue.specs.Best.{best, SameMembers}
 use Rattle.dd_catalogue.specs.Rising.{Orders}
 use Rattle.dd_catalogue.specs.BestLaws.{best_push}
-use Rattle.dd_catalogue.specs.BestMembers.{best_of_same}
+use Rattle.dd_catalogue.proofs.BestMembers.{best_of_same}
 
 one_more : {V : Type 0} (m : List V) (i : ℕ) (x : V) → i < length m → x ≡ get_or m i x → take (i + 1) m ≡ take i m ++ x ∷ []
 one_more m i x below read = take_more m i x below ∙ ap (λ y. take i m ++ y ∷ []) (sym read)

@@ -15,7 +15,7 @@ use Rattle.dd_elem.specs.Ordered.{bytes_cmp, TellsApart}
 use Rattle.dd_catalogue.specs.Best.{IsRising, at, greater, put}
 use Rattle.dd_catalogue.specs.Rising.{Orders, less_turned, greater_turned}
 use Rattle.dd_catalogue.specs.BestLaws.{member_of, Member}
-use Rattle.dd_catalogue.specs.BestMembers.{at-member, above_member}
+use Rattle.dd_catalogue.proofs.BestMembers.{at-member, above_member}
 use Rattle.dd_catalogue.specs.Table.{IsPlace, taken_by}
 use Rattle.dd_catalogue.specs.declared.table.Taken.TheVariants.{Displaced, Returned}
 use Rattle.std.proofs.lemmas.List.{get_or_default, set-get_or}

@@ -2,7 +2,6 @@ pub mod Agreeing
 pub mod Agreement
 pub mod Best
 pub mod BestLaws
-pub mod BestMembers
 pub mod CatalogueJoin
 pub mod Clash
 pub mod Compared

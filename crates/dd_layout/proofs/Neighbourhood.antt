@@ -4,7 +4,7 @@ use Rattle.std.specs.List.{flat_map}
 use Rattle.std.proofs.Common.{refl, sym, ◌∙◌, subst, inl, inr}
 use Rattle.dd_catalogue.specs.Best.{SameMembers}
 use Rattle.dd_catalogue.specs.BestLaws.{Member, member_of, contained, rising-best}
-use Rattle.dd_catalogue.specs.BestMembers.{best_is_best, best_of_same}
+use Rattle.dd_catalogue.proofs.BestMembers.{best_is_best, best_of_same}
 use Rattle.dd_layout.specs.Neighbours.{IsKnown}
 use Rattle.dd_layout.specs.Paths.{Path, prefixes}
 use Rattle.dd_layout.specs.Tree.{in_order, tree_of}

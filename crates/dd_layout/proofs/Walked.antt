@@ -11,7 +11,7 @@ use Rattle.std.proofs.lemmas.List.{map-append}
 use Rattle.std.proofs.lemmas.Map.Lookups.{exact_bytes}
 use Rattle.dd_elem.specs.Ordered.{bytes_cmp}
 use Rattle.dd_catalogue.specs.BestLaws.{Member, best_of_rising}
-use Rattle.dd_catalogue.specs.BestMembers.{best_of_same}
+use Rattle.dd_catalogue.proofs.BestMembers.{best_of_same}
 use Rattle.dd_catalogue.specs.Rising.{by_test, by_order, is_eq_Equal, above_trans, greater_turned}
 use Rattle.dd_layout.specs.declared.record.PlanRecord.{PlanRecord}
 use Rattle.dd_layout.specs.Paths.{Path, path_cmp, is_before, prefixes, leads_to}

@@ -1,6 +1,6 @@
 use Rattle.std.proofs.Common.{List, ap}
 use Rattle.dd_keys.specs.declared.parts.Parts.{Parts}
-use Rattle.dd_catalogue.specs.BestMembers.{best_of_same}
+use Rattle.dd_catalogue.proofs.BestMembers.{best_of_same}
 use Rattle.dd_catalogue.specs.Histories.{taken}
 use Rattle.dd_catalogue.specs.Versions.{versions_ordered}
 use Rattle.dd_dir.specs.Directories.{directory}
