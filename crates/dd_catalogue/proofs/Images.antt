@@ -30,18 +30,6 @@ harmony_keeps_images m = record {
       (from.0, contained from.0 m from.1, subst (λ x. IsSameImage from.0 x) from.2 (agreed_image m from.0 from.1));
 }
 
--- ---- what an image's path and fields alone determine
-
-map_kept : {V A : Type 0} (f : V → V) (g : V → A) (m : List V) → ((v : V) → Member v m → g (f v) ≡ g v)
-    → map g (map f m) ≡ map g m
-map_kept f g [] h = refl
-map_kept f g (v ∷ m) h = λ j. h v (inl refl) j ∷ map_kept f g m (λ w i. h w (inr i)) j
-
--- what is the same for versions of one image is the same, in its order, of a set and of its harmony
-pub harmony_keeps : {A : Type 0} (g : Parts → A) → ((v w : Parts) → IsSameImage v w → g v ≡ g w) → (m : List Parts)
-    → map g (harmonised m) ≡ map g m
-harmony_keeps g same m = map_kept (agreed m) g m (λ v i. sym (same v (agreed m v) (agreed_image m v i)))
-
 -- ---- conflicts
 
 same_conflicts : (v v' w w' : Parts) → IsSameImage v v' → IsSameImage w w' → conflicts v' w' ≡ conflicts v w

@@ -1,5 +1,5 @@
 -- What a list that rises by key holds at a key, and what one value more makes of it, by the place of the key.
-use Rattle.std.specs.Prelude.{◌≡◌, ◌<◌, ◌≤◌, ◌-◌, ℕ, List, [], ◌∷◌, Some, None, Result, Ok, Err, length, get_or, set, Bool, true, false, not}
+use Rattle.std.specs.Prelude.{◌≡◌, ◌<◌, ◌≤◌, ◌-◌, ℕ, List, [], ◌∷◌, Some, None, Result, Ok, Err, length, get_or, set, true, false}
 use Rattle.std.specs.List.{AllWithin, AllByRecursion, HoldsAt, insert, slice_get}
 use Rattle.std.specs.List.Sorted.{IsBinarySearchResult, IsSearchInRange, IsSortedBy}
 use Rattle.std.specs.Ordering.{is_lt}
@@ -119,10 +119,6 @@ pub took_kept : {V : Type 0} (key : V → List ℕ) (values : V → V → Orderi
     → HoldsAt (λ w. bytes_cmp (key w) (key v) ≡ Equal) m i → x ≡ get_or m i x → is_lt (values x v) ≡ false
     → Returned v ≡ taken_by values v (at key bytes_cmp m (key v))
 took_kept key values v m i x up below tie read lt = rw (at_read key (key v) m i x up below tie read, lt) refl
-
-pub not_true : (b : Bool) → not b ≡ true → b ≡ false
-not_true true e = cc
-not_true false e = refl
 
 -- ---- a key and the last value
 

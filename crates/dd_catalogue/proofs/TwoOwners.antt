@@ -116,9 +116,6 @@ clash_quiet m rest studies series v two two' within none =
 pub clash_alone : (v : Parts) (rest : List Parts) → pair_or v (find (conflicts v) rest) None ≡ None → clash (v ∷ rest) ≡ clash rest
 clash_alone v rest e = by_option (find (conflicts v) rest) (λ f. rw f refl) (λ w f. let is = rw f at e in absurd (none-some _ (sym is)))
 
-pub clash_found : (v : Parts) (rest : List Parts) (pair : List ℕ × List ℕ) → pair_or v (find (conflicts v) rest) None ≡ Some pair → clash (v ∷ rest) ≡ Some pair
-clash_found v rest pair e = by_option (find (conflicts v) rest) (λ f. let is = rw f at e in absurd (none-some pair is)) (λ w f. let is = rw f at e in rw f is)
-
 -- ---- the versions that are left, and all but the first of them
 
 abbrev pub rest_of : List Parts → List Parts

@@ -113,11 +113,3 @@ best_again {key = key} {keys = keys} {values = values} o v s = ap (λ m. put key
 pub best_push : {V K : Type 0} {key : V → K} {keys : K → K → Ordering} {values : V → V → Ordering} (o : Orders key keys values) (v : V) (s : List V)
     → best key keys values (v ∷ best key keys values s) ≡ best key keys values (s ++ v ∷ [])
 best_push o v s = best_again o v s ∙ best_comm o (v ∷ []) s
-
-pub best_middle : {V K : Type 0} {key : V → K} {keys : K → K → Ordering} {values : V → V → Ordering} (o : Orders key keys values) (v : V) (s t : List V)
-    → best key keys values (v ∷ best key keys values (s ++ t)) ≡ best key keys values ((s ++ v ∷ []) ++ t)
-best_middle {key = key} {keys = keys} {values = values} o v s t = best_again o v (s ++ t) ∙ same_best_at o (v ∷ (s ++ t)) ((s ++ v ∷ []) ++ t) (λ k.
-    best_at-append o (v ∷ s) t k
-    ∙ ap (λ x. either values x (best_at key keys values t k)) (best_at-append o (v ∷ []) s k
-    ∙ either_comm o.values_total o.values_apart (best_at key keys values (v ∷ []) k) (best_at key keys values s k) ∙ sym (best_at-append o s (v ∷ []) k))
-    ∙ sym (best_at-append o (s ++ v ∷ []) t k))
