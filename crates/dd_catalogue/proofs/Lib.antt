@@ -7,7 +7,6 @@ pub mod Gathering
 pub mod Harmonies
 pub mod Harmonised
 pub mod Images
-pub mod Joined
 pub mod Merging
 pub mod Places
 pub mod Retold
