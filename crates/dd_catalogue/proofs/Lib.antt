@@ -1,5 +1,6 @@
 pub mod Again
 pub mod Agreements
+pub mod AnyOrder
 pub mod Behind
 pub mod BestMembers
 pub mod Clashes

@@ -1,4 +1,4 @@
-use Rattle.dd_catalogue.specs.Joins.{gather_is_free}
+use Rattle.dd_catalogue.proofs.AnyOrder.{gather_is_free}
 use Rattle.dd_catalogue.proofs.join.gather_order_is_free.Goals as goal
 
 pub returns : goal.returns

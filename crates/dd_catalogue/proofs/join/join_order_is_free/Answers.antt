@@ -1,4 +1,4 @@
-use Rattle.dd_catalogue.specs.Joins.{order_is_free}
+use Rattle.dd_catalogue.proofs.AnyOrder.{order_is_free}
 use Rattle.dd_catalogue.proofs.join.join_order_is_free.Goals as goal
 
 pub returns : goal.returns
