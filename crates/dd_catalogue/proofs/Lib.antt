@@ -11,5 +11,6 @@ pub mod Images
 pub mod Merging
 pub mod Places
 pub mod Retold
+pub mod SameVersions
 pub mod TwoOwners
 pub mod Woven

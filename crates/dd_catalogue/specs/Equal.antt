@@ -1,21 +1,10 @@
 -- Catalogues that compare equal.
-use Rattle.std.specs.Prelude.{◌≡◌, true, false, List, [], ◌∷◌, Bool}
+use Rattle.std.specs.Prelude.{List, Bool}
 use Rattle.std.specs.Cmp.Lexicographic.{pointwise}
 use Rattle.std.specs.Ordering.{eq_by_cmp}
-use Rattle.std.proofs.Common.{refl, ap, ◌∙◌}
-use Rattle.std.proofs.lemmas.Bool.{and_parts}
-use Rattle.dd_keys.specs.Orders.{parts_cmp, parts_apart}
+use Rattle.dd_keys.specs.Orders.{parts_cmp}
 use Rattle.dd_keys.specs.declared.parts.Parts.{Parts}
-use Rattle.dd_catalogue.specs.Rising.{is_eq_Equal}
 
 -- as many versions, and each equal to the other one at its place
 abbrev pub is_same : List Parts → List Parts → Bool
 is_same m n = pointwise (eq_by_cmp parts_cmp) m n
-
-pub same_versions : (m n : List Parts) → is_same m n ≡ true → m ≡ n
-same_versions [] [] e = refl
-same_versions [] (w ∷ n) e = let no : false ≡ true = e in cc
-same_versions (v ∷ m) [] e = let no : false ≡ true = e in cc
-same_versions (v ∷ m) (w ∷ n) e =
-    let both = and_parts (eq_by_cmp parts_cmp v w) (is_same m n) e in
-    ap (λ x. x ∷ m) (parts_apart v w (is_eq_Equal (parts_cmp v w) both.0)) ∙ ap (λ s. w ∷ s) (same_versions m n both.1)

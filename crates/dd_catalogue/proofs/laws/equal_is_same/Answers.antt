@@ -1,4 +1,4 @@
-use Rattle.dd_catalogue.specs.Equal.{same_versions}
+use Rattle.dd_catalogue.proofs.SameVersions.{same_versions}
 use Rattle.dd_catalogue.proofs.laws.equal_is_same.Goals as goal
 
 pub returns : goal.returns
