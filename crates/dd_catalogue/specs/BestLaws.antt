@@ -1,4 +1,5 @@
--- The laws of the best of a set.
+-- The laws of the best of a set. They stand among the definitions because `catalogue_laws`, which the code cites, is
+-- made of them.
 use Rattle.std.specs.Prelude.{◌≡◌, ◌⊎◌, List, [], ◌∷◌, ◌++◌, Option, None, Contains}
 use Rattle.std.specs.declared.cmp.Ordering.{Ordering}
 use Rattle.std.proofs.Common.{refl, sym, ◌∙◌, ap, inl, inr, append_assoc, arith, zero, suc}

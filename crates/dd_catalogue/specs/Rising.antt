@@ -1,4 +1,5 @@
--- Lists that rise by key: what is at a key, what `put` leaves, and that the values at the keys determine the list.
+-- Lists that rise by key: what is at a key, what `put` leaves, and that the values at the keys determine the list. These
+-- lemmas stand among the definitions because the laws of joins, which the code cites, are made of them.
 use Rattle.std.specs.Prelude.{◌≡◌, Bool, true, false, List, [], ◌∷◌, Option, Some, None, cond}
 use Rattle.std.specs.Ordering.{is_lt, is_eq, ordering_reverse}
 use Rattle.std.specs.Cmp.{IsTotalOrder}
