@@ -2,6 +2,7 @@
 use Rattle.std.specs.Prelude.{◌≢◌, ◌≤◌, ℕ, Bool, true, false, not, List, [], ◌∷◌, Option, is_some, find, option_map, Contains, IsSome}
 use Rattle.dd_elem.specs.Tag.{number_of}
 use Rattle.dd_elem.specs.declared.tag.Tag.{Tag}
+use Rattle.dd_part10.specs.Meta.{transfer_tag}
 use Rattle.dd_part10.specs.Syntaxes.{syntax_of}
 use Rattle.dd_keys.specs.Classes.{image_classes, is_image_class}
 use Rattle.dd_keys.specs.Table.{class_row, study_date_row, study_time_row, modality_row, patient_id_row, study_id_row, series_number_row, instance_number_row}
@@ -20,10 +21,6 @@ pub record Fits (parts : Parts) : Type 0 where
   pub instance_number : parts.number ≢ []
 
 -- ---- the same, tag by tag
-
--- Transfer Syntax UID
-abbrev pub transfer_tag : Tag
-transfer_tag = record { group = 0x0002; element = 0x0010 }
 
 -- a tag, and whether the part that it stands for fits
 abbrev pub Fitting : Type 0

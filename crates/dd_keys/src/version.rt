@@ -10,16 +10,10 @@ use crate::rows::{
     CLASS, INSTANCE_NUMBER, MODALITY, PATIENT_ID, SERIES_NUMBER, STUDY_DATE, STUDY_ID, STUDY_TIME,
 };
 use dd_elem::{Key, Memory, Ordered, Tag};
-use dd_part10::Meta;
+use dd_part10::{Meta, TRANSFER};
 use std::cmp::Ordering;
 use std::marker::Model;
 use thiserror::Error;
-
-/// The tag of the Transfer Syntax UID.
-const TRANSFER: Tag = Tag {
-    group: 0x0002,
-    element: 0x0010,
-};
 
 /// A version of an image instance: parts of which the keys that the records of a directory must have
 /// (PS3.3 section F.5) are not empty, whose class is one of those that are taken and whose transfer

@@ -30,19 +30,19 @@ pub const META_GROUP: u16 = 0x0002;
 /// the group length of 12 stand before it.
 pub const GROUP_AT: u64 = 144;
 
-/// Media Storage SOP Class UID.
+/// The tag of the Media Storage SOP Class UID.
 pub const CLASS: Tag = Tag {
     group: META_GROUP,
     element: 0x0002,
 };
 
-/// Media Storage SOP Instance UID.
+/// The tag of the Media Storage SOP Instance UID.
 pub const INSTANCE: Tag = Tag {
     group: META_GROUP,
     element: 0x0003,
 };
 
-/// Transfer Syntax UID.
+/// The tag of the Transfer Syntax UID (0002,0010).
 pub const TRANSFER: Tag = Tag {
     group: META_GROUP,
     element: 0x0010,

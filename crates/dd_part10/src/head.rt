@@ -17,7 +17,7 @@ use byteorder::{ByteOrder, LittleEndian};
 use dd_elem::{Tag, Uid, Vr, Write};
 use dd_set::{WriteFault, send, send_header};
 
-/// Implementation Class UID.
+/// The tag of the Implementation Class UID.
 const IMPLEMENTATION: Tag = Tag {
     group: META_GROUP,
     element: 0x0012,

@@ -20,6 +20,7 @@ mod taking;
 
 pub use fault::FileFault;
 pub use file::DicomFile;
+pub use group::TRANSFER;
 pub use head::{head_makes_file, head_size, write_head};
 pub use meta::Meta;
 pub use reading::parse_file;
