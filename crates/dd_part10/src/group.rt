@@ -13,6 +13,7 @@ ghost use Rattle.dd_part10.specs.Taking.{count_in, syntax_in};
 
 use crate::fault::FileFault;
 use crate::meta::Meta;
+use crate::places::COUNT_LENGTH;
 use dd_elem::{Tag, Uid, clean};
 use dd_set::{DataSet, Syntax, Value, parse};
 use std::alloc::Global;
@@ -20,15 +21,8 @@ use std::alloc::Global;
 /// The most bytes that group 0002 may have behind its group length.
 pub const MAX_GROUP_LENGTH: u32 = 65_536;
 
-/// How many bytes the group length has.
-pub const COUNT_LENGTH: usize = 12;
-
 /// The group of the file meta information.
 pub const META_GROUP: u16 = 0x0002;
-
-/// The place of the first byte behind the group length: 128 bytes of preamble, the prefix of 4 and
-/// the group length of 12 stand before it.
-pub const GROUP_AT: u64 = 144;
 
 /// The tag of the Media Storage SOP Class UID.
 pub const CLASS: Tag = Tag {

@@ -11,8 +11,9 @@ ghost use Rattle.dd_part10.specs.File.{prefix, group_length_text, StartsAbove, I
 ghost use Rattle.dd_part10.specs.Head.{head_text, group_text, uids_text, uid_text, version_text, padded, padding_of};
 ghost use Rattle.dd_part10.specs.Syntaxes.{syntax_of};
 
-use crate::group::{CLASS, GROUP_AT, INSTANCE, META_GROUP, TRANSFER};
+use crate::group::{CLASS, INSTANCE, META_GROUP, TRANSFER};
 use crate::meta::Meta;
+use crate::places::GROUP_AT;
 use byteorder::{ByteOrder, LittleEndian};
 use dd_elem::{Tag, Uid, Vr, Write};
 use dd_set::{WriteFault, send, send_header};

@@ -12,6 +12,7 @@ mod file;
 mod group;
 mod head;
 mod meta;
+mod places;
 mod reading;
 mod scanned;
 mod stream_fault;

@@ -16,16 +16,11 @@ ghost use Rattle.dd_part10.specs.Taking.{may_follow};
 
 use crate::fault::FileFault;
 use crate::file::DicomFile;
-use crate::group::{GROUP_AT, META_GROUP, behind, named_syntax, read_meta, split_group};
+use crate::group::{META_GROUP, behind, named_syntax, read_meta, split_group};
+use crate::places::{GROUP_AT, PREAMBLE_LENGTH};
 use dd_elem::Tag;
 use dd_set::{DataSet, Syntax, parse};
 use std::alloc::Global;
-
-/// How many bytes stand before the prefix.
-const PREAMBLE_LENGTH: usize = 128;
-
-/// The place of the first byte behind the prefix.
-pub const PREFIX_END: usize = 132;
 
 /// The DICOM file that the bytes are (PS3.10 section 7): 128 bytes of any preamble, `DICM`, the group
 /// length (0002,0000) with at most 65,536, group 0002 in Explicit VR with the UIDs of `Meta`, and a

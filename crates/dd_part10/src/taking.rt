@@ -9,9 +9,10 @@ ghost use Rattle.dd_part10.specs.Reading.{set_in};
 ghost use Rattle.dd_part10.specs.Taking.{PrefixTaken, CountTaken, GroupTaken, MetaTaken, HeadTaken, SetTaken, FileTaken};
 
 use crate::fault::FileFault;
-use crate::group::{COUNT_LENGTH, MAX_GROUP_LENGTH, named_syntax, read_count, read_meta};
+use crate::group::{MAX_GROUP_LENGTH, named_syntax, read_count, read_meta};
 use crate::meta::Meta;
-use crate::reading::{PREFIX_END, behind_prefix, may_follow};
+use crate::places::{COUNT_LENGTH, PREFIX_END};
+use crate::reading::{behind_prefix, may_follow};
 use crate::scanned::Scanned;
 use dd_elem::Tag;
 use dd_set::{Feed, Scan, Syntax, fill, take_set};

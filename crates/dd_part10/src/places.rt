@@ -1,0 +1,13 @@
+//! Where the parts of a file stand that come before group 0002 (PS3.10 section 7.1).
+
+/// How many bytes of preamble a file begins with.
+pub const PREAMBLE_LENGTH: usize = 128;
+
+/// The place of the first byte behind the prefix, which is the 4 bytes `DICM` behind the preamble.
+pub const PREFIX_END: usize = PREAMBLE_LENGTH + 4;
+
+/// How many bytes the group length has.
+pub const COUNT_LENGTH: usize = 12;
+
+/// The place of the first byte behind the group length.
+pub const GROUP_AT: u64 = (PREFIX_END + COUNT_LENGTH) as u64;
