@@ -13,7 +13,7 @@ ghost use Rattle.dd_part10.specs.Syntaxes.{syntax_of};
 
 use crate::group::{CLASS, INSTANCE, META_GROUP, TRANSFER};
 use crate::meta::Meta;
-use crate::places::GROUP_AT;
+use crate::places::{GROUP_AT, PREAMBLE_LENGTH};
 use byteorder::{ByteOrder, LittleEndian};
 use dd_elem::{Tag, Uid, Vr, Write};
 use dd_set::{WriteFault, send, send_header};
@@ -45,7 +45,7 @@ pub fn head_size(meta: &Meta) -> u64
 pub fn write_head<W: Write>(meta: &Meta, writer: &mut W) -> Result<u64, WriteFault>
     ensures { SendsTo W.contents W.rest W.failures (head_text meta.now) 0 result writer.old writer.new }
 {
-    let sent = send(&[0; 128], writer, 0)?;
+    let sent = send(&[0; PREAMBLE_LENGTH], writer, 0)?;
     let sent = send(&group_start(group_size(meta)), writer, sent)?;
     send_uids(meta, writer, sent)
 }
