@@ -139,7 +139,7 @@ fn writing<'a>(alloc: Global, name: &'a str, about: &'a str) -> Result<Command<'
             alloc,
             "out",
             "OUT",
-            "Folder of the file-set, made where missing; nothing is overwritten",
+            "New folder, or one with no DICOMDIR; no file there is overwritten",
         ))
 }
 
@@ -147,12 +147,12 @@ fn writing<'a>(alloc: Global, name: &'a str, about: &'a str) -> Result<Command<'
 fn index_command<'a>(alloc: Global) -> Result<Command<'a>, AllocError>
     ensures { IfOk result (HasApp index_app) }
 {
-    let about = "Makes a file-set of files: copies the images, writes its DICOMDIR";
+    let about = "Makes a file-set of image files: copies them, writes its DICOMDIR";
     writing(alloc, "index", about)?.arg(paths(
         alloc,
         "source",
         "SRC",
-        "DICOM files; one that is no image, or has no place, is skipped",
+        "DICOM files; one that is no image, or lacks a key, is skipped",
     ))
 }
 
@@ -165,7 +165,7 @@ fn merge_command<'a>(alloc: Global) -> Result<Command<'a>, AllocError>
         alloc,
         "set",
         "SET",
-        "Folders of the file-sets, each with a DICOMDIR of this program",
+        "Folders with a DICOMDIR of this program each; they are only read",
     ))
 }
 
@@ -173,9 +173,12 @@ fn merge_command<'a>(alloc: Global) -> Result<Command<'a>, AllocError>
 fn reading<'a>(alloc: Global, name: &'a str, about: &'a str) -> Result<Command<'a>, AllocError>
     ensures { IfOk result (HasApp (reading_app name.entry.now)) }
 {
-    Command::new(alloc, name)
-        .about(about)
-        .arg(path(alloc, "set", "SET", "Folder of the file-set"))
+    Command::new(alloc, name).about(about).arg(path(
+        alloc,
+        "set",
+        "SET",
+        "Folder of the file-set; nothing in it is changed",
+    ))
 }
 
 /// The command `check`.
