@@ -16,9 +16,9 @@ use thiserror::Error;
 /// A command of the program.
 #[derive(Clone, Copy, Debug, PartialEq, Eq)]
 pub enum Verb {
-    /// Builds the directory of a file-set from its files: `index OUT SRC...`.
+    /// Makes a file-set of files, with copies of them and its directory: `index OUT SRC...`.
     Index,
-    /// Builds the directory of a file-set from other file-sets: `merge OUT SET...`.
+    /// Makes a file-set of other file-sets likewise: `merge OUT SET...`.
     Merge,
     /// Compares the files of a file-set with its directory: `check SET`.
     Check,
