@@ -1,7 +1,6 @@
 //! Harmony among the versions of one patient, study or series.
 
 ghost use Rattle.std.specs.Prelude.{◌≡◌, ◌≢◌, [], IfOk, OnErr};
-ghost use Rattle.dd_keys.specs.Fitting.{Fits};
 ghost use Rattle.dd_catalogue.specs.Agreeing.{agreed_by};
 ghost use Rattle.dd_catalogue.specs.Harmony.{harmonised};
 ghost use Rattle.dd_catalogue.specs.Versions.{IsCatalogue};
@@ -29,7 +28,7 @@ pub(crate) fn in_harmony(alloc: Global, versions: &[Version]) -> Result<Table<Ve
     let mut held = Vec::with_capacity(alloc, versions.len())?;
     for version in versions {
         let parts = agreed(version.parts(), &patients, &studies, &series)?;
-        held.push(fitting(parts))?;
+        held.push(Version::fitting(parts))?;
     }
     Ok(Table::rising(held))
 }
@@ -53,12 +52,4 @@ fn agreed<'a>(
         transfer: parts.transfer,
         instance: parts.instance,
     })
-}
-
-/// The version of parts that fit.
-fn fitting(parts: Parts) -> Version
-    requires { Fits parts }
-    ensures { result ≡ parts }
-{
-    Version::of(parts).unwrap()
 }
