@@ -3,7 +3,6 @@
 ghost use Rattle.std.specs.Prelude.{◌≡◌, true, is_some, IfOk};
 ghost use Rattle.dd_elem.specs.Key.{IsKey};
 ghost use Rattle.dd_elem.specs.Uid.{is_uid};
-ghost use Rattle.dd_keys.specs.Fitting.{Fits};
 ghost use Rattle.dd_layout.specs.declared.level.Level.TheVariants.{Patient, Study, Series};
 ghost use Rattle.dd_set.specs.Views.{set_view};
 ghost use Rattle.dd_dir.specs.Own.{digest_in};
@@ -120,19 +119,11 @@ fn parts_of(alloc: Global, image: &Listed<'_, '_>) -> Result<Parts, Memory>
     })
 }
 
-/// The version of parts that fit.
-fn fitting(parts: Parts) -> Version
-    requires { Fits parts }
-    ensures { result ≡ parts }
-{
-    Version::of(parts).unwrap()
-}
-
 /// The version of an image.
 pub(crate) fn version_of(alloc: Global, image: &Listed<'_, '_>) -> Result<Version, Memory>
     requires { IsListed (listed_view image.now) }
     ensures { IfOk result (λ version. version ≡ version_of (listed_view image.now)) }
 {
     let parts = parts_of(alloc, image)?;
-    Ok(fitting(parts))
+    Ok(Version::fitting(parts))
 }
