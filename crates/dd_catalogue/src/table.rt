@@ -1,7 +1,6 @@
 //! Tables: of each key the greatest value.
 
-ghost use Rattle.std.specs.Prelude.{◌≡◌, ◌<◌, ◌≤◌, [], ◌∷◌, List, ℕ, length, option_copied, slice_set, map, true, false, ◌++◌, IsOk, IfOk, IfErr, OnOk, OnErr, IsSome};
-ghost use Rattle.std.specs.List.Sorted.{IsPermutation};
+ghost use Rattle.std.specs.Prelude.{◌≡◌, ◌<◌, ◌≤◌, [], ◌∷◌, List, length, option_copied, map, ◌++◌, IsOk, IfOk, IfErr, OnOk, OnErr, IsSome};
 ghost use Rattle.std.specs.List.{HoldsAt, AllWithin};
 ghost use Rattle.std.specs.declared.cmp.Ordering.TheVariants.{Less, Equal, Greater};
 ghost use Rattle.dd_elem.specs.Ordered.{bytes_cmp};

@@ -3,7 +3,7 @@
 ghost use Rattle.std.specs.Prelude.{◌≡◌, map};
 ghost use Rattle.std.specs.Option.{option_copied};
 ghost use Rattle.dd_keys.specs.Faults.{first, mismatch_of, wanted_uid};
-ghost use Rattle.dd_keys.specs.RowViews.{key_row_view, row_view, uid_row_view};
+ghost use Rattle.dd_keys.specs.RowViews.{row_view, uid_row_view};
 ghost use Rattle.dd_keys.specs.Told.{told_key_fault, told_uid_fault, told_row_fault, told_table_fault};
 
 use crate::fault::KeyFault;

@@ -1,6 +1,5 @@
 //! A reader that digests what passes.
 
-ghost use Rattle.std.specs.Prelude.{◌≡◌};
 ghost use Rattle.dd_keys.specs.Carried.{carried};
 
 use dd_elem::Read;
