@@ -1,5 +1,5 @@
--- What a DICOM file is: a relation between its bytes, its meta information, its data set and the place of the data set's
--- first byte (PS3.10 section 7).
+-- What a DICOM file is: a relation between its bytes, its meta information, its data set and the place of the data
+-- set's first byte (PS3.10 section 7).
 use Rattle.std.specs.Prelude.{◌≡◌, ℕ, ◌+◌, ◌<◌, ◌≤◌, List, ◌++◌, length, Some, codes}
 use Rattle.byteorder.specs.Endian.{little_bytes}
 use Rattle.dd_elem.specs.declared.vr.Vr.TheVariants.{UL}
@@ -26,8 +26,8 @@ max_group_length = 65536
 abbrev pub group_length_text : ℕ → List ℕ
 group_length_text n = elements_text (element group_length_tag (Some UL) (bytes (little_bytes 4 n)) no_elements)
 
--- the place of the first byte behind the group length: 128 bytes of preamble, the prefix of 4 and the group length of 12
--- stand before it
+-- the place of the first byte behind the group length: 128 bytes of preamble, the prefix of 4 and the group length of
+-- 12 stand before it
 abbrev pub group_at : ℕ
 group_at = 144
 
@@ -36,8 +36,8 @@ abbrev pub StartsAbove : Elements → Type 0
 StartsAbove no_elements = Unit {0}
 StartsAbove (element tag vr content rest) = meta_group < tag.group
 
--- The bytes are a file: a preamble of any bytes, the prefix, the group length and group 0002 in Explicit VR, which says what
--- follows, and a data set in the transfer syntax that it names.
+-- The bytes are a file: a preamble of any bytes, the prefix, the group length and group 0002 in Explicit VR, which says
+-- what follows, and a data set in the transfer syntax that it names.
 pub record IsFile (file : List ℕ) (meta : Meta) (set : Elements) (set_at : ℕ) : Type 0 where
   pub preamble : List ℕ
   pub group_text : List ℕ

@@ -46,7 +46,8 @@ group_text meta = elements_text (group_of meta)
 
 -- the head: a preamble of zeros, the prefix, the group length and group 0002
 unfoldable pub head_text : Meta → List ℕ
-head_text meta = replicate preamble_length 0 ++ (prefix ++ (group_length_text (length (group_text meta)) ++ group_text meta))
+head_text meta =
+    replicate preamble_length 0 ++ (prefix ++ (group_length_text (length (group_text meta)) ++ group_text meta))
 
 -- ---- parts of it
 
@@ -60,4 +61,6 @@ uid_text tag uid = tag_text tag ++ content_text (Some UI) (bytes (padded uid))
 
 -- the UIDs behind the version
 unfoldable pub uids_text : Meta → List ℕ
-uids_text meta = uid_text class_tag meta.class ++ (uid_text instance_tag meta.instance ++ (uid_text transfer_tag meta.transfer ++ uid_text implementation_tag implementation_uid))
+uids_text meta = uid_text class_tag meta.class
+    ++ (uid_text instance_tag meta.instance ++ (uid_text transfer_tag meta.transfer
+    ++ uid_text implementation_tag implementation_uid))

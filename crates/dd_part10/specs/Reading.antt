@@ -1,5 +1,6 @@
 -- Reading a file from left to right, check by check: what it holds, or the first check that fails (PS3.10 section 7).
-use Rattle.std.specs.Prelude.{ℕ, ◌+◌, List, [], ◌∷◌, length, take, drop, Bool, true, ◌&&◌, not, Option, Some, None, Result, Ok, Err, nat_lt, ◌==◌, if◌then◌else◌}
+use Rattle.std.specs.Prelude.{ℕ, ◌+◌, List, [], ◌∷◌, length, take, drop, Bool, true, ◌&&◌, not, Option, Some, None}
+use Rattle.std.specs.Prelude.{Result, Ok, Err, nat_lt, ◌==◌, if◌then◌else◌}
 use Rattle.std.specs.Int.{w32, from_le_bytes}
 use Rattle.std.specs.List.{list_all}
 use Rattle.std.specs.Option.{ok_or}
@@ -15,7 +16,8 @@ use Rattle.dd_set.specs.Find.{entries_of, find_in}
 use Rattle.dd_set.specs.Reading.{read_all}
 use Rattle.dd_set.specs.Spelling.{header_text}
 use Rattle.dd_part10.specs.declared.fault.FileFault.{FileFault}
-use Rattle.dd_part10.specs.declared.fault.FileFault.TheVariants.{NotPart10, GroupLength, MetaMissing, MetaUid, OtherSyntax}
+use Rattle.dd_part10.specs.declared.fault.FileFault.TheVariants.{NotPart10, GroupLength, MetaMissing, MetaUid}
+use Rattle.dd_part10.specs.declared.fault.FileFault.TheVariants.{OtherSyntax}
 use Rattle.dd_part10.specs.declared.fault.FileFault.TheVariants as faults
 use Rattle.dd_part10.specs.declared.meta.Meta.{Meta}
 use Rattle.dd_part10.specs.File.{preamble_length, prefix, group_at, max_group_length}
@@ -55,7 +57,8 @@ behind_prefix bs = ok_or (behind prefix (drop preamble_length bs)) NotPart10
 
 -- the n bytes that it counts, and the others behind them
 abbrev pub group_and_set : ℕ → List ℕ → Result (List ℕ × List ℕ) FileFault
-group_and_set n bs = if nat_lt max_group_length n then Err GroupLength else (if nat_lt (length bs) n then Err GroupLength else Ok (take n bs, drop n bs))
+group_and_set n bs = if nat_lt max_group_length n then Err GroupLength
+    else (if nat_lt (length bs) n then Err GroupLength else Ok (take n bs, drop n bs))
 
 -- the same behind the group length at the front
 unfoldable pub behind_length : List ℕ → Result (List ℕ × List ℕ) FileFault
@@ -87,7 +90,8 @@ uids_in group = uid_at class_tag group >>= λ class. uid_at instance_tag group >
 
 -- the meta information in the bytes behind the group length
 unfoldable pub meta_in : List ℕ → Result Meta FileFault
-meta_in text = with_fault faults.Meta (read_all Explicit text) >>= λ group. if is_alone group then uids_in group else Err GroupLength
+meta_in text = with_fault faults.Meta (read_all Explicit text) >>= λ group. if is_alone group then uids_in group
+    else Err GroupLength
 
 -- ---- the data set
 
@@ -98,7 +102,8 @@ starts_above (element tag vr content rest) = nat_lt meta_group tag.group
 
 -- the data set in the bytes behind group 0002
 unfoldable pub set_in : Syntax → List ℕ → Result Elements FileFault
-set_in syntax text = with_fault faults.Set (read_all syntax text) >>= λ set. if starts_above set then Ok set else Err GroupLength
+set_in syntax text =
+    with_fault faults.Set (read_all syntax text) >>= λ set. if starts_above set then Ok set else Err GroupLength
 
 -- ---- the whole
 

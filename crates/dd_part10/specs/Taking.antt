@@ -1,6 +1,7 @@
--- A file taken from a feed, front by front, against reading it in memory. Where `bytes` were to come at first, `rest` is
--- still to come.
-use Rattle.std.specs.Prelude.{◌≡◌, ℕ, List, length, take, drop, map, Option, Some, None, Result, Ok, Err, Bool, true, nat_lt, if◌then◌else◌}
+-- A file taken from a feed, front by front, against reading it in memory. Where `bytes` were to come at first, `rest`
+-- is still to come.
+use Rattle.std.specs.Prelude.{◌≡◌, ℕ, List, length, take, drop, map, Option, Some, None, Result, Ok, Err, Bool, true}
+use Rattle.std.specs.Prelude.{nat_lt, if◌then◌else◌}
 use Rattle.std.specs.Int.{w32, from_le_bytes}
 use Rattle.std.specs.Option.{ok_or}
 use Rattle.dd_elem.specs.declared.tag.Tag.{Tag}
@@ -30,7 +31,8 @@ use Rattle.dd_part10.specs.Syntaxes.{syntax_of}
 -- the number that the group length at the front holds
 unfoldable pub count_in : List ℕ → Result ℕ FileFault
 count_in front = ok_or (behind (header_text group_length_tag (Some UL) 4) front) GroupLength
-    >>= λ rest. if nat_lt (length rest) 4 then Err GroupLength else (if nat_lt max_group_length (from_le_bytes w32 rest) then Err GroupLength else Ok (from_le_bytes w32 rest))
+    >>= λ rest. if nat_lt (length rest) 4 then Err GroupLength
+    else (if nat_lt max_group_length (from_le_bytes w32 rest) then Err GroupLength else Ok (from_le_bytes w32 rest))
 
 -- so many bytes, and the others behind them
 abbrev pub split_at : ℕ → List ℕ → Result (List ℕ × List ℕ) FileFault
@@ -80,7 +82,8 @@ whole_with meta set_at set = set >>= λ s. Ok (record { meta = meta; set = s; se
 
 -- all that stands before the data set: what is read of the file is this, and the data set in the syntax that it names
 abbrev pub HeadTaken : Result (Meta × Syntax) FileFault → List ℕ → List ℕ → Type 0
-HeadTaken (Ok (meta, syntax)) bytes rest = (set_at : ℕ) × (read_file bytes ≡ whole_with meta set_at (set_in syntax rest))
+HeadTaken (Ok (meta, syntax)) bytes rest =
+    (set_at : ℕ) × (read_file bytes ≡ whole_with meta set_at (set_in syntax rest))
     × HasHead bytes
 HeadTaken (Err e) bytes rest = IsRefused e bytes
 
