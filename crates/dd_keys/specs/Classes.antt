@@ -7,9 +7,9 @@ use Rattle.std.specs.Str.{bytes_eq}
 abbrev pub storage_class : List ℕ → List ℕ
 storage_class end = codes "1.2.840.10008.5.1.4.1.1." ++ end
 
--- Computed Radiography, Digital X-Ray and Digital Mammography X-Ray; CT; Ultrasound Multi-frame; MR; Ultrasound; Secondary
--- Capture; X-Ray Angiographic and Radiofluoroscopic; Nuclear Medicine; VL Endoscopic, Microscopic and Photographic;
--- Positron Emission Tomography
+-- Computed Radiography, Digital X-Ray and Digital Mammography X-Ray; CT; Ultrasound Multi-frame; MR; Ultrasound;
+-- Secondary Capture; X-Ray Angiographic and Radiofluoroscopic; Nuclear Medicine; VL Endoscopic, Microscopic and
+-- Photographic; Positron Emission Tomography
 abbrev pub image_classes : List (List ℕ)
 image_classes = map storage_class (
     codes "1" ∷ codes "1.1" ∷ codes "1.1.1" ∷ codes "1.2" ∷ codes "1.2.1" ∷

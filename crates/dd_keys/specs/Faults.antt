@@ -1,5 +1,5 @@
--- The first check that a file fails as a file of a version: those of a file, then its class, then those of the table from
--- top to bottom.
+-- The first check that a file fails as a file of a version: those of a file, then its class, then those of the table
+-- from top to bottom.
 use Rattle.std.specs.Prelude.{◌≡◌, ℕ, List, [], ◌∷◌, Option, Some, None, Result, Ok, Err, length, map, nat_lt}
 use Rattle.std.specs.Prelude.{if◌then◌else◌}
 use Rattle.std.specs.Str.{bytes_eq}
@@ -13,7 +13,8 @@ use Rattle.dd_part10.specs.declared.meta.Meta.{Meta}
 use Rattle.dd_part10.specs.Memory.{GroupWants, SetWants}
 use Rattle.dd_part10.specs.Reading.{FileParts, read_file}
 use Rattle.dd_keys.specs.declared.fault.KeyFault.{KeyFault}
-use Rattle.dd_keys.specs.declared.fault.KeyFault.TheVariants.{File, NotImage, MissingKey, BadKeyUid, KeyTooLong, KeyIsSequence, MetaMismatch, Memory}
+use Rattle.dd_keys.specs.declared.fault.KeyFault.TheVariants.{File, NotImage, MissingKey, BadKeyUid, KeyTooLong}
+use Rattle.dd_keys.specs.declared.fault.KeyFault.TheVariants.{KeyIsSequence, MetaMismatch, Memory}
 use Rattle.dd_keys.specs.declared.rows.MetaUid.{MetaUid}
 use Rattle.dd_keys.specs.declared.rows.MetaUid.TheVariants.{Class, Instance}
 use Rattle.dd_keys.specs.Classes.{is_image_class}
@@ -44,7 +45,8 @@ mismatch_of tag (Some wanted) value = if bytes_eq value wanted then None else So
 abbrev pub uid_fault_of : Tag → Option (List ℕ) → Option (List ℕ) → Option KeyFault
 uid_fault_of tag wanted None = Some (KeyIsSequence tag)
 uid_fault_of tag wanted (Some []) = Some (MissingKey tag)
-uid_fault_of tag wanted (Some (byte ∷ value)) = if is_uid (byte ∷ value) then mismatch_of tag wanted (byte ∷ value) else Some (BadKeyUid tag)
+uid_fault_of tag wanted (Some (byte ∷ value)) =
+    if is_uid (byte ∷ value) then mismatch_of tag wanted (byte ∷ value) else Some (BadKeyUid tag)
 
 abbrev pub uid_fault : UidRow → Meta → Elements → Option KeyFault
 uid_fault row meta set = uid_fault_of row.tag (wanted_uid meta row.same_as) (value_at row.tag set)

@@ -1,11 +1,13 @@
 -- Which parts are a version: what a directory needs of each file that it lists.
-use Rattle.std.specs.Prelude.{◌≢◌, ◌≤◌, ℕ, Bool, true, false, not, List, [], ◌∷◌, Option, is_some, find, option_map, Contains, IsSome}
+use Rattle.std.specs.Prelude.{◌≢◌, ◌≤◌, ℕ, Bool, true, false, not, List, [], ◌∷◌, Option, is_some, find, option_map}
+use Rattle.std.specs.Prelude.{Contains, IsSome}
 use Rattle.dd_elem.specs.Tag.{number_of}
 use Rattle.dd_elem.specs.declared.tag.Tag.{Tag}
 use Rattle.dd_part10.specs.Meta.{transfer_tag}
 use Rattle.dd_part10.specs.Syntaxes.{syntax_of}
 use Rattle.dd_keys.specs.Classes.{image_classes, is_image_class}
-use Rattle.dd_keys.specs.Table.{class_row, study_date_row, study_time_row, modality_row, patient_id_row, study_id_row, series_number_row, instance_number_row}
+use Rattle.dd_keys.specs.Table.{class_row, study_date_row, study_time_row, modality_row, patient_id_row, study_id_row}
+use Rattle.dd_keys.specs.Table.{series_number_row, instance_number_row}
 use Rattle.dd_keys.specs.declared.parts.Parts.{Parts}
 
 -- the transfer syntax is one of those that are read, the class is taken, and no type 1 key is empty

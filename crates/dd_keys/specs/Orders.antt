@@ -26,15 +26,18 @@ abbrev pub patient_cmp : PatientKeys → PatientKeys → Ordering
 patient_cmp = by_bytes (λ p. p.id) then by_bytes (λ p. p.name) then by_bytes (λ p. p.charset)
 
 abbrev pub study_cmp : StudyKeys → StudyKeys → Ordering
-study_cmp = by_bytes (λ s. s.uid) then by_bytes (λ s. s.date) then by_bytes (λ s. s.time) then by_bytes (λ s. s.accession)
+study_cmp =
+    by_bytes (λ s. s.uid) then by_bytes (λ s. s.date) then by_bytes (λ s. s.time) then by_bytes (λ s. s.accession)
     then by_bytes (λ s. s.description) then by_bytes (λ s. s.id) then by_bytes (λ s. s.charset)
 
 abbrev pub series_cmp : SeriesKeys → SeriesKeys → Ordering
 series_cmp = by_bytes (λ s. s.uid) then by_bytes (λ s. s.modality) then by_bytes (λ s. s.number)
 
 abbrev pub parts_cmp : Parts → Parts → Ordering
-parts_cmp = by_bytes (λ v. v.digest) then on (λ v. v.patient) patient_cmp then on (λ v. v.study) study_cmp then on (λ v. v.series) series_cmp
-    then by_bytes (λ v. v.number) then by_bytes (λ v. v.class) then by_bytes (λ v. v.transfer) then by_bytes (λ v. v.instance)
+parts_cmp =
+    by_bytes (λ v. v.digest) then on (λ v. v.patient) patient_cmp then on (λ v. v.study) study_cmp
+    then on (λ v. v.series) series_cmp then by_bytes (λ v. v.number) then by_bytes (λ v. v.class)
+    then by_bytes (λ v. v.transfer) then by_bytes (λ v. v.instance)
 
 -- ---- these orders are total
 
@@ -46,7 +49,8 @@ patient_total = then_total (then_total (by_total (λ p. p.id)) (by_total (λ p. 
 
 pub study_total : IsTotalOrder study_cmp
 study_total =
-    then_total (then_total (then_total (then_total (then_total (then_total (by_total (λ s. s.uid)) (by_total (λ s. s.date))) (by_total (λ s. s.time)))
+    then_total (then_total (then_total (then_total
+    (then_total (then_total (by_total (λ s. s.uid)) (by_total (λ s. s.date))) (by_total (λ s. s.time)))
     (by_total (λ s. s.accession))) (by_total (λ s. s.description))) (by_total (λ s. s.id))) (by_total (λ s. s.charset))
 
 pub series_total : IsTotalOrder series_cmp
@@ -54,8 +58,10 @@ series_total = then_total (then_total (by_total (λ s. s.uid)) (by_total (λ s. 
 
 pub parts_total : IsTotalOrder parts_cmp
 parts_total =
-    then_total (then_total (then_total (then_total (then_total (then_total (then_total (by_total (λ v. v.digest)) (on_total (λ v. v.patient) patient_total))
-    (on_total (λ v. v.study) study_total)) (on_total (λ v. v.series) series_total)) (by_total (λ v. v.number))) (by_total (λ v. v.class)))
+    then_total (then_total (then_total (then_total
+    (then_total (then_total (then_total (by_total (λ v. v.digest)) (on_total (λ v. v.patient) patient_total))
+    (on_total (λ v. v.study) study_total)) (on_total (λ v. v.series) series_total)) (by_total (λ v. v.number)))
+    (by_total (λ v. v.class)))
     (by_total (λ v. v.transfer))) (by_total (λ v. v.instance))
 
 -- ---- values that compare equal are equal
@@ -94,7 +100,15 @@ study_apart x y tie =
     let description_is = exact_bytes x.description y.description description.second in
     let id_is = exact_bytes x.id y.id id.second in
     let charset_is = exact_bytes x.charset y.charset charset.second in
-    λ i. record { uid = uid_is i; date = date_is i; time = time_is i; accession = accession_is i; description = description_is i; id = id_is i; charset = charset_is i }
+    λ i. record {
+      uid = uid_is i;
+      date = date_is i;
+      time = time_is i;
+      accession = accession_is i;
+      description = description_is i;
+      id = id_is i;
+      charset = charset_is i;
+    }
 
 pub series_apart : TellsApart series_cmp
 series_apart x y tie =
@@ -122,4 +136,13 @@ parts_apart x y tie =
     let class_is = exact_bytes x.class y.class class.second in
     let transfer_is = exact_bytes x.transfer y.transfer transfer.second in
     let instance_is = exact_bytes x.instance y.instance instance.second in
-    λ i. record { digest = digest_is i; patient = patient_is i; study = study_is i; series = series_is i; number = number_is i; class = class_is i; transfer = transfer_is i; instance = instance_is i }
+    λ i. record {
+      digest = digest_is i;
+      patient = patient_is i;
+      study = study_is i;
+      series = series_is i;
+      number = number_is i;
+      class = class_is i;
+      transfer = transfer_is i;
+      instance = instance_is i;
+    }

@@ -1,5 +1,6 @@
--- The table of the elements that give a version its keys and UIDs: where a value stands, and what stands for an empty one.
--- The keys that records of a directory must have are replaced where they are empty (PS3.3 section F.5); a UID is not.
+-- The table of the elements that give a version its keys and UIDs: where a value stands, and what stands for an empty
+-- one. The keys that records of a directory must have are replaced where they are empty (PS3.3 section F.5); a UID is
+-- not.
 use Rattle.std.specs.Prelude.{ℕ, List, [], ◌∷◌, Option, Some, None, codes}
 use Rattle.dd_elem.specs.declared.tag.Tag.{Tag}
 use Rattle.dd_keys.specs.declared.rows.MetaUid.{MetaUid}

@@ -5,7 +5,9 @@ use Rattle.dd_elem.specs.declared.tag.Tag.{Tag}
 use Rattle.dd_set.specs.Elements.{Elements, Content, bytes, items, Entry}
 use Rattle.dd_set.specs.Find.{find_in}
 use Rattle.dd_part10.specs.Reading.{FileParts}
-use Rattle.dd_keys.specs.Table.{KeyRow, charset_row, study_date_row, study_time_row, accession_row, modality_row, description_row, patient_name_row, patient_id_row, study_row, series_row, study_id_row, series_number_row, instance_number_row}
+use Rattle.dd_keys.specs.Table.{KeyRow, charset_row, study_date_row, study_time_row, accession_row, modality_row}
+use Rattle.dd_keys.specs.Table.{description_row, patient_name_row, patient_id_row, study_row, series_row, study_id_row}
+use Rattle.dd_keys.specs.Table.{series_number_row, instance_number_row}
 use Rattle.dd_keys.specs.declared.keys.PatientKeys.{PatientKeys}
 use Rattle.dd_keys.specs.declared.keys.StudyKeys.{StudyKeys}
 use Rattle.dd_keys.specs.declared.keys.SeriesKeys.{SeriesKeys}
@@ -21,8 +23,8 @@ abbrev pub entry_value : Option Entry → Option (List ℕ)
 entry_value None = Some []
 entry_value (Some entry) = content_value entry.content
 
--- the value that a data set has at a tag: without its padding, no bytes where there is no such element, and None where that
--- holds a sequence
+-- the value that a data set has at a tag: without its padding, no bytes where there is no such element, and None where
+-- that holds a sequence
 abbrev pub value_at : Tag → Elements → Option (List ℕ)
 value_at tag set = entry_value (find_in tag set)
 
@@ -42,7 +44,8 @@ uid_in tag set = unwrap_or (value_at tag set) []
 -- ---- the keys of a file
 
 abbrev pub patient_in : Elements → PatientKeys
-patient_in set = record { id = key_in patient_id_row set; name = key_in patient_name_row set; charset = key_in charset_row set }
+patient_in set =
+    record { id = key_in patient_id_row set; name = key_in patient_name_row set; charset = key_in charset_row set }
 
 abbrev pub study_in : Elements → StudyKeys
 study_in set = record {
@@ -56,7 +59,11 @@ study_in set = record {
 }
 
 abbrev pub series_in : Elements → SeriesKeys
-series_in set = record { uid = uid_in series_row.tag set; modality = key_in modality_row set; number = key_in series_number_row set }
+series_in set = record {
+  uid = uid_in series_row.tag set;
+  modality = key_in modality_row set;
+  number = key_in series_number_row set;
+}
 
 -- what a file with this digest gives
 abbrev pub parts_in : List ℕ → FileParts → Parts

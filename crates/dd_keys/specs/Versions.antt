@@ -7,7 +7,9 @@ use Rattle.dd_set.specs.Elements.{Elements}
 use Rattle.dd_part10.specs.File.{IsFile}
 use Rattle.dd_part10.specs.declared.meta.Meta.{Meta}
 use Rattle.dd_keys.specs.Classes.{image_classes}
-use Rattle.dd_keys.specs.Table.{KeyRow, charset_row, class_row, instance_row, study_date_row, study_time_row, accession_row, modality_row, description_row, patient_name_row, patient_id_row, study_row, series_row, study_id_row, series_number_row, instance_number_row}
+use Rattle.dd_keys.specs.Table.{KeyRow, charset_row, class_row, instance_row, study_date_row, study_time_row}
+use Rattle.dd_keys.specs.Table.{accession_row, modality_row, description_row, patient_name_row, patient_id_row}
+use Rattle.dd_keys.specs.Table.{study_row, series_row, study_id_row, series_number_row, instance_number_row}
 use Rattle.dd_keys.specs.Values.{value_at, or_other}
 use Rattle.dd_keys.specs.declared.keys.PatientKeys.{PatientKeys}
 use Rattle.dd_keys.specs.declared.keys.StudyKeys.{StudyKeys}
@@ -45,8 +47,8 @@ pub record HasSeries (set : Elements) (series : SeriesKeys) : Type 0 where
   pub modality : HasKey set modality_row series.modality
   pub number : HasKey set series_number_row series.number
 
--- The bytes are a file of an image class that is taken. Its data set has the keys of the version; its class and instance
--- stand in group 0002 and again in the data set; the digest is that of all its bytes.
+-- The bytes are a file of an image class that is taken. Its data set has the keys of the version; its class and
+-- instance stand in group 0002 and again in the data set; the digest is that of all its bytes.
 pub record IsVersion (file : List ℕ) (version : Parts) : Type 0 where
   pub meta : Meta
   pub set : Elements
