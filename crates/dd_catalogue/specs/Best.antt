@@ -1,5 +1,5 @@
--- The best of a set of values: of each key the greatest value that has it. No definition here knows an order of arrival: a list
--- stands for the set of its members.
+-- The best of a set of values: of each key the greatest value that has it. No definition here knows an order of
+-- arrival: a list stands for the set of its members.
 use Rattle.std.specs.Prelude.{◌≡◌, ◌↔◌, false, List, [], ◌∷◌, Option, Contains, find, if◌then◌else◌}
 use Rattle.std.specs.List.{AllByRecursion}
 use Rattle.std.specs.Ordering.{is_lt, is_eq}
@@ -35,7 +35,8 @@ pub record IsGreatest {V K : Type 0} (key : V → K) (values : V → V → Order
   pub greatest : (w : V) → Contains s w → key w ≡ key v → is_lt (values v w) ≡ false
 
 -- rising by key, and its members are exactly the greatest of the set
-pub record IsBest {V K : Type 0} (key : V → K) (keys : K → K → Ordering) (values : V → V → Ordering) (s m : List V) : Type 0 where
+pub record IsBest {V K : Type 0} (key : V → K) (keys : K → K → Ordering) (values : V → V → Ordering)
+    (s m : List V) : Type 0 where
   pub rising : IsRising key keys m
   pub each : (v : V) → Contains m v ↔ IsGreatest key values s v
 
@@ -49,7 +50,8 @@ place_by Greater before here after = after
 -- one value more, where no greater one with its key is there
 abbrev pub put : {V K : Type 0} → (V → K) → (K → K → Ordering) → (V → V → Ordering) → V → List V → List V
 put key keys values v [] = v ∷ []
-put key keys values v (w ∷ m) = place_by (keys (key v) (key w)) (v ∷ w ∷ m) (greater values w v ∷ m) (w ∷ put key keys values v m)
+put key keys values v (w ∷ m) =
+    place_by (keys (key v) (key w)) (v ∷ w ∷ m) (greater values w v ∷ m) (w ∷ put key keys values v m)
 
 abbrev pub best : {V K : Type 0} → (V → K) → (K → K → Ordering) → (V → V → Ordering) → List V → List V
 best key keys values [] = []

@@ -11,7 +11,8 @@ use Rattle.dd_catalogue.specs.declared.table.Taken.TheVariants.{Fresh, Displaced
 -- a place of the value with this key, or the place between the smaller and the greater keys
 abbrev pub IsPlace : {V : Type 0} → (V → List ℕ) → List ℕ → List V → Result ℕ ℕ → Type 0
 IsPlace key k m (Ok i) = (i < length m) × HoldsAt (λ w. bytes_cmp (key w) k ≡ Equal) m i
-IsPlace key k m (Err i) = (i ≤ length m) × AllWithin (λ w. bytes_cmp (key w) k ≡ Less) m 0 i × AllWithin (λ w. bytes_cmp (key w) k ≡ Greater) m i (length m)
+IsPlace key k m (Err i) = (i ≤ length m) × AllWithin (λ w. bytes_cmp (key w) k ≡ Less) m 0 i
+    × AllWithin (λ w. bytes_cmp (key w) k ≡ Greater) m i (length m)
 
 -- what becomes of a value where this one is held
 abbrev pub taken_by : {V : Type 0} → (V → V → Ordering) → V → Option V → Taken V

@@ -34,4 +34,9 @@ abbrev pub compared_of : List Parts → List Parts → ℕ
 compared_of m n = compared instance_of bytes_cmp parts_cmp m n
 
 pub versions_ordered : Orders instance_of bytes_cmp parts_cmp
-versions_ordered = record { keys_total = nat_list_cmp_total; keys_apart = exact_bytes; values_total = parts_total; values_apart = parts_apart }
+versions_ordered = record {
+  keys_total = nat_list_cmp_total;
+  keys_apart = exact_bytes;
+  values_total = parts_total;
+  values_apart = parts_apart;
+}
