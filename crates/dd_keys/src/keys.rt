@@ -1,7 +1,8 @@
 //! The keys of patients, studies and series.
 
 ghost use Rattle.std.specs.Prelude.{◌≡◌, IfOk};
-ghost use Rattle.dd_keys.specs.Orders.{patient_cmp, patient_total, patient_apart, study_cmp, study_total, study_apart, series_cmp, series_total, series_apart};
+ghost use Rattle.dd_keys.specs.Orders.{patient_cmp, patient_total, patient_apart, study_cmp, study_total, study_apart};
+ghost use Rattle.dd_keys.specs.Orders.{series_cmp, series_total, series_apart};
 
 use dd_elem::{Key, Memory, Ordered, Uid};
 use std::cmp::Ordering;

@@ -6,7 +6,8 @@ ghost use Rattle.dd_set.specs.Feeds.{Scans};
 ghost use Rattle.dd_part10.specs.declared.fault.FileFault.TheVariants as faults;
 ghost use Rattle.dd_part10.specs.Memory.{WantsNone};
 ghost use Rattle.dd_part10.specs.Reading.{set_in};
-ghost use Rattle.dd_part10.specs.Taking.{PrefixTaken, CountTaken, GroupTaken, MetaTaken, HeadTaken, SetTaken, FileTaken};
+ghost use Rattle.dd_part10.specs.Taking.{PrefixTaken, CountTaken, GroupTaken, MetaTaken, HeadTaken, SetTaken};
+ghost use Rattle.dd_part10.specs.Taking.{FileTaken};
 
 use crate::fault::FileFault;
 use crate::group::{MAX_GROUP_LENGTH, named_syntax, read_count, read_meta};
