@@ -1,5 +1,7 @@
 -- Where a file is cut: a check of its first bytes says nothing of those behind them.
-use Rattle.std.proofs.Common.{◌≡◌, ◌≤◌, ◌<◌, ◌==◌, ℕ, Bool, true, false, if◌then◌else◌, nat_lt, List, [], ◌∷◌, ◌++◌, length, take, drop, Option, Some, None, option_map, Result, Ok, Err, refl, sym, ap, ◌∙◌, arith, length-append}
+use Rattle.std.proofs.Common.{◌≡◌, ◌≤◌, ◌<◌, ◌==◌, ℕ, Bool, true, false, if◌then◌else◌, nat_lt, List, [], ◌∷◌, ◌++◌}
+use Rattle.std.proofs.Common.{length, take, drop, Option, Some, None, option_map, Result, Ok, Err, refl, sym, ap, ◌∙◌}
+use Rattle.std.proofs.Common.{arith, length-append}
 use Rattle.std.specs.Int.{w32, from_le_bytes}
 use Rattle.std.specs.Option.{ok_or}
 use Rattle.std.proofs.lemmas.Bool.{le-ltb, lt-ltb, ltb-false}
@@ -20,16 +22,19 @@ use Rattle.dd_part10.proofs.Faults.{fails_along, bind_fails}
 use Rattle.dd_part10.proofs.Fronts.{behind-is}
 use Rattle.dd_part10.proofs.Steps.{bind_ok, onward, there, passes}
 
-if_map : (b : Bool) (o p : Option (List ℕ)) (g : List ℕ → List ℕ) → p ≡ option_map g o → (if b then p else None) ≡ option_map g (if b then o else None)
+if_map : (b : Bool) (o p : Option (List ℕ)) (g : List ℕ → List ℕ) → p ≡ option_map g o
+    → (if b then p else None) ≡ option_map g (if b then o else None)
 if_map true o p g h = h
 if_map false o p g h = refl
 
 -- what stands behind a front, of bytes that have others behind them
-behind-more : (front bs more : List ℕ) → length front ≤ length bs → behind front (bs ++ more) ≡ option_map (λ rest. rest ++ more) (behind front bs)
+behind-more : (front bs more : List ℕ) → length front ≤ length bs
+    → behind front (bs ++ more) ≡ option_map (λ rest. rest ++ more) (behind front bs)
 behind-more [] bs more long = refl
 behind-more (first ∷ front) [] more long = absurd (omega (arith, long))
 behind-more (first ∷ front) (byte ∷ bs) more long =
-    if_map (first == byte) (behind front bs) (behind front (bs ++ more)) (λ rest. rest ++ more) (behind-more front bs more (omega (arith, long)))
+    if_map (first == byte) (behind front bs) (behind front (bs ++ more)) (λ rest. rest ++ more)
+    (behind-more front bs more (omega (arith, long)))
 
 -- ---- the preamble and the prefix
 
@@ -39,14 +44,20 @@ prefix_and None more none = refl
 prefix_and (Some rest) more none = rw (none rest refl) refl
 
 -- they are found in the first 132 bytes, and behind them stand the others
-pub prefix_cut : (front more : List ℕ) → length front ≡ 132 → behind_prefix (front ++ more) ≡ (behind_prefix front >>= λ _. Ok more)
+pub prefix_cut : (front more : List ℕ) → length front ≡ 132
+    → behind_prefix (front ++ more) ≡ (behind_prefix front >>= λ _. Ok more)
 unfolding behind_prefix
 prefix_cut front more size =
     let back : length (drop 128 front) ≡ 4 = omega (arith, length-drop 128 front) in
     ap (λ (bs : List ℕ). ok_or (behind prefix bs) NotPart10) (drop-append-le 128 front more (omega arith))
     ∙ ap (λ (o : Option (List ℕ)). ok_or o NotPart10) (behind-more prefix (drop 128 front) more (omega arith))
     ∙ prefix_and (behind prefix (drop 128 front)) more (λ rest found.
-    nil_from_length rest (omega (arith, back, ap length (behind-is prefix (drop 128 front) rest found), length-append prefix rest)))
+    nil_from_length rest (omega (
+      arith,
+      back,
+      ap length (behind-is prefix (drop 128 front) rest found),
+      length-append prefix rest,
+    )))
 
 -- ---- the group length
 
@@ -58,28 +69,39 @@ number_behind false true n rest bs same = refl
 number_behind false false n rest bs same = ap (λ (s : List ℕ). split_at n s) (sym same)
 
 length_behind : (o : Option (List ℕ)) (bs : List ℕ) → ((rest : List ℕ) → o ≡ Some rest → bs ≡ drop 4 rest)
-    → (ok_or o GroupLength >>= λ rest. if nat_lt (length rest) 4 then Err GroupLength else group_and_set (from_le_bytes w32 rest) (drop 4 rest))
-    ≡ ((ok_or o GroupLength >>= λ rest. if nat_lt (length rest) 4 then Err GroupLength else (if nat_lt max_group_length (from_le_bytes w32 rest) then Err GroupLength else Ok (from_le_bytes w32 rest))) >>= λ k. split_at k bs)
+    → (ok_or o GroupLength >>= λ rest. if nat_lt (length rest) 4 then Err GroupLength
+    else group_and_set (from_le_bytes w32 rest) (drop 4 rest))
+    ≡ ((ok_or o GroupLength >>= λ rest. if nat_lt (length rest) 4 then Err GroupLength
+    else (if nat_lt max_group_length (from_le_bytes w32 rest) then Err GroupLength
+    else Ok (from_le_bytes w32 rest))) >>= λ k. split_at k bs)
 length_behind None bs same = refl
-length_behind (Some rest) bs same = number_behind (nat_lt (length rest) 4) (nat_lt max_group_length (from_le_bytes w32 rest)) (from_le_bytes w32 rest) rest bs (same rest refl)
+length_behind (Some rest) bs same = number_behind (nat_lt (length rest) 4)
+    (nat_lt max_group_length (from_le_bytes w32 rest)) (from_le_bytes w32 rest) rest bs (same rest refl)
 
 -- it is a number, and so many bytes behind it
 pub length_is : (bs : List ℕ) → behind_length bs ≡ (count_in bs >>= λ n. split_at n (drop 12 bs))
 unfolding behind_length count_in
 length_is bs =
     let header = header_text group_length_tag (Some UL) 4 in
-    length_behind (behind header bs) (drop 12 bs) (λ rest found. ap (λ (s : List ℕ). drop 12 s) (behind-is header bs rest found))
+    length_behind (behind header bs) (drop 12 bs)
+    (λ rest found. ap (λ (s : List ℕ). drop 12 s) (behind-is header bs rest found))
 
 -- the number in what stands behind its header
 abbrev number_of_rest : List ℕ → Result ℕ FileFault
-number_of_rest rest = if nat_lt (length rest) 4 then Err GroupLength else (if nat_lt max_group_length (from_le_bytes w32 rest) then Err GroupLength else Ok (from_le_bytes w32 rest))
+number_of_rest rest = if nat_lt (length rest) 4 then Err GroupLength
+    else (if nat_lt max_group_length (from_le_bytes w32 rest) then Err GroupLength else Ok (from_le_bytes w32 rest))
 
 number_cut : (rest more : List ℕ) → length rest ≡ 4 → number_of_rest (rest ++ more) ≡ number_of_rest rest
 number_cut rest more size =
-    rw (le-ltb (length (rest ++ more)) 4 (omega (arith, length-append rest more)), le-ltb (length rest) 4 (omega arith), long_front rest more size) refl
+    rw (
+      le-ltb (length (rest ++ more)) 4 (omega (arith, length-append rest more)),
+      le-ltb (length rest) 4 (omega arith),
+      long_front rest more size,
+    ) refl
 
 number_and : (o : Option (List ℕ)) (more : List ℕ) → ((rest : List ℕ) → o ≡ Some rest → length rest ≡ 4)
-    → (ok_or (option_map (λ rest. rest ++ more) o) GroupLength >>= number_of_rest) ≡ (ok_or o GroupLength >>= number_of_rest)
+    → (ok_or (option_map (λ rest. rest ++ more) o) GroupLength >>= number_of_rest)
+    ≡ (ok_or o GroupLength >>= number_of_rest)
 number_and None more size = refl
 number_and (Some rest) more size = number_cut rest more (size rest refl)
 
@@ -89,10 +111,12 @@ unfolding count_in
 count_cut front more size =
     let header = header_text group_length_tag (Some UL) 4 in
     ap (λ (o : Option (List ℕ)). ok_or o GroupLength >>= number_of_rest) (behind-more header front more (omega arith))
-    ∙ number_and (behind header front) more (λ rest found. omega (arith, ap length (behind-is header front rest found), length-append header rest))
+    ∙ number_and (behind header front) more (λ rest found. omega
+    (arith, ap length (behind-is header front rest found), length-append header rest))
 
 -- behind its header stand four bytes
-pub header_long : (front rest : List ℕ) → behind (header_text group_length_tag (Some UL) 4) front ≡ Some rest → 4 ≤ length rest → 12 ≤ length front
+pub header_long : (front rest : List ℕ) → behind (header_text group_length_tag (Some UL) 4) front ≡ Some rest
+    → 4 ≤ length rest → 12 ≤ length front
 header_long front rest found size =
     let header = header_text group_length_tag (Some UL) 4 in
     omega (arith, size, ap length (behind-is header front rest found), length-append header rest)
@@ -102,26 +126,33 @@ pub count_long : (front : List ℕ) (n : ℕ) → count_in front ≡ Ok n → 12
 unfolding count_in
 count_long front n h =
     let header = header_text group_length_tag (Some UL) 4 in
-    let next : List ℕ → Result ℕ FileFault = λ rest. if nat_lt (length rest) 4 then Err GroupLength else (if nat_lt max_group_length (from_le_bytes w32 rest) then Err GroupLength else Ok (from_le_bytes w32 rest)) in
+    let next : List ℕ → Result ℕ FileFault = λ rest. if nat_lt (length rest) 4 then Err GroupLength
+    else (if nat_lt max_group_length (from_le_bytes w32 rest) then Err GroupLength else Ok (from_le_bytes w32 rest))
+    in
     let a = bind_ok (ok_or (behind header front) GroupLength) next n h in
     let is = behind-is header front a.0 (there (behind header front) GroupLength a.0 a.1) in
-    let b = passes (nat_lt (length a.0) 4) GroupLength (if nat_lt max_group_length (from_le_bytes w32 a.0) then Err GroupLength else Ok (from_le_bytes w32 a.0)) n a.2 in
+    let b = passes (nat_lt (length a.0) 4) GroupLength
+    (if nat_lt max_group_length (from_le_bytes w32 a.0) then Err GroupLength else Ok (from_le_bytes w32 a.0)) n a.2 in
     omega (arith, ap length is, length-append header a.0, ltb-false (length a.0) 4 b.0)
 
 -- a group length that is none
 pub length_fails : (e : FileFault) (bs : List ℕ) → Fails e (count_in bs) → Fails e (behind_length bs)
 length_fails e bs h =
-    fails_along e (count_in bs) (behind_length bs) h (λ f k. length_is bs ∙ bind_fails (count_in bs) (λ n. split_at n (drop 12 bs)) f k)
+    fails_along e (count_in bs) (behind_length bs) h
+    (λ f k. length_is bs ∙ bind_fails (count_in bs) (λ n. split_at n (drop 12 bs)) f k)
 
 -- fewer bytes than it counts, and as many
-pub split_fails : (bs : List ℕ) (n : ℕ) → count_in bs ≡ Ok n → length (drop 12 bs) < n → behind_length bs ≡ Err GroupLength
+pub split_fails : (bs : List ℕ) (n : ℕ) → count_in bs ≡ Ok n → length (drop 12 bs) < n
+    → behind_length bs ≡ Err GroupLength
 split_fails bs n count few =
     let short : split_at n (drop 12 bs) ≡ Err GroupLength = rw (lt-ltb (length (drop 12 bs)) n few) refl in
     length_is bs ∙ onward (count_in bs) n (λ k. split_at k (drop 12 bs)) count ∙ short
 
-pub split_gives : (bs group set : List ℕ) (n : ℕ) → count_in bs ≡ Ok n → n ≤ length (drop 12 bs) → group ≡ take n (drop 12 bs) → set ≡ drop n (drop 12 bs) → behind_length bs ≡ Ok (group, set)
+pub split_gives : (bs group set : List ℕ) (n : ℕ) → count_in bs ≡ Ok n → n ≤ length (drop 12 bs)
+    → group ≡ take n (drop 12 bs) → set ≡ drop n (drop 12 bs) → behind_length bs ≡ Ok (group, set)
 split_gives bs group set n count enough front back =
-    let whole : split_at n (drop 12 bs) ≡ Ok (group, set) = rw (le-ltb (length (drop 12 bs)) n enough, front, back) refl in
+    let whole : split_at n (drop 12 bs) ≡ Ok
+    (group, set) = rw (le-ltb (length (drop 12 bs)) n enough, front, back) refl in
     length_is bs ∙ onward (count_in bs) n (λ k. split_at k (drop 12 bs)) count ∙ whole
 
 -- ---- the data set

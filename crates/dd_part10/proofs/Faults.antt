@@ -1,17 +1,21 @@
 -- A fault that was handed on.
 use Rattle.std.proofs.Common.{◌≡◌, ℕ, List, Result, Err, refl, ap}
 use Rattle.dd_set.specs.declared.fault.SetFault.{SetFault}
-use Rattle.dd_set.specs.declared.fault.SetFault.TheVariants.{Truncated, Order, BadVr, Reserved, OddLength, UndefinedLength, UnexpectedTag, BadDelimiter, Overrun, TooDeep, Memory}
+use Rattle.dd_set.specs.declared.fault.SetFault.TheVariants.{Truncated, Order, BadVr, Reserved, OddLength}
+use Rattle.dd_set.specs.declared.fault.SetFault.TheVariants.{UndefinedLength, UnexpectedTag, BadDelimiter, Overrun}
+use Rattle.dd_set.specs.declared.fault.SetFault.TheVariants.{TooDeep, Memory}
 use Rattle.dd_set.specs.Gives as sets
 use Rattle.dd_part10.specs.declared.fault.FileFault.{FileFault}
-use Rattle.dd_part10.specs.declared.fault.FileFault.TheVariants.{NotPart10, GroupLength, MetaMissing, MetaUid, OtherSyntax}
+use Rattle.dd_part10.specs.declared.fault.FileFault.TheVariants.{NotPart10, GroupLength, MetaMissing, MetaUid}
+use Rattle.dd_part10.specs.declared.fault.FileFault.TheVariants.{OtherSyntax}
 use Rattle.dd_part10.specs.declared.fault.FileFault.TheVariants as faults
 use Rattle.dd_part10.specs.Gives.{Fails}
 use Rattle.dd_part10.specs.Memory.{GroupWants, HasHead, WantsNone, IsRefused}
 use Rattle.dd_part10.specs.Reading.{◌>>=◌, with_fault, read_file}
 
 -- a reading that fails as another does
-pub fails_along : {A B : Type 0} (e : FileFault) (r : Result A FileFault) (s : Result B FileFault) → Fails e r → ((f : FileFault) → r ≡ Err f → s ≡ Err f) → Fails e s
+pub fails_along : {A B : Type 0} (e : FileFault) (r : Result A FileFault) (s : Result B FileFault) → Fails e r
+    → ((f : FileFault) → r ≡ Err f → s ≡ Err f) → Fails e s
 fails_along NotPart10 r s h k = k NotPart10 h
 fails_along GroupLength r s h k = k GroupLength h
 fails_along (MetaMissing tag) r s h k = k (MetaMissing tag) h
@@ -71,7 +75,8 @@ fails_is (faults.Set TooDeep) r h = h
 fails_is (faults.Set Memory) r h = tt
 
 -- a file that is refused, with what is known of it where memory is wanted
-pub refused : (e : FileFault) (file : List ℕ) → Fails e (read_file file) → (e ≡ faults.Meta Memory → GroupWants file) → (e ≡ faults.Set Memory → HasHead file) → IsRefused e file
+pub refused : (e : FileFault) (file : List ℕ) → Fails e (read_file file) → (e ≡ faults.Meta Memory → GroupWants file)
+    → (e ≡ faults.Set Memory → HasHead file) → IsRefused e file
 refused NotPart10 file h group set = h
 refused GroupLength file h group set = h
 refused (MetaMissing tag) file h group set = h
@@ -101,11 +106,14 @@ refused (faults.Set TooDeep) file h group set = h
 refused (faults.Set Memory) file h group set = set refl
 
 -- one that a step refused which wants no memory
-pub refused_so : {X : Type 0} (e : FileFault) (file : List ℕ) → WantsNone {X = X} (Err e) → Fails e (read_file file) → IsRefused e file
-refused_so e file none h = refused e file h (λ is. absurd (none.0 (ap (λ f. Err f) is))) (λ is. absurd (none.1 (ap (λ f. Err f) is)))
+pub refused_so : {X : Type 0} (e : FileFault) (file : List ℕ) → WantsNone {X = X} (Err e) → Fails e (read_file file)
+    → IsRefused e file
+refused_so e file none h =
+    refused e file h (λ is. absurd (none.0 (ap (λ f. Err f) is))) (λ is. absurd (none.1 (ap (λ f. Err f) is)))
 
 -- a data set that is refused
-pub set_fails : {A B : Type 0} (e : SetFault) (r : Result A SetFault) (f : A → Result B FileFault) → sets.Fails e r → Fails (faults.Set e) (with_fault faults.Set r >>= f)
+pub set_fails : {A B : Type 0} (e : SetFault) (r : Result A SetFault) (f : A → Result B FileFault) → sets.Fails e r
+    → Fails (faults.Set e) (with_fault faults.Set r >>= f)
 set_fails Truncated r f h = rw h refl
 set_fails Order r f h = rw h refl
 set_fails BadVr r f h = rw h refl
@@ -119,5 +127,6 @@ set_fails TooDeep r f h = rw h refl
 set_fails Memory r f h = tt
 
 -- a step that fails, and what would have followed
-pub bind_fails : {A B : Type 0} (r : Result A FileFault) (f : A → Result B FileFault) (e : FileFault) → r ≡ Err e → (r >>= f) ≡ Err e
+pub bind_fails : {A B : Type 0} (r : Result A FileFault) (f : A → Result B FileFault) (e : FileFault) → r ≡ Err e
+    → (r >>= f) ≡ Err e
 bind_fails r f e h = rw h refl

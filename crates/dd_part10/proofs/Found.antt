@@ -1,5 +1,7 @@
 -- What is read as a file is one.
-use Rattle.std.proofs.Common.{◌≡◌, ℕ, ◌+◌, ◌^◌, ◌<◌, ◌≤◌, true, if◌then◌else◌, nat_lt, List, ◌++◌, length, take, drop, Option, Some, Result, Ok, Err, Contains, refl, sym, ap, subst, ◌∙◌, arith, append_assoc, length-append}
+use Rattle.std.proofs.Common.{◌≡◌, ℕ, ◌+◌, ◌^◌, ◌<◌, ◌≤◌, true, if◌then◌else◌, nat_lt, List, ◌++◌, length, take, drop}
+use Rattle.std.proofs.Common.{Option, Some, Result, Ok, Err, Contains, refl, sym, ap, subst, ◌∙◌, arith, append_assoc}
+use Rattle.std.proofs.Common.{length-append}
 use Rattle.std.specs.Int.{w32, from_le_bytes}
 use Rattle.std.specs.Option.{ok_or}
 use Rattle.std.proofs.lemmas.Bool.{ltb-false, ltb-true}
@@ -22,12 +24,14 @@ use Rattle.dd_set.specs.Spelling.{Spells, header_text}
 use Rattle.dd_set.proofs.Sound.{all_takes}
 use Rattle.dd_set.proofs.Steps.{AreBytes-drop, AreBytes-take, long_front, long_text, found_passes}
 use Rattle.dd_part10.specs.declared.fault.FileFault.{FileFault}
-use Rattle.dd_part10.specs.declared.fault.FileFault.TheVariants.{NotPart10, GroupLength, MetaMissing, MetaUid, OtherSyntax}
+use Rattle.dd_part10.specs.declared.fault.FileFault.TheVariants.{NotPart10, GroupLength, MetaMissing, MetaUid}
+use Rattle.dd_part10.specs.declared.fault.FileFault.TheVariants.{OtherSyntax}
 use Rattle.dd_part10.specs.declared.fault.FileFault.TheVariants as faults
 use Rattle.dd_part10.specs.declared.meta.Meta.{Meta}
 use Rattle.dd_part10.specs.File.{preamble_length, prefix, max_group_length, group_length_text, StartsAbove, IsFile}
 use Rattle.dd_part10.specs.Meta.{group_length_tag, class_tag, instance_tag, transfer_tag, HasUid, IsMeta}
-use Rattle.dd_part10.specs.Reading.{◌>>=◌, with_fault, FileParts, behind, behind_prefix, behind_length, group_and_set, is_alone, uid_of, uid_at, uids_in, meta_in, starts_above, set_in, read_file}
+use Rattle.dd_part10.specs.Reading.{◌>>=◌, with_fault, FileParts, behind, behind_prefix, behind_length, group_and_set}
+use Rattle.dd_part10.specs.Reading.{is_alone, uid_of, uid_at, uids_in, meta_in, starts_above, set_in, read_file}
 use Rattle.dd_part10.specs.Syntaxes.{syntax_of}
 use Rattle.dd_part10.proofs.Fronts.{behind-is}
 use Rattle.dd_part10.proofs.Steps.{bind_ok, passes, allowed, there, was_read, ok_is}
@@ -46,13 +50,15 @@ record Prefixed (file rest : List ℕ) : Type 0 where
 prefix_takes : (file rest : List ℕ) → AreBytes file → behind_prefix file ≡ Ok rest → Prefixed file rest
 unfolding behind_prefix
 prefix_takes file rest fits e =
-    let is : drop 128 file ≡ prefix ++ rest = behind-is prefix (drop 128 file) rest (there (behind prefix (drop 128 file)) NotPart10 rest e) in
+    let is : drop 128 file ≡ prefix ++ rest = behind-is prefix (drop 128 file) rest
+    (there (behind prefix (drop 128 file)) NotPart10 rest e) in
     let len : length (drop 128 file) ≡ 4 + length rest = ap length is ∙ length-append prefix rest in
     record {
       preamble = take 128 file;
       parts = sym (take-append-drop 128 file) ∙ ap (λ (s : List ℕ). take 128 file ++ s) is;
       free = omega (arith, length-take 128 file, length-drop 128 file, len);
-      fits = subst (λ (s : List ℕ). AreBytes (drop 4 s)) is (AreBytes-drop 4 (drop 128 file) (AreBytes-drop 128 file fits));
+      fits = subst (λ (s : List ℕ). AreBytes (drop 4 s)) is
+          (AreBytes-drop 4 (drop 128 file) (AreBytes-drop 128 file fits));
     }
 
 -- ---- the group length
@@ -68,33 +74,47 @@ record Counted (bs group set : List ℕ) : Type 0 where
   fits : AreBytes group × AreBytes set
 
 -- the bytes that a length counts
-split_takes : (n : ℕ) (bs : List ℕ) (x : List ℕ × List ℕ) → group_and_set n bs ≡ Ok x → (n ≤ max_group_length) × (n ≤ length bs) × (x ≡ (take n bs, drop n bs))
+split_takes : (n : ℕ) (bs : List ℕ) (x : List ℕ × List ℕ) → group_and_set n bs ≡ Ok x
+    → (n ≤ max_group_length) × (n ≤ length bs) × (x ≡ (take n bs, drop n bs))
 split_takes n bs x e =
-    let a = passes (nat_lt max_group_length n) GroupLength (if nat_lt (length bs) n then Err GroupLength else Ok (take n bs, drop n bs)) x e in
+    let a = passes (nat_lt max_group_length n) GroupLength
+    (if nat_lt (length bs) n then Err GroupLength else Ok (take n bs, drop n bs)) x e in
     let b = passes (nat_lt (length bs) n) GroupLength (Ok (take n bs, drop n bs)) x a.1 in
     (ltb-false _ _ a.0, ltb-false _ _ b.0, sym (ok_is (take n bs, drop n bs) x b.1))
 
 -- the number behind a header, spelled again
-counted : (header rest bs : List ℕ) (n : ℕ) → bs ≡ header ++ rest → n ≡ from_le_bytes w32 rest → 4 ≤ length rest → AreBytes rest → n ≤ length (drop 4 rest)
+counted : (header rest bs : List ℕ) (n : ℕ) → bs ≡ header ++ rest → n ≡ from_le_bytes w32 rest → 4 ≤ length rest
+    → AreBytes rest → n ≤ length (drop 4 rest)
     → bs ≡ (header ++ little_bytes 4 (length (take n (drop 4 rest)))) ++ (take n (drop 4 rest) ++ drop n (drop 4 rest))
 counted header rest bs n is count long fits within =
     let front : length (take 4 rest) ≡ 4 = omega (arith, length-take 4 rest) in
-    let number : from_le_bytes w32 rest ≡ from_le_bytes w32 (take 4 rest) = ap (λ (s : List ℕ). from_le_bytes w32 s) (sym (take-append-drop 4 rest)) ∙ long_front (take 4 rest) (drop 4 rest) front in
-    let text : little_bytes 4 (from_le_bytes w32 (take 4 rest)) ≡ take 4 rest = long_text (take 4 rest) front (AreBytes-take 4 rest fits) in
+    let number : from_le_bytes w32 rest ≡ from_le_bytes w32 (take 4 rest) = ap (λ (s : List ℕ). from_le_bytes w32 s)
+    (sym (take-append-drop 4 rest)) ∙ long_front (take 4 rest) (drop 4 rest) front in
+    let text : little_bytes 4 (from_le_bytes w32 (take 4 rest))
+    ≡ take 4 rest = long_text (take 4 rest) front (AreBytes-take 4 rest fits) in
     let len : length (take n (drop 4 rest)) ≡ n = omega (arith, length-take n (drop 4 rest)) in
-    let spelled : little_bytes 4 (length (take n (drop 4 rest))) ≡ take 4 rest = ap (λ (k : ℕ). little_bytes 4 k) (len ∙ count ∙ number) ∙ text in
-    let whole : rest ≡ little_bytes 4 (length (take n (drop 4 rest))) ++ (take n (drop 4 rest) ++ drop n (drop 4 rest)) =
-    sym (take-append-drop 4 rest) ∙ ap (λ (s : List ℕ). s ++ drop 4 rest) (sym spelled) ∙ ap (λ (s : List ℕ). little_bytes 4 (length (take n (drop 4 rest))) ++ s) (sym (take-append-drop n (drop 4 rest))) in
-    is ∙ ap (λ (s : List ℕ). header ++ s) whole ∙ sym (append_assoc header (little_bytes 4 (length (take n (drop 4 rest)))) (take n (drop 4 rest) ++ drop n (drop 4 rest)))
+    let spelled : little_bytes 4 (length (take n (drop 4 rest)))
+    ≡ take 4 rest = ap (λ (k : ℕ). little_bytes 4 k) (len ∙ count ∙ number) ∙ text in
+    let whole : rest ≡ little_bytes 4 (length (take n (drop 4 rest)))
+    ++ (take n (drop 4 rest) ++ drop n (drop 4 rest)) =
+    sym (take-append-drop 4 rest) ∙ ap (λ (s : List ℕ). s ++ drop 4 rest) (sym spelled)
+    ∙ ap (λ (s : List ℕ). little_bytes 4 (length (take n (drop 4 rest))) ++ s)
+    (sym (take-append-drop n (drop 4 rest))) in
+    is ∙ ap (λ (s : List ℕ). header ++ s) whole
+    ∙ sym (append_assoc header (little_bytes 4 (length (take n (drop 4 rest))))
+    (take n (drop 4 rest) ++ drop n (drop 4 rest)))
 
 -- what was read behind the group length
 length_takes : (bs : List ℕ) (x : List ℕ × List ℕ) → AreBytes bs → behind_length bs ≡ Ok x → Counted bs x.0 x.1
 unfolding behind_length
 length_takes bs x fits e =
     let a = bind_ok (ok_or (behind (header_text group_length_tag (Some UL) 4) bs) GroupLength)
-    (λ (rest : List ℕ). if nat_lt (length rest) 4 then Err GroupLength else group_and_set (from_le_bytes w32 rest) (drop 4 rest)) x e in
+    (λ (rest : List ℕ). if nat_lt (length rest) 4 then Err GroupLength
+    else group_and_set (from_le_bytes w32 rest) (drop 4 rest)) x e in
     let rest = a.0 in
-    let is : bs ≡ header_text group_length_tag (Some UL) 4 ++ rest = behind-is (header_text group_length_tag (Some UL) 4) bs rest (there (behind (header_text group_length_tag (Some UL) 4) bs) GroupLength rest a.1) in
+    let is : bs ≡ header_text group_length_tag (Some UL) 4
+    ++ rest = behind-is (header_text group_length_tag (Some UL) 4) bs rest
+    (there (behind (header_text group_length_tag (Some UL) 4) bs) GroupLength rest a.1) in
     let b = passes (nat_lt (length rest) 4) GroupLength (group_and_set (from_le_bytes w32 rest) (drop 4 rest)) x a.2 in
     let n = from_le_bytes w32 rest in
     let long : 4 ≤ length rest = ltb-false (length rest) 4 b.0 in
@@ -113,12 +133,19 @@ length_takes bs x fits e =
 
 -- a value that is a UID
 content_holds : (group : Elements) (tag : Tag) (vr : Option Vr) (content : Content) (uid : List ℕ)
-    → Contains (entries_of group) (record { tag = tag; vr = vr; content = content }) → uid_of tag content ≡ Ok uid → HasUid group tag uid
+    → Contains (entries_of group) (record { tag = tag; vr = vr; content = content }) → uid_of tag content ≡ Ok uid
+    → HasUid group tag uid
 content_holds group tag vr (items form parts) uid holds e = absurd cc
 content_holds group tag vr (bytes v) uid holds e =
     let a = allowed (is_uid (clean_of v)) (MetaUid tag) (Ok (clean_of v)) uid e in
     let same : clean_of v ≡ uid = ok_is (clean_of v) uid a.1 in
-    record { vr = vr; value = v; holds = holds; is = IsCleanOf_from_is v uid (sym same); valid = subst (λ (u : List ℕ). IsUid u) same (IsUid_from_is_uid (clean_of v) a.0) }
+    record {
+      vr = vr;
+      value = v;
+      holds = holds;
+      is = IsCleanOf_from_is v uid (sym same);
+      valid = subst (λ (u : List ℕ). IsUid u) same (IsUid_from_is_uid (clean_of v) a.0);
+    }
 
 -- a UID that was read
 uid_takes : (tag : Tag) (group : Elements) (uid : List ℕ) → uid_at tag group ≡ Ok uid → HasUid group tag uid
@@ -126,10 +153,13 @@ unfolding uid_at
 uid_takes tag group uid e =
     let a = bind_ok (ok_or (find_in tag group) (MetaMissing tag)) (λ (x : Entry). uid_of tag x.content) uid e in
     let found : find_in tag group ≡ Some a.0 = there (find_in tag group) (MetaMissing tag) a.0 a.1 in
-    let same : a.0.tag ≡ tag = same_tag-is a.0.tag tag (found_passes (λ (x : Entry). same_tag x.tag tag) (entries_of group) a.0 found) in
-    let holds : Contains (entries_of group) a.0 = found_there (λ (x : Entry). same_tag x.tag tag) (entries_of group) a.0 found in
+    let same : a.0.tag ≡ tag = same_tag-is a.0.tag tag
+    (found_passes (λ (x : Entry). same_tag x.tag tag) (entries_of group) a.0 found) in
+    let holds : Contains (entries_of group) a.0 = found_there (λ (x : Entry). same_tag x.tag tag)
+    (entries_of group) a.0 found in
     let tagged : Contains (entries_of group) (record { tag = tag; vr = a.0.vr; content = a.0.content }) =
-    subst (λ (t : Tag). Contains (entries_of group) (record { tag = t; vr = a.0.vr; content = a.0.content })) same holds in
+    subst (λ (t : Tag). Contains (entries_of group) (record { tag = t; vr = a.0.vr; content = a.0.content })) same holds
+    in
     content_holds group tag a.0.vr a.0.content uid tagged a.2
 
 -- three UIDs that were read
@@ -137,8 +167,11 @@ uids_take : (group : Elements) (meta : Meta) → is_alone group ≡ true → uid
 unfolding uids_in
 uids_take group meta alone e =
     let made : List ℕ → List ℕ → List ℕ → Meta = λ c i t. record { class = c; instance = i; transfer = t } in
-    let a = bind_ok (uid_at class_tag group) (λ (c : List ℕ). ◌>>=◌ (uid_at instance_tag group) (λ (i : List ℕ). ◌>>=◌ (uid_at transfer_tag group) (λ (t : List ℕ). Ok (made c i t)))) meta e in
-    let b = bind_ok (uid_at instance_tag group) (λ (i : List ℕ). ◌>>=◌ (uid_at transfer_tag group) (λ (t : List ℕ). Ok (made a.0 i t))) meta a.2 in
+    let a = bind_ok (uid_at class_tag group)
+    (λ (c : List ℕ). ◌>>=◌ (uid_at instance_tag group)
+    (λ (i : List ℕ). ◌>>=◌ (uid_at transfer_tag group) (λ (t : List ℕ). Ok (made c i t)))) meta e in
+    let b = bind_ok (uid_at instance_tag group)
+    (λ (i : List ℕ). ◌>>=◌ (uid_at transfer_tag group) (λ (t : List ℕ). Ok (made a.0 i t))) meta a.2 in
     let c = bind_ok (uid_at transfer_tag group) (λ (t : List ℕ). Ok (made a.0 b.0 t)) meta b.2 in
     let holds : IsMeta group (made a.0 b.0 c.0) = record {
       alone = alone_from (entries_of group) alone;
@@ -155,14 +188,20 @@ record Told (text : List ℕ) (meta : Meta) : Type 0 where
   holds : IsMeta group meta
 
 -- meta information that was read
-meta_takes : (text : List ℕ) (meta : Meta) → AreBytes text → length text < 2 ^ 64 → meta_in text ≡ Ok meta → Told text meta
+meta_takes : (text : List ℕ) (meta : Meta) → AreBytes text → length text < 2 ^ 64 → meta_in text ≡ Ok meta
+    → Told text meta
 unfolding meta_in
 meta_takes text meta fits room e =
-    let a = bind_ok (with_fault faults.Meta (read_all Explicit text)) (λ (group : Elements). if is_alone group then uids_in group else Err GroupLength) meta e in
+    let a = bind_ok (with_fault faults.Meta (read_all Explicit text))
+    (λ (group : Elements). if is_alone group then uids_in group else Err GroupLength) meta e in
     let read : read_all Explicit text ≡ Ok a.0 = was_read faults.Meta (read_all Explicit text) a.0 a.1 in
     let b = allowed (is_alone a.0) GroupLength (uids_in a.0) meta a.2 in
     let taken = all_takes Explicit text a.0 read fits in
-    record { group = a.0; spelled = record { valid = taken.0; whole = taken.1; fits = room }; holds = uids_take a.0 meta b.0 b.1 }
+    record {
+      group = a.0;
+      spelled = record { valid = taken.0; whole = taken.1; fits = room };
+      holds = uids_take a.0 meta b.0 b.1;
+    }
 
 -- ---- the data set
 
@@ -172,24 +211,31 @@ above_from no_elements e = tt
 above_from (element tag vr content rest) e = ltb-true _ _ e
 
 -- a data set that was read
-set_takes : (syntax : Syntax) (text : List ℕ) (set : Elements) → AreBytes text → length text < 2 ^ 64 → set_in syntax text ≡ Ok set → Spells syntax set text × StartsAbove set
+set_takes : (syntax : Syntax) (text : List ℕ) (set : Elements) → AreBytes text → length text < 2 ^ 64
+    → set_in syntax text ≡ Ok set → Spells syntax set text × StartsAbove set
 unfolding set_in
 set_takes syntax text set fits room e =
-    let a = bind_ok (with_fault faults.Set (read_all syntax text)) (λ (s : Elements). if starts_above s then Ok s else Err GroupLength) set e in
+    let a = bind_ok (with_fault faults.Set (read_all syntax text))
+    (λ (s : Elements). if starts_above s then Ok s else Err GroupLength) set e in
     let read : read_all syntax text ≡ Ok a.0 = was_read faults.Set (read_all syntax text) a.0 a.1 in
     let b = allowed (starts_above a.0) GroupLength (Ok a.0) set a.2 in
     let taken = all_takes syntax text a.0 read fits in
-    let both : Spells syntax a.0 text × StartsAbove a.0 = (record { valid = taken.0; whole = taken.1; fits = room }, above_from a.0 b.0) in
+    let both : Spells syntax a.0 text × StartsAbove
+    a.0 = (record { valid = taken.0; whole = taken.1; fits = room }, above_from a.0 b.0) in
     subst (λ (s : Elements). Spells syntax s text × StartsAbove s) (ok_is a.0 set b.1) both
 
 -- ---- the whole
 
 -- parts of a whole of so many bytes are no longer
-whole_length : (file preamble rest group set : List ℕ) (n : ℕ) → file ≡ preamble ++ (prefix ++ rest) → rest ≡ group_length_text n ++ (group ++ set) → length file < 2 ^ 64 → (length group < 2 ^ 64) × (length set < 2 ^ 64)
+whole_length : (file preamble rest group set : List ℕ) (n : ℕ) → file ≡ preamble ++ (prefix ++ rest)
+    → rest ≡ group_length_text n ++ (group ++ set) → length file < 2 ^ 64
+    → (length group < 2 ^ 64) × (length set < 2 ^ 64)
 whole_length file preamble rest group set n one two room =
-    let a : length file ≡ length preamble + length (prefix ++ rest) = ap length one ∙ length-append preamble (prefix ++ rest) in
+    let a : length file ≡ length preamble + length (prefix ++ rest) = ap length one
+    ∙ length-append preamble (prefix ++ rest) in
     let b : length (prefix ++ rest) ≡ 4 + length rest = length-append prefix rest in
-    let c : length rest ≡ length (group_length_text n) + length (group ++ set) = ap length two ∙ length-append (group_length_text n) (group ++ set) in
+    let c : length rest ≡ length (group_length_text n) + length (group ++ set) = ap length two
+    ∙ length-append (group_length_text n) (group ++ set) in
     let d : length (group ++ set) ≡ length group + length set = length-append group set in
     (omega (arith, a, b, c, d, room), omega (arith, a, b, c, d, room))
 
@@ -210,7 +256,8 @@ abbrev pub with_rest : List ℕ → Result FileParts FileFault
 with_rest rest = behind_length rest >>= with_parts
 
 -- what is read as a file is one
-pub file_found : (file : List ℕ) (x : FileParts) → read_file file ≡ Ok x → AreBytes file → length file < 2 ^ 64 → IsFile file x.meta x.set x.set_at
+pub file_found : (file : List ℕ) (x : FileParts) → read_file file ≡ Ok x → AreBytes file → length file < 2 ^ 64
+    → IsFile file x.meta x.set x.set_at
 unfolding read_file
 file_found file x e fits room =
     let a = bind_ok (behind_prefix file) with_rest x e in

@@ -1,5 +1,7 @@
 -- Bytes that begin with a front, and what stands behind it.
-use Rattle.std.proofs.Common.{◌≡◌, ◌≢◌, ℕ, ◌-◌, ◌<◌, ◌==◌, Bool, true, false, if◌then◌else◌, List, [], ◌∷◌, ◌++◌, length, take, drop, Option, Some, None, option_map, Bor, refl, sym, ap, ◌∙◌, arith, eq-eqb}
+use Rattle.std.proofs.Common.{◌≡◌, ◌≢◌, ℕ, ◌-◌, ◌<◌, ◌==◌, Bool, true, false, if◌then◌else◌, List, [], ◌∷◌, ◌++◌}
+use Rattle.std.proofs.Common.{length, take, drop, Option, Some, None, option_map, Bor, refl, sym, ap, ◌∙◌, arith}
+use Rattle.std.proofs.Common.{eq-eqb}
 use Rattle.std.proofs.lemmas.Bool.{eqb-true}
 use Rattle.std.proofs.lemmas.List.{nil_from_length, length-drop, take_all}
 use Rattle.std.specs.Option.{MatchOption}
@@ -11,7 +13,8 @@ behind-front [] rest = refl
 behind-front (byte ∷ front) rest = rw (eq-eqb byte byte refl) (behind-front front rest)
 
 -- a byte that was tested is equal, and what stands behind it is the rest
-tested : (b : Bool) (o : Option (List ℕ)) (rest : List ℕ) → (if b then o else None) ≡ Some rest → (b ≡ true) × (o ≡ Some rest)
+tested : (b : Bool) (o : Option (List ℕ)) (rest : List ℕ) → (if b then o else None) ≡ Some rest
+    → (b ≡ true) × (o ≡ Some rest)
 tested true o rest e = (refl, e)
 tested false o rest e = absurd cc
 
@@ -31,12 +34,15 @@ none_is None h = refl
 none_is (Some rest) h = absurd (h rest refl)
 
 -- what `strip_prefix` says of bytes
-pub behind-strips : (front bs : List ℕ) (r : Option (Bor (List ℕ))) → MatchOption r ((rest : List ℕ) → bs ≢ front ++ rest) (λ x. bs ≡ front ++ x.now) → option_map (λ x. x.now) r ≡ behind front bs
+pub behind-strips : (front bs : List ℕ) (r : Option (Bor (List ℕ)))
+    → MatchOption r ((rest : List ℕ) → bs ≢ front ++ rest) (λ x. bs ≡ front ++ x.now)
+    → option_map (λ x. x.now) r ≡ behind front bs
 behind-strips front bs None h = none_is (behind front bs) (λ rest e. h rest (behind-is front bs rest e))
 behind-strips front bs (Some x) h = sym (ap (λ (s : List ℕ). behind front s) h ∙ behind-front front x.now)
 
 -- too few bytes have nothing behind a front of so many
-pub behind-short : (front : List ℕ) (n : ℕ) (bs : List ℕ) → 0 < length front → length bs < n → behind front (drop n bs) ≡ None
+pub behind-short : (front : List ℕ) (n : ℕ) (bs : List ℕ) → 0 < length front → length bs < n
+    → behind front (drop n bs) ≡ None
 behind-short [] n bs some few = absurd (omega (arith, some))
 behind-short (first ∷ front) n bs some few =
     let none : drop n bs ≡ [] = nil_from_length (drop n bs) (omega (arith, length-drop n bs)) in

@@ -1,5 +1,7 @@
 -- A head with a data set behind it is a file.
-use Rattle.std.proofs.Common.{◌≡◌, ◌≢◌, ℕ, ◌+◌, ◌*◌, ◌%◌, ◌<◌, ◌≤◌, ◌^◌, ◌==◌, true, false, if◌then◌else◌, List, [], ◌∷◌, ◌++◌, length, replicate, All, Contains, Some, refl, sym, ap, subst, ◌∙◌, arith, append_assoc, lit<, lit≤}
+use Rattle.std.proofs.Common.{◌≡◌, ◌≢◌, ℕ, ◌+◌, ◌*◌, ◌%◌, ◌<◌, ◌≤◌, ◌^◌, ◌==◌, true, false, if◌then◌else◌, List, []}
+use Rattle.std.proofs.Common.{◌∷◌, ◌++◌, length, replicate, All, Contains, Some, refl, sym, ap, subst, ◌∙◌, arith}
+use Rattle.std.proofs.Common.{append_assoc, lit<, lit≤}
 use Rattle.std.specs.List.{join_with_byte}
 use Rattle.std.proofs.lemmas.List.Elements.{All-nil, All-cons, All-head, All-tail, All-weaker, All-append}
 use Rattle.dd_elem.specs.Clean.{clean_of, is_padding, keep}
@@ -14,7 +16,8 @@ use Rattle.dd_set.specs.Find.{entries_of}
 use Rattle.dd_set.specs.Spelling.{Spells, AreElements, IsContent, max_levels}
 use Rattle.dd_part10.specs.declared.meta.Meta.{Meta}
 use Rattle.dd_part10.specs.File.{prefix, group_length_text, StartsAbove, IsFile}
-use Rattle.dd_part10.specs.Head.{head_text, group_text, group_of, uid_element, padded, padding_of, version_tag, implementation_tag, implementation_uid}
+use Rattle.dd_part10.specs.Head.{head_text, group_text, group_of, uid_element, padded, padding_of, version_tag}
+use Rattle.dd_part10.specs.Head.{implementation_tag, implementation_uid}
 use Rattle.dd_part10.specs.Meta.{class_tag, instance_tag, transfer_tag, HasUid, IsMeta}
 use Rattle.dd_part10.specs.Syntaxes.{syntax_of}
 use Rattle.dd_part10.proofs.Heads.{length_padded, length_group, length_head}
@@ -39,9 +42,12 @@ joined_plain : (components : List (List ℕ)) → All IsComponent components →
 joined_plain [] h = All-nil IsPlain
 joined_plain (one ∷ []) h = All-weaker IsDigit IsPlain digit_plain one (All-head IsComponent one [] h).digits
 joined_plain (one ∷ next ∷ more) h =
-    let first : All IsPlain one = All-weaker IsDigit IsPlain digit_plain one (All-head IsComponent one (next ∷ more) h).digits in
-    let others : All IsPlain (join_with_byte 46 (next ∷ more)) = joined_plain (next ∷ more) (All-tail IsComponent one (next ∷ more) h) in
-    All-append IsPlain one (46 ∷ join_with_byte 46 (next ∷ more)) first (All-cons IsPlain 46 (join_with_byte 46 (next ∷ more)) refl others)
+    let first : All IsPlain one = All-weaker IsDigit IsPlain digit_plain one
+    (All-head IsComponent one (next ∷ more) h).digits in
+    let others : All IsPlain (join_with_byte 46 (next ∷ more)) = joined_plain (next ∷ more)
+    (All-tail IsComponent one (next ∷ more) h) in
+    All-append IsPlain one (46 ∷ join_with_byte 46 (next ∷ more)) first
+    (All-cons IsPlain 46 (join_with_byte 46 (next ∷ more)) refl others)
 
 -- a byte that is none is kept
 keep_plain : (byte : ℕ) (bs : List ℕ) → IsPlain byte → keep byte bs ≡ byte ∷ bs
@@ -51,11 +57,13 @@ keep_plain byte (next ∷ more) h = refl
 -- bytes without one are kept
 clean_plain : (bs : List ℕ) → All IsPlain bs → clean_of bs ≡ bs
 clean_plain [] h = refl
-clean_plain (byte ∷ bs) h = ap (λ (s : List ℕ). keep byte s) (clean_plain bs (All-tail IsPlain byte bs h)) ∙ keep_plain byte bs (All-head IsPlain byte bs h)
+clean_plain (byte ∷ bs) h = ap (λ (s : List ℕ). keep byte s) (clean_plain bs (All-tail IsPlain byte bs h))
+    ∙ keep_plain byte bs (All-head IsPlain byte bs h)
 
 -- so is a UID
 pub clean_uid : (uid : List ℕ) → IsUid uid → clean_of uid ≡ uid
-clean_uid uid h = clean_plain uid (subst (λ (s : List ℕ). All IsPlain s) (sym h.joined) (joined_plain h.components h.each))
+clean_uid uid h =
+    clean_plain uid (subst (λ (s : List ℕ). All IsPlain s) (sym h.joined) (joined_plain h.components h.each))
 
 -- a padding byte
 abbrev Pads : ℕ → Type 0
@@ -63,7 +71,8 @@ Pads byte = is_padding byte ≡ true
 
 -- the padding of a UID
 padding_pads : (n : ℕ) → All Pads (padding_of n)
-padding_pads n = elim (n % 2 == 1) as (λ b. All Pads (if b then 0 ∷ [] else [])) [ true ↦ All-cons Pads 0 [] refl (All-nil Pads) | false ↦ All-nil Pads ]
+padding_pads n = elim (n % 2 == 1) as (λ b. All Pads (if b then 0 ∷ [] else []))
+    [ true ↦ All-cons Pads 0 [] refl (All-nil Pads) | false ↦ All-nil Pads ]
 
 -- a UID with its padding
 clean_padded : (uid : List ℕ) → IsUid uid → clean_of (padded uid) ≡ uid
@@ -86,12 +95,16 @@ version_fits : IsContent Explicit max_levels (Some OB) (bytes (0x00 ∷ 0x01 ∷
 version_fits = (λ e. absurd cc, refl, lit< tt)
 
 -- an element with a UID, before others
-uid_valid : (low number : ℕ) (uid : List ℕ) (rest : Elements) → low ≤ 65536 * 2 + number → number < 2 ^ 16 → length uid ≤ 64
-    → AreElements Explicit max_levels (65536 * 2 + number + 1) rest → AreElements Explicit max_levels low (uid_element (record { group = 2; element = number }) uid rest)
-uid_valid low number uid rest above room short others = (above, lit< tt, room, (λ e. absurd (omega (arith, e))), padded_fits uid short, others)
+uid_valid : (low number : ℕ) (uid : List ℕ) (rest : Elements) → low ≤ 65536 * 2 + number → number < 2 ^ 16
+    → length uid ≤ 64
+    → AreElements Explicit max_levels (65536 * 2 + number + 1) rest
+    → AreElements Explicit max_levels low (uid_element (record { group = 2; element = number }) uid rest)
+uid_valid low number uid rest above room short others =
+    (above, lit< tt, room, (λ e. absurd (omega (arith, e))), padded_fits uid short, others)
 
 -- the elements of the group are those of a data set
-group_valid : (meta : Meta) → IsUid meta.class → IsUid meta.instance → IsUid meta.transfer → AreElements Explicit max_levels 0 (group_of meta)
+group_valid : (meta : Meta) → IsUid meta.class → IsUid meta.instance → IsUid meta.transfer
+    → AreElements Explicit max_levels 0 (group_of meta)
 group_valid meta class instance transfer =
     let last = uid_element implementation_tag implementation_uid no_elements in
     let third = uid_element transfer_tag meta.transfer last in
@@ -108,8 +121,16 @@ group_valid meta class instance transfer =
     )
 
 -- a UID is in a group that contains its element
-has_uid : (group : Elements) (tag : Tag) (uid : List ℕ) → IsUid uid → Contains (entries_of group) (record { tag = tag; vr = Some UI; content = bytes (padded uid) }) → HasUid group tag uid
-has_uid group tag uid valid holds = record { vr = Some UI; value = padded uid; holds = holds; is = IsCleanOf_from_is (padded uid) uid (sym (clean_padded uid valid)); valid = valid }
+has_uid : (group : Elements) (tag : Tag) (uid : List ℕ) → IsUid uid
+    → Contains (entries_of group) (record { tag = tag; vr = Some UI; content = bytes (padded uid) })
+    → HasUid group tag uid
+has_uid group tag uid valid holds = record {
+  vr = Some UI;
+  value = padded uid;
+  holds = holds;
+  is = IsCleanOf_from_is (padded uid) uid (sym (clean_padded uid valid));
+  valid = valid;
+}
 
 -- the group holds the meta information
 group_holds : (meta : Meta) → IsUid meta.class → IsUid meta.instance → IsUid meta.transfer → IsMeta (group_of meta) meta
@@ -121,9 +142,14 @@ group_holds meta class instance transfer =
     let v : Entry = record { tag = version_tag; vr = Some OB; content = bytes (0x00 ∷ 0x01 ∷ []) } in
     record {
       alone = alone_from (entries_of (group_of meta)) refl;
-      class = has_uid (group_of meta) class_tag meta.class class (contains_later v c (c ∷ i ∷ t ∷ m ∷ []) (contains_first c (i ∷ t ∷ m ∷ [])));
-      instance = has_uid (group_of meta) instance_tag meta.instance instance (contains_later v i (c ∷ i ∷ t ∷ m ∷ []) (contains_later c i (i ∷ t ∷ m ∷ []) (contains_first i (t ∷ m ∷ []))));
-      transfer = has_uid (group_of meta) transfer_tag meta.transfer transfer (contains_later v t (c ∷ i ∷ t ∷ m ∷ []) (contains_later c t (i ∷ t ∷ m ∷ []) (contains_later i t (t ∷ m ∷ []) (contains_first t (m ∷ [])))));
+      class = has_uid (group_of meta) class_tag meta.class class
+          (contains_later v c (c ∷ i ∷ t ∷ m ∷ []) (contains_first c (i ∷ t ∷ m ∷ [])));
+      instance = has_uid (group_of meta) instance_tag meta.instance instance
+          (contains_later v i (c ∷ i ∷ t ∷ m ∷ [])
+          (contains_later c i (i ∷ t ∷ m ∷ []) (contains_first i (t ∷ m ∷ []))));
+      transfer = has_uid (group_of meta) transfer_tag meta.transfer transfer
+          (contains_later v t (c ∷ i ∷ t ∷ m ∷ [])
+          (contains_later c t (i ∷ t ∷ m ∷ []) (contains_later i t (t ∷ m ∷ []) (contains_first t (m ∷ [])))));
     }
 
 -- ---- the whole
@@ -133,13 +159,25 @@ regroup : (a b c d e : List ℕ) → (a ++ (b ++ (c ++ d))) ++ e ≡ a ++ (b ++ 
 regroup a b c d e = simp append_assoc
 
 -- the group is short
-group_short : (meta : Meta) → IsUid meta.class → IsUid meta.instance → IsUid meta.transfer → length (group_text meta) ≤ 268
+group_short : (meta : Meta) → IsUid meta.class → IsUid meta.instance → IsUid meta.transfer
+    → length (group_text meta) ≤ 268
 group_short meta class instance transfer =
-    omega (arith, length_group meta, length_padded meta.class, length_padded meta.instance, length_padded meta.transfer, class.short, instance.short, transfer.short)
+    omega (
+      arith,
+      length_group meta,
+      length_padded meta.class,
+      length_padded meta.instance,
+      length_padded meta.transfer,
+      class.short,
+      instance.short,
+      transfer.short,
+    )
 
 -- a head with a data set behind it is a file
-pub head_is_file : (meta : Meta) (syntax : Syntax) (set : Elements) (text : List ℕ) → IsUid meta.class → IsUid meta.instance → IsUid meta.transfer
-    → syntax_of meta.transfer ≡ Some syntax → Spells syntax set text → StartsAbove set → IsFile (head_text meta ++ text) meta set (length (head_text meta))
+pub head_is_file : (meta : Meta) (syntax : Syntax) (set : Elements) (text : List ℕ) → IsUid meta.class
+    → IsUid meta.instance → IsUid meta.transfer
+    → syntax_of meta.transfer ≡ Some syntax → Spells syntax set text → StartsAbove set
+    → IsFile (head_text meta ++ text) meta set (length (head_text meta))
 unfolding head_text group_text
 head_is_file meta syntax set text class instance transfer known follows above =
     let short : length (group_text meta) ≤ 268 = group_short meta class instance transfer in

@@ -1,5 +1,7 @@
 -- The head of a file, part by part.
-use Rattle.std.proofs.Common.{◌≡◌, ◌≢◌, ℕ, ◌+◌, ◌%◌, ◌==◌, Bool, true, false, if◌then◌else◌, List, [], ◌∷◌, ◌++◌, length, replicate, Some, refl, sym, ap, ◌∙◌, arith, append_assoc, append-nil, length-append}
+use Rattle.std.proofs.Common.{◌≡◌, ◌≢◌, ℕ, ◌+◌, ◌%◌, ◌==◌, Bool, true, false, if◌then◌else◌, List, [], ◌∷◌, ◌++◌}
+use Rattle.std.proofs.Common.{length, replicate, Some, refl, sym, ap, ◌∙◌, arith, append_assoc, append-nil}
+use Rattle.std.proofs.Common.{length-append}
 use Rattle.std.proofs.lemmas.Bool.{eqb-true, eqb-false}
 use Rattle.dd_elem.specs.declared.tag.Tag.{Tag}
 use Rattle.dd_elem.specs.declared.vr.Vr.TheVariants.{UI}
@@ -8,7 +10,8 @@ use Rattle.dd_set.specs.Spelling.{elements_text, tag_text, shape_text, header_te
 use Rattle.dd_part10.specs.declared.meta.Meta.{Meta}
 use Rattle.dd_part10.specs.File.{prefix, group_length_text}
 use Rattle.dd_part10.specs.Meta.{class_tag, instance_tag, transfer_tag}
-use Rattle.dd_part10.specs.Head.{head_text, group_text, uids_text, uid_text, uid_element, version_text, padded, padding_of, implementation_tag, implementation_uid}
+use Rattle.dd_part10.specs.Head.{head_text, group_text, uids_text, uid_text, uid_element, version_text, padded}
+use Rattle.dd_part10.specs.Head.{padding_of, implementation_tag, implementation_uid}
 
 -- ---- padding
 
@@ -27,23 +30,32 @@ length_padding n = length_one_if n (n % 2 == 1) refl
 
 -- a UID takes as many bytes as it has characters, or one more
 pub length_padded : (uid : List ℕ) → length (padded uid) ≡ length uid + length uid % 2
-length_padded uid = length-append uid (padding_of (length uid)) ∙ ap (λ (k : ℕ). length uid + k) (length_padding (length uid))
+length_padded uid =
+    length-append uid (padding_of (length uid)) ∙ ap (λ (k : ℕ). length uid + k) (length_padding (length uid))
 
 -- ---- an element with a UID
 
 -- it stands before the others
-uid_first : (tag : Tag) (uid : List ℕ) (rest : Elements) → elements_text (uid_element tag uid rest) ≡ uid_text tag uid ++ elements_text rest
-uid_first tag uid rest = sym (append_assoc (tag_text tag) (content_text (Some UI) (bytes (padded uid))) (elements_text rest))
+uid_first : (tag : Tag) (uid : List ℕ) (rest : Elements)
+    → elements_text (uid_element tag uid rest) ≡ uid_text tag uid ++ elements_text rest
+uid_first tag uid rest =
+    sym (append_assoc (tag_text tag) (content_text (Some UI) (bytes (padded uid))) (elements_text rest))
 
 -- its header has 8 bytes
 length_uid : (tag : Tag) (uid : List ℕ) → length (uid_text tag uid) ≡ 8 + length (padded uid)
 length_uid tag uid =
-    omega (arith, length-append (tag_text tag) (content_text (Some UI) (bytes (padded uid))), length-append (shape_text (Some UI) (length (padded uid))) (padded uid))
+    omega (
+      arith,
+      length-append (tag_text tag) (content_text (Some UI) (bytes (padded uid))),
+      length-append (shape_text (Some UI) (length (padded uid))) (padded uid),
+    )
 
 -- it is sent as its header, the characters and the padding
-pub uid_parts : (tag : Tag) (uid padding : List ℕ) (n : ℕ) → padding ≡ padding_of (length uid) → n ≡ length uid + length padding → header_text tag (Some UI) n ++ (uid ++ padding) ≡ uid_text tag uid
+pub uid_parts : (tag : Tag) (uid padding : List ℕ) (n : ℕ) → padding ≡ padding_of (length uid)
+    → n ≡ length uid + length padding → header_text tag (Some UI) n ++ (uid ++ padding) ≡ uid_text tag uid
 uid_parts tag uid padding n is n_is =
-    let len : n ≡ length (padded uid) = n_is ∙ sym (length-append uid padding) ∙ ap (λ (p : List ℕ). length (uid ++ p)) is in
+    let len : n ≡ length (padded uid) = n_is ∙ sym (length-append uid padding)
+    ∙ ap (λ (p : List ℕ). length (uid ++ p)) is in
     ap (λ (p : List ℕ). header_text tag (Some UI) n ++ (uid ++ p)) is
     ∙ append_assoc (tag_text tag) (shape_text (Some UI) n) (padded uid)
     ∙ ap (λ (k : ℕ). tag_text tag ++ (shape_text (Some UI) k ++ padded uid)) len
@@ -54,12 +66,16 @@ uid_parts tag uid padding n is n_is =
 pub group_parts : (meta : Meta) → group_text meta ≡ version_text ++ uids_text meta
 unfolding group_text uids_text
 group_parts meta =
-    let last : elements_text (uid_element implementation_tag implementation_uid no_elements) ≡ uid_text implementation_tag implementation_uid =
-    uid_first implementation_tag implementation_uid no_elements ∙ append-nil (uid_text implementation_tag implementation_uid) in
+    let last : elements_text (uid_element implementation_tag implementation_uid no_elements)
+    ≡ uid_text implementation_tag implementation_uid =
+    uid_first implementation_tag implementation_uid no_elements
+    ∙ append-nil (uid_text implementation_tag implementation_uid) in
     let two = uid_element implementation_tag implementation_uid no_elements in
     let three = uid_element transfer_tag meta.transfer two in
     let four = uid_element instance_tag meta.instance three in
-    let all : elements_text (uid_element class_tag meta.class four) ≡ uid_text class_tag meta.class ++ (uid_text instance_tag meta.instance ++ (uid_text transfer_tag meta.transfer ++ uid_text implementation_tag implementation_uid)) =
+    let all : elements_text (uid_element class_tag meta.class four) ≡ uid_text class_tag meta.class
+    ++ (uid_text instance_tag meta.instance ++ (uid_text transfer_tag meta.transfer
+    ++ uid_text implementation_tag implementation_uid)) =
     uid_first class_tag meta.class four
     ∙ ap (λ (s : List ℕ). uid_text class_tag meta.class ++ s) (uid_first instance_tag meta.instance three
     ∙ ap (λ (s : List ℕ). uid_text instance_tag meta.instance ++ s) (uid_first transfer_tag meta.transfer two
@@ -67,23 +83,33 @@ group_parts meta =
     ap (λ (s : List ℕ). version_text ++ s) all
 
 -- how many bytes it has
-pub length_group : (meta : Meta) → length (group_text meta) ≡ 76 + length (padded meta.class) + length (padded meta.instance) + length (padded meta.transfer)
+pub length_group : (meta : Meta) → length (group_text meta)
+    ≡ 76 + length (padded meta.class) + length (padded meta.instance) + length (padded meta.transfer)
 unfolding uids_text
 length_group meta =
     let last = uid_text implementation_tag implementation_uid in
     let three = uid_text transfer_tag meta.transfer ++ last in
     let two = uid_text instance_tag meta.instance ++ three in
-    let whole : length (group_text meta) ≡ length (version_text ++ (uid_text class_tag meta.class ++ two)) = ap length (group_parts meta) in
-    let a : length (version_text ++ (uid_text class_tag meta.class ++ two)) ≡ 14 + length (uid_text class_tag meta.class ++ two) = length-append version_text (uid_text class_tag meta.class ++ two) in
-    let b : length (uid_text class_tag meta.class ++ two) ≡ length (uid_text class_tag meta.class) + length two = length-append (uid_text class_tag meta.class) two in
-    let c : length two ≡ length (uid_text instance_tag meta.instance) + length three = length-append (uid_text instance_tag meta.instance) three in
-    let d : length three ≡ length (uid_text transfer_tag meta.transfer) + 38 = length-append (uid_text transfer_tag meta.transfer) last in
+    let whole : length (group_text meta) ≡ length (version_text ++ (uid_text class_tag meta.class ++ two)) = ap length
+    (group_parts meta) in
+    let a : length (version_text ++ (uid_text class_tag meta.class ++ two))
+    ≡ 14 + length (uid_text class_tag meta.class ++ two) = length-append version_text
+    (uid_text class_tag meta.class ++ two) in
+    let b : length (uid_text class_tag meta.class ++ two)
+    ≡ length (uid_text class_tag meta.class) + length two = length-append (uid_text class_tag meta.class) two in
+    let c : length two ≡ length (uid_text instance_tag meta.instance) + length three = length-append
+    (uid_text instance_tag meta.instance) three in
+    let d : length three ≡ length (uid_text transfer_tag meta.transfer) + 38 = length-append
+    (uid_text transfer_tag meta.transfer) last in
     let e : length (uid_text class_tag meta.class) ≡ 8 + length (padded meta.class) = length_uid class_tag meta.class in
-    let f : length (uid_text instance_tag meta.instance) ≡ 8 + length (padded meta.instance) = length_uid instance_tag meta.instance in
-    let g : length (uid_text transfer_tag meta.transfer) ≡ 8 + length (padded meta.transfer) = length_uid transfer_tag meta.transfer in
+    let f : length (uid_text instance_tag meta.instance)
+    ≡ 8 + length (padded meta.instance) = length_uid instance_tag meta.instance in
+    let g : length (uid_text transfer_tag meta.transfer)
+    ≡ 8 + length (padded meta.transfer) = length_uid transfer_tag meta.transfer in
     sum_of (length (group_text meta)) _ _ _ _ _ _ _ _ _ _ whole a b c d e f g
   where
-    sum_of : (n whole one two three u v w x y z : ℕ) → n ≡ whole → whole ≡ 14 + one → one ≡ u + two → two ≡ v + three → three ≡ w + 38 → u ≡ 8 + x → v ≡ 8 + y → w ≡ 8 + z → n ≡ 76 + x + y + z
+    sum_of : (n whole one two three u v w x y z : ℕ) → n ≡ whole → whole ≡ 14 + one → one ≡ u + two → two ≡ v + three
+        → three ≡ w + 38 → u ≡ 8 + x → v ≡ 8 + y → w ≡ 8 + z → n ≡ 76 + x + y + z
     sum_of n whole one two three u v w x y z p a b c d e f g = omega arith
 
 -- ---- the head
@@ -93,7 +119,8 @@ regroup : (a b c d : List ℕ) → a ++ (b ++ (c ++ d)) ≡ (a ++ (b ++ c)) ++ d
 regroup a b c d = ap (λ (s : List ℕ). a ++ s) (sym (append_assoc b c d)) ∙ sym (append_assoc a (b ++ c) d)
 
 -- it is sent as the preamble, the start of the group, and the UIDs
-pub head_parts : (meta : Meta) → head_text meta ≡ replicate 128 0 ++ ((prefix ++ (group_length_text (length (group_text meta)) ++ version_text)) ++ uids_text meta)
+pub head_parts : (meta : Meta) → head_text meta ≡ replicate 128 0
+    ++ ((prefix ++ (group_length_text (length (group_text meta)) ++ version_text)) ++ uids_text meta)
 unfolding head_text
 head_parts meta =
     let count : List ℕ = group_length_text (length (group_text meta)) in
@@ -105,7 +132,9 @@ pub length_head : (meta : Meta) → length (head_text meta) ≡ 144 + length (gr
 unfolding head_text
 length_head meta =
     let count : List ℕ = group_length_text (length (group_text meta)) in
-    let a : length (head_text meta) ≡ 128 + length (prefix ++ (count ++ group_text meta)) = length-append (replicate 128 0) (prefix ++ (count ++ group_text meta)) in
-    let b : length (prefix ++ (count ++ group_text meta)) ≡ 4 + length (count ++ group_text meta) = length-append prefix (count ++ group_text meta) in
+    let a : length (head_text meta) ≡ 128 + length (prefix ++ (count ++ group_text meta)) = length-append
+    (replicate 128 0) (prefix ++ (count ++ group_text meta)) in
+    let b : length (prefix ++ (count ++ group_text meta))
+    ≡ 4 + length (count ++ group_text meta) = length-append prefix (count ++ group_text meta) in
     let c : length (count ++ group_text meta) ≡ 12 + length (group_text meta) = length-append count (group_text meta) in
     omega (arith, a, b, c)

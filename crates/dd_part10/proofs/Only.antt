@@ -1,5 +1,7 @@
 -- What is a file is read as one.
-use Rattle.std.proofs.Common.{◌≡◌, ℕ, ◌+◌, ◌^◌, ◌<◌, ◌≤◌, true, false, if◌then◌else◌, nat_lt, List, ◌++◌, length, drop, Option, Some, Result, Ok, Err, refl, sym, ap, subst, ◌∙◌, arith, append_assoc, length-append}
+use Rattle.std.proofs.Common.{◌≡◌, ℕ, ◌+◌, ◌^◌, ◌<◌, ◌≤◌, true, false, if◌then◌else◌, nat_lt, List, ◌++◌, length, drop}
+use Rattle.std.proofs.Common.{Option, Some, Result, Ok, Err, refl, sym, ap, subst, ◌∙◌, arith, append_assoc}
+use Rattle.std.proofs.Common.{length-append}
 use Rattle.std.specs.Int.{w32, from_le_bytes}
 use Rattle.std.specs.Option.{ok_or}
 use Rattle.std.proofs.lemmas.Bool.{le-ltb, lt-ltb}
@@ -20,12 +22,14 @@ use Rattle.dd_set.specs.Spelling.{Spells, header_text, max_levels, AreElements}
 use Rattle.dd_set.proofs.Again.{all_again}
 use Rattle.dd_set.proofs.Steps.{long_again}
 use Rattle.dd_part10.specs.declared.fault.FileFault.{FileFault}
-use Rattle.dd_part10.specs.declared.fault.FileFault.TheVariants.{NotPart10, GroupLength, MetaMissing, MetaUid, OtherSyntax}
+use Rattle.dd_part10.specs.declared.fault.FileFault.TheVariants.{NotPart10, GroupLength, MetaMissing, MetaUid}
+use Rattle.dd_part10.specs.declared.fault.FileFault.TheVariants.{OtherSyntax}
 use Rattle.dd_part10.specs.declared.fault.FileFault.TheVariants as faults
 use Rattle.dd_part10.specs.declared.meta.Meta.{Meta}
 use Rattle.dd_part10.specs.File.{preamble_length, prefix, max_group_length, group_length_text, StartsAbove, IsFile}
 use Rattle.dd_part10.specs.Meta.{group_length_tag, class_tag, instance_tag, transfer_tag, HasUid, IsMeta}
-use Rattle.dd_part10.specs.Reading.{◌>>=◌, with_fault, behind, behind_prefix, behind_length, group_and_set, is_alone, uid_of, uid_at, uids_in, meta_in, starts_above, set_in, read_file}
+use Rattle.dd_part10.specs.Reading.{◌>>=◌, with_fault, behind, behind_prefix, behind_length, group_and_set, is_alone}
+use Rattle.dd_part10.specs.Reading.{uid_of, uid_at, uids_in, meta_in, starts_above, set_in, read_file}
 use Rattle.dd_part10.specs.Syntaxes.{syntax_of}
 use Rattle.dd_part10.proofs.Found.{length_parts, with_set, with_syntax, with_meta, with_parts, with_rest}
 use Rattle.dd_part10.proofs.Fronts.{behind-front}
@@ -35,22 +39,27 @@ use Rattle.dd_part10.proofs.Tags.{found_in, alone_to}
 -- ---- the preamble, the prefix and the group length
 
 -- behind the prefix
-prefix_again : (preamble rest : List ℕ) → length preamble ≡ preamble_length → behind_prefix (preamble ++ (prefix ++ rest)) ≡ Ok rest
+prefix_again : (preamble rest : List ℕ) → length preamble ≡ preamble_length
+    → behind_prefix (preamble ++ (prefix ++ rest)) ≡ Ok rest
 unfolding behind_prefix
 prefix_again preamble rest len =
     let at : drop 128 (preamble ++ (prefix ++ rest)) ≡ prefix ++ rest = drop_at preamble (prefix ++ rest) 128 len in
-    ap (λ (s : List ℕ). ok_or (behind prefix s) NotPart10) at ∙ ap (λ (o : Option (List ℕ)). ok_or o NotPart10) (behind-front prefix rest)
+    ap (λ (s : List ℕ). ok_or (behind prefix s) NotPart10) at
+    ∙ ap (λ (o : Option (List ℕ)). ok_or o NotPart10) (behind-front prefix rest)
 
 -- the bytes that the length counts
-split_again : (group set : List ℕ) → length group ≤ max_group_length → group_and_set (length group) (group ++ set) ≡ Ok (group, set)
+split_again : (group set : List ℕ) → length group ≤ max_group_length
+    → group_and_set (length group) (group ++ set) ≡ Ok (group, set)
 split_again group set short =
     let one : nat_lt max_group_length (length group) ≡ false = le-ltb _ _ short in
-    let two : nat_lt (length (group ++ set)) (length group) ≡ false = le-ltb _ _ (omega (arith, length-append group set)) in
+    let two : nat_lt (length (group ++ set)) (length group)
+    ≡ false = le-ltb _ _ (omega (arith, length-append group set)) in
     rw (one, two, take_at group set (length group) refl, drop_at group set (length group) refl) refl
 
 -- a number and as many bytes
 number_again : (n : ℕ) (bs : List ℕ) (x : List ℕ × List ℕ) → n < 2 ^ 32 → group_and_set n bs ≡ Ok x
-    → (if nat_lt (length (little_bytes 4 n ++ bs)) 4 then Err GroupLength else group_and_set (from_le_bytes w32 (little_bytes 4 n ++ bs)) (drop 4 (little_bytes 4 n ++ bs))) ≡ Ok x
+    → (if nat_lt (length (little_bytes 4 n ++ bs)) 4 then Err GroupLength
+    else group_and_set (from_le_bytes w32 (little_bytes 4 n ++ bs)) (drop 4 (little_bytes 4 n ++ bs))) ≡ Ok x
 number_again n bs x room e =
     let rest : List ℕ = little_bytes 4 n ++ bs in
     let len : length rest ≡ 4 + length bs = length-append (little_bytes 4 n) bs in
@@ -61,15 +70,19 @@ number_again n bs x room e =
     ∙ ap (λ (k : ℕ). group_and_set k (drop 4 rest)) is ∙ ap (λ (s : List ℕ). group_and_set n s) behind_it ∙ e
 
 -- behind the group length
-length_again : (group set : List ℕ) → length group ≤ max_group_length → behind_length (group_length_text (length group) ++ (group ++ set)) ≡ Ok (group, set)
+length_again : (group set : List ℕ) → length group ≤ max_group_length
+    → behind_length (group_length_text (length group) ++ (group ++ set)) ≡ Ok (group, set)
 unfolding behind_length
 length_again group set short =
     let header : List ℕ = header_text group_length_tag (Some UL) 4 in
     let rest : List ℕ = little_bytes 4 (length group) ++ (group ++ set) in
-    let next : List ℕ → Result (List ℕ × List ℕ) FileFault = λ r. if nat_lt (length r) 4 then Err GroupLength else group_and_set (from_le_bytes w32 r) (drop 4 r) in
+    let next : List ℕ → Result (List ℕ × List ℕ) FileFault = λ r. if nat_lt (length r) 4 then Err GroupLength
+    else group_and_set (from_le_bytes w32 r) (drop 4 r) in
     let parts : group_length_text (length group) ++ (group ++ set) ≡ header ++ rest =
-    ap (λ (s : List ℕ). s ++ (group ++ set)) (length_parts (length group)) ∙ append_assoc header (little_bytes 4 (length group)) (group ++ set) in
-    let there : ok_or (behind header (header ++ rest)) GroupLength ≡ Ok rest = ap (λ (o : Option (List ℕ)). ok_or o GroupLength) (behind-front header rest) in
+    ap (λ (s : List ℕ). s ++ (group ++ set)) (length_parts (length group))
+    ∙ append_assoc header (little_bytes 4 (length group)) (group ++ set) in
+    let there : ok_or (behind header (header ++ rest)) GroupLength
+    ≡ Ok rest = ap (λ (o : Option (List ℕ)). ok_or o GroupLength) (behind-front header rest) in
     ap (λ (s : List ℕ). ok_or (behind header s) GroupLength >>= next) parts
     ∙ onward (ok_or (behind header (header ++ rest)) GroupLength) rest next there
     ∙ number_again (length group) (group ++ set) (group, set) (omega (arith, short)) (split_again group set short)
@@ -77,37 +90,50 @@ length_again group set short =
 -- ---- the meta information
 
 -- a UID that is there
-uid_again : (tag : Tag) (group : Elements) (uid : List ℕ) → AreElements Explicit max_levels 0 group → HasUid group tag uid → uid_at tag group ≡ Ok uid
+uid_again : (tag : Tag) (group : Elements) (uid : List ℕ) → AreElements Explicit max_levels 0 group
+    → HasUid group tag uid → uid_at tag group ≡ Ok uid
 unfolding uid_at
 uid_again tag group uid valid h =
     let e : Entry = record { tag = tag; vr = h.vr; content = bytes h.value } in
     let next : Entry → Result (List ℕ) FileFault = λ x. uid_of tag x.content in
-    let found : ok_or (find_in tag group) (MetaMissing tag) ≡ Ok e = ap (λ (o : Option Entry). ok_or o (MetaMissing tag)) (found_in Explicit max_levels 0 group e valid h.holds) in
+    let found : ok_or (find_in tag group) (MetaMissing tag)
+    ≡ Ok e = ap (λ (o : Option Entry). ok_or o (MetaMissing tag))
+    (found_in Explicit max_levels 0 group e valid h.holds) in
     let same : clean_of h.value ≡ uid = sym (same_from_IsCleanOf h.value uid h.is) in
-    let is : is_uid (clean_of h.value) ≡ true = is_uid_from_IsUid (clean_of h.value) (subst (λ (u : List ℕ). IsUid u) (sym same) h.valid) in
+    let is : is_uid (clean_of h.value) ≡ true = is_uid_from_IsUid (clean_of h.value)
+    (subst (λ (u : List ℕ). IsUid u) (sym same) h.valid) in
     onward (ok_or (find_in tag group) (MetaMissing tag)) e next found
     ∙ into (is_uid (clean_of h.value)) (Ok (clean_of h.value)) (Err (MetaUid tag)) is
     ∙ ap (λ (u : List ℕ). Ok u) same
 
 -- the three UIDs
-uids_again : (group : Elements) (meta : Meta) → AreElements Explicit max_levels 0 group → IsMeta group meta → uids_in group ≡ Ok meta
+uids_again : (group : Elements) (meta : Meta) → AreElements Explicit max_levels 0 group → IsMeta group meta
+    → uids_in group ≡ Ok meta
 unfolding uids_in
 uids_again group meta valid h =
-    let made : List ℕ → List ℕ → List ℕ → Result Meta FileFault = λ c i t. Ok (record { class = c; instance = i; transfer = t }) in
-    onward (uid_at class_tag group) meta.class (λ (c : List ℕ). uid_at instance_tag group >>= λ (i : List ℕ). uid_at transfer_tag group >>= λ (t : List ℕ). made c i t) (uid_again class_tag group meta.class valid h.class)
-    ∙ onward (uid_at instance_tag group) meta.instance (λ (i : List ℕ). uid_at transfer_tag group >>= λ (t : List ℕ). made meta.class i t) (uid_again instance_tag group meta.instance valid h.instance)
-    ∙ onward (uid_at transfer_tag group) meta.transfer (λ (t : List ℕ). made meta.class meta.instance t) (uid_again transfer_tag group meta.transfer valid h.transfer)
+    let made : List ℕ → List ℕ → List ℕ → Result Meta FileFault = λ c i t. Ok
+    (record { class = c; instance = i; transfer = t }) in
+    onward (uid_at class_tag group) meta.class
+    (λ (c : List ℕ). uid_at instance_tag group >>= λ (i : List ℕ). uid_at transfer_tag group
+    >>= λ (t : List ℕ). made c i t) (uid_again class_tag group meta.class valid h.class)
+    ∙ onward (uid_at instance_tag group) meta.instance
+    (λ (i : List ℕ). uid_at transfer_tag group >>= λ (t : List ℕ). made meta.class i t)
+    (uid_again instance_tag group meta.instance valid h.instance)
+    ∙ onward (uid_at transfer_tag group) meta.transfer (λ (t : List ℕ). made meta.class meta.instance t)
+    (uid_again transfer_tag group meta.transfer valid h.transfer)
 
 -- bytes that spell a set are read as that set
 read_again : (syntax : Syntax) (set : Elements) (text : List ℕ) → Spells syntax set text → read_all syntax text ≡ Ok set
 read_again syntax set text h = ap (λ (s : List ℕ). read_all syntax s) h.whole ∙ all_again syntax set h.valid
 
 -- the meta information
-meta_again : (text : List ℕ) (group : Elements) (meta : Meta) → Spells Explicit group text → IsMeta group meta → meta_in text ≡ Ok meta
+meta_again : (text : List ℕ) (group : Elements) (meta : Meta) → Spells Explicit group text → IsMeta group meta
+    → meta_in text ≡ Ok meta
 unfolding meta_in
 meta_again text group meta spelled h =
     let next : Elements → Result Meta FileFault = λ g. if is_alone g then uids_in g else Err GroupLength in
-    let read : with_fault faults.Meta (read_all Explicit text) ≡ Ok group = ap (λ r. with_fault faults.Meta r) (read_again Explicit group text spelled) in
+    let read : with_fault faults.Meta (read_all Explicit text)
+    ≡ Ok group = ap (λ r. with_fault faults.Meta r) (read_again Explicit group text spelled) in
     onward (with_fault faults.Meta (read_all Explicit text)) group next read
     ∙ into (is_alone group) (uids_in group) (Err GroupLength) (alone_to (entries_of group) h.alone)
     ∙ uids_again group meta spelled.valid h
@@ -120,27 +146,32 @@ above_to no_elements h = refl
 above_to (element tag vr content rest) h = lt-ltb _ _ h
 
 -- the data set
-set_again : (syntax : Syntax) (text : List ℕ) (set : Elements) → Spells syntax set text → StartsAbove set → set_in syntax text ≡ Ok set
+set_again : (syntax : Syntax) (text : List ℕ) (set : Elements) → Spells syntax set text → StartsAbove set
+    → set_in syntax text ≡ Ok set
 unfolding set_in
 set_again syntax text set spelled above =
     let next : Elements → Result Elements FileFault = λ s. if starts_above s then Ok s else Err GroupLength in
-    let read : with_fault faults.Set (read_all syntax text) ≡ Ok set = ap (λ r. with_fault faults.Set r) (read_again syntax set text spelled) in
+    let read : with_fault faults.Set (read_all syntax text)
+    ≡ Ok set = ap (λ r. with_fault faults.Set r) (read_again syntax set text spelled) in
     onward (with_fault faults.Set (read_all syntax text)) set next read
     ∙ into (starts_above set) (Ok set) (Err GroupLength) (above_to set above)
 
 -- ---- the whole
 
 -- what is a file is read as one
-pub file_only : (file : List ℕ) (meta : Meta) (set : Elements) (set_at : ℕ) → IsFile file meta set set_at → read_file file ≡ Ok (record { meta = meta; set = set; set_at = set_at })
+pub file_only : (file : List ℕ) (meta : Meta) (set : Elements) (set_at : ℕ) → IsFile file meta set set_at
+    → read_file file ≡ Ok (record { meta = meta; set = set; set_at = set_at })
 unfolding read_file
 file_only file meta set set_at h =
     let parts : List ℕ × List ℕ = (h.group_text, h.set_text) in
     let rest : List ℕ = group_length_text (length h.group_text) ++ (h.group_text ++ h.set_text) in
-    let known : ok_or (syntax_of meta.transfer) (OtherSyntax meta.transfer) ≡ Ok h.syntax = ap (λ (o : Option Syntax). ok_or o (OtherSyntax meta.transfer)) h.known in
+    let known : ok_or (syntax_of meta.transfer) (OtherSyntax meta.transfer)
+    ≡ Ok h.syntax = ap (λ (o : Option Syntax). ok_or o (OtherSyntax meta.transfer)) h.known in
     ap (λ (s : List ℕ). behind_prefix s >>= with_rest) h.parts
     ∙ onward (behind_prefix (h.preamble ++ (prefix ++ rest))) rest with_rest (prefix_again h.preamble rest h.free)
     ∙ onward (behind_length rest) parts with_parts (length_again h.group_text h.set_text h.short)
     ∙ onward (meta_in h.group_text) meta (with_meta parts) (meta_again h.group_text h.group meta h.spelled h.holds)
     ∙ onward (ok_or (syntax_of meta.transfer) (OtherSyntax meta.transfer)) h.syntax (with_syntax parts meta) known
-    ∙ onward (set_in h.syntax h.set_text) set (with_set meta (length h.group_text)) (set_again h.syntax h.set_text set h.follows h.above)
+    ∙ onward (set_in h.syntax h.set_text) set (with_set meta (length h.group_text))
+    (set_again h.syntax h.set_text set h.follows h.above)
     ∙ ap (λ (n : ℕ). Ok (record { meta = meta; set = set; set_at = n })) (sym h.place)

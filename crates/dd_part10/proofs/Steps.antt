@@ -6,7 +6,8 @@ use Rattle.dd_part10.specs.declared.fault.FileFault.{FileFault}
 use Rattle.dd_part10.specs.Reading.{◌>>=◌, with_fault}
 
 -- the value of a step that did not fail
-pub bind_ok : {A B : Type 0} (r : Result A FileFault) (f : A → Result B FileFault) (y : B) → (r >>= f) ≡ Ok y → (x : A) × (r ≡ Ok x) × (f x ≡ Ok y)
+pub bind_ok : {A B : Type 0} (r : Result A FileFault) (f : A → Result B FileFault) (y : B) → (r >>= f) ≡ Ok y
+    → (x : A) × (r ≡ Ok x) × (f x ≡ Ok y)
 bind_ok (Ok x) f y e = (x, refl, e)
 bind_ok (Err d) f y e = absurd cc
 
@@ -15,12 +16,14 @@ pub onward : {A B : Type 0} (r : Result A FileFault) (x : A) (f : A → Result B
 onward r x f e = rw e refl
 
 -- a test that refuses did not hold
-pub passes : {A : Type 0} (b : Bool) (d : FileFault) (r : Result A FileFault) (y : A) → (if b then Err d else r) ≡ Ok y → (b ≡ false) × (r ≡ Ok y)
+pub passes : {A : Type 0} (b : Bool) (d : FileFault) (r : Result A FileFault) (y : A) → (if b then Err d else r) ≡ Ok y
+    → (b ≡ false) × (r ≡ Ok y)
 passes true d r y e = absurd cc
 passes false d r y e = (refl, e)
 
 -- a test that lets pass held
-pub allowed : {A : Type 0} (b : Bool) (d : FileFault) (r : Result A FileFault) (y : A) → (if b then r else Err d) ≡ Ok y → (b ≡ true) × (r ≡ Ok y)
+pub allowed : {A : Type 0} (b : Bool) (d : FileFault) (r : Result A FileFault) (y : A) → (if b then r else Err d) ≡ Ok y
+    → (b ≡ true) × (r ≡ Ok y)
 allowed true d r y e = (refl, e)
 allowed false d r y e = absurd cc
 
@@ -30,7 +33,8 @@ there None d y e = absurd cc
 there (Some x) d y e = cc
 
 -- a data set that was read
-pub was_read : {A : Type 0} (fault : SetFault → FileFault) (r : Result A SetFault) (y : A) → with_fault fault r ≡ Ok y → r ≡ Ok y
+pub was_read : {A : Type 0} (fault : SetFault → FileFault) (r : Result A SetFault) (y : A) → with_fault fault r ≡ Ok y
+    → r ≡ Ok y
 was_read fault (Ok x) y e = cc
 was_read fault (Err d) y e = absurd cc
 

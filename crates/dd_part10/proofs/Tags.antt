@@ -1,5 +1,6 @@
 -- The elements of a set by their tags: an element that is there is the one that a search finds.
-use Rattle.std.proofs.Common.{◌≡◌, ◌≢◌, ℕ, zero, suc, ◌+◌, ◌<◌, ◌≤◌, ◌⊎◌, ◌==◌, Bool, true, false, not, List, [], ◌∷◌, Some, Contains, All, refl, sym, ap, ap₂, subst, arith, inl, inr, eq-eqb}
+use Rattle.std.proofs.Common.{◌≡◌, ◌≢◌, ℕ, zero, suc, ◌+◌, ◌<◌, ◌≤◌, ◌⊎◌, ◌==◌, Bool, true, false, not, List, [], ◌∷◌}
+use Rattle.std.proofs.Common.{Some, Contains, All, refl, sym, ap, ap₂, subst, arith, inl, inr, eq-eqb}
 use Rattle.std.specs.Prelude.{find}
 use Rattle.std.specs.List.{list_all}
 use Rattle.std.proofs.lemmas.Bool.{eqb-true, and_parts}
@@ -16,7 +17,8 @@ use Rattle.dd_part10.specs.Reading.{is_meta_tag}
 
 -- numbers that differ
 pub neq_eqb : (a b : ℕ) → (a ≡ b → ⊥) → (a == b) ≡ false
-neq_eqb a b ne = elim (a == b) as (λ v. (a == b) ≡ v → v ≡ false) [ true ↦ λ e. absurd (ne (eqb-true a b e)) | false ↦ λ e. refl ] refl
+neq_eqb a b ne = elim (a == b) as (λ v. (a == b) ≡ v → v ≡ false)
+    [ true ↦ λ e. absurd (ne (eqb-true a b e)) | false ↦ λ e. refl ] refl
 
 -- ---- what a list contains
 
@@ -38,7 +40,8 @@ pub found_there : {X : Type 0} (test : X → Bool) (xs : List X) (x : X) → fin
 found_there test [] x e = absurd cc
 found_there {X} test (y ∷ ys) x e =
     elim (chosen (test y) (Some y) (find test ys) (Some x) e) [
-      | inl here ↦ let same : y ≡ x = some_is y x here.1 in subst (λ (z : X). Contains (z ∷ ys) x) (sym same) (contains_first x ys)
+      | inl here ↦ let same : y ≡ x =
+          some_is y x here.1 in subst (λ (z : X). Contains (z ∷ ys) x) (sym same) (contains_first x ys)
       | inr later ↦ contains_later y x ys (found_there test ys x later.1)
     ]
 
@@ -59,30 +62,37 @@ same_tag-itself t = rw (eq-eqb t.group t.group refl, eq-eqb t.element t.element 
 -- a tag with another number is another tag
 pub same_tag-other : (t u : Tag) → number_of t < number_of u → same_tag t u ≡ false
 same_tag-other t u less = elim (same_tag t u) as (λ b. same_tag t u ≡ b → b ≡ false) [
-  | true ↦ λ e. let same : number_of t ≡ number_of u = ap number_of (same_tag-is t u e) in absurd (omega (arith, same, less))
+  | true ↦ λ e. let same : number_of t ≡ number_of u =
+      ap number_of (same_tag-is t u e) in absurd (omega (arith, same, less))
   | false ↦ λ e. refl
 ] refl
 
 -- no element of a set has a lower tag than the set may have
-pub low_below : (syntax : Syntax) (levels low : ℕ) (set : Elements) (e : Entry) → AreElements syntax levels low set → Contains (entries_of set) e → low ≤ number_of e.tag
+pub low_below : (syntax : Syntax) (levels low : ℕ) (set : Elements) (e : Entry) → AreElements syntax levels low set
+    → Contains (entries_of set) e → low ≤ number_of e.tag
 low_below syntax levels low no_elements e h there = absurd (omega (arith, there.1))
 low_below syntax levels low (element tag vr content rest) e h there =
     elim (contains_cases (record { tag = tag; vr = vr; content = content }) e (entries_of rest) there) [
-      | inl is ↦ let same : number_of tag ≡ number_of e.tag = ap (λ (x : Entry). number_of x.tag) is in omega (arith, h.0, same)
-      | inr later ↦ let more : number_of tag + 1 ≤ number_of e.tag = low_below syntax levels (number_of tag + 1) rest e h.5 later in omega (arith, h.0, more)
+      | inl is ↦ let same : number_of tag ≡ number_of e.tag =
+          ap (λ (x : Entry). number_of x.tag) is in omega (arith, h.0, same)
+      | inr later ↦ let more : number_of tag + 1 ≤ number_of e.tag =
+          low_below syntax levels (number_of tag + 1) rest e h.5 later in omega (arith, h.0, more)
     ]
 
 -- an element of a set is what a search for its tag finds
-pub found_in : (syntax : Syntax) (levels low : ℕ) (set : Elements) (e : Entry) → AreElements syntax levels low set → Contains (entries_of set) e → find_in e.tag set ≡ Some e
+pub found_in : (syntax : Syntax) (levels low : ℕ) (set : Elements) (e : Entry) → AreElements syntax levels low set
+    → Contains (entries_of set) e → find_in e.tag set ≡ Some e
 found_in syntax levels low no_elements e h there = absurd (omega (arith, there.1))
 found_in syntax levels low (element tag vr content rest) e h there =
     let first : Entry = record { tag = tag; vr = vr; content = content } in
     elim (contains_cases first e (entries_of rest) there) [
       | inl is ↦
-          let hit : same_tag tag e.tag ≡ true = subst (λ (x : Entry). same_tag tag x.tag ≡ true) is (same_tag-itself tag) in
+          let hit : same_tag tag e.tag ≡ true = subst (λ (x : Entry). same_tag tag x.tag ≡ true) is
+          (same_tag-itself tag) in
           rw hit (ap (λ (x : Entry). Some x) is)
       | inr later ↦
-          let more : number_of tag + 1 ≤ number_of e.tag = low_below syntax levels (number_of tag + 1) rest e h.5 later in
+          let more : number_of tag + 1 ≤ number_of e.tag = low_below syntax levels
+          (number_of tag + 1) rest e h.5 later in
           let miss : same_tag tag e.tag ≡ false = same_tag-other tag e.tag (omega (arith, more)) in
           rw miss (found_in syntax levels (number_of tag + 1) rest e h.5 later)
     ]
@@ -96,8 +106,11 @@ IsAlone e = (e.tag.group ≡ meta_group) × (e.tag.element ≢ 0x0000)
 -- an element that passes the test
 one_alone : (e : Entry) → is_meta_tag e.tag ≡ true → IsAlone e
 one_alone e h =
-    let p = and_parts (e.tag.group == meta_group) (not (e.tag.element == 0x0000)) h in
-    (eqb-true _ _ p.0, λ is. let hit : (e.tag.element == 0x0000) ≡ true = eq-eqb _ _ is in let both : not (e.tag.element == 0x0000) ≡ false = rw hit refl in absurd cc)
+    let p = and_parts (e.tag.group == meta_group) (not (e.tag.element == 0x0000)) h in (
+      eqb-true _ _ p.0,
+      λ is. let hit : (e.tag.element == 0x0000) ≡ true = eq-eqb _ _ is in
+          let both : not (e.tag.element == 0x0000) ≡ false = rw hit refl in absurd cc,
+    )
 
 -- and one that has to
 alone_one : (e : Entry) → IsAlone e → is_meta_tag e.tag ≡ true

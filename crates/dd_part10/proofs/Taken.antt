@@ -1,5 +1,7 @@
 -- What was taken of a file, front by front, is what reading it in memory gives.
-use Rattle.std.proofs.Common.{◌≡◌, ◌≢◌, ◌≤◌, ◌<◌, ◌+◌, ℕ, true, false, if◌then◌else◌, nat_lt, List, [], ◌++◌, length, take, drop, Result, Ok, Err, refl, sym, ap, ◌∙◌, arith, inl, inr, append-nil, length-append}
+use Rattle.std.proofs.Common.{◌≡◌, ◌≢◌, ◌≤◌, ◌<◌, ◌+◌, ℕ, true, false, if◌then◌else◌, nat_lt, List, [], ◌++◌, length}
+use Rattle.std.proofs.Common.{take, drop, Result, Ok, Err, refl, sym, ap, ◌∙◌, arith, inl, inr, append-nil}
+use Rattle.std.proofs.Common.{length-append}
 use Rattle.std.specs.Result.{MatchResult, IsErrAnd}
 use Rattle.std.proofs.lemmas.Bool.{cases_lt, lt-ltb, le-ltb}
 use Rattle.std.proofs.lemmas.List.{length-drop}
@@ -23,8 +25,10 @@ use Rattle.dd_part10.specs.declared.scanned.Scanned.{Scanned}
 use Rattle.dd_part10.specs.File.{prefix}
 use Rattle.dd_part10.specs.Gives.{Fails, Gives}
 use Rattle.dd_part10.specs.Memory.{WantsNone, IsRefused}
-use Rattle.dd_part10.specs.Reading.{◌>>=◌, behind, behind_prefix, behind_length, meta_in, starts_above, set_in, read_file}
-use Rattle.dd_part10.specs.Taking.{count_in, split_at, syntax_in, may_follow, whole_with, CountTaken, MetaTaken, HeadTaken, SetTaken, FileTaken}
+use Rattle.dd_part10.specs.Reading.{◌>>=◌, behind, behind_prefix, behind_length, meta_in, starts_above, set_in}
+use Rattle.dd_part10.specs.Reading.{read_file}
+use Rattle.dd_part10.specs.Taking.{count_in, split_at, syntax_in, may_follow, whole_with, CountTaken, MetaTaken}
+use Rattle.dd_part10.specs.Taking.{HeadTaken, SetTaken, FileTaken}
 use Rattle.dd_part10.proofs.Cuts.{prefix_cut, length_is, count_cut, count_long, starts_above-is}
 use Rattle.dd_part10.proofs.Faults.{fails_along, refused, refused_so, set_fails, bind_fails}
 use Rattle.dd_part10.proofs.Found.{with_syntax, with_meta, with_parts, with_rest}
@@ -41,22 +45,27 @@ prefix_long front rest h =
     let is = behind-is prefix (drop 128 front) rest (there (behind prefix (drop 128 front)) NotPart10 rest h) in
     omega (arith, ap length is, length-append prefix rest, length-drop 128 front)
 
-pub prefix_taken : (front behind rest : List ℕ) → length front ≤ 132 → behind_prefix front ≡ Ok behind → behind_prefix (front ++ rest) ≡ Ok rest
-prefix_taken front behind rest few h = prefix_cut front rest (omega (arith, few, prefix_long front behind h)) ∙ onward (behind_prefix front) behind (λ _. Ok rest) h
+pub prefix_taken : (front behind rest : List ℕ) → length front ≤ 132 → behind_prefix front ≡ Ok behind
+    → behind_prefix (front ++ rest) ≡ Ok rest
+prefix_taken front behind rest few h = prefix_cut front rest (omega (arith, few, prefix_long front behind h))
+    ∙ onward (behind_prefix front) behind (λ _. Ok rest) h
 
 -- they were not found, in 132 bytes or in all that there are
-pub prefix_fails : (e : FileFault) (front rest : List ℕ) → length front ≤ 132 → (length front < 132 → rest ≡ []) → Fails e (behind_prefix front) → Fails e (behind_prefix (front ++ rest))
+pub prefix_fails : (e : FileFault) (front rest : List ℕ) → length front ≤ 132 → (length front < 132 → rest ≡ [])
+    → Fails e (behind_prefix front) → Fails e (behind_prefix (front ++ rest))
 prefix_fails e front rest few over h =
     fails_along e (behind_prefix front) (behind_prefix (front ++ rest)) h (λ f k.
     elim (cases_lt (length front) 132) [
       | inl less ↦ ap behind_prefix (ap (λ (s : List ℕ). front ++ s) (over less) ∙ append-nil front) ∙ k
-      | inr more ↦ prefix_cut front rest (omega (arith, few, more)) ∙ bind_fails (behind_prefix front) (λ _. Ok rest) f k
+      | inr more ↦ prefix_cut front rest (omega (arith, few, more))
+          ∙ bind_fails (behind_prefix front) (λ _. Ok rest) f k
     ])
 
 -- ---- the group length
 
 -- the first 12 bytes say it, or all that there are
-count_stays : (front rest : List ℕ) → length front ≤ 12 → (length front < 12 → rest ≡ []) → count_in (front ++ rest) ≡ count_in front
+count_stays : (front rest : List ℕ) → length front ≤ 12 → (length front < 12 → rest ≡ [])
+    → count_in (front ++ rest) ≡ count_in front
 count_stays front rest few over =
     elim (cases_lt (length front) 12) [
       | inl less ↦ ap count_in (ap (λ (s : List ℕ). front ++ s) (over less) ∙ append-nil front)
@@ -66,26 +75,32 @@ count_stays front rest few over =
 drop_front : (n : ℕ) (front rest : List ℕ) → length front ≡ n → drop n (front ++ rest) ≡ rest
 drop_front n front rest size = ap (λ (k : ℕ). drop k (front ++ rest)) (sym size) ∙ drop-append_seam front rest
 
-pub count_taken : (r : Result ℕ FileFault) (front rest : List ℕ) → length front ≤ 12 → (length front < 12 → rest ≡ []) → Gives (λ n. n) r (count_in front) → CountTaken r (front ++ rest) rest
+pub count_taken : (r : Result ℕ FileFault) (front rest : List ℕ) → length front ≤ 12 → (length front < 12 → rest ≡ [])
+    → Gives (λ n. n) r (count_in front) → CountTaken r (front ++ rest) rest
 count_taken (Ok n) front rest few over h =
     length_is (front ++ rest)
-    ∙ onward (count_in (front ++ rest)) n (λ k. split_at k (drop 12 (front ++ rest))) (count_stays front rest few over ∙ h)
+    ∙ onward (count_in (front ++ rest)) n (λ k. split_at k (drop 12 (front ++ rest)))
+    (count_stays front rest few over ∙ h)
     ∙ ap (λ (s : List ℕ). split_at n s) (drop_front 12 front rest (omega (arith, few, count_long front n h)))
 count_taken (Err e) front rest few over h =
     fails_along e (count_in front) (behind_length (front ++ rest)) h (λ f k.
-    length_is (front ++ rest) ∙ bind_fails (count_in (front ++ rest)) (λ n. split_at n (drop 12 (front ++ rest))) f (count_stays front rest few over ∙ k))
+    length_is (front ++ rest) ∙ bind_fails (count_in (front ++ rest)) (λ n. split_at n (drop 12 (front ++ rest))) f
+    (count_stays front rest few over ∙ k))
 
 -- ---- the meta information
 
 -- no group length
-pub meta_without_count : {X : Type 0} (e : FileFault) (bytes rest : List ℕ) → WantsNone {X = X} (Err e) → CountTaken (Err e) bytes rest → MetaTaken (Err e) bytes rest
+pub meta_without_count : {X : Type 0} (e : FileFault) (bytes rest : List ℕ) → WantsNone {X = X} (Err e)
+    → CountTaken (Err e) bytes rest → MetaTaken (Err e) bytes rest
 meta_without_count e bytes rest none h = (
-  fails_along e (behind_length bytes) (behind_length bytes >>= λ parts. meta_in parts.0) h (λ f k. bind_fails (behind_length bytes) (λ parts. meta_in parts.0) f k),
+  fails_along e (behind_length bytes) (behind_length bytes >>= λ parts. meta_in parts.0) h
+      (λ f k. bind_fails (behind_length bytes) (λ parts. meta_in parts.0) f k),
   λ is. absurd (none.0 (ap (λ f. Err f) is)),
 )
 
 -- fewer bytes than it counts
-pub split_short : (bytes mid rest : List ℕ) (n : ℕ) → behind_length bytes ≡ split_at n mid → length mid < n → MetaTaken (Err GroupLength) bytes rest
+pub split_short : (bytes mid rest : List ℕ) (n : ℕ) → behind_length bytes ≡ split_at n mid → length mid < n
+    → MetaTaken (Err GroupLength) bytes rest
 split_short bytes mid rest n h few =
     let short : split_at n mid ≡ Err GroupLength = rw (lt-ltb (length mid) n few) refl in
     (bind_fails (behind_length bytes) (λ parts. meta_in parts.0) GroupLength (h ∙ short), λ is. absurd cc)
@@ -93,31 +108,39 @@ split_short bytes mid rest n h few =
 -- the bytes that it counts
 split_whole : (group rest : List ℕ) (n : ℕ) → length group ≡ n → split_at n (group ++ rest) ≡ Ok (group, rest)
 split_whole group rest n size =
-    let enough : nat_lt (length (group ++ rest)) n ≡ false = le-ltb (length (group ++ rest)) n (omega (arith, length-append group rest)) in
-    let front : take n (group ++ rest) ≡ group = ap (λ (k : ℕ). take k (group ++ rest)) (sym size) ∙ take-append_seam group rest in
+    let enough : nat_lt (length (group ++ rest)) n
+    ≡ false = le-ltb (length (group ++ rest)) n (omega (arith, length-append group rest)) in
+    let front : take n (group ++ rest) ≡ group = ap (λ (k : ℕ). take k (group ++ rest)) (sym size)
+    ∙ take-append_seam group rest in
     rw (enough, front, drop_front n group rest size) refl
 
-pub meta_taken : (r : Result Meta FileFault) (bytes group rest : List ℕ) (n : ℕ) → behind_length bytes ≡ split_at n (group ++ rest) → length group ≡ n → Gives (λ meta. meta) r (meta_in group)
+pub meta_taken : (r : Result Meta FileFault) (bytes group rest : List ℕ) (n : ℕ)
+    → behind_length bytes ≡ split_at n (group ++ rest) → length group ≡ n → Gives (λ meta. meta) r (meta_in group)
     → (r ≡ Err (faults.Meta Memory) → WantsMemory Explicit group) → MetaTaken r bytes rest
 meta_taken (Ok meta) bytes group rest n h size given wants = (group, h ∙ split_whole group rest n size, given)
 meta_taken (Err e) bytes group rest n h size given wants =
     let parts : behind_length bytes ≡ Ok (group, rest) = h ∙ split_whole group rest n size in (
-      fails_along e (meta_in group) (behind_length bytes >>= λ parts. meta_in parts.0) given (λ f k. onward (behind_length bytes) (group, rest) (λ parts. meta_in parts.0) parts ∙ k),
+      fails_along e (meta_in group) (behind_length bytes >>= λ parts. meta_in parts.0) given
+          (λ f k. onward (behind_length bytes) (group, rest) (λ parts. meta_in parts.0) parts ∙ k),
       λ is. record { group = group; set = rest; parts = parts; wants = wants (ap (λ f. Err f) is) },
     )
 
 -- ---- all before the data set
 
-pub head_without_prefix : {X : Type 0} (e : FileFault) (bytes : List ℕ) → WantsNone {X = X} (Err e) → Fails e (behind_prefix bytes) → IsRefused e bytes
+pub head_without_prefix : {X : Type 0} (e : FileFault) (bytes : List ℕ) → WantsNone {X = X} (Err e)
+    → Fails e (behind_prefix bytes) → IsRefused e bytes
 unfolding read_file
 head_without_prefix e bytes none h =
-    refused_so e bytes none (fails_along e (behind_prefix bytes) (behind_prefix bytes >>= with_rest) h (λ f k. bind_fails (behind_prefix bytes) with_rest f k))
+    refused_so e bytes none (fails_along e (behind_prefix bytes) (behind_prefix bytes >>= with_rest) h
+    (λ f k. bind_fails (behind_prefix bytes) with_rest f k))
 
-parts_fail : (r : Result (List ℕ × List ℕ) FileFault) (f : FileFault) → (r >>= λ parts. meta_in parts.0) ≡ Err f → (r >>= with_parts) ≡ Err f
+parts_fail : (r : Result (List ℕ × List ℕ) FileFault) (f : FileFault) → (r >>= λ parts. meta_in parts.0) ≡ Err f
+    → (r >>= with_parts) ≡ Err f
 parts_fail (Ok parts) f h = bind_fails (meta_in parts.0) (with_meta parts) f h
 parts_fail (Err e) f h = cc
 
-pub head_without_meta : (e : FileFault) (bytes mid rest : List ℕ) → e ≢ faults.Set Memory → behind_prefix bytes ≡ Ok mid → MetaTaken (Err e) mid rest → IsRefused e bytes
+pub head_without_meta : (e : FileFault) (bytes mid rest : List ℕ) → e ≢ faults.Set Memory → behind_prefix bytes ≡ Ok mid
+    → MetaTaken (Err e) mid rest → IsRefused e bytes
 unfolding read_file
 head_without_meta e bytes mid rest none front h =
     refused e bytes
@@ -126,69 +149,88 @@ head_without_meta e bytes mid rest none front h =
     (λ is. let w = h.1 is in group_wants bytes mid w.group w.set front w.parts w.wants)
     (λ is. absurd (none is))
 
-behind_meta : (bytes mid group rest : List ℕ) (meta : Meta) → behind_prefix bytes ≡ Ok mid → behind_length mid ≡ Ok (group, rest) → meta_in group ≡ Ok meta → read_file bytes ≡ with_meta (group, rest) meta
+behind_meta : (bytes mid group rest : List ℕ) (meta : Meta) → behind_prefix bytes ≡ Ok mid
+    → behind_length mid ≡ Ok (group, rest) → meta_in group ≡ Ok meta → read_file bytes ≡ with_meta (group, rest) meta
 unfolding read_file
 behind_meta bytes mid group rest meta front parts holds =
     onward (behind_prefix bytes) mid with_rest front
     ∙ onward (behind_length mid) (group, rest) with_parts parts
     ∙ onward (meta_in group) meta (with_meta (group, rest)) holds
 
-pub head_without_syntax : {X : Type 0} (e : FileFault) (bytes mid rest : List ℕ) (meta : Meta) → WantsNone {X = X} (Err e) → behind_prefix bytes ≡ Ok mid → MetaTaken (Ok meta) mid rest → Fails e (syntax_in meta) → IsRefused e bytes
+pub head_without_syntax : {X : Type 0} (e : FileFault) (bytes mid rest : List ℕ) (meta : Meta)
+    → WantsNone {X = X} (Err e) → behind_prefix bytes ≡ Ok mid → MetaTaken (Ok meta) mid rest → Fails e (syntax_in meta)
+    → IsRefused e bytes
 head_without_syntax e bytes mid rest meta none front taken h =
     refused_so e bytes none (fails_along e (syntax_in meta) (read_file bytes) h (λ f k.
-    behind_meta bytes mid taken.0 rest meta front taken.1 taken.2 ∙ bind_fails (syntax_in meta) (with_syntax (taken.0, rest) meta) f k))
+    behind_meta bytes mid taken.0 rest meta front taken.1 taken.2
+    ∙ bind_fails (syntax_in meta) (with_syntax (taken.0, rest) meta) f k))
 
-pub head_taken : (bytes mid rest : List ℕ) (meta : Meta) (syntax : Syntax) → behind_prefix bytes ≡ Ok mid → MetaTaken (Ok meta) mid rest → syntax_in meta ≡ Ok syntax → HeadTaken (Ok (meta, syntax)) bytes rest
+pub head_taken : (bytes mid rest : List ℕ) (meta : Meta) (syntax : Syntax) → behind_prefix bytes ≡ Ok mid
+    → MetaTaken (Ok meta) mid rest → syntax_in meta ≡ Ok syntax → HeadTaken (Ok (meta, syntax)) bytes rest
 head_taken bytes mid rest meta syntax front taken known = (
   144 + length taken.0,
-  behind_meta bytes mid taken.0 rest meta front taken.1 taken.2 ∙ onward (syntax_in meta) syntax (with_syntax (taken.0, rest) meta) known,
+  behind_meta bytes mid taken.0 rest meta front taken.1 taken.2
+      ∙ onward (syntax_in meta) syntax (with_syntax (taken.0, rest) meta) known,
   has_head bytes mid taken.0 rest meta syntax front taken.1 taken.2 known,
 )
 
 -- ---- the data set
 
 -- a data set that is refused
-set_refused : (e : SetFault) (syntax : Syntax) (bytes : List ℕ) → sets.Fails e (read_all syntax bytes) → Fails (faults.Set e) (set_in syntax bytes)
+set_refused : (e : SetFault) (syntax : Syntax) (bytes : List ℕ) → sets.Fails e (read_all syntax bytes)
+    → Fails (faults.Set e) (set_in syntax bytes)
 unfolding set_in
-set_refused e syntax bytes h = set_fails e (read_all syntax bytes) (λ set. if starts_above set then Ok set else Err GroupLength) h
+set_refused e syntax bytes h =
+    set_fails e (read_all syntax bytes) (λ set. if starts_above set then Ok set else Err GroupLength) h
 
-set_read : (syntax : Syntax) (bytes : List ℕ) (set : Elements) → read_all syntax bytes ≡ Ok set → set_in syntax bytes ≡ (if may_follow (first_of set) then Ok set else Err GroupLength)
+set_read : (syntax : Syntax) (bytes : List ℕ) (set : Elements) → read_all syntax bytes ≡ Ok set
+    → set_in syntax bytes ≡ (if may_follow (first_of set) then Ok set else Err GroupLength)
 unfolding set_in
 set_read syntax bytes set h = rw (h, starts_above-is set) refl
 
 -- one whose first tag may not follow
-pub set_below : (wanted : List Tag) (scan : Scan) (syntax : Syntax) (bytes : List ℕ) → ScanGives wanted (Ok scan) (read_all syntax bytes) → may_follow scan.first ≡ false → set_in syntax bytes ≡ Err GroupLength
+pub set_below : (wanted : List Tag) (scan : Scan) (syntax : Syntax) (bytes : List ℕ)
+    → ScanGives wanted (Ok scan) (read_all syntax bytes) → may_follow scan.first ≡ false
+    → set_in syntax bytes ≡ Err GroupLength
 set_below wanted scan syntax bytes h below =
     let first : may_follow (first_of h.0) ≡ false = ap may_follow (sym h.2.first) ∙ below in
     set_read syntax bytes h.0 h.1 ∙ rw first refl
 
 -- one whose first tag may
-pub set_taken : (wanted : List Tag) (scan : Scan) (syntax : Syntax) (bytes : List ℕ) → ScanGives wanted (Ok scan) (read_all syntax bytes) → may_follow scan.first ≡ true → SetTaken wanted (Ok scan) (set_in syntax bytes)
+pub set_taken : (wanted : List Tag) (scan : Scan) (syntax : Syntax) (bytes : List ℕ)
+    → ScanGives wanted (Ok scan) (read_all syntax bytes) → may_follow scan.first ≡ true
+    → SetTaken wanted (Ok scan) (set_in syntax bytes)
 set_taken wanted scan syntax bytes h above =
     let first : may_follow (first_of h.0) ≡ true = ap may_follow (sym h.2.first) ∙ above in
     (h.0, set_read syntax bytes h.0 h.1 ∙ rw first refl, h.2)
 
 -- a data set that was taken, with its fault as one of the file
-pub mapped_fails : (wanted : List Tag) (r : Result Scan SetFault) (s : Result Scan FileFault) (e : FileFault) (syntax : Syntax) (bytes : List ℕ)
-    → MatchResult r (λ x. s ≡ Ok x) (λ f. IsErrAnd s (λ y. y ≡ faults.Set f)) → s ≡ Err e → ScanGives wanted r (read_all syntax bytes) → Fails e (set_in syntax bytes)
+pub mapped_fails : (wanted : List Tag) (r : Result Scan SetFault) (s : Result Scan FileFault) (e : FileFault)
+    (syntax : Syntax) (bytes : List ℕ)
+    → MatchResult r (λ x. s ≡ Ok x) (λ f. IsErrAnd s (λ y. y ≡ faults.Set f)) → s ≡ Err e
+    → ScanGives wanted r (read_all syntax bytes) → Fails e (set_in syntax bytes)
 mapped_fails wanted (Ok x) s e syntax bytes cases is h = absurd cc
 mapped_fails wanted (Err f) s e syntax bytes cases is h =
     let same : e ≡ faults.Set f = rw is at cases in
     rw same (set_refused f syntax bytes h)
 
-pub mapped_gives : (r : Result Scan SetFault) (s : Result Scan FileFault) (scan : Scan) → MatchResult r (λ x. s ≡ Ok x) (λ f. IsErrAnd s (λ y. y ≡ faults.Set f)) → s ≡ Ok scan → r ≡ Ok scan
+pub mapped_gives : (r : Result Scan SetFault) (s : Result Scan FileFault) (scan : Scan)
+    → MatchResult r (λ x. s ≡ Ok x) (λ f. IsErrAnd s (λ y. y ≡ faults.Set f)) → s ≡ Ok scan → r ≡ Ok scan
 mapped_gives (Ok x) s scan cases is = cc
 mapped_gives (Err f) s scan cases is = absurd (rw is at cases)
 
 -- ---- the whole
 
-pub file_without_set : (e : FileFault) (bytes rest : List ℕ) (meta : Meta) (syntax : Syntax) → e ≢ faults.Meta Memory → HeadTaken (Ok (meta, syntax)) bytes rest → Fails e (set_in syntax rest) → IsRefused e bytes
+pub file_without_set : (e : FileFault) (bytes rest : List ℕ) (meta : Meta) (syntax : Syntax) → e ≢ faults.Meta Memory
+    → HeadTaken (Ok (meta, syntax)) bytes rest → Fails e (set_in syntax rest) → IsRefused e bytes
 file_without_set e bytes rest meta syntax none head h =
-    refused e bytes (fails_along e (set_in syntax rest) (read_file bytes) h (λ f k. head.1 ∙ ap (whole_with meta head.0) k))
+    refused e bytes (fails_along e (set_in syntax rest) (read_file bytes) h
+    (λ f k. head.1 ∙ ap (whole_with meta head.0) k))
     (λ is. absurd (none is))
     (λ is. head.2)
 
-pub file_taken : (wanted : List Tag) (scanned : Scanned) (scan : Scan) (bytes rest : List ℕ) (syntax : Syntax) → scanned.found ≡ scan.found → HeadTaken (Ok (scanned.meta, syntax)) bytes rest
+pub file_taken : (wanted : List Tag) (scanned : Scanned) (scan : Scan) (bytes rest : List ℕ) (syntax : Syntax)
+    → scanned.found ≡ scan.found → HeadTaken (Ok (scanned.meta, syntax)) bytes rest
     → SetTaken wanted (Ok scan) (set_in syntax rest) → FileTaken wanted (Ok scanned) bytes
 file_taken wanted scanned scan bytes rest syntax same head h = (
   record { meta = scanned.meta; set = h.0; set_at = head.0 },

@@ -28,7 +28,8 @@ group_wants file rest group set front split wants =
       wants = wants;
     }
 
-pub has_head : (file rest group set : List ℕ) (meta : Meta) (syntax : Syntax) → behind_prefix file ≡ Ok rest → behind_length rest ≡ Ok (group, set) → meta_in group ≡ Ok meta → syntax_in meta ≡ Ok syntax
+pub has_head : (file rest group set : List ℕ) (meta : Meta) (syntax : Syntax) → behind_prefix file ≡ Ok rest
+    → behind_length rest ≡ Ok (group, set) → meta_in group ≡ Ok meta → syntax_in meta ≡ Ok syntax
     → HasHead file
 has_head file rest group set meta syntax front split holds named =
     record {
@@ -41,7 +42,8 @@ has_head file rest group set meta syntax front split holds named =
       known = there (syntax_of meta.transfer) (OtherSyntax meta.transfer) syntax named;
     }
 
-pub set_wants : (file rest group set : List ℕ) (meta : Meta) (syntax : Syntax) → behind_prefix file ≡ Ok rest → behind_length rest ≡ Ok (group, set) → meta_in group ≡ Ok meta → syntax_in meta ≡ Ok syntax
+pub set_wants : (file rest group set : List ℕ) (meta : Meta) (syntax : Syntax) → behind_prefix file ≡ Ok rest
+    → behind_length rest ≡ Ok (group, set) → meta_in group ≡ Ok meta → syntax_in meta ≡ Ok syntax
     → WantsMemory syntax set → SetWants file
 unfolding has_head
 set_wants file rest group set meta syntax front split holds named wants =

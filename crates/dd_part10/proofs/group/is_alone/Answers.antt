@@ -12,5 +12,6 @@ pub returns : goal.returns
 returns c =
     let es = (out-DataSet c.args.group.now).elements.items in
     let all : c.all.result ≡ list_all (λ e. is_meta_tag e.tag) es =
-    all_from_yields_List (λ e. is_meta_tag e.tag) _ _ c.all.result c.all.ensures.ran (YieldsList-from_slice es cc) (λ x b q k. search (rules, tests)) in
+    all_from_yields_List (λ e. is_meta_tag e.tag) _ _ c.all.result c.all.ensures.ran (YieldsList-from_slice es cc)
+    (λ x b q k. search (rules, tests)) in
     all ∙ sym (is_alone-seen c.args.group.now)

@@ -12,11 +12,14 @@ returns-in_err-count-clause-exact c =
 
 pub returns-then-rest-count-clause-exact : goal.returns-then-rest-count-clause-exact
 returns-then-rest-count-clause-exact c =
-    split_fails c.args.bytes.now c.in_ok-count.field-0 c.in_ok-count.ensures.exact (omega (arith, length-drop 12 c.args.bytes.now, c.if-rest-count.true))
+    split_fails c.args.bytes.now c.in_ok-count.field-0 c.in_ok-count.ensures.exact
+    (omega (arith, length-drop 12 c.args.bytes.now, c.if-rest-count.true))
 
 pub returns-clause-exact : goal.returns-clause-exact
 returns-clause-exact c =
     let n = c.in_ok-count.field-0 in
     let rest = from_place 12 c.args.bytes.now in
-    split_gives c.args.bytes.now _ _ n c.in_ok-count.ensures.exact (omega (arith, length-drop 12 c.args.bytes.now, c.if-rest-count.false))
-    (c.split_at.ensures.front ∙ ap (λ (s : List ℕ). take n s) rest) (c.split_at.ensures.back ∙ ap (λ (s : List ℕ). drop n s) rest)
+    split_gives c.args.bytes.now _ _ n c.in_ok-count.ensures.exact
+    (omega (arith, length-drop 12 c.args.bytes.now, c.if-rest-count.false))
+    (c.split_at.ensures.front ∙ ap (λ (s : List ℕ). take n s) rest)
+    (c.split_at.ensures.back ∙ ap (λ (s : List ℕ). drop n s) rest)

@@ -13,8 +13,10 @@ returns-in_err-sent-clause-sends g c =
     let padding = c.padding_for-padding.result.now in
     let n = length uid + length padding in
     let header = header_text c.args.tag (Some UI) n in
-    let limit : length c.args.uid.now + length c.padding_for-padding.result.now < 2 ^ 16 = omega (arith, c.requires.short, c.padding_for-padding.ensures.few) in
-    rw (p.1, p.2) (sends_same (header ++ (uid ++ padding)) _ _ _ _ _ _ _ (uid_parts c.args.tag uid padding n c.padding_for-padding.ensures.exact refl)
+    let limit : length c.args.uid.now + length c.padding_for-padding.result.now < 2 ^ 16 = omega
+    (arith, c.requires.short, c.padding_for-padding.ensures.few) in
+    rw (p.1, p.2) (sends_same (header ++ (uid ++ padding)) _ _ _ _ _ _ _
+    (uid_parts c.args.tag uid padding n c.padding_for-padding.ensures.exact refl)
     (first_fails header (uid ++ padding) _ _ _ _ _ _ (c.in_err-sent.ensures.sends limit)))
 
 pub returns-in_err-sent-2-clause-sends : goal.returns-in_err-sent-2-clause-sends
@@ -24,8 +26,10 @@ returns-in_err-sent-2-clause-sends g c =
     let padding = c.padding_for-padding.result.now in
     let n = length uid + length padding in
     let header = header_text c.args.tag (Some UI) n in
-    let limit : length c.args.uid.now + length c.padding_for-padding.result.now < 2 ^ 16 = omega (arith, c.requires.short, c.padding_for-padding.ensures.few) in
-    rw (p.1, p.2) (sends_same (header ++ (uid ++ padding)) _ _ _ _ _ _ _ (uid_parts c.args.tag uid padding n c.padding_for-padding.ensures.exact refl)
+    let limit : length c.args.uid.now + length c.padding_for-padding.result.now < 2 ^ 16 = omega
+    (arith, c.requires.short, c.padding_for-padding.ensures.few) in
+    rw (p.1, p.2) (sends_same (header ++ (uid ++ padding)) _ _ _ _ _ _ _
+    (uid_parts c.args.tag uid padding n c.padding_for-padding.ensures.exact refl)
     (then_sends header (uid ++ padding) _ _ _ _ _ _ _ _ _ (c.in_ok-sent.ensures.sends limit)
     (first_fails uid padding _ _ _ _ _ _ c.in_err-sent-2.ensures)))
 
@@ -35,7 +39,9 @@ returns-clause-sends g c =
     let padding = c.padding_for-padding.result.now in
     let n = length uid + length padding in
     let header = header_text c.args.tag (Some UI) n in
-    let limit : length c.args.uid.now + length c.padding_for-padding.result.now < 2 ^ 16 = omega (arith, c.requires.short, c.padding_for-padding.ensures.few) in
-    sends_same (header ++ (uid ++ padding)) _ _ _ _ _ _ _ (uid_parts c.args.tag uid padding n c.padding_for-padding.ensures.exact refl)
+    let limit : length c.args.uid.now + length c.padding_for-padding.result.now < 2 ^ 16 = omega
+    (arith, c.requires.short, c.padding_for-padding.ensures.few) in
+    sends_same (header ++ (uid ++ padding)) _ _ _ _ _ _ _
+    (uid_parts c.args.tag uid padding n c.padding_for-padding.ensures.exact refl)
     (then_sends header (uid ++ padding) _ _ _ _ _ _ _ _ _ (c.in_ok-sent.ensures.sends limit)
     (then_sends uid padding _ _ _ _ _ _ _ _ _ c.in_ok-sent-2.ensures c.send-2.ensures))

@@ -13,7 +13,9 @@ returns-in_err-sent g c =
     let instance = uid_text instance_tag c.args.meta.now.instance in
     let transfer = uid_text transfer_tag c.args.meta.now.transfer in
     let last = uid_text implementation_tag implementation_uid in
-    rw (p.1, p.2) (first_fails class (instance ++ (transfer ++ last)) _ _ _ _ _ _ (sends_same _ class _ _ _ _ _ _ (ap (λ (u : List ℕ). uid_text class_tag u) c.as_bytes.ensures.value) c.in_err-sent.ensures.sends))
+    rw (p.1, p.2) (first_fails class (instance ++ (transfer ++ last)) _ _ _ _ _ _
+    (sends_same _ class _ _ _ _ _ _ (ap (λ (u : List ℕ). uid_text class_tag u) c.as_bytes.ensures.value)
+    c.in_err-sent.ensures.sends))
 
 pub returns-in_err-sent-2 : goal.returns-in_err-sent-2
 unfolding uids_text
@@ -23,8 +25,12 @@ returns-in_err-sent-2 g c =
     let instance = uid_text instance_tag c.args.meta.now.instance in
     let transfer = uid_text transfer_tag c.args.meta.now.transfer in
     let last = uid_text implementation_tag implementation_uid in
-    rw (p.1, p.2) (then_sends class (instance ++ (transfer ++ last)) _ _ _ _ _ _ _ _ _ (sends_same _ class _ _ _ _ _ _ (ap (λ (u : List ℕ). uid_text class_tag u) c.as_bytes.ensures.value) c.in_ok-sent.ensures.sends)
-    (first_fails instance (transfer ++ last) _ _ _ _ _ _ (sends_same _ instance _ _ _ _ _ _ (ap (λ (u : List ℕ). uid_text instance_tag u) c.as_bytes-2.ensures.value) c.in_err-sent-2.ensures.sends)))
+    rw (p.1, p.2) (then_sends class (instance ++ (transfer ++ last)) _ _ _ _ _ _ _ _ _
+    (sends_same _ class _ _ _ _ _ _ (ap (λ (u : List ℕ). uid_text class_tag u) c.as_bytes.ensures.value)
+    c.in_ok-sent.ensures.sends)
+    (first_fails instance (transfer ++ last) _ _ _ _ _ _
+    (sends_same _ instance _ _ _ _ _ _ (ap (λ (u : List ℕ). uid_text instance_tag u) c.as_bytes-2.ensures.value)
+    c.in_err-sent-2.ensures.sends)))
 
 pub returns-in_err-sent-3 : goal.returns-in_err-sent-3
 unfolding uids_text
@@ -34,9 +40,15 @@ returns-in_err-sent-3 g c =
     let instance = uid_text instance_tag c.args.meta.now.instance in
     let transfer = uid_text transfer_tag c.args.meta.now.transfer in
     let last = uid_text implementation_tag implementation_uid in
-    rw (p.1, p.2) (then_sends class (instance ++ (transfer ++ last)) _ _ _ _ _ _ _ _ _ (sends_same _ class _ _ _ _ _ _ (ap (λ (u : List ℕ). uid_text class_tag u) c.as_bytes.ensures.value) c.in_ok-sent.ensures.sends)
-    (then_sends instance (transfer ++ last) _ _ _ _ _ _ _ _ _ (sends_same _ instance _ _ _ _ _ _ (ap (λ (u : List ℕ). uid_text instance_tag u) c.as_bytes-2.ensures.value) c.in_ok-sent-2.ensures.sends)
-    (first_fails transfer (last) _ _ _ _ _ _ (sends_same _ transfer _ _ _ _ _ _ (ap (λ (u : List ℕ). uid_text transfer_tag u) c.as_bytes-3.ensures.value) c.in_err-sent-3.ensures.sends))))
+    rw (p.1, p.2) (then_sends class (instance ++ (transfer ++ last)) _ _ _ _ _ _ _ _ _
+    (sends_same _ class _ _ _ _ _ _ (ap (λ (u : List ℕ). uid_text class_tag u) c.as_bytes.ensures.value)
+    c.in_ok-sent.ensures.sends)
+    (then_sends instance (transfer ++ last) _ _ _ _ _ _ _ _ _
+    (sends_same _ instance _ _ _ _ _ _ (ap (λ (u : List ℕ). uid_text instance_tag u) c.as_bytes-2.ensures.value)
+    c.in_ok-sent-2.ensures.sends)
+    (first_fails transfer (last) _ _ _ _ _ _
+    (sends_same _ transfer _ _ _ _ _ _ (ap (λ (u : List ℕ). uid_text transfer_tag u) c.as_bytes-3.ensures.value)
+    c.in_err-sent-3.ensures.sends))))
 
 pub returns : goal.returns
 unfolding uids_text
@@ -45,7 +57,13 @@ returns g c =
     let instance = uid_text instance_tag c.args.meta.now.instance in
     let transfer = uid_text transfer_tag c.args.meta.now.transfer in
     let last = uid_text implementation_tag implementation_uid in
-    then_sends class (instance ++ (transfer ++ last)) _ _ _ _ _ _ _ _ _ (sends_same _ class _ _ _ _ _ _ (ap (λ (u : List ℕ). uid_text class_tag u) c.as_bytes.ensures.value) c.in_ok-sent.ensures.sends)
-    (then_sends instance (transfer ++ last) _ _ _ _ _ _ _ _ _ (sends_same _ instance _ _ _ _ _ _ (ap (λ (u : List ℕ). uid_text instance_tag u) c.as_bytes-2.ensures.value) c.in_ok-sent-2.ensures.sends)
-    (then_sends transfer (last) _ _ _ _ _ _ _ _ _ (sends_same _ transfer _ _ _ _ _ _ (ap (λ (u : List ℕ). uid_text transfer_tag u) c.as_bytes-3.ensures.value) c.in_ok-sent-3.ensures.sends)
+    then_sends class (instance ++ (transfer ++ last)) _ _ _ _ _ _ _ _ _
+    (sends_same _ class _ _ _ _ _ _ (ap (λ (u : List ℕ). uid_text class_tag u) c.as_bytes.ensures.value)
+    c.in_ok-sent.ensures.sends)
+    (then_sends instance (transfer ++ last) _ _ _ _ _ _ _ _ _
+    (sends_same _ instance _ _ _ _ _ _ (ap (λ (u : List ℕ). uid_text instance_tag u) c.as_bytes-2.ensures.value)
+    c.in_ok-sent-2.ensures.sends)
+    (then_sends transfer (last) _ _ _ _ _ _ _ _ _
+    (sends_same _ transfer _ _ _ _ _ _ (ap (λ (u : List ℕ). uid_text transfer_tag u) c.as_bytes-3.ensures.value)
+    c.in_ok-sent-3.ensures.sends)
     c.send_uid-4.ensures.sends))

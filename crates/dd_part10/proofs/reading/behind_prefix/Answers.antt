@@ -9,7 +9,8 @@ use Rattle.dd_part10.proofs.reading.behind_prefix.Goals as goal
 pub returns-then-bytes-lt-PREAMBLE_LENGTH-clause-exact : goal.returns-then-bytes-lt-PREAMBLE_LENGTH-clause-exact
 unfolding behind_prefix
 returns-then-bytes-lt-PREAMBLE_LENGTH-clause-exact c =
-    ap (λ (o : Option (List ℕ)). ok_or o NotPart10) (behind-short prefix 128 c.args.bytes.now (omega arith) c.if-bytes-lt-PREAMBLE_LENGTH.true)
+    ap (λ (o : Option (List ℕ)). ok_or o NotPart10)
+    (behind-short prefix 128 c.args.bytes.now (omega arith) c.if-bytes-lt-PREAMBLE_LENGTH.true)
 
 pub returns-in-Some-clause-exact : goal.returns-in-Some-clause-exact
 unfolding behind_prefix

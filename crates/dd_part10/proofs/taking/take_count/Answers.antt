@@ -11,6 +11,7 @@ returns-clause-found g c =
     record {
       taken = take c.fill-n.result room;
       moved = c.fill-n.ensures.moved;
-      gives = λ rest t. count_taken c.read_count.result (take c.fill-n.result room) rest (omega (arith, few, c.fill-n.ensures.bound, size))
+      gives = λ rest t. count_taken c.read_count.result (take c.fill-n.result room) rest
+          (omega (arith, few, c.fill-n.ensures.bound, size))
           (λ less. (c.fill-n.ensures.over (omega (arith, few, size, less))).none rest t) c.read_count.ensures.exact;
     }

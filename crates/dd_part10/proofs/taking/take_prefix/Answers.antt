@@ -13,8 +13,10 @@ returns-in_err-behind_prefix-clause-found g c =
     rw (p.1, p.2) (record {
       taken = take c.fill-n.result room;
       moved = c.fill-n.ensures.moved;
-      gives = λ rest t. prefix_fails c.in_err-behind_prefix.field-0.0 (take c.fill-n.result room) rest (omega (arith, few, c.fill-n.ensures.bound, size))
-          (λ less. (c.fill-n.ensures.over (omega (arith, few, size, less))).none rest t) c.in_err-behind_prefix.ensures.exact;
+      gives = λ rest t. prefix_fails c.in_err-behind_prefix.field-0.0 (take c.fill-n.result room) rest
+          (omega (arith, few, c.fill-n.ensures.bound, size))
+          (λ less. (c.fill-n.ensures.over (omega (arith, few, size, less))).none rest t)
+          c.in_err-behind_prefix.ensures.exact;
     })
 
 pub returns-clause-found : goal.returns-clause-found
@@ -25,5 +27,6 @@ returns-clause-found g c =
     record {
       taken = take c.fill-n.result room;
       moved = c.fill-n.ensures.moved;
-      gives = λ rest t. prefix_taken (take c.fill-n.result room) c.in_ok-behind_prefix.field-0.now rest (omega (arith, few, c.fill-n.ensures.bound, size)) c.in_ok-behind_prefix.ensures.exact;
+      gives = λ rest t. prefix_taken (take c.fill-n.result room) c.in_ok-behind_prefix.field-0.now rest
+          (omega (arith, few, c.fill-n.ensures.bound, size)) c.in_ok-behind_prefix.ensures.exact;
     }
