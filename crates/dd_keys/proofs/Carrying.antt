@@ -13,7 +13,8 @@ module _ {R : Type 0} (has_given : R → List ℕ → Type 0) where
     pub held : Holds256 new.hasher given
 
   pub passed : (old new : Digesting R) (given : List ℕ)
-      → Gives (λ d bytes. carried d.reader.ghost_name (λ m. Holds256 d.hasher m) (λ m. has_given d.reader.now m) bytes) old new given
+      → Gives (λ d bytes. carried d.reader.ghost_name (λ m. Holds256 d.hasher m) (λ m. has_given d.reader.now m) bytes)
+      old new given
       → Holds256 old.hasher [] → Passed old new given
   passed old new given h none =
       let digested = h.then (old.reader.ghost_name ∷ 0 ∷ []) (refl, none) in

@@ -20,20 +20,24 @@ use Rattle.dd_keys.specs.declared.fault.KeyFault.TheVariants.{File, NotImage}
 use Rattle.dd_keys.specs.Classes.{image_classes, is_image_class}
 use Rattle.dd_keys.specs.Faults.{table_fault, fault_of, first_fault, IsWantOfMemory}
 use Rattle.dd_keys.specs.Answers.{Answers}
-use Rattle.dd_keys.specs.Table.{charset_row, class_row, instance_row, study_date_row, study_time_row, accession_row, modality_row, description_row, patient_name_row, patient_id_row, study_row, series_row, study_id_row, series_number_row, instance_number_row}
+use Rattle.dd_keys.specs.Table.{charset_row, class_row, instance_row, study_date_row, study_time_row, accession_row}
+use Rattle.dd_keys.specs.Table.{modality_row, description_row, patient_name_row, patient_id_row, study_row, series_row}
+use Rattle.dd_keys.specs.Table.{study_id_row, series_number_row, instance_number_row}
 use Rattle.dd_keys.specs.Values.{or_other, parts_in, patient_in, study_in, series_in}
 use Rattle.dd_keys.specs.Versions.{HasPatient, HasStudy, HasSeries, IsVersion}
 use Rattle.dd_keys.specs.declared.keys.PatientKeys.{PatientKeys}
 use Rattle.dd_keys.specs.declared.keys.StudyKeys.{StudyKeys}
 use Rattle.dd_keys.specs.declared.keys.SeriesKeys.{SeriesKeys}
 use Rattle.dd_keys.specs.declared.parts.Parts.{Parts}
-use Rattle.dd_keys.proofs.Held.{continues, has_key, has_uid, has_wanted_uid, key_passes, key_in-is, uid_passes, uid_in-is}
+use Rattle.dd_keys.proofs.Held.{continues, has_key, has_uid, has_wanted_uid, key_passes, key_in-is, uid_passes}
+use Rattle.dd_keys.proofs.Held.{uid_in-is}
 use Rattle.dd_keys.proofs.ImageClasses.{is_image_class_decides}
 use Rattle.dd_keys.proofs.Passes.{passes, table_fault_none}
 
 -- ---- what is read is the version
 
-pub found_version : (file : List ℕ) (f : FileParts) → IsFile file f.meta f.set f.set_at → Contains image_classes f.meta.class → table_fault f ≡ None → IsVersion file (parts_in (sha256 file) f)
+pub found_version : (file : List ℕ) (f : FileParts) → IsFile file f.meta f.set f.set_at
+    → Contains image_classes f.meta.class → table_fault f ≡ None → IsVersion file (parts_in (sha256 file) f)
 found_version file f is_file image none =
     let p = passes f none in
     record {
@@ -94,7 +98,15 @@ study_is set study h =
     let description = key_in-is set description_row study.description h.description in
     let id = key_in-is set study_id_row study.id h.id in
     let charset = key_in-is set charset_row study.charset h.charset in
-    λ i. record { uid = uid i; date = date i; time = time i; accession = accession i; description = description i; id = id i; charset = charset i }
+    λ i. record {
+      uid = uid i;
+      date = date i;
+      time = time i;
+      accession = accession i;
+      description = description i;
+      id = id i;
+      charset = charset i;
+    }
 
 series_is : (set : Elements) (series : SeriesKeys) → HasSeries set series → series_in set ≡ series
 series_is set series h =
@@ -110,7 +122,8 @@ file_of file version h = record { meta = h.meta; set = h.set; set_at = h.set_at 
 pub version_image : (file : List ℕ) (version : Parts) (h : IsVersion file version) → is_image_class h.meta.class ≡ true
 version_image file version h = (is_image_class_decides h.meta.class).1 h.image
 
-pub version_passes : (file : List ℕ) (version : Parts) (h : IsVersion file version) → table_fault (file_of file version h) ≡ None
+pub version_passes : (file : List ℕ) (version : Parts) (h : IsVersion file version)
+    → table_fault (file_of file version h) ≡ None
 version_passes file version h = table_fault_none (file_of file version h) (record {
   charset = key_passes h.set charset_row version.patient.charset h.patient.charset;
   class = uid_passes h.set class_row h.meta h.meta.class h.class_again (λ other is. cc);
@@ -129,7 +142,8 @@ version_passes file version h = table_fault_none (file_of file version h) (recor
   instance_number = key_passes h.set instance_number_row version.number h.number;
 })
 
-pub version_parts : (file : List ℕ) (version : Parts) (h : IsVersion file version) → parts_in (sha256 file) (file_of file version h) ≡ version
+pub version_parts : (file : List ℕ) (version : Parts) (h : IsVersion file version)
+    → parts_in (sha256 file) (file_of file version h) ≡ version
 version_parts file version h =
     let digest = h.digest in
     let patient = patient_is h.set version.patient h.patient in
@@ -140,7 +154,16 @@ version_parts file version h =
     let transfer = h.transfer in
     let instance = h.instance in
     let back : version ≡ parts_in (sha256 file) (file_of file version h) =
-    λ i. record { digest = digest i; patient = sym patient i; study = sym study i; series = sym series i; number = sym number i; class = class i; transfer = transfer i; instance = instance i } in
+    λ i. record {
+      digest = digest i;
+      patient = sym patient i;
+      study = sym study i;
+      series = sym series i;
+      number = sym number i;
+      class = class i;
+      transfer = transfer i;
+      instance = instance i;
+    } in
     sym back
 
 -- a file of a version fails no check
@@ -178,20 +201,24 @@ refused_answers file (Err fault) refused h = refusal_answers file fault h
 
 -- ---- one version, or a check that fails
 
-pub one_version : (file : List ℕ) (version other : Parts) → IsVersion file version → IsVersion file other → version ≡ other
+pub one_version : (file : List ℕ) (version other : Parts) → IsVersion file version → IsVersion file other
+    → version ≡ other
 one_version file version other h k =
     let same : ◌≡◌ {A = Result FileParts FileFault} (Ok (file_of file version h)) (Ok (file_of file other k)) =
     sym (file_only file h.meta h.set h.set_at h.is_file) ∙ file_only file k.meta k.set k.set_at k.is_file in
     let files : file_of file version h ≡ file_of file other k = cc in
-    sym (version_parts file version h) ∙ ap (λ (f : FileParts). parts_in (sha256 file) f) files ∙ version_parts file other k
+    sym (version_parts file version h) ∙ ap (λ (f : FileParts). parts_in (sha256 file) f) files
+    ∙ version_parts file other k
 
 -- no check of what was read fails
-version_in : (file : List ℕ) (read : Result FileParts FileFault) → AreBytes file → length file < 2 ^ 64 → read_file file ≡ read → fault_of read ≡ None → (version : Parts) × IsVersion file version
+version_in : (file : List ℕ) (read : Result FileParts FileFault) → AreBytes file → length file < 2 ^ 64
+    → read_file file ≡ read → fault_of read ≡ None → (version : Parts) × IsVersion file version
 version_in file (Err fault) fits room is none = absurd (cc)
 version_in file (Ok f) fits room is none =
     let next = continues (is_image_class f.meta.class) (table_fault f) (NotImage f.meta.class) none in
     let image = (is_image_class_decides f.meta.class).0 next.passes in
     (parts_in (sha256 file) f, found_version file f (file_found file f is fits room) image next.rest_none)
 
-pub version_exists : (file : List ℕ) → AreBytes file → length file < 2 ^ 64 → first_fault file ≡ None → (version : Parts) × IsVersion file version
+pub version_exists : (file : List ℕ) → AreBytes file → length file < 2 ^ 64 → first_fault file ≡ None
+    → (version : Parts) × IsVersion file version
 version_exists file fits room none = version_in file (read_file file) fits room refl none

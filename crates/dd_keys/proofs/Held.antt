@@ -1,5 +1,6 @@
 -- What it means for a value that the checks of its row pass.
-use Rattle.std.proofs.Common.{◌≡◌, ◌≤◌, ℕ, Bool, true, false, List, [], ◌∷◌, length, Option, Some, None, if◌then◌else◌, refl, sym, ap, subst, ◌∙◌, arith, nat_lt, bytes_eq}
+use Rattle.std.proofs.Common.{◌≡◌, ◌≤◌, ℕ, Bool, true, false, List, [], ◌∷◌, length, Option, Some, None, if◌then◌else◌}
+use Rattle.std.proofs.Common.{refl, sym, ap, subst, ◌∙◌, arith, nat_lt, bytes_eq}
 use Rattle.std.specs.Prelude.{unwrap_or}
 use Rattle.std.proofs.lemmas.Bool.{ltb-false, le-ltb, cond-true, cond-false}
 use Rattle.std.proofs.lemmas.Slice.Eq.{bytes_eq-Decides}
@@ -20,7 +21,8 @@ use Rattle.dd_keys.specs.Versions.{HasKey, HasUid}
 
 -- ---- a value is its own clean
 
-pub content_value-clean : (content : Content) (value : List ℕ) → content_value content ≡ Some value → clean_of value ≡ value
+pub content_value-clean : (content : Content) (value : List ℕ) → content_value content ≡ Some value
+    → clean_of value ≡ value
 content_value-clean (bytes given) value e =
     let is : clean_of given ≡ value = cc in
     ap clean_of (sym is) ∙ clean_of-clean_of given ∙ is
@@ -30,7 +32,8 @@ entry_value-clean : (entry : Option Entry) (value : List ℕ) → entry_value en
 entry_value-clean None value e = let is : [] ≡ value = cc in ap clean_of (sym is) ∙ is
 entry_value-clean (Some entry) value e = content_value-clean entry.content value e
 
-pub value_at-clean : (tag : Tag) (set : Elements) (value : List ℕ) → value_at tag set ≡ Some value → clean_of value ≡ value
+pub value_at-clean : (tag : Tag) (set : Elements) (value : List ℕ) → value_at tag set ≡ Some value
+    → clean_of value ≡ value
 value_at-clean tag set value e = entry_value-clean (find_in tag set) value e
 
 -- ---- tests that end in no fault
@@ -44,7 +47,8 @@ pub record Continues (test : Bool) (rest : Option KeyFault) : Type 0 where
   pub passes : test ≡ true
   pub rest_none : rest ≡ None
 
-pub continues : (test : Bool) (rest : Option KeyFault) (fault : KeyFault) → (if test then rest else Some fault) ≡ None → Continues test rest
+pub continues : (test : Bool) (rest : Option KeyFault) (fault : KeyFault) → (if test then rest else Some fault) ≡ None
+    → Continues test rest
 continues true rest fault e = record { passes = refl; rest_none = e }
 continues false rest fault e = absurd (cc)
 
@@ -78,7 +82,8 @@ has_key row set e =
 -- a row that has its key passes
 pub key_passes : (set : Elements) (row : KeyRow) (key : List ℕ) → HasKey set row key → key_fault row set ≡ None
 key_passes set row key h =
-    ap (key_fault_of row.tag) h.held ∙ cond-false (nat_lt 1024 (length h.value)) _ _ (le-ltb 1024 (length h.value) h.short)
+    ap (key_fault_of row.tag) h.held ∙ cond-false (nat_lt 1024 (length h.value)) _ _
+    (le-ltb 1024 (length h.value) h.short)
 
 -- and gives it
 pub key_in-is : (set : Elements) (row : KeyRow) (key : List ℕ) → HasKey set row key → key_in row set ≡ key
@@ -93,10 +98,12 @@ pub record UidHeld (wanted held : Option (List ℕ)) : Type 0 where
   pub valid : IsUid value
   pub same : (other : List ℕ) → wanted ≡ Some other → value ≡ other
 
-same_as_wanted : (tag : Tag) (wanted : Option (List ℕ)) (value : List ℕ) → mismatch_of tag wanted value ≡ None → (other : List ℕ) → wanted ≡ Some other → value ≡ other
+same_as_wanted : (tag : Tag) (wanted : Option (List ℕ)) (value : List ℕ) → mismatch_of tag wanted value ≡ None
+    → (other : List ℕ) → wanted ≡ Some other → value ≡ other
 same_as_wanted tag None value e other is = absurd (cc)
 same_as_wanted tag (Some wanted) value e other is =
-    let equal : value ≡ wanted = (bytes_eq-Decides value wanted).0 (continues (bytes_eq value wanted) None (MetaMismatch tag) e).passes in
+    let equal : value ≡ wanted = (bytes_eq-Decides value wanted).0
+    (continues (bytes_eq value wanted) None (MetaMismatch tag) e).passes in
     cc
 
 pub uid_held : (tag : Tag) (wanted held : Option (List ℕ)) → uid_fault_of tag wanted held ≡ None → UidHeld wanted held
@@ -112,31 +119,39 @@ uid_held tag wanted (Some (byte ∷ value)) e =
     }
 
 -- a row whose checks pass has its UID
-pub has_uid : (row : UidRow) (meta : Meta) (set : Elements) → uid_fault row meta set ≡ None → HasUid set row.tag (uid_in row.tag set)
+pub has_uid : (row : UidRow) (meta : Meta) (set : Elements) → uid_fault row meta set ≡ None
+    → HasUid set row.tag (uid_in row.tag set)
 has_uid row meta set e =
     let h = uid_held row.tag (wanted_uid meta row.same_as) (value_at row.tag set) e in
     let is : h.value ≡ uid_in row.tag set = sym (ap (λ (held : Option (List ℕ)). unwrap_or held []) h.is) in
     subst (HasUid set row.tag) is (record { held = h.is; valid = h.valid })
 
 -- a row whose checks pass has the UID of group 0002 that it has to repeat
-pub has_wanted_uid : (row : UidRow) (meta : Meta) (set : Elements) (wanted : List ℕ) → uid_fault row meta set ≡ None → wanted_uid meta row.same_as ≡ Some wanted → HasUid set row.tag wanted
+pub has_wanted_uid : (row : UidRow) (meta : Meta) (set : Elements) (wanted : List ℕ) → uid_fault row meta set ≡ None
+    → wanted_uid meta row.same_as ≡ Some wanted → HasUid set row.tag wanted
 has_wanted_uid row meta set wanted e asks =
     let h = uid_held row.tag (wanted_uid meta row.same_as) (value_at row.tag set) e in
     subst (HasUid set row.tag) (h.same wanted asks) (record { held = h.is; valid = h.valid })
 
-no_mismatch : (tag : Tag) (wanted : Option (List ℕ)) (value : List ℕ) → ((other : List ℕ) → wanted ≡ Some other → value ≡ other) → mismatch_of tag wanted value ≡ None
+no_mismatch : (tag : Tag) (wanted : Option (List ℕ)) (value : List ℕ)
+    → ((other : List ℕ) → wanted ≡ Some other → value ≡ other) → mismatch_of tag wanted value ≡ None
 no_mismatch tag None value same = refl
-no_mismatch tag (Some wanted) value same = cond-true (bytes_eq value wanted) _ _ ((bytes_eq-Decides value wanted).1 (same wanted refl))
+no_mismatch tag (Some wanted) value same =
+    cond-true (bytes_eq value wanted) _ _ ((bytes_eq-Decides value wanted).1 (same wanted refl))
 
-value_passes : (tag : Tag) (wanted : Option (List ℕ)) (value : List ℕ) → IsUid value → ((other : List ℕ) → wanted ≡ Some other → value ≡ other) → uid_fault_of tag wanted (Some value) ≡ None
+value_passes : (tag : Tag) (wanted : Option (List ℕ)) (value : List ℕ) → IsUid value
+    → ((other : List ℕ) → wanted ≡ Some other → value ≡ other) → uid_fault_of tag wanted (Some value) ≡ None
 value_passes tag wanted [] valid same = absurd (omega (arith, valid.not_empty))
 value_passes tag wanted (byte ∷ value) valid same =
-    cond-true (is_uid (byte ∷ value)) _ _ (is_uid_from_IsUid (byte ∷ value) valid) ∙ no_mismatch tag wanted (byte ∷ value) same
+    cond-true (is_uid (byte ∷ value)) _ _ (is_uid_from_IsUid (byte ∷ value) valid)
+    ∙ no_mismatch tag wanted (byte ∷ value) same
 
 -- a row that has its UID passes
-pub uid_passes : (set : Elements) (row : UidRow) (meta : Meta) (uid : List ℕ) → HasUid set row.tag uid → ((other : List ℕ) → wanted_uid meta row.same_as ≡ Some other → uid ≡ other) → uid_fault row meta set ≡ None
+pub uid_passes : (set : Elements) (row : UidRow) (meta : Meta) (uid : List ℕ) → HasUid set row.tag uid
+    → ((other : List ℕ) → wanted_uid meta row.same_as ≡ Some other → uid ≡ other) → uid_fault row meta set ≡ None
 uid_passes set row meta uid h same =
-    ap (uid_fault_of row.tag (wanted_uid meta row.same_as)) h.held ∙ value_passes row.tag (wanted_uid meta row.same_as) uid h.valid same
+    ap (uid_fault_of row.tag (wanted_uid meta row.same_as)) h.held
+    ∙ value_passes row.tag (wanted_uid meta row.same_as) uid h.valid same
 
 -- and gives it
 pub uid_in-is : (set : Elements) (tag : Tag) (uid : List ℕ) → HasUid set tag uid → uid_in tag set ≡ uid

@@ -17,10 +17,13 @@ is_image_class_decides class = (
 )
 
 -- what answers as the test does decides
-pub decides_from_is : (class : List ℕ) (result : Bool) → result ≡ is_image_class class → Decides result (Contains image_classes class)
-decides_from_is class result is = ((λ e. (is_image_class_decides class).0 (sym is ∙ e)), (λ h. is ∙ (is_image_class_decides class).1 h))
+pub decides_from_is : (class : List ℕ) (result : Bool) → result ≡ is_image_class class
+    → Decides result (Contains image_classes class)
+decides_from_is class result is =
+    ((λ e. (is_image_class_decides class).0 (sym is ∙ e)), (λ h. is ∙ (is_image_class_decides class).1 h))
 
 -- a search in the code's table, which has the same classes, is the test
 pub in_table : (class : List ℕ) → list_any (λ known. bytes_eq known.now class) IMAGE_CLASSES ≡ is_image_class class
 unfolding is_image_class
-in_table class = ap (λ (test : List ℕ → Bool). list_any test image_classes) (λ i known. nat_list_eq_equiv.symm known class i)
+in_table class =
+    ap (λ (test : List ℕ → Bool). list_any test image_classes) (λ i known. nat_list_eq_equiv.symm known class i)

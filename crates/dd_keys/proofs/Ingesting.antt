@@ -131,7 +131,8 @@ wanting_reader limit given left old new e read some says = record {
   whole = λ _ _ no. absurd (no says);
 }
 
-pub answers_reader : (limit : ℕ) (given : List ℕ) (left : Option (List ℕ)) (old new : ℕ) (answer : Result Parts KeyFault)
+pub answers_reader : (limit : ℕ) (given : List ℕ) (left : Option (List ℕ)) (old new : ℕ)
+    (answer : Result Parts KeyFault)
     → IsReadWhole limit given left old new → Answers given answer → AnswersReader limit given left old new answer
 answers_reader limit given left old new (Ok parts) read h = record {
   read = λ e. absurd (cc);

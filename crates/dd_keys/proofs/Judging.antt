@@ -1,5 +1,6 @@
 -- The checks and keys by what is told are those of the file whose data set it tells.
-use Rattle.std.proofs.Common.{◌≡◌, ◌<◌, ◌≤◌, ◌⊎◌, inl, inr, ℕ, true, List, [], ◌∷◌, length, take, map, Option, Some, None, Result, Ok, Err}
+use Rattle.std.proofs.Common.{◌≡◌, ◌<◌, ◌≤◌, ◌⊎◌, inl, inr, ℕ, true, List, [], ◌∷◌, length, take, map, Option, Some}
+use Rattle.std.proofs.Common.{None, Result, Ok, Err}
 use Rattle.std.proofs.Common.{if◌then◌else◌, refl, sym, ap, subst, ⊎_elim, ◌∙◌, arith}
 use Rattle.std.specs.Prelude.{unwrap_or, IsSome}
 use Rattle.std.specs.List.{list_all}
@@ -19,10 +20,14 @@ use Rattle.dd_keys.specs.declared.fault.KeyFault.TheVariants.{BadKeyUid, NotImag
 use Rattle.dd_keys.specs.declared.parts.Parts.{Parts}
 use Rattle.dd_keys.specs.Answers.{Answers}
 use Rattle.dd_keys.specs.Classes.{is_image_class}
-use Rattle.dd_keys.specs.Faults.{first, key_fault_of, uid_fault_of, wanted_uid, key_fault, uid_fault, row_fault, table_fault, fault_of, IsWantOfMemory}
+use Rattle.dd_keys.specs.Faults.{first, key_fault_of, uid_fault_of, wanted_uid, key_fault, uid_fault, row_fault}
+use Rattle.dd_keys.specs.Faults.{table_fault, fault_of, IsWantOfMemory}
 use Rattle.dd_keys.specs.Fitting.{Fits}
-use Rattle.dd_keys.specs.Table.{KeyRow, UidRow, Row, key, uid, rows, charset_row, study_date_row, study_time_row, accession_row, modality_row, description_row, patient_name_row, patient_id_row, study_row, series_row, study_id_row, series_number_row, instance_number_row}
-use Rattle.dd_keys.specs.Told.{told_value, tag_of, wanted_tags, TellsSet, front_of, told_key_fault, told_row_fault, told_table_fault, told_fault, told_key, told_uid, told_parts, IsJudged}
+use Rattle.dd_keys.specs.Table.{KeyRow, UidRow, Row, key, uid, rows, charset_row, study_date_row, study_time_row}
+use Rattle.dd_keys.specs.Table.{accession_row, modality_row, description_row, patient_name_row, patient_id_row}
+use Rattle.dd_keys.specs.Table.{study_row, series_row, study_id_row, series_number_row, instance_number_row}
+use Rattle.dd_keys.specs.Told.{told_value, tag_of, wanted_tags, TellsSet, front_of, told_key_fault, told_row_fault}
+use Rattle.dd_keys.specs.Told.{told_table_fault, told_fault, told_key, told_uid, told_parts, IsJudged}
 use Rattle.dd_keys.specs.Values.{value_at, or_other, key_in, uid_in, parts_in}
 use Rattle.dd_keys.proofs.FoundVersions.{found_version, or_other_some, file_of, version_parts, refusal_answers}
 use Rattle.dd_keys.proofs.Held.{continues, key_held, uid_held}
@@ -37,18 +42,21 @@ key_same tag None = refl
 key_same tag (Some value) = refl
 
 -- a value of more bytes than a UID may have is none
-long_uid : (tag : Tag) (wanted : Option (List ℕ)) (value : List ℕ) → 64 < length value → uid_fault_of tag wanted (Some value) ≡ Some (BadKeyUid tag)
+long_uid : (tag : Tag) (wanted : Option (List ℕ)) (value : List ℕ) → 64 < length value
+    → uid_fault_of tag wanted (Some value) ≡ Some (BadKeyUid tag)
 long_uid tag wanted [] long = absurd (omega (arith, long))
 long_uid tag wanted (byte ∷ value) long = cond-false _ _ _ (is_uid-long (byte ∷ value) long)
 
 uid_front : (tag : Tag) (wanted : Option (List ℕ)) (value : List ℕ) → (1024 < length value) ⊎ (length value ≤ 1024)
     → uid_fault_of tag wanted (Some (take 1024 value)) ≡ uid_fault_of tag wanted (Some value)
-uid_front tag wanted value (inr short) = ap (λ (v : List ℕ). uid_fault_of tag wanted (Some v)) (take_all 1024 value short)
+uid_front tag wanted value (inr short) =
+    ap (λ (v : List ℕ). uid_fault_of tag wanted (Some v)) (take_all 1024 value short)
 uid_front tag wanted value (inl long) =
     let size = length-take-le 1024 value (omega (arith, long)) in
     long_uid tag wanted (take 1024 value) (omega (arith, size)) ∙ sym (long_uid tag wanted value (omega (arith, long)))
 
-uid_same : (tag : Tag) (wanted held : Option (List ℕ)) → uid_fault_of tag wanted (front_of (told_value held)) ≡ uid_fault_of tag wanted held
+uid_same : (tag : Tag) (wanted held : Option (List ℕ))
+    → uid_fault_of tag wanted (front_of (told_value held)) ≡ uid_fault_of tag wanted held
 uid_same tag wanted None = refl
 uid_same tag wanted (Some value) = uid_front tag wanted value (cases_lt 1024 (length value))
 
@@ -63,7 +71,8 @@ module _ (tells : Tag → Told) (f : FileParts) (shows : TellsSet tells f.set) w
       → map (told_row_fault f.meta tells) some ≡ map (row_fault f) some
   rows_same [] all = refl
   rows_same (row ∷ some) all =
-      let each = and_parts (is_wanted wanted_tags (tag_of row)) (list_all (λ row. is_wanted wanted_tags (tag_of row)) some) all in
+      let each = and_parts (is_wanted wanted_tags (tag_of row))
+      (list_all (λ row. is_wanted wanted_tags (tag_of row)) some) all in
       let here = row_same row each.0 in
       let others = rows_same some each.1 in
       λ i. here i ∷ others i
@@ -73,7 +82,8 @@ module _ (tells : Tag → Told) (f : FileParts) (shows : TellsSet tells f.set) w
   table_same = ap first (rows_same rows refl)
 
   pub fault_same : told_fault f.meta tells ≡ fault_of (Ok f)
-  fault_same = ap (λ (rest : Option KeyFault). if is_image_class f.meta.class then rest else Some (NotImage f.meta.class)) table_same
+  fault_same = ap (λ (rest : Option KeyFault). if is_image_class f.meta.class then rest
+      else Some (NotImage f.meta.class)) table_same
 
 -- ---- the keys
 
@@ -82,22 +92,28 @@ held_key tag held e =
     let h = key_held tag held e in
     rw h.is (ap (λ (v : List ℕ). Some v) (take_all 1024 h.value h.short))
 
-held_uid : (tag : Tag) (wanted held : Option (List ℕ)) → uid_fault_of tag wanted held ≡ None → front_of (told_value held) ≡ held
+held_uid : (tag : Tag) (wanted held : Option (List ℕ)) → uid_fault_of tag wanted held ≡ None
+    → front_of (told_value held) ≡ held
 held_uid tag wanted held e =
     let h = uid_held tag wanted held e in
     rw h.is (ap (λ (v : List ℕ). Some v) (take_all 1024 h.value (omega (arith, h.valid.short))))
 
 module _ (tells : Tag → Told) (f : FileParts) (shows : TellsSet tells f.set) where
-  front_is : (tag : Tag) → is_wanted wanted_tags tag ≡ true → front_of (told_value (value_at tag f.set)) ≡ value_at tag f.set → front_of (tells tag) ≡ value_at tag f.set
+  front_is : (tag : Tag) → is_wanted wanted_tags tag ≡ true
+      → front_of (told_value (value_at tag f.set)) ≡ value_at tag f.set → front_of (tells tag) ≡ value_at tag f.set
   front_is tag is same = ap front_of (shows tag is) ∙ same
 
-  key_is : (row : KeyRow) → is_wanted wanted_tags row.tag ≡ true → key_fault row f.set ≡ None → told_key tells row ≡ key_in row f.set
+  key_is : (row : KeyRow) → is_wanted wanted_tags row.tag ≡ true → key_fault row f.set ≡ None
+      → told_key tells row ≡ key_in row f.set
   key_is row is e =
-      ap (λ (held : Option (List ℕ)). or_other (unwrap_or held []) row.when_empty) (front_is row.tag is (held_key row.tag (value_at row.tag f.set) e))
+      ap (λ (held : Option (List ℕ)). or_other (unwrap_or held []) row.when_empty)
+      (front_is row.tag is (held_key row.tag (value_at row.tag f.set) e))
 
-  uid_is : (row : UidRow) → is_wanted wanted_tags row.tag ≡ true → uid_fault row f.meta f.set ≡ None → told_uid tells row.tag ≡ uid_in row.tag f.set
+  uid_is : (row : UidRow) → is_wanted wanted_tags row.tag ≡ true → uid_fault row f.meta f.set ≡ None
+      → told_uid tells row.tag ≡ uid_in row.tag f.set
   uid_is row is e =
-      ap (λ (held : Option (List ℕ)). unwrap_or held []) (front_is row.tag is (held_uid row.tag (wanted_uid f.meta row.same_as) (value_at row.tag f.set) e))
+      ap (λ (held : Option (List ℕ)). unwrap_or held [])
+      (front_is row.tag is (held_uid row.tag (wanted_uid f.meta row.same_as) (value_at row.tag f.set) e))
 
   pub parts_same : (digest : List ℕ) → table_fault f ≡ None → told_parts tells digest f.meta ≡ parts_in digest f
   parts_same digest none =
@@ -118,7 +134,15 @@ module _ (tells : Tag → Told) (f : FileParts) (shows : TellsSet tells f.set) w
       λ i. record {
         digest = digest;
         patient = record { id = id i; name = name i; charset = charset i };
-        study = record { uid = study i; date = date i; time = time i; accession = accession i; description = description i; id = study_id i; charset = charset i };
+        study = record {
+          uid = study i;
+          date = date i;
+          time = time i;
+          accession = accession i;
+          description = description i;
+          id = study_id i;
+          charset = charset i;
+        };
         series = record { uid = series i; modality = modality i; number = series_number i };
         number = number i;
         class = f.meta.class;
@@ -127,7 +151,8 @@ module _ (tells : Tag → Told) (f : FileParts) (shows : TellsSet tells f.set) w
       }
 
 -- what is told of a file with a known syntax and an image class fits
-pub told_fit : (digest : List ℕ) (meta : Meta) (tells : Tag → Told) → IsSome (syntax_of meta.transfer) → is_image_class meta.class ≡ true
+pub told_fit : (digest : List ℕ) (meta : Meta) (tells : Tag → Told) → IsSome (syntax_of meta.transfer)
+    → is_image_class meta.class ≡ true
     → Fits (told_parts tells digest meta)
 told_fit digest meta tells known image = record {
   transfer = known;
@@ -144,7 +169,8 @@ told_fit digest meta tells known image = record {
 -- ---- the answer
 
 -- these are the parts of the version of the file
-version_answers : (file : List ℕ) (f : FileParts) (parts : Parts) → read_file file ≡ Ok f → IsFile file f.meta f.set f.set_at
+version_answers : (file : List ℕ) (f : FileParts) (parts : Parts) → read_file file ≡ Ok f
+    → IsFile file f.meta f.set f.set_at
     → fault_of (Ok f) ≡ None → (table_fault f ≡ None → parts ≡ parts_in (sha256 file) f) → Answers file (Ok parts)
 version_answers file f parts read is none same =
     let next = continues (is_image_class f.meta.class) (table_fault f) (NotImage f.meta.class) none in
@@ -160,18 +186,22 @@ version_answers file f parts read is none same =
       fault = tt;
     }
 
-judged : (file : List ℕ) (f : FileParts) (check : Option KeyFault) (parts : Parts) (answer : Result Parts KeyFault) → read_file file ≡ Ok f
-    → IsFile file f.meta f.set f.set_at → check ≡ fault_of (Ok f) → (table_fault f ≡ None → parts ≡ parts_in (sha256 file) f)
+judged : (file : List ℕ) (f : FileParts) (check : Option KeyFault) (parts : Parts) (answer : Result Parts KeyFault)
+    → read_file file ≡ Ok f
+    → IsFile file f.meta f.set f.set_at → check ≡ fault_of (Ok f)
+    → (table_fault f ≡ None → parts ≡ parts_in (sha256 file) f)
     → IsJudged check parts answer → Answers file answer
 judged file f check parts (Ok version) read is same parts_are h =
     version_answers file f version read is (sym same ∙ h.0) (λ none. h.1 ∙ parts_are none)
 judged file f check parts (Err fault) read is same parts_are h =
     let refused = ap fault_of read ∙ sym same in
     refusal_answers file fault
-    (⊎_elim (λ memory. inl (subst (IsWantOfMemory file) (sym memory.1) (refused ∙ memory.0))) (λ fails. inr (refused ∙ fails)) h)
+    (⊎_elim (λ memory. inl (subst (IsWantOfMemory file) (sym memory.1) (refused ∙ memory.0)))
+    (λ fails. inr (refused ∙ fails)) h)
 
 -- the answer by what is told of a file is that for the file
-pub judged_answers : (file digest : List ℕ) (f : FileParts) (tells : Tag → Told) (answer : Result Parts KeyFault) → read_file file ≡ Ok f
+pub judged_answers : (file digest : List ℕ) (f : FileParts) (tells : Tag → Told) (answer : Result Parts KeyFault)
+    → read_file file ≡ Ok f
     → IsFile file f.meta f.set f.set_at → TellsSet tells f.set → digest ≡ sha256 file
     → IsJudged (told_fault f.meta tells) (told_parts tells digest f.meta) answer → Answers file answer
 judged_answers file digest f tells answer read is shows digests h =

@@ -1,8 +1,10 @@
 -- Parts fit where no tag is found whose part does not, and the first one found is the least.
-use Rattle.std.proofs.Common.{◌≡◌, ◌≢◌, ◌≤◌, ℕ, Bool, true, false, ◌&&◌, not, nat_le, List, [], ◌∷◌, Some, None, refl, sym, subst, arith}
+use Rattle.std.proofs.Common.{◌≡◌, ◌≢◌, ◌≤◌, ℕ, Bool, true, false, ◌&&◌, not, nat_le, List, [], ◌∷◌, Some, None, refl}
+use Rattle.std.proofs.Common.{sym, subst, arith}
 use Rattle.std.specs.Prelude.{All, Contains, Option, find, option_map}
 use Rattle.std.proofs.lemmas.Bool.{and_parts, leb-true}
-use Rattle.std.proofs.lemmas.List.Elements.{All-nil, All-cons, All-contains, Contains-push, Contains-append_left, Contains-append_right}
+use Rattle.std.proofs.lemmas.List.Elements.{All-nil, All-cons, All-contains, Contains-push, Contains-append_left}
+use Rattle.std.proofs.lemmas.List.Elements.{Contains-append_right}
 use Rattle.dd_elem.specs.Tag.{number_of}
 use Rattle.dd_elem.specs.declared.tag.Tag.{Tag}
 use Rattle.dd_keys.specs.Fitting.{Fits, Fitting, IsLeastMisfit, fittings, is_empty, least_misfit}
@@ -43,7 +45,8 @@ true_fits : {P : Type 0} → true ≡ false → P
 true_fits contradiction = absurd (cc)
 
 least_of_more : (tag : Tag) (fits : Bool) (fs : List Fitting) (least : Tag) → rises ((tag, fits) ∷ fs) ≡ true
-    → (rises fs ≡ true → first fs ≡ Some least → IsLeastOf fs least) → first ((tag, fits) ∷ fs) ≡ Some least → IsLeastOf ((tag, fits) ∷ fs) least
+    → (rises fs ≡ true → first fs ≡ Some least → IsLeastOf fs least) → first ((tag, fits) ∷ fs) ≡ Some least
+    → IsLeastOf ((tag, fits) ∷ fs) least
 least_of_more tag true fs least up among e =
     let p = and_parts (none_below tag fs) (rises fs) up in
     let found : IsLeastOf fs least = among p.1 e in
@@ -54,7 +57,8 @@ least_of_more tag true fs least up among e =
 least_of_more tag false fs least up among e =
     let p = and_parts (none_below tag fs) (rises fs) up in
     let same : tag ≡ least = cc in
-    let here : Contains ((tag, false) ∷ fs) (tag, false) = Contains-append_left ((tag, false) ∷ []) fs (tag, false) (Contains-push [] (tag, false)) in
+    let here : Contains ((tag, false) ∷ fs) (tag, false) = Contains-append_left ((tag, false) ∷ []) fs (tag, false)
+    (Contains-push [] (tag, false)) in
     record {
       misfit = subst (λ (t : Tag). Contains ((tag, false) ∷ fs) (t, false)) same here;
       least = subst (λ (t : Tag). All (IsAbove t) ((tag, false) ∷ fs)) same
@@ -81,7 +85,8 @@ abbrev AllFit : List Fitting → Type 0
 AllFit [] = Unit {0}
 AllFit (f ∷ fs) = (f.1 ≡ true) × AllFit fs
 
-more_fit : (tag : Tag) (fits : Bool) (fs : List Fitting) → (first fs ≡ None → AllFit fs) → first ((tag, fits) ∷ fs) ≡ None → AllFit ((tag, fits) ∷ fs)
+more_fit : (tag : Tag) (fits : Bool) (fs : List Fitting) → (first fs ≡ None → AllFit fs)
+    → first ((tag, fits) ∷ fs) ≡ None → AllFit ((tag, fits) ∷ fs)
 more_fit tag true fs rest e = (refl, rest e)
 more_fit tag false fs rest e = absurd (cc)
 
@@ -89,7 +94,8 @@ all_fit : (fs : List Fitting) → first fs ≡ None → AllFit fs
 all_fit [] e = tt
 all_fit (f ∷ fs) e = more_fit f.0 f.1 fs (all_fit fs) e
 
-none_of_more : (tag : Tag) (fits : Bool) (fs : List Fitting) → fits ≡ true → first fs ≡ None → first ((tag, fits) ∷ fs) ≡ None
+none_of_more : (tag : Tag) (fits : Bool) (fs : List Fitting) → fits ≡ true → first fs ≡ None
+    → first ((tag, fits) ∷ fs) ≡ None
 none_of_more tag true fs fit rest = rest
 none_of_more tag false fs fit rest = absurd (cc)
 

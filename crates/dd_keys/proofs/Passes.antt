@@ -7,14 +7,18 @@ use Rattle.dd_part10.specs.declared.meta.Meta.{Meta}
 use Rattle.dd_keys.specs.declared.fault.KeyFault.{KeyFault}
 use Rattle.dd_keys.specs.Faults.{first, row_fault, table_fault}
 use Rattle.dd_keys.specs.Told.{told_row_fault, told_table_fault}
-use Rattle.dd_keys.specs.Table.{Row, key, uid, rows, charset_row, class_row, instance_row, study_date_row, study_time_row, accession_row, modality_row, description_row, patient_name_row, patient_id_row, study_row, series_row, study_id_row, series_number_row, instance_number_row}
+use Rattle.dd_keys.specs.Table.{Row, key, uid, rows, charset_row, class_row, instance_row, study_date_row}
+use Rattle.dd_keys.specs.Table.{study_time_row, accession_row, modality_row, description_row, patient_name_row}
+use Rattle.dd_keys.specs.Table.{patient_id_row, study_row, series_row, study_id_row, series_number_row}
+use Rattle.dd_keys.specs.Table.{instance_number_row}
 
 -- none of these is there
 abbrev NoneThere : List (Option KeyFault) → Type 0
 NoneThere [] = Unit {0}
 NoneThere (fault ∷ faults) = (fault ≡ None) × NoneThere faults
 
-none_more : (fault : Option KeyFault) (faults : List (Option KeyFault)) → (first faults ≡ None → NoneThere faults) → first (fault ∷ faults) ≡ None → NoneThere (fault ∷ faults)
+none_more : (fault : Option KeyFault) (faults : List (Option KeyFault)) → (first faults ≡ None → NoneThere faults)
+    → first (fault ∷ faults) ≡ None → NoneThere (fault ∷ faults)
 none_more None faults rest e = (refl, rest e)
 none_more (Some fault) faults rest e = absurd (cc)
 
@@ -22,7 +26,8 @@ none_there : (faults : List (Option KeyFault)) → first faults ≡ None → Non
 none_there [] e = tt
 none_there (fault ∷ faults) e = none_more fault faults (none_there faults) e
 
-first_more : (fault : Option KeyFault) (faults : List (Option KeyFault)) → fault ≡ None → first faults ≡ None → first (fault ∷ faults) ≡ None
+first_more : (fault : Option KeyFault) (faults : List (Option KeyFault)) → fault ≡ None → first faults ≡ None
+    → first (fault ∷ faults) ≡ None
 first_more None faults here rest = rest
 first_more (Some fault) faults here rest = absurd (cc)
 
@@ -117,6 +122,7 @@ unfolding table_fault
 table_fault_none file p = none_fails (row_fault file) p
 
 -- the same by what is told
-pub told_passes : (meta : Meta) (tells : Tag → Told) → told_table_fault meta tells ≡ None → Passes (told_row_fault meta tells)
+pub told_passes : (meta : Meta) (tells : Tag → Told) → told_table_fault meta tells ≡ None
+    → Passes (told_row_fault meta tells)
 unfolding told_table_fault
 told_passes meta tells e = all_pass (told_row_fault meta tells) e

@@ -34,7 +34,8 @@ found_is : (tag : Tag) (founds : List Found) → told_found tag founds ≡ hits_
 unfolding hit_told hits_told
 found_is tag [] = refl
 found_is tag (found ∷ founds) =
-    found_step (same_tag found.tag tag) found _ (find (λ hit. same_tag hit.tag tag) (map found_hit founds)) (found_is tag founds)
+    found_step (same_tag found.tag tag) found _ (find (λ hit. same_tag hit.tag tag) (map found_hit founds))
+    (found_is tag founds)
 
 -- ---- the hits of a set tell its values at the wanted tags
 
@@ -42,9 +43,11 @@ told_content : (content : Content) → told_of content ≡ told_value (content_v
 told_content (bytes value) = refl
 told_content (items form parts) = refl
 
-hits_step : (keeps is : Bool) (tag : Tag) (e : Entry) (kept : List Entry) (others : Option Entry) → (is ≡ true → keeps ≡ true)
+hits_step : (keeps is : Bool) (tag : Tag) (e : Entry) (kept : List Entry) (others : Option Entry)
+    → (is ≡ true → keeps ≡ true)
     → same_tag e.tag tag ≡ is → hits_told tag (map hit_of kept) ≡ told_value (entry_value others)
-    → hits_told tag (map hit_of (if keeps then (e ∷ kept) else kept)) ≡ told_value (entry_value (if is then Some e else others))
+    → hits_told tag (map hit_of (if keeps then (e ∷ kept) else kept))
+    ≡ told_value (entry_value (if is then Some e else others))
 unfolding hit_told hits_told
 hits_step true true tag e kept others wanted same h = rw same (told_content e.content)
 hits_step true false tag e kept others wanted same h = rw same h
@@ -52,23 +55,28 @@ hits_step false true tag e kept others wanted same h = let no = wanted refl in a
 hits_step false false tag e kept others wanted same h = h
 
 hits_tell : (wanted : List Tag) (tag : Tag) → is_wanted wanted tag ≡ true → (es : List Entry)
-    → hits_told tag (map hit_of (filter (λ e. is_wanted wanted e.tag) es)) ≡ told_value (entry_value (find (λ e. same_tag e.tag tag) es))
+    → hits_told tag (map hit_of (filter (λ e. is_wanted wanted e.tag) es))
+    ≡ told_value (entry_value (find (λ e. same_tag e.tag tag) es))
 unfolding hit_told hits_told
 hits_tell wanted tag is [] = refl
 hits_tell wanted tag is (e ∷ es) =
-    hits_step (is_wanted wanted e.tag) (same_tag e.tag tag) tag e (filter (λ e. is_wanted wanted e.tag) es) (find (λ e. same_tag e.tag tag) es)
+    hits_step (is_wanted wanted e.tag) (same_tag e.tag tag) tag e (filter (λ e. is_wanted wanted e.tag) es)
+    (find (λ e. same_tag e.tag tag) es)
     (λ same. ap (is_wanted wanted) (same_tag-is e.tag tag same) ∙ is) refl (hits_tell wanted tag is es)
 
 -- a scan for the tags of the table tells the values at them
-pub scan_tells : (founds : List Found) (set : Elements) → map found_hit founds ≡ hits_of wanted_tags set → TellsSet (λ tag. told_found tag founds) set
+pub scan_tells : (founds : List Found) (set : Elements) → map found_hit founds ≡ hits_of wanted_tags set
+    → TellsSet (λ tag. told_found tag founds) set
 scan_tells founds set h tag wanted =
     found_is tag founds ∙ ap (hits_told tag) h ∙ hits_tell wanted_tags tag wanted (entries_of set)
 
 -- ---- a front that is not too long for a key is one
 
-value_front : (held : Option (List ℕ)) → ((value : List ℕ) → held ≡ Some value → clean_of value ≡ value) → IsFront (told_value held)
+value_front : (held : Option (List ℕ)) → ((value : List ℕ) → held ≡ Some value → clean_of value ≡ value)
+    → IsFront (told_value held)
 value_front None clean = tt
-value_front (Some value) clean = λ short. subst IsKey (sym (take_all 1024 value short)) (record { clean = clean value refl; short = short })
+value_front (Some value) clean =
+    λ short. subst IsKey (sym (take_all 1024 value short)) (record { clean = clean value refl; short = short })
 
 pub set_fronts : (set : Elements) → AreFronts (λ tag. told_at tag set)
 set_fronts set tag = value_front (value_at tag set) (value_at-clean tag set)
@@ -76,15 +84,18 @@ set_fronts set tag = value_front (value_at tag set) (value_at-clean tag set)
 hits_front : (tag : Tag) (is : Bool) (e : Entry) (others : Option Hit) → IsFront (hit_told others)
     → IsFront (hit_told (if is then Some (hit_of e) else others))
 unfolding hit_told
-hits_front tag true e others h = subst IsFront (sym (told_content e.content)) (value_front (content_value e.content) (content_value-clean e.content))
+hits_front tag true e others h =
+    subst IsFront (sym (told_content e.content)) (value_front (content_value e.content) (content_value-clean e.content))
 hits_front tag false e others h = h
 
 hits_fronts : (tag : Tag) (es : List Entry) → IsFront (hits_told tag (map hit_of es))
 unfolding hit_told hits_told
 hits_fronts tag [] = λ short. record { clean = refl; short = short }
-hits_fronts tag (e ∷ es) = hits_front tag (same_tag e.tag tag) e (find (λ hit. same_tag hit.tag tag) (map hit_of es)) (hits_fronts tag es)
+hits_fronts tag (e ∷ es) =
+    hits_front tag (same_tag e.tag tag) e (find (λ hit. same_tag hit.tag tag) (map hit_of es)) (hits_fronts tag es)
 
 pub scan_fronts : (founds : List Found) (wanted : List Tag) (set : Elements) → map found_hit founds ≡ hits_of wanted set
     → AreFronts (λ tag. told_found tag founds)
 scan_fronts founds wanted set h tag =
-    subst IsFront (sym (found_is tag founds ∙ ap (hits_told tag) h)) (hits_fronts tag (filter (λ e. is_wanted wanted e.tag) (entries_of set)))
+    subst IsFront (sym (found_is tag founds ∙ ap (hits_told tag) h))
+    (hits_fronts tag (filter (λ e. is_wanted wanted e.tag) (entries_of set)))

@@ -39,5 +39,10 @@ returns-clause-gave g c =
     let judged = subst (λ (meta : Meta). IsJudged (told_fault meta (λ tag. told_found tag founds))
     (told_parts (λ tag. told_found tag founds) digest meta) c.version_from.result) s.told.meta c.version_from.ensures in
     let answers = judged_answers h.0 digest s.file (λ tag. told_found tag founds) c.version_from.result s.read s.is
-    (scan_tells founds s.file.set s.told.found) (c.finalize_reset-digest.ensures.digest h.0 p.held) judged in
-    (h.0, p.gave, h.2, answers_reader _ _ _ _ _ _ (record { within = h.3.0.0; ended = h.3.0.1; worked = h.3.0.2 }) answers)
+    (scan_tells founds s.file.set s.told.found) (c.finalize_reset-digest.ensures.digest h.0 p.held) judged in (
+      h.0,
+      p.gave,
+      h.2,
+      answers_reader _ _ _ _ _ _
+          (record { within = h.3.0.0; ended = h.3.0.1; worked = h.3.0.2 }) answers,
+    )

@@ -6,7 +6,8 @@ use Rattle.dd_keys.proofs.reading.version_from.Goals as goal
 
 pub returns-in-Some : goal.returns-in-Some
 returns-in-Some g c =
-    inr (cond-true (is_image_class c.args.meta.now.class) _ _ (sym c.if-not-is_image_class.ensures.test) ∙ sym c.in-Some.ensures)
+    inr (cond-true (is_image_class c.args.meta.now.class) _ _ (sym c.if-not-is_image_class.ensures.test)
+    ∙ sym c.in-Some.ensures)
 
 pub fitting-requires : goal.fitting-requires
 fitting-requires g c =

@@ -23,5 +23,6 @@ version_from-requires-clause-fronts c = set_fronts (set_view c.in_ok-file.file.s
 
 pub returns : goal.returns
 returns c =
-    judged_answers c.args.bytes.now c.digest.result (file_view c.in_ok-file.file) (λ tag. told_at tag (set_view c.in_ok-file.file.set)) _
+    judged_answers c.args.bytes.now c.digest.result (file_view c.in_ok-file.file)
+    (λ tag. told_at tag (set_view c.in_ok-file.file.set)) _
     c.in_ok-file.ensures.fault c.in_ok-file.ensures.found (λ tag _. refl) c.digest.ensures c.version_from.ensures

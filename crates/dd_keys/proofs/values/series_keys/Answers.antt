@@ -5,7 +5,9 @@ pub uid-requires : goal.uid-requires
 uid-requires g c = (told_passes c.args.meta.now (g.V.Values.tells c.args.values.now) c.requires.passes).series
 
 pub key-requires-clause-passes : goal.key-requires-clause-passes
-key-requires-clause-passes g c = (told_passes c.args.meta.now (g.V.Values.tells c.args.values.now) c.requires.passes).modality
+key-requires-clause-passes g c =
+    (told_passes c.args.meta.now (g.V.Values.tells c.args.values.now) c.requires.passes).modality
 
 pub key-requires-2-clause-passes : goal.key-requires-2-clause-passes
-key-requires-2-clause-passes g c = (told_passes c.args.meta.now (g.V.Values.tells c.args.values.now) c.requires.passes).series_number
+key-requires-2-clause-passes g c =
+    (told_passes c.args.meta.now (g.V.Values.tells c.args.values.now) c.requires.passes).series_number
