@@ -10,11 +10,14 @@ use Rattle.dd_catalogue.specs.Rising.{Orders}
 use Rattle.dd_catalogue.specs.BestLaws.{best_push}
 use Rattle.dd_catalogue.proofs.BestMembers.{best_of_same}
 
-one_more : {V : Type 0} (m : List V) (i : ℕ) (x : V) → i < length m → x ≡ get_or m i x → take (i + 1) m ≡ take i m ++ x ∷ []
+one_more : {V : Type 0} (m : List V) (i : ℕ) (x : V) → i < length m → x ≡ get_or m i x
+    → take (i + 1) m ≡ take i m ++ x ∷ []
 one_more m i x below read = take_more m i x below ∙ ap (λ y. take i m ++ y ∷ []) (sym read)
 
-pub taken_more : {B V K : Type 0} {key : V → K} {keys : K → K → Ordering} {values : V → V → Ordering} (o : Orders key keys values) (now : B → V) (xs : List B) (t t' : List V) (i : ℕ) (x : B)
-    → i < length xs → x ≡ get_or xs i x → t ≡ best key keys values (map now (take i xs)) → t' ≡ best key keys values (now x ∷ t)
+pub taken_more : {B V K : Type 0} {key : V → K} {keys : K → K → Ordering} {values : V → V → Ordering}
+    (o : Orders key keys values) (now : B → V) (xs : List B) (t t' : List V) (i : ℕ) (x : B)
+    → i < length xs → x ≡ get_or xs i x → t ≡ best key keys values (map now (take i xs))
+    → t' ≡ best key keys values (now x ∷ t)
     → t' ≡ best key keys values (map now (take (i + 1) xs))
 taken_more {key = key} {keys = keys} {values = values} o now xs t t' i x below read before after =
     after ∙ ap (λ y. best key keys values (now x ∷ y)) before ∙ best_push o (now x) (map now (take i xs))
@@ -24,7 +27,10 @@ taken_more {key = key} {keys = keys} {values = values} o now xs t t' i x below r
 permuted : {V : Type 0} (vs ws : List V) → IsPermutation vs ws → SameMembers ws vs
 permuted vs ws p = λ v. (Contains-permutation ws vs v (IsPermutation-sym vs ws p), Contains-permutation vs ws v p)
 
-pub taken_all : {B V K : Type 0} {key : V → K} {keys : K → K → Ordering} {values : V → V → Ordering} (o : Orders key keys values) (now : B → V) (vs : List V) (xs : List B) (t : List V) (n : ℕ)
-    → IsPermutation vs (map now xs) → length xs ≤ n → t ≡ best key keys values (map now (take n xs)) → t ≡ best key keys values vs
+pub taken_all : {B V K : Type 0} {key : V → K} {keys : K → K → Ordering} {values : V → V → Ordering}
+    (o : Orders key keys values) (now : B → V) (vs : List V) (xs : List B) (t : List V) (n : ℕ)
+    → IsPermutation vs (map now xs) → length xs ≤ n → t ≡ best key keys values (map now (take n xs))
+    → t ≡ best key keys values vs
 taken_all {key = key} {keys = keys} {values = values} o now vs xs t n same all is =
-    is ∙ ap (λ y. best key keys values (map now y)) (take_all n xs all) ∙ best_of_same o (map now xs) vs (permuted vs (map now xs) same)
+    is ∙ ap (λ y. best key keys values (map now y)) (take_all n xs all)
+    ∙ best_of_same o (map now xs) vs (permuted vs (map now xs) same)

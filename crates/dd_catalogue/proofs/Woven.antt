@@ -1,5 +1,6 @@
 -- Two lists that rise by key, woven into one: the first value of their best, and how many keys are compared.
-use Rattle.std.specs.Prelude.{◌≡◌, ◌<◌, ◌+◌, ◌↔◌, ℕ, List, [], ◌∷◌, ◌++◌, Option, Some, None, Bool, true, false, cond, ◌&&◌, length, get_or, IsSome}
+use Rattle.std.specs.Prelude.{◌≡◌, ◌<◌, ◌+◌, ◌↔◌, ℕ, List, [], ◌∷◌, ◌++◌, Option, Some, None, Bool, true, false, cond}
+use Rattle.std.specs.Prelude.{◌&&◌, length, get_or, IsSome}
 use Rattle.std.specs.List.{AllByRecursion, count_by}
 use Rattle.std.specs.Option.{option_to_list}
 use Rattle.std.specs.Ordering.{is_lt}
@@ -11,7 +12,8 @@ use Rattle.std.proofs.lemmas.Cmp.{tied_itself, tied_back}
 use Rattle.dd_catalogue.specs.Best.{IsAbove, IsRising, best, put, greater}
 use Rattle.dd_catalogue.specs.BestLaws.{best_comm, best_of_rising}
 use Rattle.dd_catalogue.specs.Compared.{is_reached, is_compared, compared}
-use Rattle.dd_catalogue.specs.Rising.{Orders, by_test, above-put, above_trans, less_turned, greater_turned, greater_comm, greater-key}
+use Rattle.dd_catalogue.specs.Rising.{Orders, by_test, above-put, above_trans, less_turned, greater_turned}
+use Rattle.dd_catalogue.specs.Rising.{greater_comm, greater-key}
 use Rattle.dd_catalogue.specs.Weaving.{IsStep}
 
 -- ---- the least key

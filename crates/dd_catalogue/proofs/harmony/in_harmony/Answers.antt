@@ -10,23 +10,33 @@ use Rattle.dd_catalogue.proofs.harmony.in_harmony.Goals as goal
 pub fitting-requires : goal.fitting-requires
 fitting-requires c =
     let m = c.args.versions.now in
-    let i = item_member m c.loop-version.version-index c.version-item.result c.loop-version-test.true c.version-item.is in
-    let is = agreed_from m c.version-item.result c.parts.result.now c.in_ok-parts.parts c.in_ok-patients.patients c.in_ok-studies.studies c.in_ok-series.series
-    c.in_ok-patients.ensures.table c.in_ok-studies.ensures c.in_ok-series.ensures c.parts.ensures.value i c.in_ok-parts.ensures in
-    rw is (agreed_fits m c.version-item.result (λ w h. All-contains Fits m w c.in_ok-patients.ensures.fit (contained w m h)) i)
+    let i = item_member m c.loop-version.version-index c.version-item.result c.loop-version-test.true c.version-item.is
+    in
+    let is = agreed_from m c.version-item.result c.parts.result.now c.in_ok-parts.parts c.in_ok-patients.patients
+    c.in_ok-studies.studies c.in_ok-series.series
+    c.in_ok-patients.ensures.table c.in_ok-studies.ensures c.in_ok-series.ensures c.parts.ensures.value i
+    c.in_ok-parts.ensures in
+    rw is (agreed_fits m c.version-item.result
+    (λ w h. All-contains Fits m w c.in_ok-patients.ensures.fit (contained w m h)) i)
 
 pub loop-version-preserved : goal.loop-version-preserved
 loop-version-preserved c =
     let m = c.args.versions.now in
-    let i = item_member m c.loop-version.version-index c.version-item.result c.loop-version-test.true c.version-item.is in
-    let is = agreed_from m c.version-item.result c.parts.result.now c.in_ok-parts.parts c.in_ok-patients.patients c.in_ok-studies.studies c.in_ok-series.series
-    c.in_ok-patients.ensures.table c.in_ok-studies.ensures c.in_ok-series.ensures c.parts.ensures.value i c.in_ok-parts.ensures in
-    map_more (agreed m) m c.loop-version.version-index c.version-item.result c.loop-version.held.items c.push.new.self.items c.loop-version-test.true c.version-item.is
-    c.loop-version.invariant (c.in_ok-push.ensures.items ∙ ap (λ x. c.loop-version.held.items ++ x ∷ []) (c.fitting.ensures ∙ is))
+    let i = item_member m c.loop-version.version-index c.version-item.result c.loop-version-test.true c.version-item.is
+    in
+    let is = agreed_from m c.version-item.result c.parts.result.now c.in_ok-parts.parts c.in_ok-patients.patients
+    c.in_ok-studies.studies c.in_ok-series.series
+    c.in_ok-patients.ensures.table c.in_ok-studies.ensures c.in_ok-series.ensures c.parts.ensures.value i
+    c.in_ok-parts.ensures in
+    map_more (agreed m) m c.loop-version.version-index c.version-item.result c.loop-version.held.items
+    c.push.new.self.items c.loop-version-test.true c.version-item.is
+    c.loop-version.invariant (c.in_ok-push.ensures.items
+    ∙ ap (λ x. c.loop-version.held.items ++ x ∷ []) (c.fitting.ensures ∙ is))
 
 pub rising-requires : goal.rising-requires
 rising-requires c =
     let m = c.args.versions.now in
     let whole : c.loop-version.held.items ≡ harmonised m =
-    c.loop-version.invariant ∙ ap (λ x. map (agreed m) x) (take_all c.loop-version.version-index m c.loop-version-test.false) in
+    c.loop-version.invariant ∙ ap (λ x. map (agreed m) x)
+    (take_all c.loop-version.version-index m c.loop-version-test.false) in
     rw whole (harmonised_rises m c.requires)

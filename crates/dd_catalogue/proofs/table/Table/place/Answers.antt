@@ -9,5 +9,6 @@ returns-in-Less-clause-place g c =
     let long : c.len.result ≡ length c.deref.result.now = c.len.ensures ∙ sym c.deref.ensures.len in
     let less : bytes_cmp (g.T.Keyed.key_of c.in-Some.last.now) c.args.key.now ≡ Less =
     ap (λ y. bytes_cmp y c.args.key.now) (sym c.key.ensures) ∙ sym c.cmp.ensures ∙ c.in-Less.is in
-    rw (long, ← c.self.view_is, ← c.deref.ensures.value) (place_past g.T.Keyed.key_of c.args.key.now c.in-Some.last.now c.deref.result.now
+    rw (long, ← c.self.view_is, ← c.deref.ensures.value)
+    (place_past g.T.Keyed.key_of c.args.key.now c.in-Some.last.now c.deref.result.now
     (rw c.deref.ensures.value c.self.invariant) (sym c.in-Some.ensures.value) less)
