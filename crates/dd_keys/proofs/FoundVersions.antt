@@ -9,7 +9,7 @@ use Rattle.dd_part10.specs.File.{IsFile}
 use Rattle.dd_part10.specs.Reading.{FileParts, read_file}
 use Rattle.dd_part10.specs.declared.fault.FileFault.{FileFault}
 use Rattle.dd_part10.specs.declared.fault.FileFault.TheVariants as faults
-use Rattle.dd_part10.specs.Gives.{Fails}
+use Rattle.dd_part10.specs.Matches.{Fails}
 use Rattle.dd_part10.specs.Memory.{GroupWants, SetWants}
 use Rattle.dd_part10.proofs.Found.{file_found}
 use Rattle.dd_set.specs.Bytes.{AreBytes}

@@ -14,7 +14,7 @@ use Rattle.dd_set.proofs.Steps.{long_front}
 use Rattle.dd_part10.specs.declared.fault.FileFault.{FileFault}
 use Rattle.dd_part10.specs.declared.fault.FileFault.TheVariants.{NotPart10, GroupLength}
 use Rattle.dd_part10.specs.File.{prefix, max_group_length}
-use Rattle.dd_part10.specs.Gives.{Fails}
+use Rattle.dd_part10.specs.Matches.{Fails}
 use Rattle.dd_part10.specs.Meta.{group_length_tag}
 use Rattle.dd_part10.specs.Reading.{◌>>=◌, behind, behind_prefix, behind_length, group_and_set, starts_above}
 use Rattle.dd_part10.specs.Taking.{count_in, split_at, may_follow}

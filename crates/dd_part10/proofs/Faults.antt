@@ -9,7 +9,7 @@ use Rattle.dd_part10.specs.declared.fault.FileFault.{FileFault}
 use Rattle.dd_part10.specs.declared.fault.FileFault.TheVariants.{NotPart10, GroupLength, MetaMissing, MetaUid}
 use Rattle.dd_part10.specs.declared.fault.FileFault.TheVariants.{OtherSyntax}
 use Rattle.dd_part10.specs.declared.fault.FileFault.TheVariants as faults
-use Rattle.dd_part10.specs.Gives.{Fails}
+use Rattle.dd_part10.specs.Matches.{Fails}
 use Rattle.dd_part10.specs.Memory.{GroupWants, HasHead, WantsNone, IsRefused}
 use Rattle.dd_part10.specs.Reading.{◌>>=◌, with_fault, read_file}
 

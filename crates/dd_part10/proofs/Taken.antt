@@ -23,7 +23,7 @@ use Rattle.dd_part10.specs.declared.fault.FileFault.TheVariants as faults
 use Rattle.dd_part10.specs.declared.meta.Meta.{Meta}
 use Rattle.dd_part10.specs.declared.scanned.Scanned.{Scanned}
 use Rattle.dd_part10.specs.File.{prefix}
-use Rattle.dd_part10.specs.Gives.{Fails, Gives}
+use Rattle.dd_part10.specs.Matches.{Fails, Matches}
 use Rattle.dd_part10.specs.Memory.{WantsNone, IsRefused}
 use Rattle.dd_part10.specs.Reading.{◌>>=◌, behind, behind_prefix, behind_length, meta_in, starts_above, set_in}
 use Rattle.dd_part10.specs.Reading.{read_file}
@@ -76,7 +76,7 @@ drop_front : (n : ℕ) (front rest : List ℕ) → length front ≡ n → drop n
 drop_front n front rest size = ap (λ (k : ℕ). drop k (front ++ rest)) (sym size) ∙ drop-append_seam front rest
 
 pub count_taken : (r : Result ℕ FileFault) (front rest : List ℕ) → length front ≤ 12 → (length front < 12 → rest ≡ [])
-    → Gives (λ n. n) r (count_in front) → CountTaken r (front ++ rest) rest
+    → Matches (λ n. n) r (count_in front) → CountTaken r (front ++ rest) rest
 count_taken (Ok n) front rest few over h =
     length_is (front ++ rest)
     ∙ onward (count_in (front ++ rest)) n (λ k. split_at k (drop 12 (front ++ rest)))
@@ -115,7 +115,7 @@ split_whole group rest n size =
     rw (enough, front, drop_front n group rest size) refl
 
 pub meta_taken : (r : Result Meta FileFault) (bytes group rest : List ℕ) (n : ℕ)
-    → behind_length bytes ≡ split_at n (group ++ rest) → length group ≡ n → Gives (λ meta. meta) r (meta_in group)
+    → behind_length bytes ≡ split_at n (group ++ rest) → length group ≡ n → Matches (λ meta. meta) r (meta_in group)
     → (r ≡ Err (faults.Meta Memory) → WantsMemory Explicit group) → MetaTaken r bytes rest
 meta_taken (Ok meta) bytes group rest n h size given wants = (group, h ∙ split_whole group rest n size, given)
 meta_taken (Err e) bytes group rest n h size given wants =

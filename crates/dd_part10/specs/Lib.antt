@@ -3,7 +3,7 @@ pub mod Memory
 pub mod Meta
 pub mod File
 pub mod Reading
-pub mod Gives
+pub mod Matches
 pub mod Taking
 pub mod Streaming
 pub mod Head

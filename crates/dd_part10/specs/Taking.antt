@@ -20,7 +20,7 @@ use Rattle.dd_part10.specs.declared.fault.FileFault.TheVariants as faults
 use Rattle.dd_part10.specs.declared.meta.Meta.{Meta}
 use Rattle.dd_part10.specs.declared.scanned.Scanned.{Scanned}
 use Rattle.dd_part10.specs.File.{max_group_length}
-use Rattle.dd_part10.specs.Gives.{Fails}
+use Rattle.dd_part10.specs.Matches.{Fails}
 use Rattle.dd_part10.specs.Memory.{HasHead, IsRefused}
 use Rattle.dd_part10.specs.Meta.{meta_group, group_length_tag}
 use Rattle.dd_part10.specs.Reading.{◌>>=◌, FileParts, behind, behind_prefix, behind_length, meta_in, set_in, read_file}

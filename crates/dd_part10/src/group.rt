@@ -6,7 +6,7 @@ ghost use Rattle.dd_set.specs.declared.syntax.Syntax.TheVariants.{Explicit};
 ghost use Rattle.dd_set.specs.Memory.{WantsMemory};
 ghost use Rattle.dd_set.specs.Views.{set_view};
 ghost use Rattle.dd_part10.specs.declared.fault.FileFault.TheVariants as faults;
-ghost use Rattle.dd_part10.specs.Gives.{Gives};
+ghost use Rattle.dd_part10.specs.Matches.{Matches};
 ghost use Rattle.dd_part10.specs.Memory.{WantsNone};
 ghost use Rattle.dd_part10.specs.Reading.{behind, behind_length, is_meta_tag, is_alone, uid_at, uids_in, meta_in};
 ghost use Rattle.dd_part10.specs.Taking.{count_in, syntax_in};
@@ -52,7 +52,7 @@ pub fn behind<'a>(front: &[u8], bytes: &'a [u8]) -> Option<&'a [u8]>
 /// The number in the group length at the front.
 #[tactic(auto, unfolding(crate::specs::Taking::count_in))]
 pub fn read_count(front: &[u8]) -> Result<u32, FileFault>
-    ensures exact { Gives (λ n. n) result (count_in front.now) }
+    ensures exact { Matches (λ n. n) result (count_in front.now) }
     ensures few { IfOk result (λ n. n ≤ 65536) }
     ensures whole { IfOk result (λ n. 12 ≤ length front.now) }
     ensures memory { WantsNone result }
@@ -72,7 +72,7 @@ pub fn read_count(front: &[u8]) -> Result<u32, FileFault>
 
 /// The bytes that the group length at the front counts, and the others behind them.
 pub fn split_group(bytes: &[u8]) -> Result<(&[u8], &[u8]), FileFault>
-    ensures exact { Gives (λ x. (x.0.now, x.1.now)) result (behind_length bytes.now) }
+    ensures exact { Matches (λ x. (x.0.now, x.1.now)) result (behind_length bytes.now) }
     ensures memory { WantsNone result }
 {
     let count = read_count(bytes)? as usize;
@@ -86,7 +86,7 @@ pub fn split_group(bytes: &[u8]) -> Result<(&[u8], &[u8]), FileFault>
 /// The meta information in the bytes that the group length counts.
 #[tactic(auto, unfolding(crate::specs::Reading::meta_in))]
 pub fn read_meta(alloc: Global, bytes: &[u8]) -> Result<Meta, FileFault>
-    ensures exact { Gives (λ meta. meta) result (meta_in bytes.now) }
+    ensures exact { Matches (λ meta. meta) result (meta_in bytes.now) }
     ensures group { result ≡ Err (faults.Meta Memory) → WantsMemory Explicit bytes.now }
     ensures set { result ≢ Err (faults.Set Memory) }
 {
@@ -99,7 +99,7 @@ pub fn read_meta(alloc: Global, bytes: &[u8]) -> Result<Meta, FileFault>
 
 /// The syntax of the data set that the meta information names.
 pub fn named_syntax(meta: &Meta) -> Result<Syntax, FileFault>
-    ensures exact { Gives (λ syntax. syntax) result (syntax_in meta.now) }
+    ensures exact { Matches (λ syntax. syntax) result (syntax_in meta.now) }
     ensures memory { WantsNone result }
 {
     match meta.syntax() {
@@ -127,7 +127,7 @@ fn is_meta_tag(tag: Tag) -> bool
 
 #[tactic(auto, unfolding(crate::specs::Reading::uids_in))]
 fn uids_in(group: &DataSet<'_>) -> Result<Meta, FileFault>
-    ensures exact { Gives (λ meta. meta) result (uids_in (set_view group.now)) }
+    ensures exact { Matches (λ meta. meta) result (uids_in (set_view group.now)) }
     ensures memory { WantsNone result }
 {
     let class = uid_at(CLASS, group)?;
@@ -143,7 +143,7 @@ fn uids_in(group: &DataSet<'_>) -> Result<Meta, FileFault>
 /// The UID that the element with this tag holds.
 #[tactic(auto, unfolding(crate::specs::Reading::uid_at))]
 fn uid_at(tag: Tag, group: &DataSet<'_>) -> Result<Uid, FileFault>
-    ensures exact { Gives (λ uid. uid) result (uid_at tag (set_view group.now)) }
+    ensures exact { Matches (λ uid. uid) result (uid_at tag (set_view group.now)) }
     ensures memory { WantsNone result }
 {
     let Some(element) = group.find(tag) else {

@@ -9,7 +9,7 @@ ghost use Rattle.dd_set.specs.Views.{set_view};
 ghost use Rattle.dd_part10.specs.declared.fault.FileFault.TheVariants as faults;
 ghost use Rattle.dd_part10.specs.declared.meta.Meta.{Meta};
 ghost use Rattle.dd_part10.specs.File.{IsFile};
-ghost use Rattle.dd_part10.specs.Gives.{Gives, file_view};
+ghost use Rattle.dd_part10.specs.Matches.{Matches, file_view};
 ghost use Rattle.dd_part10.specs.Memory.{GroupWants, SetWants, WantsNone};
 ghost use Rattle.dd_part10.specs.Reading.{behind_prefix, set_in, read_file};
 ghost use Rattle.dd_part10.specs.Taking.{may_follow};
@@ -32,9 +32,9 @@ pub fn parse_file<'a>(alloc: Global, bytes: &'a [u8]) -> Result<DicomFile<'a>, F
     ensures found { IfOk result (λ f. IsFile bytes.now f.meta (set_view f.set) f.set_at) }
     // A file is answered, unless memory runs out.
     ensures only { (meta : Meta) (set : Elements) (set_at : ℕ) → IsFile bytes.now meta set set_at
-        → Gives file_view result (Ok (record { meta = meta; set = set; set_at = set_at })) }
+        → Matches file_view result (Ok (record { meta = meta; set = set; set_at = set_at })) }
     // A refusal for other than memory is the first check that fails.
-    ensures fault { Gives file_view result (read_file bytes.now) }
+    ensures fault { Matches file_view result (read_file bytes.now) }
     // Memory runs out only where it is wanted, behind all checks that come before.
     ensures group { result ≡ Err (faults.Meta Memory) → GroupWants bytes.now }
     ensures set { result ≡ Err (faults.Set Memory) → SetWants bytes.now }
@@ -45,7 +45,7 @@ pub fn parse_file<'a>(alloc: Global, bytes: &'a [u8]) -> Result<DicomFile<'a>, F
 /// The file, by the reading function alone.
 #[tactic(auto, unfolding(crate::specs::Reading::read_file))]
 fn whole<'a>(alloc: Global, bytes: &'a [u8]) -> Result<DicomFile<'a>, FileFault>
-    ensures exact { Gives file_view result (read_file bytes.now) }
+    ensures exact { Matches file_view result (read_file bytes.now) }
     ensures room { length bytes.now < 2 ^ 64 }
     ensures group { result ≡ Err (faults.Meta Memory) → GroupWants bytes.now }
     ensures set { result ≡ Err (faults.Set Memory) → SetWants bytes.now }
@@ -65,7 +65,7 @@ fn whole<'a>(alloc: Global, bytes: &'a [u8]) -> Result<DicomFile<'a>, FileFault>
 /// What stands behind the preamble and the prefix.
 #[tactic(auto, unfolding(crate::specs::Reading::behind_prefix))]
 pub fn behind_prefix(bytes: &[u8]) -> Result<&[u8], FileFault>
-    ensures exact { Gives (λ rest. rest.now) result (behind_prefix bytes.now) }
+    ensures exact { Matches (λ rest. rest.now) result (behind_prefix bytes.now) }
     ensures room { length bytes.now < 2 ^ 64 }
     ensures memory { WantsNone result }
 {
@@ -81,7 +81,7 @@ pub fn behind_prefix(bytes: &[u8]) -> Result<&[u8], FileFault>
 /// The data set that follows group 0002.
 #[tactic(auto, unfolding(crate::specs::Reading::set_in))]
 fn read_set<'a>(alloc: Global, syntax: Syntax, bytes: &'a [u8]) -> Result<DataSet<'a>, FileFault>
-    ensures exact { Gives set_view result (set_in syntax bytes.now) }
+    ensures exact { Matches set_view result (set_in syntax bytes.now) }
     ensures group { result ≢ Err (faults.Meta Memory) }
     ensures set { result ≡ Err (faults.Set Memory) → WantsMemory syntax bytes.now }
 {

@@ -14,9 +14,9 @@ Fails (Set Memory) read = Unit {0}
 Fails fault read = read ≡ Err fault
 
 -- a returned value, seen by `view`, is the one that reading gives
-abbrev pub Gives : {X Y : Type 0} → (X → Y) → Result X FileFault → Result Y FileFault → Type 0
-Gives view (Ok x) read = read ≡ Ok (view x)
-Gives view (Err e) read = Fails e read
+abbrev pub Matches : {X Y : Type 0} → (X → Y) → Result X FileFault → Result Y FileFault → Type 0
+Matches view (Ok x) read = read ≡ Ok (view x)
+Matches view (Err e) read = Fails e read
 
 -- a file without where it lies in memory
 abbrev pub file_view : DicomFile → FileParts
