@@ -5,7 +5,7 @@ pub mod Tags
 pub mod Found
 pub mod Only
 pub mod Wanting
-pub mod Whole
+pub mod AnswersAreFiles
 pub mod Faults
 pub mod Cuts
 pub mod Taken

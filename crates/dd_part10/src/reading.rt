@@ -39,12 +39,12 @@ pub fn parse_file<'a>(alloc: Global, bytes: &'a [u8]) -> Result<DicomFile<'a>, F
     ensures group { result ≡ Err (faults.Meta Memory) → GroupWants bytes.now }
     ensures set { result ≡ Err (faults.Set Memory) → SetWants bytes.now }
 {
-    whole(alloc, bytes)
+    checked_file(alloc, bytes)
 }
 
-/// The file, by the reading function alone.
+/// The file, or the first check that the bytes fail.
 #[tactic(auto, unfolding(crate::specs::Reading::read_file))]
-fn whole<'a>(alloc: Global, bytes: &'a [u8]) -> Result<DicomFile<'a>, FileFault>
+fn checked_file<'a>(alloc: Global, bytes: &'a [u8]) -> Result<DicomFile<'a>, FileFault>
     ensures exact { Matches file_view result (read_file bytes.now) }
     ensures room { length bytes.now < 2 ^ 64 }
     ensures group { result ≡ Err (faults.Meta Memory) → GroupWants bytes.now }

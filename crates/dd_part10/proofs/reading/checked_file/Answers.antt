@@ -3,7 +3,7 @@ use Rattle.std.proofs.lemmas.Result.{err_from_is_err_and}
 use Rattle.dd_set.specs.declared.fault.SetFault.TheVariants.{Memory}
 use Rattle.dd_part10.specs.declared.fault.FileFault.TheVariants as faults
 use Rattle.dd_part10.proofs.Wanting.{fault_is, group_wants, set_wants}
-use Rattle.dd_part10.proofs.reading.whole.Goals as goal
+use Rattle.dd_part10.proofs.reading.checked_file.Goals as goal
 
 pub returns-in_err-meta-clause-group : goal.returns-in_err-meta-clause-group
 returns-in_err-meta-clause-group c = λ memory.
