@@ -1,7 +1,6 @@
 pub mod Again
 pub mod Agreements
 pub mod AnyOrder
-pub mod Behind
 pub mod BestMembers
 pub mod Clashes
 pub mod Gathering
@@ -10,6 +9,7 @@ pub mod Harmonised
 pub mod Images
 pub mod Merging
 pub mod Places
+pub mod References
 pub mod Retold
 pub mod SameVersions
 pub mod TwoOwners

@@ -110,7 +110,7 @@ impl<T: Keyed + Copied + Drop> Table<T> {
     {
         let greatest = Greatest::of(alloc, values)?;
         Ok(Table {
-            held: copies_behind(alloc, greatest.values())?,
+            held: copies_of_lent(alloc, greatest.values())?,
         })
     }
 
@@ -222,8 +222,8 @@ fn copies<T: Copied + Drop>(alloc: Global, values: &[T]) -> Result<Vec<T>, Memor
     Ok(copies)
 }
 
-/// Copies of the values behind these references.
-fn copies_behind<T: Copied + Drop>(alloc: Global, values: &[&T]) -> Result<Vec<T>, Memory>
+/// Copies of the values that these references lend.
+fn copies_of_lent<T: Copied + Drop>(alloc: Global, values: &[&T]) -> Result<Vec<T>, Memory>
     ensures { IfOk result (λ copies. copies.items ≡ map (λ value. value.now) values.now) }
 {
     let mut copies = Vec::with_capacity(alloc, values.len())?;

@@ -1,4 +1,4 @@
-use Rattle.dd_catalogue.proofs.Behind.{lent_between}
+use Rattle.dd_catalogue.proofs.References.{lent_between}
 use Rattle.dd_catalogue.proofs.Places.{by_key}
 use Rattle.dd_catalogue.specs.Rising.{rising-put}
 use Rattle.dd_catalogue.proofs.lent.Greatest.admit.Goals as goal

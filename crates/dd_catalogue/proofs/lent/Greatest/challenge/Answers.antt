@@ -1,5 +1,5 @@
 use Rattle.std.proofs.Common.{◌≡◌, true, false, sym, ◌∙◌, ap, is_lt}
-use Rattle.dd_catalogue.proofs.Behind.{lent_replaces, read_under}
+use Rattle.dd_catalogue.proofs.References.{lent_replaces, read_under}
 use Rattle.dd_catalogue.proofs.Places.{by_key, put_keeps}
 use Rattle.dd_catalogue.specs.Rising.{rising-put}
 use Rattle.dd_catalogue.proofs.lent.Greatest.challenge.Goals as goal

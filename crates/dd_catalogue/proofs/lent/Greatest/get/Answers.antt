@@ -1,5 +1,5 @@
 use Rattle.std.proofs.Common.{sym}
-use Rattle.dd_catalogue.proofs.Behind.{read_under}
+use Rattle.dd_catalogue.proofs.References.{read_under}
 use Rattle.dd_catalogue.proofs.Places.{at_read, at_between}
 use Rattle.dd_catalogue.proofs.lent.Greatest.get.Goals as goal
 

@@ -1,4 +1,4 @@
-use Rattle.dd_catalogue.proofs.Behind.{place_under, rising_under}
+use Rattle.dd_catalogue.proofs.References.{place_under, rising_under}
 use Rattle.dd_catalogue.proofs.lent.Greatest.place.Goals as goal
 
 pub place_among-requires : goal.place_among-requires

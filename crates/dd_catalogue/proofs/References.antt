@@ -1,4 +1,4 @@
--- Lists of references, seen as the values behind them.
+-- Lists of references, seen as the values that they lend.
 use Rattle.std.specs.Prelude.{◌≡◌, ◌<◌, ◌≤◌, ℕ, List, [], ◌∷◌, Result, Ok, Err, length, get_or, set, map, true}
 use Rattle.std.specs.List.{AllWithin, HoldsAt, insert}
 use Rattle.std.specs.Ordering.{is_lt}
