@@ -1,4 +1,4 @@
-//! The checks of the table.
+//! The checks of the table: here the rows say which of them a file fails.
 
 ghost use Rattle.std.specs.Prelude.{◌≡◌, map};
 ghost use Rattle.std.specs.Option.{option_copied};

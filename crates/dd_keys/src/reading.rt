@@ -1,4 +1,4 @@
-//! Reading a version from the bytes of its file.
+//! Reading a version from the bytes of its file, in memory or from a reader.
 
 ghost use Rattle.std.specs.Prelude.{◌≡◌, ◌<◌, ◌≤◌, ◌+◌, ◌^◌, ℕ, List, [], length, None, IsSome};
 ghost use Rattle.std.specs.Io.KnownBytes.{Consumes};

@@ -1,4 +1,4 @@
-//! The keys and UIDs that the data set of a file gives.
+//! The keys and UIDs that the data set of a file gives: here the rows take them from a file that passes the checks.
 
 ghost use Rattle.std.specs.Prelude.{◌≡◌, ◌≤◌, length, None, IfOk};
 ghost use Rattle.std.specs.Option.{option_copied};

@@ -49,7 +49,8 @@ pub fn behind<'a>(front: &[u8], bytes: &'a [u8]) -> Option<&'a [u8]>
     bytes.strip_prefix(front)
 }
 
-/// The number in the group length at the front.
+/// The number in the group length at the front. GroupLength where none stands there, or one above
+/// 65,536.
 #[tactic(auto, unfolding(crate::specs::Taking::count_in))]
 pub fn read_count(front: &[u8]) -> Result<u32, FileFault>
     ensures exact { Matches (λ n. n) result (count_in front.now) }
@@ -70,7 +71,8 @@ pub fn read_count(front: &[u8]) -> Result<u32, FileFault>
     Ok(count)
 }
 
-/// The bytes that the group length at the front counts, and the others behind them.
+/// The bytes that the group length at the front counts, and the others behind them. GroupLength where
+/// `read_count` says so, or there are fewer bytes.
 pub fn split_group(bytes: &[u8]) -> Result<(&[u8], &[u8]), FileFault>
     ensures exact { Matches (λ x. (x.0.now, x.1.now)) result (behind_length bytes.now) }
     ensures memory { WantsNone result }
@@ -83,7 +85,9 @@ pub fn split_group(bytes: &[u8]) -> Result<(&[u8], &[u8]), FileFault>
     Ok(rest.split_at(count))
 }
 
-/// The meta information in the bytes that the group length counts.
+/// The meta information in the bytes that the group length counts. Meta where they are no data set or a
+/// growth was refused, then GroupLength where an element is not of group 0002 or is a group length, then
+/// MetaMissing or MetaUid for the first of the three UIDs that is not there or is none.
 #[tactic(auto, unfolding(crate::specs::Reading::meta_in))]
 pub fn read_meta(alloc: Global, bytes: &[u8]) -> Result<Meta, FileFault>
     ensures exact { Matches (λ meta. meta) result (meta_in bytes.now) }
@@ -97,7 +101,7 @@ pub fn read_meta(alloc: Global, bytes: &[u8]) -> Result<Meta, FileFault>
     uids_in(&group)
 }
 
-/// The syntax of the data set that the meta information names.
+/// The syntax of the data set that the meta information names. OtherSyntax where it is none that is read.
 pub fn named_syntax(meta: &Meta) -> Result<Syntax, FileFault>
     ensures exact { Matches (λ syntax. syntax) result (syntax_in meta.now) }
     ensures memory { WantsNone result }
@@ -125,6 +129,7 @@ fn is_meta_tag(tag: Tag) -> bool
     tag.group == META_GROUP && tag.element != 0x0000
 }
 
+/// The three UIDs that the elements hold, or the first that is not there or is none.
 #[tactic(auto, unfolding(crate::specs::Reading::uids_in))]
 fn uids_in(group: &DataSet<'_>) -> Result<Meta, FileFault>
     ensures exact { Matches (λ meta. meta) result (uids_in (set_view group.now)) }
@@ -140,7 +145,8 @@ fn uids_in(group: &DataSet<'_>) -> Result<Meta, FileFault>
     })
 }
 
-/// The UID that the element with this tag holds.
+/// The UID that the element with this tag holds. MetaMissing where there is no such element, and MetaUid
+/// where it holds items or its value without padding is no UID.
 #[tactic(auto, unfolding(crate::specs::Reading::uid_at))]
 fn uid_at(tag: Tag, group: &DataSet<'_>) -> Result<Uid, FileFault>
     ensures exact { Matches (λ uid. uid) result (uid_at tag (set_view group.now)) }

@@ -62,7 +62,7 @@ fn checked_file<'a>(alloc: Global, bytes: &'a [u8]) -> Result<DicomFile<'a>, Fil
     })
 }
 
-/// What stands behind the preamble and the prefix.
+/// What stands behind the preamble and the prefix. NotPart10 where they are not there.
 #[tactic(auto, unfolding(crate::specs::Reading::behind_prefix))]
 pub fn behind_prefix(bytes: &[u8]) -> Result<&[u8], FileFault>
     ensures exact { Matches (λ rest. rest.now) result (behind_prefix bytes.now) }
@@ -78,7 +78,8 @@ pub fn behind_prefix(bytes: &[u8]) -> Result<&[u8], FileFault>
     }
 }
 
-/// The data set that follows group 0002.
+/// The data set that follows group 0002. Set where the bytes are none or a growth was refused, and
+/// GroupLength where it begins with group 0002 or a lower one.
 #[tactic(auto, unfolding(crate::specs::Reading::set_in))]
 fn read_set<'a>(alloc: Global, syntax: Syntax, bytes: &'a [u8]) -> Result<DataSet<'a>, FileFault>
     ensures exact { Matches set_view result (set_in syntax bytes.now) }
