@@ -11,29 +11,11 @@ ghost use Rattle.dd_dir.specs.Saying.{id_in};
 use crate::fault::DirFault;
 use crate::slots::items_of;
 use crate::values::{number_at, value_of};
-use dd_elem::{Tag, clean};
-use dd_layout::RECORDS;
+use dd_elem::clean;
+use dd_layout::{FIRST_ROOT, LAST_ROOT, RECORDS, SET_ID};
 use dd_part10::Meta;
 use dd_set::{DataSet, Item, Syntax};
 use std::alloc::Global;
-
-/// File-set ID.
-const SET_ID: Tag = Tag {
-    group: 0x0004,
-    element: 0x1130,
-};
-
-/// Offset of the First Directory Record of the Root Directory Entity.
-const FIRST_ROOT: Tag = Tag {
-    group: 0x0004,
-    element: 0x1200,
-};
-
-/// Offset of the Last Directory Record of the Root Directory Entity.
-const LAST_ROOT: Tag = Tag {
-    group: 0x0004,
-    element: 0x1202,
-};
 
 /// What a directory says: its File-set ID, the places of the first and of the last root record, and
 /// where the items start that may be records.

@@ -12,25 +12,27 @@ use crate::meta::directory_meta;
 use dd_elem::{Tag, Vr};
 use dd_part10::head_size;
 
-/// File-set ID.
-const SET_ID: Tag = Tag {
+/// The tag of the File-set ID (PS3.3 section F.3.2.1).
+pub const SET_ID: Tag = Tag {
     group: 0x0004,
     element: 0x1130,
 };
 
-/// Offset of the First Directory Record of the Root Directory Entity.
-const FIRST_ROOT: Tag = Tag {
+/// The tag of the Offset of the First Directory Record of the Root Directory Entity (PS3.3 section
+/// F.3.2.2).
+pub const FIRST_ROOT: Tag = Tag {
     group: 0x0004,
     element: 0x1200,
 };
 
-/// Offset of the Last Directory Record of the Root Directory Entity.
-const LAST_ROOT: Tag = Tag {
+/// The tag of the Offset of the Last Directory Record of the Root Directory Entity (PS3.3 section
+/// F.3.2.2).
+pub const LAST_ROOT: Tag = Tag {
     group: 0x0004,
     element: 0x1202,
 };
 
-/// File-set Consistency Flag.
+/// The tag of the File-set Consistency Flag (PS3.3 section F.3.2.2).
 const CONSISTENCY: Tag = Tag {
     group: 0x0004,
     element: 0x1212,
@@ -39,7 +41,7 @@ const CONSISTENCY: Tag = Tag {
 /// The flag of a file-set with no known inconsistencies.
 const CONSISTENT: [u8; 2] = [0, 0];
 
-/// Directory Record Sequence, whose items are the records.
+/// The tag of the Directory Record Sequence, whose items are the records (PS3.3 section F.3.2.2).
 pub const RECORDS: Tag = Tag {
     group: 0x0004,
     element: 0x1220,

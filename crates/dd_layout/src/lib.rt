@@ -26,7 +26,7 @@ pub use cell::{Cell, CellValue};
 pub use directories::{directory_is_a_data_set, directory_is_as_long_as_its_records};
 pub use fault::PlanFault;
 pub use field::{Field, PRIVATE_CREATOR};
-pub use front::{RECORDS, first_offset, front_cells};
+pub use front::{FIRST_ROOT, LAST_ROOT, RECORDS, SET_ID, first_offset, front_cells};
 pub use label::Label;
 pub use laws::{
     four_images_are_planned, rows_are_known, tree_is_one, tree_is_tree, walk_gives_the_tree,
