@@ -6,32 +6,8 @@ ghost use Rattle.dd_dir.specs.Saying.{says_of};
 ghost use Rattle.dd_dir.specs.Gives.{says_view};
 
 use crate::values::{flag_at, number_at, text_at};
-use dd_elem::Tag;
+use dd_layout::table::{IN_USE, KIND, LOWER, NEXT};
 use dd_set::DataSet;
-
-/// Offset of the Next Directory Record.
-const NEXT: Tag = Tag {
-    group: 0x0004,
-    element: 0x1400,
-};
-
-/// Record In-use Flag.
-const FLAG: Tag = Tag {
-    group: 0x0004,
-    element: 0x1410,
-};
-
-/// Offset of Referenced Lower-Level Directory Entity.
-const LOWER: Tag = Tag {
-    group: 0x0004,
-    element: 0x1420,
-};
-
-/// Directory Record Type.
-const KIND: Tag = Tag {
-    group: 0x0004,
-    element: 0x1430,
-};
 
 /// What a record says of itself and of where others stand.
 #[derive(Clone, Copy, Debug)]
@@ -51,10 +27,10 @@ pub(crate) struct Said<'a> {
 pub(crate) fn said_by<'a>(set: &DataSet<'a>) -> Option<Said<'a>>
     ensures { option_map says_view result ≡ says_of (set_view set.now) }
 {
-    let next = number_at(set, NEXT)?;
-    let in_use = flag_at(set, FLAG)?;
-    let lower = number_at(set, LOWER)?;
-    let kind = text_at(set, KIND)?;
+    let next = number_at(set, NEXT.tag)?;
+    let in_use = flag_at(set, IN_USE.tag)?;
+    let lower = number_at(set, LOWER.tag)?;
+    let kind = text_at(set, KIND.tag)?;
     Some(Said {
         next,
         lower,

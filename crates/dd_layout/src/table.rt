@@ -72,16 +72,16 @@ macro_rules! row {
 }
 
 /// Offset of the Next Directory Record.
-const NEXT: Row = row!(0x0004, 0x1400, UL, Next);
+pub const NEXT: Row = row!(0x0004, 0x1400, UL, Next);
 
 /// Record In-use Flag.
-const IN_USE: Row = row!(0x0004, 0x1410, US, InUse);
+pub const IN_USE: Row = row!(0x0004, 0x1410, US, InUse);
 
 /// Offset of Referenced Lower-Level Directory Entity.
-const LOWER: Row = row!(0x0004, 0x1420, UL, Lower);
+pub const LOWER: Row = row!(0x0004, 0x1420, UL, Lower);
 
 /// Directory Record Type.
-const KIND: Row = row!(0x0004, 0x1430, CS, Kind);
+pub const KIND: Row = row!(0x0004, 0x1430, CS, Kind);
 
 /// Referenced File ID.
 pub const FILE: Row = row!(0x0004, 0x1500, CS, File);
