@@ -12,7 +12,7 @@ use crate::fault::DirFault;
 use crate::slots::items_of;
 use crate::values::{number_at, value_of};
 use dd_elem::clean;
-use dd_layout::{FIRST_ROOT, LAST_ROOT, RECORDS, SET_ID};
+use dd_layout::{DIRECTORY_CLASS, DIRECTORY_SYNTAX, FIRST_ROOT, LAST_ROOT, RECORDS, SET_ID};
 use dd_part10::Meta;
 use dd_set::{DataSet, Item, Syntax};
 use std::alloc::Global;
@@ -32,8 +32,7 @@ pub(crate) struct Directory<'a> {
 pub(crate) fn is_directory_meta(meta: &Meta) -> bool
     ensures { result ≡ is_directory_meta meta.now }
 {
-    meta.class.as_bytes() == b"1.2.840.10008.1.3.10".as_slice()
-        && meta.transfer.as_bytes() == b"1.2.840.10008.1.2.1".as_slice()
+    meta.class.as_bytes() == DIRECTORY_CLASS && meta.transfer.as_bytes() == DIRECTORY_SYNTAX
 }
 
 /// What a data set says that stands behind `at` bytes.

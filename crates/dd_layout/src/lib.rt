@@ -34,7 +34,7 @@ pub use laws::{
 pub use layout::lay_out;
 pub use level::Level;
 pub use limits::Limits;
-pub use meta::directory_meta;
+pub use meta::{DIRECTORY_CLASS, DIRECTORY_SYNTAX, directory_meta};
 pub use plan::Plan;
 pub use record::PlanRecord;
 pub use sizes::record_size;

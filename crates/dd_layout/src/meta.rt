@@ -8,10 +8,10 @@ use dd_elem::Uid;
 use dd_part10::Meta;
 
 /// The class of directories, Media Storage Directory Storage (PS3.4 annex I.4, PS3.6 annex A).
-const DIRECTORY_CLASS: &[u8] = b"1.2.840.10008.1.3.10";
+pub const DIRECTORY_CLASS: &[u8] = b"1.2.840.10008.1.3.10";
 
 /// Explicit VR Little Endian, in which a directory is encoded (PS3.10 section 8.6).
-const DIRECTORY_SYNTAX: &[u8] = b"1.2.840.10008.1.2.1";
+pub const DIRECTORY_SYNTAX: &[u8] = b"1.2.840.10008.1.2.1";
 
 /// The meta information of the directory with this label.
 pub fn directory_meta(label: &Label) -> Meta
