@@ -9,7 +9,7 @@ ghost use Rattle.dd_dir.specs.Directories.{IsDirectory, directory};
 ghost use Rattle.dd_dir.specs.SaysItself.{SaysItself};
 ghost use Rattle.dd_dir.specs.Visits.{Realises};
 
-use crate::writing::write_whole;
+use crate::writing::write_keyed;
 use dd_catalogue::{Catalogue, History, build};
 use dd_elem::Sink;
 use dd_layout::{Label, Limits, PlanFault, lay_out};
@@ -36,7 +36,7 @@ pub fn publish(
     let plan = lay_out(alloc, catalogue, label, limits)?;
     let mut sink = Sink::new(alloc, None);
     sink.reserve(plan.size() as usize)?;
-    match write_whole(&plan, &mut sink) {
+    match write_keyed(&plan, &mut sink) {
         Ok(_) => Ok(sink.into_bytes()),
         Err(_) => Err(PlanFault::Memory),
     }

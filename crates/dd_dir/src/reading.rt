@@ -21,6 +21,10 @@ use dd_part10::parse_file;
 use std::alloc::Global;
 
 /// The records of a directory, joined by their offsets (PS3.3 section F.3.2, PS3.10 section 8.6).
+/// Refused, in this order: File where the bytes are no DICOM file; NotDirectory where the file is no
+/// directory; RecordShape, Dangling, Twice or TooDeep at the first offset, depth first, that breaks the
+/// trees; LastRoot where the last root reached is not the one that is named. Memory, alone or within
+/// File, where a growth was refused.
 pub fn read_directory<'a>(alloc: Global, bytes: &'a [u8]) -> Result<Forest<'a>, DirFault>
     // What is answered is the walk of the bytes.
     ensures walk { IfOk result (λ forest. IsWalk bytes.now (walk_view forest)) }
@@ -39,11 +43,11 @@ pub fn read_directory<'a>(alloc: Global, bytes: &'a [u8]) -> Result<Forest<'a>, 
     ensures records { result ≡ Err Memory
         → (contents : Contents) × IsDirectoryFile bytes.now contents × (0 < length contents.starts) }
 {
-    whole(alloc, bytes)
+    read_forest(alloc, bytes)
 }
 
-/// The records, by what the bytes say alone.
-fn whole<'a>(alloc: Global, bytes: &'a [u8]) -> Result<Forest<'a>, DirFault>
+/// The same, told of this answer alone: that no other is possible is for `read_directory` to say.
+fn read_forest<'a>(alloc: Global, bytes: &'a [u8]) -> Result<Forest<'a>, DirFault>
     ensures walk { IfOk result (λ forest. IsWalk bytes.now (walk_view forest)) }
     ensures refused { IfErr result (λ fault. IsWantOfMemory fault ⊎ Refuses bytes.now fault) }
     ensures group { result ≡ Err (File (file_faults.Meta set_faults.Memory)) → GroupWants bytes.now }

@@ -24,11 +24,11 @@ pub fn write_directory<W: Write>(plan: &Plan, writer: &mut W) -> Result<u64, Wri
     ensures size { IfOk result (λ n. n ≡ size plan.now.label plan.now.versions) }
     ensures file { IsOk result → IsDirectory plan.now.label plan.now.versions }
 {
-    write_whole(plan, writer)
+    write_keyed(plan, writer)
 }
 
-/// The same, which also says that each record has the keys of a version.
-pub(crate) fn write_whole<W: Write>(plan: &Plan, writer: &mut W) -> Result<u64, WriteFault>
+/// The same, which says too that each record has the keys of a version.
+pub(crate) fn write_keyed<W: Write>(plan: &Plan, writer: &mut W) -> Result<u64, WriteFault>
     ensures sends { let text = directory_of plan.now.label plan.now.versions
         in SendsTo W.contents W.rest W.failures text 0 result writer.old writer.new }
 

@@ -11,7 +11,7 @@ use Rattle.dd_dir.proofs.Answering.{starts_many}
 use Rattle.dd_dir.proofs.Answering.{walk_in, refused_in, same_exit, same_fault}
 use Rattle.dd_dir.proofs.Moved.{sets_many}
 use Rattle.dd_dir.proofs.WalkPlaces.{front_length}
-use Rattle.dd_dir.proofs.reading.whole.Goals as goal
+use Rattle.dd_dir.proofs.reading.read_forest.Goals as goal
 
 pub directory_of-requires-clause-fits : goal.directory_of-requires-clause-fits
 directory_of-requires-clause-fits c =

@@ -7,7 +7,7 @@ use Rattle.dd_set.proofs.Going.{first_fails, then_sends, sends_same}
 use Rattle.dd_dir.specs.Keyed.{IsKeyed}
 use Rattle.dd_dir.proofs.DirectoryFiles.{directory_is_file}
 use Rattle.dd_dir.proofs.DirectoryTexts.{directory_length, directory_parts, records_fit, size_told}
-use Rattle.dd_dir.proofs.writing.write_whole.Goals as goal
+use Rattle.dd_dir.proofs.writing.write_keyed.Goals as goal
 
 pub returns-in_err-sent-clause-sends : goal.returns-in_err-sent-clause-sends
 returns-in_err-sent-clause-sends g c =
