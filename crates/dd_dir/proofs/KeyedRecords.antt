@@ -1,4 +1,4 @@
--- Records of versions whose parts are whole, one after the other.
+-- Records of versions whose parts are well formed, one after the other.
 use Rattle.std.proofs.Common.{◌≡◌, ℕ, ◌+◌, ◌<◌, List, ◌∷◌, length, drop, get_or, Some}
 use Rattle.std.proofs.Common.{sym, ap, subst, ◌∙◌}
 use Rattle.std.specs.List.{AllByRecursion}
@@ -11,21 +11,21 @@ use Rattle.dd_layout.specs.declared.level.Level.TheVariants.{Patient, Study, Ser
 use Rattle.dd_layout.specs.declared.record.PlanRecord.{PlanRecord}
 use Rattle.dd_part10.proofs.HeadLaw.{clean_uid}
 use Rattle.dd_dir.specs.Keyed.{IsKeyed, IsKeyedBy, key_by}
-use Rattle.dd_dir.specs.WholeParts.{IsWhole}
+use Rattle.dd_dir.specs.WellFormed.{IsWellFormed}
 
 -- the version that was found
 pub keyed_is : (versions : List Parts) (row : PlanRecord) (found parts : Parts) → row.of < length versions
-    → found ≡ get_or versions row.of found → parts ≡ found → IsWhole parts → IsKeyed versions row
-keyed_is versions row found parts within is same whole =
+    → found ≡ get_or versions row.of found → parts ≡ found → IsWellFormed parts → IsKeyed versions row
+keyed_is versions row found parts within is same formed =
     let there = slice_get-get_or versions row.of found within ∙ ap Some (sym (same ∙ is)) in
-    subst (IsKeyedBy row) (sym there) whole
+    subst (IsKeyedBy row) (sym there) formed
 
 -- its keys have no padding
-pub clean_key : (level : Level) (v : Parts) → IsWhole v → clean_of (key_by level v) ≡ key_by level v
-clean_key Patient v whole = whole.patient.id.clean
-clean_key Study v whole = clean_uid v.study.uid whole.study.uid
-clean_key Series v whole = clean_uid v.series.uid whole.series.uid
-clean_key Image v whole = clean_uid v.instance whole.image.instance
+pub clean_key : (level : Level) (v : Parts) → IsWellFormed v → clean_of (key_by level v) ≡ key_by level v
+clean_key Patient v formed = formed.patient.id.clean
+clean_key Study v formed = clean_uid v.study.uid formed.study.uid
+clean_key Series v formed = clean_uid v.series.uid formed.series.uid
+clean_key Image v formed = clean_uid v.instance formed.image.instance
 
 -- what holds of one and of those behind it
 pub row_more : (P : PlanRecord → Type 0) (rows : List PlanRecord) (i : ℕ) (row : PlanRecord) → i < length rows

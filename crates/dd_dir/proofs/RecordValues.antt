@@ -19,7 +19,7 @@ use Rattle.dd_layout.specs.Records.{kind_of, link_entries, record_entries}
 use Rattle.dd_part10.proofs.HeadLaw.{clean_uid}
 use Rattle.dd_set.specs.Elements.{Elements, elements_of}
 use Rattle.dd_dir.specs.Own.{digest_in, sized}
-use Rattle.dd_dir.specs.WholeParts.{IsWholeImage, IsWholePatient, IsWholeSeries, IsWholeStudy}
+use Rattle.dd_dir.specs.WellFormed.{IsWellFormedImage, IsWellFormedPatient, IsWellFormedSeries, IsWellFormedStudy}
 use Rattle.dd_dir.proofs.FileTexts.{text_clean}
 use Rattle.dd_dir.proofs.RecordsSay.{clean_of-padded}
 
@@ -42,9 +42,9 @@ pub record PatientSays (set : Elements) (keys : PatientKeys) : Type 0 where
   pub name : value_at row.PATIENT_NAME.tag set ≡ Some keys.name
   pub id : value_at row.PATIENT_ID.tag set ≡ Some keys.id
 
-pub patient_says : (next lower : ℕ) (file : Option Ranks) (parts : Parts) → IsWholePatient parts.patient
+pub patient_says : (next lower : ℕ) (file : Option Ranks) (parts : Parts) → IsWellFormedPatient parts.patient
     → PatientSays (elements_of (record_entries Patient next lower file parts)) parts.patient
-patient_says next lower file parts whole = go (eqb (length parts.patient.charset) 0) refl where
+patient_says next lower file parts formed = go (eqb (length parts.patient.charset) 0) refl where
   go : (b : Bool) → eqb (length parts.patient.charset) 0 ≡ b
       → PatientSays (elements_of (link_entries next lower (kind_of Patient)
       ++ (cond b [] (text_entry (tag 0x0008 0x0005) CS parts.patient.charset ∷ [])
@@ -52,13 +52,13 @@ patient_says next lower file parts whole = go (eqb (length parts.patient.charset
       ∷ [])))) parts.patient
   go true e = record {
     charset = ap (λ (v : List ℕ). Some v) (empty_is parts.patient.charset e);
-    name = ap (λ (v : List ℕ). Some v) (key_back parts.patient.name whole.name);
-    id = ap (λ (v : List ℕ). Some v) (key_back parts.patient.id whole.id);
+    name = ap (λ (v : List ℕ). Some v) (key_back parts.patient.name formed.name);
+    id = ap (λ (v : List ℕ). Some v) (key_back parts.patient.id formed.id);
   }
   go false e = record {
-    charset = ap (λ (v : List ℕ). Some v) (key_back parts.patient.charset whole.charset);
-    name = ap (λ (v : List ℕ). Some v) (key_back parts.patient.name whole.name);
-    id = ap (λ (v : List ℕ). Some v) (key_back parts.patient.id whole.id);
+    charset = ap (λ (v : List ℕ). Some v) (key_back parts.patient.charset formed.charset);
+    name = ap (λ (v : List ℕ). Some v) (key_back parts.patient.name formed.name);
+    id = ap (λ (v : List ℕ). Some v) (key_back parts.patient.id formed.id);
   }
 
 -- ---- a study
@@ -72,9 +72,9 @@ pub record StudySays (set : Elements) (keys : StudyKeys) : Type 0 where
   pub uid : value_at row.STUDY_UID.tag set ≡ Some keys.uid
   pub id : value_at row.STUDY_ID.tag set ≡ Some keys.id
 
-pub study_says : (next lower : ℕ) (file : Option Ranks) (parts : Parts) → IsWholeStudy parts.study
+pub study_says : (next lower : ℕ) (file : Option Ranks) (parts : Parts) → IsWellFormedStudy parts.study
     → StudySays (elements_of (record_entries Study next lower file parts)) parts.study
-study_says next lower file parts whole = go (eqb (length parts.study.charset) 0) refl where
+study_says next lower file parts formed = go (eqb (length parts.study.charset) 0) refl where
   go : (b : Bool) → eqb (length parts.study.charset) 0 ≡ b
       → StudySays (elements_of (link_entries next lower (kind_of Study)
       ++ (cond b [] (text_entry (tag 0x0008 0x0005) CS parts.study.charset ∷ [])
@@ -84,21 +84,21 @@ study_says next lower file parts whole = go (eqb (length parts.study.charset) 0)
       ∷ text_entry (tag 0x0020 0x0010) SH parts.study.id ∷ [])))) parts.study
   go true e = record {
     charset = ap (λ (v : List ℕ). Some v) (empty_is parts.study.charset e);
-    date = ap (λ (v : List ℕ). Some v) (key_back parts.study.date whole.date);
-    time = ap (λ (v : List ℕ). Some v) (key_back parts.study.time whole.time);
-    accession = ap (λ (v : List ℕ). Some v) (key_back parts.study.accession whole.accession);
-    description = ap (λ (v : List ℕ). Some v) (key_back parts.study.description whole.description);
-    uid = ap (λ (v : List ℕ). Some v) (uid_back parts.study.uid whole.uid);
-    id = ap (λ (v : List ℕ). Some v) (key_back parts.study.id whole.id);
+    date = ap (λ (v : List ℕ). Some v) (key_back parts.study.date formed.date);
+    time = ap (λ (v : List ℕ). Some v) (key_back parts.study.time formed.time);
+    accession = ap (λ (v : List ℕ). Some v) (key_back parts.study.accession formed.accession);
+    description = ap (λ (v : List ℕ). Some v) (key_back parts.study.description formed.description);
+    uid = ap (λ (v : List ℕ). Some v) (uid_back parts.study.uid formed.uid);
+    id = ap (λ (v : List ℕ). Some v) (key_back parts.study.id formed.id);
   }
   go false e = record {
-    charset = ap (λ (v : List ℕ). Some v) (key_back parts.study.charset whole.charset);
-    date = ap (λ (v : List ℕ). Some v) (key_back parts.study.date whole.date);
-    time = ap (λ (v : List ℕ). Some v) (key_back parts.study.time whole.time);
-    accession = ap (λ (v : List ℕ). Some v) (key_back parts.study.accession whole.accession);
-    description = ap (λ (v : List ℕ). Some v) (key_back parts.study.description whole.description);
-    uid = ap (λ (v : List ℕ). Some v) (uid_back parts.study.uid whole.uid);
-    id = ap (λ (v : List ℕ). Some v) (key_back parts.study.id whole.id);
+    charset = ap (λ (v : List ℕ). Some v) (key_back parts.study.charset formed.charset);
+    date = ap (λ (v : List ℕ). Some v) (key_back parts.study.date formed.date);
+    time = ap (λ (v : List ℕ). Some v) (key_back parts.study.time formed.time);
+    accession = ap (λ (v : List ℕ). Some v) (key_back parts.study.accession formed.accession);
+    description = ap (λ (v : List ℕ). Some v) (key_back parts.study.description formed.description);
+    uid = ap (λ (v : List ℕ). Some v) (uid_back parts.study.uid formed.uid);
+    id = ap (λ (v : List ℕ). Some v) (key_back parts.study.id formed.id);
   }
 
 -- ---- a series
@@ -108,12 +108,12 @@ pub record SeriesSays (set : Elements) (keys : SeriesKeys) : Type 0 where
   pub uid : value_at row.SERIES_UID.tag set ≡ Some keys.uid
   pub number : value_at row.SERIES_NUMBER.tag set ≡ Some keys.number
 
-pub series_says : (next lower : ℕ) (file : Option Ranks) (parts : Parts) → IsWholeSeries parts.series
+pub series_says : (next lower : ℕ) (file : Option Ranks) (parts : Parts) → IsWellFormedSeries parts.series
     → SeriesSays (elements_of (record_entries Series next lower file parts)) parts.series
-series_says next lower file parts whole = record {
-  modality = ap (λ (v : List ℕ). Some v) (key_back parts.series.modality whole.modality);
-  uid = ap (λ (v : List ℕ). Some v) (uid_back parts.series.uid whole.uid);
-  number = ap (λ (v : List ℕ). Some v) (key_back parts.series.number whole.number);
+series_says next lower file parts formed = record {
+  modality = ap (λ (v : List ℕ). Some v) (key_back parts.series.modality formed.modality);
+  uid = ap (λ (v : List ℕ). Some v) (uid_back parts.series.uid formed.uid);
+  number = ap (λ (v : List ℕ). Some v) (key_back parts.series.number formed.number);
 }
 
 -- ---- an image
@@ -129,13 +129,13 @@ pub record ImageSays (set : Elements) (file : List ℕ) (parts : Parts) : Type 0
 sized_is : (v : List ℕ) → length v ≡ 32 → sized v ≡ Some v
 sized_is v is = rw is refl
 
-pub image_says : (next lower : ℕ) (ranks : Ranks) (parts : Parts) → AreRanks ranks → IsWholeImage parts
+pub image_says : (next lower : ℕ) (ranks : Ranks) (parts : Parts) → AreRanks ranks → IsWellFormedImage parts
     → ImageSays (elements_of (record_entries Image next lower (Some ranks) parts)) (text_of ranks) parts
-image_says next lower ranks parts are whole = record {
+image_says next lower ranks parts are formed = record {
   file_id = ap (λ (v : List ℕ). Some v) (clean_of-padded 0x20 (text_of ranks) refl ∙ text_clean ranks are);
-  class = ap (λ (v : List ℕ). Some v) (uid_back parts.class whole.class);
-  instance = ap (λ (v : List ℕ). Some v) (uid_back parts.instance whole.instance);
-  transfer = ap (λ (v : List ℕ). Some v) (uid_back parts.transfer whole.transfer);
-  number = ap (λ (v : List ℕ). Some v) (key_back parts.number whole.number);
-  digest = sized_is parts.digest whole.digest;
+  class = ap (λ (v : List ℕ). Some v) (uid_back parts.class formed.class);
+  instance = ap (λ (v : List ℕ). Some v) (uid_back parts.instance formed.instance);
+  transfer = ap (λ (v : List ℕ). Some v) (uid_back parts.transfer formed.transfer);
+  number = ap (λ (v : List ℕ). Some v) (key_back parts.number formed.number);
+  digest = sized_is parts.digest formed.digest;
 }

@@ -25,7 +25,7 @@ use Rattle.dd_layout.proofs.Trees.{tree_is_tree}
 use Rattle.dd_dir.specs.Directories.{entries_by}
 use Rattle.dd_dir.specs.Keyed.{IsKeyed, IsKeyedBy, IsSent}
 use Rattle.dd_dir.specs.Visits.{node_at}
-use Rattle.dd_dir.specs.WholeParts.{IsWhole}
+use Rattle.dd_dir.specs.WellFormed.{IsWellFormed}
 use Rattle.dd_dir.proofs.ListedAlong.{IsPassed}
 use Rattle.dd_dir.proofs.RecordValues.{ImageSays, PatientSays, SeriesSays, StudySays, image_says, patient_says}
 use Rattle.dd_dir.proofs.RecordValues.{series_says, study_says}
@@ -45,11 +45,11 @@ at_row P f [] x all i = absurd i
 at_row P f (y ∷ rest) x all (inl e) = subst (λ (z : Path). P (f z)) e all.0
 at_row P f (y ∷ rest) x all (inr i) = at_row P f rest x all.1 i
 
--- the record of a row is of this version, which is whole
+-- the record of a row is of this version, which is well formed
 pub record IsRowOf (label : Label) (versions : List Parts) (x : Path) (v : Parts) : Type 0 where
   pub member : Member v versions
   pub leads : leads_to x (path_of v) ≡ true
-  pub whole : IsWhole v
+  pub formed : IsWellFormed v
   pub sound : IsSound (length versions) (record_at label versions x)
   pub set : (node_at label versions x).set ≡ elements_of (record_entries (level_of x)
       (record_at label versions x).next (record_at label versions x).lower (record_at label versions x).file v)
@@ -64,7 +64,7 @@ row_of label versions x sent i =
       record {
         member = member_at versions row.of of.version of.found;
         leads = of.leads;
-        whole = subst (IsKeyedBy row) of.found keyed;
+        formed = subst (IsKeyedBy row) of.found keyed;
         sound = at_row (IsSound (length versions)) (record_at label versions) (tree versions) x
             (recursion_from_All (IsSound (length versions)) (records_of label versions) sent.sound) i;
         set = ap (λ (o : Option Parts). elements_of (entries_by row o)) of.found;
@@ -78,14 +78,14 @@ pub patient_row : (label : Label) (versions : List Parts) (a : List ℕ) (v : Pa
 patient_row label versions a v is =
     let row = record_at label versions (a ∷ []) in
     subst (λ (s : Elements). PatientSays s v.patient) (sym is.set)
-    (patient_says row.next row.lower row.file v is.whole.patient)
+    (patient_says row.next row.lower row.file v is.formed.patient)
 
 pub study_row : (label : Label) (versions : List Parts) (a b : List ℕ) (v : Parts)
     → IsRowOf label versions (a ∷ b ∷ []) v → StudySays (node_at label versions (a ∷ b ∷ [])).set v.study
 study_row label versions a b v is =
     let row = record_at label versions (a ∷ b ∷ []) in
     subst (λ (s : Elements). StudySays s v.study) (sym is.set)
-    (study_says row.next row.lower row.file v is.whole.study)
+    (study_says row.next row.lower row.file v is.formed.study)
 
 pub series_row : (label : Label) (versions : List Parts) (a b c : List ℕ) (v : Parts)
     → IsRowOf label versions (a ∷ b ∷ c ∷ []) v
@@ -93,7 +93,7 @@ pub series_row : (label : Label) (versions : List Parts) (a b c : List ℕ) (v :
 series_row label versions a b c v is =
     let row = record_at label versions (a ∷ b ∷ c ∷ []) in
     subst (λ (s : Elements). SeriesSays s v.series) (sym is.set)
-    (series_says row.next row.lower row.file v is.whole.series)
+    (series_says row.next row.lower row.file v is.formed.series)
 
 ranked : (file : Option Ranks) → IsSomeAnd file AreRanks → (ranks : Ranks) × AreRanks ranks × (file ≡ Some ranks)
 ranked None some = absurd some
@@ -113,7 +113,7 @@ image_row label versions a b c d v ranks is are file =
     let row = record_at label versions (a ∷ b ∷ c ∷ d ∷ []) in
     subst (λ (s : Elements). ImageSays s (text_of ranks) v)
     (sym (is.set ∙ ap (λ (o : Option Ranks). elements_of (record_entries Image row.next row.lower o v)) file))
-    (image_says row.next row.lower ranks v are is.whole.image)
+    (image_says row.next row.lower ranks v are is.formed.image)
 
 -- ---- it passes its checks
 
@@ -122,17 +122,17 @@ row_passes : (label : Label) (versions : List Parts) (x : Path) (v : Parts) → 
 row_passes label versions [] v level is = absurd level
 row_passes label versions (a ∷ []) v level is =
     let n = node_at label versions (a ∷ []) in
-    patient_passes n.at n.set v is.whole (patient_row label versions a v is)
+    patient_passes n.at n.set v is.formed (patient_row label versions a v is)
 row_passes label versions (a ∷ b ∷ []) v level is =
     let n = node_at label versions (a ∷ b ∷ []) in
-    study_passes n.at n.set v is.whole (study_row label versions a b v is)
+    study_passes n.at n.set v is.formed (study_row label versions a b v is)
 row_passes label versions (a ∷ b ∷ c ∷ []) v level is =
     let n = node_at label versions (a ∷ b ∷ c ∷ []) in
-    series_passes n.at n.set v is.whole (series_row label versions a b c v is)
+    series_passes n.at n.set v is.formed (series_row label versions a b c v is)
 row_passes label versions (a ∷ b ∷ c ∷ d ∷ []) v level is =
     let n = node_at label versions (a ∷ b ∷ c ∷ d ∷ []) in
     let r = row_ranks label versions a b c d v is in
-    image_passes n.at n.set r.0 v is.whole r.1 (image_row label versions a b c d v r.0 is r.1 r.2)
+    image_passes n.at n.set r.0 v is.formed r.1 (image_row label versions a b c d v r.0 is r.1 r.2)
 row_passes label versions (a ∷ b ∷ c ∷ d ∷ e ∷ x) v level is = absurd level
 
 pub rows_pass : (label : Label) (versions : List Parts) (rest : List Path) → IsSent label versions

@@ -166,9 +166,9 @@ own_along : (label : Label) (versions : List Parts) (rest : List Path)
 own_along label versions [] among levels keyed = tt
 own_along label versions (x ∷ rest) among levels keyed =
     let of = of_version versions x (among x (inl refl)) in
-    let whole : IsKeyedBy (record_at label versions x) (Some of.version) =
+    let formed : IsKeyedBy (record_at label versions x) (Some of.version) =
     subst (IsKeyedBy (record_at label versions x)) of.found keyed.0 in (
-      own_is label versions x of.version levels.0 of.found of.leads (clean_key (level_of x) of.version whole),
+      own_is label versions x of.version levels.0 of.found of.leads (clean_key (level_of x) of.version formed),
       own_along label versions rest (λ y i. among y (inr i)) levels.1 keyed.1,
     )
 

@@ -1,4 +1,4 @@
--- Records of versions whose parts are whole, so that they are read back from them.
+-- Records of versions whose parts are well formed, so that they are read back from them.
 use Rattle.std.specs.Prelude.{◌<◌, ◌^◌, ℕ, List, length, All, Option, Some, None, slice_get}
 use Rattle.std.specs.List.{AllByRecursion}
 use Rattle.dd_keys.specs.declared.parts.Parts.{Parts}
@@ -9,7 +9,7 @@ use Rattle.dd_layout.specs.declared.record.PlanRecord.{PlanRecord}
 use Rattle.dd_layout.specs.Layouts.{IsSound}
 use Rattle.dd_layout.specs.Plans.{records_of, size}
 use Rattle.dd_dir.specs.Directories.{IsDirectory}
-use Rattle.dd_dir.specs.WholeParts.{IsWhole}
+use Rattle.dd_dir.specs.WellFormed.{IsWellFormed}
 
 -- Patient ID, Study Instance UID, Series Instance UID, SOP Instance UID
 abbrev pub key_by : Level → Parts → List ℕ
@@ -18,10 +18,10 @@ key_by Study parts = parts.study.uid
 key_by Series parts = parts.series.uid
 key_by Image parts = parts.instance
 
--- the version that a record is of is whole
+-- the version that a record is of is well formed
 abbrev pub IsKeyedBy : PlanRecord → Option Parts → Type 0
 IsKeyedBy row None = ⊥
-IsKeyedBy row (Some version) = IsWhole version
+IsKeyedBy row (Some version) = IsWellFormed version
 
 abbrev pub IsKeyed : List Parts → PlanRecord → Type 0
 IsKeyed versions row = IsKeyedBy row (slice_get versions row.of)

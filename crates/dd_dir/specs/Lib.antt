@@ -13,4 +13,4 @@ pub mod Slots
 pub mod Trees
 pub mod Visits
 pub mod Walks
-pub mod WholeParts
+pub mod WellFormed

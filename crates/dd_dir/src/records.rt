@@ -11,7 +11,8 @@ ghost use Rattle.dd_set.specs.Single.{part_text};
 ghost use Rattle.dd_set.specs.Spelling.{item_tag_text, items_text};
 ghost use Rattle.dd_dir.specs.Directories.{IsRecord, entries_of};
 ghost use Rattle.dd_dir.specs.Keyed.{IsKeyed};
-ghost use Rattle.dd_dir.specs.WholeParts.{IsWholeImage, IsWholePatient, IsWholeSeries, IsWholeStudy};
+ghost use Rattle.dd_dir.specs.WellFormed.{IsWellFormedImage, IsWellFormedPatient};
+ghost use Rattle.dd_dir.specs.WellFormed.{IsWellFormedSeries, IsWellFormedStudy};
 
 use crate::cells::send_rows;
 use byteorder::{ByteOrder, LittleEndian};
@@ -56,18 +57,18 @@ fn send_record<W: Write>(
     ensures keyed { IsKeyed versions.now planned.now }
 {
     let parts = versions[planned.of].parts();
-    whole_patient(&parts.patient);
-    whole_study(&parts.study);
-    whole_series(&parts.series);
-    whole_image(parts);
+    lend_patient(&parts.patient);
+    lend_study(&parts.study);
+    lend_series(&parts.series);
+    lend_image(parts);
     let header = item_header(record_size(planned.level, parts) as u32 - 8);
     let sent = send(&header, writer, sent)?;
     send_rows(rows(planned.level), planned, parts, writer, sent)
 }
 
-/// Lends the keys of a patient, for what their types say of them.
-fn whole_patient(patient: &PatientKeys)
-    ensures { IsWholePatient patient.now }
+/// Lends the keys of a patient, so that what their types say of them is known.
+fn lend_patient(patient: &PatientKeys)
+    ensures { IsWellFormedPatient patient.now }
 {
     let _id = patient.id.as_bytes();
     let _name = patient.name.as_bytes();
@@ -75,8 +76,8 @@ fn whole_patient(patient: &PatientKeys)
 }
 
 /// Lends the keys of a study.
-fn whole_study(study: &StudyKeys)
-    ensures { IsWholeStudy study.now }
+fn lend_study(study: &StudyKeys)
+    ensures { IsWellFormedStudy study.now }
 {
     let _uid = study.uid.as_bytes();
     let _date = study.date.as_bytes();
@@ -88,8 +89,8 @@ fn whole_study(study: &StudyKeys)
 }
 
 /// Lends the keys of a series.
-fn whole_series(series: &SeriesKeys)
-    ensures { IsWholeSeries series.now }
+fn lend_series(series: &SeriesKeys)
+    ensures { IsWellFormedSeries series.now }
 {
     let _uid = series.uid.as_bytes();
     let _modality = series.modality.as_bytes();
@@ -97,8 +98,8 @@ fn whole_series(series: &SeriesKeys)
 }
 
 /// Lends what a version has of the image itself.
-fn whole_image(parts: &Parts)
-    ensures { IsWholeImage parts.now }
+fn lend_image(parts: &Parts)
+    ensures { IsWellFormedImage parts.now }
 {
     let _digest: &[u8] = &parts.digest;
     let _number = parts.number.as_bytes();

@@ -72,10 +72,10 @@ returns-in_err-sent-clause-keyed g c =
     keyed_is c.args.versions.now c.args.planned.now c.index-versions-planned.result c.parts-parts.result.now
     c.requires.sound.0 c.index-versions-planned.is c.parts-parts.ensures.value (record {
       fits = subst Fits (sym c.parts-parts.ensures.value) c.parts-parts.ensures.fits;
-      patient = c.whole_patient.ensures;
-      study = c.whole_study.ensures;
-      series = c.whole_series.ensures;
-      image = c.whole_image.ensures;
+      patient = c.lend_patient.ensures;
+      study = c.lend_study.ensures;
+      series = c.lend_series.ensures;
+      image = c.lend_image.ensures;
     })
 
 pub returns-clause-keyed : goal.returns-clause-keyed
@@ -83,8 +83,8 @@ returns-clause-keyed g c =
     keyed_is c.args.versions.now c.args.planned.now c.index-versions-planned.result c.parts-parts.result.now
     c.requires.sound.0 c.index-versions-planned.is c.parts-parts.ensures.value (record {
       fits = subst Fits (sym c.parts-parts.ensures.value) c.parts-parts.ensures.fits;
-      patient = c.whole_patient.ensures;
-      study = c.whole_study.ensures;
-      series = c.whole_series.ensures;
-      image = c.whole_image.ensures;
+      patient = c.lend_patient.ensures;
+      study = c.lend_study.ensures;
+      series = c.lend_series.ensures;
+      image = c.lend_image.ensures;
     })

@@ -1,4 +1,5 @@
--- What the types of a version say of its parts: each key is one, each UID is one, and the digest has its 32 bytes.
+-- The parts of a version are well formed, as their types say: each key is one, each UID is one, and the digest has 32
+-- bytes.
 use Rattle.std.specs.Prelude.{◌≡◌, length}
 use Rattle.dd_elem.specs.Key.{IsKey}
 use Rattle.dd_elem.specs.Uid.{IsUid}
@@ -8,12 +9,12 @@ use Rattle.dd_keys.specs.declared.keys.SeriesKeys.{SeriesKeys}
 use Rattle.dd_keys.specs.declared.keys.StudyKeys.{StudyKeys}
 use Rattle.dd_keys.specs.declared.parts.Parts.{Parts}
 
-pub record IsWholePatient (patient : PatientKeys) : Type 0 where
+pub record IsWellFormedPatient (patient : PatientKeys) : Type 0 where
   pub id : IsKey patient.id
   pub name : IsKey patient.name
   pub charset : IsKey patient.charset
 
-pub record IsWholeStudy (study : StudyKeys) : Type 0 where
+pub record IsWellFormedStudy (study : StudyKeys) : Type 0 where
   pub uid : IsUid study.uid
   pub date : IsKey study.date
   pub time : IsKey study.time
@@ -22,21 +23,21 @@ pub record IsWholeStudy (study : StudyKeys) : Type 0 where
   pub id : IsKey study.id
   pub charset : IsKey study.charset
 
-pub record IsWholeSeries (series : SeriesKeys) : Type 0 where
+pub record IsWellFormedSeries (series : SeriesKeys) : Type 0 where
   pub uid : IsUid series.uid
   pub modality : IsKey series.modality
   pub number : IsKey series.number
 
-pub record IsWholeImage (v : Parts) : Type 0 where
+pub record IsWellFormedImage (v : Parts) : Type 0 where
   pub digest : length v.digest ≡ 32
   pub number : IsKey v.number
   pub class : IsUid v.class
   pub transfer : IsUid v.transfer
   pub instance : IsUid v.instance
 
-pub record IsWhole (v : Parts) : Type 0 where
+pub record IsWellFormed (v : Parts) : Type 0 where
   pub fits : Fits v
-  pub patient : IsWholePatient v.patient
-  pub study : IsWholeStudy v.study
-  pub series : IsWholeSeries v.series
-  pub image : IsWholeImage v
+  pub patient : IsWellFormedPatient v.patient
+  pub study : IsWellFormedStudy v.study
+  pub series : IsWellFormedSeries v.series
+  pub image : IsWellFormedImage v
