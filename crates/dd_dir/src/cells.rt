@@ -2,7 +2,7 @@
 
 ghost use Rattle.std.specs.Prelude.{◌≡◌, ◌+◌, ◌<◌, ◌^◌, length, map};
 ghost use Rattle.std.specs.List.{AllByRecursion};
-ghost use Rattle.dd_layout.specs.Cells.{IsShort, IsShortEntry, cell_entry, table_entries, whole_value};
+ghost use Rattle.dd_layout.specs.Cells.{IsShort, IsShortEntry, cell_entry, even_value, table_entries};
 ghost use Rattle.dd_set.specs.Elements.{elements_of};
 ghost use Rattle.dd_set.specs.Sends.{SendsTo};
 ghost use Rattle.dd_set.specs.Single.{entry_text};
@@ -15,7 +15,7 @@ use dd_set::{WriteFault, send, send_header};
 
 /// Sends an element behind `sent` bytes: its header, its value and the padding.
 fn send_cell<W: Write>(cell: &Cell<'_>, writer: &mut W, sent: u64) -> Result<u64, WriteFault>
-    requires short { IsShort (whole_value cell.now.value) }
+    requires short { IsShort (even_value cell.now.value) }
     requires fits { sent + length (entry_text (cell_entry cell.now)) < 2 ^ 64 }
     ensures { let text = entry_text (cell_entry cell.now)
         in SendsTo W.contents W.rest W.failures text sent result writer.old writer.new }

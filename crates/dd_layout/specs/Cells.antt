@@ -28,21 +28,21 @@ bare_value (values.File text) = text
 bare_value (values.Uid uid) = uid.now
 bare_value (values.Bytes given) = given.now
 
-abbrev pub whole_value : CellValue → List ℕ
-whole_value (values.Long number) = number
-whole_value (values.Short number) = number
-whole_value (values.Text text) = padded 0x20 text.now
-whole_value (values.File text) = padded 0x20 text
-whole_value (values.Uid uid) = padded 0x00 uid.now
-whole_value (values.Bytes given) = given.now
+abbrev pub even_value : CellValue → List ℕ
+even_value (values.Long number) = number
+even_value (values.Short number) = number
+even_value (values.Text text) = padded 0x20 text.now
+even_value (values.File text) = padded 0x20 text
+even_value (values.Uid uid) = padded 0x00 uid.now
+even_value (values.Bytes given) = given.now
 
 abbrev pub cell_values : Option CellValue → List (List ℕ)
 cell_values None = []
-cell_values (Some value) = whole_value value ∷ []
+cell_values (Some value) = even_value value ∷ []
 
 -- the element
 abbrev pub cell_entry : Cell → Entry
-cell_entry cell = bytes_entry cell.tag cell.vr (whole_value cell.value)
+cell_entry cell = bytes_entry cell.tag cell.vr (even_value cell.value)
 
 abbrev pub cell_entries : Option Cell → List Entry
 cell_entries None = []

@@ -3,7 +3,7 @@
 ghost use Rattle.std.specs.Prelude.{◌≡◌, ◌++◌, ◌≤◌, ◌∷◌, [], length, if◌then◌else◌};
 ghost use Rattle.byteorder.specs.Endian.{little_bytes};
 ghost use Rattle.dd_elem.specs.Vr.{is_long_of};
-ghost use Rattle.dd_layout.specs.Cells.{IsShort, bare_value, cell_entry, whole_value};
+ghost use Rattle.dd_layout.specs.Cells.{IsShort, bare_value, cell_entry, even_value};
 ghost use Rattle.dd_layout.specs.Sizes.{entries_size};
 
 use byteorder::{ByteOrder, LittleEndian};
@@ -54,7 +54,7 @@ impl CellValue<'_> {
 
     /// What stands behind the bytes, so that the length is even.
     pub fn padding(&self) -> &'static [u8]
-        ensures whole { bare_value self.now ++ result.now ≡ whole_value self.now }
+        ensures even { bare_value self.now ++ result.now ≡ even_value self.now }
         ensures few { length result.now ≤ 1 }
     {
         let padding: &'static [u8] = match self {
@@ -90,8 +90,8 @@ pub(crate) fn header_size(vr: Vr) -> u64
 
 /// The value of a number of 32 bits.
 pub(crate) fn long_value(number: u32) -> CellValue<'static>
-    ensures exact { whole_value result ≡ little_bytes 4 number }
-    ensures short { IsShort (whole_value result) }
+    ensures exact { even_value result ≡ little_bytes 4 number }
+    ensures short { IsShort (even_value result) }
 {
     let mut bytes = [0; 4];
     LittleEndian::write_u32(&mut bytes, number);

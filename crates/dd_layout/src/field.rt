@@ -1,7 +1,7 @@
 //! What the elements of records hold.
 
 ghost use Rattle.std.specs.Prelude.{◌≡◌, ◌≤◌, IfSome, length};
-ghost use Rattle.dd_layout.specs.Cells.{IsShort, cell_values, charset_of, charset_values, field_values, whole_value};
+ghost use Rattle.dd_layout.specs.Cells.{IsShort, cell_values, charset_of, charset_values, even_value, field_values};
 ghost use Rattle.dd_layout.specs.Entries.{padded};
 ghost use Rattle.dd_layout.specs.Records.{file_text};
 
@@ -73,7 +73,7 @@ impl Field {
     pub(crate) fn value<'a>(self, planned: &PlanRecord, parts: &'a Parts) -> Option<CellValue<'a>>
         ensures exact { cell_values result
             ≡ field_values self planned.now.level planned.now.next planned.now.lower planned.now.file parts.now }
-        ensures short { IfSome result (λ value. IsShort (whole_value value)) }
+        ensures short { IfSome result (λ value. IsShort (even_value value)) }
     {
         Some(match self {
             Field::Next => long_value(planned.next),
@@ -105,8 +105,8 @@ impl Field {
 
 /// The text of a File ID, which is empty where there is none.
 fn file_text(file: Option<FileId>) -> CellValue<'static>
-    ensures exact { whole_value result ≡ padded 0x20 (file_text file) }
-    ensures short { IsShort (whole_value result) }
+    ensures exact { even_value result ≡ padded 0x20 (file_text file) }
+    ensures short { IsShort (even_value result) }
 {
     match file {
         None => CellValue::Text(b""),
@@ -116,16 +116,16 @@ fn file_text(file: Option<FileId>) -> CellValue<'static>
 
 /// A UID.
 fn uid(uid: &Uid) -> CellValue<'_>
-    ensures exact { whole_value result ≡ padded 0x00 uid.now }
-    ensures short { IsShort (whole_value result) }
+    ensures exact { even_value result ≡ padded 0x00 uid.now }
+    ensures short { IsShort (even_value result) }
 {
     CellValue::Uid(uid.as_bytes())
 }
 
 /// The text of a key.
 fn text(key: &Key) -> CellValue<'_>
-    ensures exact { whole_value result ≡ padded 0x20 key.now }
-    ensures short { IsShort (whole_value result) }
+    ensures exact { even_value result ≡ padded 0x20 key.now }
+    ensures short { IsShort (even_value result) }
 {
     CellValue::Text(key.as_bytes())
 }
@@ -133,7 +133,7 @@ fn text(key: &Key) -> CellValue<'_>
 /// The character set of the keys of this level, where there is one.
 fn charset_of(level: Level, parts: &Parts) -> Option<CellValue<'_>>
     ensures exact { cell_values result ≡ charset_values (charset_of level parts.now) }
-    ensures short { IfSome result (λ value. IsShort (whole_value value)) }
+    ensures short { IfSome result (λ value. IsShort (even_value value)) }
 {
     match level {
         Level::Patient => charset(&parts.patient.charset),
@@ -145,7 +145,7 @@ fn charset_of(level: Level, parts: &Parts) -> Option<CellValue<'_>>
 /// A character set, where there is one.
 fn charset(key: &Key) -> Option<CellValue<'_>>
     ensures exact { cell_values result ≡ charset_values key.now }
-    ensures short { IfSome result (λ value. IsShort (whole_value value)) }
+    ensures short { IfSome result (λ value. IsShort (even_value value)) }
 {
     let charset = key.as_bytes();
     if charset.is_empty() {

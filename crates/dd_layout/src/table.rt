@@ -3,7 +3,7 @@
 ghost use Rattle.std.specs.Prelude.{◌≡◌, ◌≤◌, ℕ, Option, IfSome, length};
 ghost use Rattle.dd_elem.specs.FileId.{Ranks};
 ghost use Rattle.dd_keys.specs.declared.parts.Parts.{Parts};
-ghost use Rattle.dd_layout.specs.Cells.{IsShort, cell_entries, row_entries, table_entries, whole_value};
+ghost use Rattle.dd_layout.specs.Cells.{IsShort, cell_entries, even_value, row_entries, table_entries};
 ghost use Rattle.dd_layout.specs.Records.{record_entries};
 ghost use Rattle.dd_layout.specs.Tables.{table_of};
 
@@ -31,7 +31,7 @@ impl Row {
     pub fn cell<'a>(&self, planned: &PlanRecord, parts: &'a Parts) -> Option<Cell<'a>>
         ensures exact { cell_entries result
             ≡ row_entries self.now planned.now.level planned.now.next planned.now.lower planned.now.file parts.now }
-        ensures short { IfSome result (λ cell. IsShort (whole_value cell.value)) }
+        ensures short { IfSome result (λ cell. IsShort (even_value cell.value)) }
     {
         let value = self.field.value(planned, parts)?;
         Some(Cell {
