@@ -11,7 +11,7 @@ use Rattle.dd_dir.specs.declared.fault.DirFault.{DirFault}
 use Rattle.dd_dir.specs.declared.fault.DirFault.TheVariants as faults
 use Rattle.dd_dir.specs.declared.forest.Forest.{Forest}
 use Rattle.dd_dir.specs.ForestViews.{walk_view}
-use Rattle.dd_dir.specs.Gives.{IsWantOfMemory, Tells}
+use Rattle.dd_dir.specs.ReadAnswers.{IsWantOfMemory, TellsContents}
 use Rattle.dd_dir.specs.Reading.{Contents, contents_in, contents_of, is_directory_meta, IsDirectoryFile, IsWalkOf}
 use Rattle.dd_dir.specs.Reading.{IsWalk}
 use Rattle.dd_dir.specs.Reading.{RefusesOf, Refuses}
@@ -70,7 +70,7 @@ all_bytes file meta set at h =
 -- ---- what it says was not told
 
 pub told_refused : (file : List ℕ) (meta : Meta) (set : Elements) (at : ℕ) (fault : DirFault) → IsFile file meta set at
-    → is_directory_meta meta ≡ true → Tells (contents_in (take at file) set) (Err fault)
+    → is_directory_meta meta ≡ true → TellsContents (contents_in (take at file) set) (Err fault)
     → IsWantOfMemory fault ⊎ Refuses file fault
 told_refused file meta set at (faults.File fault) is_file class told = absurd told
 told_refused file meta set at faults.NotDirectory is_file class told =
@@ -82,15 +82,15 @@ told_refused file meta set at faults.LastRoot is_file class told = absurd told
 told_refused file meta set at faults.Memory is_file class told = inl tt
 told_refused file meta set at (faults.TooDeep place) is_file class told = absurd told
 
-pub told_no_file : (contents : Option Contents) (fault : DirFault) (cause : FileFault) → Tells contents (Err fault)
-    → fault ≡ faults.File cause → ⊥
-told_no_file contents fault cause told is = subst (λ (e : DirFault). Tells contents (Err e)) is told
+pub told_no_file : (contents : Option Contents) (fault : DirFault) (cause : FileFault)
+    → TellsContents contents (Err fault) → fault ≡ faults.File cause → ⊥
+told_no_file contents fault cause told is = subst (λ (e : DirFault). TellsContents contents (Err e)) is told
 
 pub told_wanted : (file : List ℕ) (meta : Meta) (set : Elements) (at : ℕ) (fault : DirFault) → IsFile file meta set at
-    → is_directory_meta meta ≡ true → Tells (contents_in (take at file) set) (Err fault) → fault ≡ faults.Memory
+    → is_directory_meta meta ≡ true → TellsContents (contents_in (take at file) set) (Err fault) → fault ≡ faults.Memory
     → (contents : Contents) × IsDirectoryFile file contents × (0 < length contents.starts)
 told_wanted file meta set at fault is_file class told is =
-    let there = subst (λ (e : DirFault). Tells (contents_in (take at file) set) (Err e)) is told in
+    let there = subst (λ (e : DirFault). TellsContents (contents_in (take at file) set) (Err e)) is told in
     (there.0, is_directory file meta set at there.0 is_file class there.1, there.2)
 
 -- ---- what it says was told

@@ -3,7 +3,7 @@ use Rattle.std.proofs.Common.{◌≡◌, ◌⊎◌, inl, inr, List, ℕ, Result,
 use Rattle.dd_dir.specs.declared.fault.DirFault.{DirFault}
 use Rattle.dd_dir.specs.declared.forest.Forest.{Forest}
 use Rattle.dd_dir.specs.ForestViews.{walk_view}
-use Rattle.dd_dir.specs.Gives.{IsWantOfMemory}
+use Rattle.dd_dir.specs.ReadAnswers.{IsWantOfMemory}
 use Rattle.dd_dir.specs.Reading.{IsWalk, Refuses}
 use Rattle.dd_dir.specs.Trees.{Walk}
 use Rattle.dd_dir.proofs.WalkFiles.{one_walk, walk_or_not, one_refusal}

@@ -10,7 +10,7 @@ use Rattle.dd_set.specs.declared.set.Item.{Item}
 use Rattle.dd_set.specs.Views.{set_view, items_view}
 use Rattle.dd_dir.specs.declared.fault.DirFault.{DirFault}
 use Rattle.dd_dir.specs.declared.fault.DirFault.TheVariants.{Memory}
-use Rattle.dd_dir.specs.Gives.{Fails, Follows}
+use Rattle.dd_dir.specs.ReadAnswers.{Fails, Follows}
 use Rattle.dd_dir.specs.Reading.{Contents, stands_of, count_unseen, AreTrees, IsWalkOf, EndElsewhere, RefusesOf}
 use Rattle.dd_dir.specs.Saying.{sets_of}
 use Rattle.dd_dir.specs.Slots.{Rises, AreLeft, reached, count_left, slots_view}

@@ -7,7 +7,7 @@ use Rattle.dd_dir.specs.declared.fault.DirFault.{DirFault}
 use Rattle.dd_dir.specs.declared.fault.DirFault.TheVariants.{TooDeep}
 use Rattle.dd_dir.specs.declared.forest.Tree.{Tree}
 use Rattle.dd_dir.specs.ForestViews.{Branch, trees_of, tree_view}
-use Rattle.dd_dir.specs.Gives.{Leaves, Fails, Joins, Follows}
+use Rattle.dd_dir.specs.ReadAnswers.{Leaves, Fails, Joins, Follows}
 use Rattle.dd_dir.specs.Reading.{stands_in}
 use Rattle.dd_dir.specs.Saying.{Says, says_of}
 use Rattle.dd_dir.specs.Slots.{AreLeft, reached}

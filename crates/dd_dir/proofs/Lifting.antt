@@ -13,7 +13,7 @@ use Rattle.dd_set.specs.declared.set.DataSet.{DataSet}
 use Rattle.dd_set.specs.Elements.{Elements}
 use Rattle.dd_set.specs.Views.{set_view}
 use Rattle.dd_dir.specs.declared.fault.DirFault.TheVariants.{Dangling, Twice}
-use Rattle.dd_dir.specs.Gives.{Leaves}
+use Rattle.dd_dir.specs.ReadAnswers.{Leaves}
 use Rattle.dd_dir.specs.Reading.{stands_in}
 use Rattle.dd_dir.specs.Slots.{Rises, AreLeft, reached, count_left, slots_view}
 use Rattle.dd_dir.specs.Walks.{with, found_at}

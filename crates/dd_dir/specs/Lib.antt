@@ -1,11 +1,11 @@
 pub mod Directories
 pub mod ForestViews
-pub mod Gives
 pub mod Hashing
 pub mod Keyed
 pub mod Own
 pub mod OwnVersions
 pub mod OwnViews
+pub mod ReadAnswers
 pub mod Reading
 pub mod Saying
 pub mod SaysItself

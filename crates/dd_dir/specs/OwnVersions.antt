@@ -90,6 +90,6 @@ pub record Tells (images : List Listed) (told : Own) : Type 0 where
 -- wanted only where there is an image, or a fault.
 abbrev pub Answers : {B : Type 0} → Result (List Listed) OwnFault → (List Listed → B → Type 0)
     → Result B OwnFault → Type 0
-Answers all Gives (Ok value) = (images : List Listed) × (all ≡ Ok images) × Gives images value
-Answers all Gives (Err Memory) = all ≢ Ok []
-Answers all Gives (Err fault) = all ≡ Err fault
+Answers all IsAnswer (Ok value) = (images : List Listed) × (all ≡ Ok images) × IsAnswer images value
+Answers all IsAnswer (Err Memory) = all ≢ Ok []
+Answers all IsAnswer (Err fault) = all ≡ Err fault

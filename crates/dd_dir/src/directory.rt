@@ -4,7 +4,7 @@ ghost use Rattle.std.specs.Prelude.{◌≡◌, ◌+◌, ◌<◌, ◌^◌, EachIn
 ghost use Rattle.dd_set.specs.declared.syntax.Syntax.TheVariants.{Explicit};
 ghost use Rattle.dd_set.specs.Spelling.{Spells, elements_text};
 ghost use Rattle.dd_set.specs.Views.{set_view};
-ghost use Rattle.dd_dir.specs.Gives.{Tells};
+ghost use Rattle.dd_dir.specs.ReadAnswers.{TellsContents};
 ghost use Rattle.dd_dir.specs.Reading.{is_directory_meta, contents_in};
 ghost use Rattle.dd_dir.specs.Saying.{id_in};
 
@@ -44,7 +44,7 @@ pub(crate) fn directory_of<'a>(
 ) -> Result<Directory<'a>, DirFault>
     requires spelled { Spells Explicit (set_view set) (elements_text (set_view set)) }
     requires fits { at + length (elements_text (set_view set)) < 2 ^ 64 }
-    ensures { (front : List ℕ) → length front ≡ at → Tells (contents_in front (set_view set.entry)) result }
+    ensures { (front : List ℕ) → length front ≡ at → TellsContents (contents_in front (set_view set.entry)) result }
 {
     let Some(first) = number_at(&set, FIRST_ROOT) else {
         return Err(DirFault::NotDirectory);

@@ -7,7 +7,7 @@ ghost use Rattle.dd_set.specs.declared.fault.SetFault.TheVariants as set_faults;
 ghost use Rattle.dd_dir.specs.declared.fault.DirFault.{DirFault};
 ghost use Rattle.dd_dir.specs.declared.fault.DirFault.TheVariants.{File, Memory};
 ghost use Rattle.dd_dir.specs.ForestViews.{walk_view};
-ghost use Rattle.dd_dir.specs.Gives.{IsWantOfMemory, directory_view};
+ghost use Rattle.dd_dir.specs.ReadAnswers.{IsWantOfMemory, directory_view};
 ghost use Rattle.dd_dir.specs.Reading.{Contents, IsDirectoryFile, IsWalk, IsWalkOf, Refuses, RefusesOf};
 ghost use Rattle.dd_dir.specs.Slots.{Rises};
 ghost use Rattle.dd_dir.specs.Trees.{Walk};

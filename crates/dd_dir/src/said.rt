@@ -3,7 +3,7 @@
 ghost use Rattle.std.specs.Prelude.{◌≡◌, option_map};
 ghost use Rattle.dd_set.specs.Views.{set_view};
 ghost use Rattle.dd_dir.specs.Saying.{says_of};
-ghost use Rattle.dd_dir.specs.Gives.{says_view};
+ghost use Rattle.dd_dir.specs.ReadAnswers.{says_view};
 
 use crate::values::{flag_at, number_at, text_at};
 use dd_layout::table::{IN_USE, KIND, LOWER, NEXT};

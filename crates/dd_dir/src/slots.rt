@@ -7,7 +7,7 @@ ghost use Rattle.dd_set.specs.Find.{find_in};
 ghost use Rattle.dd_set.specs.Views.{set_view, value_view, items_view};
 ghost use Rattle.dd_dir.specs.Saying.{sets_of, item_sets_of};
 ghost use Rattle.dd_dir.specs.declared.fault.DirFault.TheVariants.{Memory as want};
-ghost use Rattle.dd_dir.specs.Gives.{IsLifted};
+ghost use Rattle.dd_dir.specs.ReadAnswers.{IsLifted};
 ghost use Rattle.dd_dir.specs.Slots.{Rises, AreLeft, count_left, slots_view};
 
 use crate::fault::DirFault;

@@ -4,7 +4,7 @@ ghost use Rattle.std.specs.Prelude.{◌≡◌, ◌≢◌, ◌<◌, ◌≤◌, Li
 ghost use Rattle.dd_set.specs.Elements.{Elements};
 ghost use Rattle.dd_dir.specs.declared.fault.DirFault.TheVariants.{Memory};
 ghost use Rattle.dd_dir.specs.ForestViews.{trees_view};
-ghost use Rattle.dd_dir.specs.Gives.{IsStep, IsTree, AreFollowed};
+ghost use Rattle.dd_dir.specs.ReadAnswers.{IsStep, IsTree, AreFollowed};
 ghost use Rattle.dd_dir.specs.Slots.{Rises, AreLeft, count_left, slots_view};
 ghost use Rattle.dd_dir.specs.Trees.{last_root_or};
 ghost use Rattle.dd_dir.specs.Walks.{max_levels};

@@ -1,7 +1,7 @@
 //! What directories list, gathered.
 
 ghost use Rattle.std.specs.Prelude.{◌≡◌, ◌⊎◌, ◌↔◌, ◌++◌, List, [], ℕ, map, IsTrue, OnOk};
-ghost use Rattle.dd_dir.specs.Gives.{IsWantOfMemory};
+ghost use Rattle.dd_dir.specs.ReadAnswers.{IsWantOfMemory};
 ghost use Rattle.dd_dir.specs.Own.{Listed};
 ghost use Rattle.dd_dir.specs.OwnVersions.{Tells, place_view};
 ghost use Rattle.dd_dir.specs.Reading.{Refuses};

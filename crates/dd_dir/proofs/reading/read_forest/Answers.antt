@@ -4,7 +4,7 @@ use Rattle.dd_set.specs.Views.{set_view}
 use Rattle.dd_part10.specs.declared.fault.FileFault.TheVariants as file_faults
 use Rattle.dd_part10.specs.File.{IsFile}
 use Rattle.dd_set.specs.declared.fault.SetFault.TheVariants as set_faults
-use Rattle.dd_dir.specs.Gives.{Tells, directory_view}
+use Rattle.dd_dir.specs.ReadAnswers.{TellsContents, directory_view}
 use Rattle.dd_dir.specs.Reading.{contents_in, is_directory_meta}
 use Rattle.dd_dir.proofs.Answering.{is_directory, all_bytes, told_refused, told_no_file, told_wanted, starts_rise}
 use Rattle.dd_dir.proofs.Answering.{starts_many}
@@ -26,7 +26,7 @@ returns-in_err-directory-clause-refused c =
     let file = c.args.bytes.now in
     let is_file : IsFile file f.meta (set_view f.set) f.set_at = search rules in
     let class : is_directory_meta f.meta ≡ true = sym c.if-not-is_directory_meta.ensures in
-    let told : Tells (contents_in (take f.set_at file) (set_view f.set)) (Err fault) =
+    let told : TellsContents (contents_in (take f.set_at file) (set_view f.set)) (Err fault) =
     c.in_err-directory.ensures (take f.set_at file) (front_length file f.meta (set_view f.set) f.set_at is_file).1 in
     let p = err_from_is_err_and c.from_residual-in_err-directory.result c.from_residual-in_err-directory.ensures.1 in
     let is : c.from_residual-in_err-directory.result ≡ Err fault = same_exit _ _ _ p.1 p.2 in
@@ -38,7 +38,7 @@ returns-in_err-directory-clause-group c = λ memory.
     let fault = c.in_err-directory.field-0.0 in
     let file = c.args.bytes.now in
     let is_file : IsFile file f.meta (set_view f.set) f.set_at = search rules in
-    let told : Tells (contents_in (take f.set_at file) (set_view f.set)) (Err fault) =
+    let told : TellsContents (contents_in (take f.set_at file) (set_view f.set)) (Err fault) =
     c.in_err-directory.ensures (take f.set_at file) (front_length file f.meta (set_view f.set) f.set_at is_file).1 in
     let p = err_from_is_err_and c.from_residual-in_err-directory.result c.from_residual-in_err-directory.ensures.1 in
     let is : c.from_residual-in_err-directory.result ≡ Err fault = same_exit _ _ _ p.1 p.2 in
@@ -52,7 +52,7 @@ returns-in_err-directory-clause-set c = λ memory.
     let fault = c.in_err-directory.field-0.0 in
     let file = c.args.bytes.now in
     let is_file : IsFile file f.meta (set_view f.set) f.set_at = search rules in
-    let told : Tells (contents_in (take f.set_at file) (set_view f.set)) (Err fault) =
+    let told : TellsContents (contents_in (take f.set_at file) (set_view f.set)) (Err fault) =
     c.in_err-directory.ensures (take f.set_at file) (front_length file f.meta (set_view f.set) f.set_at is_file).1 in
     let p = err_from_is_err_and c.from_residual-in_err-directory.result c.from_residual-in_err-directory.ensures.1 in
     let is : c.from_residual-in_err-directory.result ≡ Err fault = same_exit _ _ _ p.1 p.2 in
@@ -67,7 +67,7 @@ returns-in_err-directory-clause-records c = λ memory.
     let file = c.args.bytes.now in
     let is_file : IsFile file f.meta (set_view f.set) f.set_at = search rules in
     let class : is_directory_meta f.meta ≡ true = sym c.if-not-is_directory_meta.ensures in
-    let told : Tells (contents_in (take f.set_at file) (set_view f.set)) (Err fault) =
+    let told : TellsContents (contents_in (take f.set_at file) (set_view f.set)) (Err fault) =
     c.in_err-directory.ensures (take f.set_at file) (front_length file f.meta (set_view f.set) f.set_at is_file).1 in
     let p = err_from_is_err_and c.from_residual-in_err-directory.result c.from_residual-in_err-directory.ensures.1 in
     let is : c.from_residual-in_err-directory.result ≡ Err fault = same_exit _ _ _ p.1 p.2 in

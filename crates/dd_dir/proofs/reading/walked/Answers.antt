@@ -6,7 +6,7 @@ use Rattle.dd_set.specs.declared.set.DataSet.{DataSet}
 use Rattle.dd_set.specs.Elements.{Elements}
 use Rattle.dd_set.specs.Views.{set_view}
 use Rattle.dd_dir.specs.ForestViews.{trees_view}
-use Rattle.dd_dir.specs.Gives.{Fails, Follows, directory_view}
+use Rattle.dd_dir.specs.ReadAnswers.{Fails, Follows, directory_view}
 use Rattle.dd_dir.specs.Slots.{count_left, slots_view}
 use Rattle.dd_dir.specs.Trees.{last_root_or}
 use Rattle.dd_dir.proofs.Ending.{full_left, slots_many, fails_as, ends_elsewhere, walk_of}

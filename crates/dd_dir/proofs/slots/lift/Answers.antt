@@ -5,7 +5,7 @@ use Rattle.std.proofs.lemmas.List.{map-set, length-map}
 use Rattle.dd_set.specs.declared.set.DataSet.{DataSet}
 use Rattle.dd_set.specs.Elements.{Elements}
 use Rattle.dd_set.specs.Views.{set_view}
-use Rattle.dd_dir.specs.Gives.{Leaves}
+use Rattle.dd_dir.specs.ReadAnswers.{Leaves}
 use Rattle.dd_dir.specs.Slots.{reached, count_left, slots_view}
 use Rattle.dd_dir.specs.Reading.{stands_in}
 use Rattle.dd_dir.proofs.Lifting.{AtSlot, dangling, at_found, twice, slot_is, count_without}

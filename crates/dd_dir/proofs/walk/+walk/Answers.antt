@@ -5,7 +5,7 @@ use Rattle.dd_dir.specs.declared.forest.Tree.{Tree, the_lemmas}
 use Rattle.dd_dir.specs.declared.forest.Tree.TheOpen.{Tree-F}
 use Rattle.dd_dir.specs.declared.forest.Tree.TheViews.{roll-Tree}
 use Rattle.dd_dir.specs.ForestViews.{Branch, tree_view, trees_view}
-use Rattle.dd_dir.specs.Gives.{Joins, says_view}
+use Rattle.dd_dir.specs.ReadAnswers.{Joins, says_view}
 use Rattle.dd_dir.specs.Slots.{slots_view}
 use Rattle.dd_dir.specs.Walks.{node_of}
 use Rattle.dd_dir.proofs.Joining.{Going, going_tree, going_end, fails_here, fails_below, joins}

@@ -39,11 +39,11 @@ directory_view held = record {
 }
 
 -- What was answered is what there is. Memory is wanted only where there are records.
-abbrev pub Tells : Option Contents → Result Directory DirFault → Type 0
-Tells contents (Ok held) = contents ≡ Some (directory_view held)
-Tells contents (Err NotDirectory) = contents ≡ None
-Tells contents (Err Memory) = (there : Contents) × (contents ≡ Some there) × (0 < length there.starts)
-Tells contents (Err _) = ⊥
+abbrev pub TellsContents : Option Contents → Result Directory DirFault → Type 0
+TellsContents contents (Ok held) = contents ≡ Some (directory_view held)
+TellsContents contents (Err NotDirectory) = contents ≡ None
+TellsContents contents (Err Memory) = (there : Contents) × (contents ≡ Some there) × (0 < length there.starts)
+TellsContents contents (Err _) = ⊥
 
 -- ---- one record
 
