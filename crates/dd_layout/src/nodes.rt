@@ -103,14 +103,14 @@ fn least_below(level: Level, first: &Placed, later: &[Placed]) -> usize
 {
     let mut least = first.of;
     let mut rest = later;
-    while let [next, behind @ ..] = rest {
+    while let [next, further @ ..] = rest {
         if !leads(level, first.version, next.version) {
             return least;
         }
         if next.of < least {
             least = next.of;
         }
-        rest = behind;
+        rest = further;
     }
     least
 }
