@@ -32,6 +32,9 @@ impl Model for FileId {
 }
 
 impl FileId {
+    /// The highest rank that its text has room for, of six digits.
+    pub const MAX_RANK: u32 = 999_999;
+
     /// The File ID of these ranks: None where one is 0 or above 999,999.
     pub fn ranked(patient: u32, study: u32, series: u32, image: u32) -> Option<FileId>
         ensures { let ranks = ranks_of patient study series image in SomeIff result (AreRanks ranks) ranks }
@@ -66,5 +69,5 @@ impl FileId {
 fn is_rank(number: u32) -> bool
     ensures { IsTrue result ↔ IsRank number }
 {
-    (1..=999_999).contains(&number)
+    (1..=FileId::MAX_RANK).contains(&number)
 }

@@ -2,6 +2,7 @@
 
 ghost use Rattle.std.specs.Prelude.{◌≤◌, SomeIff};
 
+use dd_elem::FileId;
 use std::marker::Model;
 
 /// The limits of a directory: the most bytes of the file, and the most records below one parent.
@@ -30,7 +31,7 @@ impl Limits {
     pub fn new(bytes: u32, per_level: u32) -> Option<Limits>
         ensures { SomeIff result (per_level ≤ 999999) (record { bytes = bytes; per_level = per_level }) }
     {
-        if per_level > 999_999 {
+        if per_level > FileId::MAX_RANK {
             return None;
         }
         Some(Limits { bytes, per_level })

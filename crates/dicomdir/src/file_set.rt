@@ -9,16 +9,15 @@ use crate::copies::copy_images;
 use crate::origins::Origins;
 use crate::trouble::{ProgramFault, Subject, Trouble};
 use dd_dir::write_directory;
+use dd_elem::FileId;
 use dd_files::{DIRECTORY, Files, path_in};
 use dd_layout::{Limits, Plan};
 use std::alloc::Global;
 
-// The most records below one record of a directory.
-const LEVEL_LIMIT: u32 = 999_999;
-
-/// The limits of a directory that may have so many bytes.
+/// The limits of a directory that may have so many bytes, and as many records below one parent as a
+/// File ID has ranks for.
 pub(crate) fn limits_of(max_bytes: u32) -> Limits {
-    Limits::new(max_bytes, LEVEL_LIMIT).unwrap()
+    Limits::new(max_bytes, FileId::MAX_RANK).unwrap()
 }
 
 /// Refuses a folder whose directory can be opened.
