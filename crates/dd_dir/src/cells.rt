@@ -1,6 +1,6 @@
 //! Elements sent to a writer.
 
-ghost use Rattle.std.specs.Prelude.{◌≡◌, ◌+◌, ◌<◌, ◌^◌, length, map};
+ghost use Rattle.std.specs.Prelude.{◌+◌, ◌<◌, ◌^◌, length, map};
 ghost use Rattle.std.specs.List.{AllByRecursion};
 ghost use Rattle.dd_layout.specs.Cells.{IsShort, IsShortEntry, cell_entry, even_value, table_entries};
 ghost use Rattle.dd_set.specs.Elements.{elements_of};

@@ -1,6 +1,6 @@
 //! The checks of a record of a directory that is written here.
 
-ghost use Rattle.std.specs.Prelude.{◌≡◌, map, option_map};
+ghost use Rattle.std.specs.Prelude.{◌≡◌, option_map};
 ghost use Rattle.dd_set.specs.Views.{set_view};
 ghost use Rattle.dd_dir.specs.ForestViews.{tree_view};
 ghost use Rattle.dd_dir.specs.Own.{digest_in, fault_at, is_bad, is_key, is_own, is_sound, key_fault};

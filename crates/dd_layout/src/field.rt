@@ -1,6 +1,6 @@
 //! What the elements of records hold.
 
-ghost use Rattle.std.specs.Prelude.{◌≡◌, ◌≤◌, IfSome, length};
+ghost use Rattle.std.specs.Prelude.{◌≡◌, IfSome};
 ghost use Rattle.dd_layout.specs.Cells.{IsShort, cell_values, charset_of, charset_values, even_value, field_values};
 ghost use Rattle.dd_layout.specs.Entries.{padded};
 ghost use Rattle.dd_layout.specs.Records.{file_text};
