@@ -16,7 +16,7 @@ use Rattle.dd_layout.specs.declared.record.PlanRecord.{PlanRecord}
 use Rattle.dd_layout.specs.Directory.{meta_of}
 use Rattle.dd_layout.specs.Layouts.{IsSound}
 use Rattle.dd_layout.specs.Plans.{records_of, size, tree}
-use Rattle.dd_layout.proofs.Whole.{whole_valid}
+use Rattle.dd_layout.proofs.DirectoryElements.{elements_are_valid}
 use Rattle.dd_dir.specs.Directories.{IsDirectory, IsRecord, directory_set, entries_of, first_root, last_root}
 use Rattle.dd_dir.proofs.DirectoryTexts.{directory_length, sizes_sum}
 
@@ -44,7 +44,7 @@ set_spelled label versions sound below few valid =
     (recursion_from_All (IsSound (length versions)) (records_of label versions) sound) in
     let all = directory_length label versions sound in
     record {
-      valid = whole_valid label.id (first_root label versions) (last_root label versions) entries few
+      valid = elements_are_valid label.id (first_root label versions) (last_root label versions) entries few
           (All-from_recursion IsRecord entries valid) (omega (arith, sum, head, below));
       whole = refl;
       fits = second_below (head_text (meta_of label)) (elements_text (directory_set label versions)) _ all below;

@@ -26,7 +26,7 @@ use Rattle.dd_layout.specs.Plans.{tree}
 use Rattle.dd_layout.specs.Records.{record_part}
 use Rattle.dd_layout.specs.Sizes.{record_size}
 use Rattle.dd_layout.proofs.RecordSizes.{same_size}
-use Rattle.dd_layout.proofs.Whole.{items_length, whole_length}
+use Rattle.dd_layout.proofs.DirectoryElements.{items_length, length_is_of_records}
 use Rattle.dd_dir.specs.Directories.{directory_of, entries_by, entries_of, first_root, last_root}
 use Rattle.dd_dir.proofs.RecordTexts.{records_text}
 use Rattle.dd_dir.proofs.RowTexts.{text-append, text-one, text_of}
@@ -84,7 +84,7 @@ directory_length label versions sound =
     let last = last_root label versions in
     let all = directory_entries label.id first last (map record_part entries) in
     let a = length-append (head_text (meta_of label)) (text_of all) in
-    let b = whole_length label first last entries in
+    let b = length_is_of_records label first last entries in
     let c = sizes_sum label versions (tree versions)
     (recursion_from_All (IsSound (length versions)) (records_of label versions) sound) in
     omega arith

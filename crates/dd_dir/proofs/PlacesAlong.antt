@@ -32,7 +32,7 @@ use Rattle.dd_layout.specs.Sizes.{record_size}
 use Rattle.dd_layout.proofs.Leasts.{paths_have_parts}
 use Rattle.dd_layout.proofs.Lengths.{short_more}
 use Rattle.dd_layout.proofs.Neighbourhood.{rows_are_known}
-use Rattle.dd_layout.proofs.Whole.{directory_length}
+use Rattle.dd_layout.proofs.DirectoryElements.{directory_length}
 use Rattle.dd_dir.specs.Directories.{directory_set, entries_of, first_root, last_root}
 use Rattle.dd_dir.specs.Reading.{stands_in}
 use Rattle.dd_dir.specs.Saying.{sets_of}

@@ -1,6 +1,7 @@
 pub mod Blocks
 pub mod Counts
 pub mod Crowds
+pub mod DirectoryElements
 pub mod InOrder
 pub mod LeastBelow
 pub mod Leasts
@@ -20,5 +21,4 @@ pub mod TreeRows
 pub mod Trees
 pub mod Valid
 pub mod Walked
-pub mod Whole
 pub mod WorkedOffsets

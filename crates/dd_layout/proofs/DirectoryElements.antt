@@ -46,11 +46,11 @@ directory_length id first last parts =
     let f = length-items (Some SQ) Defined (items_of parts) in
     omega arith
 
-pub whole_length : (label : Label) (first last : ℕ) (records : List (List Entry))
+pub length_is_of_records : (label : Label) (first last : ℕ) (records : List (List Entry))
     → length (head_text (meta_of label))
     + entries_size (directory_entries label.id first last (map record_part records))
     ≡ first_offset label + sum_by record_size records
-whole_length label first last records =
+length_is_of_records label first last records =
     let a = directory_length label.id first last (map record_part records) in
     let b = directory_length label.id 0 0 [] in
     let c = items_length records in
@@ -90,10 +90,10 @@ directory_valid id first last parts few valid below =
     one_valid 32 0 (tag 0x0004 0x1130) (Some CS) (bytes (padded 0x20 id)) (elements_of firsts) tt tt
     (omega arith, omega arith) d
 
-pub whole_valid : (id : List ℕ) (first last : ℕ) (records : List (List Entry)) → length id ≤ 16
+pub elements_are_valid : (id : List ℕ) (first last : ℕ) (records : List (List Entry)) → length id ≤ 16
     → All (λ es. AreElements Explicit 31 0 (elements_of es)) records → sum_by record_size records < undefined_length
     → AreElements Explicit max_levels 0 (elements_of (directory_entries id first last (map record_part records)))
-whole_valid id first last records few valid below =
+elements_are_valid id first last records few valid below =
     let a = items_length records in
     directory_valid id first last (map record_part records) few
     (items_valid records (recursion_from_All (λ es. AreElements Explicit 31 0 (elements_of es)) records valid)
