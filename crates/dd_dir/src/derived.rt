@@ -16,7 +16,8 @@ const UNNAMED: &[u8] = b"2.25.0";
 
 /// The UID of the SHA-256 of the directory of these versions under this ID and the UID 2.25.0. The
 /// directory is hashed as it is sent, and never held in memory. Refused as `lay_out` refuses under that
-/// label.
+/// label, and as Memory where the writer that hashes fails, which is where a count of its calls is at
+/// its last value.
 pub fn derived_uid(
     alloc: Global,
     catalogue: &Catalogue,

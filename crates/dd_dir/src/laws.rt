@@ -20,7 +20,8 @@ pub fn directory_is_as_long_as_planned()
         → length (directory_of label versions) ≡ size label versions }
 {}
 
-/// The first and the last root record of the directory of four images of two patients.
+/// The offsets of the first and the last root record of the directory of four images of two patients.
+/// This states a law, and does nothing.
 pub fn four_images_have_two_roots()
     ensures first { first_root unnamed four_images ≡ 320 }
     ensures last { last_root unnamed four_images ≡ 1476 }

@@ -48,8 +48,8 @@ fn lacks_digest(level: Level, set: &DataSet<'_>) -> bool
     }
 }
 
-/// The digest of the file of an IMAGE record, where it stands in the block of private elements of its
-/// creator (PS3.5 section 7.8.1) and has 32 bytes.
+/// The SHA-256 of the file of an IMAGE record: None where it does not stand in the block of private
+/// elements of its creator (PS3.5 section 7.8.1), is a sequence, or has not 32 bytes.
 pub fn digest_in(set: &DataSet<'_>) -> Option<[u8; 32]>
     ensures { result ≡ digest_in (set_view set.now) }
 {

@@ -16,7 +16,7 @@ use dd_layout::{Label, Limits, PlanFault, lay_out};
 use std::alloc::Global;
 
 /// The bytes of the directory of these versions, in harmony, under this label (PS3.10 section 8.6).
-/// Refused as `lay_out` refuses, and as Memory where the bytes have no room.
+/// Refused as `lay_out` refuses, and as Memory where the bytes find no room.
 pub fn publish(
     alloc: Global,
     catalogue: &Catalogue,
@@ -43,7 +43,7 @@ pub fn publish(
 }
 
 /// The bytes of the directory of the best of all versions that were taken in a history, in harmony, under
-/// this label. Refused as `publish` refuses that catalogue, and as Memory where the catalogue has no room.
+/// this label. Refused as `publish` refuses that catalogue, and as Memory where the catalogue finds no room.
 pub fn assemble(
     alloc: Global,
     history: &History,

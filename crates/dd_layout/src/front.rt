@@ -67,8 +67,8 @@ fn cell(tag: Tag, vr: Vr, value: CellValue<'_>) -> Cell<'_>
     Cell { tag, vr, value }
 }
 
-/// The offset of the first record: how many bytes the head of the file and the elements before the
-/// first item have.
+/// The offset of the first record, from the first byte of the file: how many bytes the head of the file
+/// and the elements before the first item have.
 pub fn first_offset(label: &Label) -> u64
     ensures exact { result ≡ first_offset label.now }
     ensures few { result ≤ 490 }
@@ -78,7 +78,8 @@ pub fn first_offset(label: &Label) -> u64
     head_size(&directory_meta(label)) + front_size(label) + header_size(Vr::SQ)
 }
 
-/// How many bytes the elements before the records have.
+/// How many bytes the elements before the records have: four headers of 8, an ID of at most 16, two
+/// offsets of 4, and a flag of 2.
 fn front_size(label: &Label) -> u64
     ensures exact { result ≡ entries_size (front_entries label.now.id 0 0) }
     ensures few { result ≤ 58 }
