@@ -20,7 +20,8 @@ use dd_keys::Parts;
 const ITEM_HEADER: u64 = 8;
 
 /// How many bytes a record of this level takes: its Item tag and length, the elements that link it,
-/// and its keys. Neither its offsets nor its File ID change that.
+/// and its keys. Neither its offsets nor its File ID change that. At most 11 rows of 1,036 bytes stand
+/// behind the 8 of the Item tag and length, so 12,000 are never passed.
 pub fn record_size(level: Level, parts: &Parts) -> u64
     ensures exact { (next lower : ℕ) (file : Option Ranks) → IsFileOf level file
         → result ≡ record_size (record_entries level next lower file parts.now) }
@@ -50,7 +51,8 @@ fn unlinked(level: Level) -> PlanRecord
     }
 }
 
-/// How many bytes the elements of these rows take.
+/// How many bytes the elements of these rows take: each at most 1,036, a header of 12 and a value of
+/// 1,024.
 fn cells_size(mut rows: &[Row], planned: &PlanRecord, parts: &Parts) -> u64
     requires { length rows.now ≤ 11 }
     ensures exact { result ≡ entries_size
