@@ -9,23 +9,30 @@ ghost use Rattle.dd_dir.specs.Directories.{first_root, last_root};
 use dd_layout::{Level, PlanRecord};
 
 /// The offset of the first root record, or 0 (PS3.3 section F.3.2.2).
-pub(crate) fn first_root(rows: &[PlanRecord]) -> u32
-    ensures { (label : Label) (versions : List Parts) → rows.now ≡ records_of label versions
+pub(crate) fn first_root(records: &[PlanRecord]) -> u32
+    ensures { (label : Label) (versions : List Parts) → records.now ≡ records_of label versions
         → result ≡ first_root label versions }
 {
-    match rows.iter().find(|row| row.level == Level::Patient) {
+    match records
+        .iter()
+        .find(|planned| planned.level == Level::Patient)
+    {
         None => 0,
-        Some(row) => row.at,
+        Some(planned) => planned.at,
     }
 }
 
 /// The offset of the last root record, or 0 (PS3.3 section F.3.2.2).
-pub(crate) fn last_root(rows: &[PlanRecord]) -> u32
-    ensures { (label : Label) (versions : List Parts) → rows.now ≡ records_of label versions
+pub(crate) fn last_root(records: &[PlanRecord]) -> u32
+    ensures { (label : Label) (versions : List Parts) → records.now ≡ records_of label versions
         → result ≡ last_root label versions }
 {
-    match rows.iter().rev().find(|row| row.level == Level::Patient) {
+    match records
+        .iter()
+        .rev()
+        .find(|planned| planned.level == Level::Patient)
+    {
         None => 0,
-        Some(row) => row.at,
+        Some(planned) => planned.at,
     }
 }

@@ -9,7 +9,7 @@ use Rattle.dd_dir.proofs.roots.last_root.Goals as goal
 
 pub returns-in-None : goal.returns-in-None
 returns-in-None c = λ label versions is.
-    let rows = c.args.rows.now in
+    let rows = c.args.records.now in
     let found : option_copied c.find.result ≡ find (λ row. is_root row.level) (reverse rows) =
     find_from_yields_List (λ row. is_root row.level) _ _ c.find.result c.find.ensures.ran
     (YieldsList-from_rev_slice rows cc) (λ x b q k. search (rules, tests)) in
@@ -17,7 +17,7 @@ returns-in-None c = λ label versions is.
 
 pub returns-in-Some : goal.returns-in-Some
 returns-in-Some c = λ label versions is.
-    let rows = c.args.rows.now in
+    let rows = c.args.records.now in
     let found : option_copied c.find.result ≡ find (λ row. is_root row.level) (reverse rows) =
     find_from_yields_List (λ row. is_root row.level) _ _ c.find.result c.find.ensures.ran
     (YieldsList-from_rev_slice rows cc) (λ x b q k. search (rules, tests)) in
