@@ -144,14 +144,7 @@ fn is_transfer(bytes: &[u8]) -> bool
     ensures { result ≡ suits Field.Transfer bytes.now }
 {
     match Uid::new(bytes) {
-        Ok(transfer) => {
-            let meta = Meta {
-                class: transfer,
-                instance: transfer,
-                transfer,
-            };
-            meta.syntax().is_some()
-        }
+        Ok(transfer) => Meta::syntax_of(&transfer).is_some(),
         Err(_) => false,
     }
 }

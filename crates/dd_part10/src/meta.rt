@@ -18,12 +18,19 @@ impl Meta {
     ghost use Rattle.std.specs.Prelude.{◌≡◌};
     ghost use Rattle.dd_part10.specs.Syntaxes.{syntax_of};
 
-    /// The syntax of the data set, and None where the transfer syntax is none of those that are read
-    /// (PS3.5 annex A.1 and A.2).
+    /// The syntax of the data set, and None where the transfer syntax is none of those that are read.
     pub fn syntax(&self) -> Option<Syntax>
         ensures { result ≡ syntax_of self.now.transfer }
     {
-        match self.transfer.as_bytes() {
+        Meta::syntax_of(&self.transfer)
+    }
+
+    /// The syntax of the data sets of this transfer syntax, and None where it is none of those that are
+    /// read (PS3.5 annex A.1 and A.2).
+    pub fn syntax_of(transfer: &Uid) -> Option<Syntax>
+        ensures { result ≡ syntax_of transfer.now }
+    {
+        match transfer.as_bytes() {
             b"1.2.840.10008.1.2" => Some(Syntax::Implicit),
             b"1.2.840.10008.1.2.1" => Some(Syntax::Explicit),
             _ => None,
