@@ -155,10 +155,5 @@ fn is_empty(key: &Key) -> bool
 fn has_known_syntax(parts: &Parts) -> bool
     ensures { result ≡ is_some (syntax_of parts.now.transfer) }
 {
-    let meta = Meta {
-        class: parts.class,
-        instance: parts.instance,
-        transfer: parts.transfer,
-    };
-    meta.syntax().is_some()
+    Meta::syntax_of(&parts.transfer).is_some()
 }
