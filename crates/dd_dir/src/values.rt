@@ -8,7 +8,7 @@ use dd_elem::{Tag, clean};
 use dd_set::{DataSet, Value};
 
 /// What an in-use flag holds where the record is in use.
-const IN_USE: u16 = 0xffff;
+const FLAG_IN_USE: u16 = 0xffff;
 
 /// The value of the element with this tag, where it is there and holds bytes.
 pub(crate) fn value_of<'a>(set: &DataSet<'a>, tag: Tag) -> Option<&'a [u8]>
@@ -49,7 +49,7 @@ fn flag_of(value: &[u8]) -> Option<bool>
     ensures { result ≡ flag_of value.now }
 {
     match value {
-        [first, second] => Some(u16::from_le_bytes([*first, *second]) == IN_USE),
+        [first, second] => Some(u16::from_le_bytes([*first, *second]) == FLAG_IN_USE),
         _ => None,
     }
 }
