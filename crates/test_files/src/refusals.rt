@@ -1,5 +1,6 @@
 //! Bytes that are no file, each with the first check that they fail.
 
+use crate::vectors::v1_with_private;
 use dd_elem::ByteSource;
 use dd_part10::{FileFault, StreamFault, parse_file, read_file};
 use dd_set::SetFault;
@@ -19,6 +20,14 @@ const CUT: &str = "\
 276 > taken
 453 > 27 Set 1 Truncated
 454 > taken";
+
+/// V1 with private information in group 0002, cut to so many bytes: the length of the group, and how many bytes
+/// that information has. The group ends at byte 1,168, and at byte 1,170.
+const CUT_LONG: &str = "\
+1167 1024 862 > 22 GroupLength
+1168 1024 862 > taken
+1169 1026 864 > 22 GroupLength
+1170 1026 864 > taken";
 
 /// Where V1 can be cut: behind its group 0002, and behind each element of its data set.
 const ENDS: &str = "276 310 328 344 358 368 384 394 408 424 434 444 454";
@@ -78,6 +87,21 @@ fn cut(alloc: Global, case: &str) -> Result<String, Fail> {
 fn a_file_cut_short(rt: HostRuntime) -> Result<(), Fail> {
     for case in CUT.split('\n') {
         assert_eq!(rt; cut(rt.alloc(), case)?.as_str(), case);
+    }
+    Ok(())
+}
+
+fn cut_long(alloc: Global, case: &str) -> Result<String, Fail> {
+    let (count, lengths) = question(case).split_once(' ').ok_or("no lengths")?;
+    let bytes = v1_with_private(alloc, lengths)?;
+    let front = bytes.get(..count.parse::<usize>()?).ok_or("fewer bytes")?;
+    Ok(answered(alloc, case, &answer(alloc, front)?)?)
+}
+
+#[test]
+fn a_long_group_cut_short(rt: HostRuntime) -> Result<(), Fail> {
+    for case in CUT_LONG.split('\n') {
+        assert_eq!(rt; cut_long(rt.alloc(), case)?.as_str(), case);
     }
     Ok(())
 }

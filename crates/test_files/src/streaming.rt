@@ -1,8 +1,8 @@
 //! Files read from a reader.
 
-use crate::vectors::{file_named, meta_of};
+use crate::vectors::{file_named, meta_of, v1_with_private};
 use dd_elem::{ByteSource, Tag};
-use dd_part10::{Meta, Scanned, StreamFault, read_file};
+use dd_part10::{Meta, Scanned, StreamFault, parse_file, read_file};
 use dd_set::{Found, FoundValue};
 use dd_vectors::{answered, bytes_of, failing, put_at, question, tag_of, text_of, v1};
 use std::alloc::Global;
@@ -43,6 +43,14 @@ v1 > as parsed; (0010,0020) 'P1 2
 v1 implicit > as parsed; (0008,1140) items; (0010,0020) 'P1 2
 v2 > as parsed; (0004,1220) items
 first directory > as parsed; (0004,1220) items";
+
+/// V1 with private information in group 0002: the length of the group, and how many bytes that information
+/// has; and the size of the file, the place of its data set and what is told of it. A group of up to 1,024
+/// bytes is read into less room than one that is longer.
+const LONG_GROUPS: &str = "\
+1024 862 > 1346 1168 as parsed; (0010,0020) 'P1 2
+1026 864 > 1348 1170 as parsed; (0010,0020) 'P1 2
+65536 65374 > 65858 65680 as parsed; (0010,0020) 'P1 2";
 
 /// The tag of an element that was found, and `items`, or the front of its value and the length.
 fn value(alloc: Global, found: &Found) -> Result<String, Fail> {
@@ -125,6 +133,26 @@ fn files_read_for_some_elements(rt: HostRuntime) -> Result<(), Fail> {
     for piece in [1, 7, 4096] {
         for case in FILES.split('\n') {
             assert_eq!(rt; read_whole(rt.alloc(), piece, case)?.as_str(), case);
+        }
+    }
+    Ok(())
+}
+
+fn read_long(alloc: Global, piece: u64, case: &str) -> Result<String, Fail> {
+    let bytes = v1_with_private(alloc, question(case))?;
+    let file = parse_file(alloc, &bytes)?;
+    let mut reader = ByteSource::new(&bytes, piece, None);
+    let answer = read_file(alloc, &mut reader, &[tag_of("0010,0020")?], 65_858);
+    let told = told(alloc, answer, &file.meta)?;
+    let (size, place) = (bytes.len(), file.set_at);
+    Ok(answered(alloc, case, &format_args!("{size} {place} {told}"))?)
+}
+
+#[test]
+fn a_long_group_read_as_parsed(rt: HostRuntime) -> Result<(), Fail> {
+    for piece in [44, 4096] {
+        for case in LONG_GROUPS.split('\n') {
+            assert_eq!(rt; read_long(rt.alloc(), piece, case)?.as_str(), case);
         }
     }
     Ok(())

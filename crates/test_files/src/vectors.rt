@@ -1,7 +1,7 @@
 //! The files that tests read, by name.
 
 use dd_part10::{Meta, parse_file};
-use dd_vectors::{SOURCE_ROWS, first_directory, tag_of, v1, v1_implicit, v2};
+use dd_vectors::{SOURCE_ROWS, first_directory, push_bytes, put_at, tag_of, v1, v1_implicit, v2};
 use std::alloc::Global;
 use std::test::Fail;
 
@@ -14,6 +14,28 @@ pub(crate) fn file_named(alloc: Global, name: &str) -> Result<Vec<u8>, Fail> {
         "first directory" => first_directory(alloc),
         _ => Err("no file of this name".into()),
     }
+}
+
+/// V1 with private information behind the other elements of group 0002: its creator (0002,0100), and bytes
+/// (0002,0102). The words are the length of the group, and how many these bytes are.
+pub(crate) fn v1_with_private(alloc: Global, lengths: &str) -> Result<Vec<u8>, Fail> {
+    let (group, private) = lengths.split_once(' ').ok_or("no private information")?;
+    let (group, private) = (group.parse::<u32>()?, private.parse::<u32>()?);
+    let usual = v1(alloc)?;
+    let mut bytes = Vec::new(alloc);
+    bytes.extend_from_slice(usual.get(..276).ok_or("fewer bytes")?)?;
+    put_at(&mut bytes, 140, &group.to_le_bytes())?;
+    push_bytes(
+        alloc,
+        &mut bytes,
+        "02000001 'UI 0a00 '1.2.3.4.5~ 02000201 'OB 0000",
+    )?;
+    bytes.extend_from_slice(&private.to_le_bytes())?;
+    for _ in 0..private {
+        bytes.push(0xa5)?;
+    }
+    bytes.extend_from_slice(usual.get(276..).ok_or("fewer bytes")?)?;
+    Ok(bytes)
 }
 
 /// The meta information of the file with these bytes.
