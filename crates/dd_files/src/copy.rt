@@ -4,6 +4,7 @@ ghost use Rattle.std.specs.Io.KnownBytes.{Consumes};
 ghost use Rattle.dd_elem.specs.Device.{Gives};
 ghost use Rattle.dd_files.specs.Copying.{IsCopied};
 
+use crate::piece::PIECE;
 use dd_elem::{Read, Write};
 use dd_set::send;
 use sha2::{Digest, Sha256};
@@ -22,9 +23,6 @@ pub enum CopyFault {
     #[error("97 Changed")]
     Changed,
 }
-
-/// The most bytes of one read.
-pub(crate) const PIECE: usize = 64 * 1024;
 
 /// Copies what a reader gives to its end, of which there may be `limit` bytes, and answers the SHA-256
 /// of it.

@@ -5,7 +5,7 @@ ghost use Rattle.dd_elem.specs.Device.{Gives};
 ghost use Rattle.dd_files.specs.Whole.{IsDigest};
 ghost use Rattle.hex.specs.Hex.{encode_lower};
 
-use crate::copy::PIECE;
+use crate::piece::PIECE;
 use dd_elem::Read;
 use sha2::{Digest, Sha256};
 

@@ -9,6 +9,7 @@ mod copy;
 mod digest;
 mod files;
 mod paths;
+mod piece;
 mod whole;
 
 pub use copy::{CopyFault, copy_image};

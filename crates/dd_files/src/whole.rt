@@ -5,7 +5,7 @@ ghost use Rattle.std.specs.Io.KnownBytes.{Consumes};
 ghost use Rattle.dd_elem.specs.Device.{Gives};
 ghost use Rattle.dd_files.specs.Whole.{IsWholeAnswer};
 
-use crate::copy::PIECE;
+use crate::piece::PIECE;
 use dd_elem::Read;
 use std::alloc::Global;
 
