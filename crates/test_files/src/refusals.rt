@@ -1,10 +1,10 @@
 //! Bytes that are no file, each with the first check that they fail.
 
-use crate::vectors::v1_with_private;
+use crate::vectors::{v1_changed, v1_with_private};
 use dd_elem::ByteSource;
 use dd_part10::{FileFault, StreamFault, parse_file, read_file};
 use dd_set::SetFault;
-use dd_vectors::{answered, bytes_of, question, v1, v1_with};
+use dd_vectors::{answered, question, v1, v1_with};
 use std::alloc::Global;
 use std::test::Fail;
 
@@ -137,18 +137,9 @@ fn a_file_cut_anywhere(rt: HostRuntime) -> Result<(), Fail> {
     Ok(())
 }
 
-/// V1 with these bytes from this place on.
-fn overwritten(alloc: Global, place: usize, change: &[u8]) -> Result<Vec<u8>, Fail> {
-    let mut bytes = v1(alloc)?;
-    for (byte, new) in bytes.iter_mut().skip(place).zip(change) {
-        *byte = *new;
-    }
-    Ok(bytes)
-}
-
 fn changed(alloc: Global, case: &str) -> Result<String, Fail> {
     let (place, change) = question(case).split_once(' ').ok_or("no change")?;
-    let bytes = overwritten(alloc, place.parse()?, &bytes_of(alloc, change)?)?;
+    let bytes = v1_changed(alloc, place, change)?;
     Ok(answered(alloc, case, &answer(alloc, &bytes)?)?)
 }
 

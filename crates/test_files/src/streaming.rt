@@ -1,10 +1,10 @@
 //! Files read from a reader.
 
-use crate::vectors::{file_named, meta_of, v1_with_private};
+use crate::vectors::{file_named, meta_of, v1_changed, v1_with_private};
 use dd_elem::{ByteSource, Tag};
 use dd_part10::{Meta, Scanned, StreamFault, parse_file, read_file};
 use dd_set::{Found, FoundValue};
-use dd_vectors::{answered, bytes_of, failing, put_at, question, tag_of, text_of, v1};
+use dd_vectors::{answered, failing, question, tag_of, text_of, v1};
 use std::alloc::Global;
 use std::test::Fail;
 
@@ -83,17 +83,10 @@ fn told(
     Ok(text)
 }
 
-/// V1 with these bytes from this place on.
-fn changed(alloc: Global, place: &str, change: &str) -> Result<Vec<u8>, Fail> {
-    let mut bytes = v1(alloc)?;
-    put_at(&mut bytes, place.parse()?, &bytes_of(alloc, change)?)?;
-    Ok(bytes)
-}
-
 fn read(alloc: Global, parsed: &Meta, case: &str) -> Result<String, Fail> {
     let mut words = question(case).split(' ');
     let place = words.next().ok_or("no place")?;
-    let bytes = changed(alloc, place, words.next().ok_or("no bytes")?)?;
+    let bytes = v1_changed(alloc, place, words.next().ok_or("no bytes")?)?;
     let piece = words.next().ok_or("no piece")?.parse()?;
     let limit = words.next().ok_or("no limit")?.parse()?;
     let fails = failing(words.next().ok_or("no failure")?)?;

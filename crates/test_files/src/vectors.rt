@@ -1,7 +1,9 @@
 //! The files that tests read, by name.
 
 use dd_part10::{Meta, parse_file};
-use dd_vectors::{SOURCE_ROWS, first_directory, push_bytes, put_at, tag_of, v1, v1_implicit, v2};
+use dd_vectors::{
+    SOURCE_ROWS, bytes_of, first_directory, push_bytes, put_at, tag_of, v1, v1_implicit, v2,
+};
 use std::alloc::Global;
 use std::test::Fail;
 
@@ -14,6 +16,13 @@ pub(crate) fn file_named(alloc: Global, name: &str) -> Result<Vec<u8>, Fail> {
         "first directory" => first_directory(alloc),
         _ => Err("no file of this name".into()),
     }
+}
+
+/// V1 with these bytes from this place on.
+pub(crate) fn v1_changed(alloc: Global, place: &str, change: &str) -> Result<Vec<u8>, Fail> {
+    let mut bytes = v1(alloc)?;
+    put_at(&mut bytes, place.parse()?, &bytes_of(alloc, change)?)?;
+    Ok(bytes)
 }
 
 /// V1 with private information behind the other elements of group 0002: its creator (0002,0100), and bytes
