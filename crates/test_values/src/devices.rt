@@ -1,7 +1,7 @@
 //! Readers and writers over memory.
 
 use dd_elem::{ByteSource, Read, Sink, Write};
-use dd_vectors::{answered, question};
+use dd_vectors::{answered, failing, question};
 use std::alloc::Global;
 use std::test::Fail;
 
@@ -24,13 +24,6 @@ const WRITERS: &str = "\
 9 > 3 3 3 ABCABCABC then ABCABCABC
 0 > - - -  then ";
 
-fn limit(text: &str) -> Result<Option<u64>, Fail> {
-    match text {
-        "-" => Ok(None),
-        number => Ok(Some(number.parse()?)),
-    }
-}
-
 /// What a read gives, with a space before it where it is not the first.
 fn push_read(text: &mut String, source: &mut ByteSource<'_>) -> Result<(), Fail> {
     let mut room = [0; 4];
@@ -47,7 +40,7 @@ fn push_read(text: &mut String, source: &mut ByteSource<'_>) -> Result<(), Fail>
 
 fn reads(alloc: Global, case: &str) -> Result<String, Fail> {
     let (piece, fails) = question(case).split_once(' ').ok_or("no reader")?;
-    let mut source = ByteSource::new(b"ABCDE", piece.parse()?, limit(fails)?);
+    let mut source = ByteSource::new(b"ABCDE", piece.parse()?, failing(fails)?);
     let mut text = String::new(alloc);
     for _ in 0..4 {
         push_read(&mut text, &mut source)?;
@@ -75,7 +68,7 @@ fn push_write(text: &mut String, sink: &mut Sink) -> Result<(), Fail> {
 }
 
 fn writes(alloc: Global, case: &str) -> Result<String, Fail> {
-    let mut sink = Sink::new(alloc, limit(question(case))?);
+    let mut sink = Sink::new(alloc, failing(question(case))?);
     sink.reserve(9)?;
     let mut text = String::new(alloc);
     for _ in 0..3 {
