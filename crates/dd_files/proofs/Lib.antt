@@ -1,2 +1,3 @@
 mod CopySteps
+pub mod FileLaws
 pub mod FilePaths

@@ -3,7 +3,7 @@ use Rattle.std.proofs.Common.{◌≡◌, ℕ, List, ◌++◌, Option, None, Some
 use Rattle.std.specs.Option.{option_and_then}
 use Rattle.std.specs.Io.KnownBytes.{Appends}
 use Rattle.std.specs.Prelude.{IfSome, option_map}
-use Rattle.dd_files.specs.FileLaws.{file_here, file_there, files_but}
+use Rattle.dd_files.proofs.FileLaws.{file_here, file_there, files_but}
 use Rattle.dd_files.specs.Files.{Held, grown, with_written, written}
 use Rattle.dd_mem_files.specs.MemFiles.{Change, Stored, Unwritten, bytes_at, emptied, held_of, told, told_of, unwritten}
 use Rattle.dd_mem_files.specs.MemFiles.{written_of}

@@ -1,7 +1,7 @@
 -- A new file that was written and ended.
 use Rattle.std.proofs.Common.{◌≡◌, ℕ, List, [], ◌++◌, Option, Some, None, ap, ◌∙◌}
 use Rattle.std.specs.Prelude.{option_map}
-use Rattle.dd_files.specs.FileLaws.{file_here, file_there, files_but}
+use Rattle.dd_files.proofs.FileLaws.{file_here, file_there, files_but}
 use Rattle.dd_files.specs.Files.{Held, ended, grown, published, started, with_file}
 
 -- the file has all that was written to it

@@ -11,7 +11,6 @@ pub use Rattle.dd_engine.specs.Picking
 pub use Rattle.dd_engine.specs.Published
 pub use Rattle.dd_engine.specs.Supply
 pub use Rattle.dd_files.specs.Copying
-pub use Rattle.dd_files.specs.FileLaws
 pub use Rattle.dd_files.specs.Files
 pub use Rattle.dd_files.specs.Paths
 pub use Rattle.dd_files.specs.Whole
