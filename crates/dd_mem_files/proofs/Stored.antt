@@ -1,6 +1,7 @@
 -- The files of a map by path, as a list of paths and bytes.
-use Rattle.std.proofs.Common.{◌≡◌, ℕ, List, [], ◌∷◌, map, refl, Vec, string_bytes, Bool, true, false, ap, ◌∙◌, sym, arith, inl, inr, None}
-use Rattle.std.specs.Prelude.{Option, Some, ◌⊎◌, option_map, String, bytes_eq}
+use Rattle.std.proofs.Common.{◌≡◌, ℕ, List, [], ◌∷◌, map, refl, Vec, string_bytes, false, ap, ◌∙◌, sym, arith}
+use Rattle.std.proofs.Common.{inl, inr, None}
+use Rattle.std.specs.Prelude.{Option, Some, option_map, String, bytes_eq}
 use Rattle.std.specs.BTreeMap.{BTreeMap, get_by_text, UpdatesBy}
 use Rattle.std.specs.Cmp.Lexicographic.{slice_cmp}
 use Rattle.std.specs.Ordering.{is_eq, nat_cmp}
@@ -13,7 +14,7 @@ use Rattle.std.specs.declared.alloc.Global.{Global}
 use Rattle.std.proofs.lemmas.Map.Text.{is_eq-slice_cmp, btree_map_updates_text}
 use Rattle.std.proofs.lemmas.Slice.Eq.{bytes_eq-Decides}
 use Rattle.std.proofs.lemmas.Bool.{false_from_ne_true}
-use Rattle.std.specs.Bool.{Decides}
+use Rattle.dd_files.proofs.FileLaws.{by_test}
 use Rattle.dd_mem_files.specs.MemFiles.{listed, bytes_at, KeepsFiles, SetsFile}
 
 -- a path finds the same bytes in the list
@@ -43,18 +44,13 @@ sets_file old new path v bytes same updates =
           lookup-listed other new ∙ ap (option_map (λ w. w.items)) there ∙ sym (lookup-listed other old);
     }
 
--- a test is true, or what it decides does not hold
-by_test : (b : Bool) (P : Type 0) → Decides b P → P ⊎ (P → ⊥)
-by_test true P d = inl (d.0 refl)
-by_test false P d = inr (λ p. let e : false ≡ true = d.1 p in cc)
-
 -- a file that gets the bytes that it had leaves all as it was
 pub keeps_files : (old new : List (List ℕ × List ℕ)) (path bytes : List ℕ) → bytes_at old path ≡ Some bytes → SetsFile old new path bytes → KeepsFiles old new
 keeps_files old new path bytes had sets =
     record {
       all = λ other. elim (by_test (bytes_eq other path) (other ≡ path) (bytes_eq-Decides other path)) [
-        | inl same ↦ rw same (sets.file ∙ sym had)
-        | inr apart ↦ sets.others other apart
+        | inl same ↦ rw (same.1) (sets.file ∙ sym had)
+        | inr apart ↦ sets.others other apart.1
       ];
     }
 
