@@ -18,7 +18,9 @@ use Rattle.dd_files.proofs.FileLaws.{by_test}
 use Rattle.dd_mem_files.specs.MemFiles.{listed, bytes_at, KeepsFiles, SetsFile}
 
 -- a path finds the same bytes in the list
-lookup-map : (path : List ℕ) (es : List (String Global × Vec ℕ Global)) → lookup (bytes_eq path) (map (λ e. (string_bytes e.0, e.1.items)) es) ≡ option_map (λ v. v.items) (lookup (λ k. is_eq (slice_cmp nat_cmp path (string_bytes k))) es)
+lookup-map : (path : List ℕ) (es : List (String Global × Vec ℕ Global))
+    → lookup (bytes_eq path) (map (λ e. (string_bytes e.0, e.1.items)) es)
+    ≡ option_map (λ v. v.items) (lookup (λ k. is_eq (slice_cmp nat_cmp path (string_bytes k))) es)
 lookup-map path [] = refl
 lookup-map path (e ∷ es) =
     let rest = lookup-map path es in
@@ -26,12 +28,15 @@ lookup-map path (e ∷ es) =
     rw same (grind (arith, rest))
 
 -- a path finds the same bytes in the map
-pub lookup-listed : (path : List ℕ) (files : BTreeMap (String Global) (Vec ℕ Global)) → lookup (bytes_eq path) (listed files) ≡ option_map (λ v. v.items) (get_by_text files path)
+pub lookup-listed : (path : List ℕ) (files : BTreeMap (String Global) (Vec ℕ Global))
+    → lookup (bytes_eq path) (listed files) ≡ option_map (λ v. v.items) (get_by_text files path)
 lookup-listed path files = lookup-map path files.entries
 
 -- where a map changes at a path alone, so do the files
-pub sets_file : (old new : BTreeMap (String Global) (Vec ℕ Global)) (path : List ℕ) (v : Vec ℕ Global) (bytes : List ℕ) → v.items ≡ bytes
-    → UpdatesBy string_cmp (λ k. slice_cmp nat_cmp path (string_bytes k)) old new (Some v) → SetsFile (listed old) (listed new) path bytes
+pub sets_file : (old new : BTreeMap (String Global) (Vec ℕ Global)) (path : List ℕ) (v : Vec ℕ Global)
+    (bytes : List ℕ) → v.items ≡ bytes
+    → UpdatesBy string_cmp (λ k. slice_cmp nat_cmp path (string_bytes k)) old new (Some v)
+    → SetsFile (listed old) (listed new) path bytes
 sets_file old new path v bytes same updates =
     let changed = btree_map_updates_text path old new (Some v) updates in
     let self_test = (bytes_eq-Decides path path).1 refl in
@@ -39,13 +44,15 @@ sets_file old new path v bytes same updates =
     record {
       file = lookup-listed path new ∙ ap (option_map (λ w. w.items)) here ∙ ap (λ (xs : List ℕ). Some xs) same;
       others = λ other apart.
-          let other_test : bytes_eq path other ≡ false = false_from_ne_true (bytes_eq path other) (λ t. apart (sym ((bytes_eq-Decides path other).0 t))) in
+          let other_test : bytes_eq path other ≡ false = false_from_ne_true (bytes_eq path other)
+          (λ t. apart (sym ((bytes_eq-Decides path other).0 t))) in
           let there : get_by_text new other ≡ get_by_text old other = changed other ∙ rw other_test in
           lookup-listed other new ∙ ap (option_map (λ w. w.items)) there ∙ sym (lookup-listed other old);
     }
 
 -- a file that gets the bytes that it had leaves all as it was
-pub keeps_files : (old new : List (List ℕ × List ℕ)) (path bytes : List ℕ) → bytes_at old path ≡ Some bytes → SetsFile old new path bytes → KeepsFiles old new
+pub keeps_files : (old new : List (List ℕ × List ℕ)) (path bytes : List ℕ) → bytes_at old path ≡ Some bytes
+    → SetsFile old new path bytes → KeepsFiles old new
 keeps_files old new path bytes had sets =
     record {
       all = λ other. elim (by_test (bytes_eq other path) (other ≡ path) (bytes_eq-Decides other path)) [
@@ -54,11 +61,13 @@ keeps_files old new path bytes had sets =
       ];
     }
 
-same_file : (old new : List (List ℕ × List ℕ)) (current : Option (List ℕ)) → KeepsFiles old new → option_and_then (bytes_at new) current ≡ option_and_then (bytes_at old) current
+same_file : (old new : List (List ℕ × List ℕ)) (current : Option (List ℕ)) → KeepsFiles old new
+    → option_and_then (bytes_at new) current ≡ option_and_then (bytes_at old) current
 same_file old new None keeps = refl
 same_file old new (Some path) keeps = keeps.all path
 
 -- where the files stay, so do the bytes of the one that is being written
 pub keeps_written : (old new : List (List ℕ × List ℕ)) (was is : Option (List ℕ)) → is ≡ was → KeepsFiles old new
     → Keeps (option_and_then (bytes_at old) was) (option_and_then (bytes_at new) is)
-keeps_written old new was is same keeps = rw (same, same_file old new was keeps) (Keeps-refl (option_and_then (bytes_at old) was))
+keeps_written old new was is same keeps =
+    rw (same, same_file old new was keeps) (Keeps-refl (option_and_then (bytes_at old) was))

@@ -75,7 +75,8 @@ read_found held folder opened path file given node finding limit old new failure
     inr (inr (record {
       path = path;
       place = subst (λ (name : List ℕ). IsPathIn folder (id_path name) path) is
-          (place (subst (λ (name : List ℕ). All (λ (byte : ℕ). byte < 128) name) (sym is) (id_ascii (file_in node) id)));
+          (place (subst (λ (name : List ℕ). All (λ (byte : ℕ). byte < 128) name) (sym is)
+          (id_ascii (file_in node) id)));
       bytes = given;
       stored = subst (λ (xs : List ℕ). IfSome held (λ files. files.bytes_at xs ≡ Some given)) at
           (stored_whole held opened given old new left known read.1.ended);

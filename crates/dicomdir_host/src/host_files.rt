@@ -1,6 +1,6 @@
 //! The files of the system.
-ghost use Rattle.std.specs.Prelude.{◌≡◌, ◌↔◌, ◌<◌, ◌++◌, ◌∷◌, ℕ, [], None, Some, refl, option_map, string_bytes, IfSome};
-ghost use Rattle.std.specs.Prelude.{IsErr, IsOk, IsTrue};
+ghost use Rattle.std.specs.Prelude.{◌≡◌, ◌↔◌, ◌<◌, ◌++◌, ◌∷◌, ℕ, [], None, Some, refl, option_map, string_bytes};
+ghost use Rattle.std.specs.Prelude.{IfSome, IsErr, IsOk, IsTrue};
 ghost use Rattle.dd_elem.specs.Device.{HasWorked, counted, last_count};
 ghost use Rattle.dicomdir_host.specs.Directory.{IsDirectoryPath};
 

@@ -10,7 +10,9 @@ returns-in-Ok-clause-ok c =
     let w = c.extend_from_slice.new.self in
     let had : bytes_at (listed c.args.files.now) c.args.path.now ≡ Some c.in-Some.file.now.items =
     lookup-listed c.args.path.now c.args.files.now ∙ ap (option_map (λ v. v.items)) (sym c.in-Some.ensures.value) in
-    let sets = sets_file c.args.files.now (c.get_mut.follows.lender w) c.args.path.now w (c.in-Some.file.now.items ++ c.args.bytes.now) c.in-Ok.ensures.items ((c.get_mut.follows.holds w).3 (search rules)) in
+    let sets = sets_file c.args.files.now (c.get_mut.follows.lender w) c.args.path.now w
+    (c.in-Some.file.now.items ++ c.args.bytes.now) c.in-Ok.ensures.items
+    ((c.get_mut.follows.holds w).3 (search rules)) in
     (c.in-Some.file.now.items, had, sets)
 
 pub returns-in-Err-clause-err : goal.returns-in-Err-clause-err
@@ -18,5 +20,6 @@ returns-in-Err-clause-err c =
     let w = c.extend_from_slice.new.self in
     let had : bytes_at (listed c.args.files.now) c.args.path.now ≡ Some c.in-Some.file.now.items =
     lookup-listed c.args.path.now c.args.files.now ∙ ap (option_map (λ v. v.items)) (sym c.in-Some.ensures.value) in
-    let sets = sets_file c.args.files.now (c.get_mut.follows.lender w) c.args.path.now w c.in-Some.file.now.items c.in-Err.ensures.items ((c.get_mut.follows.holds w).3 (search rules)) in
+    let sets = sets_file c.args.files.now (c.get_mut.follows.lender w) c.args.path.now w
+    c.in-Some.file.now.items c.in-Err.ensures.items ((c.get_mut.follows.holds w).3 (search rules)) in
     keeps_files _ _ c.args.path.now c.in-Some.file.now.items had sets
