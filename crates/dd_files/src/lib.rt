@@ -15,5 +15,5 @@ mod whole;
 pub use copy::{CopyFault, copy_image};
 pub use digest::{digest_of, digest_text};
 pub use files::{Files, NotDone, NotThere, SOURCE_LIMIT};
-pub use paths::{DIRECTORY, file_path, is_joined_by_slash, path_in};
+pub use paths::{DIRECTORY, file_path, is_joined_by_slash, path_in, slashed};
 pub use whole::{WholeFault, read_whole};

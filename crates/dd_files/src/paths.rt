@@ -53,7 +53,7 @@ pub fn file_path(alloc: Global, folder: &str, file: &[u8]) -> Result<String, Mem
 }
 
 /// What stands in a path for a character of a File ID: `/` for `\`.
-fn slashed(byte: u8) -> char
+pub fn slashed(byte: u8) -> char
     ensures { result ≡ slashed byte }
 {
     match byte {

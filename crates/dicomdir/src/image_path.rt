@@ -1,6 +1,7 @@
 //! Where an image stands in the folder of a file-set.
 
 use dd_elem::FileId;
+use dd_files::slashed;
 use std::fmt::{self, InlineText, Write};
 
 /// How many characters the path of an image has in its file-set: those of the text of a File ID.
@@ -51,10 +52,7 @@ impl fmt::Display for Components<'_> {
 /// Writes so many characters of components, with `/` between these.
 fn write_path<W: fmt::Write>(text: &[u8], count: usize, f: &mut fmt::Formatter<W>) -> fmt::Result {
     for byte in text.iter().take(count) {
-        f.write_char(match byte {
-            b'\\' => '/',
-            other => char::from(*other),
-        })?;
+        f.write_char(slashed(*byte))?;
     }
     Ok(())
 }
