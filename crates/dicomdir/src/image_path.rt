@@ -41,9 +41,9 @@ pub(crate) type PathText = InlineText<FILE_ID_LENGTH>;
 /// The path of a file in the folder of its file-set: these bytes, a File ID, with `/` between the
 /// components.
 #[derive(Clone, Copy)]
-pub(crate) struct Components<'a>(pub(crate) &'a [u8]);
+pub(crate) struct IdPath<'a>(pub(crate) &'a [u8]);
 
-impl fmt::Display for Components<'_> {
+impl fmt::Display for IdPath<'_> {
     fn fmt<W: fmt::Write>(&self, f: &mut fmt::Formatter<W>) -> fmt::Result {
         write_path(self.0, self.0.len(), f)
     }

@@ -3,7 +3,7 @@ ghost use Rattle.std.specs.Prelude.{◌≡◌, ◌<◌, ℕ, List, [], All, IfOk
 ghost use Rattle.dd_files.specs.Paths.{IsPathIn, id_path};
 ghost use Rattle.dicomdir.specs.Trouble.{IsAmong, IsFileOf, IsSource};
 
-use crate::image_path::{Components, PathText};
+use crate::image_path::{IdPath, PathText};
 use crate::trouble::Subject;
 use dd_elem::Memory;
 use dd_engine::Pick;
@@ -93,6 +93,6 @@ impl<'a> Origins for SetFiles<'a> {
     }
 
     fn subject(&self, pick: Pick<'a>) -> Subject {
-        Subject::SetFile(pick.set, PathText::of(&Components(pick.file)))
+        Subject::SetFile(pick.set, PathText::of(&IdPath(pick.file)))
     }
 }
