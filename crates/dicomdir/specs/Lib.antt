@@ -1,6 +1,6 @@
 pub mod Done
 pub mod FileSupply
-pub mod Trouble
+pub mod Refusal
 pub use Rattle.dd_engine.specs.Choosing
 pub use Rattle.dd_engine.specs.Indexed
 pub use Rattle.dd_engine.specs.Indexing

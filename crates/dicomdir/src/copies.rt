@@ -1,10 +1,10 @@
 //! The images of a file-set, copied into its folder.
 ghost use Rattle.std.specs.Prelude.{ℕ, All, IfErr};
-ghost use Rattle.dicomdir.specs.Trouble.{IsAmong, IsOfWork};
+ghost use Rattle.dicomdir.specs.Refusal.{IsAmong, IsOfWork};
 
 use crate::image_path::{ImageFolder, ImagePath, PATH_LENGTH};
 use crate::origins::Origins;
-use crate::trouble::{ProgramFault, Subject, Trouble};
+use crate::refusal::{ProgramFault, Refusal, Subject};
 use dd_elem::FileId;
 use dd_files::{CopyFault, Files, SOURCE_LIMIT, copy_image, path_in};
 use dd_layout::Plan;
@@ -28,7 +28,7 @@ pub(crate) fn copy_images<F: Files, O: Origins>(
     origins: &O,
     picks: &[O::Pick],
     files: &mut F,
-) -> Result<(), Trouble>
+) -> Result<(), Refusal>
     requires { All (O.has origins.now) picks.now }
     ensures { IfErr result (IsOfWork (O.paths origins.now)) }
 {
@@ -52,24 +52,24 @@ fn copy_one<F: Files, O: Origins>(
     origins: &O,
     pick: O::Pick,
     files: &mut F,
-) -> Result<(), Trouble>
+) -> Result<(), Refusal>
     requires { O.has origins.now pick }
     ensures { IfErr result (IsOfWork (O.paths origins.now)) }
 {
     let Ok(path) = origins.path(alloc, pick) else {
-        return Err(Trouble::general(ProgramFault::Memory));
+        return Err(Refusal::general(ProgramFault::Memory));
     };
     let origin = origins.subject(pick);
     let Ok(mut reader) = files.source(path.as_str()) else {
-        return Err(Trouble::of(origin, ProgramFault::Absent));
+        return Err(Refusal::of(origin, ProgramFault::Absent));
     };
     start_copy(alloc, folder, image.file, files)?;
     match copy_image(&mut reader, files, SOURCE_LIMIT) {
         Ok(digest) => finish_copy(image, origin, digest, files),
-        Err(CopyFault::Unread) => Err(Trouble::of(origin, ProgramFault::Unread)),
-        Err(CopyFault::Changed) => Err(Trouble::of(origin, ProgramFault::Changed)),
+        Err(CopyFault::Unread) => Err(Refusal::of(origin, ProgramFault::Unread)),
+        Err(CopyFault::Changed) => Err(Refusal::of(origin, ProgramFault::Changed)),
         Err(CopyFault::Unsent) => {
-            Err(Trouble::of(Subject::Image(image.file), ProgramFault::Unsent))
+            Err(Refusal::of(Subject::Image(image.file), ProgramFault::Unsent))
         }
     }
 }
@@ -80,23 +80,23 @@ fn start_copy<F: Files>(
     folder: &str,
     file: FileId,
     files: &mut F,
-) -> Result<(), Trouble>
+) -> Result<(), Refusal>
     ensures { (paths : ℕ) → IfErr result (IsOfWork paths) }
 {
     let below = InlineText::<PATH_LENGTH>::of(&ImageFolder(file));
     let Ok(path) = path_in(alloc, folder, below.as_str()) else {
-        return Err(Trouble::general(ProgramFault::Memory));
+        return Err(Refusal::general(ProgramFault::Memory));
     };
     if files.folder(path.as_str()).is_err() {
-        return Err(Trouble::of(Subject::ImageFolder(file), ProgramFault::Folder));
+        return Err(Refusal::of(Subject::ImageFolder(file), ProgramFault::Folder));
     }
     let name = InlineText::<PATH_LENGTH>::of(&ImagePath(file));
     let Ok(path) = path_in(alloc, folder, name.as_str()) else {
-        return Err(Trouble::general(ProgramFault::Memory));
+        return Err(Refusal::general(ProgramFault::Memory));
     };
     match files.create(path.as_str()) {
         Ok(()) => Ok(()),
-        Err(_) => Err(Trouble::of(Subject::Image(file), ProgramFault::Create)),
+        Err(_) => Err(Refusal::of(Subject::Image(file), ProgramFault::Create)),
     }
 }
 
@@ -107,14 +107,14 @@ fn finish_copy<F: Files>(
     origin: Subject,
     digest: [u8; 32],
     files: &mut F,
-) -> Result<(), Trouble>
+) -> Result<(), Refusal>
     ensures { (paths : ℕ) → IsAmong paths origin → IfErr result (IsOfWork paths) }
 {
     if files.finish().is_err() {
-        return Err(Trouble::of(Subject::Image(image.file), ProgramFault::Unsent));
+        return Err(Refusal::of(Subject::Image(image.file), ProgramFault::Unsent));
     }
     if digest != image.digest {
-        return Err(Trouble::of(origin, ProgramFault::Changed));
+        return Err(Refusal::of(origin, ProgramFault::Changed));
     }
     Ok(())
 }

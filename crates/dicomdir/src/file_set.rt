@@ -3,11 +3,11 @@ ghost use Rattle.std.specs.Prelude.{◌≡◌, ℕ, All, IfErr, IsErr, IsOk, opt
 ghost use Rattle.dd_dir.specs.Directories.{directory_of};
 ghost use Rattle.dd_elem.specs.Device.{counted, HasFailed};
 ghost use Rattle.dd_files.specs.Files.{ended, grown, published, started};
-ghost use Rattle.dicomdir.specs.Trouble.{IsBadLine, IsOfWork};
+ghost use Rattle.dicomdir.specs.Refusal.{IsBadLine, IsOfWork};
 
 use crate::copies::copy_images;
 use crate::origins::Origins;
-use crate::trouble::{ProgramFault, Subject, Trouble};
+use crate::refusal::{ProgramFault, Refusal, Subject};
 use dd_dir::write_directory;
 use dd_elem::FileId;
 use dd_files::{DIRECTORY, Files, path_in};
@@ -25,14 +25,14 @@ pub(crate) fn refuse_taken<F: Files>(
     alloc: Global,
     folder: &str,
     files: &mut F,
-) -> Result<(), Trouble>
+) -> Result<(), Refusal>
     ensures { (paths : ℕ) → IfErr result (IsOfWork paths) }
 {
     let Ok(path) = path_in(alloc, folder, DIRECTORY) else {
-        return Err(Trouble::general(ProgramFault::Memory));
+        return Err(Refusal::general(ProgramFault::Memory));
     };
     match files.source(path.as_str()) {
-        Ok(_) => Err(Trouble::of(Subject::Directory, ProgramFault::Create)),
+        Ok(_) => Err(Refusal::of(Subject::Directory, ProgramFault::Create)),
         Err(_) => Ok(()),
     }
 }
@@ -46,20 +46,20 @@ pub(crate) fn finished<F: Files, O: Origins>(
     origins: &O,
     picks: &[O::Pick],
     files: &mut F,
-) -> Result<(), Trouble>
+) -> Result<(), Refusal>
     requires { All (O.has origins.now) picks.now }
     ensures { IfErr result (IsOfWork (O.paths origins.now)) }
 {
     copy_images(alloc, folder, plan, origins, picks, files)?;
     if files.folder(folder).is_err() {
-        return Err(Trouble::of(Subject::Folder, ProgramFault::Folder));
+        return Err(Refusal::of(Subject::Folder, ProgramFault::Folder));
     }
     let Ok(path) = path_in(alloc, folder, DIRECTORY) else {
-        return Err(Trouble::general(ProgramFault::Memory));
+        return Err(Refusal::general(ProgramFault::Memory));
     };
     match publish(path.as_str(), plan, files) {
         Ok(()) => Ok(()),
-        Err(fault) => Err(Trouble::of(Subject::Directory, fault)),
+        Err(fault) => Err(Refusal::of(Subject::Directory, fault)),
     }
 }
 

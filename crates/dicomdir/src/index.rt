@@ -1,11 +1,11 @@
 //! A file-set of sources: the plan of its directory.
 ghost use Rattle.std.specs.Prelude.{◌≡◌, ℕ, IfErr, IfOk, length};
 ghost use Rattle.dd_engine.specs.Indexed.{IsNamed, IsWithin};
-ghost use Rattle.dicomdir.specs.Trouble.{IsOfWork};
+ghost use Rattle.dicomdir.specs.Refusal.{IsOfWork};
 
 use crate::file_set::{limits_of, refuse_taken};
 use crate::file_supply::FileSupply;
-use crate::trouble::{ProgramFault, Subject, Trouble};
+use crate::refusal::{ProgramFault, Refusal, Subject};
 use dd_elem::{Counts, Memory};
 use dd_engine::{Choice, EngineFault, Indexed, index_engine};
 use dd_files::{Files, SOURCE_LIMIT};
@@ -22,13 +22,13 @@ pub(crate) fn planned<F: Files>(
     choice: &Choice,
     max_bytes: u32,
     files: &mut F,
-) -> Result<Indexed, Trouble>
-    ensures trouble { IfErr result (IsOfWork (length sources.now)) }
+) -> Result<Indexed, Refusal>
+    ensures refusal { IfErr result (IsOfWork (length sources.now)) }
     ensures within { IfOk result (IsWithin (length sources.now)) }
 {
     refuse_taken(alloc, folder, files)?;
     let Ok(mut counts) = counts_of(alloc, sources.len()) else {
-        return Err(Trouble::general(ProgramFault::Memory));
+        return Err(Refusal::general(ProgramFault::Memory));
     };
     match indexed_files(
         alloc,
@@ -39,7 +39,7 @@ pub(crate) fn planned<F: Files>(
         files,
     ) {
         Ok(indexed) => Ok(indexed),
-        Err(fault) => Err(trouble_of(fault)),
+        Err(fault) => Err(refusal_of(fault)),
     }
 }
 
@@ -72,13 +72,13 @@ fn counts_of(alloc: Global, sources: usize) -> Result<Vec<Counts>, Memory>
 }
 
 /// What the fault of an index comes to.
-fn trouble_of(fault: EngineFault) -> Trouble
+fn refusal_of(fault: EngineFault) -> Refusal
     ensures { (sources : ℕ) → IsNamed sources fault → IsOfWork sources result }
 {
     match fault {
-        EngineFault::Memory => Trouble::general(ProgramFault::Memory),
-        EngineFault::Absent(at) => Trouble::of(Subject::Source(at), ProgramFault::Absent),
-        EngineFault::Unread(at) => Trouble::of(Subject::Source(at), ProgramFault::Unread),
-        EngineFault::Plan(fault) => Trouble::general(ProgramFault::Plan(fault)),
+        EngineFault::Memory => Refusal::general(ProgramFault::Memory),
+        EngineFault::Absent(at) => Refusal::of(Subject::Source(at), ProgramFault::Absent),
+        EngineFault::Unread(at) => Refusal::of(Subject::Source(at), ProgramFault::Unread),
+        EngineFault::Plan(fault) => Refusal::general(ProgramFault::Plan(fault)),
     }
 }

@@ -12,8 +12,8 @@ mod index;
 mod merging;
 mod origins;
 mod program;
+mod refusal;
 mod set_directory;
-mod trouble;
 mod watched;
 
 pub use dd_engine::{
@@ -24,4 +24,4 @@ pub use dd_line::{Asked, LineFault, Verb, read_words};
 pub use dd_mem_files::{MemFiles, MemReader};
 pub use dd_report::{Finding, finding_of, print_line, send_text};
 pub use program::run;
-pub use trouble::ProgramFault;
+pub use refusal::ProgramFault;

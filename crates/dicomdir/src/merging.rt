@@ -1,11 +1,11 @@
 //! A file-set of others.
 ghost use Rattle.std.specs.Prelude.{◌≡◌, ◌<◌, ℕ, All, IfErr, IfOk, length};
 ghost use Rattle.dd_engine.specs.Merged.{IsAt};
-ghost use Rattle.dicomdir.specs.Trouble.{IsOfWork};
+ghost use Rattle.dicomdir.specs.Refusal.{IsOfWork};
 
 use crate::file_set::{limits_of, refuse_taken};
+use crate::refusal::{ProgramFault, Refusal, Subject};
 use crate::set_directory::read_directories;
-use crate::trouble::{ProgramFault, Subject, Trouble};
 use dd_elem::Memory;
 use dd_engine::{Choice, MergeFault, Merged, merge_engine};
 use dd_files::Files;
@@ -18,8 +18,8 @@ pub(crate) fn sets_read<F: Files>(
     folder: &str,
     sets: &[String],
     files: &mut F,
-) -> Result<Vec<Vec<u8>>, Trouble>
-    ensures trouble { IfErr result (IsOfWork (length sets.now)) }
+) -> Result<Vec<Vec<u8>>, Refusal>
+    ensures refusal { IfErr result (IsOfWork (length sets.now)) }
     ensures all { IfOk result (λ all. length all.items ≡ length sets.now) }
 {
     refuse_taken(alloc, folder, files)?;
@@ -33,13 +33,13 @@ pub(crate) fn merged<'a>(
     sets: &'a [&'a [u8]],
     choice: &Choice,
     max_bytes: u32,
-) -> Result<Merged<'a>, Trouble>
-    ensures trouble { IfErr result (IsOfWork (length sets.now)) }
+) -> Result<Merged<'a>, Refusal>
+    ensures refusal { IfErr result (IsOfWork (length sets.now)) }
     ensures within { IfOk result (λ merged. All (λ pick. pick.set < length sets.now) merged.picks.items) }
 {
     match merge_engine(alloc, sets, choice, limits_of(max_bytes)) {
         Ok(merged) => Ok(merged),
-        Err(fault) => Err(trouble_of(fault)),
+        Err(fault) => Err(refusal_of(fault)),
     }
 }
 
@@ -55,13 +55,13 @@ pub(crate) fn slices<'a>(alloc: Global, all: &'a [Vec<u8>]) -> Result<Vec<&'a [u
 }
 
 /// What the fault of a merge comes to.
-fn trouble_of(fault: MergeFault) -> Trouble
+fn refusal_of(fault: MergeFault) -> Refusal
     ensures { (sets : ℕ) → IsAt sets fault → IsOfWork sets result }
 {
     match fault {
-        MergeFault::Memory => Trouble::general(ProgramFault::Memory),
-        MergeFault::Dir(at, fault) => Trouble::of(Subject::Source(at), ProgramFault::Dir(fault)),
-        MergeFault::Own(at, fault) => Trouble::of(Subject::Source(at), ProgramFault::Own(fault)),
-        MergeFault::Plan(fault) => Trouble::general(ProgramFault::Plan(fault)),
+        MergeFault::Memory => Refusal::general(ProgramFault::Memory),
+        MergeFault::Dir(at, fault) => Refusal::of(Subject::Source(at), ProgramFault::Dir(fault)),
+        MergeFault::Own(at, fault) => Refusal::of(Subject::Source(at), ProgramFault::Own(fault)),
+        MergeFault::Plan(fault) => Refusal::general(ProgramFault::Plan(fault)),
     }
 }

@@ -1,10 +1,10 @@
 //! What the images of a file-set are copied from.
 ghost use Rattle.std.specs.Prelude.{◌≡◌, ◌<◌, ℕ, List, [], All, IfOk, length, map, slice_index_or, string_bytes};
 ghost use Rattle.dd_files.specs.Paths.{IsPathIn, id_path};
-ghost use Rattle.dicomdir.specs.Trouble.{IsAmong, IsFileOf, IsSource};
+ghost use Rattle.dicomdir.specs.Refusal.{IsAmong, IsFileOf, IsSource};
 
 use crate::image_path::{IdPath, PathText};
-use crate::trouble::Subject;
+use crate::refusal::Subject;
 use dd_elem::Memory;
 use dd_engine::Pick;
 use dd_files::file_path;
@@ -12,7 +12,7 @@ use std::alloc::Global;
 
 /// Files that images are copied from.
 pub(crate) trait Origins {
-    ghost use Rattle.dicomdir.specs.declared.trouble.Subject.{Subject};
+    ghost use Rattle.dicomdir.specs.declared.refusal.Subject.{Subject};
 
     /// Says which of the files is meant.
     type Pick: Copy;
@@ -26,7 +26,7 @@ pub(crate) trait Origins {
     // It stands at this path.
     ghost stands_at: { Self → Self.Pick → List ℕ → Type 0 };
 
-    // This is what a trouble with it concerns.
+    // A refusal that comes of it concerns this.
     ghost is_subject: { Self → Self.Pick → Subject → Type 0 };
 
     /// The path of the file. Memory where a growth is refused.
@@ -34,7 +34,7 @@ pub(crate) trait Origins {
         requires { has self.now pick }
         ensures { IfOk result (λ path. stands_at self.now pick (string_bytes path)) };
 
-    /// What a trouble with the file concerns.
+    /// What a refusal concerns that comes of the file.
     fn subject(&self, pick: Self::Pick) -> Subject
         requires { has self.now pick }
         ensures subject { is_subject self.now pick result }

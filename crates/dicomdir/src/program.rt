@@ -6,14 +6,14 @@ ghost use Rattle.dd_layout.specs.Plans.{size};
 ghost use Rattle.dd_line.specs.Line.{AsksBadName, HasBadName, IsCheck, dicomdir_app, least_paths, words_of};
 ghost use Rattle.dd_report.specs.Text.{TakesAll};
 ghost use Rattle.dicomdir.specs.Done.{done_text};
-ghost use Rattle.dicomdir.specs.Trouble.{IsBadLine};
+ghost use Rattle.dicomdir.specs.Refusal.{IsBadLine};
 
 use crate::file_set::finished;
 use crate::index::planned;
 use crate::merging::{merged, sets_read, slices};
 use crate::origins::{SetFiles, SourceFiles};
+use crate::refusal::{ProgramFault, Refusal, WORDS_LENGTH, tell};
 use crate::set_directory::{directory_bytes, refusal_of};
-use crate::trouble::{ProgramFault, Trouble, WORDS_LENGTH, tell};
 use dd_dir::{DirFault, read_directory};
 use dd_elem::{SetId, Uid, Write};
 use dd_engine::{Choice, is_want_of_memory};
@@ -91,7 +91,7 @@ fn run_asked<F: Files, O: Write, E: Write>(
 {
     let choice = match choice_of(asked) {
         Ok(choice) => choice,
-        Err(fault) => return tell(&Trouble::general(fault), "", &[], err),
+        Err(fault) => return tell(&Refusal::general(fault), "", &[], err),
     };
     match asked.verb {
         Verb::Index => run_index(alloc, asked, &choice, files, out, err),
@@ -143,7 +143,7 @@ fn run_index<F: Files, O: Write, E: Write>(
     let folder = folder.as_str();
     let indexed = match planned(alloc, folder, sources, choice, asked.max_bytes, files) {
         Ok(indexed) => indexed,
-        Err(trouble) => return tell(&trouble, folder, sources, err),
+        Err(refusal) => return tell(&refusal, folder, sources, err),
     };
     if tell_skipped(&indexed.skipped, sources, out).is_err() {
         return 1;
@@ -158,7 +158,7 @@ fn run_index<F: Files, O: Write, E: Write>(
         files,
     ) {
         Ok(()) => tell_done(&indexed.plan, out),
-        Err(trouble) => tell(&trouble, folder, sources, err),
+        Err(refusal) => tell(&refusal, folder, sources, err),
     }
 }
 
@@ -181,19 +181,19 @@ fn run_merge<F: Files, O: Write, E: Write>(
     let folder = folder.as_str();
     let directories = match sets_read(alloc, folder, sets, files) {
         Ok(directories) => directories,
-        Err(trouble) => return tell(&trouble, folder, sets, err),
+        Err(refusal) => return tell(&refusal, folder, sets, err),
     };
     let Ok(slices) = slices(alloc, &directories) else {
-        return tell(&Trouble::general(ProgramFault::Memory), folder, sets, err);
+        return tell(&Refusal::general(ProgramFault::Memory), folder, sets, err);
     };
     let merged = match merged(alloc, &slices, choice, asked.max_bytes) {
         Ok(merged) => merged,
-        Err(trouble) => return tell(&trouble, folder, sets, err),
+        Err(refusal) => return tell(&refusal, folder, sets, err),
     };
     let origins = SetFiles { folders: sets };
     match finished(alloc, folder, &merged.plan, &origins, &merged.picks, files) {
         Ok(()) => tell_done(&merged.plan, out),
-        Err(trouble) => tell(&trouble, folder, sets, err),
+        Err(refusal) => tell(&refusal, folder, sets, err),
     }
 }
 
@@ -213,19 +213,19 @@ fn run_check<F: Files, O: Write, E: Write>(
     let folder = sets[0].as_str();
     let bytes = match directory_bytes(alloc, 0, folder, files) {
         Ok(bytes) => bytes,
-        Err(trouble) => return tell(&trouble, folder, sets, err),
+        Err(refusal) => return tell(&refusal, folder, sets, err),
     };
     let forest = match read_directory(alloc, &bytes) {
         Ok(forest) => forest,
         Err(fault) if !is_want_of_memory(&fault) => return tell_broken(&fault, out),
-        Err(_) => return tell(&Trouble::general(ProgramFault::Memory), folder, sets, err),
+        Err(_) => return tell(&Refusal::general(ProgramFault::Memory), folder, sets, err),
     };
     match check_records(alloc, folder, &forest, files, out) {
         Ok(false) => 0,
         Ok(true) => 3,
         Err(CheckFault::Unsent) => 1,
         Err(CheckFault::Memory) => {
-            tell(&Trouble::general(ProgramFault::Memory), folder, sets, err)
+            tell(&Refusal::general(ProgramFault::Memory), folder, sets, err)
         }
     }
 }
@@ -258,7 +258,7 @@ fn run_list<F: Files, O: Write, E: Write>(
     let folder = sets[0].as_str();
     let bytes = match directory_bytes(alloc, 0, folder, files) {
         Ok(bytes) => bytes,
-        Err(trouble) => return tell(&trouble, folder, sets, err),
+        Err(refusal) => return tell(&refusal, folder, sets, err),
     };
     match read_directory(alloc, &bytes) {
         Ok(forest) => match list_records(&forest, out) {
@@ -313,7 +313,7 @@ fn refuse_line<O: Write, E: Write>(fault: &LineFault, out: &mut O, err: &mut E) 
 {
     match fault {
         LineFault::Refused(error) => tell_parser(error, out, err),
-        LineFault::Memory => tell(&Trouble::general(ProgramFault::Memory), "", &[], err),
+        LineFault::Memory => tell(&Refusal::general(ProgramFault::Memory), "", &[], err),
     }
 }
 

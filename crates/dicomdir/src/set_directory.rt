@@ -1,8 +1,8 @@
 //! The directories of file-sets, read from their folders.
 ghost use Rattle.std.specs.Prelude.{◌≡◌, ◌<◌, ℕ, IfErr, IfOk, length};
-ghost use Rattle.dicomdir.specs.Trouble.{IsOfWork};
+ghost use Rattle.dicomdir.specs.Refusal.{IsOfWork};
 
-use crate::trouble::{ProgramFault, Subject, Trouble};
+use crate::refusal::{ProgramFault, Refusal, Subject};
 use dd_dir::DirFault;
 use dd_engine::is_want_of_memory;
 use dd_files::{DIRECTORY, Files, SOURCE_LIMIT, WholeFault, path_in, read_whole};
@@ -13,15 +13,15 @@ pub(crate) fn read_directories<F: Files>(
     alloc: Global,
     folders: &[String],
     files: &mut F,
-) -> Result<Vec<Vec<u8>>, Trouble>
-    ensures trouble { IfErr result (IsOfWork (length folders.now)) }
+) -> Result<Vec<Vec<u8>>, Refusal>
+    ensures refusal { IfErr result (IsOfWork (length folders.now)) }
     ensures all { IfOk result (λ all. length all.items ≡ length folders.now) }
 {
     let mut all = Vec::new(alloc);
     for (at, folder) in folders.iter().enumerate() {
         let bytes = directory_bytes(alloc, at, folder.as_str(), files)?;
         if all.push(bytes).is_err() {
-            return Err(Trouble::general(ProgramFault::Memory));
+            return Err(Refusal::general(ProgramFault::Memory));
         }
     }
     Ok(all)
@@ -34,30 +34,30 @@ pub(crate) fn directory_bytes<F: Files>(
     at: usize,
     folder: &str,
     files: &mut F,
-) -> Result<Vec<u8>, Trouble>
+) -> Result<Vec<u8>, Refusal>
     ensures { (paths : ℕ) → at < paths → IfErr result (IsOfWork paths) }
 {
     let Ok(path) = path_in(alloc, folder, DIRECTORY) else {
-        return Err(Trouble::general(ProgramFault::Memory));
+        return Err(Refusal::general(ProgramFault::Memory));
     };
     let Ok(mut reader) = files.source(path.as_str()) else {
-        return Err(Trouble::of(Subject::SetDirectory(at), ProgramFault::Absent));
+        return Err(Refusal::of(Subject::SetDirectory(at), ProgramFault::Absent));
     };
     match read_whole(alloc, &mut reader, SOURCE_LIMIT) {
         Ok(bytes) => Ok(bytes),
-        Err(WholeFault::Read) => Err(Trouble::of(Subject::SetDirectory(at), ProgramFault::Unread)),
-        Err(WholeFault::TooLong) => Err(Trouble::of(Subject::Source(at), ProgramFault::TooLong)),
-        Err(WholeFault::Memory) => Err(Trouble::general(ProgramFault::Memory)),
+        Err(WholeFault::Read) => Err(Refusal::of(Subject::SetDirectory(at), ProgramFault::Unread)),
+        Err(WholeFault::TooLong) => Err(Refusal::of(Subject::Source(at), ProgramFault::TooLong)),
+        Err(WholeFault::Memory) => Err(Refusal::general(ProgramFault::Memory)),
     }
 }
 
 /// What it comes to that the file-set of this number has no directory that can be read.
-pub(crate) fn refusal_of(at: usize, fault: DirFault) -> Trouble
+pub(crate) fn refusal_of(at: usize, fault: DirFault) -> Refusal
     ensures { (paths : ℕ) → at < paths → IsOfWork paths result }
 {
     if is_want_of_memory(&fault) {
-        Trouble::general(ProgramFault::Memory)
+        Refusal::general(ProgramFault::Memory)
     } else {
-        Trouble::of(Subject::Source(at), ProgramFault::Dir(fault))
+        Refusal::of(Subject::Source(at), ProgramFault::Dir(fault))
     }
 }

@@ -1,5 +1,5 @@
 use Rattle.std.specs.Prelude.{length}
 use Rattle.dicomdir.proofs.index.planned.Goals as goal
 
-pub returns-clause-trouble : goal.returns-clause-trouble
-returns-clause-trouble g c = c.trouble_of.ensures (length c.args.sources.now) c.in-Err.ensures.named
+pub returns-clause-refusal : goal.returns-clause-refusal
+returns-clause-refusal g c = c.refusal_of.ensures (length c.args.sources.now) c.in-Err.ensures.named

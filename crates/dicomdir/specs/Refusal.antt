@@ -1,12 +1,12 @@
--- What goes wrong in a run: which faults are the command line's, and which paths are concerned.
+-- Why a run is refused: which faults are the command line's, and which paths are concerned.
 use Rattle.std.specs.Prelude.{◌≡◌, ◌⊎◌, ◌<◌, ℕ}
 use Rattle.dd_elem.specs.declared.set_id.BadSetId.{BadSetId}
 use Rattle.dd_elem.specs.declared.uid.BadUid.{BadUid}
-use Rattle.dicomdir.specs.declared.trouble.ProgramFault.{ProgramFault}
-use Rattle.dicomdir.specs.declared.trouble.Subject.{Subject}
-use Rattle.dicomdir.specs.declared.trouble.Subject.TheVariants as subject
-use Rattle.dicomdir.specs.declared.trouble.Trouble.{Trouble}
-use Rattle.dicomdir.specs.declared.trouble.ProgramFault.TheVariants.{SetId, Uid}
+use Rattle.dicomdir.specs.declared.refusal.ProgramFault.{ProgramFault}
+use Rattle.dicomdir.specs.declared.refusal.Subject.{Subject}
+use Rattle.dicomdir.specs.declared.refusal.Subject.TheVariants as subject
+use Rattle.dicomdir.specs.declared.refusal.Refusal.{Refusal}
+use Rattle.dicomdir.specs.declared.refusal.ProgramFault.TheVariants.{SetId, Uid}
 
 -- the command line is at fault
 abbrev pub IsBadLine : ProgramFault → Type 0
@@ -38,7 +38,7 @@ IsFileOf set subject.Directory = ⊥
 IsFileOf set (subject.Image file) = ⊥
 IsFileOf set (subject.ImageFolder file) = ⊥
 
--- what goes wrong with these paths when the command line is not at fault
-pub record IsOfWork (paths : ℕ) (trouble : Trouble) : Type 0 where
-  pub named : IsAmong paths trouble.subject
-  pub line : ¬ IsBadLine trouble.fault
+-- why a run with these paths is refused when the command line is not at fault
+pub record IsOfWork (paths : ℕ) (refusal : Refusal) : Type 0 where
+  pub named : IsAmong paths refusal.subject
+  pub line : ¬ IsBadLine refusal.fault

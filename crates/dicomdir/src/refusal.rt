@@ -1,6 +1,6 @@
-//! What goes wrong in a run, and how it is told.
+//! Why a run is refused, and how that is told.
 ghost use Rattle.std.specs.Prelude.{◌≡◌, ◌↔◌, ◌⊎◌, length};
-ghost use Rattle.dicomdir.specs.Trouble.{IsAmong, IsBadLine};
+ghost use Rattle.dicomdir.specs.Refusal.{IsAmong, IsBadLine};
 
 use crate::image_path::{ImageFolder, ImagePath, PATH_LENGTH, PathText};
 use dd_dir::{DirFault, OwnFault};
@@ -78,46 +78,46 @@ pub enum Subject {
 
 /// A fault, and what it concerns.
 #[derive(Clone, Copy)]
-pub struct Trouble {
+pub struct Refusal {
     /// What it concerns.
     pub subject: Subject,
     /// The fault.
     pub fault: ProgramFault,
 }
 
-impl Trouble {
+impl Refusal {
     /// A fault that concerns no file.
-    pub fn general(fault: ProgramFault) -> Trouble
+    pub fn general(fault: ProgramFault) -> Refusal
         ensures { result ≡ record { subject = Subject.General; fault = fault } }
     {
-        Trouble {
+        Refusal {
             subject: Subject::General,
             fault,
         }
     }
 
     /// A fault that concerns this.
-    pub fn of(subject: Subject, fault: ProgramFault) -> Trouble
+    pub fn of(subject: Subject, fault: ProgramFault) -> Refusal
         ensures { result ≡ record { subject = subject; fault = fault } }
     {
-        Trouble { subject, fault }
+        Refusal { subject, fault }
     }
 }
 
 // No fault has as many bytes.
 pub(crate) const WORDS_LENGTH: usize = 256;
 
-/// Tells a trouble in a line, with no memory, and answers the status that the run ends with: 2 where the
-/// command line is at fault, and else 1. The line names the path that the trouble concerns: one of these
+/// Tells a refusal in a line, with no memory, and answers the status that the run ends with: 2 where the
+/// command line is at fault, and else 1. The line names the path that the refusal concerns: one of these
 /// sources, this folder, or what stands in one of them. A failure of the writer changes nothing.
-pub fn tell<W: Write>(trouble: &Trouble, folder: &str, sources: &[String], to: &mut W) -> u8
-    requires { IsAmong (length sources.now) trouble.now.subject }
-    ensures line { result ≡ 2 ↔ IsBadLine trouble.now.fault }
+pub fn tell<W: Write>(refusal: &Refusal, folder: &str, sources: &[String], to: &mut W) -> u8
+    requires { IsAmong (length sources.now) refusal.now.subject }
+    ensures line { result ≡ 2 ↔ IsBadLine refusal.now.fault }
     ensures status { (result ≡ 1) ⊎ (result ≡ 2) }
 {
-    let words = InlineText::<WORDS_LENGTH>::of(&trouble.fault);
+    let words = InlineText::<WORDS_LENGTH>::of(&refusal.fault);
     let words = words.as_str();
-    match trouble.subject {
+    match refusal.subject {
         Subject::General => print_fault("-", words, to),
         Subject::Source(at) => print_fault(sources[at].as_str(), words, to),
         Subject::SetDirectory(at) => print_inside(sources[at].as_str(), DIRECTORY, words, to),
@@ -135,7 +135,7 @@ pub fn tell<W: Write>(trouble: &Trouble, folder: &str, sources: &[String], to: &
             print_inside(folder, name.as_str(), words, to);
         }
     }
-    status_of(&trouble.fault)
+    status_of(&refusal.fault)
 }
 
 /// Prints the line of a fault that concerns this path.
