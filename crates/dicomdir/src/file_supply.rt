@@ -4,7 +4,7 @@ ghost use Rattle.std.specs.Borrow.{GName};
 ghost use Rattle.dd_files.specs.Files.{Held};
 ghost use Rattle.dicomdir.specs.FileSupply.{told_by, counts_at};
 
-use crate::watched::Watched;
+use crate::counted_reader::CountedReader;
 use dd_elem::Counts;
 use dd_engine::Supply;
 use dd_files::{Files, NotThere};
@@ -53,7 +53,7 @@ impl<'a, F: Files> FileSupply<'a, F> {
 }
 
 impl<F: Files> Supply for FileSupply<'_, F> {
-    type In = Watched<F::In>;
+    type In = CountedReader<F::In>;
 
     ghost sources = { λ s. length s.counts.now };
 
@@ -71,7 +71,7 @@ impl<F: Files> Supply for FileSupply<'_, F> {
         self.counts.len()
     }
 
-    fn begin(&mut self, at: usize) -> Result<Watched<F::In>, NotThere> {
+    fn begin(&mut self, at: usize) -> Result<CountedReader<F::In>, NotThere> {
         let paths = self.paths;
         if at >= paths.len() {
             return Err(NotThere);
@@ -79,7 +79,7 @@ impl<F: Files> Supply for FileSupply<'_, F> {
         let mut counts = self.counts[at];
         if counts.is_live() {
             if let Ok(reader) = self.files.source(paths[at].as_str()) {
-                return Ok(Watched::new(reader));
+                return Ok(CountedReader::new(reader));
             }
         }
         counts.call();
@@ -87,7 +87,7 @@ impl<F: Files> Supply for FileSupply<'_, F> {
         Err(NotThere)
     }
 
-    fn end(&mut self, at: usize, used: Watched<F::In>) {
+    fn end(&mut self, at: usize, used: CountedReader<F::In>) {
         if at < self.counts.len() {
             let mut counts = self.counts[at];
             counts.failures = counts.failures.saturating_add(used.failures());

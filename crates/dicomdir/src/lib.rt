@@ -5,6 +5,7 @@
 #![tactic(auto)]
 
 mod copies;
+mod counted_reader;
 mod file_set;
 mod file_supply;
 mod image_path;
@@ -14,7 +15,6 @@ mod origins;
 mod program;
 mod refusal;
 mod set_directory;
-mod watched;
 
 pub use dd_engine::{
     Choice, EngineFault, Indexed, MergeFault, Merged, Pick, Supply, index_engine, merge_engine,

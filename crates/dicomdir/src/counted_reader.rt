@@ -6,17 +6,17 @@ use std::io;
 
 /// A reader that counts its calls and its failures from when it was made.
 #[derive(Drop)]
-pub struct Watched<R: Read + Drop> {
+pub struct CountedReader<R: Read + Drop> {
     reader: R,
     counts: Counts,
 }
 
-impl<R: Read + Drop> Watched<R> {
+impl<R: Read + Drop> CountedReader<R> {
     /// The reader, not called yet.
     pub(crate) fn new(reader: R) -> Self
         ensures { result ≡ record { reader = reader; counts = record { calls = 0; failures = 0 } } }
     {
-        Watched {
+        CountedReader {
             reader,
             counts: Counts::new(),
         }
@@ -30,7 +30,7 @@ impl<R: Read + Drop> Watched<R> {
     }
 }
 
-impl<R: Read + Drop> Read for Watched<R> {
+impl<R: Read + Drop> Read for CountedReader<R> {
     ghost calls = { λ s. s.counts.calls };
 
     ghost failures = { λ s. s.counts.failures };
