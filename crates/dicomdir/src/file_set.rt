@@ -39,7 +39,7 @@ pub(crate) fn refuse_taken<F: Files>(
 
 /// Copies each image of the plan into the folder, from where it is picked, and then writes the directory
 /// there.
-pub(crate) fn finished<F: Files, O: Origins>(
+pub(crate) fn write_file_set<F: Files, O: Origins>(
     alloc: Global,
     folder: &str,
     plan: &Plan,

@@ -15,7 +15,7 @@ use std::alloc::Global;
 /// Reads all sources and plans the directory of their versions, which may have so many bytes. Refused, in
 /// this order, where the folder has a directory already, where a source can't be opened or read, and where
 /// the versions have no place in a directory.
-pub(crate) fn planned<F: Files>(
+pub(crate) fn plan_index<F: Files>(
     alloc: Global,
     folder: &str,
     sources: &[String],
@@ -30,7 +30,7 @@ pub(crate) fn planned<F: Files>(
     let Ok(mut counts) = counts_of(alloc, sources.len()) else {
         return Err(Refusal::general(ProgramFault::Memory));
     };
-    match indexed_files(
+    match index_files(
         alloc,
         sources,
         &mut counts,
@@ -44,7 +44,7 @@ pub(crate) fn planned<F: Files>(
 }
 
 /// Reads these files as sources, each with its counts, and plans the directory of their versions.
-fn indexed_files<F: Files>(
+fn index_files<F: Files>(
     alloc: Global,
     sources: &[String],
     counts: &mut [Counts],

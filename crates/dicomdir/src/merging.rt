@@ -13,7 +13,7 @@ use std::alloc::Global;
 
 /// The directories of all these sets, read whole. Refused, in this order, where the folder has a
 /// directory already, and where one of these can't be opened or read.
-pub(crate) fn sets_read<F: Files>(
+pub(crate) fn read_sets<F: Files>(
     alloc: Global,
     folder: &str,
     sets: &[String],
@@ -28,7 +28,7 @@ pub(crate) fn sets_read<F: Files>(
 
 /// Plans the directory of the best versions of all these sets, each of which has the bytes of its
 /// directory. It may have so many bytes.
-pub(crate) fn merged<'a>(
+pub(crate) fn plan_merge<'a>(
     alloc: Global,
     sets: &'a [&'a [u8]],
     choice: &Choice,

@@ -8,9 +8,9 @@ ghost use Rattle.dd_report.specs.Text.{TakesAll};
 ghost use Rattle.dicomdir.specs.Done.{done_text};
 ghost use Rattle.dicomdir.specs.Refusal.{IsBadLine};
 
-use crate::file_set::finished;
-use crate::index::planned;
-use crate::merging::{merged, sets_read, slices};
+use crate::file_set::write_file_set;
+use crate::index::plan_index;
+use crate::merging::{plan_merge, read_sets, slices};
 use crate::origins::{SetFiles, SourceFiles};
 use crate::refusal::{ProgramFault, Refusal, WORDS_LENGTH, tell};
 use crate::set_directory::{directory_bytes, refusal_of};
@@ -141,7 +141,7 @@ fn run_index<F: Files, O: Write, E: Write>(
         unreachable!()
     };
     let folder = folder.as_str();
-    let indexed = match planned(alloc, folder, sources, choice, asked.max_bytes, files) {
+    let indexed = match plan_index(alloc, folder, sources, choice, asked.max_bytes, files) {
         Ok(indexed) => indexed,
         Err(refusal) => return tell(&refusal, folder, sources, err),
     };
@@ -149,7 +149,7 @@ fn run_index<F: Files, O: Write, E: Write>(
         return 1;
     }
     let origins = SourceFiles { paths: sources };
-    match finished(
+    match write_file_set(
         alloc,
         folder,
         &indexed.plan,
@@ -179,19 +179,19 @@ fn run_merge<F: Files, O: Write, E: Write>(
         unreachable!()
     };
     let folder = folder.as_str();
-    let directories = match sets_read(alloc, folder, sets, files) {
+    let directories = match read_sets(alloc, folder, sets, files) {
         Ok(directories) => directories,
         Err(refusal) => return tell(&refusal, folder, sets, err),
     };
     let Ok(slices) = slices(alloc, &directories) else {
         return tell(&Refusal::general(ProgramFault::Memory), folder, sets, err);
     };
-    let merged = match merged(alloc, &slices, choice, asked.max_bytes) {
+    let merged = match plan_merge(alloc, &slices, choice, asked.max_bytes) {
         Ok(merged) => merged,
         Err(refusal) => return tell(&refusal, folder, sets, err),
     };
     let origins = SetFiles { folders: sets };
-    match finished(alloc, folder, &merged.plan, &origins, &merged.picks, files) {
+    match write_file_set(alloc, folder, &merged.plan, &origins, &merged.picks, files) {
         Ok(()) => tell_done(&merged.plan, out),
         Err(refusal) => tell(&refusal, folder, sets, err),
     }

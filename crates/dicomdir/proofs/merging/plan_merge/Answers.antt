@@ -2,7 +2,7 @@ use Rattle.std.proofs.Common.{length, map, subst}
 use Rattle.std.proofs.lemmas.List.{length-map}
 use Rattle.dd_engine.specs.Merged.{IsAt}
 use Rattle.dd_engine.proofs.FaultsNamed.{fault_at}
-use Rattle.dicomdir.proofs.merging.merged.Goals as goal
+use Rattle.dicomdir.proofs.merging.plan_merge.Goals as goal
 
 pub returns-in-Err-clause-refusal : goal.returns-in-Err-clause-refusal
 returns-in-Err-clause-refusal c =
