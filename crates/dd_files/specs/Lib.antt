@@ -1,4 +1,4 @@
 pub mod Copying
 pub mod Files
 pub mod Paths
-pub mod Whole
+pub mod ReadToEnd

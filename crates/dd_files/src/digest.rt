@@ -2,7 +2,7 @@
 ghost use Rattle.std.specs.Prelude.{◌≡◌, ◌≤◌, ◌+◌, ℕ, List};
 ghost use Rattle.std.specs.Io.KnownBytes.{Consumes};
 ghost use Rattle.dd_elem.specs.Device.{Gives};
-ghost use Rattle.dd_files.specs.Whole.{IsDigest};
+ghost use Rattle.dd_files.specs.ReadToEnd.{IsDigest};
 ghost use Rattle.hex.specs.Hex.{encode_lower};
 
 use crate::piece::PIECE;
@@ -19,7 +19,7 @@ pub fn digest_text(digest: &[u8; 32]) -> [u8; 64]
 }
 
 /// The SHA-256 of what a reader gives to its end, of which there may be `limit` bytes: None where it
-/// fails or gives a byte more.
+/// fails or gives `limit` bytes and one more. It makes at most `limit` + 1 reads, and takes no memory.
 pub fn digest_of<R: Read>(reader: &mut R, limit: u64) -> Option<[u8; 32]>
     ensures digest { (given : List ℕ) × Gives R.has_given reader.old reader.new given
         × Consumes (R.remaining reader.old) (R.remaining reader.new) given

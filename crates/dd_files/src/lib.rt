@@ -10,10 +10,10 @@ mod digest;
 mod files;
 mod paths;
 mod piece;
-mod whole;
+mod read_whole;
 
 pub use copy::{CopyFault, copy_image};
 pub use digest::{digest_of, digest_text};
 pub use files::{Files, NotDone, NotThere, SOURCE_LIMIT};
 pub use paths::{DIRECTORY, file_path, is_joined_by_slash, path_in, slashed};
-pub use whole::{WholeFault, read_whole};
+pub use read_whole::{ReadFault, read_whole};

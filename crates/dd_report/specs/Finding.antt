@@ -12,7 +12,7 @@ use Rattle.dd_keys.specs.Values.{value_at}
 use Rattle.dd_layout.specs.Entries.{tag}
 use Rattle.dd_dir.specs.Trees.{Node}
 use Rattle.dd_dir.specs.Own.{digest_in}
-use Rattle.dd_files.specs.Whole.{ReadAmiss, ReadWhole}
+use Rattle.dd_files.specs.ReadToEnd.{ReadAmiss, ReadWhole}
 use Rattle.dd_report.specs.declared.findings.Finding.{Finding}
 use Rattle.dd_report.specs.declared.findings.Finding.TheVariants.{Differs, Missing, Unreadable}
 

@@ -13,7 +13,7 @@ pub use Rattle.dd_engine.specs.Supply
 pub use Rattle.dd_files.specs.Copying
 pub use Rattle.dd_files.specs.Files
 pub use Rattle.dd_files.specs.Paths
-pub use Rattle.dd_files.specs.Whole
+pub use Rattle.dd_files.specs.ReadToEnd
 pub use Rattle.dd_line.specs.Line
 pub use Rattle.dd_mem_files.specs.MemFiles
 pub use Rattle.dd_mem_files.specs.MemLaws

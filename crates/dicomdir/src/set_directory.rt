@@ -5,7 +5,7 @@ ghost use Rattle.dicomdir.specs.Refusal.{IsOfWork};
 use crate::refusal::{ProgramFault, Refusal, Subject};
 use dd_dir::DirFault;
 use dd_engine::is_want_of_memory;
-use dd_files::{DIRECTORY, Files, SOURCE_LIMIT, WholeFault, path_in, read_whole};
+use dd_files::{DIRECTORY, Files, ReadFault, SOURCE_LIMIT, path_in, read_whole};
 use std::alloc::Global;
 
 /// Reads the directories of all these file-sets whole, in their order.
@@ -45,9 +45,9 @@ pub(crate) fn directory_bytes<F: Files>(
     };
     match read_whole(alloc, &mut reader, SOURCE_LIMIT) {
         Ok(bytes) => Ok(bytes),
-        Err(WholeFault::Read) => Err(Refusal::of(Subject::SetDirectory(at), ProgramFault::Unread)),
-        Err(WholeFault::TooLong) => Err(Refusal::of(Subject::Source(at), ProgramFault::TooLong)),
-        Err(WholeFault::Memory) => Err(Refusal::general(ProgramFault::Memory)),
+        Err(ReadFault::Read) => Err(Refusal::of(Subject::SetDirectory(at), ProgramFault::Unread)),
+        Err(ReadFault::TooLong) => Err(Refusal::of(Subject::Source(at), ProgramFault::TooLong)),
+        Err(ReadFault::Memory) => Err(Refusal::general(ProgramFault::Memory)),
     }
 }
 

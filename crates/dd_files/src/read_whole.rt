@@ -1,9 +1,8 @@
 //! A file read whole.
-
 ghost use Rattle.std.specs.Prelude.{ℕ, List, ◌+◌, ◌≤◌};
 ghost use Rattle.std.specs.Io.KnownBytes.{Consumes};
 ghost use Rattle.dd_elem.specs.Device.{Gives};
-ghost use Rattle.dd_files.specs.Whole.{IsWholeAnswer};
+ghost use Rattle.dd_files.specs.ReadToEnd.{IsWholeAnswer};
 
 use crate::piece::PIECE;
 use dd_elem::Read;
@@ -11,7 +10,7 @@ use std::alloc::Global;
 
 /// Why a file was not read whole.
 #[derive(Clone, Copy, Debug, PartialEq, Eq)]
-pub enum WholeFault {
+pub enum ReadFault {
     /// A read failed.
     Read,
     /// It has more bytes than the limit.
@@ -24,7 +23,7 @@ pub enum WholeFault {
 ///
 /// Read where the reader fails, TooLong where it gives `limit` bytes and one more, and Memory
 /// where a growth is refused. It makes at most `limit` + 1 reads.
-pub fn read_whole<R: Read>(alloc: Global, reader: &mut R, limit: u64) -> Result<Vec<u8>, WholeFault>
+pub fn read_whole<R: Read>(alloc: Global, reader: &mut R, limit: u64) -> Result<Vec<u8>, ReadFault>
     ensures gave { (given : List ℕ) × Gives R.has_given reader.old reader.new given
         × Consumes (R.remaining reader.old) (R.remaining reader.new) given
         × IsWholeAnswer result limit given (R.remaining reader.new)
@@ -38,15 +37,15 @@ pub fn read_whole<R: Read>(alloc: Global, reader: &mut R, limit: u64) -> Result<
         let wanted = left.min(PIECE as u64 - 1) as usize + 1;
         let room = &mut buffer[..wanted];
         match reader.read(room) {
-            Err(_) => return Err(WholeFault::Read),
+            Err(_) => return Err(ReadFault::Read),
             Ok(0) => return Ok(all),
             Ok(n) => {
                 if n as u64 > left {
-                    return Err(WholeFault::TooLong);
+                    return Err(ReadFault::TooLong);
                 }
                 let piece = &room[..n];
                 if all.extend_from_slice(piece).is_err() {
-                    return Err(WholeFault::Memory);
+                    return Err(ReadFault::Memory);
                 }
                 left -= n as u64;
             }

@@ -4,8 +4,8 @@ use Rattle.std.specs.Io.KnownBytes.{IsAtEnd}
 use Rattle.std.specs.declared.alloc.Global.{Global}
 use Rattle.sha2.specs.Sha256.{sha256}
 use Rattle.dd_elem.specs.Device.{HasFailed, HasWorked}
-use Rattle.dd_files.specs.declared.whole.WholeFault.{WholeFault}
-use Rattle.dd_files.specs.declared.whole.WholeFault.TheVariants.{Read, TooLong, Memory}
+use Rattle.dd_files.specs.declared.read_whole.ReadFault.{ReadFault}
+use Rattle.dd_files.specs.declared.read_whole.ReadFault.TheVariants.{Read, TooLong, Memory}
 
 -- It was read to its end, and this is all that it had: `left` is still to come, and the failures of its reader were
 -- `failures` and are `after`.
@@ -26,7 +26,7 @@ IsDigest (Some digest) limit given left failures after =
     (digest ≡ sha256 given) × ReadWhole limit given left failures after
 
 -- the answer of a read of at most `limit` bytes
-abbrev pub IsWholeAnswer : Result (Vec ℕ Global) WholeFault → ℕ → List ℕ → Option (List ℕ) → ℕ → ℕ → Type 0
+abbrev pub IsWholeAnswer : Result (Vec ℕ Global) ReadFault → ℕ → List ℕ → Option (List ℕ) → ℕ → ℕ → Type 0
 IsWholeAnswer (Ok all) limit given left failures after =
     (all.items ≡ given) × ReadWhole limit given left failures after
 IsWholeAnswer (Err Read) limit given left failures after = (length given ≤ limit) × HasFailed failures after
