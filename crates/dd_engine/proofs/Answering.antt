@@ -28,13 +28,13 @@ unfailed limit given left old new (Err fault) h settled =
     (h.whole (λ e. settled.0 (cc)) (λ e. cc) settled.1).0.worked
 
 -- what was told, of a reader that has come to its end within the limit
-whole_source : (limit : ℕ) (file given rest : List ℕ) (answer : Answer) → file ≡ given ++ rest → rest ≡ []
+fitting_source : (limit : ℕ) (file given rest : List ℕ) (answer : Answer) → file ≡ given ++ rest → rest ≡ []
     → length given ≤ limit → answer ≢ Err FileTooLong → Answers given answer → AnswersSource limit file answer
-whole_source limit file given rest answer all ended within short h =
+fitting_source limit file given rest answer all ended within short h =
     let same : file ≡ given = all ∙ ap (λ (bytes : List ℕ). given ++ bytes) ended ∙ append-nil given in
     record {
       long = (λ e. absurd (short e), λ more. absurd (omega (arith, ap length same)));
-      whole = λ _. subst (λ (bytes : List ℕ). Answers bytes answer) (sym same) h;
+      fits = λ _. subst (λ (bytes : List ℕ). Answers bytes answer) (sym same) h;
     }
 
 long_source : (limit : ℕ) (file given rest : List ℕ) → file ≡ given ++ rest → length given ≡ limit + 1
@@ -43,7 +43,7 @@ long_source limit file given rest all many =
     let size : length file ≡ length given + length rest = ap length all ∙ length-append given rest in
     record {
       long = (λ _. omega arith, λ _. refl);
-      whole = λ within. absurd (omega arith);
+      fits = λ within. absurd (omega arith);
     }
 
 source_told : (limit : ℕ) (file given rest : List ℕ) (old new : ℕ) (answer : Answer) → file ≡ given ++ rest
@@ -51,12 +51,12 @@ source_told : (limit : ℕ) (file given rest : List ℕ) (old new : ℕ) (answer
     → AnswersSource limit file answer
 source_told limit file given rest old new (Ok version) all h settled =
     let read = h.whole (λ e. cc) (λ e. cc) tt in
-    whole_source limit file given rest (Ok version) all read.0.ended read.0.within (λ e. cc) read.1
+    fitting_source limit file given rest (Ok version) all read.0.ended read.0.within (λ e. cc) read.1
 source_told limit file given rest old new (Err FileTooLong) all h settled =
     long_source limit file given rest all (h.long refl).0
 source_told limit file given rest old new (Err fault) all h settled =
     let read = h.whole (λ e. settled.0 (cc)) (λ e. cc) settled.1 in
-    whole_source limit file given rest (Err fault) all read.0.ended read.0.within (λ e. cc) read.1
+    fitting_source limit file given rest (Err fault) all read.0.ended read.0.within (λ e. cc) read.1
 
 told_right : (limit : ℕ) (told left : Option (List ℕ)) (given : List ℕ) (old new : ℕ) (answer : Answer)
     → Consumes told left given → AnswersReader limit given left old new answer → IfErr answer IsOfSource
@@ -182,16 +182,16 @@ skipped_more at next (Err fault ∷ answers) answer many =
 holds_more : (at : ℕ) (answers : List Answer) (answer : Answer) (old new : Sources) → length answers ≡ at
     → Holds answers old
     → new.versions.items ≡ old.versions.items ++ versions_of (accepted_from at (answer ∷ []))
-    → new.places.items ≡ old.places.items ++ map (λ source. source.0) (accepted_from at (answer ∷ []))
+    → new.numbers.items ≡ old.numbers.items ++ map (λ source. source.0) (accepted_from at (answer ∷ []))
     → new.skipped.items ≡ old.skipped.items ++ skipped_from at (answer ∷ [])
     → Holds (answers ++ answer ∷ []) new
-holds_more at answers answer old new many h versions places skips =
+holds_more at answers answer old new many h versions numbers skips =
     let more = accepted_more 0 at answers answer (omega arith) in
     let last = accepted_from at (answer ∷ []) in
     record {
       versions = versions ∙ ap (λ (front : List Parts). front ++ versions_of last) h.versions
           ∙ sym (ap versions_of more ∙ map-append (λ (source : Sourced). source.1) (accepted answers) last);
-      places = places ∙ ap (λ (front : List ℕ). front ++ map (λ source. source.0) last) h.places
+      numbers = numbers ∙ ap (λ (front : List ℕ). front ++ map (λ source. source.0) last) h.numbers
           ∙ sym (ap (map (λ (source : Sourced). source.0)) more
           ∙ map-append (λ (source : Sourced). source.0) (accepted answers) last);
       skips = skips ∙ ap (λ (front : List (ℕ × KeyFault)). front ++ skipped_from at (answer ∷ [])) h.skips
@@ -200,22 +200,22 @@ holds_more at answers answer old new many h versions places skips =
 
 pub holds_version : (at : ℕ) (answers : List Answer) (answer : Answer) (version : Parts) (old new : Sources)
     → answer ≡ Ok version → length answers ≡ at → Holds answers old
-    → new.versions.items ≡ old.versions.items ++ version ∷ [] → new.places.items ≡ old.places.items ++ at ∷ []
+    → new.versions.items ≡ old.versions.items ++ version ∷ [] → new.numbers.items ≡ old.numbers.items ++ at ∷ []
     → new.skipped.items ≡ old.skipped.items → Holds (answers ++ answer ∷ []) new
-holds_version at answers answer version old new is many h versions places skips =
+holds_version at answers answer version old new is many h versions numbers skips =
     let all = skips ∙ sym (append-nil old.skipped.items) in
     subst (λ (one : Answer). Holds (answers ++ one ∷ []) new) (sym is)
-    (holds_more at answers (Ok version) old new many h versions places all)
+    (holds_more at answers (Ok version) old new many h versions numbers all)
 
 pub holds_skipped : (at : ℕ) (answers : List Answer) (answer : Answer) (fault : KeyFault) (old new : Sources)
     → answer ≡ Err fault → length answers ≡ at → Holds answers old
-    → new.versions.items ≡ old.versions.items → new.places.items ≡ old.places.items
+    → new.versions.items ≡ old.versions.items → new.numbers.items ≡ old.numbers.items
     → new.skipped.items ≡ old.skipped.items ++ (at, fault) ∷ [] → Holds (answers ++ answer ∷ []) new
-holds_skipped at answers answer fault old new is many h versions places skips =
+holds_skipped at answers answer fault old new is many h versions numbers skips =
     let all = versions ∙ sym (append-nil old.versions.items) in
-    let numbers = places ∙ sym (append-nil old.places.items) in
+    let same = numbers ∙ sym (append-nil old.numbers.items) in
     subst (λ (one : Answer). Holds (answers ++ one ∷ []) new) (sym is)
-    (holds_more at answers (Err fault) old new many h all numbers skips)
+    (holds_more at answers (Err fault) old new many h all same skips)
 
 -- what of a source was told before others were read
 pub answer_before : (limit at : ℕ) (old before : ℕ → Option (List ℕ)) (answer : Answer) → before ≡ old

@@ -16,17 +16,17 @@ use Rattle.dd_engine.specs.Indexing.{versions_of}
 use Rattle.dd_engine.specs.Picking.{ArePicked, found_of}
 
 -- the numbers of sources
-abbrev places_of : List Sourced → List ℕ
-places_of sources = map (λ source. source.0) sources
+abbrev numbers_of : List Sourced → List ℕ
+numbers_of sources = map (λ source. source.0) sources
 
-zipped : (sources : List Sourced) → zip (places_of sources) (versions_of sources) ≡ sources
+zipped : (sources : List Sourced) → zip (numbers_of sources) (versions_of sources) ≡ sources
 zipped [] = refl
 zipped (source ∷ sources) = ap (λ rest. source ∷ rest) (zipped sources)
 
 -- numbers and versions that are those of the sources
-pub zip_is : (sources : List Sourced) (places : List ℕ) (versions : List Parts) → places ≡ places_of sources
-    → versions ≡ versions_of sources → zip places versions ≡ sources
-zip_is sources places versions p v =
+pub zip_is : (sources : List Sourced) (numbers : List ℕ) (versions : List Parts) → numbers ≡ numbers_of sources
+    → versions ≡ versions_of sources → zip numbers versions ≡ sources
+zip_is sources numbers versions p v =
     ap₂ (λ (a : List ℕ) (b : List Parts). zip a b) p v ∙ zipped sources
 
 -- a catalogue of the best of these versions is that of the sources

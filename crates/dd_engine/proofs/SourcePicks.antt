@@ -31,15 +31,15 @@ sources_held sources marks planned is m =
 
 -- ---- no versions
 
-no_sources : (places : List ℕ) → zip {X = Parts} places [] ≡ []
+no_sources : (numbers : List ℕ) → zip {X = Parts} numbers [] ≡ []
 no_sources [] = refl
-no_sources (place ∷ places) = refl
+no_sources (number ∷ numbers) = refl
 
-pub no_picks : (places : List ℕ) (versions planned : List Parts) (label : Label) → length versions ≡ 0
-    → planned ≡ harmonised (best_of_sources (zip places versions))
-    → ArePicked (files_of (zip places versions)) planned (records_of label planned) []
-no_picks places versions planned label none is =
+pub no_picks : (numbers : List ℕ) (versions planned : List Parts) (label : Label) → length versions ≡ 0
+    → planned ≡ harmonised (best_of_sources (zip numbers versions))
+    → ArePicked (files_of (zip numbers versions)) planned (records_of label planned) []
+no_picks numbers versions planned label none is =
     let nothing : planned ≡ [] =
-    is ∙ ap (λ l. harmonised (best_of_sources (zip places l))) (nil_from_length versions none)
-    ∙ ap (λ l. harmonised (best_of_sources l)) (no_sources places) in
-    sym (ap (λ l. found_of (files_of (zip places versions)) l (records_of label l)) nothing)
+    is ∙ ap (λ l. harmonised (best_of_sources (zip numbers l))) (nil_from_length versions none)
+    ∙ ap (λ l. harmonised (best_of_sources l)) (no_sources numbers) in
+    sym (ap (λ l. found_of (files_of (zip numbers versions)) l (records_of label l)) nothing)

@@ -51,7 +51,7 @@ pub record AnswersSource (limit : ℕ) (file : List ℕ) (answer : Answer) : Typ
   -- it is too long exactly where it has more
   pub long : (answer ≡ Err FileTooLong) ↔ (limit < length file)
   -- and else the answer is that for the bytes of a file
-  pub whole : length file ≤ limit → Answers file answer
+  pub fits : length file ≤ limit → Answers file answer
 
 -- the answer for a source, whether its bytes are told or not
 pub record IsAnswer (limit : ℕ) (told : Option (List ℕ)) (answer : Answer) : Type 0 where
@@ -65,5 +65,5 @@ pub record AreAnswers (limit : ℕ) (told : ℕ → Option (List ℕ)) (answers 
 -- what was read has the versions among the answers, each with its source, and the sources without one
 pub record Holds (answers : List Answer) (read : Sources) : Type 0 where
   pub versions : read.versions.items ≡ versions_of (accepted answers)
-  pub places : read.places.items ≡ map (λ source. source.0) (accepted answers)
+  pub numbers : read.numbers.items ≡ map (λ source. source.0) (accepted answers)
   pub skips : read.skipped.items ≡ skipped answers

@@ -79,10 +79,10 @@ fn planned(
     ensures indexes { (answers : List Answer) → Holds answers sources → Indexes choice.now limits answers result }
     ensures within { (answers : List Answer) → Holds answers sources → IfOk result (IsWithin (length answers)) }
 {
-    let (versions, places, skipped) = sources.into_parts();
+    let (versions, numbers, skipped) = sources.into_parts();
     let catalogue = Catalogue::from_versions(alloc, &versions)?;
     let plan = plan_for(alloc, &catalogue, choice, limits)?;
-    let picks = picks(alloc, &plan, &versions, &places)?;
+    let picks = picks(alloc, &plan, &versions, &numbers)?;
     Ok(Indexed {
         plan,
         skipped,

@@ -20,17 +20,17 @@ pub(crate) fn picks(
     alloc: Global,
     plan: &Plan,
     versions: &[Version],
-    places: &[usize],
+    numbers: &[usize],
 ) -> Result<Vec<usize>, Memory>
-    requires { plan.now.versions ≡ harmonised (best_of_sources (zip places.now versions.now)) }
-    ensures all { IfOk result (λ picks. ArePicked (files_of (zip places.now versions.now)) plan.now.versions
+    requires { plan.now.versions ≡ harmonised (best_of_sources (zip numbers.now versions.now)) }
+    ensures all { IfOk result (λ picks. ArePicked (files_of (zip numbers.now versions.now)) plan.now.versions
         (records_of plan.now.label plan.now.versions) picks.items) }
     ensures some { OnErr result (versions.now ≢ []) }
 {
     if versions.is_empty() {
         return Ok(Vec::new(alloc));
     }
-    let marks = marks(alloc, versions, places)?;
+    let marks = marks(alloc, versions, numbers)?;
     first_marks(alloc, plan, marks)
 }
 
@@ -38,13 +38,13 @@ pub(crate) fn picks(
 fn marks<'a>(
     alloc: Global,
     versions: &'a [Version],
-    places: &[usize],
+    numbers: &[usize],
 ) -> Result<Vec<Mark<'a, usize>>, Memory>
     ensures { IfOk result (λ marks. map (λ mark. mark_view mark) marks.items
-        ≡ files_of (zip places.now versions.now)) }
+        ≡ files_of (zip numbers.now versions.now)) }
 {
     let mut marks = Vec::with_capacity(alloc, versions.len())?;
-    for (at, version) in places.iter().zip(versions) {
+    for (at, version) in numbers.iter().zip(versions) {
         let parts = version.parts();
         marks.push(Mark {
             instance: &parts.instance,

@@ -18,7 +18,7 @@ pub(crate) struct Sources {
     /// The versions of those that have one.
     pub(crate) versions: Vec<Version>,
     /// The number of the source of each version.
-    pub(crate) places: Vec<usize>,
+    pub(crate) numbers: Vec<usize>,
     /// The sources that have none, each with its fault.
     pub(crate) skipped: Vec<(usize, KeyFault)>,
 }
@@ -28,7 +28,7 @@ impl Drop for Sources {
     fn drop(self) {
         let Sources {
             versions: _versions,
-            places: _places,
+            numbers: _numbers,
             skipped: _skipped,
         } = self;
     }
@@ -37,14 +37,14 @@ impl Drop for Sources {
 impl Sources {
     /// The versions, the numbers of their sources, and the sources that have none.
     pub(crate) fn into_parts(self) -> (Vec<Version>, Vec<usize>, Vec<(usize, KeyFault)>)
-        ensures { result ≡ (self.versions, self.places, self.skipped) }
+        ensures { result ≡ (self.versions, self.numbers, self.skipped) }
     {
         let Sources {
             versions,
-            places,
+            numbers,
             skipped,
         } = self;
-        (versions, places, skipped)
+        (versions, numbers, skipped)
     }
 
     /// Of no source.
@@ -53,7 +53,7 @@ impl Sources {
     {
         Sources {
             versions: Vec::new(alloc),
-            places: Vec::new(alloc),
+            numbers: Vec::new(alloc),
             skipped: Vec::new(alloc),
         }
     }
@@ -66,7 +66,7 @@ impl Sources {
         match answer {
             Ok(version) => {
                 self.versions.push(version)?;
-                self.places.push(at)?;
+                self.numbers.push(at)?;
             }
             Err(fault) => self.skipped.push((at, fault))?,
         }

@@ -15,7 +15,7 @@ picks-requires c =
     let held = c.requires.1 in
     let parts = c.into_parts-versions.ensures in
     let zips = zip_is sources c.deref-3.result.now c.deref-2.result.now
-    (c.deref-3.ensures.value ∙ ap (λ p. p.1.items) parts ∙ held.places)
+    (c.deref-3.ensures.value ∙ ap (λ p. p.1.items) parts ∙ held.numbers)
     (c.deref-2.ensures.value ∙ ap (λ p. p.0.items) parts ∙ held.versions) in
     let best = best_is sources c.deref.result.now c.in_ok-catalogue.catalogue c.in_ok-catalogue.ensures.best
     (c.deref.ensures.value ∙ ap (λ p. p.0.items) parts ∙ held.versions) in
@@ -27,7 +27,7 @@ returns-clause-indexes c = λ answers held.
     let sources = accepted answers in
     let parts = c.into_parts-versions.ensures in
     let zips = zip_is sources c.deref-3.result.now c.deref-2.result.now
-    (c.deref-3.ensures.value ∙ ap (λ p. p.1.items) parts ∙ held.places)
+    (c.deref-3.ensures.value ∙ ap (λ p. p.1.items) parts ∙ held.numbers)
     (c.deref-2.ensures.value ∙ ap (λ p. p.0.items) parts ∙ held.versions) in
     let best = best_is sources c.deref.result.now c.in_ok-catalogue.catalogue c.in_ok-catalogue.ensures.best
     (c.deref.ensures.value ∙ ap (λ p. p.0.items) parts ∙ held.versions) in

@@ -21,6 +21,6 @@ returns c =
     c.loop-at.invariant
     ∙ sym (twice (λ (p : ℕ × Parts). (p.0, file_of p.1)) (λ p. (p.0.now, p.1.now)) c.loop-at.yielded)
     ∙ ap (map (λ (p : ℕ × Parts). (p.0, file_of p.1)))
-    (YieldsList-end (YieldsList-from_zip (YieldsList-from_slice c.args.places.now cc)
+    (YieldsList-end (YieldsList-from_zip (YieldsList-from_slice c.args.numbers.now cc)
     (YieldsList-from_slice c.args.versions.now cc))
     c.loop-at.yielded _ c.loop-at.yielded_by _ c.next.new.self c.in-None.is c.next.ensures.steps).0
