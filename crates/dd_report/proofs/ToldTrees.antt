@@ -49,19 +49,19 @@ or_comm false false = refl
 -- ---- the file of a record
 
 -- a reader that gave all that it told and came to the end
-whole : (old new : Option (List ℕ)) (given : List ℕ) → Consumes old new given → IsAtEnd new → IsSome old
+gave_all : (old new : Option (List ℕ)) (given : List ℕ) → Consumes old new given → IsAtEnd new → IsSome old
     → old ≡ Some given
-whole None new given known ended some = absurd (cc)
-whole (Some xs) None given known ended some = absurd known
-whole (Some xs) (Some ys) given known ended some =
+gave_all None new given known ended some = absurd (cc)
+gave_all (Some xs) None given known ended some = absurd known
+gave_all (Some xs) (Some ys) given known ended some =
     ap (λ (zs : List ℕ). Some zs) (known ∙ ap (λ (zs : List ℕ). given ++ zs) ended ∙ append-nil given)
 
-stored_whole : (held : Option Held) (path given : List ℕ) (old new : Option (List ℕ))
+stored_given : (held : Option Held) (path given : List ℕ) (old new : Option (List ℕ))
     → IfSome held (λ files. IsSome (files.bytes_at path) × (old ≡ files.bytes_at path))
     → Consumes old new given → IsAtEnd new → IfSome held (λ files. files.bytes_at path ≡ Some given)
-stored_whole None path given old new left known ended = tt
-stored_whole (Some files) path given old new left known ended =
-    sym left.1 ∙ whole old new given known ended (subst (λ (o : Option (List ℕ)). IsSome o) (sym left.1) left.0)
+stored_given None path given old new left known ended = tt
+stored_given (Some files) path given old new left known ended =
+    sym left.1 ∙ gave_all old new given known ended (subst (λ (o : Option (List ℕ)). IsSome o) (sym left.1) left.0)
 
 pub read_found : (held : Option Held) (folder opened path file given : List ℕ) (node : Node) (finding : Option Finding)
     (limit : ℕ) (old new : Option (List ℕ)) (failures after : ℕ) → file ≡ file_in node
@@ -79,7 +79,7 @@ read_found held folder opened path file given node finding limit old new failure
           (id_ascii (file_in node) id)));
       bytes = given;
       stored = subst (λ (xs : List ℕ). IfSome held (λ files. files.bytes_at xs ≡ Some given)) at
-          (stored_whole held opened given old new left known read.1.ended);
+          (stored_given held opened given old new left known read.1.ended);
       found = read.0;
     }))
 read_found held folder opened path file given node finding limit old new failures after is id at place left known
