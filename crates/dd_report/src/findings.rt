@@ -1,7 +1,6 @@
 //! What is found of the file that a record names.
 ghost use Rattle.std.specs.Prelude.{◌≡◌, IfSome, None, Some};
 ghost use Rattle.dd_elem.specs.FileIdForm.{IsFileId};
-ghost use Rattle.dd_set.specs.Views.{set_view};
 ghost use Rattle.dd_dir.specs.ForestViews.{tree_view};
 ghost use Rattle.dd_report.specs.Finding.{FindsBy, FindsIn, HasFileId, IsUnread, NamesFile, compared};
 ghost use Rattle.dd_report.specs.Finding.{file_in};

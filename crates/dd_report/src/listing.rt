@@ -1,5 +1,5 @@
 //! The records of a directory as lines.
-ghost use Rattle.std.specs.Prelude.{◌≡◌, ◌++◌, OnErr, OnOk, option_copied};
+ghost use Rattle.std.specs.Prelude.{◌≡◌, OnErr, OnOk};
 ghost use Rattle.dd_dir.specs.ForestViews.{tree_view, trees_view, walk_view};
 ghost use Rattle.dd_elem.specs.Device.{counted};
 ghost use Rattle.dd_report.specs.Listing.{branch_lines, flag_of, label_of, label_tag, lines_of, listing_text};
