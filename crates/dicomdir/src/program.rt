@@ -1,5 +1,5 @@
 //! The program's run.
-ghost use Rattle.std.specs.Prelude.{◌≡◌, ◌<◌, ◌≤◌, ◌⊎◌, ◌++◌, ◌∷◌, [], All, IfErr, IsErr, IsOk, codes, length, true};
+ghost use Rattle.std.specs.Prelude.{◌≡◌, ◌<◌, ◌≤◌, ◌⊎◌, All, IfErr, IsErr, IsOk, length, true};
 ghost use Rattle.clap.specs.Words.{subcommand_of, takes};
 ghost use Rattle.dd_elem.specs.Device.{HasFailed};
 ghost use Rattle.dd_layout.specs.Plans.{size};
