@@ -1,5 +1,5 @@
 //! A reader or writer of the system, with its counts.
-ghost use Rattle.std.specs.Prelude.{◌≡◌, None, MatchResult};
+ghost use Rattle.std.specs.Prelude.{◌≡◌, None};
 ghost use Rattle.std.specs.Io.{ReadsAtMost, WritesAtMost};
 
 use dd_elem::{Counts, Read, Write};
