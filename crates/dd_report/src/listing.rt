@@ -16,8 +16,8 @@ use dd_layout::table::{FILE, PATIENT_ID, SERIES_UID, STUDY_UID};
 use itoa::Buffer;
 use std::fmt;
 
-/// Lists the records of a directory: a line for each, depth first, and how many they are. This takes no
-/// memory.
+/// Lists the records of a directory: a line for each, depth first, and how many they are. It fails only
+/// where the output does, and takes no memory.
 pub fn list_records<W: Write>(forest: &Forest<'_>, to: &mut W) -> fmt::Result
     ensures sent { OnOk result (TakesAll (W.contents to.old) (W.contents to.new)
         (W.failures to.old) (W.failures to.new) (listing_text (walk_view forest.now))) }
