@@ -22,23 +22,33 @@ const COPIES: &str = "\
 100 - 150 454 > 96 Unsent 150
 100 - 454 454 > digest 454";
 
-fn copied(alloc: Global, case: &str) -> Result<String, Fail> {
+/// The SHA-256 of 131,073 bytes of zero.
+const LONG_DIGEST: &str = "d281209cc72d47b090175b22621840d9eb8267d09cc05dc122bfaa759a82830f";
+
+/// Copies of these bytes, which are more than two reads take: the same.
+const LONG_COPIES: &str = "\
+1000000 - - 131073 > digest 131073
+1000000 - - 131072 > 97 Changed 131072
+1000 - - 1000000 > digest 131073
+1000000 100000 - 131073 > 93 Unread 100000
+1000000 - 70000 131073 > 96 Unsent 70000";
+
+fn copied(alloc: Global, image: &[u8], wanted: &str, case: &str) -> Result<String, Fail> {
     let (piece, rest) = question(case).split_once(' ').ok_or("no piece")?;
     let (reader, rest) = rest.split_once(' ').ok_or("no reader")?;
     let (writer, limit) = rest.split_once(' ').ok_or("no writer")?;
-    let image = v1(alloc)?;
-    let mut source = ByteSource::new(&image, piece.parse()?, failing(reader)?);
+    let mut source = ByteSource::new(image, piece.parse()?, failing(reader)?);
     let mut sink = Sink::new(alloc, failing(writer)?);
     let said = match copy_image(&mut source, &mut sink, limit.parse()?) {
-        Ok(digest) => digest_words(alloc, &digest)?,
+        Ok(digest) => digest_words(alloc, &digest, wanted)?,
         Err(fault) => format!(in alloc; "{fault}")?,
     };
-    let sent = sent_of(&image, sink.bytes())?;
+    let sent = sent_of(image, sink.bytes())?;
     Ok(answered(alloc, case, &format_args!("{said} {sent}"))?)
 }
 
-fn digest_words(alloc: Global, digest: &[u8; 32]) -> Result<String, Fail> {
-    let is_right = bytes_of(alloc, DIGEST)?.as_slice() == &digest[..];
+fn digest_words(alloc: Global, digest: &[u8; 32], wanted: &str) -> Result<String, Fail> {
+    let is_right = bytes_of(alloc, wanted)?.as_slice() == &digest[..];
     let words = if is_right { "digest" } else { "another digest" };
     Ok(String::from_str(alloc, words)?)
 }
@@ -53,8 +63,24 @@ fn sent_of(image: &[u8], sent: &[u8]) -> Result<usize, Fail> {
 
 #[test]
 fn images_are_copied_or_refused(rt: HostRuntime) -> Result<(), Fail> {
+    let image = v1(rt.alloc())?;
     for case in COPIES.split('\n') {
-        assert_eq!(rt; copied(rt.alloc(), case)?.as_str(), case);
+        assert_eq!(rt; copied(rt.alloc(), &image, DIGEST, case)?.as_str(), case);
+    }
+    Ok(())
+}
+
+#[test]
+fn long_images_are_copied_or_refused(rt: HostRuntime) -> Result<(), Fail> {
+    let mut image = Vec::new(rt.alloc());
+    for _ in 0..131_073u32 {
+        image.push(0u8)?;
+    }
+    for case in LONG_COPIES.split('\n') {
+        assert_eq!(rt;
+            copied(rt.alloc(), &image, LONG_DIGEST, case)?.as_str(),
+            case
+        );
     }
     Ok(())
 }
