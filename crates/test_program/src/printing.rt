@@ -33,15 +33,17 @@ fn lines_are_printed_as_far_as_they_go(rt: HostRuntime) -> Result<(), Fail> {
     Ok(())
 }
 
-/// After how many bytes a device fails to which a line of 300, 300 and 600 characters is printed, whether it was, and
-/// how many of its bytes the device holds.
+/// After how many bytes a device fails to which a line of 5,000, 5,000 and 9,000 characters is printed, whether it
+/// was, and how many of its bytes the device holds. Of the first and the second there is room for one to wait, and for
+/// the third there is none.
 const LONG: &str = "\
-2000 > true 1201
-1201 > true 1201
-1200 > false 1200
-700 > false 700
-300 > false 300
-299 > false 299";
+20000 > true 19001
+19001 > true 19001
+19000 > false 19000
+12000 > false 12000
+7000 > false 7000
+5000 > false 5000
+4999 > false 4999";
 
 fn repeated(alloc: Global, character: char, count: u32) -> Result<String, AllocError> {
     let mut text = String::new(alloc);
@@ -53,9 +55,9 @@ fn repeated(alloc: Global, character: char, count: u32) -> Result<String, AllocE
 
 fn printed_long(alloc: Global, case: &str) -> Result<String, Fail> {
     let mut sink = Sink::new(alloc, Some(question(case).parse()?));
-    let first = repeated(alloc, 'a', 300)?;
-    let second = repeated(alloc, 'b', 300)?;
-    let third = repeated(alloc, 'c', 600)?;
+    let first = repeated(alloc, 'a', 5000)?;
+    let second = repeated(alloc, 'b', 5000)?;
+    let third = repeated(alloc, 'c', 9000)?;
     let is_printed = print_line(&[&first, &second, &third], &mut sink).is_ok();
     let line = format!(in alloc; "{first}{second}{third}\n")?;
     if !line.as_bytes().starts_with(sink.bytes()) {
