@@ -4,11 +4,10 @@ use Rattle.dd_layout.specs.Bounds.{Bounds}
 use Rattle.dd_engine.specs.declared.choice.Choice.{Choice}
 use Rattle.dd_engine.specs.declared.merge_fault.MergeFault.{MergeFault}
 use Rattle.dd_engine.specs.declared.merge_fault.MergeFault.TheVariants.{Dir, Own, Plan, Memory}
-use Rattle.dd_engine.specs.Merged.{IsAt}
-use Rattle.dd_engine.specs.Merging.{Merges}
+use Rattle.dd_engine.specs.Merging.{IsNamedSet, Merges}
 
 pub fault_at : (choice : Choice) (limits : Bounds) (sets : List (List ℕ)) (fault : MergeFault)
-    → Merges choice limits sets (Err fault) → IsAt (length sets) fault
+    → Merges choice limits sets (Err fault) → IsNamedSet (length sets) fault
 fault_at choice limits sets (Dir at fault) merges = merges.below
 fault_at choice limits sets (Own at fault) merges = merges.below
 fault_at choice limits sets (Plan fault) merges = tt

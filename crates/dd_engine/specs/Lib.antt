@@ -2,7 +2,6 @@ pub mod Choosing
 pub mod Indexed
 pub mod Indexing
 pub mod MergeSteps
-pub mod Merged
 pub mod Merging
 pub mod Picking
 pub mod Published

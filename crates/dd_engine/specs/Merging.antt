@@ -97,3 +97,12 @@ Merges choice limits sets (Err (Own at fault)) = IsFirst (λ set. IsForeign set 
 Merges choice limits sets (Err (Plan fault)) = (images : List (List Listed))
     × AreOwn sets images × (refusal_for choice limits (best_in (numbered 0 images)) ≡ Some fault)
 Merges choice limits sets (Err Memory) = Unit {0}
+
+-- ---- numbers of sets
+
+-- a set that a fault names is among so many
+abbrev pub IsNamedSet : ℕ → MergeFault → Type 0
+IsNamedSet sets (Dir at fault) = at < sets
+IsNamedSet sets (Own at fault) = at < sets
+IsNamedSet sets (Plan fault) = Unit {0}
+IsNamedSet sets Memory = Unit {0}

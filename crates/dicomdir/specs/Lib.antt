@@ -5,7 +5,6 @@ pub use Rattle.dd_engine.specs.Choosing
 pub use Rattle.dd_engine.specs.Indexed
 pub use Rattle.dd_engine.specs.Indexing
 pub use Rattle.dd_engine.specs.MergeSteps
-pub use Rattle.dd_engine.specs.Merged
 pub use Rattle.dd_engine.specs.Merging
 pub use Rattle.dd_engine.specs.Picking
 pub use Rattle.dd_engine.specs.Published

@@ -1,6 +1,6 @@
 //! A file-set of others.
 ghost use Rattle.std.specs.Prelude.{◌≡◌, ◌<◌, ℕ, All, IfErr, IfOk, length};
-ghost use Rattle.dd_engine.specs.Merged.{IsAt};
+ghost use Rattle.dd_engine.specs.Merging.{IsNamedSet};
 ghost use Rattle.dicomdir.specs.Refusal.{IsOfWork};
 
 use crate::file_set::{limits_of, refuse_taken};
@@ -56,7 +56,7 @@ pub(crate) fn slices<'a>(alloc: Global, all: &'a [Vec<u8>]) -> Result<Vec<&'a [u
 
 /// What the fault of a merge comes to.
 fn refusal_of(fault: MergeFault) -> Refusal
-    ensures { (sets : ℕ) → IsAt sets fault → IsOfWork sets result }
+    ensures { (sets : ℕ) → IsNamedSet sets fault → IsOfWork sets result }
 {
     match fault {
         MergeFault::Memory => Refusal::general(ProgramFault::Memory),
