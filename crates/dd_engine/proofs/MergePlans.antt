@@ -8,11 +8,11 @@ use Rattle.dd_keys.specs.declared.parts.Parts.{Parts}
 use Rattle.dd_layout.specs.Layouts.{Layout, layout_of}
 use Rattle.dd_layout.specs.Plans.{records_of}
 use Rattle.dd_engine.specs.declared.choice.Choice.{Choice}
-use Rattle.dd_engine.specs.declared.gathering.FileName.{FileName}
+use Rattle.dd_engine.specs.declared.gathering.ImageFile.{ImageFile}
 use Rattle.dd_engine.specs.declared.merge.Pick.{Pick}
 use Rattle.dd_engine.specs.Choosing.{label_for}
 use Rattle.dd_engine.specs.Merging.{best_in, pick_view, places_in, stands_at}
-use Rattle.dd_engine.specs.MergeSteps.{AreOf, name_view}
+use Rattle.dd_engine.specs.MergeSteps.{AreOf, file_view}
 use Rattle.dd_engine.specs.Picking.{ArePicked, found_of}
 
 -- the versions of the plan
@@ -34,9 +34,9 @@ picked_of images choice m plan places picks b p q is =
     (p ∙ ap (λ (n : List Parts). layout_of (label_for choice n) n) b)
 
 -- the files, as slices show them
-pub files_are : (all : List (ℕ × Located)) (names shown : List FileName) (picks seen : List Pick) → shown ≡ names
-    → seen ≡ picks → AreOf all names picks → AreOf all shown seen
-files_are all names shown picks seen n p are = record {
-  named = ap (map (λ name. name_view name)) n ∙ are.named;
+pub files_are : (all : List (ℕ × Located)) (files shown : List ImageFile) (picks seen : List Pick) → shown ≡ files
+    → seen ≡ picks → AreOf all files picks → AreOf all shown seen
+files_are all files shown picks seen n p are = record {
+  named = ap (map (λ file. file_view file)) n ∙ are.named;
   picked = ap (map (λ pick. pick_view pick)) p ∙ are.picked;
 }

@@ -7,11 +7,11 @@ use Rattle.dd_dir.specs.Own.{Listed}
 use Rattle.dd_dir.specs.OwnVersions.{Located, version_of}
 use Rattle.dd_keys.specs.declared.parts.Parts.{Parts}
 use Rattle.dd_layout.specs.declared.record.PlanRecord.{PlanRecord}
-use Rattle.dd_engine.specs.declared.gathering.FileName.{FileName}
+use Rattle.dd_engine.specs.declared.gathering.ImageFile.{ImageFile}
 use Rattle.dd_engine.specs.declared.marks.Mark.{Mark}
 use Rattle.dd_engine.specs.declared.merge.Pick.{Pick}
 use Rattle.dd_engine.specs.Merging.{best_in, pick_view, place_key, place_pick, places_in, stands_at, versions_in}
-use Rattle.dd_engine.specs.MergeSteps.{AreOf, name_view, placed_view}
+use Rattle.dd_engine.specs.MergeSteps.{AreOf, file_view, placed_view}
 use Rattle.dd_engine.specs.Picking.{AreHeld, ArePicked, FileKey, file_of, found_of, key_of, mark_view}
 use Rattle.dd_engine.proofs.ImagePicks.{held, picks_told, twice}
 
@@ -54,9 +54,9 @@ zip_same : {A C D : Type 0} (f : A → C) (g : A → D) (xs : List A)
 zip_same f g [] = refl
 zip_same f g (x ∷ xs) = ap (λ l. (f x, g x) ∷ l) (zip_same f g xs)
 
-pub side_by_side : (all : List (ℕ × Located)) (names : List FileName) (picks : List Pick) → AreOf all names picks
-    → map (λ p. (pick_view p.0, name_view p.1)) (zip picks names) ≡ map (λ place. stands_at place) all
-side_by_side all names picks are =
-    zip_maps (λ pick. pick_view pick) (λ name. name_view name) picks names
+pub side_by_side : (all : List (ℕ × Located)) (files : List ImageFile) (picks : List Pick) → AreOf all files picks
+    → map (λ p. (pick_view p.0, file_view p.1)) (zip picks files) ≡ map (λ place. stands_at place) all
+side_by_side all files picks are =
+    zip_maps (λ pick. pick_view pick) (λ file. file_view file) picks files
     ∙ ap₂ (λ (a : List (ℕ × List ℕ)) (b : List FileKey). zip a b) are.picked are.named
     ∙ zip_same (λ place. place_pick place) (λ place. place_key place.1) all

@@ -10,7 +10,7 @@ use Rattle.dd_layout.specs.declared.fault.PlanFault.{PlanFault}
 use Rattle.dd_layout.specs.declared.fault.PlanFault.TheVariants as plans
 use Rattle.dd_engine.specs.declared.choice.Choice.{Choice}
 use Rattle.dd_engine.specs.declared.gathering.Gathered.{Gathered}
-use Rattle.dd_engine.specs.declared.gathering.FileName.{FileName}
+use Rattle.dd_engine.specs.declared.gathering.ImageFile.{ImageFile}
 use Rattle.dd_engine.specs.declared.marks.Mark.{Mark}
 use Rattle.dd_engine.specs.declared.merge.Merged.{Merged}
 use Rattle.dd_engine.specs.declared.merge.Pick.{Pick}
@@ -51,21 +51,21 @@ AnswersSet Gives at set (Err fault) = FailsAt at set fault
 
 -- ---- all sets
 
-abbrev pub name_view : FileName → FileKey
-name_view name = record { instance = name.uid; digest = name.digest }
+abbrev pub file_view : ImageFile → FileKey
+file_view file = record { instance = file.instance; digest = file.digest }
 
 abbrev pub placed_view : Mark Pick → (ℕ × List ℕ) × FileKey
 placed_view mark = (pick_view mark.at, key_of mark)
 
 -- they are the files of these places, and where these are
-pub record AreOf (places : List (ℕ × Located)) (names : List FileName) (picks : List Pick) : Type 0 where
-  pub named : map (λ name. name_view name) names ≡ map (λ place. place_key place.1) places
+pub record AreOf (places : List (ℕ × Located)) (files : List ImageFile) (picks : List Pick) : Type 0 where
+  pub named : map (λ file. file_view file) files ≡ map (λ place. place_key place.1) places
   pub picked : map (λ pick. pick_view pick) picks ≡ map (λ place. place_pick place) places
 
 -- what was gathered is of these images: their versions, the files, and where they are
 pub record Gathers (images : List (ℕ × Listed)) (gathered : Gathered) : Type 0 where
   pub versions : gathered.versions.items ≡ versions_in images
-  pub files : AreOf (places_in images) gathered.names.items gathered.picks.items
+  pub files : AreOf (places_in images) gathered.files.items gathered.picks.items
 
 -- what was gathered of all sets, or why not
 abbrev pub GathersAll : List (List ℕ) → Result Gathered MergeFault → Type 0

@@ -7,7 +7,7 @@ ghost use Rattle.dd_dir.specs.OwnVersions.{Tells, place_view};
 ghost use Rattle.dd_dir.specs.Reading.{Refuses};
 ghost use Rattle.dd_engine.specs.Merging.{pick_view, place_key, place_pick};
 ghost use Rattle.dd_engine.specs.MergeSteps.{AnswersSet, FailsAt, Gathers, GathersAll};
-ghost use Rattle.dd_engine.specs.MergeSteps.{name_view, own_fault};
+ghost use Rattle.dd_engine.specs.MergeSteps.{file_view, own_fault};
 
 use crate::merge::Pick;
 use crate::merge_fault::MergeFault;
@@ -18,12 +18,12 @@ use dd_part10::FileFault;
 use dd_set::SetFault;
 use std::alloc::Global;
 
-/// What tells a file from others.
+/// The file of an image, by what tells it from others.
 #[derive(Clone, Copy)]
-pub(crate) struct FileName {
-    /// The SOP Instance UID of its image.
-    pub(crate) uid: Uid,
-    /// Its SHA-256.
+pub(crate) struct ImageFile {
+    /// The SOP Instance UID of the image.
+    pub(crate) instance: Uid,
+    /// The SHA-256 of the file.
     pub(crate) digest: [u8; 32],
 }
 
@@ -32,7 +32,7 @@ pub(crate) struct Gathered<'a> {
     /// The versions of all images.
     pub(crate) versions: Vec<Version>,
     /// Their files.
-    pub(crate) names: Vec<FileName>,
+    pub(crate) files: Vec<ImageFile>,
     /// Where these are.
     pub(crate) picks: Vec<Pick<'a>>,
 }
@@ -42,7 +42,7 @@ impl Drop for Gathered<'_> {
     fn drop(self) {
         let Gathered {
             versions: _versions,
-            names: _names,
+            files: _files,
             picks: _picks,
         } = self;
     }
@@ -55,7 +55,7 @@ impl<'a> Gathered<'a> {
     {
         Gathered {
             versions: Vec::new(alloc),
-            names: Vec::new(alloc),
+            files: Vec::new(alloc),
             picks: Vec::new(alloc),
         }
     }
@@ -63,15 +63,15 @@ impl<'a> Gathered<'a> {
     /// Adds what the set of this number lists.
     fn keep(&mut self, at: usize, mut own: Own<'a>) -> Result<(), Memory>
         ensures versions { OnOk result (self.new.versions.items ≡ self.old.versions.items ++ own.entry.versions.items) }
-        ensures names { OnOk result (map (λ name. name_view name) self.new.names.items
-            ≡ map (λ name. name_view name) self.old.names.items
+        ensures files { OnOk result (map (λ file. file_view file) self.new.files.items
+            ≡ map (λ file. file_view file) self.old.files.items
             ++ map (λ place. place_key (place_view place)) own.entry.places.items) }
         ensures picks { OnOk result (map (λ pick. pick_view pick) self.new.picks.items
             ≡ map (λ pick. pick_view pick) self.old.picks.items
             ++ map (λ place. place_pick (at, place_view place)) own.entry.places.items) }
     {
         self.versions.append(&mut own.versions)?;
-        add_names(&mut self.names, &own.places)?;
+        add_files(&mut self.files, &own.places)?;
         add_picks(&mut self.picks, at, &own.places)
     }
 }
@@ -150,14 +150,14 @@ fn own_fault(at: usize, fault: OwnFault) -> MergeFault
 }
 
 /// Adds the files of these places.
-fn add_names(to: &mut Vec<FileName>, places: &[Place<'_>]) -> Result<(), Memory>
-    ensures { OnOk result (map (λ name. name_view name) to.new.items
-        ≡ map (λ name. name_view name) to.old.items ++ map (λ place. place_key (place_view place)) places.now) }
+fn add_files(to: &mut Vec<ImageFile>, places: &[Place<'_>]) -> Result<(), Memory>
+    ensures { OnOk result (map (λ file. file_view file) to.new.items
+        ≡ map (λ file. file_view file) to.old.items ++ map (λ place. place_key (place_view place)) places.now) }
 {
     to.reserve(places.len())?;
     for place in places {
-        to.push(FileName {
-            uid: place.uid,
+        to.push(ImageFile {
+            instance: place.uid,
             digest: place.digest,
         })?;
     }

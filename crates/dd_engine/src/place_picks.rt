@@ -9,7 +9,7 @@ ghost use Rattle.dd_engine.specs.Merging.{best_in, pick_view, places_in, stands_
 ghost use Rattle.dd_engine.specs.MergeSteps.{AreOf, placed_view};
 ghost use Rattle.dd_engine.specs.Picking.{ArePicked};
 
-use crate::gathering::FileName;
+use crate::gathering::ImageFile;
 use crate::marks::{Mark, first_marks};
 use crate::merge::Pick;
 use dd_elem::Memory;
@@ -21,33 +21,33 @@ use std::alloc::Global;
 pub(crate) fn place_picks<'a>(
     alloc: Global,
     plan: &Plan,
-    names: &[FileName],
+    files: &[ImageFile],
     places: &[Pick<'a>],
 ) -> Result<Vec<Pick<'a>>, Memory>
     requires { (images : List (ℕ × Listed)) × (plan.now.versions ≡ harmonised (best_in images))
-        × AreOf (places_in images) names.now places.now }
-    ensures { (all : List (ℕ × Located)) → AreOf all names.now places.now
+        × AreOf (places_in images) files.now places.now }
+    ensures { (all : List (ℕ × Located)) → AreOf all files.now places.now
         → IfOk result (λ picks. ArePicked (map (λ place. stands_at place) all) plan.now.versions
         (records_of plan.now.label plan.now.versions) (map (λ pick. pick_view pick) picks.items)) }
 {
-    let marks = marks(alloc, names, places)?;
+    let marks = marks(alloc, files, places)?;
     first_marks(alloc, plan, marks)
 }
 
 /// A mark of each file.
 fn marks<'p, 'a>(
     alloc: Global,
-    names: &'p [FileName],
+    files: &'p [ImageFile],
     places: &[Pick<'a>],
 ) -> Result<Vec<Mark<'p, Pick<'a>>>, Memory>
-    ensures { (all : List (ℕ × Located)) → AreOf all names.now places.now
+    ensures { (all : List (ℕ × Located)) → AreOf all files.now places.now
         → IfOk result (λ marks. map (λ mark. placed_view mark) marks.items ≡ map (λ place. stands_at place) all) }
 {
-    let mut marks = Vec::with_capacity(alloc, names.len())?;
-    for (at, name) in places.iter().zip(names) {
+    let mut marks = Vec::with_capacity(alloc, files.len())?;
+    for (at, file) in places.iter().zip(files) {
         marks.push(Mark {
-            instance: &name.uid,
-            digest: &name.digest,
+            instance: &file.instance,
+            digest: &file.digest,
             at: *at,
         })?;
     }

@@ -12,7 +12,7 @@ returns c = λ before held.
             told.2.versions;
         files = record {
           named = parts_more (λ p. place_key p.1) before c.args.at told.0 _ _ _ held.files.named
-              c.in_ok-keep.ensures.names told.2.places;
+              c.in_ok-keep.ensures.files told.2.places;
           picked = parts_more (λ p. place_pick p) before c.args.at told.0 _ _ _ held.files.picked
               c.in_ok-keep.ensures.picks told.2.places;
         };
