@@ -7,8 +7,8 @@ ghost use Rattle.dd_engine.specs.Supply.{AllStay, Holds};
 
 use crate::choice::{Choice, plan_for};
 use crate::engine_fault::EngineFault;
-use crate::picks::picks;
 use crate::reading::{Sources, read_sources};
+use crate::source_picks::source_picks;
 use crate::supply::Supply;
 use dd_catalogue::Catalogue;
 use dd_keys::KeyFault;
@@ -82,7 +82,7 @@ fn planned(
     let (versions, numbers, skipped) = sources.into_parts();
     let catalogue = Catalogue::from_versions(alloc, &versions)?;
     let plan = plan_for(alloc, &catalogue, choice, limits)?;
-    let picks = picks(alloc, &plan, &versions, &numbers)?;
+    let picks = source_picks(alloc, &plan, &versions, &numbers)?;
     Ok(Indexed {
         plan,
         skipped,

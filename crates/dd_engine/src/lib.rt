@@ -11,9 +11,9 @@ mod gathering;
 mod marks;
 mod merge;
 mod merge_fault;
-mod picks;
 mod place_picks;
 mod reading;
+mod source_picks;
 mod supply;
 
 pub use choice::Choice;

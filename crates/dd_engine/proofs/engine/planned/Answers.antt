@@ -9,8 +9,8 @@ use Rattle.dd_engine.proofs.ImagePicks.{holds_of_picks}
 use Rattle.dd_engine.proofs.Planning.{accepted_below, best_is, planned_picks, planned_versions, skipped_below, zip_is}
 use Rattle.dd_engine.proofs.engine.planned.Goals as goal
 
-pub picks-requires : goal.picks-requires
-picks-requires c =
+pub source_picks-requires : goal.source_picks-requires
+source_picks-requires c =
     let sources = accepted c.requires.0 in
     let held = c.requires.1 in
     let parts = c.into_parts-versions.ensures in

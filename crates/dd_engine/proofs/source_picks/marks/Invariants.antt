@@ -1,6 +1,6 @@
 use Rattle.std.proofs.Common.{◌≡◌, map}
 use Rattle.dd_engine.specs.Picking.{file_of, mark_view}
-use Rattle.dd_engine.proofs.picks.marks.Given as goal
+use Rattle.dd_engine.proofs.source_picks.marks.Given as goal
 
 -- a mark of each source so far
 abbrev pub invariant-loop-at : goal.invariant-loop-at

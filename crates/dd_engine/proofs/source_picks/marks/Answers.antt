@@ -5,7 +5,7 @@ use Rattle.std.proofs.lemmas.List.{map-append}
 use Rattle.dd_keys.specs.declared.parts.Parts.{Parts}
 use Rattle.dd_engine.specs.Picking.{file_of, mark_view}
 use Rattle.dd_engine.proofs.ImagePicks.{twice}
-use Rattle.dd_engine.proofs.picks.marks.Goals as goal
+use Rattle.dd_engine.proofs.source_picks.marks.Goals as goal
 
 pub loop-at-preserved : goal.loop-at-preserved
 loop-at-preserved c =

@@ -4,7 +4,7 @@ use Rattle.std.specs.List.{zip}
 use Rattle.dd_layout.specs.Plans.{records_of}
 use Rattle.dd_engine.specs.Picking.{found_of}
 use Rattle.dd_engine.proofs.SourcePicks.{no_picks, sources_held}
-use Rattle.dd_engine.proofs.picks.picks.Goals as goal
+use Rattle.dd_engine.proofs.source_picks.source_picks.Goals as goal
 
 pub returns-then-is_empty-clause-all : goal.returns-then-is_empty-clause-all
 returns-then-is_empty-clause-all c =
