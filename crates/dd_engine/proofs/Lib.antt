@@ -5,7 +5,7 @@ mod ImagePicks
 mod MergePlans
 mod MergedMaps
 mod PicksWithin
-mod PlacesPicked
+mod PlacePicks
 mod Planning
 mod SamePlans
 mod SetsGathered

@@ -7,7 +7,7 @@ use Rattle.dd_engine.specs.declared.merge.Pick.{Pick}
 use Rattle.dd_engine.specs.Merging.{pick_view}
 use Rattle.dd_engine.specs.MergeSteps.{file_view, placed_view}
 use Rattle.dd_engine.proofs.ImagePicks.{twice}
-use Rattle.dd_engine.proofs.PlacesPicked.{side_by_side}
+use Rattle.dd_engine.proofs.PlacePicks.{side_by_side}
 use Rattle.dd_engine.proofs.place_picks.marks.Goals as goal
 
 pub loop-at-preserved : goal.loop-at-preserved

@@ -1,7 +1,7 @@
 use Rattle.std.proofs.lemmas.Result.{IfOk-weaker}
 use Rattle.dd_layout.specs.Plans.{records_of}
 use Rattle.dd_engine.specs.Merging.{places_in}
-use Rattle.dd_engine.proofs.PlacesPicked.{places_found, places_held}
+use Rattle.dd_engine.proofs.PlacePicks.{places_found, places_held}
 use Rattle.dd_engine.proofs.place_picks.place_picks.Goals as goal
 
 pub first_marks-requires : goal.first_marks-requires
