@@ -104,7 +104,7 @@ impl Refusal {
     }
 }
 
-// No fault has as many bytes.
+/// The room for the words of a fault: none has as many bytes.
 pub(crate) const WORDS_LENGTH: usize = 256;
 
 /// Tells a refusal in a line, with no memory, and answers the status that the run ends with: 2 where the

@@ -18,8 +18,7 @@ returns-clause-found g c =
     let cleaned_is = c.clean-cleaned.ensures.exact in
     let most : length c.args.room.now ≤ 64 = c.requires in
     let few : length (clean_of room) ≤ 1024 = omega (arith, length-clean_of room) in
-    scans_same _ _ _ _ _ _ c.in_ok-left.ensures.found (λ all rest t fewer h.
-    (
+    scans_same _ _ _ _ _ _ c.in_ok-left.ensures.found (λ all rest t fewer h. (
       room,
       told_cleaned _ _ _ _ (kept ∙ cleaned_is ∙ sym (take_all 1024 (clean_of room) few)) (ap length cleaned_is),
       rw (sym same) h,
