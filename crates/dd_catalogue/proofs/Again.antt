@@ -9,7 +9,7 @@ use Rattle.dd_elem.specs.Ordered.{bytes_cmp}
 use Rattle.dd_keys.specs.Orders.{patient_cmp, study_cmp, series_cmp, parts_cmp}
 use Rattle.dd_keys.specs.declared.parts.Parts.{Parts}
 use Rattle.dd_catalogue.specs.Best.{IsGreatest}
-use Rattle.dd_catalogue.specs.BestLaws.{Member, member_of, contained}
+use Rattle.dd_catalogue.proofs.Members.{Member, member_of, contained}
 use Rattle.dd_catalogue.specs.Harmony.{greatest_like, patient_of, patient_key, study_of, study_key}
 use Rattle.dd_catalogue.specs.Harmony.{series_of, series_key, agreed, harmonised}
 use Rattle.dd_catalogue.specs.Rising.{Orders}

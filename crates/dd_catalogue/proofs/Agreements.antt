@@ -10,7 +10,8 @@ use Rattle.dd_keys.specs.Orders.{parts_cmp, parts_total}
 use Rattle.dd_keys.specs.declared.parts.Parts.{Parts}
 use Rattle.dd_catalogue.specs.Agreement.{Agree, AllAgree}
 use Rattle.dd_catalogue.specs.Best.{IsGreatest, SameMembers}
-use Rattle.dd_catalogue.specs.BestLaws.{best_at, rising-best, Member, member_of, contained}
+use Rattle.dd_catalogue.specs.BestLaws.{best_at, rising-best}
+use Rattle.dd_catalogue.proofs.Members.{Member, member_of, contained}
 use Rattle.dd_catalogue.proofs.BestMembers.{best_is_best, best_at_key, is_greatest, absorbed, one_itself}
 use Rattle.dd_catalogue.specs.Harmony.{greatest_like, patient_of, study_of, series_of, agreed, harmonised}
 use Rattle.dd_catalogue.specs.Histories.{together}

@@ -5,7 +5,7 @@ use Rattle.std.specs.List.{AllByRecursion, fold}
 use Rattle.std.proofs.Common.{refl, sym, ◌∙◌, ap, subst, inl, inr}
 use Rattle.std.proofs.lemmas.List.Elements.{recursion_from_All, All-contains}
 use Rattle.dd_catalogue.specs.Best.{SameMembers}
-use Rattle.dd_catalogue.specs.BestLaws.{Member, member_of, contained}
+use Rattle.dd_catalogue.proofs.Members.{Member, member_of, contained}
 use Rattle.dd_catalogue.specs.Joins.{JoinLaws, OrderIsFree, GatherIsFree}
 
 fold_value : {V : Type 0} {IsValue : V → Type 0} {join : V → V → V} (l : JoinLaws IsValue join) (x : V) (xs : List V)

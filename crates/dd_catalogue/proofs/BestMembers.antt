@@ -12,7 +12,7 @@ use Rattle.dd_catalogue.specs.Rising.{Orders, by_order, by_test, by_option, is_e
 use Rattle.dd_catalogue.specs.Rising.{either_comm, either_assoc, either_swap, one, same_rising, less_turned}
 use Rattle.dd_catalogue.specs.Rising.{greater_greater, at-first}
 use Rattle.dd_catalogue.specs.BestLaws.{best_at, rising-best, at-best, best_at-rising, best_at-best, same_best_at}
-use Rattle.dd_catalogue.specs.BestLaws.{Member, member_of, contained}
+use Rattle.dd_catalogue.proofs.Members.{Member, member_of, contained}
 
 -- ---- each member is absorbed
 

@@ -19,7 +19,8 @@ use Rattle.dd_keys.specs.declared.parts.Parts.{Parts}
 use Rattle.dd_catalogue.specs.Agreeing.{agreed_by}
 use Rattle.dd_catalogue.specs.Best.{IsAbove, at, best, greater}
 use Rattle.dd_catalogue.specs.Rising.{Orders, by_test, either, either_assoc}
-use Rattle.dd_catalogue.specs.BestLaws.{best_at, at-best, Member, member_of}
+use Rattle.dd_catalogue.specs.BestLaws.{best_at, at-best}
+use Rattle.dd_catalogue.proofs.Members.{Member, member_of}
 use Rattle.dd_catalogue.proofs.BestMembers.{absorbed, one_itself}
 use Rattle.dd_catalogue.specs.Harmony.{greatest_like, patient_of, patient_key, study_of, study_key, series_of}
 use Rattle.dd_catalogue.specs.Harmony.{series_key, agreed, harmonised}

@@ -8,7 +8,8 @@ use Rattle.dd_keys.specs.Orders.{patient_cmp, patient_total, patient_apart, stud
 use Rattle.dd_keys.specs.Orders.{series_cmp, series_total, series_apart}
 use Rattle.dd_keys.specs.declared.parts.Parts.{Parts}
 use Rattle.dd_catalogue.specs.Best.{SameMembers}
-use Rattle.dd_catalogue.specs.BestLaws.{best_at, best_of_rising, Member, member_of, contained}
+use Rattle.dd_catalogue.specs.BestLaws.{best_at, best_of_rising}
+use Rattle.dd_catalogue.proofs.Members.{Member, member_of, contained}
 use Rattle.dd_catalogue.proofs.BestMembers.{is_greatest, best_at_key, best_at-greatest, best_of_same}
 use Rattle.dd_catalogue.specs.Harmony.{IsGreatestLike, IsAgreed, IsHarmonised, greatest_like, patient_of, patient_key}
 use Rattle.dd_catalogue.specs.Harmony.{study_of, study_key, series_of, series_key, agreed, harmonised}

@@ -3,7 +3,7 @@ use Rattle.std.specs.Prelude.{◌≡◌, ℕ, List, [], ◌∷◌, Option, Some,
 use Rattle.std.proofs.Common.{refl, sym, ◌∙◌, ap, subst, inl, inr}
 use Rattle.dd_keys.specs.declared.parts.Parts.{Parts}
 use Rattle.dd_catalogue.specs.Agreement.{IsSameImage, HaveSameImages}
-use Rattle.dd_catalogue.specs.BestLaws.{Member, member_of, contained}
+use Rattle.dd_catalogue.proofs.Members.{Member, member_of, contained}
 use Rattle.dd_catalogue.specs.Clash.{conflicts, pair_or, clash}
 use Rattle.dd_catalogue.specs.Harmony.{patient_of, study_of, series_of, agreed, harmonised}
 use Rattle.dd_catalogue.specs.Rising.{by_test}

@@ -7,6 +7,7 @@ pub mod Gathering
 pub mod Harmonies
 pub mod Harmonised
 pub mod Images
+pub mod Members
 pub mod Merging
 pub mod Places
 pub mod References

@@ -15,7 +15,7 @@ use Rattle.std.proofs.lemmas.List.Elements.{Contains-get_or, All-from_recursion}
 use Rattle.dd_elem.specs.Ordered.{bytes_cmp, TellsApart}
 use Rattle.dd_catalogue.specs.Best.{IsRising, at, greater, put}
 use Rattle.dd_catalogue.specs.Rising.{Orders, less_turned, greater_turned}
-use Rattle.dd_catalogue.specs.BestLaws.{member_of, Member}
+use Rattle.dd_catalogue.proofs.Members.{member_of, Member}
 use Rattle.dd_catalogue.proofs.BestMembers.{at-member, above_member}
 use Rattle.dd_catalogue.specs.Table.{IsPlace, taken_by}
 use Rattle.dd_catalogue.specs.declared.table.Taken.TheVariants.{Displaced, Returned}

@@ -10,7 +10,8 @@ use Rattle.dd_elem.specs.Ordered.{bytes_cmp}
 use Rattle.dd_keys.specs.declared.parts.Parts.{Parts}
 use Rattle.dd_catalogue.specs.Best.{at, best}
 use Rattle.dd_catalogue.specs.Rising.{Orders, by_test, by_option, is_eq_Equal, either}
-use Rattle.dd_catalogue.specs.BestLaws.{best_at, at-best, Member, member_of, contained}
+use Rattle.dd_catalogue.specs.BestLaws.{best_at, at-best}
+use Rattle.dd_catalogue.proofs.Members.{Member, member_of, contained}
 use Rattle.dd_catalogue.proofs.BestMembers.{absorbed, one_itself}
 use Rattle.dd_catalogue.specs.Clash.{same, splits, conflicts, pair_or, clash}
 use Rattle.dd_catalogue.specs.Owners.{Filing, uid_of, owner_of, filing_cmp, filing_total, filing_apart}

@@ -1,8 +1,8 @@
 -- The laws of the best of a set. They stand among the definitions because `catalogue_laws`, which the code cites, is
 -- made of them.
-use Rattle.std.specs.Prelude.{◌≡◌, ◌⊎◌, List, [], ◌∷◌, ◌++◌, Option, None, Contains}
+use Rattle.std.specs.Prelude.{◌≡◌, List, [], ◌∷◌, ◌++◌, Option, None}
 use Rattle.std.specs.declared.cmp.Ordering.{Ordering}
-use Rattle.std.proofs.Common.{refl, sym, ◌∙◌, ap, inl, inr, append_assoc, arith, zero, suc}
+use Rattle.std.proofs.Common.{refl, sym, ◌∙◌, ap, append_assoc}
 use Rattle.dd_catalogue.specs.Best.{IsRising, at, put, best}
 use Rattle.dd_catalogue.specs.Rising.{Orders, either, either_self, either_comm, either_assoc, one, at-cons, rising-put}
 use Rattle.dd_catalogue.specs.Rising.{at-put, same_rising}
@@ -114,23 +114,6 @@ pub best_self : {V K : Type 0} {key : V → K} {keys : K → K → Ordering} {va
     → IsRising key keys m → best key keys values (m ++ m) ≡ m
 best_self {key = key} {keys = keys} {values = values} o m up = same_best_at o (m ++ m) m (λ k.
     best_at-append o m m k ∙ either_self o.values_total (best_at key keys values m k)) ∙ best_of_rising o m up
-
--- ---- members
-
--- the member of a list, by recursion
-abbrev pub Member : {V : Type 0} → V → List V → Type 0
-Member v [] = ⊥
-Member v (w ∷ s) = (w ≡ v) ⊎ Member v s
-
-pub member_of : {V : Type 0} (v : V) (s : List V) → Contains s v → Member v s
-member_of v [] (k, below, is) = absurd (omega arith)
-member_of v (w ∷ s) (zero, below, is) = inl is
-member_of v (w ∷ s) (suc k, below, is) = inr (member_of v s (k, omega arith, is))
-
-pub contained : {V : Type 0} (v : V) (s : List V) → Member v s → Contains s v
-contained v [] h = absurd h
-contained v (w ∷ s) (inl e) = (zero, omega arith, e)
-contained v (w ∷ s) (inr h) = let there = contained v s h in (suc there.0, omega arith, there.2)
 
 -- ---- one value more
 

@@ -4,7 +4,8 @@ use Rattle.std.specs.List.{AllByRecursion}
 use Rattle.std.proofs.Common.{refl, sym, ◌∙◌, ap, ap₂, subst, inl, inr}
 use Rattle.dd_elem.specs.FileId.{Ranks, text_of}
 use Rattle.dd_catalogue.specs.Best.{SameMembers}
-use Rattle.dd_catalogue.specs.BestLaws.{Member, best_of_rising, contained, member_of}
+use Rattle.dd_catalogue.specs.BestLaws.{best_of_rising}
+use Rattle.dd_catalogue.proofs.Members.{Member, contained, member_of}
 use Rattle.dd_catalogue.proofs.BestMembers.{best_of_same}
 use Rattle.dd_catalogue.specs.Harmony.{harmonised}
 use Rattle.dd_catalogue.specs.Versions.{IsCatalogue, versions_ordered}

@@ -9,7 +9,7 @@ use Rattle.std.proofs.lemmas.List.Filters.{sum_by-filter_both}
 use Rattle.std.proofs.lemmas.List.Sums.{sum_by_push}
 use Rattle.byteorder.specs.Endian.{little_bytes}
 use Rattle.dd_elem.specs.declared.vr.Vr.TheVariants.{CS, SQ, UL, US}
-use Rattle.dd_catalogue.specs.BestLaws.{Member}
+use Rattle.dd_catalogue.proofs.Members.{Member}
 use Rattle.dd_catalogue.proofs.Harmonies.{member-map}
 use Rattle.dd_keys.specs.declared.parts.Parts.{Parts}
 use Rattle.dd_part10.specs.Head.{head_text}

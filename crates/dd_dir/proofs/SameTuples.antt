@@ -7,7 +7,8 @@ use Rattle.dd_elem.specs.Ordered.{bytes_cmp}
 use Rattle.dd_keys.specs.Orders.{patient_total, patient_apart, study_total, study_apart}
 use Rattle.dd_keys.specs.Orders.{series_total, series_apart}
 use Rattle.dd_keys.specs.declared.parts.Parts.{Parts}
-use Rattle.dd_catalogue.specs.BestLaws.{Member, best_at}
+use Rattle.dd_catalogue.specs.BestLaws.{best_at}
+use Rattle.dd_catalogue.proofs.Members.{Member}
 use Rattle.dd_catalogue.proofs.BestMembers.{best_at_key}
 use Rattle.dd_catalogue.specs.Harmony.{agreed, greatest_like, harmonised, patient_key, patient_of, series_key}
 use Rattle.dd_catalogue.specs.Harmony.{series_of, study_key, study_of}

@@ -10,7 +10,7 @@ use Rattle.std.proofs.lemmas.List.{append-nil, get_or_default, get_or-map, lengt
 use Rattle.std.proofs.lemmas.List.{take_more}
 use Rattle.std.proofs.lemmas.List.Elements.{All-from_recursion, filter-append}
 use Rattle.std.proofs.lemmas.Option.{same_Some, slice_get_read}
-use Rattle.dd_catalogue.specs.BestLaws.{Member, member_of}
+use Rattle.dd_catalogue.proofs.Members.{Member, member_of}
 use Rattle.dd_catalogue.proofs.BestMembers.{best_is_best}
 use Rattle.dd_catalogue.specs.Harmony.{agreed, harmonised}
 use Rattle.dd_catalogue.specs.Rising.{by_test}

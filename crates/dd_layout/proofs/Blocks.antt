@@ -13,7 +13,7 @@ use Rattle.dd_catalogue.specs.Rising.{by_test, by_order, is_eq_Equal, less_turne
 use Rattle.dd_layout.specs.Neighbours.{scan}
 use Rattle.dd_layout.specs.Paths.{Path, path_cmp, is_path, prefixes, parent_of, leads_to}
 use Rattle.dd_layout.specs.Walk.{fresh, rows_from}
-use Rattle.dd_catalogue.specs.BestLaws.{Member}
+use Rattle.dd_catalogue.proofs.Members.{Member}
 use Rattle.dd_layout.proofs.RowsByWalk.{Rises, Above, path_total, path_apart, fresh_member, prefix_parts, row_prefix}
 use Rattle.dd_layout.proofs.RowsByWalk.{member_either}
 

@@ -7,7 +7,7 @@ use Rattle.std.proofs.Common.{refl, sym, ◌∙◌, ap, ap₂, subst, inl, inr, 
 use Rattle.std.proofs.lemmas.Map.Lookups.{exact_bytes}
 use Rattle.dd_elem.specs.Ordered.{bytes_cmp}
 use Rattle.dd_catalogue.specs.Rising.{by_test, is_eq_Equal}
-use Rattle.dd_catalogue.specs.BestLaws.{Member}
+use Rattle.dd_catalogue.proofs.Members.{Member}
 use Rattle.dd_layout.specs.Neighbours.{counted, counts_after}
 use Rattle.dd_layout.specs.Paths.{Path, path_cmp, is_path, prefixes, parent_of, leads_to, are_siblings}
 use Rattle.dd_layout.specs.Tree.{rank, ranks_along}

@@ -6,7 +6,7 @@ use Rattle.std.specs.List.Sorted.{IsPermutation}
 use Rattle.std.proofs.Common.{refl, sym, ◌∙◌, ap, subst, inl, inr, arith}
 use Rattle.std.proofs.lemmas.Bool.{ltb-true, ltb-false}
 use Rattle.std.proofs.lemmas.List.Sorted.{Contains-permutation, IsPermutation-sym}
-use Rattle.dd_catalogue.specs.BestLaws.{Member, member_of, contained}
+use Rattle.dd_catalogue.proofs.Members.{Member, member_of, contained}
 use Rattle.dd_catalogue.proofs.BestMembers.{best_of_same}
 use Rattle.dd_catalogue.specs.Rising.{by_test}
 use Rattle.dd_keys.specs.declared.parts.Parts.{Parts}

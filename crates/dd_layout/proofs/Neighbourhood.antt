@@ -3,7 +3,8 @@ use Rattle.std.specs.Prelude.{◌≡◌, ◌≢◌, ℕ, List, [], ◌∷◌, �
 use Rattle.std.specs.List.{flat_map}
 use Rattle.std.proofs.Common.{refl, sym, ◌∙◌, subst, inl, inr}
 use Rattle.dd_catalogue.specs.Best.{SameMembers}
-use Rattle.dd_catalogue.specs.BestLaws.{Member, member_of, contained, rising-best}
+use Rattle.dd_catalogue.specs.BestLaws.{rising-best}
+use Rattle.dd_catalogue.proofs.Members.{Member, member_of, contained}
 use Rattle.dd_catalogue.proofs.BestMembers.{best_is_best, best_of_same}
 use Rattle.dd_layout.specs.Neighbours.{IsKnown}
 use Rattle.dd_layout.specs.Paths.{Path, prefixes}

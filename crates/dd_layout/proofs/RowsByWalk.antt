@@ -12,7 +12,8 @@ use Rattle.std.proofs.lemmas.Map.Lookups.{exact_bytes}
 use Rattle.dd_elem.specs.Ordered.{bytes_cmp, TellsApart}
 use Rattle.dd_catalogue.specs.Best.{IsAbove, IsRising, SameMembers}
 use Rattle.dd_catalogue.specs.Rising.{Orders, by_test, is_eq_Equal, above_trans}
-use Rattle.dd_catalogue.specs.BestLaws.{Member, member_of, contained, best_of_rising}
+use Rattle.dd_catalogue.specs.BestLaws.{best_of_rising}
+use Rattle.dd_catalogue.proofs.Members.{Member, member_of, contained}
 use Rattle.dd_catalogue.proofs.BestMembers.{best_of_same}
 use Rattle.dd_layout.specs.Paths.{Path, path_cmp, prefixes}
 use Rattle.dd_layout.specs.Tree.{tree_of}

@@ -1,7 +1,7 @@
 -- The rows of the tree of versions: each has one part to four, and what leads to it is a row.
 use Rattle.std.specs.Prelude.{◌≡◌, ◌≢◌, ◌≤◌, true, List, [], ◌∷◌, ◌++◌, length, map}
 use Rattle.std.proofs.Common.{refl, sym, ◌∙◌, ap, inl, inr, arith}
-use Rattle.dd_catalogue.specs.BestLaws.{Member, member_of, contained}
+use Rattle.dd_catalogue.proofs.Members.{Member, member_of, contained}
 use Rattle.dd_keys.specs.declared.parts.Parts.{Parts}
 use Rattle.dd_layout.specs.Neighbours.{counts_after}
 use Rattle.dd_layout.specs.Paths.{Path, prefixes, parent_of, leads_to}

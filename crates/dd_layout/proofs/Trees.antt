@@ -8,7 +8,7 @@ use Rattle.std.proofs.lemmas.Map.Lookups.{exact_bytes}
 use Rattle.dd_elem.specs.Ordered.{bytes_cmp}
 use Rattle.dd_catalogue.specs.Best.{IsBest, IsGreatest}
 use Rattle.dd_catalogue.specs.Rising.{is_eq_Equal}
-use Rattle.dd_catalogue.specs.BestLaws.{Member, member_of, contained}
+use Rattle.dd_catalogue.proofs.Members.{Member, member_of, contained}
 use Rattle.dd_catalogue.proofs.BestMembers.{best_is_best, only_best}
 use Rattle.dd_layout.specs.Paths.{Path, path_cmp, prefixes, leads_to}
 use Rattle.dd_layout.specs.Tree.{IsTree, tree_of}

@@ -10,7 +10,8 @@ use Rattle.std.proofs.lemmas.Cmp.{tied_itself, nat_list_cmp_total}
 use Rattle.std.proofs.lemmas.List.{map-append}
 use Rattle.std.proofs.lemmas.Map.Lookups.{exact_bytes}
 use Rattle.dd_elem.specs.Ordered.{bytes_cmp}
-use Rattle.dd_catalogue.specs.BestLaws.{Member, best_of_rising}
+use Rattle.dd_catalogue.specs.BestLaws.{best_of_rising}
+use Rattle.dd_catalogue.proofs.Members.{Member}
 use Rattle.dd_catalogue.proofs.BestMembers.{best_of_same}
 use Rattle.dd_catalogue.specs.Rising.{by_test, by_order, is_eq_Equal, above_trans, greater_turned}
 use Rattle.dd_layout.specs.declared.record.PlanRecord.{PlanRecord}

@@ -1,6 +1,6 @@
 use Rattle.std.proofs.Common.{◌≡◌, length}
 use Rattle.dd_catalogue.specs.Clash.{clash}
-use Rattle.dd_catalogue.specs.BestLaws.{Member}
+use Rattle.dd_catalogue.proofs.Members.{Member}
 use Rattle.dd_catalogue.proofs.conflicts.clash_by.Given as goal
 
 abbrev pub invariant-loop-later : goal.invariant-loop-later

@@ -2,7 +2,7 @@ use Rattle.std.proofs.Common.{◌≡◌, [], ◌∷◌, ◌++◌, map, ◌∙◌
 use Rattle.std.proofs.lemmas.List.{take_all}
 use Rattle.std.proofs.lemmas.List.Elements.{All-contains}
 use Rattle.dd_keys.specs.Fitting.{Fits}
-use Rattle.dd_catalogue.specs.BestLaws.{contained}
+use Rattle.dd_catalogue.proofs.Members.{contained}
 use Rattle.dd_catalogue.specs.Harmony.{agreed, harmonised}
 use Rattle.dd_catalogue.proofs.Harmonies.{agreed_from, agreed_fits, harmonised_rises, item_member, map_more}
 use Rattle.dd_catalogue.proofs.harmony.in_harmony.Goals as goal
