@@ -4,8 +4,8 @@ use Rattle.std.specs.Io.KnownBytes.{IsAtEnd}
 use Rattle.std.specs.declared.alloc.Global.{Global}
 use Rattle.sha2.specs.Sha256.{sha256}
 use Rattle.dd_elem.specs.Device.{HasFailed, HasWorked}
-use Rattle.dd_files.specs.declared.read_whole.ReadFault.{ReadFault}
-use Rattle.dd_files.specs.declared.read_whole.ReadFault.TheVariants.{Read, TooLong, Memory}
+use Rattle.dd_files.specs.declared.reading.ReadFault.{ReadFault}
+use Rattle.dd_files.specs.declared.reading.ReadFault.TheVariants.{Read, TooLong, Memory}
 
 -- It was read to its end, and this is all that it had: `left` is still to come, and the failures of its reader were
 -- `failures` and are `after`.

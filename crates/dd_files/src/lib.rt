@@ -10,10 +10,10 @@ mod digest;
 mod files;
 mod paths;
 mod piece;
-mod read_whole;
+mod reading;
 
 pub use copy::{CopyFault, copy_image};
 pub use digest::{digest_of, digest_text};
 pub use files::{Files, NotDone, NotThere, SOURCE_LIMIT};
 pub use paths::{DIRECTORY, file_path, is_joined_by_slash, path_in, slashed};
-pub use read_whole::{ReadFault, read_whole};
+pub use reading::{ReadFault, read_whole};

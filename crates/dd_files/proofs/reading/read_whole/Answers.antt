@@ -2,7 +2,7 @@
 use Rattle.std.proofs.Common.{◌++◌, take, arith}
 use Rattle.std.proofs.lemmas.Grind.{common_steps}
 use Rattle.dd_elem.proofs.Known.{gives_more, consumes_more}
-use Rattle.dd_files.proofs.read_whole.read_whole.Goals as goal
+use Rattle.dd_files.proofs.reading.read_whole.Goals as goal
 
 pub returns-then-n-left-clause-gave : goal.returns-then-n-left-clause-gave
 returns-then-n-left-clause-gave g c = (
