@@ -1,15 +1,19 @@
 -- The head of a file, part by part.
-use Rattle.std.proofs.Common.{◌≡◌, ◌≢◌, ℕ, ◌+◌, ◌%◌, ◌==◌, Bool, true, false, if◌then◌else◌, List, [], ◌∷◌, ◌++◌}
+use Rattle.std.proofs.Common.{◌≡◌, ◌≢◌, ℕ, ◌+◌, ◌<◌, ◌≤◌, ◌^◌, ◌%◌, ◌==◌, Bool, true, false, if◌then◌else◌, List, [], ◌∷◌, ◌++◌}
 use Rattle.std.proofs.Common.{length, replicate, Some, refl, sym, ap, ◌∙◌, arith, append_assoc, append-nil}
 use Rattle.std.proofs.Common.{length-append}
 use Rattle.std.proofs.lemmas.Bool.{eqb-true, eqb-false}
+use Rattle.byteorder.specs.Endian.{little_bytes}
 use Rattle.dd_elem.specs.declared.tag.Tag.{Tag}
-use Rattle.dd_elem.specs.declared.vr.Vr.TheVariants.{UI}
+use Rattle.dd_elem.specs.declared.vr.Vr.{Vr}
+use Rattle.dd_elem.specs.declared.vr.Vr.TheVariants.{UI, UL}
+use Rattle.dd_elem.specs.Vr.{is_long_of}
 use Rattle.dd_set.specs.Elements.{Elements, no_elements, bytes}
+use Rattle.dd_set.specs.Sends.{header_limit}
 use Rattle.dd_set.specs.Spelling.{elements_text, tag_text, shape_text, header_text, content_text}
 use Rattle.dd_part10.specs.declared.meta.Meta.{Meta}
 use Rattle.dd_part10.specs.File.{prefix, group_length_text}
-use Rattle.dd_part10.specs.Meta.{class_tag, instance_tag, transfer_tag}
+use Rattle.dd_part10.specs.Meta.{group_length_tag, class_tag, instance_tag, transfer_tag}
 use Rattle.dd_part10.specs.Head.{head_text, group_text, uids_text, uid_text, uid_element, version_text, padded}
 use Rattle.dd_part10.specs.Head.{padding_of, implementation_tag, implementation_uid}
 
@@ -59,6 +63,26 @@ uid_parts tag uid padding n is n_is =
     ap (λ (p : List ℕ). header_text tag (Some UI) n ++ (uid ++ p)) is
     ∙ append_assoc (tag_text tag) (shape_text (Some UI) n) (padded uid)
     ∙ ap (λ (k : ℕ). tag_text tag ++ (shape_text (Some UI) k ++ padded uid)) len
+
+-- ---- an element with a short value
+
+-- it is sent as its header and the value
+pub element_parts : (tag : Tag) (vr : Vr) (value : List ℕ) → header_text tag (Some vr) (length value) ++ value
+    ≡ tag_text tag ++ content_text (Some vr) (bytes value)
+element_parts tag vr value = append_assoc (tag_text tag) (shape_text (Some vr) (length value)) value
+
+-- its header has room for the length
+pub header_room : (vr : Vr) (n : ℕ) → n ≤ 64 → n < header_limit vr
+header_room vr n short =
+    elim (is_long_of vr) as (λ b. n < (if b then 2 ^ 32 else 2 ^ 16))
+    [ true ↦ omega (arith, short) | false ↦ omega (arith, short) ]
+
+-- so is the group length
+pub count_text : (value : List ℕ) (count n : ℕ) → value ≡ little_bytes 4 count → count ≡ n
+    → tag_text group_length_tag ++ content_text (Some UL) (bytes value) ≡ group_length_text n
+count_text value count n is same =
+    ap (λ (v : List ℕ). tag_text group_length_tag ++ content_text (Some UL) (bytes v))
+    (is ∙ ap (λ (m : ℕ). little_bytes 4 m) same)
 
 -- ---- the group
 
@@ -113,19 +137,6 @@ length_group meta =
     sum_of n whole one two three u v w x y z p a b c d e f g = omega arith
 
 -- ---- the head
-
--- four lists
-regroup : (a b c d : List ℕ) → a ++ (b ++ (c ++ d)) ≡ (a ++ (b ++ c)) ++ d
-regroup a b c d = ap (λ (s : List ℕ). a ++ s) (sym (append_assoc b c d)) ∙ sym (append_assoc a (b ++ c) d)
-
--- it is sent as the preamble, the start of the group, and the UIDs
-pub head_parts : (meta : Meta) → head_text meta ≡ replicate 128 0
-    ++ ((prefix ++ (group_length_text (length (group_text meta)) ++ version_text)) ++ uids_text meta)
-unfolding head_text
-head_parts meta =
-    let count : List ℕ = group_length_text (length (group_text meta)) in
-    ap (λ (s : List ℕ). replicate 128 0 ++ (prefix ++ (count ++ s))) (group_parts meta)
-    ∙ ap (λ (s : List ℕ). replicate 128 0 ++ s) (regroup prefix count version_text (uids_text meta))
 
 -- how many bytes it has
 pub length_head : (meta : Meta) → length (head_text meta) ≡ 144 + length (group_text meta)

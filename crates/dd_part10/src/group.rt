@@ -24,6 +24,12 @@ pub const MAX_GROUP_LENGTH: u32 = 65_536;
 /// The group of the file meta information.
 pub const META_GROUP: u16 = 0x0002;
 
+/// The tag of the group length.
+pub const GROUP_LENGTH: Tag = Tag {
+    group: META_GROUP,
+    element: 0x0000,
+};
+
 /// The tag of the Media Storage SOP Class UID.
 pub const CLASS: Tag = Tag {
     group: META_GROUP,

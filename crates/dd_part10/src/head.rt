@@ -1,22 +1,30 @@
 //! The head of a file: all that stands before its data set.
 
-ghost use Rattle.std.specs.Prelude.{◌≡◌, ℕ, ◌+◌, ◌++◌, ◌≤◌, ◌^◌, List, length, IfOk, Some};
+ghost use Rattle.std.specs.Prelude.{◌≡◌, ℕ, ◌+◌, ◌++◌, ◌<◌, ◌≤◌, ◌^◌, List, length, IfOk, Some};
 ghost use Rattle.dd_elem.specs.Uid.{IsUid};
 ghost use Rattle.dd_set.specs.declared.syntax.Syntax.{Syntax};
-ghost use Rattle.dd_set.specs.Elements.{Elements};
+ghost use Rattle.dd_set.specs.Elements.{Elements, bytes};
 ghost use Rattle.dd_set.specs.Sends.{SendsTo};
-ghost use Rattle.dd_set.specs.Spelling.{Spells};
+ghost use Rattle.dd_set.specs.Spelling.{Spells, tag_text, content_text};
 ghost use Rattle.dd_part10.specs.declared.meta.Meta.{Meta};
-ghost use Rattle.dd_part10.specs.File.{prefix, group_length_text, StartsAbove, IsFile};
-ghost use Rattle.dd_part10.specs.Head.{head_text, group_text, uids_text, uid_text, version_text, padded, padding_of};
+ghost use Rattle.dd_part10.specs.File.{StartsAbove, IsFile};
+ghost use Rattle.dd_part10.specs.Head.{head_text, group_text, uids_text, uid_text, padded, padding_of};
 ghost use Rattle.dd_part10.specs.Syntaxes.{syntax_of};
 
-use crate::group::{CLASS, INSTANCE, META_GROUP, TRANSFER};
+use crate::group::{CLASS, GROUP_LENGTH, INSTANCE, META_GROUP, TRANSFER};
 use crate::meta::Meta;
-use crate::places::{GROUP_AT, PREAMBLE_LENGTH};
-use byteorder::{ByteOrder, LittleEndian};
+use crate::places::{GROUP_AT, PREAMBLE_LENGTH, PREFIX};
 use dd_elem::{Tag, Uid, Vr, Write};
 use dd_set::{WriteFault, send, send_header};
+
+/// The tag of the File Meta Information Version.
+const VERSION: Tag = Tag {
+    group: META_GROUP,
+    element: 0x0001,
+};
+
+/// The version (PS3.10 section 7.1).
+const VERSION_VALUE: [u8; 2] = [0x00, 0x01];
 
 /// The tag of the Implementation Class UID.
 const IMPLEMENTATION: Tag = Tag {
@@ -45,9 +53,11 @@ pub fn head_size(meta: &Meta) -> u64
 pub fn write_head<W: Write>(meta: &Meta, writer: &mut W) -> Result<u64, WriteFault>
     ensures { SendsTo W.contents W.rest W.failures (head_text meta.now) 0 result writer.old writer.new }
 {
+    let count = group_size(meta).to_le_bytes();
     let sent = send(&[0; PREAMBLE_LENGTH], writer, 0)?;
-    let sent = send(&group_start(group_size(meta)), writer, sent)?;
-    send_uids(meta, writer, sent)
+    let sent = send(PREFIX, writer, sent)?;
+    let sent = send_element(GROUP_LENGTH, Vr::UL, &count, writer, sent)?;
+    send_group(meta, writer, sent)
 }
 
 /// A head with a data set behind it is a file with its meta information and that data set. This
@@ -83,13 +93,30 @@ fn padded_size(uid: &Uid) -> u32
     (size + size % 2) as u32
 }
 
-/// What stands between the preamble and the UIDs.
-fn group_start(count: u32) -> [u8; 30]
-    ensures { result ≡ prefix ++ (group_length_text count ++ version_text) }
+/// Sends what stands behind the group length.
+fn send_group<W: Write>(meta: &Meta, writer: &mut W, sent: u64) -> Result<u64, WriteFault>
+    requires { sent ≤ 2 ^ 8 }
+    ensures { SendsTo W.contents W.rest W.failures (group_text meta.now) sent result writer.old writer.new }
 {
-    let mut start = *b"DICM\x02\0\0\0UL\x04\0\0\0\0\0\x02\0\x01\0OB\0\0\x02\0\0\0\0\x01";
-    LittleEndian::write_u32(&mut start[12..], count);
-    start
+    let sent = send_element(VERSION, Vr::OB, &VERSION_VALUE, writer, sent)?;
+    send_uids(meta, writer, sent)
+}
+
+/// Sends an element in Explicit VR with a short value.
+fn send_element<W: Write>(
+    tag: Tag,
+    vr: Vr,
+    value: &[u8],
+    writer: &mut W,
+    sent: u64,
+) -> Result<u64, WriteFault>
+    requires short { length value.now ≤ 64 }
+    requires fits { sent + length (tag_text tag ++ content_text (Some vr) (bytes value.now)) < 2 ^ 64 }
+    ensures { let text = tag_text tag ++ content_text (Some vr) (bytes value.now)
+        in SendsTo W.contents W.rest W.failures text sent result writer.old writer.new }
+{
+    let sent = send_header(tag, vr, value.len() as u32, writer, sent)?;
+    send(value, writer, sent)
 }
 
 /// Sends the UIDs of group 0002.

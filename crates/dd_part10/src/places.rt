@@ -3,8 +3,11 @@
 /// How many bytes of preamble a file begins with.
 pub const PREAMBLE_LENGTH: usize = 128;
 
-/// The place of the first byte behind the prefix, which is the 4 bytes `DICM` behind the preamble.
-pub const PREFIX_END: usize = PREAMBLE_LENGTH + 4;
+/// The prefix, which stands behind the preamble.
+pub const PREFIX: &[u8] = b"DICM";
+
+/// The place of the first byte behind the prefix.
+pub const PREFIX_END: usize = PREAMBLE_LENGTH + PREFIX.len();
 
 /// How many bytes the group length has.
 pub const COUNT_LENGTH: usize = 12;

@@ -17,7 +17,7 @@ ghost use Rattle.dd_part10.specs.Taking.{may_follow};
 use crate::fault::FileFault;
 use crate::file::DicomFile;
 use crate::group::{META_GROUP, behind, named_syntax, read_meta, split_group};
-use crate::places::{GROUP_AT, PREAMBLE_LENGTH};
+use crate::places::{GROUP_AT, PREAMBLE_LENGTH, PREFIX};
 use dd_elem::Tag;
 use dd_set::{DataSet, Syntax, parse};
 use std::alloc::Global;
@@ -72,7 +72,7 @@ pub fn behind_prefix(bytes: &[u8]) -> Result<&[u8], FileFault>
     if bytes.len() < PREAMBLE_LENGTH {
         return Err(FileFault::NotPart10);
     }
-    match behind(b"DICM", &bytes[PREAMBLE_LENGTH..]) {
+    match behind(PREFIX, &bytes[PREAMBLE_LENGTH..]) {
         Some(rest) => Ok(rest),
         None => Err(FileFault::NotPart10),
     }
