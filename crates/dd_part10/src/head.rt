@@ -14,7 +14,7 @@ ghost use Rattle.dd_part10.specs.Syntaxes.{syntax_of};
 use crate::group::{CLASS, GROUP_LENGTH, INSTANCE, META_GROUP, TRANSFER};
 use crate::meta::Meta;
 use crate::places::{GROUP_AT, PREAMBLE_LENGTH, PREFIX};
-use dd_elem::{Tag, Uid, Vr, Write};
+use dd_elem::{Tag, Vr, Write};
 use dd_set::{WriteFault, send, send_header};
 
 /// The tag of the File Meta Information Version.
@@ -35,8 +35,11 @@ const IMPLEMENTATION: Tag = Tag {
 /// The Implementation Class UID of this software.
 const IMPLEMENTATION_UID: &[u8] = b"2.25.604472133179352588043346";
 
-/// How many bytes the version, the headers of three UIDs and the Implementation Class UID have.
-const FIXED_SIZE: u32 = 14 + 3 * 8 + 38;
+/// How many bytes the version has: a header with a length of 32 bits, and its value.
+const VERSION_SIZE: u32 = 12 + VERSION_VALUE.len() as u32;
+
+/// How many bytes the header of an element with a UID has.
+const UID_HEADER: u32 = 8;
 
 /// How many bytes the head of a file with this meta information has.
 pub fn head_size(meta: &Meta) -> u64
@@ -76,21 +79,21 @@ fn group_size(meta: &Meta) -> u32
     ensures few { result ≤ 268 }
     ensures valid { IsUid meta.now.class × IsUid meta.now.instance × IsUid meta.now.transfer }
 {
-    FIXED_SIZE
-        + padded_size(&meta.class)
-        + padded_size(&meta.instance)
-        + padded_size(&meta.transfer)
+    VERSION_SIZE
+        + uid_size(meta.class.as_bytes())
+        + uid_size(meta.instance.as_bytes())
+        + uid_size(meta.transfer.as_bytes())
+        + uid_size(IMPLEMENTATION_UID)
 }
 
-/// How many bytes the value of a UID has, padding included.
-#[tactic(auto, using(crate::proofs::Heads::length_padded))]
-fn padded_size(uid: &Uid) -> u32
-    ensures exact { result ≡ length (padded uid.now) }
-    ensures few { result ≤ 64 }
-    ensures valid { IsUid uid.now }
+/// How many bytes an element with a UID has.
+fn uid_size(uid: &[u8]) -> u32
+    requires { length uid.now ≤ 64 }
+    ensures exact { result ≡ 8 + length (padded uid.now) }
+    ensures few { result ≤ 72 }
 {
-    let size = uid.as_bytes().len();
-    (size + size % 2) as u32
+    let size = uid.len() + padding_for(uid).len();
+    UID_HEADER + size as u32
 }
 
 /// Sends what stands behind the group length.
