@@ -132,7 +132,7 @@ fn is_alone(group: &DataSet<'_>) -> bool
 fn is_meta_tag(tag: Tag) -> bool
     ensures { result ≡ is_meta_tag tag }
 {
-    tag.group == META_GROUP && tag.element != 0x0000
+    tag.group == META_GROUP && tag != GROUP_LENGTH
 }
 
 /// The three UIDs that the elements hold, or the first that is not there or is none.
