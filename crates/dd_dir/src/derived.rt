@@ -41,8 +41,6 @@ pub fn derived_uid(
 fn unnamed_label(id: &SetId) -> Label
     ensures { result ≡ unnamed_label id.now }
 {
-    match Uid::new(UNNAMED) {
-        Ok(uid) => Label { id: *id, uid },
-        Err(_) => unreachable!(),
-    }
+    let uid = Uid::new(UNNAMED).unwrap();
+    Label { id: *id, uid }
 }

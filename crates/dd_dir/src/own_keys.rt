@@ -41,10 +41,7 @@ pub(crate) fn uid(row: &Row, set: &DataSet<'_>) -> Uid
     requires { is_uid (held row.now (set_view set.now)) ≡ true }
     ensures { result ≡ held row.now (set_view set.now) }
 {
-    let Ok(uid) = Uid::new(held(row, set)) else {
-        unreachable!()
-    };
-    uid
+    Uid::new(held(row, set)).unwrap()
 }
 
 /// The digest of a record.
@@ -52,10 +49,7 @@ pub(crate) fn digest(set: &DataSet<'_>) -> [u8; 32]
     requires { is_some (digest_in (set_view set.now)) ≡ true }
     ensures { result ≡ digest_of (set_view set.now) }
 {
-    let Some(digest) = digest_in(set) else {
-        unreachable!()
-    };
-    digest
+    digest_in(set).unwrap()
 }
 
 /// The keys of the patient of a PATIENT record.
