@@ -23,6 +23,7 @@ mod slots;
 mod values;
 mod walk;
 mod walk_laws;
+mod well_formed;
 mod writing;
 
 pub use derived::derived_uid;

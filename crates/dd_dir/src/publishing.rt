@@ -9,6 +9,7 @@ ghost use Rattle.dd_dir.specs.Directories.{IsDirectory, directory};
 ghost use Rattle.dd_dir.specs.SaysItself.{SaysItself};
 ghost use Rattle.dd_dir.specs.Visits.{Realises};
 
+use crate::well_formed::versions_rise;
 use crate::writing::write_keyed;
 use dd_catalogue::{Catalogue, History, build};
 use dd_elem::Sink;
@@ -31,8 +32,7 @@ pub fn publish(
     ensures refused { IfErr result (λ fault. (fault ≡ PlanFault.Memory)
         ⊎ (refusal label.now limits catalogue.now ≡ Some fault)) }
 {
-    // Lent for what its type says of them: they rise by instance.
-    let _versions = catalogue.versions();
+    versions_rise(catalogue);
     let plan = lay_out(alloc, catalogue, label, limits)?;
     let mut sink = Sink::new(alloc, None);
     sink.reserve(plan.size() as usize)?;

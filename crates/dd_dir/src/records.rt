@@ -11,13 +11,12 @@ ghost use Rattle.dd_set.specs.Single.{part_text};
 ghost use Rattle.dd_set.specs.Spelling.{item_tag_text, items_text};
 ghost use Rattle.dd_dir.specs.Directories.{IsRecord, entries_of};
 ghost use Rattle.dd_dir.specs.Keyed.{IsKeyed};
-ghost use Rattle.dd_dir.specs.WellFormed.{IsWellFormedImage, IsWellFormedPatient};
-ghost use Rattle.dd_dir.specs.WellFormed.{IsWellFormedSeries, IsWellFormedStudy};
 
 use crate::cells::send_rows;
+use crate::well_formed::parts_of;
 use byteorder::{ByteOrder, LittleEndian};
 use dd_elem::Write;
-use dd_keys::{Parts, PatientKeys, SeriesKeys, StudyKeys, Version};
+use dd_keys::Version;
 use dd_layout::{PlanRecord, record_size, rows};
 use dd_set::{WriteFault, send};
 
@@ -56,56 +55,10 @@ fn send_record<W: Write>(
     ensures valid { IsOk result → IsRecord (entries_of versions.now planned.now) }
     ensures keyed { IsKeyed versions.now planned.now }
 {
-    let parts = versions[planned.of].parts();
-    lend_patient(&parts.patient);
-    lend_study(&parts.study);
-    lend_series(&parts.series);
-    lend_image(parts);
+    let parts = parts_of(&versions[planned.of]);
     let header = item_header(record_size(planned.level, parts) as u32 - 8);
     let sent = send(&header, writer, sent)?;
     send_rows(rows(planned.level), planned, parts, writer, sent)
-}
-
-/// Lends the keys of a patient, so that what their types say of them is known.
-fn lend_patient(patient: &PatientKeys)
-    ensures { IsWellFormedPatient patient.now }
-{
-    let _id = patient.id.as_bytes();
-    let _name = patient.name.as_bytes();
-    let _charset = patient.charset.as_bytes();
-}
-
-/// Lends the keys of a study.
-fn lend_study(study: &StudyKeys)
-    ensures { IsWellFormedStudy study.now }
-{
-    let _uid = study.uid.as_bytes();
-    let _date = study.date.as_bytes();
-    let _time = study.time.as_bytes();
-    let _accession = study.accession.as_bytes();
-    let _description = study.description.as_bytes();
-    let _id = study.id.as_bytes();
-    let _charset = study.charset.as_bytes();
-}
-
-/// Lends the keys of a series.
-fn lend_series(series: &SeriesKeys)
-    ensures { IsWellFormedSeries series.now }
-{
-    let _uid = series.uid.as_bytes();
-    let _modality = series.modality.as_bytes();
-    let _number = series.number.as_bytes();
-}
-
-/// Lends what a version has of the image itself.
-fn lend_image(parts: &Parts)
-    ensures { IsWellFormedImage parts.now }
-{
-    let _digest: &[u8] = &parts.digest;
-    let _number = parts.number.as_bytes();
-    let _class = parts.class.as_bytes();
-    let _transfer = parts.transfer.as_bytes();
-    let _instance = parts.instance.as_bytes();
 }
 
 /// The header of an item with so many bytes (PS3.5 section 7.5).

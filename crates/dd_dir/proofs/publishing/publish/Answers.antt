@@ -37,4 +37,4 @@ returns-in-Ok-clause-own c =
     let sent = subst (λ (plan : Layout). IsSent plan.label plan.versions) c.in_ok-plan.ensures.planned
     (c.in-Ok.ensures.sent refl) in
     subst (λ (bytes : List ℕ). SaysItself m bytes) (sym (returns-in-Ok-clause-bytes c))
-    (directory_says label m c.versions-versions.ensures.rising sent)
+    (directory_says label m c.versions_rise.ensures sent)

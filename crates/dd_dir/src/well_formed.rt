@@ -1,0 +1,93 @@
+//! What the types of the parts of a version say of them. Only lending a key or a UID tells it.
+
+ghost use Rattle.std.specs.Prelude.{◌≡◌, length};
+ghost use Rattle.dd_catalogue.specs.Versions.{IsCatalogue};
+ghost use Rattle.dd_elem.specs.Key.{IsKey};
+ghost use Rattle.dd_elem.specs.Uid.{IsUid};
+ghost use Rattle.dd_dir.specs.WellFormed.{IsWellFormed, IsWellFormedImage, IsWellFormedPatient};
+ghost use Rattle.dd_dir.specs.WellFormed.{IsWellFormedSeries, IsWellFormedStudy};
+
+use dd_catalogue::Catalogue;
+use dd_elem::{Key, Uid};
+use dd_keys::{Parts, PatientKeys, SeriesKeys, StudyKeys, Version};
+
+/// What a version is made of, which is well formed.
+pub(crate) fn parts_of(version: &Version) -> &Parts
+    ensures value { result.now ≡ version.now }
+    ensures formed { IsWellFormed version.now }
+{
+    let parts = version.parts();
+    patient_is_well_formed(&parts.patient);
+    study_is_well_formed(&parts.study);
+    series_is_well_formed(&parts.series);
+    image_is_well_formed(parts);
+    parts
+}
+
+/// The versions of a catalogue rise by instance. This states a law, and does nothing.
+pub(crate) fn versions_rise(catalogue: &Catalogue)
+    ensures { IsCatalogue catalogue.now }
+{
+    catalogue.versions();
+}
+
+/// The keys of a patient are keys. This states a law, and does nothing.
+fn patient_is_well_formed(patient: &PatientKeys)
+    ensures { IsWellFormedPatient patient.now }
+{
+    key_is_valid(&patient.id);
+    key_is_valid(&patient.name);
+    key_is_valid(&patient.charset);
+}
+
+/// The keys of a study are keys and a UID. This states a law, and does nothing.
+fn study_is_well_formed(study: &StudyKeys)
+    ensures { IsWellFormedStudy study.now }
+{
+    uid_is_valid(&study.uid);
+    key_is_valid(&study.date);
+    key_is_valid(&study.time);
+    key_is_valid(&study.accession);
+    key_is_valid(&study.description);
+    key_is_valid(&study.id);
+    key_is_valid(&study.charset);
+}
+
+/// The keys of a series are keys and a UID. This states a law, and does nothing.
+fn series_is_well_formed(series: &SeriesKeys)
+    ensures { IsWellFormedSeries series.now }
+{
+    uid_is_valid(&series.uid);
+    key_is_valid(&series.modality);
+    key_is_valid(&series.number);
+}
+
+/// What a version has of the image itself is a digest, a key and UIDs. This states a law, and does nothing.
+fn image_is_well_formed(parts: &Parts)
+    ensures { IsWellFormedImage parts.now }
+{
+    digest_has_32_bytes(&parts.digest);
+    key_is_valid(&parts.number);
+    uid_is_valid(&parts.class);
+    uid_is_valid(&parts.transfer);
+    uid_is_valid(&parts.instance);
+}
+
+/// A digest has 32 bytes. This states a law, and does nothing.
+fn digest_has_32_bytes(digest: &[u8; 32])
+    ensures { length digest.now ≡ 32 }
+{}
+
+/// A key is one. This states a law, and does nothing.
+fn key_is_valid(key: &Key)
+    ensures { IsKey key.now }
+{
+    key.as_bytes();
+}
+
+/// A UID is one. This states a law, and does nothing.
+fn uid_is_valid(uid: &Uid)
+    ensures { IsUid uid.now }
+{
+    uid.as_bytes();
+}
