@@ -5,10 +5,8 @@ ghost use Rattle.dd_set.specs.Views.{set_view};
 ghost use Rattle.dd_dir.specs.Saying.{value_of, number_of, flag_of, text_of};
 
 use dd_elem::{Tag, clean};
+use dd_layout::FLAG_IN_USE;
 use dd_set::{DataSet, Value};
-
-/// What an in-use flag holds where the record is in use.
-const FLAG_IN_USE: u16 = 0xffff;
 
 /// The value of the element with this tag, where it is there and holds bytes.
 pub(crate) fn value_of<'a>(set: &DataSet<'a>, tag: Tag) -> Option<&'a [u8]>

@@ -63,7 +63,7 @@ pub enum Field {
 }
 
 /// The flag of a record that is in use.
-const FLAG_IN_USE: [u8; 2] = [0xff, 0xff];
+pub const FLAG_IN_USE: u16 = 0xffff;
 
 /// The creator of the block of private elements that the digest stands in (PS3.5 section 7.8.1).
 pub const PRIVATE_CREATOR: &[u8] = b"DD FILESET 1";
@@ -77,7 +77,7 @@ impl Field {
     {
         Some(match self {
             Field::Next => long_value(planned.next),
-            Field::InUse => CellValue::Short(FLAG_IN_USE),
+            Field::InUse => CellValue::Short(FLAG_IN_USE.to_le_bytes()),
             Field::Lower => long_value(planned.lower),
             Field::Kind => CellValue::Text(planned.level.kind()),
             Field::File => file_text(planned.file),

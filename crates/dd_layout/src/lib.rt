@@ -25,7 +25,7 @@ pub mod table;
 pub use cell::{Cell, CellValue};
 pub use directories::{directory_is_a_data_set, directory_is_as_long_as_its_records};
 pub use fault::PlanFault;
-pub use field::{Field, PRIVATE_CREATOR};
+pub use field::{FLAG_IN_USE, Field, PRIVATE_CREATOR};
 pub use front::{FIRST_ROOT, LAST_ROOT, RECORDS, SET_ID, first_offset, front_cells};
 pub use label::Label;
 pub use laws::{
