@@ -73,10 +73,7 @@ pub(crate) fn directory_of<'a>(
 fn id_of<'a>(set: &DataSet<'a>) -> &'a [u8]
     ensures { result.now ≡ id_in (set_view set.now) }
 {
-    match value_of(set, SET_ID) {
-        Some(value) => clean(value),
-        None => &[],
-    }
+    clean(value_of(set, SET_ID).unwrap_or(&[]))
 }
 
 /// Moves these places by so many bytes.

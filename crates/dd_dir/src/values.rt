@@ -28,12 +28,8 @@ pub(crate) fn number_at(set: &DataSet<'_>, tag: Tag) -> Option<u32>
 fn number_of(value: &[u8]) -> Option<u32>
     ensures { result ≡ number_of value.now }
 {
-    match value {
-        [first, second, third, fourth] => {
-            Some(u32::from_le_bytes([*first, *second, *third, *fourth]))
-        }
-        _ => None,
-    }
+    let bytes = <[u8; 4]>::try_from(value).ok()?;
+    Some(u32::from_le_bytes(bytes))
 }
 
 /// Whether an element holds FFFFH, where it holds 2 bytes.
@@ -46,10 +42,8 @@ pub(crate) fn flag_at(set: &DataSet<'_>, tag: Tag) -> Option<bool>
 fn flag_of(value: &[u8]) -> Option<bool>
     ensures { result ≡ flag_of value.now }
 {
-    match value {
-        [first, second] => Some(u16::from_le_bytes([*first, *second]) == FLAG_IN_USE),
-        _ => None,
-    }
+    let bytes = <[u8; 2]>::try_from(value).ok()?;
+    Some(u16::from_le_bytes(bytes) == FLAG_IN_USE)
 }
 
 /// The text of an element without its padding, where something is left.
