@@ -7,7 +7,7 @@ ghost use Rattle.dd_catalogue.specs.Versions.{IsCatalogue};
 
 use crate::lent::Greatest;
 use crate::table::Table;
-use crate::tuples::{patients, series, studies};
+use crate::tuples::greatest;
 use dd_elem::Memory;
 use dd_keys::{Parts, PatientKeys, SeriesKeys, StudyKeys, Version};
 use std::alloc::Global;
@@ -22,9 +22,9 @@ pub(crate) fn in_harmony(alloc: Global, versions: &[Version]) -> Result<Table<Ve
     if versions.is_empty() {
         return Ok(Table::new(alloc));
     }
-    let patients = patients(alloc, versions)?;
-    let studies = studies(alloc, versions)?;
-    let series = series(alloc, versions)?;
+    let patients = greatest::<PatientKeys>(alloc, versions)?;
+    let studies = greatest::<StudyKeys>(alloc, versions)?;
+    let series = greatest::<SeriesKeys>(alloc, versions)?;
     let mut held = Vec::with_capacity(alloc, versions.len())?;
     for version in versions {
         let parts = agreed(version.parts(), &patients, &studies, &series)?;

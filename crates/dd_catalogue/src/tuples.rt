@@ -3,7 +3,7 @@
 ghost use Rattle.std.specs.Prelude.{◌≡◌, map, IfOk, OnOk, All};
 ghost use Rattle.dd_elem.specs.Ordered.{bytes_cmp};
 ghost use Rattle.dd_keys.specs.Fitting.{Fits};
-ghost use Rattle.dd_keys.specs.Orders.{patient_cmp, study_cmp, series_cmp};
+ghost use Rattle.dd_keys.specs.declared.parts.Parts.{Parts};
 ghost use Rattle.dd_catalogue.specs.Best.{best};
 ghost use Rattle.dd_catalogue.specs.Harmony.{patient_of, patient_key, study_of, study_key, series_of, series_key};
 
@@ -12,12 +12,31 @@ use dd_elem::Memory;
 use dd_keys::{PatientKeys, SeriesKeys, StudyKeys, Version};
 use std::alloc::Global;
 
+/// The keys that a version has of its patient, its study or its series.
+pub(crate) trait Tuple: Keyed {
+    // Those of a version made of these parts.
+    ghost tuple_of: { Parts → Self };
+
+    /// Those of this version.
+    fn of(version: &Version) -> &Self
+        ensures tuple { result.now ≡ tuple_of version.now }
+        ensures fit { Fits version.now };
+}
+
 /// A patient has its Patient ID as key.
 impl Keyed for PatientKeys {
     ghost key_of = { patient_key };
 
     fn key(&self) -> &[u8] {
         self.id.as_bytes()
+    }
+}
+
+impl Tuple for PatientKeys {
+    ghost tuple_of = { patient_of };
+
+    fn of(version: &Version) -> &PatientKeys {
+        &version.parts().patient
     }
 }
 
@@ -30,6 +49,14 @@ impl Keyed for StudyKeys {
     }
 }
 
+impl Tuple for StudyKeys {
+    ghost tuple_of = { study_of };
+
+    fn of(version: &Version) -> &StudyKeys {
+        &version.parts().study
+    }
+}
+
 /// A series has its Series Instance UID as key.
 impl Keyed for SeriesKeys {
     ghost key_of = { series_key };
@@ -39,46 +66,25 @@ impl Keyed for SeriesKeys {
     }
 }
 
-/// Of each patient the greatest keys that these versions have.
-pub(crate) fn patients<'a>(
+impl Tuple for SeriesKeys {
+    ghost tuple_of = { series_of };
+
+    fn of(version: &Version) -> &SeriesKeys {
+        &version.parts().series
+    }
+}
+
+/// Of each patient, study or series the greatest keys that these versions have.
+pub(crate) fn greatest<'a, T: Tuple>(
     alloc: Global,
     versions: &'a [Version],
-) -> Result<Greatest<'a, PatientKeys>, Memory>
-    ensures table { IfOk result (λ table. table
-        ≡ best patient_key bytes_cmp patient_cmp (map patient_of versions.now)) }
+) -> Result<Greatest<'a, T>, Memory>
+    ensures table { IfOk result (λ table. table ≡ best T.key_of bytes_cmp T.order (map T.tuple_of versions.now)) }
     ensures fit { OnOk result (All Fits versions.now) }
 {
     let mut lent = Vec::with_capacity(alloc, versions.len())?;
     for version in versions {
-        lent.push(&version.parts().patient)?;
-    }
-    Greatest::of(alloc, lent)
-}
-
-/// Of each study the greatest keys that these versions have.
-pub(crate) fn studies<'a>(
-    alloc: Global,
-    versions: &'a [Version],
-) -> Result<Greatest<'a, StudyKeys>, Memory>
-    ensures { IfOk result (λ table. table ≡ best study_key bytes_cmp study_cmp (map study_of versions.now)) }
-{
-    let mut lent = Vec::with_capacity(alloc, versions.len())?;
-    for version in versions {
-        lent.push(&version.parts().study)?;
-    }
-    Greatest::of(alloc, lent)
-}
-
-/// Of each series the greatest keys that these versions have.
-pub(crate) fn series<'a>(
-    alloc: Global,
-    versions: &'a [Version],
-) -> Result<Greatest<'a, SeriesKeys>, Memory>
-    ensures { IfOk result (λ table. table ≡ best series_key bytes_cmp series_cmp (map series_of versions.now)) }
-{
-    let mut lent = Vec::with_capacity(alloc, versions.len())?;
-    for version in versions {
-        lent.push(&version.parts().series)?;
+        lent.push(T::of(version))?;
     }
     Greatest::of(alloc, lent)
 }

@@ -14,7 +14,7 @@ fitting-requires c =
     in
     let is = agreed_from m c.version-item.result c.parts.result.now c.in_ok-parts.parts c.in_ok-patients.patients
     c.in_ok-studies.studies c.in_ok-series.series
-    c.in_ok-patients.ensures.table c.in_ok-studies.ensures c.in_ok-series.ensures c.parts.ensures.value i
+    c.in_ok-patients.ensures.table c.in_ok-studies.ensures.table c.in_ok-series.ensures.table c.parts.ensures.value i
     c.in_ok-parts.ensures in
     rw is (agreed_fits m c.version-item.result
     (λ w h. All-contains Fits m w c.in_ok-patients.ensures.fit (contained w m h)) i)
@@ -26,7 +26,7 @@ loop-version-preserved c =
     in
     let is = agreed_from m c.version-item.result c.parts.result.now c.in_ok-parts.parts c.in_ok-patients.patients
     c.in_ok-studies.studies c.in_ok-series.series
-    c.in_ok-patients.ensures.table c.in_ok-studies.ensures c.in_ok-series.ensures c.parts.ensures.value i
+    c.in_ok-patients.ensures.table c.in_ok-studies.ensures.table c.in_ok-series.ensures.table c.parts.ensures.value i
     c.in_ok-parts.ensures in
     map_more (agreed m) m c.loop-version.version-index c.version-item.result c.loop-version.held.items
     c.push.new.self.items c.loop-version-test.true c.version-item.is

@@ -1,6 +1,0 @@
-use Rattle.std.proofs.Common.{◌≡◌, take, map}
-use Rattle.dd_catalogue.specs.Harmony.{series_of}
-use Rattle.dd_catalogue.proofs.tuples.series.Given as goal
-
-abbrev pub invariant-loop-version : goal.invariant-loop-version
-invariant-loop-version l = map (λ keys. keys.now) l.lent.items ≡ map series_of (take l.version-index l.versions)
