@@ -35,6 +35,10 @@ filing_apart x y tie =
     let owner_is = exact_bytes x.owner y.owner both.second in
     λ i. record { uid = uid_is i; owner = owner_is i }
 
+-- what a value is filed under, by its UID and its owner
+abbrev pub filing_by : {V : Type 0} → (V → List ℕ) → (V → List ℕ) → V → Filing
+filing_by uid owner v = record { uid = uid v; owner = owner v }
+
 -- a study is filed under its patient, a series under its study
 abbrev pub study_filing : Parts → Filing
 study_filing v = record { uid = v.study.uid; owner = v.patient.id }

@@ -7,9 +7,9 @@ ghost use Rattle.dd_catalogue.specs.Clash.{clash, conflicts, pair_or};
 ghost use Rattle.dd_catalogue.specs.Owners.{uid_of, series_filing, study_filing};
 
 use crate::lent::Greatest;
-use crate::owners::{Filed, of_two_owners, series_owners, study_owners};
+use crate::owners::{Filed, of_two_owners, owners};
 use dd_elem::{Memory, Ordered, Uid};
-use dd_keys::Version;
+use dd_keys::{PatientKeys, SeriesKeys, StudyKeys, Version};
 use std::alloc::Global;
 
 /// The first version that conflicts with a later one, and the first later one with which it does.
@@ -21,8 +21,8 @@ pub(crate) fn first_clash(alloc: Global, versions: &[Version]) -> Result<Option<
     if versions.is_empty() {
         return Ok(None);
     }
-    let studies = study_owners(alloc, versions)?;
-    let series = series_owners(alloc, versions)?;
+    let studies = owners::<StudyKeys, PatientKeys>(alloc, versions)?;
+    let series = owners::<SeriesKeys, StudyKeys>(alloc, versions)?;
     clash_by(alloc, versions, &studies, &series)
 }
 

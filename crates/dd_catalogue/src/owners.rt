@@ -1,9 +1,10 @@
 //! What studies and series are filed under.
 
 ghost use Rattle.std.specs.Prelude.{◌≡◌, map, filter, IfOk};
-ghost use Rattle.dd_catalogue.specs.Owners.{HasThoseOfTwoOwners, is_of_another_owner, series_filing, study_filing};
+ghost use Rattle.dd_catalogue.specs.Owners.{HasThoseOfTwoOwners, filing_by, is_of_another_owner};
 
 use crate::lent::{Greatest, Keyed, lent};
+use crate::tuples::Tuple;
 use dd_elem::{Memory, Ordered};
 use dd_keys::Version;
 use std::alloc::Global;
@@ -52,37 +53,19 @@ impl<'a> Keyed for Filed<'a> {
     }
 }
 
-/// The studies of these versions, each with its patient.
-pub(crate) fn study_owners<'a>(
+/// The studies of these versions, each with its patient, or the series, each with its study.
+pub(crate) fn owners<'a, T: Tuple + 'a, O: Tuple + 'a>(
     alloc: Global,
     versions: &'a [Version],
 ) -> Result<Vec<Filed<'a>>, Memory>
-    ensures { IfOk result (λ filed. filed.items ≡ map study_filing versions.now) }
+    ensures { IfOk result (λ filed. filed.items
+        ≡ map (filing_by (λ v. T.key_of (T.tuple_of v)) (λ v. O.key_of (O.tuple_of v))) versions.now) }
 {
     let mut filed = Vec::with_capacity(alloc, versions.len())?;
     for version in versions {
-        let parts = version.parts();
         filed.push(Filed {
-            uid: parts.study.uid.as_bytes(),
-            owner: parts.patient.id.as_bytes(),
-        })?;
-    }
-    Ok(filed)
-}
-
-/// The series of these versions, each with its study.
-pub(crate) fn series_owners<'a>(
-    alloc: Global,
-    versions: &'a [Version],
-) -> Result<Vec<Filed<'a>>, Memory>
-    ensures { IfOk result (λ filed. filed.items ≡ map series_filing versions.now) }
-{
-    let mut filed = Vec::with_capacity(alloc, versions.len())?;
-    for version in versions {
-        let parts = version.parts();
-        filed.push(Filed {
-            uid: parts.series.uid.as_bytes(),
-            owner: parts.study.uid.as_bytes(),
+            uid: T::of(version).key(),
+            owner: O::of(version).key(),
         })?;
     }
     Ok(filed)
