@@ -4,7 +4,7 @@ ghost use Rattle.std.specs.Io.KnownBytes.{Consumes};
 ghost use Rattle.dd_elem.specs.Device.{Gives};
 ghost use Rattle.dd_files.specs.Copying.{IsCopied};
 
-use crate::piece::PIECE;
+use crate::piece::{PIECE, next_read};
 use dd_elem::{Read, Write};
 use dd_set::send;
 use sha2::{Digest, Sha256};
@@ -47,7 +47,7 @@ pub fn copy_image<R: Read, W: Write>(
     let mut left = limit;
     let mut buffer = [0u8; PIECE];
     loop {
-        let wanted = left.min(PIECE as u64 - 1) as usize + 1;
+        let wanted = next_read(left);
         let room = &mut buffer[..wanted];
         match reader.read(room) {
             Err(_) => return Err(CopyFault::Unread),

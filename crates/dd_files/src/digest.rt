@@ -5,7 +5,7 @@ ghost use Rattle.dd_elem.specs.Device.{Gives};
 ghost use Rattle.dd_files.specs.ReadToEnd.{IsDigest};
 ghost use Rattle.hex.specs.Hex.{encode_lower};
 
-use crate::piece::PIECE;
+use crate::piece::{PIECE, next_read};
 use dd_elem::Read;
 use sha2::{Digest, Sha256};
 
@@ -30,7 +30,7 @@ pub fn digest_of<R: Read>(reader: &mut R, limit: u64) -> Option<[u8; 32]>
     let mut left = limit;
     let mut buffer = [0u8; PIECE];
     loop {
-        let wanted = left.min(PIECE as u64 - 1) as usize + 1;
+        let wanted = next_read(left);
         let room = &mut buffer[..wanted];
         match reader.read(room) {
             Err(_) => return None,
