@@ -98,10 +98,10 @@ fn bytes_size(value: &[u8], vr: Option<Vr>, syntax: Syntax) -> Option<u64>
 
 /// The size of the items of a sequence, where so many levels may nest, theirs included.
 #[cycle(sizes)]
-pub fn items_size(items: &Vec<Item<'_>>, syntax: Syntax, levels: u32) -> Option<u64>
-    ensures { let text = items_text (items_view items.now.items)
+pub fn items_size(items: &[Item<'_>], syntax: Syntax, levels: u32) -> Option<u64>
+    ensures { let text = items_text (items_view items.now)
         in SomeIff result
-        (AreItems syntax levels (items_view items.now.items) × (length text < 2 ^ 64))
+        (AreItems syntax levels (items_view items.now) × (length text < 2 ^ 64))
         (length text) }
 {
     let mut total: u64 = 0;

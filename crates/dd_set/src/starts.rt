@@ -83,15 +83,15 @@ fn starts_of(
 /// The places of items behind `first` bytes.
 fn items_starts(
     alloc: Global,
-    items: &Vec<Item<'_>>,
+    items: &[Item<'_>],
     syntax: Syntax,
     first: u64,
 ) -> Result<Vec<u64>, Memory>
-    requires valid { AreItems syntax max_levels (items_view items.now.items) }
-    requires fits { first + length (items_text (items_view items.now.items)) < 2 ^ 64 }
+    requires valid { AreItems syntax max_levels (items_view items.now) }
+    requires fits { first + length (items_text (items_view items.now)) < 2 ^ 64 }
     ensures places { (front : List ℕ) → length front ≡ first → IfOk result (λ starts. starts.items
-        ≡ item_places front (items_view items.now.items)) }
-    ensures memory { OnErr result (0 < length items.now.items) }
+        ≡ item_places front (items_view items.now)) }
+    ensures memory { OnErr result (0 < length items.now) }
 {
     let mut starts = Vec::new(alloc);
     let mut at = first;

@@ -103,10 +103,10 @@ fn send_bytes<W: Write>(
 }
 
 /// The length that the header of a sequence gives.
-fn items_length(items: &Vec<Item<'_>>, form: Length, syntax: Syntax, levels: u32) -> u32
-    requires valid { AreItems syntax levels (items_view items.now.items) }
-    requires fits { FitsLong form (items_text (items_view items.now.items)) }
-    ensures { result ≡ length_of form (items_text (items_view items.now.items)) }
+fn items_length(items: &[Item<'_>], form: Length, syntax: Syntax, levels: u32) -> u32
+    requires valid { AreItems syntax levels (items_view items.now) }
+    requires fits { FitsLong form (items_text (items_view items.now)) }
+    ensures { result ≡ length_of form (items_text (items_view items.now)) }
 {
     match form {
         Length::Undefined => UNDEFINED_LENGTH,
@@ -135,15 +135,15 @@ fn set_length(set: &DataSet<'_>, form: Length, syntax: Syntax, levels: u32) -> u
 /// Sends the items of a sequence, where so many levels may nest, theirs included.
 #[cycle(writing)]
 fn send_items<W: Write>(
-    items: &Vec<Item<'_>>,
+    items: &[Item<'_>],
     syntax: Syntax,
     levels: u32,
     writer: &mut W,
     mut sent: u64,
 ) -> Result<u64, WriteFault>
-    requires valid { AreItems syntax levels (items_view items.now.items) }
-    requires fits { sent + length (items_text (items_view items.now.items)) < 2 ^ 64 }
-    ensures { let text = items_text (items_view items.now.items)
+    requires valid { AreItems syntax levels (items_view items.now) }
+    requires fits { sent + length (items_text (items_view items.now)) < 2 ^ 64 }
+    ensures { let text = items_text (items_view items.now)
         in SendsTo W.contents W.rest W.failures text sent result writer.old writer.new }
 {
     for item in items {

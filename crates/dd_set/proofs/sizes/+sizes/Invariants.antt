@@ -5,7 +5,7 @@ use Rattle.dd_set.proofs.sizes.+sizes.Given as goal
 
 abbrev pub invariant-items_size-loop-item : goal.invariant-items_size-loop-item
 invariant-items_size-loop-item l = record {
-  counts : CountsItems l.syntax l.levels (items_view l.item-items) (items_view (drop l.item-index l.item-items)) l.total;
+  counts : CountsItems l.syntax l.levels (items_view l.items) (items_view (drop l.item-index l.items)) l.total;
   fits : l.total < 2 ^ 64;
 }
 

@@ -13,12 +13,12 @@ use Rattle.dd_set.proofs.writing.+writing.Goals as goal
 pub send_items-returns-in_err-sent : goal.send_items-returns-in_err-sent
 send_items-returns-in_err-sent g t c =
     let p = err_from_is_err_and c.from_residual.result c.from_residual.ensures.1 in
-    let at = part_at c.deref-item-items.result.now c.loop-item.item-index c.item-item.result c.loop-item-test.true c.item-item.is in
-    rw (p.1, p.2, ← c.deref-item-items.ensures.value) (goes_on_fails _ _ _ _ _ _ _ _ _ _ _ _ _ c.loop-item.invariant.goes at c.in_err-sent.ensures)
+    let at = part_at c.args.items.now c.loop-item.item-index c.item-item.result c.loop-item-test.true c.item-item.is in
+    rw (p.1, p.2) (goes_on_fails _ _ _ _ _ _ _ _ _ _ _ _ _ c.loop-item.invariant.goes at c.in_err-sent.ensures)
 
 pub send_items-loop-item-preserved : goal.send_items-loop-item-preserved
 send_items-loop-item-preserved g t c =
-    let parts = c.deref-item-items.result.now in
+    let parts = c.args.items.now in
     let at = part_at parts c.loop-item.item-index c.item-item.result c.loop-item-test.true c.item-item.is in
     record {
       goes = goes_on_piece _ _ _ _ _ _ _ _ _ _ _ _ _ c.loop-item.invariant.goes at c.in_ok-sent.ensures;
@@ -53,7 +53,8 @@ send_element-returns-in_err-sent-in-Items g t c =
     let p = err_from_is_err_and c.from_residual.result c.from_residual.ensures.1 in
     let parts = items_view c.in-Items.items.items in
     let is : value_view c.args.element.now.value ≡ items c.in-Items.length parts = search (rules, the_lemmas) in
-    rw (p.1, p.2) (sends_same _ _ _ _ _ _ _ _ (entry_parts c.args.element.now c.in-Items.length parts c.items_length-count.result is c.items_length-count.ensures)
+    let counted = rw c.deref.ensures.value at c.items_length-count.ensures in
+    rw (p.1, p.2) (sends_same _ _ _ _ _ _ _ _ (entry_parts c.args.element.now c.in-Items.length parts c.items_length-count.result is counted)
     (first_fails _ _ _ _ _ _ _ _ c.in_err-sent-in-Items.ensures))
 
 pub send_element-returns-in_err-sent-in-Items-2 : goal.send_element-returns-in_err-sent-in-Items-2
@@ -61,21 +62,27 @@ send_element-returns-in_err-sent-in-Items-2 g t c =
     let p = err_from_is_err_and c.from_residual-in_err-sent-in-Items-2.result c.from_residual-in_err-sent-in-Items-2.ensures.1 in
     let parts = items_view c.in-Items.items.items in
     let is : value_view c.args.element.now.value ≡ items c.in-Items.length parts = search (rules, the_lemmas) in
-    rw (p.1, p.2) (sends_same _ _ _ _ _ _ _ _ (entry_parts c.args.element.now c.in-Items.length parts c.items_length-count.result is c.items_length-count.ensures)
-    (then_sends _ _ _ _ _ _ _ _ _ _ _ c.in_ok-sent-in-Items.ensures (first_fails _ _ _ _ _ _ _ _ c.in_err-sent-in-Items-2.ensures)))
+    let counted = rw c.deref.ensures.value at c.items_length-count.ensures in
+    let stopped = rw c.deref-in-Items.ensures.value at c.in_err-sent-in-Items-2.ensures in
+    rw (p.1, p.2) (sends_same _ _ _ _ _ _ _ _ (entry_parts c.args.element.now c.in-Items.length parts c.items_length-count.result is counted)
+    (then_sends _ _ _ _ _ _ _ _ _ _ _ c.in_ok-sent-in-Items.ensures (first_fails _ _ _ _ _ _ _ _ stopped)))
 
 pub send_element-send_end-requires : goal.send_element-send_end-requires
 send_element-send_end-requires g t c =
     let parts = items_view c.in-Items.items.items in
     let is : value_view c.args.element.now.value ≡ items c.in-Items.length parts = search (rules, the_lemmas) in
-    third_fits (header_text c.args.element.now.tag c.args.element.now.vr c.items_length-count.result) (items_text parts) (mark_text c.in-Items.length sequence_end_text) _ _ _ _ (entry_parts c.args.element.now c.in-Items.length parts c.items_length-count.result is c.items_length-count.ensures) c.requires.fits c.in_ok-sent-in-Items.ensures.ok.0 c.in_ok-sent-in-Items-2.ensures.ok.0
+    let counted = rw c.deref.ensures.value at c.items_length-count.ensures in
+    let went = rw c.deref-in-Items.ensures.value at c.in_ok-sent-in-Items-2.ensures in
+    third_fits (header_text c.args.element.now.tag c.args.element.now.vr c.items_length-count.result) (items_text parts) (mark_text c.in-Items.length sequence_end_text) _ _ _ _ (entry_parts c.args.element.now c.in-Items.length parts c.items_length-count.result is counted) c.requires.fits c.in_ok-sent-in-Items.ensures.ok.0 went.ok.0
 
 pub send_element-returns-in_ok-sent-in-Items-2 : goal.send_element-returns-in_ok-sent-in-Items-2
 send_element-returns-in_ok-sent-in-Items-2 g t c =
     let parts = items_view c.in-Items.items.items in
     let is : value_view c.args.element.now.value ≡ items c.in-Items.length parts = search (rules, the_lemmas) in
-    sends_same _ _ _ _ _ _ _ _ (entry_parts c.args.element.now c.in-Items.length parts c.items_length-count.result is c.items_length-count.ensures)
-    (then_sends _ _ _ _ _ _ _ _ _ _ _ c.in_ok-sent-in-Items.ensures (then_sends _ _ _ _ _ _ _ _ _ _ _ c.in_ok-sent-in-Items-2.ensures c.send_end.ensures))
+    let counted = rw c.deref.ensures.value at c.items_length-count.ensures in
+    let went = rw c.deref-in-Items.ensures.value at c.in_ok-sent-in-Items-2.ensures in
+    sends_same _ _ _ _ _ _ _ _ (entry_parts c.args.element.now c.in-Items.length parts c.items_length-count.result is counted)
+    (then_sends _ _ _ _ _ _ _ _ _ _ _ c.in_ok-sent-in-Items.ensures (then_sends _ _ _ _ _ _ _ _ _ _ _ went c.send_end.ensures))
 
 pub send_item-returns-in_err-sent : goal.send_item-returns-in_err-sent
 send_item-returns-in_err-sent g t c =

@@ -6,10 +6,10 @@ use Rattle.dd_set.proofs.writing.+writing.Given as goal
 
 abbrev pub invariant-send_items-loop-item : goal.invariant-send_items-loop-item
 invariant-send_items-loop-item g l = record {
-  goes : GoesOn (items_text (items_view l.item-items)) (items_text (items_view (drop l.item-index l.item-items)))
+  goes : GoesOn (items_text (items_view l.items)) (items_text (items_view (drop l.item-index l.items)))
       l.initial.sent l.sent (g.W.Write.contents l.initial.writer, g.W.Write.rest l.initial.writer)
       (g.W.Write.contents l.writer, g.W.Write.rest l.writer) (g.W.Write.failures l.initial.writer) (g.W.Write.failures l.writer);
-  valid : AreItems l.syntax l.levels (items_view (drop l.item-index l.item-items));
+  valid : AreItems l.syntax l.levels (items_view (drop l.item-index l.items));
 }
 
 abbrev pub invariant-send_set-loop-element : goal.invariant-send_set-loop-element
