@@ -28,18 +28,12 @@ pub fn directory_meta(label: &Label) -> Meta
 fn directory_class() -> Uid
     ensures { result ≡ codes "1.2.840.10008.1.3.10" }
 {
-    match Uid::new(DIRECTORY_CLASS) {
-        Ok(uid) => uid,
-        Err(_) => unreachable!(),
-    }
+    Uid::new(DIRECTORY_CLASS).unwrap()
 }
 
 /// The transfer syntax of directories.
 fn directory_syntax() -> Uid
     ensures { result ≡ codes "1.2.840.10008.1.2.1" }
 {
-    match Uid::new(DIRECTORY_SYNTAX) {
-        Ok(uid) => uid,
-        Err(_) => unreachable!(),
-    }
+    Uid::new(DIRECTORY_SYNTAX).unwrap()
 }
