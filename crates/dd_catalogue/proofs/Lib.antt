@@ -13,5 +13,6 @@ pub mod Places
 pub mod References
 pub mod Retold
 pub mod SameVersions
+pub mod Sameness
 pub mod TwoOwners
 pub mod Woven

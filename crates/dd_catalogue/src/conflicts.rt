@@ -8,7 +8,7 @@ ghost use Rattle.dd_catalogue.specs.Owners.{uid_of, series_filing, study_filing}
 
 use crate::lent::Greatest;
 use crate::owners::{Filed, of_two_owners, owners};
-use dd_elem::{Memory, Ordered, Uid};
+use dd_elem::{Memory, Uid};
 use dd_keys::{PatientKeys, SeriesKeys, StudyKeys, Version};
 use std::alloc::Global;
 
@@ -79,12 +79,13 @@ fn pair_with(version: &Version, others: &[Version]) -> Option<(Uid, Uid)>
 }
 
 /// Do the versions have one study and different patients, or one series and different studies?
+#[tactic(auto, using(crate::proofs::Sameness::same_bytes, crate::proofs::Sameness::same_uid))]
 fn conflicts(one: &Version, other: &Version) -> bool
     ensures { result ≡ conflicts one.now other.now }
 {
     let (one, other) = (one.parts(), other.parts());
-    let same_study = one.study.uid.compare(&other.study.uid).is_eq();
-    let same_patient = one.patient.id.compare(&other.patient.id).is_eq();
-    let same_series = one.series.uid.compare(&other.series.uid).is_eq();
+    let same_study = one.study.uid == other.study.uid;
+    let same_patient = one.patient.id == other.patient.id;
+    let same_series = one.series.uid == other.series.uid;
     (same_study && !same_patient) || (same_series && !same_study)
 }
