@@ -17,6 +17,7 @@ use Rattle.dd_catalogue.specs.Clash.{same, splits, conflicts, pair_or, clash}
 use Rattle.dd_catalogue.specs.Owners.{Filing, uid_of, owner_of, filing_cmp, filing_total, filing_apart}
 use Rattle.dd_catalogue.specs.Owners.{is_of_another_owner, HasThoseOfTwoOwners, study_filing, series_filing}
 use Rattle.dd_catalogue.proofs.Places.{by_key}
+use Rattle.dd_catalogue.proofs.Sameness.{same_bytes}
 
 owners : Orders uid_of bytes_cmp filing_cmp
 owners = by_key uid_of filing_total filing_apart
@@ -74,11 +75,13 @@ two_owners_is s a b ca cb split =
     ∙ some_unwrapped (at uid_of bytes_cmp table a.uid) a (there s a a.uid (member_of a s ca) refl) b in
     by_test (same top.owner a.owner)
     (λ e. let is : top.owner ≡ a.owner = same_true top.owner a.owner e in
-    let others : is_of_another_owner table b ≡ true = ap (λ (t : Filing). not (same t.owner b.owner)) top-b
+    let others : is_of_another_owner table b ≡ true =
+    ap not (sym (same_bytes (unwrap_or (at uid_of bytes_cmp table b.uid) b).owner b.owner))
+    ∙ ap (λ (t : Filing). not (same t.owner b.owner)) top-b
     ∙ ap (λ (w : List ℕ). not (same w b.owner)) is ∙ apart in
     there (filter (is_of_another_owner table) s) b a.uid
     (member-filter (is_of_another_owner table) b s (member_of b s cb) others) (sym uid))
-    (λ e. let others : is_of_another_owner table a ≡ true = ap not e in
+    (λ e. let others : is_of_another_owner table a ≡ true = ap not (sym (same_bytes top.owner a.owner) ∙ e) in
     there (filter (is_of_another_owner table) s) a a.uid
     (member-filter (is_of_another_owner table) a s (member_of a s ca) others) refl)
 

@@ -1,7 +1,8 @@
 -- What a study and a series are filed under.
 use Rattle.std.specs.Prelude.{◌≡◌, ℕ, Bool, not, true, List, is_some, unwrap_or, Contains}
 use Rattle.std.specs.Cmp.{IsTotalOrder}
-use Rattle.std.specs.Ordering.{on, then_cmp, is_eq}
+use Rattle.std.specs.Ordering.{on, then_cmp}
+use Rattle.std.specs.Str.{bytes_eq}
 use Rattle.std.specs.declared.cmp.Ordering.{Ordering}
 use Rattle.std.proofs.lemmas.Cmp.{then_total, on_total, nat_list_cmp_total}
 use Rattle.std.proofs.lemmas.Map.Lookups.{exact_bytes}
@@ -49,7 +50,7 @@ series_filing v = record { uid = v.series.uid; owner = v.study.uid }
 -- it is filed under another owner than the table says
 abbrev pub is_of_another_owner : List Filing → Filing → Bool
 is_of_another_owner table one =
-    not (is_eq (bytes_cmp (unwrap_or (at uid_of bytes_cmp table one.uid) one).owner one.owner))
+    not (bytes_eq (unwrap_or (at uid_of bytes_cmp table one.uid) one).owner one.owner)
 
 -- the table has each study or series that is filed under two owners
 abbrev pub HasThoseOfTwoOwners : List Filing → List Filing → Type 0

@@ -94,8 +94,7 @@ fn of_another_owner<'b, 'a>(
 {
     let mut others = Vec::new(alloc);
     for one in filed {
-        let greatest = table.like(one);
-        if greatest.owner.cmp(one.owner).is_ne() {
+        if table.like(one).owner != one.owner {
             others.push(one)?;
         }
     }
