@@ -15,6 +15,12 @@ pub const UNDEFINED_LENGTH: u32 = 0xffff_ffff;
 /// The group of items and delimiters, which no element has.
 pub const DELIMITER_GROUP: u16 = 0xfffe;
 
+/// How many bytes a tag has.
+pub const TAG_SIZE: u64 = 4;
+
+/// How many bytes a plain header has: that of an item or a delimiter.
+pub const PLAIN_SIZE: u64 = 8;
+
 /// How deep items may nest.
 pub const MAX_LEVELS: u32 = 32;
 

@@ -8,8 +8,8 @@ ghost use Rattle.dd_set.specs.Spelling.{elements_text, content_text, items_text,
 ghost use Rattle.dd_set.specs.Views.{set_view, element_view, value_view, items_view, item_view};
 
 use crate::headers::{
-    DELIMITER_GROUP, MAX_LEVELS, UNDEFINED_LENGTH, holds_bytes, item_syntax, length_limit,
-    shape_size,
+    DELIMITER_GROUP, MAX_LEVELS, PLAIN_SIZE, TAG_SIZE, UNDEFINED_LENGTH, holds_bytes, item_syntax,
+    length_limit, shape_size,
 };
 use crate::set::{DataSet, Element, Item, Value};
 use crate::syntax::{Length, Syntax};
@@ -61,7 +61,7 @@ pub fn element_size(element: &Element<'_>, syntax: Syntax, levels: u32, low: u64
         return None;
     }
     let size = value_size(&element.value, element.vr, syntax, levels)?;
-    size.checked_add(4)
+    size.checked_add(TAG_SIZE)
 }
 
 /// The size of a value with what its header has behind the tag.
@@ -122,7 +122,7 @@ pub fn item_size(item: &Item<'_>, syntax: Syntax, levels: u32) -> Option<u64>
 {
     let below = levels.checked_sub(1)?;
     let size = set_size(&item.set, syntax, below)?;
-    closed_size(8, item.length, size)
+    closed_size(PLAIN_SIZE, item.length, size)
 }
 
 /// The size of the contents of an item or a sequence with `front` bytes before them and the mark of
@@ -136,6 +136,6 @@ fn closed_size(front: u64, form: Length, size: u64) -> Option<u64>
     match form {
         Length::Defined if size < u64::from(UNDEFINED_LENGTH) => Some(front + size),
         Length::Defined => None,
-        Length::Undefined => size.checked_add(front + 8),
+        Length::Undefined => size.checked_add(front + PLAIN_SIZE),
     }
 }

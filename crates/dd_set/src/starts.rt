@@ -7,7 +7,7 @@ ghost use Rattle.dd_set.specs.Single.{entry_text};
 ghost use Rattle.dd_set.specs.Starts.{places_in, content_places, item_places};
 ghost use Rattle.dd_set.specs.Views.{element_view, value_view, items_view};
 
-use crate::headers::{MAX_LEVELS, item_syntax, shape_size};
+use crate::headers::{MAX_LEVELS, TAG_SIZE, item_syntax, shape_size};
 use crate::set::{DataSet, Element, Item, Value};
 use crate::sizes::{element_size, item_size};
 use crate::syntax::Syntax;
@@ -72,7 +72,7 @@ fn starts_of(
         Value::Bytes(_) => Ok(None),
         Value::Items { length, items } => match item_syntax(syntax, element.vr, *length) {
             Some(inner) => {
-                let first = at + 4 + shape_size(element.vr);
+                let first = at + TAG_SIZE + shape_size(element.vr);
                 Ok(Some(items_starts(alloc, items, inner, first)?))
             }
             None => unreachable!(),
