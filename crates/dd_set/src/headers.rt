@@ -1,6 +1,7 @@
 //! What stands before a value, and which values may stand there.
 
-ghost use Rattle.std.specs.Prelude.{◌≡◌, ◌≤◌, ◌↔◌, ℕ, length, take, drop, IsTrue, Some, None, true, false};
+ghost use Rattle.std.specs.Prelude.{◌≡◌, ◌+◌, ◌≤◌, ◌↔◌, ℕ, length, take, drop, IsTrue, Some, None, true, false};
+ghost use Rattle.dd_elem.specs.Tag.{number_of};
 ghost use Rattle.dd_elem.specs.Vr.{is_long_of};
 ghost use Rattle.dd_set.specs.Reading.{tag_of, long_of, short_of, ends_set, ends_sequence, is_item};
 ghost use Rattle.dd_set.specs.Spelling.{item_syntax, length_limit, HoldsBytes, shape_text, header_text};
@@ -41,6 +42,13 @@ pub const SEQUENCE_END: Tag = Tag {
     group: DELIMITER_GROUP,
     element: 0xe0dd,
 };
+
+/// The least number of a tag that may follow this one.
+pub fn low_behind(tag: Tag) -> u64
+    ensures { result ≡ number_of tag + 1 }
+{
+    u64::from(tag.number()) + 1
+}
 
 /// The syntax of the items that a sequence of this form has under this value representation, where
 /// it may stand there (PS3.5 sections 6.2.2 and 7.5.1).

@@ -13,7 +13,7 @@ ghost use Rattle.dd_set.specs.Views.{set_view, element_view, value_view, item_vi
 use crate::checks::{Header, Reach, Shape, Sort, reach_of, sort_of};
 use crate::cursor::Cursor;
 use crate::fault::SetFault;
-use crate::headers::MAX_LEVELS;
+use crate::headers::{MAX_LEVELS, low_behind};
 use crate::set::{DataSet, Element, Item, Value};
 use crate::syntax::{Length, Syntax};
 use std::alloc::Global;
@@ -100,7 +100,7 @@ fn set<'a>(
         match found {
             None => return Ok((DataSet { elements }, place)),
             Some(next) => {
-                low = u64::from(next.tag.number()) + 1;
+                low = low_behind(next.tag);
                 elements.push(next)?;
             }
         }

@@ -9,7 +9,7 @@ ghost use Rattle.dd_set.specs.Views.{set_view, element_view, value_view, items_v
 
 use crate::headers::{
     DELIMITER_GROUP, MAX_LEVELS, PLAIN_SIZE, TAG_SIZE, UNDEFINED_LENGTH, holds_bytes, item_syntax,
-    length_limit, shape_size,
+    length_limit, low_behind, shape_size,
 };
 use crate::set::{DataSet, Element, Item, Value};
 use crate::syntax::{Length, Syntax};
@@ -43,7 +43,7 @@ pub fn set_size(set: &DataSet<'_>, syntax: Syntax, levels: u32) -> Option<u64>
     for element in &set.elements {
         let size = element_size(element, syntax, levels, low)?;
         total = total.checked_add(size)?;
-        low = u64::from(element.tag.number()) + 1;
+        low = low_behind(element.tag);
     }
     Some(total)
 }

@@ -10,6 +10,7 @@ ghost use Rattle.dd_set.specs.Skips.{Skips};
 use crate::checks::{Reach, Shape, Sort, less, reach_of, sort_of};
 use crate::fault::SetFault;
 use crate::feed::Feed;
+use crate::headers::low_behind;
 use crate::syntax::{Length, Syntax};
 use crate::taking::{front, item_front, pass};
 
@@ -57,7 +58,7 @@ fn skip_set<F: Feed>(
         let Some(header) = header else {
             return Ok(behind);
         };
-        low = u64::from(header.tag.number()) + 1;
+        low = low_behind(header.tag);
         left = skip_content(feed, levels, syntax, header.shape, behind)?;
     }
 }

@@ -13,7 +13,7 @@ use crate::cleaning::take_cleaned;
 use crate::fault::SetFault;
 use crate::feed::Feed;
 use crate::found::{Found, FoundValue, Scan};
-use crate::headers::MAX_LEVELS;
+use crate::headers::{MAX_LEVELS, low_behind};
 use crate::skipping::skip_content;
 use crate::syntax::{Length, Syntax};
 use crate::taking::front;
@@ -62,7 +62,7 @@ fn take_elements<F: Feed>(
             return Ok(scan);
         };
         let tag = header.tag;
-        low = u64::from(tag.number()) + 1;
+        low = low_behind(tag);
         let keeps = is_wanted(wanted, tag);
         let (value, behind) = take_value(alloc, feed, levels, syntax, header.shape, behind, keeps)?;
         left = behind;

@@ -1,5 +1,5 @@
 -- What the loops read, and the item of defined length; the search finds the rest.
-use Rattle.std.proofs.Common.{rules, ◌≡◌, ◌+◌, ◌-◌, ◌<◌, length, suc, ℕ, [], ◌∷◌, ◌++◌, map, ap, sym}
+use Rattle.std.proofs.Common.{rules, ◌≡◌, ◌+◌, ◌-◌, ◌<◌, length, suc, [], ◌∷◌, ◌++◌, map, ap, sym}
 use Rattle.std.proofs.Common.{subst, ◌∙◌, arith, inr, Some, None, Ok, Err}
 use Rattle.std.proofs.lemmas.Result.{err_from_is_err_and}
 use Rattle.std.proofs.lemmas.List.{map_push}
@@ -80,7 +80,7 @@ set-elements-preserved t c =
     let shorter : length c.in_ok-found.behind.rest.now < length c.elements.place.rest.now = rw c.in-Some.is at c.in_ok-found.ensures.shorter in
     let pushed : map element_view c.push.new.self.items ≡ map element_view c.elements.elements.items ++ element_view next ∷ [] = rw c.in_ok-push-in-Some.ensures.items (map_push _ c.elements.elements.items next) in
     let seen : (element_view next).tag ≡ next.tag = search (rules, the_lemmas) in
-    let low : c.from-low.result + 1 ≡ number_of (element_view next).tag + 1 = ap (λ (k : ℕ). k + 1) (c.from-low.ensures ∙ c.number.ensures.value ∙ ap number_of (sym seen)) in (
+    let low : c.low_behind-low.result ≡ number_of (element_view next).tag + 1 = rw seen c.low_behind-low.ensures in (
       at.0 - 1,
       omega arith,
       omega arith,

@@ -1,8 +1,7 @@
 -- The answers of the calls, put together: a header and what stands behind it are an element or an item, and the loops
 -- read one after the other.
-use Rattle.std.proofs.Common.{◌≡◌, ◌∙◌, ◌+◌, ◌-◌, ℕ, suc, ap, arith}
+use Rattle.std.proofs.Common.{◌≡◌, ◌∙◌, ◌-◌, suc, ap, arith}
 use Rattle.std.proofs.lemmas.Result.{err_from_is_err_and}
-use Rattle.dd_elem.specs.Tag.{number_of}
 use Rattle.dd_set.specs.declared.syntax.Length.TheVariants.{Defined, Undefined}
 use Rattle.dd_set.specs.Checks.{header_view}
 use Rattle.dd_set.specs.Elements.{Elements, items}
@@ -148,7 +147,6 @@ skip_set-returns-in_err-left-clause-found g t c =
 pub skip_set-elements-preserved : goal.skip_set-elements-preserved
 skip_set-elements-preserved g t c =
     let part = item_reader c.args.levels in
-    let low_is : c.from-low.result + 1 ≡ number_of c.in-Some.header.tag + 1 = ap (λ (n : ℕ). n + 1) (c.from-low.ensures ∙ c.number.ensures.value) in
     let one = scans_then _ _ g.met.F.Feed.goes g.met.F.Feed.told _ _ _ _ _ (λ bytes rest. ElementStep (sequence_with part) c.args.syntax c.args.form c.elements.low c.elements.left c.in-Some.header.tag bytes c.in_ok-left.left rest)
     c.in_ok-header.ensures.found c.in_ok-left.ensures.found
     (λ bytes mid rest few fewer h k. element_steps (sequence_with part) c.args.syntax c.args.form c.elements.low c.elements.left (header_view c.in-Some.header) bytes c.in_ok-header.behind c.in_ok-left.left mid rest (rw c.in-Some.is at h) k few) in
@@ -156,6 +154,6 @@ skip_set-elements-preserved g t c =
       goes = scans_then _ _ g.met.F.Feed.goes g.met.F.Feed.told _ _ _ _ _ _ c.elements.invariant.goes one
           (λ bytes mid rest few fewer go h.
           let next = elements_go part c.args.syntax c.args.form c.args.left bytes c.elements.left mid c.elements.low h.entry c.in_ok-left.left rest go h.read h.shorter in
-          rw low_is (rw h.tagged at next));
+          rw c.low_behind-low.ensures (rw h.tagged at next));
       fewer = omega arith;
     }

@@ -1,7 +1,6 @@
 -- A header and its value are an element, and the loop reads one after the other.
-use Rattle.std.proofs.Common.{◌≡◌, ◌∙◌, ◌+◌, ℕ, map, ap, arith}
+use Rattle.std.proofs.Common.{map, arith}
 use Rattle.std.proofs.lemmas.Result.{err_from_is_err_and}
-use Rattle.dd_elem.specs.Tag.{number_of}
 use Rattle.dd_set.specs.declared.syntax.Length.TheVariants.{Defined}
 use Rattle.dd_set.specs.Checks.{header_view}
 use Rattle.dd_set.specs.Gives.{Fails}
@@ -25,7 +24,6 @@ elements-preserved g c =
     let part = item_reader c.args.levels in
     let wanted = c.args.wanted.now in
     let header = header_view c.in-Some.header in
-    let low_is : c.from-low.result + 1 ≡ number_of c.in-Some.header.tag + 1 = ap (λ (n : ℕ). n + 1) (c.from-low.ensures ∙ c.number.ensures.value) in
     let one = scans_then _ _ g.met.F.Feed.goes g.met.F.Feed.told _ _ _ _ _
     (λ all rest. ValueStep (sequence_with part) c.args.syntax c.elements.low c.elements.left header (option_map value_told c.in_ok-value.value) c.is_wanted-keeps.result all c.in_ok-value.behind rest)
     c.in_ok-header.ensures.found c.in_ok-value.ensures.found
@@ -35,7 +33,7 @@ elements-preserved g c =
           (λ all mid rest few fewer go h.
           let step = rw c.is_wanted-keeps.ensures at h in
           let next = scan_go wanted part c.args.syntax all c.elements.left c.elements.scan.first (map found_hit c.elements.scan.found.items) mid c.elements.low header (option_map value_told c.in_ok-value.value) c.in_ok-value.behind rest go step in
-          rw (low_is, c.in_ok-note.ensures.first, c.in_ok-note.ensures.found) next);
+          rw (c.low_behind-low.ensures, c.in_ok-note.ensures.first, c.in_ok-note.ensures.found) next);
       fewer = omega arith;
     }
 
