@@ -70,9 +70,11 @@ returns-clause-valid g c = λ ok.
 pub returns-in_err-sent-clause-keyed : goal.returns-in_err-sent-clause-keyed
 returns-in_err-sent-clause-keyed g c =
     keyed_is c.args.versions.now c.args.planned.now c.index-versions-planned.result c.parts_of-parts.result.now
-    c.requires.sound.0 c.index-versions-planned.is c.parts_of-parts.ensures.value (subst IsWellFormed (sym c.parts_of-parts.ensures.value) c.parts_of-parts.ensures.formed)
+    c.requires.sound.0 c.index-versions-planned.is c.parts_of-parts.ensures.value
+    (subst IsWellFormed (sym c.parts_of-parts.ensures.value) c.parts_of-parts.ensures.formed)
 
 pub returns-clause-keyed : goal.returns-clause-keyed
 returns-clause-keyed g c =
     keyed_is c.args.versions.now c.args.planned.now c.index-versions-planned.result c.parts_of-parts.result.now
-    c.requires.sound.0 c.index-versions-planned.is c.parts_of-parts.ensures.value (subst IsWellFormed (sym c.parts_of-parts.ensures.value) c.parts_of-parts.ensures.formed)
+    c.requires.sound.0 c.index-versions-planned.is c.parts_of-parts.ensures.value
+    (subst IsWellFormed (sym c.parts_of-parts.ensures.value) c.parts_of-parts.ensures.formed)
