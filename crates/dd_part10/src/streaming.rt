@@ -9,7 +9,7 @@ use crate::scanned::Scanned;
 use crate::stream_fault::StreamFault;
 use crate::taking::take_file;
 use dd_elem::{Read, Tag};
-use dd_set::{End, Kept, Stream, finish};
+use dd_set::{End, Stream, finish};
 use std::alloc::Global;
 
 /// What is told of the DICOM file that the bytes of a reader are, to its end (PS3.10 section 7): its
@@ -32,12 +32,7 @@ pub fn read_file<R: Read>(
         (R.failures reader.old) (R.failures reader.new) }
     ensures calls { R.calls reader.new ≤ R.calls reader.old + limit + 1 }
 {
-    let mut stream = Stream {
-        reader,
-        kept: Kept::new(),
-        left: limit,
-        end: None,
-    };
+    let mut stream = Stream::new(reader, limit);
     read_stream(alloc, &mut stream, wanted)
 }
 

@@ -10,11 +10,11 @@ use dd_elem::Read;
 use std::marker::Model;
 
 /// The most bytes of one read.
-pub const PIECE: usize = 16_384;
+pub(crate) const PIECE: usize = 16_384;
 
 /// The bytes of the last read that were not taken yet.
 #[derive(Drop)]
-pub struct Kept {
+pub(crate) struct Kept {
     bytes: [u8; PIECE],
     at: usize,
     len: usize,
@@ -32,7 +32,7 @@ impl Model for Kept {
 
 impl Kept {
     /// No bytes.
-    pub fn new() -> Kept
+    pub(crate) fn new() -> Kept
         ensures { result ≡ [] }
     {
         Kept {
@@ -43,14 +43,14 @@ impl Kept {
     }
 
     /// How many they are.
-    pub fn len(&self) -> usize
+    pub(crate) fn len(&self) -> usize
         ensures { result ≡ length self.now }
     {
         self.len
     }
 
     /// Takes as many as there are and there is room for to the front of the room, and answers how many.
-    pub fn give(&mut self, room: &mut [u8]) -> usize
+    pub(crate) fn give(&mut self, room: &mut [u8]) -> usize
         ensures count { result ≡ min (length room.new) (length self.old) }
         ensures gave { self.old ≡ take result room.new ++ self.new }
     {
@@ -62,7 +62,7 @@ impl Kept {
     }
 
     /// Lets at most n go, and answers how many.
-    pub fn pass(&mut self, n: u64) -> u64
+    pub(crate) fn pass(&mut self, n: u64) -> u64
         ensures count { result ≡ min n (length self.old) }
         ensures gone { self.old ≡ take result self.old ++ self.new }
     {
@@ -74,7 +74,7 @@ impl Kept {
 
     /// Has the bytes of one more read, of at most so many, in place of those that were there. Answers
     /// how many, or None where the reader failed.
-    pub fn refill<R: Read>(&mut self, reader: &mut R, most: usize) -> Option<usize>
+    pub(crate) fn refill<R: Read>(&mut self, reader: &mut R, most: usize) -> Option<usize>
         requires some { 0 < most }
         requires few { most ≤ PIECE }
         ensures few { length self.new ≤ most }

@@ -39,7 +39,6 @@ pub use fault::SetFault;
 pub use feed::Feed;
 pub use filling::{drain, fill, skip};
 pub use found::{Found, FoundValue, Scan};
-pub use kept::Kept;
 pub use reading::parse;
 pub use scan_fault::ScanFault;
 pub use scanning::{finish, scan};

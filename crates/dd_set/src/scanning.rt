@@ -9,7 +9,6 @@ ghost use Rattle.dd_set.specs.Streams.{Moves};
 use crate::end::End;
 use crate::filling::drain;
 use crate::found::Scan;
-use crate::kept::Kept;
 use crate::scan_fault::ScanFault;
 use crate::stream::Stream;
 use crate::syntax::Syntax;
@@ -38,12 +37,7 @@ pub fn scan<R: Read>(
         (R.failures reader.old) (R.failures reader.new) }
     ensures calls { R.calls reader.new ≤ R.calls reader.old + limit + 1 }
 {
-    let mut stream = Stream {
-        reader,
-        kept: Kept::new(),
-        left: limit,
-        end: None,
-    };
+    let mut stream = Stream::new(reader, limit);
     scan_stream(alloc, syntax, &mut stream, wanted)
 }
 

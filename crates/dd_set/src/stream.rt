@@ -10,22 +10,38 @@ use crate::feed::Feed;
 use crate::kept::{Kept, PIECE};
 use dd_elem::Read;
 
-/// The bytes of a reader as a feed: it reads them in pieces of 16 KiB, and at most so many and one
+/// The bytes of a reader as a feed: it reads them in pieces of 16 KiB, and at most its limit and one
 /// more. It is at its end where the reader is, where the reader fails, and behind the one byte more;
-/// `end` says which.
+/// `finish` says which.
 #[derive(Drop)]
 pub struct Stream<'r, R: Read> {
     /// The reader.
-    pub reader: &'r mut R,
+    pub(crate) reader: &'r mut R,
     /// The bytes that it gave and that were not taken yet.
-    pub kept: Kept,
+    pub(crate) kept: Kept,
     /// How many bytes it may still give.
-    pub left: u64,
+    pub(crate) left: u64,
     /// How it came to its end, where it has.
-    pub end: Option<End>,
+    pub(crate) end: Option<End>,
 }
 
-impl<R: Read> Stream<'_, R> {
+impl<'r, R: Read> Stream<'r, R> {
+    /// A stream of this reader, of which nothing was read yet, with this limit.
+    pub fn new(reader: &'r mut R, limit: u64) -> Stream<'r, R>
+        ensures same { result.reader.ghost_name ≡ reader.entry.ghost_name }
+        ensures reader { result.reader.now ≡ reader.old }
+        ensures empty { result.kept ≡ [] }
+        ensures left { result.left ≡ limit }
+        ensures open { result.end ≡ None }
+    {
+        Stream {
+            reader,
+            kept: Kept::new(),
+            left: limit,
+            end: None,
+        }
+    }
+
     /// Has some bytes to give, unless the stream is at its end.
     fn refill(&mut self)
         ensures same { self.new.reader.ghost_name ≡ self.old.reader.ghost_name }
