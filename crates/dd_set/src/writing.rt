@@ -1,10 +1,12 @@
 //! Data sets sent to a writer.
 
-ghost use Rattle.std.specs.Prelude.{◌≡◌, ℕ, ◌+◌, ◌++◌, ◌≤◌, ◌<◌, ◌^◌, length, Some, None, Err, IsSomeAnd};
+ghost use Rattle.std.specs.Prelude.{◌≡◌, ℕ, ◌+◌, ◌++◌, ◌≤◌, ◌<◌, ◌^◌, length, unwrap_or, Some, None, Err, IfSome};
+ghost use Rattle.std.specs.Prelude.{IsSomeAnd};
 ghost use Rattle.dd_set.specs.Elements.{bytes, items};
 ghost use Rattle.dd_set.specs.Sends.{SendsTo};
 ghost use Rattle.dd_set.specs.Single.{entry_text, part_text, mark_text, IsPart};
 ghost use Rattle.dd_set.specs.Spelling.{Spells, elements_text, items_text, header_text, tag_text, content_text, length_of, length_limit, closed, sequence_end_text, AreElements, IsContent, AreItems, FitsLong};
+ghost use Rattle.dd_set.specs.Spelling.{undefined_length};
 ghost use Rattle.dd_set.specs.Views.{set_view, element_view, value_view, items_view, item_view};
 
 use crate::headers::{
@@ -108,13 +110,11 @@ fn items_length(items: &[Item<'_>], form: Length, syntax: Syntax, levels: u32) -
     requires fits { FitsLong form (items_text (items_view items.now)) }
     ensures { result ≡ length_of form (items_text (items_view items.now)) }
 {
-    match form {
-        Length::Undefined => UNDEFINED_LENGTH,
-        Length::Defined => match items_size(items, syntax, levels) {
-            Some(size) => size as u32,
-            None => unreachable!(),
-        },
-    }
+    let size = match form {
+        Length::Defined => items_size(items, syntax, levels),
+        Length::Undefined => None,
+    };
+    header_length(size)
 }
 
 /// The length that the header of an item gives.
@@ -123,12 +123,21 @@ fn set_length(set: &DataSet<'_>, form: Length, syntax: Syntax, levels: u32) -> u
     requires fits { FitsLong form (elements_text (set_view set.now)) }
     ensures { result ≡ length_of form (elements_text (set_view set.now)) }
 {
-    match form {
-        Length::Undefined => UNDEFINED_LENGTH,
-        Length::Defined => match set_size(set, syntax, levels) {
-            Some(size) => size as u32,
-            None => unreachable!(),
-        },
+    let size = match form {
+        Length::Defined => set_size(set, syntax, levels),
+        Length::Undefined => None,
+    };
+    header_length(size)
+}
+
+/// The length that a header gives: the size, or that it is undefined where there is none.
+fn header_length(size: Option<u64>) -> u32
+    requires { IfSome size (λ n. n < undefined_length) }
+    ensures { result ≡ unwrap_or size undefined_length }
+{
+    match size {
+        Some(size) => size as u32,
+        None => UNDEFINED_LENGTH,
     }
 }
 
