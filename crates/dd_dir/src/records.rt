@@ -2,23 +2,21 @@
 
 ghost use Rattle.std.specs.Prelude.{◌≡◌, ◌+◌, ◌++◌, ◌<◌, ◌^◌, All, IsOk, length, map};
 ghost use Rattle.std.specs.List.{AllByRecursion};
-ghost use Rattle.byteorder.specs.Endian.{little_bytes};
 ghost use Rattle.dd_layout.specs.Layouts.{IsSound};
 ghost use Rattle.dd_layout.specs.Records.{record_part};
 ghost use Rattle.dd_set.specs.Elements.{items_of};
 ghost use Rattle.dd_set.specs.Sends.{SendsTo};
 ghost use Rattle.dd_set.specs.Single.{part_text};
-ghost use Rattle.dd_set.specs.Spelling.{item_tag_text, items_text};
+ghost use Rattle.dd_set.specs.Spelling.{items_text};
 ghost use Rattle.dd_dir.specs.Directories.{IsRecord, entries_of};
 ghost use Rattle.dd_dir.specs.Keyed.{IsKeyed};
 
 use crate::cells::send_rows;
 use crate::well_formed::parts_of;
-use byteorder::{ByteOrder, LittleEndian};
 use dd_elem::Write;
 use dd_keys::Version;
 use dd_layout::{PlanRecord, record_size, rows};
-use dd_set::{WriteFault, send};
+use dd_set::{WriteFault, item_header, send};
 
 /// Sends these records behind `sent` bytes.
 pub(crate) fn send_records<W: Write>(
@@ -59,13 +57,4 @@ fn send_record<W: Write>(
     let header = item_header(record_size(planned.level, parts) as u32 - 8);
     let sent = send(&header, writer, sent)?;
     send_rows(rows(planned.level), planned, parts, writer, sent)
-}
-
-/// The header of an item with so many bytes (PS3.5 section 7.5).
-fn item_header(count: u32) -> [u8; 8]
-    ensures { result ≡ item_tag_text ++ little_bytes 4 count }
-{
-    let mut header = *b"\xfe\xff\0\xe0\0\0\0\0";
-    LittleEndian::write_u32(&mut header[4..], count);
-    header
 }

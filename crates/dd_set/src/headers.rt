@@ -1,10 +1,11 @@
 //! What stands before a value, and which values may stand there.
 
-ghost use Rattle.std.specs.Prelude.{◌≡◌, ◌+◌, ◌≤◌, ◌↔◌, ℕ, length, take, drop, IsTrue, Some, None, true, false};
+ghost use Rattle.std.specs.Prelude.{◌≡◌, ◌+◌, ◌++◌, ◌≤◌, ◌↔◌, ℕ, length, take, drop, IsTrue, Some, None, true, false};
+ghost use Rattle.byteorder.specs.Endian.{little_bytes};
 ghost use Rattle.dd_elem.specs.Tag.{number_of};
 ghost use Rattle.dd_elem.specs.Vr.{is_long_of};
 ghost use Rattle.dd_set.specs.Reading.{tag_of, long_of, short_of, ends_set, ends_sequence, is_item};
-ghost use Rattle.dd_set.specs.Spelling.{item_syntax, length_limit, HoldsBytes, shape_text, header_text};
+ghost use Rattle.dd_set.specs.Spelling.{item_syntax, length_limit, HoldsBytes, shape_text, header_text, item_tag_text};
 
 use crate::syntax::{Length, Syntax};
 use byteorder::{ByteOrder, LittleEndian};
@@ -105,6 +106,13 @@ pub fn plain_header(tag: Tag, value_length: u32) -> [u8; 8]
     LittleEndian::write_u16(&mut header[2..], tag.element);
     LittleEndian::write_u32(&mut header[4..], value_length);
     header
+}
+
+/// The header of an item that gives this length (PS3.5 section 7.5).
+pub fn item_header(count: u32) -> [u8; 8]
+    ensures { result ≡ item_tag_text ++ little_bytes 4 count }
+{
+    plain_header(ITEM, count)
 }
 
 /// A header in Explicit VR with a length of 16 bits.

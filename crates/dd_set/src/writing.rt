@@ -10,7 +10,7 @@ ghost use Rattle.dd_set.specs.Spelling.{undefined_length};
 ghost use Rattle.dd_set.specs.Views.{set_view, element_view, value_view, items_view, item_view};
 
 use crate::headers::{
-    ITEM, ITEM_END, MAX_LEVELS, SEQUENCE_END, UNDEFINED_LENGTH, item_syntax, plain_header,
+    ITEM_END, MAX_LEVELS, SEQUENCE_END, UNDEFINED_LENGTH, item_header, item_syntax, plain_header,
 };
 use crate::sending::{send, send_front};
 use crate::set::{DataSet, Element, Item, Value};
@@ -177,7 +177,7 @@ fn send_item<W: Write>(
 {
     let below = levels - 1;
     let count = set_length(&item.set, item.length, syntax, below);
-    let sent = send(&plain_header(ITEM, count), writer, sent)?;
+    let sent = send(&item_header(count), writer, sent)?;
     let sent = send_set(&item.set, syntax, below, writer, sent)?;
     send_end(item.length, ITEM_END, writer, sent)
 }

@@ -87,20 +87,20 @@ send_element-returns-in_ok-sent-in-Items-2 g t c =
 pub send_item-returns-in_err-sent : goal.send_item-returns-in_err-sent
 send_item-returns-in_err-sent g t c =
     let p = err_from_is_err_and c.from_residual.result c.from_residual.ensures.1 in
-    rw (p.1, p.2) (sends_same _ _ _ _ _ _ _ _ (part_parts c.args.item.now c.plain_header.result c.set_length-count.result c.plain_header.ensures c.set_length-count.ensures)
+    rw (p.1, p.2) (sends_same _ _ _ _ _ _ _ _ (part_parts c.args.item.now c.item_header.result c.set_length-count.result c.item_header.ensures c.set_length-count.ensures)
     (first_fails _ _ _ _ _ _ _ _ c.in_err-sent.ensures))
 
 pub send_item-returns-in_err-sent-2 : goal.send_item-returns-in_err-sent-2
 send_item-returns-in_err-sent-2 g t c =
     let p = err_from_is_err_and c.from_residual-in_err-sent-2.result c.from_residual-in_err-sent-2.ensures.1 in
-    rw (p.1, p.2) (sends_same _ _ _ _ _ _ _ _ (part_parts c.args.item.now c.plain_header.result c.set_length-count.result c.plain_header.ensures c.set_length-count.ensures)
+    rw (p.1, p.2) (sends_same _ _ _ _ _ _ _ _ (part_parts c.args.item.now c.item_header.result c.set_length-count.result c.item_header.ensures c.set_length-count.ensures)
     (then_sends _ _ _ _ _ _ _ _ _ _ _ c.in_ok-sent.ensures (first_fails _ _ _ _ _ _ _ _ c.in_err-sent-2.ensures)))
 
 pub send_item-send_end-requires : goal.send_item-send_end-requires
 send_item-send_end-requires g t c =
-    third_fits _ _ _ _ _ _ _ (part_parts c.args.item.now c.plain_header.result c.set_length-count.result c.plain_header.ensures c.set_length-count.ensures) c.requires.fits c.in_ok-sent.ensures.ok.0 c.in_ok-sent-2.ensures.ok.0
+    third_fits _ _ _ _ _ _ _ (part_parts c.args.item.now c.item_header.result c.set_length-count.result c.item_header.ensures c.set_length-count.ensures) c.requires.fits c.in_ok-sent.ensures.ok.0 c.in_ok-sent-2.ensures.ok.0
 
 pub send_item-returns : goal.send_item-returns
 send_item-returns g t c =
-    sends_same _ _ _ _ _ _ _ _ (part_parts c.args.item.now c.plain_header.result c.set_length-count.result c.plain_header.ensures c.set_length-count.ensures)
+    sends_same _ _ _ _ _ _ _ _ (part_parts c.args.item.now c.item_header.result c.set_length-count.result c.item_header.ensures c.set_length-count.ensures)
     (then_sends _ _ _ _ _ _ _ _ _ _ _ c.in_ok-sent.ensures (then_sends _ _ _ _ _ _ _ _ _ _ _ c.in_ok-sent-2.ensures c.send_end.ensures))
