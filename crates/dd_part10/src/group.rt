@@ -13,7 +13,7 @@ ghost use Rattle.dd_part10.specs.Taking.{count_in, syntax_in};
 
 use crate::fault::FileFault;
 use crate::meta::Meta;
-use crate::places::COUNT_LENGTH;
+use crate::places::{COUNT_HEADER, COUNT_LENGTH, COUNT_SIZE};
 use dd_elem::{Tag, Uid, clean};
 use dd_set::{DataSet, Syntax, Value, parse};
 use std::alloc::Global;
@@ -64,10 +64,10 @@ pub fn read_count(front: &[u8]) -> Result<u32, FileFault>
     ensures whole { IfOk result (λ n. 12 ≤ length front.now) }
     ensures memory { WantsNone result }
 {
-    let Some(rest) = behind(b"\x02\0\0\0UL\x04\0", front) else {
+    let Some(rest) = behind(COUNT_HEADER, front) else {
         return Err(FileFault::GroupLength);
     };
-    if rest.len() < 4 {
+    if rest.len() < COUNT_SIZE {
         return Err(FileFault::GroupLength);
     }
     let count = u32::from_le_bytes([rest[0], rest[1], rest[2], rest[3]]);
