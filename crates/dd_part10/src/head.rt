@@ -15,7 +15,7 @@ use crate::group::{CLASS, GROUP_LENGTH, INSTANCE, META_GROUP, TRANSFER};
 use crate::meta::Meta;
 use crate::places::{GROUP_AT, PREAMBLE_LENGTH, PREFIX};
 use dd_elem::{Tag, Vr, Write};
-use dd_set::{WriteFault, send, send_header};
+use dd_set::{HEADER_SIZE, LONG_HEADER_SIZE, WriteFault, send, send_header};
 
 /// The tag of the File Meta Information Version.
 const VERSION: Tag = Tag {
@@ -36,10 +36,7 @@ const IMPLEMENTATION: Tag = Tag {
 const IMPLEMENTATION_UID: &[u8] = b"2.25.604472133179352588043346";
 
 /// How many bytes the version has: a header with a length of 32 bits, and its value.
-const VERSION_SIZE: u32 = 12 + VERSION_VALUE.len() as u32;
-
-/// How many bytes the header of an element with a UID has.
-const UID_HEADER: u32 = 8;
+const VERSION_SIZE: u32 = (LONG_HEADER_SIZE + VERSION_VALUE.len()) as u32;
 
 /// How many bytes the head of a file with this meta information has.
 pub fn head_size(meta: &Meta) -> u64
@@ -92,8 +89,8 @@ fn uid_size(uid: &[u8]) -> u32
     ensures exact { result ≡ 8 + length (padded uid.now) }
     ensures few { result ≤ 72 }
 {
-    let size = uid.len() + padding_for(uid).len();
-    UID_HEADER + size as u32
+    let size = HEADER_SIZE + uid.len() + padding_for(uid).len();
+    size as u32
 }
 
 /// Sends what stands behind the group length.

@@ -10,6 +10,7 @@ use crate::checks::{
     Header, Opening, Shape, element_opening, ends_here, item_opening, leaves_fewer, less,
 };
 use crate::fault::SetFault;
+use crate::headers::{HEADER_SIZE, LONG_LENGTH_SIZE};
 use crate::syntax::{Length, Syntax};
 
 /// A place in the bytes: what is to come, and how much of it the nearest enclosing length leaves.
@@ -74,7 +75,7 @@ impl<'a> Cursor<'a> {
         ensures exact { long_length_at (at_view self.entry) ≡ stepped (λ n. n) result }
         ensures not_longer { IfOk result (λ x. length x.1.rest.now ≤ length self.entry.rest.now) }
     {
-        let (bytes, at) = self.take(4)?;
+        let (bytes, at) = self.take(LONG_LENGTH_SIZE as u64)?;
         let length = u32::from_le_bytes([bytes[0], bytes[1], bytes[2], bytes[3]]);
         Ok((length, at))
     }
@@ -95,7 +96,7 @@ impl<'a> Cursor<'a> {
         if self.is_over(form) {
             return Ok((None, self));
         }
-        let (head, at) = self.take(8)?;
+        let (head, at) = self.take(HEADER_SIZE as u64)?;
         match element_opening(syntax, form, low, head)? {
             Opening::End => Ok((None, at)),
             Opening::Whole(header) => Ok((Some(header), at)),
@@ -119,7 +120,7 @@ impl<'a> Cursor<'a> {
         if self.is_over(form) {
             return Ok((None, self));
         }
-        let (head, at) = self.take(8)?;
+        let (head, at) = self.take(HEADER_SIZE as u64)?;
         Ok((item_opening(form, head)?, at))
     }
 }

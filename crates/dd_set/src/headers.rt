@@ -20,8 +20,17 @@ pub const DELIMITER_GROUP: u16 = 0xfffe;
 /// How many bytes a tag has.
 pub const TAG_SIZE: u64 = 4;
 
+/// How many bytes each header begins with. All but the long ones have no more.
+pub const HEADER_SIZE: usize = 8;
+
+/// How many bytes of length a long header has behind these.
+pub const LONG_LENGTH_SIZE: usize = 4;
+
+/// How many bytes a long header has: one with a length of 32 bits behind a value representation.
+pub const LONG_HEADER_SIZE: usize = HEADER_SIZE + LONG_LENGTH_SIZE;
+
 /// How many bytes a plain header has: that of an item or a delimiter.
-pub const PLAIN_SIZE: u64 = 8;
+pub const PLAIN_SIZE: u64 = HEADER_SIZE as u64;
 
 /// How deep items may nest.
 pub const MAX_LEVELS: u32 = 32;
@@ -92,16 +101,16 @@ pub fn shape_size(vr: Option<Vr>) -> u64
     ensures few { result ≤ 8 }
 {
     match vr {
-        Some(vr) if vr.is_long() => 8,
-        _ => 4,
+        Some(vr) if vr.is_long() => LONG_HEADER_SIZE as u64 - TAG_SIZE,
+        _ => HEADER_SIZE as u64 - TAG_SIZE,
     }
 }
 
 /// A tag and a length of 32 bits: a header in Implicit VR, and that of an item or a delimiter.
-pub fn plain_header(tag: Tag, value_length: u32) -> [u8; 8]
+pub fn plain_header(tag: Tag, value_length: u32) -> [u8; HEADER_SIZE]
     ensures { result ≡ header_text tag None value_length }
 {
-    let mut header = [0; 8];
+    let mut header = [0; HEADER_SIZE];
     LittleEndian::write_u16(&mut header, tag.group);
     LittleEndian::write_u16(&mut header[2..], tag.element);
     LittleEndian::write_u32(&mut header[4..], value_length);
@@ -109,18 +118,18 @@ pub fn plain_header(tag: Tag, value_length: u32) -> [u8; 8]
 }
 
 /// The header of an item that gives this length (PS3.5 section 7.5).
-pub fn item_header(count: u32) -> [u8; 8]
+pub fn item_header(count: u32) -> [u8; HEADER_SIZE]
     ensures { result ≡ item_tag_text ++ little_bytes 4 count }
 {
     plain_header(ITEM, count)
 }
 
 /// A header in Explicit VR with a length of 16 bits.
-pub fn short_header(tag: Tag, vr: Vr, value_length: u16) -> [u8; 8]
+pub fn short_header(tag: Tag, vr: Vr, value_length: u16) -> [u8; HEADER_SIZE]
     requires { is_long_of vr ≡ false }
     ensures { result ≡ header_text tag (Some vr) value_length }
 {
-    let mut header = [0; 8];
+    let mut header = [0; HEADER_SIZE];
     LittleEndian::write_u16(&mut header, tag.group);
     LittleEndian::write_u16(&mut header[2..], tag.element);
     header[4..6].copy_from_slice(&vr.letters());
@@ -129,11 +138,11 @@ pub fn short_header(tag: Tag, vr: Vr, value_length: u16) -> [u8; 8]
 }
 
 /// A header in Explicit VR with two reserved bytes and a length of 32 bits.
-pub fn long_header(tag: Tag, vr: Vr, value_length: u32) -> [u8; 12]
+pub fn long_header(tag: Tag, vr: Vr, value_length: u32) -> [u8; LONG_HEADER_SIZE]
     requires { is_long_of vr ≡ true }
     ensures { result ≡ header_text tag (Some vr) value_length }
 {
-    let mut header = [0; 12];
+    let mut header = [0; LONG_HEADER_SIZE];
     LittleEndian::write_u16(&mut header, tag.group);
     LittleEndian::write_u16(&mut header[2..], tag.element);
     header[4..6].copy_from_slice(&vr.letters());

@@ -39,7 +39,7 @@ pub use fault::SetFault;
 pub use feed::Feed;
 pub use filling::{drain, fill, skip};
 pub use found::{Found, FoundValue, Scan};
-pub use headers::item_header;
+pub use headers::{HEADER_SIZE, LONG_HEADER_SIZE, item_header};
 pub use reading::parse;
 pub use scan_fault::ScanFault;
 pub use scanning::{finish, scan};

@@ -14,6 +14,7 @@ use crate::checks::{
 use crate::fault::SetFault;
 use crate::feed::Feed;
 use crate::filling::{fill, skip};
+use crate::headers::{HEADER_SIZE, LONG_LENGTH_SIZE};
 use crate::syntax::{Length, Syntax};
 
 /// Takes as many bytes as there is room for.
@@ -57,25 +58,25 @@ pub fn pass<F: Feed>(feed: &mut F, n: u32, left: Option<u64>) -> Result<Option<u
 fn eight<F: Feed>(
     feed: &mut F,
     left: Option<u64>,
-) -> Result<(Option<[u8; 8]>, Option<u64>), SetFault>
+) -> Result<(Option<[u8; HEADER_SIZE]>, Option<u64>), SetFault>
     ensures found { Scans F.moves F.tells feed.old feed.new (λ bytes rest.
         Finds (λ head. head) result (eight_at (record { left = left; bytes = bytes })) rest) }
     ensures fewer { F.most feed.new ≤ F.most feed.old }
     ensures some { IfOk result (λ x. OnSome x.0 (F.most feed.new < F.most feed.old)) }
 {
-    let mut head = [0; 8];
+    let mut head = [0; HEADER_SIZE];
     let left = take(feed, &mut head, left)?;
     Ok((Some(head), left))
 }
 
 /// Takes the eight bytes that a header begins with, or None at the end of the feed.
-fn eight_or_end<F: Feed>(feed: &mut F) -> Result<(Option<[u8; 8]>, Option<u64>), SetFault>
+fn eight_or_end<F: Feed>(feed: &mut F) -> Result<(Option<[u8; HEADER_SIZE]>, Option<u64>), SetFault>
     ensures found { Scans F.moves F.tells feed.old feed.new (λ bytes rest.
         Finds (λ head. head) result (head_at Defined (record { left = None; bytes = bytes })) rest) }
     ensures fewer { F.most feed.new ≤ F.most feed.old }
     ensures some { IfOk result (λ x. OnSome x.0 (F.most feed.new < F.most feed.old)) }
 {
-    let mut head = [0; 8];
+    let mut head = [0; HEADER_SIZE];
     let n = fill(feed, &mut head);
     if n == 0 {
         return Ok((None, None));
@@ -92,7 +93,7 @@ fn head<F: Feed>(
     feed: &mut F,
     form: Length,
     left: Option<u64>,
-) -> Result<(Option<[u8; 8]>, Option<u64>), SetFault>
+) -> Result<(Option<[u8; HEADER_SIZE]>, Option<u64>), SetFault>
     ensures found { Scans F.moves F.tells feed.old feed.new (λ bytes rest.
         Finds (λ head. head) result (head_at form (record { left = left; bytes = bytes })) rest) }
     ensures fewer { F.most feed.new ≤ F.most feed.old }
@@ -111,7 +112,7 @@ fn long<F: Feed>(feed: &mut F, left: Option<u64>) -> Result<(u32, Option<u64>), 
         Finds (λ n. n) result (long_length_at (record { left = left; bytes = bytes })) rest) }
     ensures fewer { F.most feed.new ≤ F.most feed.old }
 {
-    let mut length = [0; 4];
+    let mut length = [0; LONG_LENGTH_SIZE];
     let left = take(feed, &mut length, left)?;
     Ok((u32::from_le_bytes(length), left))
 }
