@@ -28,7 +28,7 @@ pub(crate) fn in_harmony(alloc: Global, versions: &[Version]) -> Result<Table<Ve
     let mut held = Vec::with_capacity(alloc, versions.len())?;
     for version in versions {
         let parts = agreed(version.parts(), &patients, &studies, &series)?;
-        held.push(Version::fitting(parts))?;
+        held.push(Version::of(parts).unwrap())?;
     }
     Ok(Table::rising(held))
 }

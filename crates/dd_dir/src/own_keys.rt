@@ -11,7 +11,7 @@ ghost use Rattle.dd_dir.specs.OwnViews.{IsListed, Passes, listed_view};
 
 use crate::listing::Listed;
 use crate::own_checks::digest_in;
-use dd_elem::{Key, Memory, Uid};
+use dd_elem::{Key, KeyRefused, Memory, Uid};
 use dd_keys::{Parts, PatientKeys, SeriesKeys, StudyKeys, Version, value_at};
 use dd_layout::Row;
 use dd_layout::table::{
@@ -33,7 +33,11 @@ fn key(alloc: Global, row: &Row, set: &DataSet<'_>) -> Result<Key, Memory>
     requires { IsKey (held row.now (set_view set.now)) }
     ensures { IfOk result (λ key. key ≡ held row.now (set_view set.now)) }
 {
-    Key::fitting(alloc, held(row, set))
+    match Key::copy_of(alloc, held(row, set)) {
+        Ok(key) => Ok(key),
+        Err(KeyRefused::Memory) => Err(Memory),
+        Err(KeyRefused::TooLong) => unreachable!(),
+    }
 }
 
 /// The UID of a row.
@@ -115,5 +119,5 @@ pub(crate) fn version_of(alloc: Global, image: &Listed<'_, '_>) -> Result<Versio
     ensures { IfOk result (λ version. version ≡ version_of (listed_view image.now)) }
 {
     let parts = parts_of(alloc, image)?;
-    Ok(Version::fitting(parts))
+    Ok(Version::of(parts).unwrap())
 }

@@ -66,18 +66,6 @@ impl Key {
         }
     }
 
-    /// The key of bytes that are known to be one. They are not looked at again. Memory where a growth was
-    /// refused, which at most 22 bytes do not want.
-    pub fn fitting(alloc: Global, bytes: &[u8]) -> Result<Key, Memory>
-        requires { IsKey bytes.now }
-        ensures value { IfOk result (λ key. key ≡ bytes.now) }
-        ensures memory { IsErr result → most_in_place < length bytes.now }
-    {
-        Ok(Key {
-            held: Held::of(alloc, bytes)?,
-        })
-    }
-
     /// The bytes, without padding.
     pub fn as_bytes(&self) -> &[u8]
         ensures value { result.now ≡ self.now }

@@ -3,6 +3,7 @@
 ghost use Rattle.std.specs.Prelude.{◌≡◌, ◌≤◌, length, None, IfOk};
 ghost use Rattle.std.specs.Option.{option_copied};
 ghost use Rattle.dd_elem.specs.Clean.{clean_of};
+ghost use Rattle.dd_elem.specs.Key.{IsKey};
 ghost use Rattle.dd_set.specs.Views.{set_view};
 ghost use Rattle.dd_keys.specs.RowViews.{key_row_view, uid_row_view};
 ghost use Rattle.dd_keys.specs.Told.{AreFronts, told_key_fault, told_uid_fault, told_table_fault};
@@ -16,7 +17,7 @@ use crate::rows::{
     SERIES, SERIES_NUMBER, STUDY, STUDY_DATE, STUDY_ID, STUDY_TIME, UidRow,
 };
 use crate::told::{Shown, Values};
-use dd_elem::{Key, Memory, Tag, Uid, clean};
+use dd_elem::{Key, KeyRefused, Memory, Tag, Uid, clean};
 use dd_part10::Meta;
 use dd_set::{DataSet, Value};
 use std::alloc::Global;
@@ -35,6 +36,18 @@ pub fn value_at<'a>(set: &DataSet<'a>, tag: Tag) -> Option<&'a [u8]>
     Some(clean(bytes))
 }
 
+/// The key with these bytes.
+fn keep(alloc: Global, bytes: &[u8]) -> Result<Key, Memory>
+    requires { IsKey bytes.now }
+    ensures { IfOk result (λ key. key ≡ bytes.now) }
+{
+    match Key::copy_of(alloc, bytes) {
+        Ok(key) => Ok(key),
+        Err(KeyRefused::Memory) => Err(Memory),
+        Err(KeyRefused::TooLong) => unreachable!(),
+    }
+}
+
 impl KeyRow {
     /// The key that a data set gives.
     fn key<V: Values>(&self, alloc: Global, values: &V) -> Result<Key, Memory>
@@ -48,9 +61,9 @@ impl KeyRow {
             unreachable!()
         };
         if front.is_empty() {
-            Key::fitting(alloc, self.when_empty)
+            keep(alloc, self.when_empty)
         } else {
-            Key::fitting(alloc, front)
+            keep(alloc, front)
         }
     }
 }

@@ -69,8 +69,8 @@ impl Version {
         }
     }
 
-    /// The version of parts that are known to fit. They are not looked at again.
-    pub fn fitting(parts: Parts) -> Version
+    /// The version of parts that fit.
+    pub(crate) fn fitting(parts: Parts) -> Version
         requires { Fits parts }
         ensures { result ≡ parts }
     {

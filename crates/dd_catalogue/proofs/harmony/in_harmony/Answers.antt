@@ -1,4 +1,4 @@
-use Rattle.std.proofs.Common.{◌≡◌, [], ◌∷◌, ◌++◌, map, ◌∙◌, ap}
+use Rattle.std.proofs.Common.{◌≡◌, [], ◌∷◌, ◌++◌, map, ◌∙◌, ap, subst, IfOk}
 use Rattle.std.proofs.lemmas.List.{take_all}
 use Rattle.std.proofs.lemmas.List.Elements.{All-contains}
 use Rattle.dd_keys.specs.Fitting.{Fits}
@@ -7,8 +7,8 @@ use Rattle.dd_catalogue.specs.Harmony.{agreed, harmonised}
 use Rattle.dd_catalogue.proofs.Harmonies.{agreed_from, agreed_fits, harmonised_rises, item_member, map_more}
 use Rattle.dd_catalogue.proofs.harmony.in_harmony.Goals as goal
 
-pub fitting-requires : goal.fitting-requires
-fitting-requires c =
+pub unwrap-requires : goal.unwrap-requires
+unwrap-requires c =
     let m = c.args.versions.now in
     let i = item_member m c.loop-version.version-index c.version-item.result c.loop-version-test.true c.version-item.is
     in
@@ -16,8 +16,9 @@ fitting-requires c =
     c.in_ok-studies.studies c.in_ok-series.series
     c.in_ok-patients.ensures.table c.in_ok-studies.ensures.table c.in_ok-series.ensures.table c.parts.ensures.value i
     c.in_ok-parts.ensures in
-    rw is (agreed_fits m c.version-item.result
-    (λ w h. All-contains Fits m w c.in_ok-patients.ensures.fit (contained w m h)) i)
+    let fits : Fits c.in_ok-parts.parts = rw is (agreed_fits m c.version-item.result
+    (λ w h. All-contains Fits m w c.in_ok-patients.ensures.fit (contained w m h)) i) in
+    c.of.ensures.accepted.1 fits
 
 pub loop-version-preserved : goal.loop-version-preserved
 loop-version-preserved c =
@@ -31,7 +32,7 @@ loop-version-preserved c =
     map_more (agreed m) m c.loop-version.version-index c.version-item.result c.loop-version.held.items
     c.push.new.self.items c.loop-version-test.true c.version-item.is
     c.loop-version.invariant (c.in_ok-push.ensures.items
-    ∙ ap (λ x. c.loop-version.held.items ++ x ∷ []) (c.fitting.ensures ∙ is))
+    ∙ ap (λ x. c.loop-version.held.items ++ x ∷ []) (subst (λ r. IfOk r (λ v. v ≡ c.in_ok-parts.parts)) c.unwrap.ensures c.of.ensures.value ∙ is))
 
 pub rising-requires : goal.rising-requires
 rising-requires c =
