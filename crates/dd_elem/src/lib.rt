@@ -20,6 +20,7 @@ mod padding;
 mod set_id;
 mod sink;
 mod tag;
+pub mod tags;
 mod uid;
 mod uid_text;
 mod vr;

@@ -1,6 +1,6 @@
 //! The table of the elements that give a version its keys.
 
-use dd_elem::Tag;
+use dd_elem::{Tag, tags};
 
 /// An element of a file's data set that gives a version a key or a UID.
 #[derive(Clone, Copy)]
@@ -40,12 +40,9 @@ pub(crate) enum MetaUid {
 
 /// The row of a key: its tag, and what stands for an empty value.
 macro_rules! key_row {
-    ($group:literal, $element:literal, $when_empty:expr) => {
+    ($tag:expr, $when_empty:expr) => {
         KeyRow {
-            tag: Tag {
-                group: $group,
-                element: $element,
-            },
+            tag: $tag,
             when_empty: $when_empty,
         }
     };
@@ -53,71 +50,58 @@ macro_rules! key_row {
 
 /// The row of a UID: its tag, and the UID of group 0002 that it has to repeat.
 macro_rules! uid_row {
-    ($group:literal, $element:literal, $same_as:expr) => {
+    ($tag:expr, $same_as:expr) => {
         UidRow {
-            tag: Tag {
-                group: $group,
-                element: $element,
-            },
+            tag: $tag,
             same_as: $same_as,
         }
     };
 }
 
-/// The tag of a row.
-macro_rules! tag_of {
-    ($row:ident) => {
-        Tag {
-            group: $row.tag.group,
-            element: $row.tag.element,
-        }
-    };
-}
-
 /// Specific Character Set.
-pub(crate) const CHARSET: KeyRow = key_row!(0x0008, 0x0005, b"");
+pub(crate) const CHARSET: KeyRow = key_row!(tags::SPECIFIC_CHARACTER_SET, b"");
 
 /// SOP Class UID.
-pub(crate) const CLASS: UidRow = uid_row!(0x0008, 0x0016, Some(MetaUid::Class));
+pub(crate) const CLASS: UidRow = uid_row!(tags::SOP_CLASS_UID, Some(MetaUid::Class));
 
 /// SOP Instance UID.
-pub(crate) const INSTANCE: UidRow = uid_row!(0x0008, 0x0018, Some(MetaUid::Instance));
+pub(crate) const INSTANCE: UidRow = uid_row!(tags::SOP_INSTANCE_UID, Some(MetaUid::Instance));
 
 /// Study Date.
-pub(crate) const STUDY_DATE: KeyRow = key_row!(0x0008, 0x0020, b"19000101");
+pub(crate) const STUDY_DATE: KeyRow = key_row!(tags::STUDY_DATE, b"19000101");
 
 /// Study Time.
-pub(crate) const STUDY_TIME: KeyRow = key_row!(0x0008, 0x0030, b"000000");
+pub(crate) const STUDY_TIME: KeyRow = key_row!(tags::STUDY_TIME, b"000000");
 
 /// Accession Number.
-pub(crate) const ACCESSION: KeyRow = key_row!(0x0008, 0x0050, b"");
+pub(crate) const ACCESSION: KeyRow = key_row!(tags::ACCESSION_NUMBER, b"");
 
 /// Modality.
-pub(crate) const MODALITY: KeyRow = key_row!(0x0008, 0x0060, b"OT");
+pub(crate) const MODALITY: KeyRow = key_row!(tags::MODALITY, b"OT");
 
 /// Study Description.
-pub(crate) const DESCRIPTION: KeyRow = key_row!(0x0008, 0x1030, b"");
+pub(crate) const DESCRIPTION: KeyRow = key_row!(tags::STUDY_DESCRIPTION, b"");
 
 /// Patient's Name.
-pub(crate) const PATIENT_NAME: KeyRow = key_row!(0x0010, 0x0010, b"");
+pub(crate) const PATIENT_NAME: KeyRow = key_row!(tags::PATIENT_NAME, b"");
 
 /// Patient ID.
-pub(crate) const PATIENT_ID: KeyRow = key_row!(0x0010, 0x0020, b"NOID");
+pub(crate) const PATIENT_ID: KeyRow = key_row!(tags::PATIENT_ID, b"NOID");
 
 /// Study Instance UID.
-pub(crate) const STUDY: UidRow = uid_row!(0x0020, 0x000d, None);
+pub(crate) const STUDY: UidRow = uid_row!(tags::STUDY_INSTANCE_UID, None);
 
 /// Series Instance UID.
-pub(crate) const SERIES: UidRow = uid_row!(0x0020, 0x000e, None);
+pub(crate) const SERIES: UidRow = uid_row!(tags::SERIES_INSTANCE_UID, None);
 
 /// Study ID.
-pub(crate) const STUDY_ID: KeyRow = key_row!(0x0020, 0x0010, b"0");
+pub(crate) const STUDY_ID: KeyRow = key_row!(tags::STUDY_ID, b"0");
 
 /// Series Number.
-pub(crate) const SERIES_NUMBER: KeyRow = key_row!(0x0020, 0x0011, b"0");
+pub(crate) const SERIES_NUMBER: KeyRow = key_row!(tags::SERIES_NUMBER, b"0");
 
 /// Instance Number.
-pub(crate) const INSTANCE_NUMBER: KeyRow = key_row!(0x0020, 0x0013, b"0");
+pub(crate) const INSTANCE_NUMBER: KeyRow = key_row!(tags::INSTANCE_NUMBER, b"0");
 
 /// The rows in the order of their tags.
 pub(crate) const ROWS: [Row; 15] = [
@@ -140,19 +124,19 @@ pub(crate) const ROWS: [Row; 15] = [
 
 /// The tags of the rows, in their order.
 pub(crate) const WANTED: [Tag; 15] = [
-    tag_of!(CHARSET),
-    tag_of!(CLASS),
-    tag_of!(INSTANCE),
-    tag_of!(STUDY_DATE),
-    tag_of!(STUDY_TIME),
-    tag_of!(ACCESSION),
-    tag_of!(MODALITY),
-    tag_of!(DESCRIPTION),
-    tag_of!(PATIENT_NAME),
-    tag_of!(PATIENT_ID),
-    tag_of!(STUDY),
-    tag_of!(SERIES),
-    tag_of!(STUDY_ID),
-    tag_of!(SERIES_NUMBER),
-    tag_of!(INSTANCE_NUMBER),
+    tags::SPECIFIC_CHARACTER_SET,
+    tags::SOP_CLASS_UID,
+    tags::SOP_INSTANCE_UID,
+    tags::STUDY_DATE,
+    tags::STUDY_TIME,
+    tags::ACCESSION_NUMBER,
+    tags::MODALITY,
+    tags::STUDY_DESCRIPTION,
+    tags::PATIENT_NAME,
+    tags::PATIENT_ID,
+    tags::STUDY_INSTANCE_UID,
+    tags::SERIES_INSTANCE_UID,
+    tags::STUDY_ID,
+    tags::SERIES_NUMBER,
+    tags::INSTANCE_NUMBER,
 ];

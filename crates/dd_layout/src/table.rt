@@ -11,7 +11,7 @@ use crate::cell::Cell;
 use crate::field::Field;
 use crate::level::Level;
 use crate::record::PlanRecord;
-use dd_elem::{Tag, Vr};
+use dd_elem::{Tag, Vr, tags};
 use dd_keys::Parts;
 
 /// An element of the records of a level.
@@ -57,14 +57,21 @@ pub fn rows(level: Level) -> &'static [Row]
     }
 }
 
-/// A row: its tag, its value representation and what it holds.
+/// A row: its tag, or the two numbers of it, its value representation and what it holds.
 macro_rules! row {
     ($group:literal, $element:literal, $vr:ident, $field:ident) => {
-        Row {
-            tag: Tag {
+        row!(
+            Tag {
                 group: $group,
                 element: $element,
             },
+            $vr,
+            $field
+        )
+    };
+    ($tag:expr, $vr:ident, $field:ident) => {
+        Row {
+            tag: $tag,
             vr: Vr::$vr,
             field: Field::$field,
         }
@@ -96,22 +103,22 @@ pub const INSTANCE: Row = row!(0x0004, 0x1511, UI, Instance);
 pub const TRANSFER: Row = row!(0x0004, 0x1512, UI, Transfer);
 
 /// Specific Character Set.
-pub const CHARSET: Row = row!(0x0008, 0x0005, CS, Charset);
+pub const CHARSET: Row = row!(tags::SPECIFIC_CHARACTER_SET, CS, Charset);
 
 /// Study Date.
-pub const STUDY_DATE: Row = row!(0x0008, 0x0020, DA, StudyDate);
+pub const STUDY_DATE: Row = row!(tags::STUDY_DATE, DA, StudyDate);
 
 /// Study Time.
-pub const STUDY_TIME: Row = row!(0x0008, 0x0030, TM, StudyTime);
+pub const STUDY_TIME: Row = row!(tags::STUDY_TIME, TM, StudyTime);
 
 /// Accession Number.
-pub const ACCESSION: Row = row!(0x0008, 0x0050, SH, Accession);
+pub const ACCESSION: Row = row!(tags::ACCESSION_NUMBER, SH, Accession);
 
 /// Modality.
-pub const MODALITY: Row = row!(0x0008, 0x0060, CS, Modality);
+pub const MODALITY: Row = row!(tags::MODALITY, CS, Modality);
 
 /// Study Description.
-pub const DESCRIPTION: Row = row!(0x0008, 0x1030, LO, Description);
+pub const DESCRIPTION: Row = row!(tags::STUDY_DESCRIPTION, LO, Description);
 
 /// The creator of the private elements with the digest.
 pub const CREATOR: Row = row!(0x0009, 0x0010, LO, Creator);
@@ -120,25 +127,25 @@ pub const CREATOR: Row = row!(0x0009, 0x0010, LO, Creator);
 pub const DIGEST: Row = row!(0x0009, 0x1001, OB, Digest);
 
 /// Patient's Name.
-pub const PATIENT_NAME: Row = row!(0x0010, 0x0010, PN, PatientName);
+pub const PATIENT_NAME: Row = row!(tags::PATIENT_NAME, PN, PatientName);
 
 /// Patient ID.
-pub const PATIENT_ID: Row = row!(0x0010, 0x0020, LO, PatientId);
+pub const PATIENT_ID: Row = row!(tags::PATIENT_ID, LO, PatientId);
 
 /// Study Instance UID.
-pub const STUDY_UID: Row = row!(0x0020, 0x000d, UI, StudyUid);
+pub const STUDY_UID: Row = row!(tags::STUDY_INSTANCE_UID, UI, StudyUid);
 
 /// Series Instance UID.
-pub const SERIES_UID: Row = row!(0x0020, 0x000e, UI, SeriesUid);
+pub const SERIES_UID: Row = row!(tags::SERIES_INSTANCE_UID, UI, SeriesUid);
 
 /// Study ID.
-pub const STUDY_ID: Row = row!(0x0020, 0x0010, SH, StudyId);
+pub const STUDY_ID: Row = row!(tags::STUDY_ID, SH, StudyId);
 
 /// Series Number.
-pub const SERIES_NUMBER: Row = row!(0x0020, 0x0011, IS, SeriesNumber);
+pub const SERIES_NUMBER: Row = row!(tags::SERIES_NUMBER, IS, SeriesNumber);
 
 /// Instance Number.
-pub const NUMBER: Row = row!(0x0020, 0x0013, IS, Number);
+pub const NUMBER: Row = row!(tags::INSTANCE_NUMBER, IS, Number);
 
 /// The elements of a PATIENT record (PS3.3 section F.5.1).
 const PATIENT: [Row; 7] = [NEXT, IN_USE, LOWER, KIND, CHARSET, PATIENT_NAME, PATIENT_ID];
