@@ -17,7 +17,7 @@ use Rattle.dd_catalogue.specs.Versions.{instance_of, IsCatalogue, kept}
 
 -- ---- the test of a conflict decides it
 
-pub same_decides : (x y : List ℕ) → Decides (same x y) (x ≡ y)
+same_decides : (x y : List ℕ) → Decides (same x y) (x ≡ y)
 same_decides x y = (
   (λ e. exact_bytes x y (is_eq_Equal (bytes_cmp x y) e)),
   (λ e. ap is_eq (ap (λ z. bytes_cmp x z) (sym e) ∙ tied_itself nat_list_cmp_total x)),

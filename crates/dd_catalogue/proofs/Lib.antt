@@ -13,6 +13,5 @@ pub mod Places
 pub mod References
 pub mod Retold
 pub mod SameVersions
-pub mod Sameness
 pub mod TwoOwners
 pub mod Woven

@@ -17,7 +17,7 @@ use Rattle.dd_catalogue.specs.Clash.{same, splits, conflicts, pair_or, clash}
 use Rattle.dd_catalogue.specs.Owners.{Filing, uid_of, owner_of, filing_cmp, filing_total, filing_apart}
 use Rattle.dd_catalogue.specs.Owners.{is_of_another_owner, HasThoseOfTwoOwners, study_filing, series_filing}
 use Rattle.dd_catalogue.proofs.Places.{by_key}
-use Rattle.dd_catalogue.proofs.Sameness.{same_bytes}
+use Rattle.dd_elem.proofs.Sameness.{same_bytes}
 
 owners : Orders uid_of bytes_cmp filing_cmp
 owners = by_key uid_of filing_total filing_apart

@@ -79,7 +79,7 @@ fn pair_with(version: &Version, others: &[Version]) -> Option<(Uid, Uid)>
 }
 
 /// Do the versions have one study and different patients, or one series and different studies?
-#[tactic(auto, using(crate::proofs::Sameness::same_bytes, crate::proofs::Sameness::same_uid))]
+#[tactic(auto, using(dd_elem::proofs::Sameness::same_bytes, dd_elem::proofs::Sameness::same_uid))]
 fn conflicts(one: &Version, other: &Version) -> bool
     ensures { result ≡ conflicts one.now other.now }
 {

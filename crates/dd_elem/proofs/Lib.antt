@@ -5,6 +5,7 @@ pub mod FileIdForms
 pub mod Keys
 pub mod Known
 pub mod Letters
+pub mod Sameness
 pub mod SetIdForm
 pub mod SixDigits
 pub mod UidForm

@@ -57,13 +57,13 @@ pub(crate) fn shared(one: &Version, other: &Version) -> usize
 {
     let one = one.parts();
     let other = other.parts();
-    if one.patient.id.compare(&other.patient.id).is_ne() {
+    if one.patient.id != other.patient.id {
         0
-    } else if one.study.uid.compare(&other.study.uid).is_ne() {
+    } else if one.study.uid != other.study.uid {
         1
-    } else if one.series.uid.compare(&other.series.uid).is_ne() {
+    } else if one.series.uid != other.series.uid {
         2
-    } else if one.instance.compare(&other.instance).is_ne() {
+    } else if one.instance != other.instance {
         3
     } else {
         4
