@@ -61,6 +61,7 @@ pub fn front_cells(label: &Label, first: u32, last: u32) -> [Cell<'_>; 4]
     ]
 }
 
+/// An element with this tag, of this value representation and with this value.
 fn cell(tag: Tag, vr: Vr, value: CellValue<'_>) -> Cell<'_>
     ensures { result ≡ record { tag = tag; vr = vr; value = value.entry } }
 {
