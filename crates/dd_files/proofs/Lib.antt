@@ -1,3 +1,4 @@
 mod CopySteps
 pub mod FileLaws
 pub mod FilePaths
+mod Pieces

@@ -1,4 +1,5 @@
 pub mod Copying
 pub mod Files
 pub mod Paths
+pub mod Pieces
 pub mod ReadToEnd

@@ -4,7 +4,7 @@ ghost use Rattle.std.specs.Io.KnownBytes.{Consumes};
 ghost use Rattle.dd_elem.specs.Device.{Gives};
 ghost use Rattle.dd_files.specs.Copying.{IsCopied};
 
-use crate::piece::{PIECE, next_read};
+use crate::piece::{PIECE, PieceFault, read_piece};
 use dd_elem::{Read, Write};
 use dd_set::send;
 use sha2::{Digest, Sha256};
@@ -47,16 +47,12 @@ pub fn copy_image<R: Read, W: Write>(
     let mut left = limit;
     let mut buffer = [0u8; PIECE];
     loop {
-        let wanted = next_read(left);
-        let room = &mut buffer[..wanted];
-        match reader.read(room) {
-            Err(_) => return Err(CopyFault::Unread),
+        match read_piece(reader, left, &mut buffer) {
+            Err(PieceFault::Unread) => return Err(CopyFault::Unread),
+            Err(PieceFault::TooLong) => return Err(CopyFault::Changed),
             Ok(0) => return Ok(hasher.finalize()),
             Ok(n) => {
-                if n as u64 > left {
-                    return Err(CopyFault::Changed);
-                }
-                let piece = &room[..n];
+                let piece = &buffer[..n];
                 match send(piece, writer, 0) {
                     Ok(_) => {}
                     Err(_) => return Err(CopyFault::Unsent),

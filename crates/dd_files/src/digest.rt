@@ -5,7 +5,7 @@ ghost use Rattle.dd_elem.specs.Device.{Gives};
 ghost use Rattle.dd_files.specs.ReadToEnd.{IsDigest};
 ghost use Rattle.hex.specs.Hex.{encode_lower};
 
-use crate::piece::{PIECE, next_read};
+use crate::piece::{PIECE, read_piece};
 use dd_elem::Read;
 use sha2::{Digest, Sha256};
 
@@ -30,16 +30,11 @@ pub fn digest_of<R: Read>(reader: &mut R, limit: u64) -> Option<[u8; 32]>
     let mut left = limit;
     let mut buffer = [0u8; PIECE];
     loop {
-        let wanted = next_read(left);
-        let room = &mut buffer[..wanted];
-        match reader.read(room) {
+        match read_piece(reader, left, &mut buffer) {
             Err(_) => return None,
             Ok(0) => return Some(hasher.finalize()),
             Ok(n) => {
-                if n as u64 > left {
-                    return None;
-                }
-                hasher.update(&room[..n]);
+                hasher.update(&buffer[..n]);
                 left -= n as u64;
             }
         }

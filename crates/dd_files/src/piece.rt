@@ -1,13 +1,40 @@
-//! How much of a file is read at once.
-ghost use Rattle.std.specs.Prelude.{◌≡◌, ◌+◌, min};
+//! One piece of a file.
+ghost use Rattle.std.specs.Prelude.{◌+◌, ◌≤◌};
+ghost use Rattle.std.specs.Io.KnownBytes.{Consumes};
+ghost use Rattle.dd_elem.specs.Device.{Gives};
+ghost use Rattle.dd_files.specs.Pieces.{IsPiece, piece_given};
+
+use dd_elem::Read;
 
 /// The most bytes of one read.
 pub(crate) const PIECE: usize = 64 * 1024;
 
-/// How many bytes to ask for where `left` may still come: those and one more, which shows that there
-/// are too many, but no more than a piece.
-pub(crate) fn next_read(left: u64) -> usize
-    ensures { result ≡ min (left + 1) PIECE }
+/// Why no piece was read.
+#[derive(Clone, Copy)]
+pub(crate) enum PieceFault {
+    /// The reader failed.
+    Unread,
+    /// The reader gave more bytes than were left.
+    TooLong,
+}
+
+/// Reads the next piece into the front of the buffer and answers its length, which is 0 at the end.
+/// `left` bytes may still come: TooLong where the reader gives these and one more. It makes one read.
+pub(crate) fn read_piece<R: Read>(
+    reader: &mut R,
+    left: u64,
+    buffer: &mut [u8; PIECE],
+) -> Result<usize, PieceFault>
+    ensures gives { Gives R.has_given reader.old reader.new (piece_given result left buffer.new) }
+    ensures left { Consumes (R.remaining reader.old) (R.remaining reader.new) (piece_given result left buffer.new) }
+    ensures piece { IsPiece result left buffer.new (R.remaining reader.new)
+        (R.failures reader.old) (R.failures reader.new) }
+    ensures calls { R.calls reader.new ≤ R.calls reader.old + 1 }
 {
-    left.min(PIECE as u64 - 1) as usize + 1
+    let wanted = left.min(PIECE as u64 - 1) as usize + 1;
+    match reader.read(&mut buffer[..wanted]) {
+        Ok(n) if n as u64 > left => Err(PieceFault::TooLong),
+        Ok(n) => Ok(n),
+        Err(_) => Err(PieceFault::Unread),
+    }
 }

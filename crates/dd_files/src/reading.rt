@@ -4,7 +4,7 @@ ghost use Rattle.std.specs.Io.KnownBytes.{Consumes};
 ghost use Rattle.dd_elem.specs.Device.{Gives};
 ghost use Rattle.dd_files.specs.ReadToEnd.{IsWholeAnswer};
 
-use crate::piece::{PIECE, next_read};
+use crate::piece::{PIECE, PieceFault, read_piece};
 use dd_elem::Read;
 use std::alloc::Global;
 
@@ -34,17 +34,12 @@ pub fn read_whole<R: Read>(alloc: Global, reader: &mut R, limit: u64) -> Result<
     let mut left = limit;
     let mut buffer = [0u8; PIECE];
     loop {
-        let wanted = next_read(left);
-        let room = &mut buffer[..wanted];
-        match reader.read(room) {
-            Err(_) => return Err(ReadFault::Read),
+        match read_piece(reader, left, &mut buffer) {
+            Err(PieceFault::Unread) => return Err(ReadFault::Read),
+            Err(PieceFault::TooLong) => return Err(ReadFault::TooLong),
             Ok(0) => return Ok(all),
             Ok(n) => {
-                if n as u64 > left {
-                    return Err(ReadFault::TooLong);
-                }
-                let piece = &room[..n];
-                if all.extend_from_slice(piece).is_err() {
+                if all.extend_from_slice(&buffer[..n]).is_err() {
                     return Err(ReadFault::Memory);
                 }
                 left -= n as u64;

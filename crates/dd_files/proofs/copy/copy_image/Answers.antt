@@ -1,16 +1,18 @@
 -- What the last read gave stands behind what was read before.
-use Rattle.std.proofs.Common.{◌++◌, take, arith}
+use Rattle.std.proofs.Common.{◌+◌, ◌++◌, take, arith}
 use Rattle.std.proofs.lemmas.Grind.{common_steps}
 use Rattle.dd_elem.proofs.Known.{gives_more, consumes_more}
 use Rattle.dd_set.proofs.Going.{goes_then}
 use Rattle.dd_files.proofs.CopySteps.{front_goes, stops_amid}
 use Rattle.dd_files.proofs.copy.copy_image.Goals as goal
 
-pub returns-then-n-left-clause-copied : goal.returns-then-n-left-clause-copied
-returns-then-n-left-clause-copied g c = (
-  c.loop-hasher.invariant.given ++ take c.in-Ok.n c.read.new.buf,
-  gives_more _ _ _ _ _ _ c.loop-hasher.invariant.gave c.in-Ok.ensures.gives,
-  consumes_more _ _ _ _ _ c.loop-hasher.invariant.known c.in-Ok.ensures.left.0,
+pub returns-in-Err-TooLong-clause-copied : goal.returns-in-Err-TooLong-clause-copied
+returns-in-Err-TooLong-clause-copied g c = (
+  c.loop-hasher.invariant.given ++ take (c.loop-hasher.left + 1) c.read_piece.new.buffer,
+  gives_more _ _ _ _ _ _ c.loop-hasher.invariant.gave
+      (rw c.in-Err-TooLong.field-0-is at c.in-Err-TooLong.ensures.gives),
+  consumes_more _ _ _ _ _ c.loop-hasher.invariant.known
+      (rw c.in-Err-TooLong.field-0-is at c.in-Err-TooLong.ensures.left),
   (
     grind (arith, common_steps),
     grind (arith, common_steps),
@@ -18,24 +20,24 @@ returns-then-n-left-clause-copied g c = (
   ),
 )
 
-pub returns-in-Err-send-clause-copied : goal.returns-in-Err-send-clause-copied
-returns-in-Err-send-clause-copied g c = (
-  c.loop-hasher.invariant.given ++ take c.in-Ok.n c.read.new.buf,
+pub returns-in-Err-clause-copied : goal.returns-in-Err-clause-copied
+returns-in-Err-clause-copied g c = (
+  c.loop-hasher.invariant.given ++ take c.in-Ok.n c.read_piece.new.buffer,
   gives_more _ _ _ _ _ _ c.loop-hasher.invariant.gave c.in-Ok.ensures.gives,
-  consumes_more _ _ _ _ _ c.loop-hasher.invariant.known c.in-Ok.ensures.left.0,
+  consumes_more _ _ _ _ _ c.loop-hasher.invariant.known c.in-Ok.ensures.left,
   (
     grind (arith, common_steps),
     grind (arith, common_steps),
-    stops_amid _ _ _ _ _ _ _ _ _ c.loop-hasher.invariant.went c.in-Err-send.ensures.err,
+    stops_amid _ _ _ _ _ _ _ _ _ c.loop-hasher.invariant.went c.in-Err.ensures.err,
   ),
 )
 
 pub loop-hasher-preserved : goal.loop-hasher-preserved
 loop-hasher-preserved g c = record {
-  given = c.loop-hasher.invariant.given ++ take c.in-Ok.n c.read.new.buf;
+  given = c.loop-hasher.invariant.given ++ take c.in-Ok.n c.read_piece.new.buffer;
   counted = grind (arith, common_steps);
   gave = gives_more _ _ _ _ _ _ c.loop-hasher.invariant.gave c.in-Ok.ensures.gives;
-  known = consumes_more _ _ _ _ _ c.loop-hasher.invariant.known c.in-Ok.ensures.left.0;
+  known = consumes_more _ _ _ _ _ c.loop-hasher.invariant.known c.in-Ok.ensures.left;
   same = grind (arith, common_steps);
   calls = grind (arith, common_steps);
   hashed = c.update.ensures _ c.loop-hasher.invariant.hashed;

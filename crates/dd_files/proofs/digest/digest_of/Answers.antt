@@ -1,24 +1,27 @@
 -- What the last read gave stands behind what was read before.
-use Rattle.std.proofs.Common.{◌++◌, take, arith, inr}
+use Rattle.std.proofs.Common.{◌++◌, take, arith, Err}
 use Rattle.std.proofs.lemmas.Grind.{common_steps}
 use Rattle.dd_elem.proofs.Known.{gives_more, consumes_more}
+use Rattle.dd_files.proofs.Pieces.{read_amiss}
+use Rattle.dd_files.specs.Pieces.{piece_given}
 use Rattle.dd_files.proofs.digest.digest_of.Goals as goal
 
 pub loop-hasher-preserved : goal.loop-hasher-preserved
 loop-hasher-preserved g c = record {
-  given = c.loop-hasher.invariant.given ++ take c.in-Ok.n c.read.new.buf;
+  given = c.loop-hasher.invariant.given ++ take c.in-Ok.n c.read_piece.new.buffer;
   counted = grind (arith, common_steps);
   gave = gives_more _ _ _ _ _ _ c.loop-hasher.invariant.gave c.in-Ok.ensures.gives;
-  known = consumes_more _ _ _ _ _ c.loop-hasher.invariant.known c.in-Ok.ensures.left.0;
+  known = consumes_more _ _ _ _ _ c.loop-hasher.invariant.known c.in-Ok.ensures.left;
   same = grind (arith, common_steps);
   calls = grind (arith, common_steps);
   hashed = c.update.ensures _ c.loop-hasher.invariant.hashed;
 }
 
-pub returns-then-n-left-clause-digest : goal.returns-then-n-left-clause-digest
-returns-then-n-left-clause-digest g c = (
-  c.loop-hasher.invariant.given ++ take c.in-Ok.n c.read.new.buf,
-  gives_more _ _ _ _ _ _ c.loop-hasher.invariant.gave c.in-Ok.ensures.gives,
-  consumes_more _ _ _ _ _ c.loop-hasher.invariant.known c.in-Ok.ensures.left.0,
-  inr (grind (arith, common_steps), grind (arith, common_steps)),
+pub returns-in-Err-clause-digest : goal.returns-in-Err-clause-digest
+returns-in-Err-clause-digest g c = (
+  c.loop-hasher.invariant.given ++ piece_given (Err c.in-Err.field-0) c.loop-hasher.left c.read_piece.new.buffer,
+  gives_more _ _ _ _ _ _ c.loop-hasher.invariant.gave c.in-Err.ensures.gives,
+  consumes_more _ _ _ _ _ c.loop-hasher.invariant.known c.in-Err.ensures.left,
+  read_amiss _ _ _ _ _ _ _ _ c.loop-hasher.invariant.counted
+      (rw c.loop-hasher.invariant.same at c.in-Err.ensures.piece),
 )
