@@ -1,4 +1,4 @@
--- Conflicts: a study of two patients, or a series of two studies.
+-- Conflicts: a study of two patients, or a series of two studies (against PS3.3 section A.1.2).
 use Rattle.std.specs.Prelude.{◌≡◌, ◌≢◌, ◌⊎◌, ℕ, Bool, ◌&&◌, ◌||◌, not, List, [], ◌∷◌, Option, Some, None, Contains}
 use Rattle.std.specs.Prelude.{find}
 use Rattle.std.specs.Ordering.{is_eq}

@@ -1,4 +1,4 @@
--- What a study and a series are filed under.
+-- What a study and a series are filed under: a study is of one patient, a series of one study (PS3.3 section A.1.2).
 use Rattle.std.specs.Prelude.{◌≡◌, ℕ, Bool, not, true, List, is_some, unwrap_or, Contains}
 use Rattle.std.specs.Cmp.{IsTotalOrder}
 use Rattle.std.specs.Ordering.{on, then_cmp}

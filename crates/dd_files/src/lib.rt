@@ -1,8 +1,8 @@
 //! Files: the trait that a program reads and writes them by, where they stand in a folder, and what
 //! reading one to its end gives.
 //!
-//! Its promise: `copy_image`, `digest_of` and `read_whole` answer only of all that a reader gave, and say
-//! else whether the reader failed, the writer did, or there was more than the limit.
+//! Its promise: `copy_image`, `digest_of` and `read_whole` answer only of all that a reader gave; the first
+//! and the last say else whether the reader failed, the writer did, or there was more than the limit.
 #![tactic(auto)]
 
 mod copy;

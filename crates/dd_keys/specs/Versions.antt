@@ -1,4 +1,5 @@
--- What a file of a version is: a relation between a file's bytes and the parts of the version.
+-- What a file of a version is: a relation between a file's bytes and the parts of the version, its digest and the
+-- keys of the records of a directory (PS3.3 section F.5).
 use Rattle.std.specs.Prelude.{◌≡◌, ◌≤◌, ℕ, List, length, Contains, Some}
 use Rattle.sha2.specs.Sha256.{sha256}
 use Rattle.dd_elem.specs.Uid.{IsUid}

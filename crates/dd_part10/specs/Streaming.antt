@@ -1,4 +1,4 @@
--- What reading a file from a reader answers.
+-- What reading a file from a reader answers (PS3.10 section 7.1).
 use Rattle.std.specs.Prelude.{◌≡◌, ℕ, List, Option, Result, Ok, Err}
 use Rattle.dd_elem.specs.declared.tag.Tag.{Tag}
 use Rattle.dd_set.specs.declared.end.End.TheVariants.{Ended, Failed, TooLong}

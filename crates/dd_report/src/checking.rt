@@ -28,8 +28,8 @@ pub enum CheckFault {
 }
 
 /// Checks the files that the records of a directory name, in this folder, and tells what is found, depth
-/// first. Answers whether something is found. Memory where a growth is refused, and then all that was found
-/// before is told; Unsent where the output fails.
+/// first. Answers whether something is found. Memory where a growth is refused; Unsent where the output
+/// fails.
 pub fn check_records<F: Files, W: Write>(
     alloc: Global,
     folder: &str,
