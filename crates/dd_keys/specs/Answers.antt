@@ -1,5 +1,5 @@
 -- What reading a version answers: for the bytes of its file, and for a reader that gives them.
-use Rattle.std.specs.Prelude.{◌≡◌, ◌≢◌, ◌⊎◌, ◌+◌, ◌<◌, ◌≤◌, ℕ, List, length}
+use Rattle.std.specs.Prelude.{◌≡◌, ◌≢◌, ◌⊎◌, ◌+◌, ◌≤◌, ℕ, List, length}
 use Rattle.std.specs.Prelude.{Option, Some, Result, Err, IfOk, IfErr, MatchResult}
 use Rattle.std.specs.Io.KnownBytes.{IsAtEnd}
 use Rattle.dd_elem.specs.Device.{HasFailed, HasWorked}
@@ -8,7 +8,7 @@ use Rattle.dd_part10.specs.declared.stream_fault.StreamFault.TheVariants as faul
 use Rattle.dd_keys.specs.declared.fault.KeyFault.{KeyFault}
 use Rattle.dd_keys.specs.declared.fault.KeyFault.TheVariants.{File, Read, FileTooLong}
 use Rattle.dd_keys.specs.declared.parts.Parts.{Parts}
-use Rattle.dd_keys.specs.Faults.{IsWantOfMemory, SaysMemory, first_fault}
+use Rattle.dd_keys.specs.Faults.{IsWantInStream, IsWantOfMemory, SaysMemory, first_fault}
 use Rattle.dd_keys.specs.Versions.{IsVersion}
 
 -- the answer for the bytes of a file
@@ -36,12 +36,13 @@ pub record AnswersReader (limit : ℕ) (given : List ℕ) (left : Option (List �
   pub read : answer ≡ Err Read → (length given ≤ limit) × HasFailed old new
   -- it gave one byte more than the limit
   pub long : answer ≡ Err FileTooLong → (length given ≡ limit + 1) × HasWorked old new
-  -- memory is wanted only where it gave a byte, had not gone past the limit, and did not fail
-  pub memory : IfErr answer (λ fault. SaysMemory fault
-      → (0 < length given) × (length given ≤ limit) × HasWorked old new)
-  -- each other answer is that for the bytes that it gave to its end
+  -- each other answer comes once it was read to its end,
+  pub ended : answer ≢ Err Read → answer ≢ Err FileTooLong → IsReadWhole limit given left old new
+  -- and is that for the bytes that it gave,
   pub whole : answer ≢ Err Read → answer ≢ Err FileTooLong → IfErr answer (λ fault. ¬ SaysMemory fault)
-      → IsReadWhole limit given left old new × Answers given answer
+      → Answers given answer
+  -- or want of memory, where a stream of these bytes wants some
+  pub memory : IfErr answer (λ fault. SaysMemory fault → IsWantInStream given fault)
 
 -- the refusal of a file that was not read
 abbrev pub refusal_of : StreamFault → KeyFault
