@@ -1,6 +1,6 @@
 //! A file taken from a feed.
 
-ghost use Rattle.std.specs.Prelude.{◌≢◌, ◌≤◌, length, IfOk, Err};
+ghost use Rattle.std.specs.Prelude.{◌≡◌, ◌≢◌, ◌≤◌, [], length, IfOk, Err};
 ghost use Rattle.dd_set.specs.declared.fault.SetFault.TheVariants.{Memory};
 ghost use Rattle.dd_set.specs.Feeds.{Scans};
 ghost use Rattle.dd_part10.specs.declared.fault.FileFault.TheVariants as faults;
@@ -29,6 +29,8 @@ pub fn take_file<F: Feed>(alloc: Global, feed: &mut F, wanted: &[Tag]) -> Result
     // Whatever was still to come, this is what is told of it, or why it is refused.
     ensures found { Scans F.moves F.tells feed.old feed.new
         (λ bytes rest. FileTaken wanted.now result bytes) }
+    // The data set wants memory only where something is wanted.
+    ensures memory { result ≡ Err (faults.Set Memory) → wanted.now ≢ [] }
 {
     let (meta, syntax) = take_head(alloc, feed)?;
     let scan = take_data_set(alloc, feed, syntax, wanted)?;
@@ -41,6 +43,7 @@ pub fn take_file<F: Feed>(alloc: Global, feed: &mut F, wanted: &[Tag]) -> Result
 /// Takes all that stands before the data set, and answers what it says and the syntax of the data set.
 fn take_head<F: Feed>(alloc: Global, feed: &mut F) -> Result<(Meta, Syntax), FileFault>
     ensures found { Scans F.moves F.tells feed.old feed.new (λ bytes rest. HeadTaken result bytes rest) }
+    ensures memory { result ≢ Err (faults.Set Memory) }
 {
     take_prefix(feed)?;
     let meta = take_meta(alloc, feed)?;
@@ -107,6 +110,7 @@ fn take_data_set<F: Feed>(
     ensures found { Scans F.moves F.tells feed.old feed.new
         (λ bytes rest. SetTaken wanted.now result (set_in syntax bytes)) }
     ensures memory { result ≢ Err (faults.Meta Memory) }
+    ensures set { result ≡ Err (faults.Set Memory) → wanted.now ≢ [] }
 {
     let scan = take_set(alloc, feed, syntax, wanted).map_err(FileFault::Set)?;
     if !may_follow(scan.first) {

@@ -1,6 +1,7 @@
 //! The checks of the grammar, each over what a header says and over numbers alone.
 
-ghost use Rattle.std.specs.Prelude.{◌≡◌, ◌==◌, ℕ, List, length, unwrap_or, None};
+ghost use Rattle.std.specs.Prelude.{◌≡◌, ◌≢◌, ◌==◌, ℕ, List, length, unwrap_or, None, Err};
+ghost use Rattle.dd_set.specs.declared.fault.SetFault.TheVariants.{Memory};
 ghost use Rattle.dd_set.specs.Checks.{opened, sorted, reached};
 ghost use Rattle.dd_set.specs.Headers.{opening_at, tagged_at, item_opening};
 ghost use Rattle.dd_set.specs.Places.{shape_view};
@@ -103,7 +104,8 @@ pub fn element_opening(
     head: &[u8],
 ) -> Result<Opening, SetFault>
     requires { length head.now ≡ 8 }
-    ensures { (at : At) → opening_at syntax form low head.now at ≡ opened result at }
+    ensures exact { (at : At) → opening_at syntax form low head.now at ≡ opened result at }
+    ensures memory { result ≢ Err Memory }
 {
     if ends_set(form, head) {
         if long_in(head) != 0 {
@@ -125,7 +127,8 @@ pub fn element_opening(
 #[tactic(auto, unfolding(crate::specs::Reading::shape_at))]
 fn shape_opening(syntax: Syntax, tag: Tag, head: &[u8]) -> Result<Opening, SetFault>
     requires { length head.now ≡ 8 }
-    ensures { (at : At) → tagged_at syntax tag head.now at ≡ opened result at }
+    ensures exact { (at : At) → tagged_at syntax tag head.now at ≡ opened result at }
+    ensures memory { result ≢ Err Memory }
 {
     let Syntax::Explicit = syntax else {
         let (vr, length) = (None, long_in(head));
@@ -150,7 +153,8 @@ fn shape_opening(syntax: Syntax, tag: Tag, head: &[u8]) -> Result<Opening, SetFa
 #[tactic(auto, unfolding(crate::specs::Headers::item_opening))]
 pub fn item_opening(form: Length, head: &[u8]) -> Result<Option<u32>, SetFault>
     requires { length head.now ≡ 8 }
-    ensures { result ≡ item_opening form head.now }
+    ensures exact { result ≡ item_opening form head.now }
+    ensures memory { result ≢ Err Memory }
 {
     if ends_sequence(form, head) {
         if long_in(head) != 0 {
@@ -167,8 +171,9 @@ pub fn item_opening(form: Length, head: &[u8]) -> Result<Option<u32>, SetFault>
 /// What stands behind a header, where the enclosing length leaves so much.
 #[tactic(auto, unfolding(crate::specs::Reading::content_at))]
 pub fn sort_of(syntax: Syntax, shape: Shape, left: Option<u64>) -> Result<Sort, SetFault>
-    ensures { (sequence : SequenceReader) (bytes : List ℕ) → let at : At = record { left = left; bytes = bytes }
+    ensures exact { (sequence : SequenceReader) (bytes : List ℕ) → let at : At = record { left = left; bytes = bytes }
         in content_at sequence syntax (shape_view shape) at ≡ sorted sequence result at }
+    ensures memory { result ≢ Err Memory }
 {
     if shape.length == UNDEFINED_LENGTH {
         return match item_syntax(syntax, shape.vr, Length::Undefined) {
@@ -191,8 +196,9 @@ pub fn sort_of(syntax: Syntax, shape: Shape, left: Option<u64>) -> Result<Sort, 
 /// How far the set of an item of this length reaches, where the enclosing length leaves so much.
 #[tactic(auto, unfolding(crate::specs::Reading::part_at))]
 pub fn reach_of(n: u32, left: Option<u64>) -> Result<Reach, SetFault>
-    ensures { (set : SetReader) (syntax : Syntax) (bytes : List ℕ) → let at : At = record { left = left; bytes = bytes }
-        in part_at set syntax n at ≡ reached set syntax result at }
+    ensures exact { (set : SetReader) (syntax : Syntax) (bytes : List ℕ)
+        → let at : At = record { left = left; bytes = bytes } in part_at set syntax n at ≡ reached set syntax result at }
+    ensures memory { result ≢ Err Memory }
 {
     if n == UNDEFINED_LENGTH {
         return Ok(Reach::Open);

@@ -1,7 +1,8 @@
 //! Values, items and sets of a feed let go, with all checks of the grammar. `left` is what the nearest
 //! enclosing length leaves.
 
-ghost use Rattle.std.specs.Prelude.{◌≤◌};
+ghost use Rattle.std.specs.Prelude.{◌≢◌, ◌≤◌, Err};
+ghost use Rattle.dd_set.specs.declared.fault.SetFault.TheVariants.{Memory};
 ghost use Rattle.dd_set.specs.Feeds.{Scans};
 ghost use Rattle.dd_set.specs.Places.{shape_view};
 ghost use Rattle.dd_set.specs.Reading.{item_reader, sequence_with, set_with, content_at};
@@ -27,6 +28,7 @@ pub fn skip_content<F: Feed>(
         (content_at (sequence_with (item_reader levels)) syntax (shape_view shape)
         (record { left = left; bytes = bytes })) rest) }
     ensures fewer { F.most feed.new ≤ F.most feed.old }
+    ensures memory { result ≢ Err Memory }
 {
     match sort_of(syntax, shape, left)? {
         Sort::Bytes(n) => pass(feed, n, left),
@@ -51,6 +53,7 @@ fn skip_set<F: Feed>(
     ensures found { Scans F.moves F.tells feed.old feed.new (λ bytes rest. Skips result
         (set_with (item_reader levels) syntax form (record { left = left; bytes = bytes })) rest) }
     ensures fewer { F.most feed.new ≤ F.most feed.old }
+    ensures memory { result ≢ Err Memory }
 {
     let mut low = 0;
     'elements: loop {
@@ -75,6 +78,7 @@ fn skip_items<F: Feed>(
     ensures found { Scans F.moves F.tells feed.old feed.new (λ bytes rest. Skips result
         (sequence_with (item_reader levels) syntax form (record { left = left; bytes = bytes })) rest) }
     ensures fewer { F.most feed.new ≤ F.most feed.old }
+    ensures memory { result ≢ Err Memory }
 {
     'items: loop {
         let (length, behind) = item_front(feed, form, left)?;
@@ -97,6 +101,7 @@ fn skip_part<F: Feed>(
     ensures found { Scans F.moves F.tells feed.old feed.new (λ bytes rest. Skips result
         (item_reader levels syntax n (record { left = left; bytes = bytes })) rest) }
     ensures fewer { F.most feed.new ≤ F.most feed.old }
+    ensures memory { result ≢ Err Memory }
 {
     if levels == 0 {
         return Err(SetFault::TooDeep);

@@ -1,7 +1,8 @@
 //! Headers and bytes taken from a feed. `left` is what the nearest enclosing length leaves.
 
-ghost use Rattle.std.specs.Prelude.{◌+◌, ◌≤◌, ◌<◌, length, IfOk, OnSome, None, option_map};
+ghost use Rattle.std.specs.Prelude.{◌≢◌, ◌+◌, ◌≤◌, ◌<◌, length, IfOk, OnSome, None, Err, option_map};
 ghost use Rattle.dd_set.specs.Checks.{header_view};
+ghost use Rattle.dd_set.specs.declared.fault.SetFault.TheVariants.{Memory};
 ghost use Rattle.dd_set.specs.declared.syntax.Length.TheVariants.{Defined};
 ghost use Rattle.dd_set.specs.Feeds.{Scans};
 ghost use Rattle.dd_set.specs.Headers.{eight_at, head_at, long_length_at, front_at, item_front_at};
@@ -26,6 +27,7 @@ pub fn take<F: Feed>(
     ensures found { Scans F.moves F.tells feed.old feed.new (λ bytes rest.
         Takes room.new result (take_at (length room.new) (record { left = left; bytes = bytes })) rest) }
     ensures fewer { F.most feed.new ≤ F.most feed.old }
+    ensures memory { result ≢ Err Memory }
     ensures less { IfOk result (λ _. length room.new + F.most feed.new ≤ F.most feed.old) }
 {
     let n = room.len();
@@ -43,6 +45,7 @@ pub fn pass<F: Feed>(feed: &mut F, n: u32, left: Option<u64>) -> Result<Option<u
     ensures found { Scans F.moves F.tells feed.old feed.new (λ bytes rest.
         Skips result (take_at n (record { left = left; bytes = bytes })) rest) }
     ensures fewer { F.most feed.new ≤ F.most feed.old }
+    ensures memory { result ≢ Err Memory }
 {
     let n = u64::from(n);
     if leaves_fewer(left, n) {
@@ -62,6 +65,7 @@ fn eight<F: Feed>(
     ensures found { Scans F.moves F.tells feed.old feed.new (λ bytes rest.
         Finds (λ head. head) result (eight_at (record { left = left; bytes = bytes })) rest) }
     ensures fewer { F.most feed.new ≤ F.most feed.old }
+    ensures memory { result ≢ Err Memory }
     ensures some { IfOk result (λ x. OnSome x.0 (F.most feed.new < F.most feed.old)) }
 {
     let mut head = [0; HEADER_SIZE];
@@ -74,6 +78,7 @@ fn eight_or_end<F: Feed>(feed: &mut F) -> Result<(Option<[u8; HEADER_SIZE]>, Opt
     ensures found { Scans F.moves F.tells feed.old feed.new (λ bytes rest.
         Finds (λ head. head) result (head_at Defined (record { left = None; bytes = bytes })) rest) }
     ensures fewer { F.most feed.new ≤ F.most feed.old }
+    ensures memory { result ≢ Err Memory }
     ensures some { IfOk result (λ x. OnSome x.0 (F.most feed.new < F.most feed.old)) }
 {
     let mut head = [0; HEADER_SIZE];
@@ -97,6 +102,7 @@ fn head<F: Feed>(
     ensures found { Scans F.moves F.tells feed.old feed.new (λ bytes rest.
         Finds (λ head. head) result (head_at form (record { left = left; bytes = bytes })) rest) }
     ensures fewer { F.most feed.new ≤ F.most feed.old }
+    ensures memory { result ≢ Err Memory }
     ensures some { IfOk result (λ x. OnSome x.0 (F.most feed.new < F.most feed.old)) }
 {
     match ends_here(form, left) {
@@ -111,6 +117,7 @@ fn long<F: Feed>(feed: &mut F, left: Option<u64>) -> Result<(u32, Option<u64>), 
     ensures found { Scans F.moves F.tells feed.old feed.new (λ bytes rest.
         Finds (λ n. n) result (long_length_at (record { left = left; bytes = bytes })) rest) }
     ensures fewer { F.most feed.new ≤ F.most feed.old }
+    ensures memory { result ≢ Err Memory }
 {
     let mut length = [0; LONG_LENGTH_SIZE];
     let left = take(feed, &mut length, left)?;
@@ -129,6 +136,7 @@ pub fn front<F: Feed>(
     ensures found { Scans F.moves F.tells feed.old feed.new (λ bytes rest.
         Finds (option_map header_view) result (front_at syntax form low (record { left = left; bytes = bytes })) rest) }
     ensures fewer { F.most feed.new ≤ F.most feed.old }
+    ensures memory { result ≢ Err Memory }
     ensures some { IfOk result (λ x. OnSome x.0 (F.most feed.new < F.most feed.old)) }
 {
     let (head, left) = head(feed, form, left)?;
@@ -158,6 +166,7 @@ pub fn item_front<F: Feed>(
     ensures found { Scans F.moves F.tells feed.old feed.new (λ bytes rest.
         Finds (λ n. n) result (item_front_at form (record { left = left; bytes = bytes })) rest) }
     ensures fewer { F.most feed.new ≤ F.most feed.old }
+    ensures memory { result ≢ Err Memory }
     ensures some { IfOk result (λ x. OnSome x.0 (F.most feed.new < F.most feed.old)) }
 {
     let (head, left) = head(feed, form, left)?;

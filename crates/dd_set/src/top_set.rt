@@ -1,11 +1,13 @@
 //! A data set of a feed, of which only what is told of wanted elements is kept.
 
-ghost use Rattle.std.specs.Prelude.{◌≡◌, ◌≤◌, ◌++◌, Some, None, IfOk, IfErr, map, option_map, unwrap_or};
+ghost use Rattle.std.specs.Prelude.{◌≡◌, ◌≢◌, ◌≤◌, ◌++◌, [], Some, None, IsSome, IsTrue, Err, IfOk, IfErr};
+ghost use Rattle.std.specs.Prelude.{map, option_map, unwrap_or};
 ghost use Rattle.dd_set.specs.declared.fault.SetFault.TheVariants.{Memory};
 ghost use Rattle.dd_set.specs.Feeds.{Scans};
 ghost use Rattle.dd_set.specs.Places.{shape_view};
 ghost use Rattle.dd_set.specs.Reading.{item_reader, sequence_with, content_at, read_all};
-ghost use Rattle.dd_set.specs.Scan.{ScanGives, is_wanted, found_hit, value_told, told_of, told_where, noted, whole_with};
+ghost use Rattle.dd_set.specs.Scan.{ScanGives, is_wanted, found_hit, value_told, told_of, told_where, noted};
+ghost use Rattle.dd_set.specs.Scan.{whole_with};
 ghost use Rattle.dd_set.specs.Skips.{Tells};
 
 use crate::checks::{Shape, Sort, sort_of};
@@ -22,7 +24,8 @@ use std::alloc::Global;
 
 /// Takes the data set that the bytes of a feed spell, all that are still to come, with every check of
 /// `parse` in its order. Keeps its first tag, and of each wanted element of the set itself whether it
-/// is a sequence, or else the front of its value without the padding.
+/// is a sequence, or else the front of its value without the padding. Wants memory only where some
+/// element is wanted.
 #[tactic(auto, unfolding(crate::specs::Reading::read_all))]
 pub fn take_set<F: Feed>(
     alloc: Global,
@@ -34,6 +37,8 @@ pub fn take_set<F: Feed>(
     ensures found { Scans F.moves F.tells feed.old feed.new
         (λ bytes rest. ScanGives wanted.now result (read_all syntax bytes)) }
     ensures fewer { F.most feed.new ≤ F.most feed.old }
+    // Memory runs out only where something is wanted.
+    ensures memory { result ≡ Err Memory → wanted.now ≢ [] }
 {
     take_elements(alloc, feed, MAX_LEVELS, syntax, wanted)
 }
@@ -49,6 +54,7 @@ fn take_elements<F: Feed>(
     ensures found { Scans F.moves F.tells feed.old feed.new
         (λ bytes rest. ScanGives wanted.now result (whole_with (item_reader levels) syntax bytes)) }
     ensures fewer { F.most feed.new ≤ F.most feed.old }
+    ensures memory { result ≡ Err Memory → wanted.now ≢ [] }
 {
     let mut scan = Scan {
         first: None,
@@ -82,7 +88,7 @@ fn note(scan: &mut Scan, tag: Tag, value: Option<FoundValue>) -> Result<(), SetF
     ensures first { IfOk result (λ _. scan.new.first ≡ Some (unwrap_or scan.old.first tag)) }
     ensures found { IfOk result (λ _. map found_hit scan.new.found.items
         ≡ map found_hit scan.old.found.items ++ noted tag (option_map value_told value)) }
-    ensures memory { IfErr result (λ e. e ≡ Memory) }
+    ensures memory { IfErr result (λ e. (e ≡ Memory) × IsSome value) }
 {
     scan.first = Some(scan.first.unwrap_or(tag));
     let Some(value) = value else {
@@ -107,6 +113,8 @@ fn take_value<F: Feed>(
         (content_at (sequence_with (item_reader levels)) syntax (shape_view shape)
         (record { left = left; bytes = bytes })) rest) }
     ensures fewer { F.most feed.new ≤ F.most feed.old }
+    ensures kept { IfOk result (λ x. IsSome x.0 → IsTrue keeps) }
+    ensures memory { result ≡ Err Memory → IsTrue keeps }
 {
     if !keeps {
         let left = skip_content(feed, levels, syntax, shape, left)?;

@@ -207,7 +207,7 @@ part-returns-in_err-set-in-Closed-clause-exact t c =
     let p = err_from_is_err_and c.from_residual-in_err-set-in-Closed.result c.from_residual-in_err-set-in-Closed.ensures.1 in
     let deeper : c.args.levels ≡ suc (c.args.levels - 1) = omega arith in
     let set = set_with (item_reader (c.args.levels - 1)) in
-    let is = rw c.in-Closed.is at (c.in_ok-reach_of.ensures set c.args.syntax c.args.at.rest.now) in
+    let is = rw c.in-Closed.is at (c.in_ok-reach_of.ensures.exact set c.args.syntax c.args.at.rest.now) in
     let place : at_view c.within.result ≡ record { left = Some c.in-Closed.n; bytes = c.args.at.rest.now } = search rules in
     rw (p.1, p.2) (fails_along c.in_err-set-in-Closed.field-0.0 _ _ (subst (λ (a : At). Fails c.in_err-set-in-Closed.field-0.0 (set c.args.syntax Defined a)) place c.in_err-set-in-Closed.ensures.exact) (λ e failed.
     deeper_is c.args.levels (c.args.levels - 1) c.args.n c.args.syntax (at_view c.args.at) deeper ∙ is ∙ within_fails c.in-Closed.n (at_view c.args.at) (set c.args.syntax Defined) _ e failed))
@@ -218,7 +218,7 @@ part-returns-in_err-set-in-Closed-clause-memory t c = λ memory.
     let refused : c.in_err-set-in-Closed.field-0.0 ≡ Memory = fault_is _ _ _ p.1 p.2 memory in
     let deeper : c.args.levels ≡ suc (c.args.levels - 1) = omega arith in
     let set = unkept_set (unkept_item (c.args.levels - 1)) in
-    let is = rw c.in-Closed.is at (c.in_ok-reach_of.ensures set c.args.syntax c.args.at.rest.now) in
+    let is = rw c.in-Closed.is at (c.in_ok-reach_of.ensures.exact set c.args.syntax c.args.at.rest.now) in
     let place : at_view c.within.result ≡ record { left = Some c.in-Closed.n; bytes = c.args.at.rest.now } = search rules in
     deeper_unkept c.args.levels (c.args.levels - 1) c.args.n c.args.syntax (at_view c.args.at) deeper ∙ is
     ∙ within_fails c.in-Closed.n (at_view c.args.at) (set c.args.syntax Defined) _ Memory (subst (λ (a : At). set c.args.syntax Defined a ≡ Err Memory) place (c.in_err-set-in-Closed.ensures.memory (ap (λ e. Err e) refused)))
@@ -229,7 +229,7 @@ part-returns-in_ok-set-in-Closed-clause-exact t c =
     let seen : item_view (roll-Item (record { length = Defined; set = s })) ≡ record { length = Defined; set = set_view s } = search (rules, the_lemmas) in
     let deeper : c.args.levels ≡ suc (c.args.levels - 1) = omega arith in
     let set = set_with (item_reader (c.args.levels - 1)) in
-    let is = rw c.in-Closed.is at (c.in_ok-reach_of.ensures set c.args.syntax c.args.at.rest.now) in
+    let is = rw c.in-Closed.is at (c.in_ok-reach_of.ensures.exact set c.args.syntax c.args.at.rest.now) in
     let place : at_view c.within.result ≡ record { left = Some c.in-Closed.n; bytes = c.args.at.rest.now } = search rules in
     let behind : at_view c.behind.result ≡ record { left = less c.args.at.left c.in-Closed.n; bytes = c.in_ok-set-in-Closed.end.rest.now } = search rules in
     rw (seen, behind) (deeper_is c.args.levels (c.args.levels - 1) c.args.n c.args.syntax (at_view c.args.at) deeper ∙ is

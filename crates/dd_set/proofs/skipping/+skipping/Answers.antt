@@ -18,7 +18,7 @@ skip_content-returns-in_ok-skip_items-in-Closed-clause-found g t c =
     let sequence = sequence_with (item_reader c.args.levels) in
     let less_is : c.less.result ≡ less c.args.left c.in-Closed.n = c.less.ensures ∙ ap (less c.args.left) c.from-n.ensures in
     scans_same _ _ _ _ _ _ c.in_ok-skip_items-in-Closed.ensures.found (λ bytes rest few t h.
-    let is = rw c.in-Closed.is at (c.in_ok-n.ensures sequence bytes) in
+    let is = rw c.in-Closed.is at (c.in_ok-n.ensures.exact sequence bytes) in
     let read = rw c.from-n.ensures at h.1 in
     (items Defined h.0, rw less_is (is ∙ within_found c.in-Closed.n (record { left = c.args.left; bytes = bytes }) (sequence c.in-Closed.inner Defined) _ h.0 _ read)))
 
@@ -76,7 +76,7 @@ skip_part-returns-in_err-reach_of-clause-found g t c =
     let p = err_from_is_err_and c.from_residual.result c.from_residual.ensures.1 in
     let deeper : c.args.levels ≡ suc (c.args.levels - 1) = omega arith in
     rw (p.1, p.2) (scans_none _ _ _ _ (g.met.F.Feed.stays _) (λ rest k. fails_is c.in_err-reach_of.field-0.0 _
-    (deeper_is c.args.levels (c.args.levels - 1) c.args.n c.args.syntax (record { left = c.args.left; bytes = rest }) deeper ∙ c.in_err-reach_of.ensures (set_with (item_reader (c.args.levels - 1))) c.args.syntax rest)))
+    (deeper_is c.args.levels (c.args.levels - 1) c.args.n c.args.syntax (record { left = c.args.left; bytes = rest }) deeper ∙ c.in_err-reach_of.ensures.exact (set_with (item_reader (c.args.levels - 1))) c.args.syntax rest)))
 
 pub skip_part-returns-in_err-skip_set-in-Closed-clause-found : goal.skip_part-returns-in_err-skip_set-in-Closed-clause-found
 skip_part-returns-in_err-skip_set-in-Closed-clause-found g t c =
@@ -85,7 +85,7 @@ skip_part-returns-in_err-skip_set-in-Closed-clause-found g t c =
     let set = set_with (item_reader (c.args.levels - 1)) in
     rw (p.1, p.2) (scans_same _ _ _ _ _ _ c.in_err-skip_set-in-Closed.ensures.found (λ bytes rest k few h.
     let at : At = record { left = c.args.left; bytes = bytes } in
-    let is = rw c.in-Closed.is at (c.in_ok-reach_of.ensures set c.args.syntax bytes) in
+    let is = rw c.in-Closed.is at (c.in_ok-reach_of.ensures.exact set c.args.syntax bytes) in
     fails_along c.in_err-skip_set-in-Closed.field-0.0 _ _ (rw c.from-n.ensures at h) (λ e failed.
     deeper_is c.args.levels (c.args.levels - 1) c.args.n c.args.syntax at deeper ∙ is ∙ within_fails c.in-Closed.n at (set c.args.syntax Defined) _ e failed)))
 
@@ -95,7 +95,7 @@ skip_part-returns-in-Open-clause-found g t c =
     let set = set_with (item_reader (c.args.levels - 1)) in
     scans_same _ _ _ _ _ _ c.skip_set.ensures.found (λ bytes rest k few h.
     let at : At = record { left = c.args.left; bytes = bytes } in
-    let is = rw c.in-Open.is at (c.in_ok-reach_of.ensures set c.args.syntax bytes) in
+    let is = rw c.in-Open.is at (c.in_ok-reach_of.ensures.exact set c.args.syntax bytes) in
     rw (deeper_is c.args.levels (c.args.levels - 1) c.args.n c.args.syntax at deeper, is) (skips_along (λ (s : Elements). record { length = Undefined; set = s }) _ _ rest h))
 
 pub skip_part-returns-in_ok-skip_set-in-Closed-clause-found : goal.skip_part-returns-in_ok-skip_set-in-Closed-clause-found
@@ -105,7 +105,7 @@ skip_part-returns-in_ok-skip_set-in-Closed-clause-found g t c =
     let less_is : c.less.result ≡ less c.args.left c.in-Closed.n = c.less.ensures ∙ ap (less c.args.left) c.from-n.ensures in
     scans_same _ _ _ _ _ _ c.in_ok-skip_set-in-Closed.ensures.found (λ bytes rest k few h.
     let at : At = record { left = c.args.left; bytes = bytes } in
-    let is = rw c.in-Closed.is at (c.in_ok-reach_of.ensures set c.args.syntax bytes) in
+    let is = rw c.in-Closed.is at (c.in_ok-reach_of.ensures.exact set c.args.syntax bytes) in
     let read = rw c.from-n.ensures at h.1 in
     (record { length = Defined; set = h.0 }, rw less_is (deeper_is c.args.levels (c.args.levels - 1) c.args.n c.args.syntax at deeper ∙ is ∙ within_found c.in-Closed.n at (set c.args.syntax Defined) _ h.0 _ read)))
 

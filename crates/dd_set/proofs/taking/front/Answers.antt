@@ -26,7 +26,7 @@ returns-in_err-element_opening-clause-found g c =
     let at : List ℕ → At = λ bytes. record { left = c.args.left; bytes = bytes } in
     rw (p.1, p.2) (scans_same _ _ _ _ _ _ c.in_ok-head.ensures.found (λ bytes rest t few h.
     fails_is c.in_err-element_opening.field-0.0 _
-    (front_opens c.args.syntax c.args.form c.args.low (at bytes) c.in-Some.head _ (rw c.in-Some.is at h) ∙ c.in_err-element_opening.ensures _)))
+    (front_opens c.args.syntax c.args.form c.args.low (at bytes) c.in-Some.head _ (rw c.in-Some.is at h) ∙ c.in_err-element_opening.ensures.exact _)))
 
 pub returns-in_err-length-in-Long-clause-found : goal.returns-in_err-length-in-Long-clause-found
 returns-in_err-length-in-Long-clause-found g c =
@@ -34,7 +34,7 @@ returns-in_err-length-in-Long-clause-found g c =
     let at : List ℕ → At = λ bytes. record { left = c.args.left; bytes = bytes } in
     rw (p.1, p.2) (scans_then _ _ g.met.F.Feed.goes g.met.F.Feed.told _ _ _ _ _ _ c.in_ok-head.ensures.found c.in_err-length-in-Long.ensures.found
     (λ bytes mid rest few fewer h k. fails_along c.in_err-length-in-Long.field-0.0 _ _ k (λ e failed.
-    let opens = rw c.in-Long.is at (c.in_ok-element_opening.ensures (record { left = c.in_ok-head.left; bytes = mid })) in
+    let opens = rw c.in-Long.is at (c.in_ok-element_opening.ensures.exact (record { left = c.in_ok-head.left; bytes = mid })) in
     front_opens c.args.syntax c.args.form c.args.low (at bytes) c.in-Some.head _ (rw c.in-Some.is at h) ∙ opens ∙ bind_fails _ _ e failed)))
 
 pub returns-in-End-clause-found : goal.returns-in-End-clause-found
@@ -42,19 +42,19 @@ returns-in-End-clause-found g c =
     let at : List ℕ → At = λ bytes. record { left = c.args.left; bytes = bytes } in
     scans_same _ _ _ _ _ _ c.in_ok-head.ensures.found (λ bytes rest t few h.
     front_opens c.args.syntax c.args.form c.args.low (at bytes) c.in-Some.head _ (rw c.in-Some.is at h)
-    ∙ rw c.in-End.is at (c.in_ok-element_opening.ensures (record { left = c.in_ok-head.left; bytes = rest })))
+    ∙ rw c.in-End.is at (c.in_ok-element_opening.ensures.exact (record { left = c.in_ok-head.left; bytes = rest })))
 
 pub returns-in-Whole-clause-found : goal.returns-in-Whole-clause-found
 returns-in-Whole-clause-found g c =
     let at : List ℕ → At = λ bytes. record { left = c.args.left; bytes = bytes } in
     scans_same _ _ _ _ _ _ c.in_ok-head.ensures.found (λ bytes rest t few h.
     front_opens c.args.syntax c.args.form c.args.low (at bytes) c.in-Some.head _ (rw c.in-Some.is at h)
-    ∙ rw c.in-Whole.is at (c.in_ok-element_opening.ensures (record { left = c.in_ok-head.left; bytes = rest })))
+    ∙ rw c.in-Whole.is at (c.in_ok-element_opening.ensures.exact (record { left = c.in_ok-head.left; bytes = rest })))
 
 pub returns-in_ok-length-in-Long-clause-found : goal.returns-in_ok-length-in-Long-clause-found
 returns-in_ok-length-in-Long-clause-found g c =
     let at : List ℕ → At = λ bytes. record { left = c.args.left; bytes = bytes } in
     scans_then _ _ g.met.F.Feed.goes g.met.F.Feed.told _ _ _ _ _ _ c.in_ok-head.ensures.found c.in_ok-length-in-Long.ensures.found
     (λ bytes mid rest few fewer h k.
-    let opens = rw c.in-Long.is at (c.in_ok-element_opening.ensures (record { left = c.in_ok-head.left; bytes = mid })) in
+    let opens = rw c.in-Long.is at (c.in_ok-element_opening.ensures.exact (record { left = c.in_ok-head.left; bytes = mid })) in
     front_opens c.args.syntax c.args.form c.args.low (at bytes) c.in-Some.head _ (rw c.in-Some.is at h) ∙ opens ∙ bind_made _ _ _ k)

@@ -20,7 +20,7 @@ returns-in_err-item_opening-in-Some-clause-found g c =
     let at : List ℕ → At = λ bytes. record { left = c.args.left; bytes = bytes } in
     rw (p.1, p.2) (scans_same _ _ _ _ _ _ c.in_ok-head.ensures.found (λ bytes rest t few h.
     fails_is c.in_err-item_opening-in-Some.field-0.0 _
-    (item_front_opens c.args.form (at bytes) c.in-Some.head _ (rw c.in-Some.is at h) ∙ bind_fails _ _ _ (sym c.item_opening.ensures ∙ c.in_err-item_opening-in-Some.was))))
+    (item_front_opens c.args.form (at bytes) c.in-Some.head _ (rw c.in-Some.is at h) ∙ bind_fails _ _ _ (sym c.item_opening.ensures.exact ∙ c.in_err-item_opening-in-Some.was))))
 
 pub returns-in-None-clause-found : goal.returns-in-None-clause-found
 returns-in-None-clause-found g c =
@@ -31,4 +31,4 @@ pub returns-in_ok-item_opening-in-Some-clause-found : goal.returns-in_ok-item_op
 returns-in_ok-item_opening-in-Some-clause-found g c =
     let at : List ℕ → At = λ bytes. record { left = c.args.left; bytes = bytes } in
     scans_same _ _ _ _ _ _ c.in_ok-head.ensures.found (λ bytes rest t few h.
-    item_front_opens c.args.form (at bytes) c.in-Some.head _ (rw c.in-Some.is at h) ∙ bind_made _ _ _ (sym c.item_opening.ensures ∙ c.in_ok-item_opening-in-Some.was))
+    item_front_opens c.args.form (at bytes) c.in-Some.head _ (rw c.in-Some.is at h) ∙ bind_made _ _ _ (sym c.item_opening.ensures.exact ∙ c.in_ok-item_opening-in-Some.was))

@@ -71,6 +71,6 @@ returns-in_err-value-clause-found g c =
 pub returns-in_err-note-clause-found : goal.returns-in_err-note-clause-found
 returns-in_err-note-clause-found g c =
     let p = err_from_is_err_and c.from_residual-in_err-note.result c.from_residual-in_err-note.ensures.1 in
-    rw (p.1, p.2, c.in_err-note.ensures.memory) (scans_then _ _ g.met.F.Feed.goes g.met.F.Feed.told _ _ _ _ _ _ c.elements.invariant.goes
+    rw (p.1, p.2, c.in_err-note.ensures.memory.0) (scans_then _ _ g.met.F.Feed.goes g.met.F.Feed.told _ _ _ _ _ _ c.elements.invariant.goes
     (scans_then _ _ g.met.F.Feed.goes g.met.F.Feed.told _ _ _ _ _ (λ all rest. Unit {0}) c.in_ok-header.ensures.found c.in_ok-value.ensures.found (λ all mid rest few fewer h k. tt))
     (λ all mid rest few fewer go h. tt))

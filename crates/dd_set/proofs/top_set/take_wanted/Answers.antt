@@ -9,7 +9,7 @@ pub returns-in-Bytes-clause-found : goal.returns-in-Bytes-clause-found
 returns-in-Bytes-clause-found g c =
     let reader = sequence_with (item_reader c.args.levels) in
     scans_same _ _ _ _ _ _ c.take_cleaned.ensures.found (λ all rest t few h.
-    let is = rw c.in-Bytes.is at (c.in_ok-n.ensures reader all) in
+    let is = rw c.in-Bytes.is at (c.in_ok-n.ensures.exact reader all) in
     rw is (tells_bytes _ _ rest h))
 
 pub returns-in_err-left-clause-found : goal.returns-in_err-left-clause-found
@@ -22,4 +22,4 @@ returns-clause-found g c =
     let reader = sequence_with (item_reader c.args.levels) in
     scans_same _ _ _ _ _ _ c.in_ok-left.ensures.found (λ all rest t few h.
     let at : At = record { left = c.args.left; bytes = all } in
-    (h.0, items_told reader c.in_ok-n.field-0 at _ h.0 c.in_default.not-Bytes (sym (c.in_ok-n.ensures reader all) ∙ h.1), h.1))
+    (h.0, items_told reader c.in_ok-n.field-0 at _ h.0 c.in_default.not-Bytes (sym (c.in_ok-n.ensures.exact reader all) ∙ h.1), h.1))
