@@ -14,7 +14,11 @@ use Rattle.dd_set.specs.declared.syntax.Syntax.{Syntax}
 use Rattle.dd_set.specs.declared.syntax.Syntax.TheVariants.{Explicit, Implicit}
 use Rattle.dd_set.specs.Elements.{Elements, no_elements, element, Content, bytes, items, Items, no_items, item, Entry, Part}
 use Rattle.dd_set.specs.Spelling.{undefined_length, delimiter_group, tag_text, item_tag_text, item_end_text, sequence_end_text, length_of, closed, elements_text, content_text, items_text, FitsLong, length_limit, explicit_item_syntax, item_syntax, HoldsBytes, max_levels, AreElements, IsContent, AreItems}
-use Rattle.dd_set.specs.Reading.{◌>>=◌, At, Reads, leaves_fewer, take_at, long_of, is_item, is_over, Shape, shape_at, SequenceReader, SetReader, ItemReader, within, undefined_at, defined_at, content_at, body_at, ends_set, element_at, next_elements, elements_at, ends_sequence, item_at, next_items, items_at, part_at, sequence_with, set_with, item_reader, read_all}
+use Rattle.dd_set.specs.Reading.{◌>>=◌, At, Reads, leaves_fewer, take_at, long_of, is_item, is_over, Shape, shape_at}
+use Rattle.dd_set.specs.Reading.{SequenceReader, SetReader, ItemReader, within, undefined_at, defined_at, content_at}
+use Rattle.dd_set.specs.Reading.{ends_set, element_at, next_elements, elements_at, ends_sequence, item_at}
+use Rattle.dd_set.specs.Reading.{next_items, items_at, part_at, sequence_with, set_with, item_reader, read_all}
+use Rattle.dd_set.proofs.Cut.{body_at, whole_element, element_is, whole_item, item_is}
 use Rattle.dd_set.proofs.Steps.{done, long_again}
 use Rattle.dd_set.proofs.Taken.{closed-append}
 use Rattle.dd_set.proofs.HeaderLaws.{HasForm, width_limit, limit_within}
@@ -175,7 +179,7 @@ module _ (d : ℕ) (sequence : SequenceReader) (law : SequenceAgain d sequence) 
 
   -- an element
   pub element_again : (syntax : Syntax) (form : Length) (low : ℕ) (e : Entry) (left : Option ℕ) (rest : List ℕ) → IsEntry syntax d low e → element_at sequence syntax form low (before left (entry_text e) rest) ≡ Ok (Some e, behind left rest)
-  unfolding element_at
+  unfolding whole_element
   element_again syntax form low e left rest h =
       let s = shape_again syntax e.tag e.vr (content_length e.content) (content_form syntax d e.vr e.content h.4) (content_width syntax d e.vr e.content h.4) in
       let head : List ℕ = tag_text e.tag ++ s.first in
@@ -185,7 +189,8 @@ module _ (d : ℕ) (sequence : SequenceReader) (law : SequenceAgain d sequence) 
       let eight : length head ≡ 8 = let f = s.four in omega (arith, f) in
       let some_bytes : 0 < length (head ++ tail) = omega (arith, length-append head tail) in
       let took : take_at 8 start ≡ Ok (head, middle) = ap (λ (at : At). take_at 8 at) (before-append left head tail rest) ∙ take_again 8 (more left (length tail)) head (tail ++ rest) eight in
-      ap (λ (y : List ℕ). element_at sequence syntax form low (before left y rest)) (entry_split syntax e s)
+      element_is sequence syntax form low _
+      ∙ ap (λ (y : List ℕ). whole_element sequence syntax form low (before left y rest)) (entry_split syntax e s)
       ∙ past (is_over form start) (done (None, start)) _ (over_not form left (head ++ tail) rest some_bytes)
       ∙ onward (take_at 8 start) (head, middle) (λ y. if ends_set form y.0
       then (if long_of y.0 == 0 then done (None, y.1) else Err BadDelimiter)
@@ -195,12 +200,14 @@ module _ (d : ℕ) (sequence : SequenceReader) (law : SequenceAgain d sequence) 
 
   -- the end of a set
   pub set_end_again : (syntax : Syntax) (form : Length) (low : ℕ) (left : Option ℕ) (rest : List ℕ) → Closes form left rest → element_at sequence syntax form low (before left (closed form item_end_text []) rest) ≡ Ok (None, behind left rest)
-  unfolding element_at
+  unfolding whole_element
   set_end_again syntax Defined low left rest over =
-      ap (λ (at : At). element_at sequence syntax Defined low at) (before-none left rest)
+      element_is sequence syntax Defined low _
+      ∙ ap (λ (at : At). whole_element sequence syntax Defined low at) (before-none left rest)
       ∙ into (is_over Defined (behind left rest)) (done (None, behind left rest)) _ over
   set_end_again syntax Undefined low left rest over =
-      onward (take_at 8 (before left item_end_text rest)) (item_end_text, behind left rest) (λ y. if ends_set Undefined y.0
+      element_is sequence syntax Undefined low _
+      ∙ onward (take_at 8 (before left item_end_text rest)) (item_end_text, behind left rest) (λ y. if ends_set Undefined y.0
       then (if long_of y.0 == 0 then done (None, y.1) else Err BadDelimiter)
       else (body_at sequence syntax low y.0 y.1 >>= λ x. done (Some x.0, x.1))) (take_again 8 left item_end_text rest refl)
 
@@ -232,7 +239,7 @@ part_wide syntax (suc d) p h = fits_width p.length (elements_text p.set) h.1
 module _ (d : ℕ) (part : ItemReader) (law : PartAgain d part) where
   -- an item with its header
   pub item_again : (syntax : Syntax) (form : Length) (p : Part) (left : Option ℕ) (rest : List ℕ) → IsPart syntax d p → item_at part syntax form (before left (part_text p) rest) ≡ Ok (Some p, behind left rest)
-  unfolding item_at
+  unfolding whole_item
   item_again syntax form p left rest h =
       let head : List ℕ = item_tag_text ++ little_bytes 4 (part_length p) in
       let tail : List ℕ = part_body p in
@@ -240,7 +247,8 @@ module _ (d : ℕ) (part : ItemReader) (law : PartAgain d part) where
       let middle : At = before left tail rest in
       let took : take_at 8 start ≡ Ok (head, middle) = ap (λ (at : At). take_at 8 at) (before-append left head tail rest) ∙ take_again 8 (more left (length tail)) head (tail ++ rest) refl in
       let number : long_of head ≡ part_length p = long_again (part_length p) [] (part_wide syntax d p h) in
-      past (is_over form start) (done (None, start)) _ (over_not form left (head ++ tail) rest (omega arith))
+      item_is part syntax form _
+      ∙ past (is_over form start) (done (None, start)) _ (over_not form left (head ++ tail) rest (omega arith))
       ∙ onward (take_at 8 start) (head, middle) (λ y. if ends_sequence form y.0
       then (if long_of y.0 == 0 then done (None, y.1) else Err BadDelimiter)
       else (if is_item y.0 then (part syntax (long_of y.0) y.1 >>= λ x. done (Some x.0, x.1)) else Err UnexpectedTag)) took
@@ -253,12 +261,14 @@ module _ (d : ℕ) (part : ItemReader) (law : PartAgain d part) where
 
   -- the end of a sequence
   pub sequence_end_again : (syntax : Syntax) (form : Length) (left : Option ℕ) (rest : List ℕ) → Closes form left rest → item_at part syntax form (before left (closed form sequence_end_text []) rest) ≡ Ok (None, behind left rest)
-  unfolding item_at
+  unfolding whole_item
   sequence_end_again syntax Defined left rest over =
-      ap (λ (at : At). item_at part syntax Defined at) (before-none left rest)
+      item_is part syntax Defined _
+      ∙ ap (λ (at : At). whole_item part syntax Defined at) (before-none left rest)
       ∙ into (is_over Defined (behind left rest)) (done (None, behind left rest)) _ over
   sequence_end_again syntax Undefined left rest over =
-      onward (take_at 8 (before left sequence_end_text rest)) (sequence_end_text, behind left rest) (λ y. if ends_sequence Undefined y.0
+      item_is part syntax Undefined _
+      ∙ onward (take_at 8 (before left sequence_end_text rest)) (sequence_end_text, behind left rest) (λ y. if ends_sequence Undefined y.0
       then (if long_of y.0 == 0 then done (None, y.1) else Err BadDelimiter)
       else (if is_item y.0 then (part syntax (long_of y.0) y.1 >>= λ x. done (Some x.0, x.1)) else Err UnexpectedTag)) (take_again 8 left sequence_end_text rest refl)
 

@@ -1,12 +1,17 @@
--- An element and an item are a header and what stands behind it.
-use Rattle.std.proofs.Common.{◌≡◌, ℕ, Bool, true, false, if◌then◌else◌, List, Some, None, Ok, Err, refl, ◌==◌}
+-- An element and an item in one stretch, as proofs over whole texts walk them: a header and what stands behind it.
+use Rattle.std.proofs.Common.{◌≡◌, ℕ, Bool, true, false, if◌then◌else◌, List, Option, Some, None, Ok, Err, refl, sym}
+use Rattle.std.proofs.Common.{◌==◌, nat_lt}
 use Rattle.dd_elem.specs.declared.tag.Tag.{Tag}
+use Rattle.dd_elem.specs.Tag.{number_of}
 use Rattle.dd_set.specs.declared.fault.SetFault.TheVariants.{Order, UnexpectedTag, BadDelimiter}
 use Rattle.dd_set.specs.declared.syntax.Length.{Length}
 use Rattle.dd_set.specs.declared.syntax.Syntax.{Syntax}
-use Rattle.dd_set.specs.Elements.{Entry, Content}
-use Rattle.dd_set.specs.Headers.{there, header_with, head_at, header_at, opening_at, behind_head, front_at, element_behind, item_opening, behind_item_head, item_front_at, item_behind}
-use Rattle.dd_set.specs.Reading.{At, Reads, ◌>>=◌, Shape, SequenceReader, ItemReader, take_at, tag_of, long_of, is_item, is_over, ends_set, ends_sequence, shape_at, content_at, body_at, element_at, item_at}
+use Rattle.dd_set.specs.Elements.{Entry, Part, Content}
+use Rattle.dd_set.specs.Reading.{there, header_with, head_at, header_at, opening_at, behind_head, front_at}
+use Rattle.dd_set.specs.Reading.{element_behind, item_opening, behind_item_head, item_front_at, item_behind, At, Reads}
+use Rattle.dd_set.specs.Reading.{◌>>=◌, Shape, SequenceReader, ItemReader, take_at, tag_of, long_of, is_item, is_over}
+use Rattle.dd_set.specs.Reading.{ends_set, ends_sequence, shape_at, content_at, element_at, item_at}
+use Rattle.dd_set.specs.Spelling.{delimiter_group}
 
 abbrev entry_with : Tag → Shape → Content × At → Reads Entry
 entry_with tag shape x = Ok (record { tag = tag; vr = shape.vr; content = x.0 }, x.1)
@@ -15,6 +20,30 @@ entry_with tag shape x = Ok (record { tag = tag; vr = shape.vr; content = x.0 },
 behind_content : (tag : Tag) (shape : Shape) (r : Reads Content) → ((r >>= entry_with tag shape) >>= there) ≡ (r >>= λ x. Ok (Some (record { tag = tag; vr = shape.vr; content = x.0 }), x.1))
 behind_content tag shape (Ok x) = refl
 behind_content tag shape (Err e) = refl
+
+-- an element whose first eight bytes are `head`, with a tag not below `low`
+unfoldable pub body_at : SequenceReader → Syntax → ℕ → List ℕ → At → Reads Entry
+body_at sequence syntax low head at =
+    if (tag_of head).group == delimiter_group then Err UnexpectedTag
+    else (if nat_lt (number_of (tag_of head)) low then Err Order
+    else (shape_at syntax head at
+    >>= λ shape. content_at sequence syntax shape.0 shape.1 >>= entry_with (tag_of head) shape.0))
+
+-- the next element, or the end of the set
+unfoldable pub whole_element : SequenceReader → Syntax → Length → ℕ → At → Reads (Option Entry)
+whole_element sequence syntax form low at =
+    if is_over form at then Ok (None, at)
+    else (take_at 8 at >>= λ head. if ends_set form head.0
+    then (if long_of head.0 == 0 then Ok (None, head.1) else Err BadDelimiter)
+    else (body_at sequence syntax low head.0 head.1 >>= there))
+
+-- the next item, or the end of the sequence
+unfoldable pub whole_item : ItemReader → Syntax → Length → At → Reads (Option Part)
+whole_item part syntax form at =
+    if is_over form at then Ok (None, at)
+    else (take_at 8 at >>= λ head. if ends_sequence form head.0
+    then (if long_of head.0 == 0 then Ok (None, head.1) else Err BadDelimiter)
+    else (if is_item head.0 then (part syntax (long_of head.0) head.1 >>= there) else Err UnexpectedTag))
 
 module _ (sequence : SequenceReader) (syntax : Syntax) where
   behind_shape : (tag : Tag) (r : Reads Shape) → ((r >>= λ shape. content_at sequence syntax shape.0 shape.1 >>= entry_with tag shape.0) >>= there) ≡ (((r >>= header_with tag) >>= there) >>= element_behind sequence syntax)
@@ -51,10 +80,11 @@ module _ (sequence : SequenceReader) (syntax : Syntax) where
   behind_over true form low at r = refl
   behind_over false form low at r = behind_eight form low r
 
-  -- an element is a header and a value
-  pub element_is : (form : Length) (low : ℕ) (at : At) → element_at sequence syntax form low at ≡ (front_at syntax form low at >>= element_behind sequence syntax)
-  unfolding element_at front_at head_at
-  element_is form low at = behind_over (is_over form at) form low at (take_at 8 at)
+  -- the two are one
+  pub element_is : (form : Length) (low : ℕ) (at : At)
+      → element_at sequence syntax form low at ≡ whole_element sequence syntax form low at
+  unfolding element_at front_at head_at whole_element
+  element_is form low at = sym (behind_over (is_over form at) form low at (take_at 8 at))
 
 module _ (part : ItemReader) (syntax : Syntax) where
   behind_item_end : (p q r : Bool) (n : ℕ) (at : At)
@@ -78,7 +108,7 @@ module _ (part : ItemReader) (syntax : Syntax) where
   behind_item_over true form at r = refl
   behind_item_over false form at r = behind_item_eight form r
 
-  -- an item is a header and a set
-  pub item_is : (form : Length) (at : At) → item_at part syntax form at ≡ (item_front_at form at >>= item_behind part syntax)
-  unfolding item_at item_front_at head_at
-  item_is form at = behind_item_over (is_over form at) form at (take_at 8 at)
+  -- the two are one
+  pub item_is : (form : Length) (at : At) → item_at part syntax form at ≡ whole_item part syntax form at
+  unfolding item_at item_front_at head_at whole_item
+  item_is form at = sym (behind_item_over (is_over form at) form at (take_at 8 at))

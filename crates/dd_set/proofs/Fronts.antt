@@ -14,7 +14,12 @@ use Rattle.dd_set.specs.declared.syntax.Syntax.{Syntax}
 use Rattle.dd_set.specs.declared.syntax.Syntax.TheVariants.{Explicit, Implicit}
 use Rattle.dd_set.specs.Elements.{Elements, element, Content, bytes, items, Items, item, Entry, Part}
 use Rattle.dd_set.specs.Spelling.{undefined_length, delimiter_group, item_syntax, max_levels}
-use Rattle.dd_set.specs.Reading.{◌>>=◌, At, Reads, leaves_fewer, less, take_at, tag_of, long_of, short_of, is_item, no_byte_left, is_over, Shape, long_at, explicit_at, shape_at, SequenceReader, SetReader, ItemReader, within, undefined_at, defined_at, content_at, body_at, ends_set, element_at, next_elements, elements_at, ends_sequence, item_at, next_items, items_at, part_at, sequence_with, set_with, item_reader, read_all}
+use Rattle.dd_set.specs.Reading.{◌>>=◌, At, Reads, leaves_fewer, less, take_at, tag_of, long_of, short_of, is_item}
+use Rattle.dd_set.specs.Reading.{no_byte_left, is_over, Shape, long_at, explicit_at, shape_at, SequenceReader}
+use Rattle.dd_set.specs.Reading.{SetReader, ItemReader, within, undefined_at, defined_at, content_at, ends_set}
+use Rattle.dd_set.specs.Reading.{element_at, next_elements, elements_at, ends_sequence, item_at, next_items, items_at}
+use Rattle.dd_set.specs.Reading.{part_at, sequence_with, set_with, item_reader, read_all}
+use Rattle.dd_set.proofs.Cut.{body_at, whole_element, element_is, whole_item, item_is}
 use Rattle.dd_set.proofs.Steps.{done}
 use Rattle.dd_set.proofs.Before.{past, onward}
 
@@ -203,10 +208,11 @@ module _ (sequence : SequenceReader) (law : SequenceExtends sequence) where
 
   -- the next element, or the end of the set
   element_extends : (c : Bool) (q : List ℕ) (syntax : Syntax) (form : Length) (low : ℕ) (at : At) → has at.left ≡ c → is_over form (longer at q) ≡ is_over form at → Extends c q (element_at sequence syntax form low at) (element_at sequence syntax form low (longer at q))
-  unfolding element_at head_then
+  unfolding whole_element head_then
   element_extends c q syntax form low at h same =
-      subst (λ (b : Bool). Extends c q (if is_over form at then Ok (None, at) else (take_at 8 at >>= head_then syntax form low)) (if b then Ok (None, longer at q) else (take_at 8 (longer at q) >>= head_then syntax form low))) (sym same)
-      (extends_if c q (is_over form at) _ _ _ _ (λ over. (refl, h)) (λ on. going_extends c q syntax form low at h))
+      rw (element_is sequence syntax form low at, element_is sequence syntax form low (longer at q))
+      (subst (λ (b : Bool). Extends c q (if is_over form at then Ok (None, at) else (take_at 8 at >>= head_then syntax form low)) (if b then Ok (None, longer at q) else (take_at 8 (longer at q) >>= head_then syntax form low))) (sym same)
+      (extends_if c q (is_over form at) _ _ _ _ (λ over. (refl, h)) (λ on. going_extends c q syntax form low at h)))
 
   -- elements up to the end of their set
   elements_extend : (n m : ℕ) (c : Bool) (q : List ℕ) (syntax : Syntax) (form : Length) (low : ℕ) (at : At) → n ≤ m → has at.left ≡ c → Encloses form c → Extends c q (elements_at sequence syntax form n low at) (elements_at sequence syntax form m low (longer at q))
@@ -232,11 +238,12 @@ module _ (sequence : SequenceReader) (law : SequenceExtends sequence) where
 
   -- elements up to the end of the bytes: refusals alone, for more bytes are more elements
   elements_fail : (n m : ℕ) (q : List ℕ) (syntax : Syntax) (low : ℕ) (at : At) → n ≤ m → has at.left ≡ false → FailsAlike (elements_at sequence syntax Defined n low at) (elements_at sequence syntax Defined m low (longer at q))
-  unfolding elements_at element_at head_then
+  unfolding elements_at whole_element head_then
   elements_fail zero m q syntax low at le h = λ ne. absurd (ne refl)
   elements_fail (suc n) zero q syntax low at le h = absurd (omega arith)
   elements_fail (suc n) (suc m) q syntax low at le h =
-      go (is_over Defined at) refl (λ l a g. elements_fail n m q syntax l a (omega arith) g)
+      rw (element_is sequence syntax Defined low at, element_is sequence syntax Defined low (longer at q))
+      (go (is_over Defined at) refl (λ l a g. elements_fail n m q syntax l a (omega arith) g))
     where
       others : ℕ → At → Reads Elements
       others = elements_at sequence syntax Defined n
@@ -259,16 +266,17 @@ module _ (sequence : SequenceReader) (law : SequenceExtends sequence) where
 module _ (part : ItemReader) (law : PartExtends part) where
   -- the next item, or the end of the sequence
   item_extends : (c : Bool) (q : List ℕ) (syntax : Syntax) (form : Length) (at : At) → has at.left ≡ c → is_over form (longer at q) ≡ is_over form at → Extends c q (item_at part syntax form at) (item_at part syntax form (longer at q))
-  unfolding item_at
+  unfolding whole_item
   item_extends c q syntax form at h same =
-      subst (λ (b : Bool). Extends c q (if is_over form at then Ok (None, at) else (take_at 8 at >>= head_goes)) (if b then Ok (None, longer at q) else (take_at 8 (longer at q) >>= head_goes))) (sym same)
+      rw (item_is part syntax form at, item_is part syntax form (longer at q))
+      (subst (λ (b : Bool). Extends c q (if is_over form at then Ok (None, at) else (take_at 8 at >>= head_goes)) (if b then Ok (None, longer at q) else (take_at 8 (longer at q) >>= head_goes))) (sym same)
       (extends_if c q (is_over form at) _ _ _ _ (λ over. (refl, h))
       (λ on. extends_then c q (take_at 8 at) (take_at 8 (longer at q)) head_goes head_goes (take_extends c 8 at q h)
       (λ head k. extends_if c q (ends_sequence form head.0) _ _ _ _
       (λ ends. extends_if c q (long_of head.0 == 0) _ _ _ _ (λ none. (refl, k)) (λ some. λ ne. refl))
       (λ more. extends_if c q (is_item head.0) _ _ _ _
       (λ is. extends_map c q (part syntax (long_of head.0) head.1) (part syntax (long_of head.0) (longer head.1 q)) (λ p. Some p) (law c q syntax (long_of head.0) head.1 k))
-      (λ none. λ ne. refl)))))
+      (λ none. λ ne. refl))))))
     where
       head_goes : List ℕ × At → Reads (Option Part)
       head_goes head =

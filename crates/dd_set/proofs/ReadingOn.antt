@@ -7,11 +7,11 @@ use Rattle.dd_set.specs.declared.syntax.Length.{Length}
 use Rattle.dd_set.specs.declared.syntax.Syntax.{Syntax}
 use Rattle.dd_set.specs.Elements.{Elements, Content, Items, Entry, Part, elements_of, items_of}
 use Rattle.dd_set.specs.Gives.{Fails}
-use Rattle.dd_set.specs.Headers.{Header, front_at, element_behind, item_front_at, item_behind}
-use Rattle.dd_set.specs.Reading.{At, Reads, ◌>>=◌, SequenceReader, ItemReader, content_at, element_at, elements_at, item_at, items_at, sequence_with, set_with, within, less, part_at, item_reader}
+use Rattle.dd_set.specs.Reading.{Header, front_at, element_behind, item_front_at, item_behind, At, Reads, ◌>>=◌}
+use Rattle.dd_set.specs.Reading.{SequenceReader, ItemReader, content_at, element_at, elements_at, item_at, items_at}
+use Rattle.dd_set.specs.Reading.{sequence_with, set_with, within, less, part_at, item_reader}
 use Rattle.dd_set.specs.Skips.{Skips}
 use Rattle.dd_set.proofs.Shorter.{front_shortens, item_front_shortens}
-use Rattle.dd_set.proofs.Cut.{element_is, item_is}
 use Rattle.dd_set.proofs.Feeding.{bind_fails}
 use Rattle.dd_set.proofs.Loops.{with_items, with_elements, fails_along, items_more, items_done, items_fail, elements_more, elements_done, elements_fail}
 
@@ -20,16 +20,19 @@ use Rattle.dd_set.proofs.Loops.{with_items, with_elements, fails_along, items_mo
 module _ (sequence : SequenceReader) (syntax : Syntax) (form : Length) (low : ℕ) (at : At) where
   -- the set ends
   pub element_none : (end : At) → front_at syntax form low at ≡ Ok (None, end) → element_at sequence syntax form low at ≡ Ok (None, end)
-  element_none end h = element_is sequence syntax form low at ∙ rw h refl
+  unfolding element_at
+  element_none end h = rw h refl
 
   -- a header and its value
   pub element_found : (header : Header) (mid end : At) (content : Content) → front_at syntax form low at ≡ Ok (Some header, mid) → content_at sequence syntax header.shape mid ≡ Ok (content, end)
       → element_at sequence syntax form low at ≡ Ok (Some (record { tag = header.tag; vr = header.shape.vr; content = content }), end)
-  element_found header mid end content h k = element_is sequence syntax form low at ∙ rw (h, k) refl
+  unfolding element_at
+  element_found header mid end content h k = rw (h, k) refl
 
   -- a header that is refused
   pub front_refused : (e : SetFault) → front_at syntax form low at ≡ Err e → element_at sequence syntax form low at ≡ Err e
-  front_refused e h = element_is sequence syntax form low at ∙ bind_fails _ (element_behind sequence syntax) e h
+  unfolding element_at
+  front_refused e h = bind_fails _ (element_behind sequence syntax) e h
 
   pub front_stops : (e : SetFault) → Fails e (front_at syntax form low at) → Fails e (element_at sequence syntax form low at)
   front_stops e h = fails_along e _ _ h front_refused
@@ -37,7 +40,8 @@ module _ (sequence : SequenceReader) (syntax : Syntax) (form : Length) (low : �
   -- a value that is refused
   pub content_refused : (header : Header) (mid : At) (e : SetFault) → front_at syntax form low at ≡ Ok (Some header, mid) → content_at sequence syntax header.shape mid ≡ Err e
       → element_at sequence syntax form low at ≡ Err e
-  content_refused header mid e h k = element_is sequence syntax form low at ∙ rw h (bind_fails _ _ e k)
+  unfolding element_at
+  content_refused header mid e h k = rw h (bind_fails _ _ e k)
 
   pub content_stops : (header : Header) (mid : At) (e : SetFault) → front_at syntax form low at ≡ Ok (Some header, mid) → Fails e (content_at sequence syntax header.shape mid)
       → Fails e (element_at sequence syntax form low at)
@@ -45,19 +49,23 @@ module _ (sequence : SequenceReader) (syntax : Syntax) (form : Length) (low : �
 
 module _ (part : ItemReader) (syntax : Syntax) (form : Length) (at : At) where
   pub item_none : (end : At) → item_front_at form at ≡ Ok (None, end) → item_at part syntax form at ≡ Ok (None, end)
-  item_none end h = item_is part syntax form at ∙ rw h refl
+  unfolding item_at
+  item_none end h = rw h refl
 
   pub item_found : (n : ℕ) (mid end : At) (p : Part) → item_front_at form at ≡ Ok (Some n, mid) → part syntax n mid ≡ Ok (p, end) → item_at part syntax form at ≡ Ok (Some p, end)
-  item_found n mid end p h k = item_is part syntax form at ∙ rw (h, k) refl
+  unfolding item_at
+  item_found n mid end p h k = rw (h, k) refl
 
   pub item_front_refused : (e : SetFault) → item_front_at form at ≡ Err e → item_at part syntax form at ≡ Err e
-  item_front_refused e h = item_is part syntax form at ∙ bind_fails _ (item_behind part syntax) e h
+  unfolding item_at
+  item_front_refused e h = bind_fails _ (item_behind part syntax) e h
 
   pub item_front_stops : (e : SetFault) → Fails e (item_front_at form at) → Fails e (item_at part syntax form at)
   item_front_stops e h = fails_along e _ _ h item_front_refused
 
   pub part_refused : (n : ℕ) (mid : At) (e : SetFault) → item_front_at form at ≡ Ok (Some n, mid) → part syntax n mid ≡ Err e → item_at part syntax form at ≡ Err e
-  part_refused n mid e h k = item_is part syntax form at ∙ rw h (bind_fails _ _ e k)
+  unfolding item_at
+  part_refused n mid e h k = rw h (bind_fails _ _ e k)
 
   pub part_stops : (n : ℕ) (mid : At) (e : SetFault) → item_front_at form at ≡ Ok (Some n, mid) → Fails e (part syntax n mid) → Fails e (item_at part syntax form at)
   part_stops n mid e h k = fails_along e _ _ k (λ f m. part_refused n mid f h m)

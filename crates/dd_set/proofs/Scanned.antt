@@ -11,8 +11,8 @@ use Rattle.dd_set.specs.declared.syntax.Syntax.{Syntax}
 use Rattle.dd_set.specs.Checks.{sorted}
 use Rattle.dd_set.specs.Elements.{Content, bytes, items, Entry, elements_of}
 use Rattle.dd_set.specs.Gives.{Fails}
-use Rattle.dd_set.specs.Headers.{Header, front_at}
-use Rattle.dd_set.specs.Reading.{At, Reads, ◌>>=◌, SequenceReader, ItemReader, content_at, element_at, elements_at, sequence_with, set_with, within}
+use Rattle.dd_set.specs.Reading.{Header, front_at, At, Reads, ◌>>=◌, SequenceReader, ItemReader, content_at, element_at}
+use Rattle.dd_set.specs.Reading.{elements_at, sequence_with, set_with, within}
 use Rattle.dd_set.specs.Scan.{Told, sequence, Hit, hit_of, is_wanted, hits_of, first_tag, first_of, told_of, value_told, told_where, noted, whole_with}
 use Rattle.dd_set.specs.Skips.{Tells}
 use Rattle.dd_set.proofs.Entries.{entries_of-elements_of}

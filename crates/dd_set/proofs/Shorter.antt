@@ -10,8 +10,9 @@ use Rattle.dd_set.specs.declared.fault.SetFault.TheVariants.{Truncated, Order, U
 use Rattle.dd_set.specs.declared.syntax.Length.{Length}
 use Rattle.dd_set.specs.declared.syntax.Syntax.{Syntax}
 use Rattle.dd_set.specs.declared.syntax.Syntax.TheVariants.{Explicit, Implicit}
-use Rattle.dd_set.specs.Headers.{Header, there, header_with, eight_at, head_at, header_at, opening_at, behind_head, front_at, item_opening, behind_item_head, item_front_at}
-use Rattle.dd_set.specs.Reading.{At, Reads, ◌>>=◌, leaves_fewer, take_at, tag_of, is_over, shape_at, explicit_at, long_at}
+use Rattle.dd_set.specs.Reading.{Header, there, header_with, eight_at, head_at, header_at, opening_at, behind_head}
+use Rattle.dd_set.specs.Reading.{front_at, item_opening, behind_item_head, item_front_at, At, Reads, ◌>>=◌}
+use Rattle.dd_set.specs.Reading.{leaves_fewer, take_at, tag_of, is_over, shape_at, explicit_at, long_at}
 use Rattle.dd_set.specs.Spelling.{delimiter_group}
 use Rattle.dd_set.proofs.Steps.{passes, bind_ok, ok_is}
 

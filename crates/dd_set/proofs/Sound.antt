@@ -14,7 +14,12 @@ use Rattle.dd_set.specs.declared.syntax.Syntax.TheVariants.{Explicit, Implicit}
 use Rattle.dd_set.specs.Bytes.{AreBytes}
 use Rattle.dd_set.specs.Elements.{Elements, no_elements, element, Content, bytes, items, Items, no_items, item, Entry, Part}
 use Rattle.dd_set.specs.Spelling.{undefined_length, delimiter_group, tag_text, shape_text, item_tag_text, item_end_text, sequence_end_text, length_of, closed, elements_text, content_text, items_text, FitsLong, length_limit, explicit_item_syntax, item_syntax, HoldsBytes, max_levels, AreElements, IsContent, AreItems}
-use Rattle.dd_set.specs.Reading.{◌>>=◌, At, Reads, leaves_fewer, take_at, tag_of, long_of, is_item, no_byte_left, is_over, Shape, shape_at, SequenceReader, SetReader, ItemReader, within, undefined_at, defined_at, content_at, body_at, ends_set, element_at, next_elements, elements_at, ends_sequence, item_at, next_items, items_at, part_at, sequence_with, set_with, item_reader, read_all}
+use Rattle.dd_set.specs.Reading.{◌>>=◌, At, Reads, leaves_fewer, take_at, tag_of, long_of, is_item, no_byte_left}
+use Rattle.dd_set.specs.Reading.{is_over, Shape, shape_at, SequenceReader, SetReader, ItemReader, within, undefined_at}
+use Rattle.dd_set.specs.Reading.{defined_at, content_at, ends_set, element_at, next_elements, elements_at}
+use Rattle.dd_set.specs.Reading.{ends_sequence, item_at, next_items, items_at, part_at, sequence_with, set_with}
+use Rattle.dd_set.specs.Reading.{item_reader, read_all}
+use Rattle.dd_set.proofs.Cut.{body_at, whole_element, element_is, whole_item, item_is}
 use Rattle.dd_set.proofs.Steps.{bind_ok, passes, allowed, chosen, ok_is, short_below, long_below, AreBytes-drop}
 use Rattle.dd_set.proofs.Taken.{Leaves, Takes, Takes-none, Takes-then, taken, Ends, closed-append, within_takes}
 use Rattle.dd_set.proofs.HeaderLaws.{head_tag, head_is, HasForm, width_limit, width_at_most, within_limit, Shaped, shape_takes}
@@ -206,9 +211,9 @@ ElementTaken d syntax form low at (Some e) next = Takes at (entry_text e) next �
 module _ (d : ℕ) (sequence : SequenceReader) (law : SequenceLaw d sequence) where
   -- the next element, or the end of the set
   pub element_takes : (syntax : Syntax) (form : Length) (low : ℕ) (at : At) (x : Option Entry × At) → AreBytes at.bytes → element_at sequence syntax form low at ≡ Ok x → ElementTaken d syntax form low at x.0 x.1
-  unfolding element_at
+  unfolding whole_element
   element_takes syntax form low at x fits e =
-      elim (chosen (is_over form at) (Ok (None, at)) _ (Ok x) e) [
+      elim (chosen (is_over form at) (Ok (None, at)) _ (Ok x) (sym (element_is sequence syntax form low at) ∙ e)) [
         | inl over ↦ subst (λ (y : Option Entry × At). ElementTaken d syntax form low at y.0 y.1) (ok_is (None, at) x over.1) (over_ends form item_end_text at fits over.0)
         | inr on ↦
             let h = bind_ok (take_at 8 at) (λ head. if ends_set form head.0
@@ -275,9 +280,9 @@ ItemTaken d syntax form at (Some p) next = Takes at (part_text p) next × IsPart
 module _ (d : ℕ) (part : ItemReader) (law : PartLaw d part) where
   -- the next item, or the end of the sequence
   pub item_takes : (syntax : Syntax) (form : Length) (at : At) (x : Option Part × At) → AreBytes at.bytes → item_at part syntax form at ≡ Ok x → ItemTaken d syntax form at x.0 x.1
-  unfolding item_at
+  unfolding whole_item
   item_takes syntax form at x fits e =
-      elim (chosen (is_over form at) (Ok (None, at)) _ (Ok x) e) [
+      elim (chosen (is_over form at) (Ok (None, at)) _ (Ok x) (sym (item_is part syntax form at) ∙ e)) [
         | inl over ↦ subst (λ (y : Option Part × At). ItemTaken d syntax form at y.0 y.1) (ok_is (None, at) x over.1) (over_ends form sequence_end_text at fits over.0)
         | inr on ↦
             let h = bind_ok (take_at 8 at) (λ head. if ends_sequence form head.0

@@ -13,11 +13,11 @@ use Rattle.dd_set.specs.declared.syntax.Syntax.{Syntax}
 use Rattle.dd_set.specs.Elements.{Elements, Items, items, Entry, Part}
 use Rattle.dd_set.specs.Memory.{keeps_no_item, unkept_sequence, keeps_no_element, unkept_set, unkept_item, WantsMemory}
 use Rattle.dd_set.specs.Reading.{At, Reads, Shape, ◌>>=◌, SequenceReader, SetReader, ItemReader, take_at, less}
-use Rattle.dd_set.specs.Reading.{leaves_fewer, within, undefined_at, defined_at, content_at, tag_of, long_of}
-use Rattle.dd_set.specs.Reading.{shape_at, body_at, is_over, ends_set, element_at, next_elements, elements_at}
-use Rattle.dd_set.specs.Reading.{ends_sequence, is_item, item_at, next_items, items_at, part_at, sequence_with}
-use Rattle.dd_set.specs.Reading.{set_with, item_reader}
+use Rattle.dd_set.specs.Reading.{leaves_fewer, within, undefined_at, defined_at, content_at, tag_of, long_of, shape_at}
+use Rattle.dd_set.specs.Reading.{is_over, ends_set, element_at, next_elements, elements_at, ends_sequence}
+use Rattle.dd_set.specs.Reading.{is_item, item_at, next_items, items_at, part_at, sequence_with, set_with, item_reader}
 use Rattle.dd_set.specs.Spelling.{undefined_length, item_syntax, delimiter_group}
+use Rattle.dd_set.proofs.Cut.{body_at, whole_element, element_is, whole_item, item_is}
 
 -- the second reading wants memory, or gives what the first one gives
 abbrev pub Alike : {X : Type 0} → Result X SetFault → Result X SetFault → Type 0
@@ -85,13 +85,14 @@ module _ (full unkept : SequenceReader) (law : (syntax : Syntax) (form : Length)
 
   element_alike : (syntax : Syntax) (form : Length) (low : ℕ) (at : At)
       → Alike (element_at full syntax form low at) (element_at unkept syntax form low at)
-  unfolding element_at
+  unfolding whole_element
   element_alike syntax form low at =
-      alike_if (is_over form at) _ _ _ _ (inr refl)
+      rw (element_is full syntax form low at, element_is unkept syntax form low at)
+      (alike_if (is_over form at) _ _ _ _ (inr refl)
       (alike_then (take_at 8 at) (take_at 8 at) _ _ (inr refl)
       (λ head. alike_if (ends_set form head.0) _ _ _ _ (inr refl)
       (alike_made (body_at full syntax low head.0 head.1) (body_at unkept syntax low head.0 head.1) _
-      (body_alike syntax low head.0 head.1))))
+      (body_alike syntax low head.0 head.1)))))
 
   -- where no element has a place
   elements_alike : (others : ℕ → At → Reads Elements) (x : Option Entry × At)
@@ -105,13 +106,14 @@ module _ (full unkept : ItemReader) (law : (syntax : Syntax) (n : ℕ) (at : At)
     → Alike (full syntax n at) (unkept syntax n at)) where
   item_alike : (syntax : Syntax) (form : Length) (at : At)
       → Alike (item_at full syntax form at) (item_at unkept syntax form at)
-  unfolding item_at
+  unfolding whole_item
   item_alike syntax form at =
-      alike_if (is_over form at) _ _ _ _ (inr refl)
+      rw (item_is full syntax form at, item_is unkept syntax form at)
+      (alike_if (is_over form at) _ _ _ _ (inr refl)
       (alike_then (take_at 8 at) (take_at 8 at) _ _ (inr refl)
       (λ head. alike_if (ends_sequence form head.0) _ _ _ _ (inr refl)
       (alike_if (is_item head.0) _ _ _ _ (alike_made (full syntax (long_of head.0) head.1)
-      (unkept syntax (long_of head.0) head.1) _ (law syntax (long_of head.0) head.1)) (inr refl))))
+      (unkept syntax (long_of head.0) head.1) _ (law syntax (long_of head.0) head.1)) (inr refl)))))
 
   items_alike : (others : At → Reads Items) (x : Option Part × At) → Alike (next_items others x) (keeps_no_item x)
   items_alike others (None, at) = inr refl
@@ -194,11 +196,11 @@ too_few false false x y z next keeps short kept h = absurd cc
 
 -- fewer bytes than a header has want no memory
 pub wants_a_header : (syntax : Syntax) (bs : List ℕ) → WantsMemory syntax bs → 8 ≤ length bs
-unfolding element_at take_at
+unfolding whole_element take_at
 wants_a_header syntax bs h =
     elim (cases_lt (length bs) 8) [
       | inl short ↦ absurd (too_few (length bs == 0) (nat_lt (length bs) 8) _ _ _ _ keeps_no_element
-          (lt-ltb _ _ short) refl h)
+          (lt-ltb _ _ short) refl (ap (λ r. r >>= keeps_no_element) (sym (element_is _ syntax Defined 0 _)) ∙ h))
       | inr long ↦ long
     ]
 

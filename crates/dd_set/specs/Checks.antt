@@ -13,9 +13,8 @@ use Rattle.dd_set.specs.declared.fault.SetFault.{SetFault}
 use Rattle.dd_set.specs.declared.syntax.Length.TheVariants.{Defined, Undefined}
 use Rattle.dd_set.specs.declared.syntax.Syntax.{Syntax}
 use Rattle.dd_set.specs.Elements.{Content, bytes, items, Part}
-use Rattle.dd_set.specs.Headers.{Header, long_length_at}
+use Rattle.dd_set.specs.Reading.{Header, long_length_at, At, Reads, ◌>>=◌, SequenceReader, SetReader, take_at, within}
 use Rattle.dd_set.specs.Places.{shape_view}
-use Rattle.dd_set.specs.Reading.{At, Reads, ◌>>=◌, SequenceReader, SetReader, take_at, within}
 
 abbrev pub header_view : Said → Header
 header_view h = record { tag = h.tag; shape = shape_view h.shape }
@@ -34,10 +33,13 @@ opened (Err e) at = Err e
 abbrev pub sorted : SequenceReader → Result Sort SetFault → At → Reads Content
 sorted sequence (Ok (sorts.Bytes n)) at = take_at n at >>= λ x. Ok (bytes x.0, x.1)
 sorted sequence (Ok (sorts.Open inner)) at = sequence inner Undefined at >>= λ x. Ok (items Undefined x.0, x.1)
-sorted sequence (Ok (sorts.Closed inner n)) at = within n at (sequence inner Defined) >>= λ x. Ok (items Defined x.0, x.1)
+sorted sequence (Ok (sorts.Closed inner n)) at =
+    within n at (sequence inner Defined) >>= λ x. Ok (items Defined x.0, x.1)
 sorted sequence (Err e) at = Err e
 
 abbrev pub reached : SetReader → Syntax → Result Reach SetFault → At → Reads Part
-reached set syntax (Ok reaches.Open) at = set syntax Undefined at >>= λ x. Ok (record { length = Undefined; set = x.0 }, x.1)
-reached set syntax (Ok (reaches.Closed n)) at = within n at (set syntax Defined) >>= λ x. Ok (record { length = Defined; set = x.0 }, x.1)
+reached set syntax (Ok reaches.Open) at =
+    set syntax Undefined at >>= λ x. Ok (record { length = Undefined; set = x.0 }, x.1)
+reached set syntax (Ok (reaches.Closed n)) at =
+    within n at (set syntax Defined) >>= λ x. Ok (record { length = Defined; set = x.0 }, x.1)
 reached set syntax (Err e) at = Err e

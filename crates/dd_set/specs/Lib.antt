@@ -4,7 +4,6 @@ pub mod Elements
 pub mod Feeds
 pub mod Find
 pub mod Gives
-pub mod Headers
 pub mod Memory
 pub mod Places
 pub mod Reading

@@ -1,18 +1,22 @@
 -- Reading a data set from left to right, check by check: the set, or the first check that fails (PS3.5 sections 7.1 and
 -- 7.5). Each step takes bytes from where the one before it left off.
-use Rattle.std.specs.Prelude.{ℕ, zero, suc, ◌+◌, ◌-◌, ◌%◌, List, length, take, drop, Bool, false, ◌&&◌, Option, Some, None, Result, Ok, Err, nat_lt, ◌==◌, if◌then◌else◌}
+use Rattle.std.specs.Prelude.{ℕ, zero, suc, ◌+◌, ◌-◌, ◌%◌, List, length, take, drop, Bool, false, ◌&&◌}
+use Rattle.std.specs.Prelude.{Option, Some, None, Result, Ok, Err, nat_lt, ◌==◌, if◌then◌else◌}
 use Rattle.std.specs.Int.{w16, w32, from_le_bytes}
 use Rattle.dd_elem.specs.declared.tag.Tag.{Tag}
 use Rattle.dd_elem.specs.declared.vr.Vr.{Vr}
 use Rattle.dd_elem.specs.Tag.{number_of}
 use Rattle.dd_elem.specs.Vr.{is_long_of, vr_of}
 use Rattle.dd_set.specs.declared.fault.SetFault.{SetFault}
-use Rattle.dd_set.specs.declared.fault.SetFault.TheVariants.{Truncated, Order, BadVr, Reserved, OddLength, UndefinedLength, UnexpectedTag, BadDelimiter, Overrun, TooDeep}
+use Rattle.dd_set.specs.declared.fault.SetFault.TheVariants.{Truncated, Order, BadVr, Reserved, OddLength}
+use Rattle.dd_set.specs.declared.fault.SetFault.TheVariants.{UndefinedLength, UnexpectedTag, BadDelimiter}
+use Rattle.dd_set.specs.declared.fault.SetFault.TheVariants.{Overrun, TooDeep}
 use Rattle.dd_set.specs.declared.syntax.Length.{Length}
 use Rattle.dd_set.specs.declared.syntax.Length.TheVariants.{Defined, Undefined}
 use Rattle.dd_set.specs.declared.syntax.Syntax.{Syntax}
 use Rattle.dd_set.specs.declared.syntax.Syntax.TheVariants.{Explicit, Implicit}
-use Rattle.dd_set.specs.Elements.{Elements, no_elements, element, Content, bytes, items, Items, no_items, item, Entry, Part}
+use Rattle.dd_set.specs.Elements.{Elements, no_elements, element, Content, bytes, items, Items, no_items, item}
+use Rattle.dd_set.specs.Elements.{Entry, Part}
 use Rattle.dd_set.specs.Spelling.{undefined_length, delimiter_group, item_syntax, max_levels}
 
 -- where reading stands: how many bytes the nearest enclosing length leaves, where there is one, and the bytes to come
@@ -81,7 +85,23 @@ abbrev pub is_over : Length → At → Bool
 is_over Undefined at = false
 is_over Defined at = no_byte_left at.left at.bytes
 
--- ---- an element
+-- one more is there
+abbrev pub there : {X : Type 0} → X × At → Reads (Option X)
+there x = Ok (Some x.0, x.1)
+
+-- eight bytes
+abbrev pub eight_at : At → Reads (Option (List ℕ))
+eight_at at = take_at 8 at >>= there
+
+-- eight bytes, or the end of a set or a sequence that its length tells
+unfoldable pub head_at : Length → At → Reads (Option (List ℕ))
+head_at form at = if is_over form at then Ok (None, at) else eight_at at
+
+-- ---- the header of an element
+
+-- the length in the four bytes behind the first eight of a long header
+unfoldable pub long_length_at : At → Reads ℕ
+long_length_at at = take_at 4 at >>= λ n. Ok (from_le_bytes w32 n.0, n.1)
 
 -- the value representation and the length that a header gives, whose first eight bytes are `head`
 pub record Shape : Type 0 where
@@ -95,11 +115,74 @@ long_at vr head at =
 
 abbrev pub explicit_at : Option Vr → List ℕ → At → Reads Shape
 explicit_at None head at = Err BadVr
-explicit_at (Some vr) head at = if is_long_of vr then long_at vr head at else Ok (record { vr = Some vr; length = short_of head }, at)
+explicit_at (Some vr) head at =
+    if is_long_of vr then long_at vr head at
+    else Ok (record { vr = Some vr; length = short_of head }, at)
 
 unfoldable pub shape_at : Syntax → List ℕ → At → Reads Shape
 shape_at Explicit head at = explicit_at (vr_of (take 2 (drop 4 head))) head at
 shape_at Implicit head at = Ok (record { vr = None; length = long_of head }, at)
+
+-- what a header says: a tag, and how its value is encoded
+pub record Header : Type 0 where
+  pub tag : Tag
+  pub shape : Shape
+
+-- the delimiter that ends a set of undefined length
+abbrev pub ends_set : Length → List ℕ → Bool
+ends_set Defined head = false
+ends_set Undefined head = is_item_end head
+
+abbrev pub header_with : Tag → Shape × At → Reads Header
+header_with tag shape = Ok (record { tag = tag; shape = shape.0 }, shape.1)
+
+-- the header of an element whose first eight bytes are `head`, with a tag not below `low`
+unfoldable pub header_at : Syntax → ℕ → List ℕ → At → Reads Header
+header_at syntax low head at =
+    if (tag_of head).group == delimiter_group then Err UnexpectedTag
+    else (if nat_lt (number_of (tag_of head)) low then Err Order
+    else (shape_at syntax head at >>= header_with (tag_of head)))
+
+-- that header where its tag may stand there
+abbrev pub tagged_at : Syntax → Tag → List ℕ → At → Reads (Option Header)
+tagged_at syntax tag head at = shape_at syntax head at >>= header_with tag >>= there
+
+-- what the eight bytes begin: a header, or the delimiter that ends the set
+unfoldable pub opening_at : Syntax → Length → ℕ → List ℕ → At → Reads (Option Header)
+opening_at syntax form low head at =
+    if ends_set form head then (if long_of head == 0 then Ok (None, at) else Err BadDelimiter)
+    else (header_at syntax low head at >>= there)
+
+abbrev pub behind_head : Syntax → Length → ℕ → Option (List ℕ) × At → Reads (Option Header)
+behind_head syntax form low (None, at) = Ok (None, at)
+behind_head syntax form low (Some head, at) = opening_at syntax form low head at
+
+-- the next header of a set, or the end of the set
+unfoldable pub front_at : Syntax → Length → ℕ → At → Reads (Option Header)
+front_at syntax form low at = head_at form at >>= behind_head syntax form low
+
+-- ---- the header of an item
+
+-- the delimiter that ends a sequence of undefined length
+abbrev pub ends_sequence : Length → List ℕ → Bool
+ends_sequence Defined head = false
+ends_sequence Undefined head = is_sequence_end head
+
+-- what the eight bytes begin: an item of this length, or the delimiter that ends the sequence
+unfoldable pub item_opening : Length → List ℕ → Result (Option ℕ) SetFault
+item_opening form head =
+    if ends_sequence form head then (if long_of head == 0 then Ok None else Err BadDelimiter)
+    else (if is_item head then Ok (Some (long_of head)) else Err UnexpectedTag)
+
+abbrev pub behind_item_head : Length → Option (List ℕ) × At → Reads (Option ℕ)
+behind_item_head form (None, at) = Ok (None, at)
+behind_item_head form (Some head, at) = item_opening form head >>= λ length. Ok (length, at)
+
+-- the length of the next item, or the end of the sequence
+unfoldable pub item_front_at : Length → At → Reads (Option ℕ)
+item_front_at form at = head_at form at >>= behind_item_head form
+
+-- ---- values and elements
 
 -- how a sequence, the set of an item, and an item with its length are read
 abbrev pub SequenceReader : Type 0
@@ -113,7 +196,8 @@ ItemReader = Syntax → ℕ → At → Reads Part
 
 -- what the next n bytes alone hold
 abbrev pub within : {X : Type 0} → ℕ → At → (At → Reads X) → Reads X
-within n at read = read (record { left = Some n; bytes = at.bytes }) >>= λ x. Ok (x.0, record { left = less at.left n; bytes = x.1.bytes })
+within n at read = read (record { left = Some n; bytes = at.bytes })
+    >>= λ x. Ok (x.0, record { left = less at.left n; bytes = x.1.bytes })
 
 abbrev pub undefined_at : SequenceReader → Option Syntax → At → Reads Content
 undefined_at sequence None at = Err UndefinedLength
@@ -131,25 +215,16 @@ content_at sequence syntax shape at =
     else (if leaves_fewer at.left shape.length then Err Overrun
     else defined_at sequence (item_syntax syntax shape.vr Defined) shape.length at))
 
--- an element whose first eight bytes are `head`, with a tag not below `low`
-unfoldable pub body_at : SequenceReader → Syntax → ℕ → List ℕ → At → Reads Entry
-body_at sequence syntax low head at =
-    if (tag_of head).group == delimiter_group then Err UnexpectedTag
-    else (if nat_lt (number_of (tag_of head)) low then Err Order
-    else (shape_at syntax head at >>= λ shape. content_at sequence syntax shape.0 shape.1 >>= λ x. Ok (record { tag = tag_of head; vr = shape.0.vr; content = x.0 }, x.1)))
-
--- the delimiter that ends a set of undefined length
-abbrev pub ends_set : Length → List ℕ → Bool
-ends_set Defined head = false
-ends_set Undefined head = is_item_end head
+-- the element behind its header
+abbrev pub element_behind : SequenceReader → Syntax → Option Header × At → Reads (Option Entry)
+element_behind sequence syntax (None, at) = Ok (None, at)
+element_behind sequence syntax (Some header, at) =
+    content_at sequence syntax header.shape at
+    >>= λ x. Ok (Some (record { tag = header.tag; vr = header.shape.vr; content = x.0 }), x.1)
 
 -- the next element, or the end of the set
 unfoldable pub element_at : SequenceReader → Syntax → Length → ℕ → At → Reads (Option Entry)
-element_at sequence syntax form low at =
-    if is_over form at then Ok (None, at)
-    else (take_at 8 at >>= λ head. if ends_set form head.0
-    then (if long_of head.0 == 0 then Ok (None, head.1) else Err BadDelimiter)
-    else (body_at sequence syntax low head.0 head.1 >>= λ x. Ok (Some x.0, x.1)))
+element_at sequence syntax form low at = front_at syntax form low at >>= element_behind sequence syntax
 
 -- ---- a set
 
@@ -160,22 +235,19 @@ next_elements others (Some e, at) = others (number_of e.tag + 1) at >>= λ x. Ok
 -- elements to the end of the set; each takes a byte at least, so more of them than bytes are never there
 unfoldable pub elements_at : SequenceReader → Syntax → Length → ℕ → ℕ → At → Reads Elements
 elements_at sequence syntax form zero low at = Err Truncated
-elements_at sequence syntax form (suc most) low at = element_at sequence syntax form low at >>= next_elements (elements_at sequence syntax form most)
+elements_at sequence syntax form (suc most) low at =
+    element_at sequence syntax form low at >>= next_elements (elements_at sequence syntax form most)
 
 -- ---- a sequence
 
--- the delimiter that ends a sequence of undefined length
-abbrev pub ends_sequence : Length → List ℕ → Bool
-ends_sequence Defined head = false
-ends_sequence Undefined head = is_sequence_end head
+-- the item behind its header
+abbrev pub item_behind : ItemReader → Syntax → Option ℕ × At → Reads (Option Part)
+item_behind part syntax (None, at) = Ok (None, at)
+item_behind part syntax (Some n, at) = part syntax n at >>= there
 
 -- the next item, or the end of the sequence
 unfoldable pub item_at : ItemReader → Syntax → Length → At → Reads (Option Part)
-item_at part syntax form at =
-    if is_over form at then Ok (None, at)
-    else (take_at 8 at >>= λ head. if ends_sequence form head.0
-    then (if long_of head.0 == 0 then Ok (None, head.1) else Err BadDelimiter)
-    else (if is_item head.0 then (part syntax (long_of head.0) head.1 >>= λ x. Ok (Some x.0, x.1)) else Err UnexpectedTag))
+item_at part syntax form at = item_front_at form at >>= item_behind part syntax
 
 abbrev pub next_items : (At → Reads Items) → Option Part × At → Reads Items
 next_items others (None, at) = Ok (no_items, at)
@@ -210,7 +282,8 @@ item_reader (suc levels) syntax n at = part_at (set_with (item_reader levels)) s
 
 -- the whole of the bytes as one set
 unfoldable pub read_all : Syntax → List ℕ → Result Elements SetFault
-read_all syntax bs = set_with (item_reader max_levels) syntax Defined (record { left = None; bytes = bs }) >>= λ x. Ok x.0
+read_all syntax bs =
+    set_with (item_reader max_levels) syntax Defined (record { left = None; bytes = bs }) >>= λ x. Ok x.0
 
 -- the first check that the bytes fail, or none
 abbrev pub fault_of : Result Elements SetFault → Option SetFault

@@ -3,9 +3,9 @@
 ghost use Rattle.std.specs.Prelude.{◌≡◌, ◌≢◌, ◌==◌, ℕ, List, length, unwrap_or, None, Err};
 ghost use Rattle.dd_set.specs.declared.fault.SetFault.TheVariants.{Memory};
 ghost use Rattle.dd_set.specs.Checks.{opened, sorted, reached};
-ghost use Rattle.dd_set.specs.Headers.{opening_at, tagged_at, item_opening};
+ghost use Rattle.dd_set.specs.Reading.{opening_at, tagged_at, item_opening, At, SequenceReader, SetReader};
+ghost use Rattle.dd_set.specs.Reading.{leaves_fewer, less, is_over, content_at, part_at};
 ghost use Rattle.dd_set.specs.Places.{shape_view};
-ghost use Rattle.dd_set.specs.Reading.{At, SequenceReader, SetReader, leaves_fewer, less, is_over, content_at, part_at};
 
 use crate::fault::SetFault;
 use crate::headers::{
@@ -96,7 +96,7 @@ pub fn ends_here(form: Length, left: Option<u64>) -> Option<bool>
 
 /// What the first eight bytes of a header say in a set of this form, where tags below the number
 /// `low` may not follow.
-#[tactic(auto, unfolding(crate::specs::Headers::opening_at, crate::specs::Headers::header_at))]
+#[tactic(auto, unfolding(crate::specs::Reading::opening_at, crate::specs::Reading::header_at))]
 pub fn element_opening(
     syntax: Syntax,
     form: Length,
@@ -150,7 +150,7 @@ fn shape_opening(syntax: Syntax, tag: Tag, head: &[u8]) -> Result<Opening, SetFa
 }
 
 /// The length of the item that the eight bytes begin, or None where they end the sequence.
-#[tactic(auto, unfolding(crate::specs::Headers::item_opening))]
+#[tactic(auto, unfolding(crate::specs::Reading::item_opening))]
 pub fn item_opening(form: Length, head: &[u8]) -> Result<Option<u32>, SetFault>
     requires { length head.now ≡ 8 }
     ensures exact { result ≡ item_opening form head.now }

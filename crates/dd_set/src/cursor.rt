@@ -2,9 +2,8 @@
 
 ghost use Rattle.std.specs.Prelude.{◌≡◌, ◌+◌, ◌≤◌, ◌<◌, length, IfOk, OnSome, option_map};
 ghost use Rattle.dd_set.specs.Checks.{header_view};
-ghost use Rattle.dd_set.specs.Headers.{long_length_at, front_at, item_front_at};
+ghost use Rattle.dd_set.specs.Reading.{long_length_at, front_at, item_front_at, take_at, is_over, less};
 ghost use Rattle.dd_set.specs.Places.{at_view, stepped};
-ghost use Rattle.dd_set.specs.Reading.{take_at, is_over, less};
 
 use crate::checks::{
     Header, Opening, Shape, element_opening, ends_here, item_opening, leaves_fewer, less,
@@ -70,7 +69,7 @@ impl<'a> Cursor<'a> {
     }
 
     /// Takes the length of a long header, behind its first eight bytes.
-    #[tactic(auto, unfolding(crate::specs::Headers::long_length_at))]
+    #[tactic(auto, unfolding(crate::specs::Reading::long_length_at))]
     fn long(self) -> Result<(u32, Cursor<'a>), SetFault>
         ensures exact { long_length_at (at_view self.entry) ≡ stepped (λ n. n) result }
         ensures not_longer { IfOk result (λ x. length x.1.rest.now ≤ length self.entry.rest.now) }
@@ -82,7 +81,7 @@ impl<'a> Cursor<'a> {
 
     /// Takes the next header of a set of this form, or None at the end of the set. Tags below the
     /// number `low` may not follow.
-    #[tactic(auto, unfolding(crate::specs::Headers::front_at, crate::specs::Headers::head_at))]
+    #[tactic(auto, unfolding(crate::specs::Reading::front_at, crate::specs::Reading::head_at))]
     pub fn front(
         self,
         syntax: Syntax,
@@ -111,7 +110,7 @@ impl<'a> Cursor<'a> {
 
     /// Takes the length of the next item of a sequence of this form, or None at the end of the
     /// sequence.
-    #[tactic(auto, unfolding(crate::specs::Headers::item_front_at, crate::specs::Headers::head_at))]
+    #[tactic(auto, unfolding(crate::specs::Reading::item_front_at, crate::specs::Reading::head_at))]
     pub fn item_front(self, form: Length) -> Result<(Option<u32>, Cursor<'a>), SetFault>
         ensures exact { item_front_at form (at_view self.entry) ≡ stepped (λ n. n) result }
         ensures shorter { IfOk result (λ x. OnSome x.0 (length x.1.rest.now < length self.entry.rest.now)) }

@@ -5,8 +5,7 @@ ghost use Rattle.dd_set.specs.Checks.{header_view};
 ghost use Rattle.dd_set.specs.declared.fault.SetFault.TheVariants.{Memory};
 ghost use Rattle.dd_set.specs.declared.syntax.Length.TheVariants.{Defined};
 ghost use Rattle.dd_set.specs.Feeds.{Scans};
-ghost use Rattle.dd_set.specs.Headers.{eight_at, head_at, long_length_at, front_at, item_front_at};
-ghost use Rattle.dd_set.specs.Reading.{take_at};
+ghost use Rattle.dd_set.specs.Reading.{eight_at, head_at, long_length_at, front_at, item_front_at, take_at};
 ghost use Rattle.dd_set.specs.Skips.{Finds, Takes, Skips};
 
 use crate::checks::{

@@ -7,8 +7,8 @@ use Rattle.dd_elem.specs.Vr.{is_long_of, vr_of}
 use Rattle.dd_set.specs.declared.fault.SetFault.TheVariants.{Reserved}
 use Rattle.dd_set.specs.declared.syntax.Syntax.TheVariants.{Explicit}
 use Rattle.dd_set.specs.Checks.{long_header_at}
-use Rattle.dd_set.specs.Headers.{Header, tagged_at, header_with, there, long_length_at}
-use Rattle.dd_set.specs.Reading.{At, Reads, ◌>>=◌, Shape, take_at, short_of, shape_at, long_at}
+use Rattle.dd_set.specs.Reading.{Header, tagged_at, header_with, there, long_length_at, At, Reads, ◌>>=◌, Shape}
+use Rattle.dd_set.specs.Reading.{take_at, short_of, shape_at, long_at}
 use Rattle.dd_set.proofs.Loops.{differ}
 use Rattle.dd_set.proofs.checks.shape_opening.Goals as goal
 
