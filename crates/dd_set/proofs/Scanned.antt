@@ -14,7 +14,7 @@ use Rattle.dd_set.specs.Gives.{Fails}
 use Rattle.dd_set.specs.Reading.{Header, front_at, At, Reads, ◌>>=◌, SequenceReader, ItemReader, content_at, element_at}
 use Rattle.dd_set.specs.Reading.{elements_at, sequence_with, set_with, within}
 use Rattle.dd_set.specs.Scan.{Told, sequence, Hit, hit_of, is_wanted, hits_of, first_tag, first_of, told_of, value_told, told_where, noted, whole_with}
-use Rattle.dd_set.specs.Skips.{Tells}
+use Rattle.dd_set.specs.Skips.{TellsValue}
 use Rattle.dd_set.proofs.Entries.{entries_of-elements_of}
 use Rattle.dd_set.proofs.Feeding.{bind_fails}
 use Rattle.dd_set.proofs.Loops.{with_elements, fails_along, elements_more, elements_done, elements_fail}
@@ -25,8 +25,8 @@ use Rattle.dd_set.proofs.Steps.{bind_ok, ok_is}
 -- ---- values
 
 -- a value of bytes
-pub tells_bytes : (r : Result (FoundValue × Option ℕ) SetFault) (read : Reads (List ℕ)) (rest : List ℕ) → Tells value_told (λ v. told_of (bytes v)) r read rest
-    → Tells value_told told_of r (read >>= λ x. Ok (bytes x.0, x.1)) rest
+pub tells_bytes : (r : Result (FoundValue × Option ℕ) SetFault) (read : Reads (List ℕ)) (rest : List ℕ) → TellsValue value_told (λ v. told_of (bytes v)) r read rest
+    → TellsValue value_told told_of r (read >>= λ x. Ok (bytes x.0, x.1)) rest
 tells_bytes (Ok x) read rest h = (bytes h.0, h.1, rw h.2 refl)
 tells_bytes (Err e) read rest h = fails_along e _ _ h (λ f k. bind_fails read _ f k)
 
@@ -80,7 +80,7 @@ pub record ValueStep (reader : SequenceReader) (syntax : Syntax) (low : ℕ) (le
 
 pub value_steps : (reader : SequenceReader) (syntax : Syntax) (low : ℕ) (left : Option ℕ) (header : Header) (value : Option FoundValue) (keeps : Bool) (all : List ℕ) (behind now : Option ℕ) (mid rest : List ℕ)
     → front_at syntax Defined low (record { left = left; bytes = all }) ≡ Ok (Some header, record { left = behind; bytes = mid })
-    → Tells (option_map value_told) (told_where keeps) (Ok (value, now)) (content_at reader syntax header.shape (record { left = behind; bytes = mid })) rest → length rest ≤ length mid
+    → TellsValue (option_map value_told) (told_where keeps) (Ok (value, now)) (content_at reader syntax header.shape (record { left = behind; bytes = mid })) rest → length rest ≤ length mid
     → ValueStep reader syntax low left header (option_map value_told value) keeps all now rest
 value_steps reader syntax low left header value keeps all behind now mid rest h k few = record {
   content = k.0;

@@ -1,5 +1,7 @@
--- What a scan tells of a data set: its first tag, and of each wanted element of the set itself what its value is.
-use Rattle.std.specs.Prelude.{◌≡◌, ℕ, Bool, true, false, List, [], ◌∷◌, length, take, map, filter, Option, Some, None, Result, Ok, Err}
+-- What a scan tells of a data set: its first tag, and of each wanted element of the set itself what its value is (PS3.5
+-- sections 6.2 and 7.1).
+use Rattle.std.specs.Prelude.{◌≡◌, ℕ, Bool, true, false, List, [], ◌∷◌, length, take, map, filter, Option, Some, None}
+use Rattle.std.specs.Prelude.{Result, Ok, Err}
 use Rattle.std.specs.List.{list_any}
 use Rattle.dd_elem.specs.Clean.{clean_of}
 use Rattle.dd_elem.specs.declared.tag.Tag.{Tag}
@@ -19,7 +21,7 @@ use Rattle.dd_set.specs.Reading.{◌>>=◌, ItemReader, set_with}
 abbrev pub most_told : ℕ
 most_told = 1024
 
--- what is told of a value: that it is a sequence; or of its bytes without their padding the front, and how many they are
+-- what is told of a value: that it is a sequence; or the front of its bytes without the padding, and how many they are
 pub data Told : Type 0 where
   sequence : Told
   cleaned : List ℕ → ℕ → Told

@@ -1,5 +1,5 @@
--- What scanning a data set from a reader answers.
-use Rattle.std.specs.Prelude.{◌≡◌, ℕ, List, Option, Result, Ok, Err}
+-- What scanning a data set from a reader answers (PS3.5 section 7).
+use Rattle.std.specs.Prelude.{ℕ, List, Option, Result, Ok, Err}
 use Rattle.dd_elem.specs.declared.tag.Tag.{Tag}
 use Rattle.dd_set.specs.declared.end.End.TheVariants.{Ended, Failed, TooLong}
 use Rattle.dd_set.specs.declared.found.Scan.{Scan}
@@ -13,17 +13,19 @@ use Rattle.dd_set.specs.Scan.{IsScan}
 use Rattle.dd_set.specs.Spelling.{Spells}
 use Rattle.dd_set.specs.Streams.{Ends}
 
--- the bytes spell a set, which reading gives, and the scan tells it
+-- the bytes spell a set, and the scan tells it
 pub record IsScanOf (syntax : Syntax) (wanted : List Tag) (given : List ℕ) (scan : Scan) : Type 0 where
   pub set : Elements
   pub spelled : Spells syntax set given
-  pub read : read_all syntax given ≡ Ok set
   pub told : IsScan wanted scan set
 
--- The answer of a scan of at most `limit` bytes. The reader gave `given` in it, has `left` still to come, and its failures
--- were `old` and are `new`. Where it neither failed nor gave too much, the answer is that of reading what it gave.
+-- The answer of a scan of at most `limit` bytes. The reader gave `given` in it, has `left` still to come, and its
+-- failures were `old` and are `new`. Where it neither failed nor gave too much, the answer is that of reading what it
+-- gave.
 abbrev pub IsScanAnswer : Result Scan ScanFault → Syntax → List Tag → ℕ → List ℕ → Option (List ℕ) → ℕ → ℕ → Type 0
-IsScanAnswer (Ok scan) syntax wanted limit given left old new = Ends Ended limit given left old new × IsScanOf syntax wanted given scan
+IsScanAnswer (Ok scan) syntax wanted limit given left old new = Ends Ended limit given left old new
+    × IsScanOf syntax wanted given scan
 IsScanAnswer (Err faults.Read) syntax wanted limit given left old new = Ends Failed limit given left old new
 IsScanAnswer (Err faults.TooLong) syntax wanted limit given left old new = Ends TooLong limit given left old new
-IsScanAnswer (Err (faults.Set e)) syntax wanted limit given left old new = Ends Ended limit given left old new × Fails e (read_all syntax given)
+IsScanAnswer (Err (faults.Set e)) syntax wanted limit given left old new = Ends Ended limit given left old new
+    × Fails e (read_all syntax given)

@@ -21,6 +21,8 @@ Skips {Y} (Ok left) read rest = (y : Y) × (read ≡ Ok (y, record { left = left
 Skips (Err e) read rest = Fails e read
 
 -- reading gives some value, and what is returned tells it
-abbrev pub Tells : {X Y Z : Type 0} → (X → Z) → (Y → Z) → Result (X × Option ℕ) SetFault → Reads Y → List ℕ → Type 0
-Tells {X} {Y} view told (Ok x) read rest = (y : Y) × (view x.0 ≡ told y) × (read ≡ Ok (y, record { left = x.1; bytes = rest }))
-Tells view told (Err e) read rest = Fails e read
+abbrev pub TellsValue : {X Y Z : Type 0} → (X → Z) → (Y → Z) → Result (X × Option ℕ) SetFault → Reads Y → List ℕ
+    → Type 0
+TellsValue {X} {Y} view told (Ok x) read rest =
+    (y : Y) × (view x.0 ≡ told y) × (read ≡ Ok (y, record { left = x.1; bytes = rest }))
+TellsValue view told (Err e) read rest = Fails e read

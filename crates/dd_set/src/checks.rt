@@ -197,7 +197,8 @@ pub fn sort_of(syntax: Syntax, shape: Shape, left: Option<u64>) -> Result<Sort, 
 #[tactic(auto, unfolding(crate::specs::Reading::part_at))]
 pub fn reach_of(n: u32, left: Option<u64>) -> Result<Reach, SetFault>
     ensures exact { (set : SetReader) (syntax : Syntax) (bytes : List ℕ)
-        → let at : At = record { left = left; bytes = bytes } in part_at set syntax n at ≡ reached set syntax result at }
+        → let at : At = record { left = left; bytes = bytes }
+        in part_at set syntax n at ≡ reached set syntax result at }
     ensures memory { result ≢ Err Memory }
 {
     if n == UNDEFINED_LENGTH {

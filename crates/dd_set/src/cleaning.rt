@@ -6,7 +6,7 @@ ghost use Rattle.dd_set.specs.Elements.{bytes as value};
 ghost use Rattle.dd_set.specs.Feeds.{IsOver, Scans};
 ghost use Rattle.dd_set.specs.Reading.{take_at};
 ghost use Rattle.dd_set.specs.Scan.{value_told, told_of};
-ghost use Rattle.dd_set.specs.Skips.{Tells};
+ghost use Rattle.dd_set.specs.Skips.{TellsValue};
 
 use crate::checks::{leaves_fewer, less};
 use crate::fault::SetFault;
@@ -35,7 +35,7 @@ pub fn take_cleaned<F: Feed>(
     left: Option<u64>,
 ) -> Result<(FoundValue, Option<u64>), SetFault>
     ensures found { Scans F.moves F.tells feed.old feed.new
-        (λ bytes rest. Tells value_told (λ v. told_of (value v)) result
+        (λ bytes rest. TellsValue value_told (λ v. told_of (value v)) result
         (take_at n (record { left = left; bytes = bytes })) rest) }
     ensures fewer { F.most feed.new ≤ F.most feed.old }
 {
@@ -57,7 +57,7 @@ fn take_short<F: Feed>(
 ) -> Result<(FoundValue, Option<u64>), SetFault>
     requires { length room.old ≤ 64 }
     ensures found { Scans F.moves F.tells feed.old feed.new
-        (λ bytes rest. Tells value_told (λ v. told_of (value v)) result
+        (λ bytes rest. TellsValue value_told (λ v. told_of (value v)) result
         (take_at (length room.old) (record { left = left; bytes = bytes })) rest) }
     ensures fewer { F.most feed.new ≤ F.most feed.old }
 {
@@ -76,7 +76,7 @@ fn take_long<F: Feed>(
     left: Option<u64>,
 ) -> Result<(FoundValue, Option<u64>), SetFault>
     ensures found { Scans F.moves F.tells feed.old feed.new
-        (λ bytes rest. Tells value_told (λ v. told_of (value v)) result
+        (λ bytes rest. TellsValue value_told (λ v. told_of (value v)) result
         (take_at n (record { left = left; bytes = bytes })) rest) }
     ensures fewer { F.most feed.new ≤ F.most feed.old }
 {

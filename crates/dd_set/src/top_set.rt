@@ -8,7 +8,7 @@ ghost use Rattle.dd_set.specs.Places.{shape_view};
 ghost use Rattle.dd_set.specs.Reading.{item_reader, sequence_with, content_at, read_all};
 ghost use Rattle.dd_set.specs.Scan.{ScanGives, is_wanted, found_hit, value_told, told_of, told_where, noted};
 ghost use Rattle.dd_set.specs.Scan.{whole_with};
-ghost use Rattle.dd_set.specs.Skips.{Tells};
+ghost use Rattle.dd_set.specs.Skips.{TellsValue};
 
 use crate::checks::{Shape, Sort, sort_of};
 use crate::cleaning::take_cleaned;
@@ -109,7 +109,7 @@ fn take_value<F: Feed>(
     keeps: bool,
 ) -> Result<(Option<FoundValue>, Option<u64>), SetFault>
     ensures found { Scans F.moves F.tells feed.old feed.new (λ bytes rest.
-        Tells (option_map value_told) (told_where keeps) result
+        TellsValue (option_map value_told) (told_where keeps) result
         (content_at (sequence_with (item_reader levels)) syntax (shape_view shape)
         (record { left = left; bytes = bytes })) rest) }
     ensures fewer { F.most feed.new ≤ F.most feed.old }
@@ -133,7 +133,7 @@ fn take_wanted<F: Feed>(
     shape: Shape,
     left: Option<u64>,
 ) -> Result<(FoundValue, Option<u64>), SetFault>
-    ensures found { Scans F.moves F.tells feed.old feed.new (λ bytes rest. Tells value_told told_of result
+    ensures found { Scans F.moves F.tells feed.old feed.new (λ bytes rest. TellsValue value_told told_of result
         (content_at (sequence_with (item_reader levels)) syntax (shape_view shape)
         (record { left = left; bytes = bytes })) rest) }
     ensures fewer { F.most feed.new ≤ F.most feed.old }

@@ -59,7 +59,6 @@ returns-in-Ok-clause-gave g c =
         record {
           set = w.answered.0;
           spelled = read_is_spelled c.args.syntax w.given w.answered.0 w.bytes (omega (arith, w.ends.0, c.requires.room)) w.answered.1;
-          read = w.answered.1;
           told = w.answered.2;
         },
       ),
