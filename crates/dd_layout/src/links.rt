@@ -3,7 +3,7 @@
 ghost use Rattle.std.specs.Prelude.{◌≡◌, List, map};
 ghost use Rattle.dd_keys.specs.declared.parts.Parts.{Parts};
 ghost use Rattle.dd_layout.specs.declared.label.Label.{Label};
-ghost use Rattle.dd_layout.specs.Linking.{behind_from, lower_of, next_of, none_behind};
+ghost use Rattle.dd_layout.specs.Linking.{behind_from, lower_of, next_of};
 ghost use Rattle.dd_layout.specs.Plans.{records_of, tree};
 ghost use Rattle.dd_layout.specs.Stages.{placed_at};
 
@@ -22,16 +22,12 @@ struct Behind {
 
 impl Behind {
     /// What stands behind the last record.
-    fn none() -> Behind
-        ensures { result ≡ none_behind }
-    {
-        Behind {
-            patient: 0,
-            study: 0,
-            series: 0,
-            image: 0,
-        }
-    }
+    const NONE: Behind = Behind {
+        patient: 0,
+        study: 0,
+        series: 0,
+        image: 0,
+    };
 
     /// The offset of the next record of the same parent, for a record of this level.
     fn next(self, level: Level) -> u32
@@ -64,13 +60,13 @@ impl Behind {
         match level {
             Level::Patient => Behind {
                 patient: at,
-                ..Behind::none()
+                ..Behind::NONE
             },
             Level::Study => Behind {
-                patient: self.patient,
                 study: at,
                 series: 0,
                 image: 0,
+                ..self
             },
             Level::Series => Behind {
                 series: at,
@@ -88,7 +84,7 @@ pub(crate) fn link(records: &mut [PlanRecord])
         → records.old ≡ map (placed_at label versions) (tree versions)
         → records.new ≡ records_of label versions }
 {
-    let mut behind = Behind::none();
+    let mut behind = Behind::NONE;
     for i in (0..records.len()).rev() {
         let record = &mut records[i];
         record.next = behind.next(record.level);

@@ -7,7 +7,7 @@ use Rattle.dd_layout.proofs.links.link.Goals as goal
 pub loop-i-init : goal.loop-i-init
 loop-i-init c = record {
   rows = rows_at_first c.args.records.now;
-  behind = c.none-behind.ensures ∙ behind_at_first c.args.records.now;
+  behind = behind_at_first c.args.records.now;
 }
 
 pub loop-i-preserved : goal.loop-i-preserved
