@@ -14,11 +14,11 @@ use crate::feed::Feed;
 use crate::filling::fill;
 use crate::found::FoundValue;
 use crate::taking::take;
-use dd_elem::clean;
+use dd_elem::{Key, clean};
 use std::alloc::Global;
 
-/// How many bytes of a value are kept.
-const KEPT: usize = 1024;
+/// How many bytes of a value are kept: as many as a key has at most.
+const KEPT: usize = Key::MAX_LEN;
 
 /// How many bytes a short value has at most: room for as many is made for each value, and for most
 /// values this is enough.
