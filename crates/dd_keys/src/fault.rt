@@ -1,10 +1,11 @@
 //! Why bytes are no file of a version.
 
 ghost use Rattle.std.specs.Prelude.{◌≡◌};
+ghost use Rattle.dd_keys.specs.Answers.{refusal_of};
 ghost use Rattle.dd_keys.specs.declared.fault.KeyFault.TheVariants as faults;
 
 use dd_elem::{self, Tag, Uid};
-use dd_part10::FileFault;
+use dd_part10::{FileFault, StreamFault};
 use thiserror::Error;
 
 /// The first check that a file fails as that of a version; or a reader's failure, too many bytes, or
@@ -48,6 +49,18 @@ impl From<FileFault> for KeyFault {
 
     fn from(fault: FileFault) -> KeyFault {
         KeyFault::File(fault)
+    }
+}
+
+impl From<StreamFault> for KeyFault {
+    ghost from_gives = { λ fault e. e ≡ refusal_of fault };
+
+    fn from(fault: StreamFault) -> KeyFault {
+        match fault {
+            StreamFault::Read => KeyFault::Read,
+            StreamFault::TooLong => KeyFault::FileTooLong,
+            StreamFault::File(fault) => KeyFault::File(fault),
+        }
     }
 }
 

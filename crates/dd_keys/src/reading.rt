@@ -7,7 +7,7 @@ ghost use Rattle.dd_elem.specs.Device.{Gives};
 ghost use Rattle.dd_set.specs.Bytes.{AreBytes};
 ghost use Rattle.dd_part10.specs.Syntaxes.{syntax_of};
 ghost use Rattle.dd_keys.specs.declared.parts.Parts.{Parts};
-ghost use Rattle.dd_keys.specs.Answers.{Answers, AnswersReader, refusal_of};
+ghost use Rattle.dd_keys.specs.Answers.{Answers, AnswersReader};
 ghost use Rattle.dd_keys.specs.Faults.{first_fault};
 ghost use Rattle.dd_keys.specs.Told.{AreFronts, IsJudged, told_fault, told_parts};
 ghost use Rattle.dd_keys.specs.Versions.{IsVersion};
@@ -21,7 +21,7 @@ use crate::told::Values;
 use crate::values::parts_in;
 use crate::version::Version;
 use dd_elem::Read;
-use dd_part10::{Meta, StreamFault, parse_file, read_file};
+use dd_part10::{Meta, parse_file, read_file};
 use sha2::{Digest, Sha256};
 use std::alloc::Global;
 
@@ -71,23 +71,9 @@ fn ingest_digesting<R: Read>(
         (R.failures digesting.old.reader.now) (R.failures digesting.new.reader.now) result }
     ensures calls { R.calls digesting.new.reader.now ≤ R.calls digesting.old.reader.now + limit + 1 }
 {
-    let scanned = match read_file(alloc, digesting, &WANTED, limit) {
-        Ok(scanned) => scanned,
-        Err(fault) => return Err(refusal(fault)),
-    };
+    let scanned = read_file(alloc, digesting, &WANTED, limit)?;
     let digest = digesting.hasher.finalize_reset();
     version_from(alloc, &scanned.meta, &scanned.found, digest)
-}
-
-/// The refusal of a file that was not read.
-fn refusal(fault: StreamFault) -> KeyFault
-    ensures { result ≡ refusal_of fault }
-{
-    match fault {
-        StreamFault::Read => KeyFault::Read,
-        StreamFault::TooLong => KeyFault::FileTooLong,
-        StreamFault::File(fault) => KeyFault::File(fault),
-    }
 }
 
 /// The version of a file with this meta information, these values of its data set and this digest; or the
