@@ -14,8 +14,6 @@ use crate::merge_fault::MergeFault;
 use dd_dir::{DirFault, Own, OwnFault, Place, own_of, read_directory};
 use dd_elem::{Memory, Uid};
 use dd_keys::Version;
-use dd_part10::FileFault;
-use dd_set::SetFault;
 use std::alloc::Global;
 
 /// The file of an image, by what tells it from others.
@@ -132,11 +130,11 @@ fn dir_fault(at: usize, fault: DirFault) -> MergeFault
 pub fn is_want_of_memory(fault: &DirFault) -> bool
     ensures { IsTrue result ↔ IsWantOfMemory fault.now }
 {
-    matches!(
-        fault,
-        DirFault::Memory
-            | DirFault::File(FileFault::Meta(SetFault::Memory) | FileFault::Set(SetFault::Memory))
-    )
+    match fault {
+        DirFault::Memory => true,
+        DirFault::File(fault) => fault.is_want_of_memory(),
+        _ => false,
+    }
 }
 
 /// The fault of the records of the set of this number, as a merge's.

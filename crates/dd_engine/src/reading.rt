@@ -9,8 +9,6 @@ use crate::engine_fault::EngineFault;
 use crate::supply::Supply;
 use dd_elem::Memory;
 use dd_keys::{KeyFault, Version, ingest};
-use dd_part10::FileFault;
-use dd_set::SetFault;
 use std::alloc::Global;
 
 /// What was read of sources, in their order.
@@ -152,9 +150,9 @@ fn is_of_source(fault: &KeyFault) -> bool
 fn is_want_of_memory(fault: &KeyFault) -> bool
     ensures { IsTrue result ↔ SaysMemory fault.now }
 {
-    matches!(
-        fault,
-        KeyFault::Memory
-            | KeyFault::File(FileFault::Meta(SetFault::Memory) | FileFault::Set(SetFault::Memory))
-    )
+    match fault {
+        KeyFault::Memory => true,
+        KeyFault::File(fault) => fault.is_want_of_memory(),
+        _ => false,
+    }
 }

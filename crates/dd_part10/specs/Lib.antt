@@ -1,6 +1,7 @@
 pub mod Syntaxes
 pub mod Memory
 pub mod Meta
+pub mod Faults
 pub mod File
 pub mod Reading
 pub mod Matches

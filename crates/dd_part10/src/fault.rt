@@ -1,4 +1,6 @@
 //! Why bytes are no DICOM file.
+ghost use Rattle.std.specs.Prelude.{◌↔◌, IsTrue};
+ghost use Rattle.dd_part10.specs.Faults.{SaysMemory};
 
 use dd_elem::{Tag, Uid};
 use dd_set::SetFault;
@@ -34,4 +36,16 @@ pub enum FileFault {
     /// The bytes behind group 0002 are no data set, or a growth was refused while they were read.
     #[error("27 Set {0}")]
     Set(SetFault),
+}
+
+impl FileFault {
+    /// Does the fault say that a growth was refused?
+    pub fn is_want_of_memory(&self) -> bool
+        ensures { IsTrue result ↔ SaysMemory self.now }
+    {
+        matches!(
+            self,
+            FileFault::Meta(SetFault::Memory) | FileFault::Set(SetFault::Memory)
+        )
+    }
 }
