@@ -11,9 +11,9 @@ use Rattle.dd_layout.specs.Layouts.{Layout, layout_of}
 use Rattle.dd_layout.specs.Plans.{records_of}
 use Rattle.dd_engine.specs.declared.choice.Choice.{Choice}
 use Rattle.dd_engine.specs.Choosing.{label_for}
-use Rattle.dd_engine.specs.Indexing.{Answer, Sourced, accepted_from, best_of_sources, files_of, skipped_from}
+use Rattle.dd_engine.specs.Indexing.{Answer, Sourced, accepted_from, best_of_sources, skipped_from}
 use Rattle.dd_engine.specs.Indexing.{versions_of}
-use Rattle.dd_engine.specs.Picking.{ArePicked, found_of}
+use Rattle.dd_engine.specs.Picking.{ArePicked, files_of, found_of}
 
 -- the numbers of sources
 abbrev numbers_of : List Sourced → List ℕ

@@ -12,7 +12,7 @@ use Rattle.dd_dir.specs.Trees.{Walk}
 use Rattle.dd_keys.specs.declared.parts.Parts.{Parts}
 use Rattle.dd_engine.specs.declared.merge_fault.MergeFault.{MergeFault}
 use Rattle.dd_engine.specs.declared.merge_fault.MergeFault.TheVariants.{Dir, Own, Plan, Memory}
-use Rattle.dd_engine.specs.Merging.{AreOwn, IsFirst, IsForeign, IsOwn, numbered, places_in, versions_in}
+use Rattle.dd_engine.specs.Merging.{AreOwn, IsFirst, IsForeign, IsOwn, numbered, place_pick, places_in, versions_in}
 use Rattle.dd_engine.specs.MergeSteps.{FailsAt, GathersAll, own_fault}
 use Rattle.dd_engine.proofs.ImagePicks.{twice}
 
@@ -51,22 +51,23 @@ versions_more before at images old new added was is told =
     (told ∙ sym (twice (λ (i : ℕ × Listed). version_of i.1) (λ image. (at, image)) images))
     ∙ sym (map-append (λ (i : ℕ × Listed). version_of i.1) before (map (λ image. (at, image)) images))
 
-pub parts_more : {C : Type 0} (h : ℕ × Located → C) (before : List (ℕ × Listed)) (at : ℕ) (images : List Listed)
-    (old new : List C) (added : List Place) → old ≡ map h (places_in before)
-    → new ≡ old ++ map (λ place. h (at, place_view place)) added
+pub picks_more : (before : List (ℕ × Listed)) (at : ℕ) (images : List Listed) (old new : List (ℕ × List ℕ))
+    (added : List Place) → old ≡ map place_pick (places_in before)
+    → new ≡ old ++ map (λ place. place_pick (at, place_view place)) added
     → map (λ place. place_view place) added ≡ map place_of images
-    → new ≡ map h (places_in (before ++ map (λ image. (at, image)) images))
-parts_more h before at images old new added was is views =
-    let here : map (λ place. h (at, place_view place)) added ≡ map h (places_in (map (λ image. (at, image)) images)) =
-    sym (twice (λ (p : Located). h (at, p)) (λ place. place_view place) added)
-    ∙ ap (map (λ (p : Located). h (at, p))) views
-    ∙ twice (λ (p : Located). h (at, p)) place_of images
-    ∙ sym (twice h (λ image. (at, place_of image)) images)
-    ∙ ap (map h) (sym (twice (λ (i : ℕ × Listed). (i.0, place_of i.1)) (λ image. (at, image)) images)) in
-    is ∙ ap (λ l. l ++ map (λ place. h (at, place_view place)) added) was
-    ∙ ap (λ l. map h (places_in before) ++ l) here
-    ∙ sym (map-append h (places_in before) (places_in (map (λ image. (at, image)) images)))
-    ∙ ap (map h)
+    → new ≡ map place_pick (places_in (before ++ map (λ image. (at, image)) images))
+picks_more before at images old new added was is views =
+    let here : map (λ place. place_pick (at, place_view place)) added
+    ≡ map place_pick (places_in (map (λ image. (at, image)) images)) =
+    sym (twice (λ (p : Located). place_pick (at, p)) (λ place. place_view place) added)
+    ∙ ap (map (λ (p : Located). place_pick (at, p))) views
+    ∙ twice (λ (p : Located). place_pick (at, p)) place_of images
+    ∙ sym (twice place_pick (λ image. (at, place_of image)) images)
+    ∙ ap (map place_pick) (sym (twice (λ (i : ℕ × Listed). (i.0, place_of i.1)) (λ image. (at, image)) images)) in
+    is ∙ ap (λ l. l ++ map (λ place. place_pick (at, place_view place)) added) was
+    ∙ ap (λ l. map place_pick (places_in before) ++ l) here
+    ∙ sym (map-append place_pick (places_in before) (places_in (map (λ image. (at, image)) images)))
+    ∙ ap (map place_pick)
     (sym (map-append (λ (i : ℕ × Listed). (i.0, place_of i.1)) before (map (λ image. (at, image)) images)))
 
 -- ---- faults

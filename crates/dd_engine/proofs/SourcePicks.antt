@@ -8,8 +8,8 @@ use Rattle.dd_keys.specs.declared.parts.Parts.{Parts}
 use Rattle.dd_layout.specs.declared.label.Label.{Label}
 use Rattle.dd_layout.specs.Plans.{records_of}
 use Rattle.dd_engine.specs.declared.marks.Mark.{Mark}
-use Rattle.dd_engine.specs.Indexing.{Sourced, best_of_sources, files_of, versions_of}
-use Rattle.dd_engine.specs.Picking.{AreHeld, ArePicked, file_of, found_of, key_of, mark_view}
+use Rattle.dd_engine.specs.Indexing.{Sourced, best_of_sources, versions_of}
+use Rattle.dd_engine.specs.Picking.{AreHeld, ArePicked, file_of, files_of, found_of, key_of, mark_view}
 use Rattle.dd_engine.proofs.ImagePicks.{held}
 
 files_named : (sources : List Sourced)

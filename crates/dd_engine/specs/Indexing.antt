@@ -1,10 +1,9 @@
--- What an index of sources has: of each source the answer for its bytes, the versions of those that have one, the best
--- of these laid out, and for each image a source to copy it from.
+-- What an index reads of its sources: of each the answer for its bytes, the versions of those that have one, and the
+-- best of these.
 use Rattle.std.specs.Prelude.{ℕ, suc, List, [], ◌∷◌, map, Result, Ok, Err}
 use Rattle.dd_catalogue.specs.Versions.{best_of}
 use Rattle.dd_keys.specs.declared.fault.KeyFault.{KeyFault}
 use Rattle.dd_keys.specs.declared.parts.Parts.{Parts}
-use Rattle.dd_engine.specs.Picking.{FileKey, file_of}
 
 -- ---- what was read
 
@@ -39,9 +38,3 @@ versions_of sources = map (λ source. source.1) sources
 
 abbrev pub best_of_sources : List Sourced → List Parts
 best_of_sources sources = best_of (versions_of sources)
-
--- ---- where an image is copied from
-
--- the number of each source, and its file
-abbrev pub files_of : List Sourced → List (ℕ × FileKey)
-files_of sources = map (λ source. (source.0, file_of source.1)) sources

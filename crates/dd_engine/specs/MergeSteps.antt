@@ -3,23 +3,18 @@ use Rattle.std.specs.Prelude.{◌≡◌, ℕ, List, map, Some, Result, Ok, Err}
 use Rattle.dd_dir.specs.declared.own_fault.OwnFault.{OwnFault}
 use Rattle.dd_dir.specs.declared.own_fault.OwnFault.TheVariants as owns
 use Rattle.dd_dir.specs.Own.{Listed}
-use Rattle.dd_dir.specs.OwnVersions.{Located}
 use Rattle.dd_dir.specs.Reading.{Refuses}
 use Rattle.dd_layout.specs.Bounds.{Bounds}
 use Rattle.dd_layout.specs.declared.fault.PlanFault.{PlanFault}
 use Rattle.dd_layout.specs.declared.fault.PlanFault.TheVariants as plans
 use Rattle.dd_engine.specs.declared.choice.Choice.{Choice}
 use Rattle.dd_engine.specs.declared.gathering.Gathered.{Gathered}
-use Rattle.dd_engine.specs.declared.gathering.ImageFile.{ImageFile}
-use Rattle.dd_engine.specs.declared.marks.Mark.{Mark}
 use Rattle.dd_engine.specs.declared.merge.Merged.{Merged}
-use Rattle.dd_engine.specs.declared.merge.Pick.{Pick}
 use Rattle.dd_engine.specs.declared.merge_fault.MergeFault.{MergeFault}
 use Rattle.dd_engine.specs.declared.merge_fault.MergeFault.TheVariants.{Dir, Own, Plan, Memory}
 use Rattle.dd_engine.specs.Choosing.{refusal_for}
 use Rattle.dd_engine.specs.Merging.{AreOwn, IsFirst, IsForeign, IsMerged, IsOwn, best_in, numbered, pick_view}
-use Rattle.dd_engine.specs.Merging.{place_key, place_pick, places_in, versions_in}
-use Rattle.dd_engine.specs.Picking.{FileKey, key_of}
+use Rattle.dd_engine.specs.Merging.{place_pick, places_in, versions_in}
 
 -- ---- faults in the words of a merge: want of memory is its own
 
@@ -51,21 +46,10 @@ AnswersSet Gives at set (Err fault) = FailsAt at set fault
 
 -- ---- all sets
 
-abbrev pub file_view : ImageFile → FileKey
-file_view file = record { instance = file.instance; digest = file.digest }
-
-abbrev pub placed_view : Mark Pick → (ℕ × List ℕ) × FileKey
-placed_view mark = (pick_view mark.at, key_of mark)
-
--- they are the files of these places, and where these are
-pub record AreOf (places : List (ℕ × Located)) (files : List ImageFile) (picks : List Pick) : Type 0 where
-  pub named : map (λ file. file_view file) files ≡ map (λ place. place_key place.1) places
-  pub picked : map (λ pick. pick_view pick) picks ≡ map (λ place. place_pick place) places
-
--- what was gathered is of these images: their versions, the files, and where they are
+-- what was gathered is of these images: their versions, and where the files are
 pub record Gathers (images : List (ℕ × Listed)) (gathered : Gathered) : Type 0 where
   pub versions : gathered.versions.items ≡ versions_in images
-  pub files : AreOf (places_in images) gathered.files.items gathered.picks.items
+  pub picks : map (λ pick. pick_view pick) gathered.picks.items ≡ map (λ place. place_pick place) (places_in images)
 
 -- what was gathered of all sets, or why not
 abbrev pub GathersAll : List (List ℕ) → Result Gathered MergeFault → Type 0

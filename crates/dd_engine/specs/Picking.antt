@@ -24,6 +24,10 @@ file_of version = record { instance = version.instance; digest = version.digest 
 abbrev pub is_one : FileKey → FileKey → Bool
 is_one one other = same one.instance other.instance && same one.digest other.digest
 
+-- the file of each of these versions, and what stands beside it
+abbrev pub files_of : {T : Type 0} → List (T × Parts) → List (T × FileKey)
+files_of versions = map (λ version. (version.0, file_of version.1)) versions
+
 -- ---- what is found
 
 -- where the first of these files is that is this one

@@ -5,33 +5,21 @@ ghost use Rattle.dd_dir.specs.ReadAnswers.{IsWantOfMemory};
 ghost use Rattle.dd_dir.specs.Own.{Listed};
 ghost use Rattle.dd_dir.specs.OwnVersions.{Tells, place_view};
 ghost use Rattle.dd_dir.specs.Reading.{Refuses};
-ghost use Rattle.dd_engine.specs.Merging.{pick_view, place_key, place_pick};
-ghost use Rattle.dd_engine.specs.MergeSteps.{AnswersSet, FailsAt, Gathers, GathersAll};
-ghost use Rattle.dd_engine.specs.MergeSteps.{file_view, own_fault};
+ghost use Rattle.dd_engine.specs.Merging.{pick_view, place_pick};
+ghost use Rattle.dd_engine.specs.MergeSteps.{AnswersSet, FailsAt, Gathers, GathersAll, own_fault};
 
 use crate::merge::Pick;
 use crate::merge_fault::MergeFault;
 use dd_dir::{DirFault, Own, OwnFault, Place, own_of, read_directory};
-use dd_elem::{Memory, Uid};
+use dd_elem::Memory;
 use dd_keys::Version;
 use std::alloc::Global;
-
-/// The file of an image, by what tells it from others.
-#[derive(Clone, Copy)]
-pub(crate) struct ImageFile {
-    /// The SOP Instance UID of the image.
-    pub(crate) instance: Uid,
-    /// The SHA-256 of the file.
-    pub(crate) digest: [u8; 32],
-}
 
 /// What sets list, in their order.
 pub(crate) struct Gathered<'a> {
     /// The versions of all images.
     pub(crate) versions: Vec<Version>,
-    /// Their files.
-    pub(crate) files: Vec<ImageFile>,
-    /// Where these are.
+    /// Where their files are.
     pub(crate) picks: Vec<Pick<'a>>,
 }
 
@@ -40,7 +28,6 @@ impl Drop for Gathered<'_> {
     fn drop(self) {
         let Gathered {
             versions: _versions,
-            files: _files,
             picks: _picks,
         } = self;
     }
@@ -53,7 +40,6 @@ impl<'a> Gathered<'a> {
     {
         Gathered {
             versions: Vec::new(alloc),
-            files: Vec::new(alloc),
             picks: Vec::new(alloc),
         }
     }
@@ -61,15 +47,11 @@ impl<'a> Gathered<'a> {
     /// Adds what the set of this number lists.
     fn keep(&mut self, at: usize, mut own: Own<'a>) -> Result<(), Memory>
         ensures versions { OnOk result (self.new.versions.items ≡ self.old.versions.items ++ own.entry.versions.items) }
-        ensures files { OnOk result (map (λ file. file_view file) self.new.files.items
-            ≡ map (λ file. file_view file) self.old.files.items
-            ++ map (λ place. place_key (place_view place)) own.entry.places.items) }
         ensures picks { OnOk result (map (λ pick. pick_view pick) self.new.picks.items
             ≡ map (λ pick. pick_view pick) self.old.picks.items
             ++ map (λ place. place_pick (at, place_view place)) own.entry.places.items) }
     {
         self.versions.append(&mut own.versions)?;
-        add_files(&mut self.files, &own.places)?;
         add_picks(&mut self.picks, at, &own.places)
     }
 }
@@ -145,21 +127,6 @@ fn own_fault(at: usize, fault: OwnFault) -> MergeFault
         OwnFault::Memory => MergeFault::Memory,
         fault => MergeFault::Own(at, fault),
     }
-}
-
-/// Adds the files of these places.
-fn add_files(to: &mut Vec<ImageFile>, places: &[Place<'_>]) -> Result<(), Memory>
-    ensures { OnOk result (map (λ file. file_view file) to.new.items
-        ≡ map (λ file. file_view file) to.old.items ++ map (λ place. place_key (place_view place)) places.now) }
-{
-    to.reserve(places.len())?;
-    for place in places {
-        to.push(ImageFile {
-            instance: place.uid,
-            digest: place.digest,
-        })?;
-    }
-    Ok(())
 }
 
 /// Adds where the files of these places are, of the set of this number.

@@ -1,9 +1,10 @@
 //! Where the first file of each image of a plan is, of many.
 
 ghost use Rattle.std.specs.Prelude.{◌≡◌, ◌≢◌, [], Some, IfOk, map, filter};
+ghost use Rattle.std.specs.List.{zip};
 ghost use Rattle.std.specs.List.Sorted.{IsSorted};
 ghost use Rattle.dd_layout.specs.Plans.{records_of};
-ghost use Rattle.dd_engine.specs.Picking.{AreHeld, ArePicked, file_cmp, file_of, found, is_one};
+ghost use Rattle.dd_engine.specs.Picking.{AreHeld, ArePicked, file_cmp, file_of, files_of, found, is_one};
 ghost use Rattle.dd_engine.specs.Picking.{key_of, mark_cmp, mark_view};
 
 use dd_elem::{Memory, Ordered, Uid};
@@ -21,6 +22,27 @@ pub(crate) struct Mark<'a, T> {
     pub(crate) digest: &'a [u8; 32],
     /// Where the file is.
     pub(crate) at: T,
+}
+
+/// A mark of the file of each version, which is where the place beside it says.
+pub(crate) fn marks_of<'a, T: Copy>(
+    alloc: Global,
+    versions: &'a [Version],
+    places: &[T],
+) -> Result<Vec<Mark<'a, T>>, Memory>
+    ensures { IfOk result (λ marks. map (λ mark. mark_view mark) marks.items
+        ≡ files_of (zip places.now versions.now)) }
+{
+    let mut marks = Vec::with_capacity(alloc, versions.len())?;
+    for (at, version) in places.iter().zip(versions) {
+        let parts = version.parts();
+        marks.push(Mark {
+            instance: &parts.instance,
+            digest: &parts.digest,
+            at: *at,
+        })?;
+    }
+    Ok(marks)
 }
 
 /// For each image of the plan, in the order of the records, where the first of these files is that is

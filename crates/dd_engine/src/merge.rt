@@ -79,6 +79,6 @@ fn planned<'a>(
 {
     let catalogue = Catalogue::from_versions(alloc, &gathered.versions)?;
     let plan = plan_for(alloc, &catalogue, choice, limits)?;
-    let picks = place_picks(alloc, &plan, &gathered.files, &gathered.picks)?;
+    let picks = place_picks(alloc, &plan, gathered)?;
     Ok(Merged { plan, picks })
 }

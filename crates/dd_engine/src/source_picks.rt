@@ -1,13 +1,13 @@
 //! Which source each image of a directory is copied from.
 
-ghost use Rattle.std.specs.Prelude.{◌≡◌, ◌≢◌, [], IfOk, OnErr, map};
+ghost use Rattle.std.specs.Prelude.{◌≡◌, ◌≢◌, [], IfOk, OnErr};
 ghost use Rattle.std.specs.List.{zip};
 ghost use Rattle.dd_catalogue.specs.Harmony.{harmonised};
 ghost use Rattle.dd_layout.specs.Plans.{records_of};
-ghost use Rattle.dd_engine.specs.Indexing.{best_of_sources, files_of};
-ghost use Rattle.dd_engine.specs.Picking.{ArePicked, mark_view};
+ghost use Rattle.dd_engine.specs.Indexing.{best_of_sources};
+ghost use Rattle.dd_engine.specs.Picking.{ArePicked, files_of};
 
-use crate::marks::{Mark, first_marks};
+use crate::marks::{first_marks, marks_of};
 use dd_elem::Memory;
 use dd_keys::Version;
 use dd_layout::Plan;
@@ -30,27 +30,6 @@ pub(crate) fn source_picks(
     if versions.is_empty() {
         return Ok(Vec::new(alloc));
     }
-    let marks = marks(alloc, versions, numbers)?;
+    let marks = marks_of(alloc, versions, numbers)?;
     first_marks(alloc, plan, marks)
-}
-
-/// A mark of each source.
-fn marks<'a>(
-    alloc: Global,
-    versions: &'a [Version],
-    numbers: &[usize],
-) -> Result<Vec<Mark<'a, usize>>, Memory>
-    ensures { IfOk result (λ marks. map (λ mark. mark_view mark) marks.items
-        ≡ files_of (zip numbers.now versions.now)) }
-{
-    let mut marks = Vec::with_capacity(alloc, versions.len())?;
-    for (at, version) in numbers.iter().zip(versions) {
-        let parts = version.parts();
-        marks.push(Mark {
-            instance: &parts.instance,
-            digest: &parts.digest,
-            at: *at,
-        })?;
-    }
-    Ok(marks)
 }

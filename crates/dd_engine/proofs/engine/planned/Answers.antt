@@ -4,7 +4,8 @@ use Rattle.dd_keys.specs.declared.parts.Parts.{Parts}
 use Rattle.dd_layout.specs.Layouts.{layout_of}
 use Rattle.dd_layout.specs.Plans.{records_of}
 use Rattle.dd_engine.specs.Choosing.{label_for, refusal_for}
-use Rattle.dd_engine.specs.Indexing.{accepted, best_of_sources, files_of}
+use Rattle.dd_engine.specs.Indexing.{accepted, best_of_sources}
+use Rattle.dd_engine.specs.Picking.{files_of}
 use Rattle.dd_engine.proofs.ImagePicks.{holds_of_picks}
 use Rattle.dd_engine.proofs.Planning.{accepted_below, best_is, planned_picks, planned_versions, skipped_below, zip_is}
 use Rattle.dd_engine.proofs.engine.planned.Goals as goal

@@ -3,8 +3,7 @@ use Rattle.dd_catalogue.specs.Versions.{best_of}
 use Rattle.dd_keys.specs.declared.parts.Parts.{Parts}
 use Rattle.dd_layout.specs.Layouts.{layout_of}
 use Rattle.dd_engine.specs.Choosing.{label_for, refusal_for}
-use Rattle.dd_engine.specs.Merging.{places_in}
-use Rattle.dd_engine.proofs.MergePlans.{files_are, picked_of, planned_of}
+use Rattle.dd_engine.proofs.MergePlans.{picked_of, planned_of}
 use Rattle.dd_engine.proofs.merge.planned.Goals as goal
 
 pub place_picks-requires : goal.place_picks-requires
@@ -14,7 +13,7 @@ place_picks-requires c =
       c.requires.0,
       planned_of c.requires.0 c.args.choice.now c.in_ok-catalogue.catalogue c.in_ok-plan.plan best
           c.in_ok-plan.ensures.planned,
-      files_are _ _ _ _ _ c.deref-2.ensures.value c.deref-3.ensures.value held.files,
+      held,
     )
 
 pub returns : goal.returns
@@ -25,8 +24,6 @@ returns c = λ images held.
       plan = c.in_ok-plan.ensures.planned ∙ ap (λ (m : List Parts). layout_of (label_for choice m) m) best;
       allowed = ap (λ (m : List Parts). refusal_for choice c.args.limits m) (sym best)
           ∙ c.in_ok-plan.ensures.allowed refl;
-      picks = picked_of images choice c.in_ok-catalogue.catalogue c.in_ok-plan.plan (places_in images)
-          c.in_ok-picks.picks.items best c.in_ok-plan.ensures.planned refl
-          (c.in_ok-picks.ensures (places_in images)
-          (files_are _ _ _ _ _ c.deref-2.ensures.value c.deref-3.ensures.value held.files));
+      picks = picked_of images choice c.in_ok-catalogue.catalogue c.in_ok-plan.plan c.in_ok-picks.picks.items best
+          c.in_ok-plan.ensures.planned (c.in_ok-picks.ensures images held);
     }

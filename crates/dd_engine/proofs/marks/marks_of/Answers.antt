@@ -1,14 +1,14 @@
-use Rattle.std.proofs.Common.{[], ◌∷◌, ◌++◌, ◌∙◌, sym, ap, map, ℕ}
+use Rattle.std.proofs.Common.{[], ◌∷◌, ◌++◌, ◌∙◌, sym, ap, map}
 use Rattle.std.proofs.lemmas.Iterator.{YieldsList-from_slice, YieldsList-from_zip}
 use Rattle.std.proofs.lemmas.Iterator.Consumers.{YieldsList-end}
 use Rattle.std.proofs.lemmas.List.{map-append}
 use Rattle.dd_keys.specs.declared.parts.Parts.{Parts}
 use Rattle.dd_engine.specs.Picking.{file_of, mark_view}
 use Rattle.dd_engine.proofs.ImagePicks.{twice}
-use Rattle.dd_engine.proofs.source_picks.marks.Goals as goal
+use Rattle.dd_engine.proofs.marks.marks_of.Goals as goal
 
 pub loop-at-preserved : goal.loop-at-preserved
-loop-at-preserved c =
+loop-at-preserved g c =
     ap (λ l. map (λ mark. mark_view mark) l) c.in_ok-push.ensures.items
     ∙ map-append (λ mark. mark_view mark) c.loop-at.marks.items (_ ∷ [])
     ∙ ap (λ l. l ++ (c.in-Some.at.now, file_of c.parts-parts.result.now) ∷ []) c.loop-at.invariant
@@ -17,10 +17,10 @@ loop-at-preserved c =
     ∙ sym (map-append (λ p. (p.0.now, file_of p.1.now)) c.loop-at.yielded ((c.in-Some.at, c.in-Some.version) ∷ []))
 
 pub returns : goal.returns
-returns c =
+returns g c =
     c.loop-at.invariant
-    ∙ sym (twice (λ (p : ℕ × Parts). (p.0, file_of p.1)) (λ p. (p.0.now, p.1.now)) c.loop-at.yielded)
-    ∙ ap (map (λ (p : ℕ × Parts). (p.0, file_of p.1)))
-    (YieldsList-end (YieldsList-from_zip (YieldsList-from_slice c.args.numbers.now cc)
+    ∙ sym (twice (λ (p : g.row.T.Denot × Parts). (p.0, file_of p.1)) (λ p. (p.0.now, p.1.now)) c.loop-at.yielded)
+    ∙ ap (map (λ (p : g.row.T.Denot × Parts). (p.0, file_of p.1)))
+    (YieldsList-end (YieldsList-from_zip (YieldsList-from_slice c.args.places.now cc)
     (YieldsList-from_slice c.args.versions.now cc))
     c.loop-at.yielded _ c.loop-at.yielded_by _ c.next.new.self c.in-None.is c.next.ensures.steps).0

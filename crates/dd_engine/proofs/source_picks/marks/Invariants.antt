@@ -1,7 +1,0 @@
-use Rattle.std.proofs.Common.{◌≡◌, map}
-use Rattle.dd_engine.specs.Picking.{file_of, mark_view}
-use Rattle.dd_engine.proofs.source_picks.marks.Given as goal
-
--- a mark of each source so far
-abbrev pub invariant-loop-at : goal.invariant-loop-at
-invariant-loop-at l = map (λ mark. mark_view mark) l.marks.items ≡ map (λ p. (p.0.now, file_of p.1.now)) l.yielded
