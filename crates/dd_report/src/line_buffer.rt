@@ -21,11 +21,14 @@ pub(crate) struct LineBuffer {
 }
 
 impl Model for LineBuffer {
+    ghost use Rattle.std.specs.Prelude.{◌≤◌, ℕ, List, take};
+    ghost use Rattle.dd_report.specs.declared.line_buffer.TheConstants.{ROOM};
+
     ghost Value = { List ℕ };
 
     ghost view = { λ b. take b.used b.bytes };
 
-    ghost invariant = { λ b. b.used ≤ 8192 };
+    ghost invariant = { λ b. b.used ≤ ROOM };
 }
 
 impl LineBuffer {
@@ -110,14 +113,14 @@ impl LineBuffer {
 
     /// Is there room for so many bytes more?
     fn has_room(&self, more: usize) -> bool
-        ensures { IsTrue result ↔ (length self.now + more ≤ 8192) }
+        ensures { IsTrue result ↔ (length self.now + more ≤ ROOM) }
     {
         more <= ROOM - self.used
     }
 
     /// Keeps bytes behind those that wait.
     fn keep(&mut self, more: &[u8])
-        requires { length self.old + length more.now ≤ 8192 }
+        requires { length self.old + length more.now ≤ ROOM }
         ensures { self.new ≡ self.old ++ more.now }
     {
         let end = self.used + more.len();
