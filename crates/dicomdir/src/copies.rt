@@ -2,14 +2,13 @@
 ghost use Rattle.std.specs.Prelude.{ℕ, All, IfErr};
 ghost use Rattle.dicomdir.specs.Refusal.{IsAmong, IsOfWork};
 
-use crate::image_path::{ImageFolder, ImagePath, PATH_LENGTH};
+use crate::image_path::{ImageFolder, ImagePath, ImagePathText};
 use crate::origins::Origins;
 use crate::refusal::{ProgramFault, Refusal, Subject};
 use dd_elem::FileId;
 use dd_files::{CopyFault, Files, SOURCE_LIMIT, copy_image, path_in};
 use dd_layout::Plan;
 use std::alloc::Global;
-use std::fmt::InlineText;
 
 /// An image of the file-set.
 #[derive(Clone, Copy)]
@@ -83,14 +82,14 @@ fn start_copy<F: Files>(
 ) -> Result<(), Refusal>
     ensures { (paths : ℕ) → IfErr result (IsOfWork paths) }
 {
-    let below = InlineText::<PATH_LENGTH>::of(&ImageFolder(file));
+    let below = ImagePathText::of(&ImageFolder(file));
     let Ok(path) = path_in(alloc, folder, below.as_str()) else {
         return Err(Refusal::general(ProgramFault::Memory));
     };
     if files.folder(path.as_str()).is_err() {
         return Err(Refusal::of(Subject::ImageFolder(file), ProgramFault::Folder));
     }
-    let name = InlineText::<PATH_LENGTH>::of(&ImagePath(file));
+    let name = ImagePathText::of(&ImagePath(file));
     let Ok(path) = path_in(alloc, folder, name.as_str()) else {
         return Err(Refusal::general(ProgramFault::Memory));
     };

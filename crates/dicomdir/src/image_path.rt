@@ -4,11 +4,18 @@ use dd_elem::FileId;
 use dd_files::slashed;
 use std::fmt::{self, InlineText, Write};
 
-/// How many characters the path of an image has in its file-set: those of the text of a File ID.
-pub(crate) const PATH_LENGTH: usize = 35;
+/// How many characters a component of a File ID has at most (PS3.10 section 8.2).
+const COMPONENT: usize = 8;
+
+/// How many characters the path of an image has in its file-set: those of four full components, and what
+/// stands between them.
+const PATH_LENGTH: usize = 4 * COMPONENT + 3;
 
 /// How many of them stand before the last component and its separator.
-const FOLDER_LENGTH: usize = 26;
+const FOLDER_LENGTH: usize = 3 * COMPONENT + 2;
+
+/// The text of the path of an image, or of its folder, in the folder of its file-set.
+pub(crate) type ImagePathText = InlineText<PATH_LENGTH>;
 
 /// The path of an image in the folder of its file-set: its File ID, with `/` between the components
 /// (PS3.10 section 8.2).
@@ -31,9 +38,8 @@ impl fmt::Display for ImageFolder {
     }
 }
 
-/// How many characters a File ID has at most: 8 components of 8, and what stands between them (PS3.10
-/// section 8.2).
-const FILE_ID_LENGTH: usize = 71;
+/// How many characters a File ID has at most: those of 8 full components, and what stands between them.
+const FILE_ID_LENGTH: usize = 8 * COMPONENT + 7;
 
 /// The text of the path of a file in the folder of its file-set.
 pub(crate) type PathText = InlineText<FILE_ID_LENGTH>;

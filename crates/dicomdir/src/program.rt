@@ -12,7 +12,7 @@ use crate::file_set::write_file_set;
 use crate::index::plan_index;
 use crate::merging::{plan_merge, read_sets, slices};
 use crate::origins::{SetFiles, SourceFiles};
-use crate::refusal::{ProgramFault, Refusal, WORDS_LENGTH, tell};
+use crate::refusal::{ProgramFault, Refusal, Words, tell};
 use crate::set_directory::{directory_bytes, refusal_of};
 use dd_dir::{DirFault, read_directory};
 use dd_elem::{SetId, Uid, Write};
@@ -24,7 +24,7 @@ use dd_line::{Asked, LineFault, Verb, read_words};
 use dd_report::{CheckFault, Text, check_records, list_records, print_line};
 use itoa::Buffer;
 use std::alloc::Global;
-use std::fmt::{self, InlineText};
+use std::fmt;
 
 /// Runs a command line, the first word being the program's name, and answers the status: 0 where the
 /// work is done or help was asked for, 1 where the run was refused or the output failed, 2 where the
@@ -235,7 +235,7 @@ fn tell_broken<O: Write>(fault: &DirFault, out: &mut O) -> u8
     ensures status { (result ≡ 1) ⊎ (result ≡ 3) }
     ensures failed { result ≡ 1 → HasFailed (O.failures out.old) (O.failures out.new) }
 {
-    let words = InlineText::<WORDS_LENGTH>::of(fault);
+    let words = Words::of(fault);
     match print_line(&["BROKEN ", words.as_str()], out) {
         Ok(()) => 3,
         Err(_) => 1,
@@ -279,7 +279,7 @@ fn tell_skipped<O: Write>(
     ensures { IsErr result → HasFailed (O.failures out.old) (O.failures out.new) }
 {
     for (at, fault) in skipped {
-        let words = InlineText::<WORDS_LENGTH>::of(fault);
+        let words = Words::of(fault);
         let path = sources[*at].as_str();
         print_line(&["SKIP ", path, ": ", words.as_str()], out)?;
     }

@@ -2,7 +2,7 @@
 ghost use Rattle.std.specs.Prelude.{◌≡◌, ◌↔◌, ◌⊎◌, length};
 ghost use Rattle.dicomdir.specs.Refusal.{IsAmong, IsBadLine};
 
-use crate::image_path::{ImageFolder, ImagePath, PATH_LENGTH, PathText};
+use crate::image_path::{ImageFolder, ImagePath, ImagePathText, PathText};
 use dd_dir::{DirFault, OwnFault};
 use dd_elem::{BadSetId, BadUid, FileId, Write};
 use dd_files::{DIRECTORY, is_joined_by_slash};
@@ -104,8 +104,8 @@ impl Refusal {
     }
 }
 
-/// The room for the words of a fault: none has as many bytes.
-pub(crate) const WORDS_LENGTH: usize = 256;
+/// The words of a fault: none has as many bytes as there is room for.
+pub(crate) type Words = InlineText<256>;
 
 /// Tells a refusal in a line, with no memory, and answers the status that the run ends with: 2 where the
 /// command line is at fault, and else 1. The line names the path that the refusal concerns: one of these
@@ -115,7 +115,7 @@ pub fn tell<W: Write>(refusal: &Refusal, folder: &str, sources: &[String], to: &
     ensures line { result ≡ 2 ↔ IsBadLine refusal.now.fault }
     ensures status { (result ≡ 1) ⊎ (result ≡ 2) }
 {
-    let words = InlineText::<WORDS_LENGTH>::of(&refusal.fault);
+    let words = Words::of(&refusal.fault);
     let words = words.as_str();
     match refusal.subject {
         Subject::General => print_fault("-", words, to),
@@ -127,11 +127,11 @@ pub fn tell<W: Write>(refusal: &Refusal, folder: &str, sources: &[String], to: &
         Subject::Folder => print_fault(folder, words, to),
         Subject::Directory => print_inside(folder, DIRECTORY, words, to),
         Subject::Image(file) => {
-            let name = InlineText::<PATH_LENGTH>::of(&ImagePath(file));
+            let name = ImagePathText::of(&ImagePath(file));
             print_inside(folder, name.as_str(), words, to);
         }
         Subject::ImageFolder(file) => {
-            let name = InlineText::<PATH_LENGTH>::of(&ImageFolder(file));
+            let name = ImagePathText::of(&ImageFolder(file));
             print_inside(folder, name.as_str(), words, to);
         }
     }
