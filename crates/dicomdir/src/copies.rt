@@ -55,9 +55,7 @@ fn copy_one<F: Files, O: Origins>(
     requires { O.has origins.now pick }
     ensures { IfErr result (IsOfWork (O.paths origins.now)) }
 {
-    let Ok(path) = origins.path(alloc, pick) else {
-        return Err(Refusal::general(ProgramFault::Memory));
-    };
+    let path = origins.path(alloc, pick)?;
     let origin = origins.subject(pick);
     let Ok(mut reader) = files.source(path.as_str()) else {
         return Err(Refusal::of(origin, ProgramFault::Absent));
@@ -83,16 +81,12 @@ fn start_copy<F: Files>(
     ensures { (paths : ℕ) → IfErr result (IsOfWork paths) }
 {
     let below = ImagePathText::of(&ImageFolder(file));
-    let Ok(path) = path_in(alloc, folder, below.as_str()) else {
-        return Err(Refusal::general(ProgramFault::Memory));
-    };
+    let path = path_in(alloc, folder, below.as_str())?;
     if files.folder(path.as_str()).is_err() {
         return Err(Refusal::of(Subject::ImageFolder(file), ProgramFault::Folder));
     }
     let name = ImagePathText::of(&ImagePath(file));
-    let Ok(path) = path_in(alloc, folder, name.as_str()) else {
-        return Err(Refusal::general(ProgramFault::Memory));
-    };
+    let path = path_in(alloc, folder, name.as_str())?;
     match files.create(path.as_str()) {
         Ok(()) => Ok(()),
         Err(_) => Err(Refusal::of(Subject::Image(file), ProgramFault::Create)),

@@ -28,9 +28,7 @@ pub(crate) fn refuse_taken<F: Files>(
 ) -> Result<(), Refusal>
     ensures { (paths : ℕ) → IfErr result (IsOfWork paths) }
 {
-    let Ok(path) = path_in(alloc, folder, DIRECTORY) else {
-        return Err(Refusal::general(ProgramFault::Memory));
-    };
+    let path = path_in(alloc, folder, DIRECTORY)?;
     match files.source(path.as_str()) {
         Ok(_) => Err(Refusal::of(Subject::Directory, ProgramFault::Create)),
         Err(_) => Ok(()),
@@ -54,9 +52,7 @@ pub(crate) fn write_file_set<F: Files, O: Origins>(
     if files.folder(folder).is_err() {
         return Err(Refusal::of(Subject::Folder, ProgramFault::Folder));
     }
-    let Ok(path) = path_in(alloc, folder, DIRECTORY) else {
-        return Err(Refusal::general(ProgramFault::Memory));
-    };
+    let path = path_in(alloc, folder, DIRECTORY)?;
     match publish(path.as_str(), plan, files) {
         Ok(()) => Ok(()),
         Err(fault) => Err(Refusal::of(Subject::Directory, fault)),

@@ -27,9 +27,7 @@ pub(crate) fn plan_index<F: Files>(
     ensures within { IfOk result (IsWithin (length sources.now)) }
 {
     refuse_taken(alloc, folder, files)?;
-    let Ok(mut counts) = counts_of(alloc, sources.len()) else {
-        return Err(Refusal::general(ProgramFault::Memory));
-    };
+    let mut counts = counts_of(alloc, sources.len())?;
     match index_files(
         alloc,
         sources,
@@ -76,7 +74,7 @@ fn refusal_of(fault: EngineFault) -> Refusal
     ensures { (sources : ℕ) → IsNamed sources fault → IsOfWork sources result }
 {
     match fault {
-        EngineFault::Memory => Refusal::general(ProgramFault::Memory),
+        EngineFault::Memory => Refusal::memory(),
         EngineFault::Absent(at) => Refusal::of(Subject::Source(at), ProgramFault::Absent),
         EngineFault::Unread(at) => Refusal::of(Subject::Source(at), ProgramFault::Unread),
         EngineFault::Plan(fault) => Refusal::general(ProgramFault::Plan(fault)),

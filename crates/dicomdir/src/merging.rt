@@ -59,7 +59,7 @@ fn refusal_of(fault: MergeFault) -> Refusal
     ensures { (sets : ℕ) → IsNamedSet sets fault → IsOfWork sets result }
 {
     match fault {
-        MergeFault::Memory => Refusal::general(ProgramFault::Memory),
+        MergeFault::Memory => Refusal::memory(),
         MergeFault::Dir(at, fault) => Refusal::of(Subject::Source(at), ProgramFault::Dir(fault)),
         MergeFault::Own(at, fault) => Refusal::of(Subject::Source(at), ProgramFault::Own(fault)),
         MergeFault::Plan(fault) => Refusal::general(ProgramFault::Plan(fault)),

@@ -184,7 +184,7 @@ fn run_merge<F: Files, O: Write, E: Write>(
         Err(refusal) => return tell(&refusal, folder, sets, err),
     };
     let Ok(slices) = slices(alloc, &directories) else {
-        return tell(&Refusal::general(ProgramFault::Memory), folder, sets, err);
+        return tell(&Refusal::memory(), folder, sets, err);
     };
     let merged = match plan_merge(alloc, &slices, choice, asked.max_bytes) {
         Ok(merged) => merged,
@@ -218,14 +218,14 @@ fn run_check<F: Files, O: Write, E: Write>(
     let forest = match read_directory(alloc, &bytes) {
         Ok(forest) => forest,
         Err(fault) if !is_want_of_memory(&fault) => return tell_broken(&fault, out),
-        Err(_) => return tell(&Refusal::general(ProgramFault::Memory), folder, sets, err),
+        Err(_) => return tell(&Refusal::memory(), folder, sets, err),
     };
     match check_records(alloc, folder, &forest, files, out) {
         Ok(false) => 0,
         Ok(true) => 3,
         Err(CheckFault::Unsent) => 1,
         Err(CheckFault::Memory) => {
-            tell(&Refusal::general(ProgramFault::Memory), folder, sets, err)
+            tell(&Refusal::memory(), folder, sets, err)
         }
     }
 }
@@ -313,7 +313,7 @@ fn refuse_line<O: Write, E: Write>(fault: &LineFault, out: &mut O, err: &mut E) 
 {
     match fault {
         LineFault::Refused(error) => tell_parser(error, out, err),
-        LineFault::Memory => tell(&Refusal::general(ProgramFault::Memory), "", &[], err),
+        LineFault::Memory => tell(&Refusal::memory(), "", &[], err),
     }
 }
 

@@ -1,10 +1,12 @@
 //! Why a run is refused, and how that is told.
 ghost use Rattle.std.specs.Prelude.{◌≡◌, ◌↔◌, ◌⊎◌, length};
+ghost use Rattle.dicomdir.specs.declared.refusal.ProgramFault.TheVariants as faults;
+ghost use Rattle.dicomdir.specs.declared.refusal.Subject.TheVariants as subjects;
 ghost use Rattle.dicomdir.specs.Refusal.{IsAmong, IsBadLine};
 
 use crate::image_path::{ImageFolder, ImagePath, ImagePathText, PathText};
 use dd_dir::{DirFault, OwnFault};
-use dd_elem::{BadSetId, BadUid, FileId, Write};
+use dd_elem::{BadSetId, BadUid, FileId, Memory, Write};
 use dd_files::{DIRECTORY, is_joined_by_slash};
 use dd_layout::PlanFault;
 use dd_report::print_line;
@@ -101,6 +103,21 @@ impl Refusal {
         ensures { result ≡ record { subject = subject; fault = fault } }
     {
         Refusal { subject, fault }
+    }
+
+    /// A growth was refused, which concerns no file.
+    pub fn memory() -> Refusal
+        ensures { result ≡ record { subject = Subject.General; fault = ProgramFault.Memory } }
+    {
+        Refusal::general(ProgramFault::Memory)
+    }
+}
+
+impl From<Memory> for Refusal {
+    ghost from_gives = { λ _ refusal. refusal ≡ record { subject = subjects.General; fault = faults.Memory } };
+
+    fn from(_refused: Memory) -> Refusal {
+        Refusal::memory()
     }
 }
 

@@ -21,7 +21,7 @@ pub(crate) fn read_directories<F: Files>(
     for (at, folder) in folders.iter().enumerate() {
         let bytes = directory_bytes(alloc, at, folder.as_str(), files)?;
         if all.push(bytes).is_err() {
-            return Err(Refusal::general(ProgramFault::Memory));
+            return Err(Refusal::memory());
         }
     }
     Ok(all)
@@ -37,9 +37,7 @@ pub(crate) fn directory_bytes<F: Files>(
 ) -> Result<Vec<u8>, Refusal>
     ensures { (paths : ℕ) → at < paths → IfErr result (IsOfWork paths) }
 {
-    let Ok(path) = path_in(alloc, folder, DIRECTORY) else {
-        return Err(Refusal::general(ProgramFault::Memory));
-    };
+    let path = path_in(alloc, folder, DIRECTORY)?;
     let Ok(mut reader) = files.source(path.as_str()) else {
         return Err(Refusal::of(Subject::SetDirectory(at), ProgramFault::Absent));
     };
@@ -47,7 +45,7 @@ pub(crate) fn directory_bytes<F: Files>(
         Ok(bytes) => Ok(bytes),
         Err(ReadFault::Read) => Err(Refusal::of(Subject::SetDirectory(at), ProgramFault::Unread)),
         Err(ReadFault::TooLong) => Err(Refusal::of(Subject::Source(at), ProgramFault::TooLong)),
-        Err(ReadFault::Memory) => Err(Refusal::general(ProgramFault::Memory)),
+        Err(ReadFault::Memory) => Err(Refusal::memory()),
     }
 }
 
@@ -56,7 +54,7 @@ pub(crate) fn refusal_of(at: usize, fault: DirFault) -> Refusal
     ensures { (paths : ℕ) → at < paths → IsOfWork paths result }
 {
     if is_want_of_memory(&fault) {
-        Refusal::general(ProgramFault::Memory)
+        Refusal::memory()
     } else {
         Refusal::of(Subject::Source(at), ProgramFault::Dir(fault))
     }
