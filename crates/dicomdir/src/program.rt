@@ -1,12 +1,12 @@
 //! The program's run.
-ghost use Rattle.std.specs.Prelude.{◌≡◌, ◌<◌, ◌≤◌, ◌⊎◌, All, IfErr, IsErr, IsOk, length, true};
+ghost use Rattle.std.specs.Prelude.{◌≡◌, ◌<◌, ◌≤◌, ◌⊎◌, ℕ, All, IfErr, IfOk, IsErr, IsOk, length, true};
 ghost use Rattle.clap.specs.Words.{subcommand_of, takes};
 ghost use Rattle.dd_elem.specs.Device.{HasFailed};
 ghost use Rattle.dd_layout.specs.Plans.{size};
 ghost use Rattle.dd_line.specs.Line.{AsksBadName, HasBadName, IsCheck, dicomdir_app, least_paths, words_of};
 ghost use Rattle.dd_report.specs.Text.{TakesAll};
 ghost use Rattle.dicomdir.specs.Done.{done_text};
-ghost use Rattle.dicomdir.specs.Refusal.{IsBadLine};
+ghost use Rattle.dicomdir.specs.Refusal.{IsBadLine, IsOfWork};
 
 use crate::file_set::write_file_set;
 use crate::index::plan_index;
@@ -73,7 +73,7 @@ pub fn run<F: Files, O: Write, E: Write>(
     }
 }
 
-/// Runs the command.
+/// Runs the command and answers the status, once a refusal is told.
 fn run_asked<F: Files, O: Write, E: Write>(
     alloc: Global,
     asked: &Asked,
@@ -93,11 +93,10 @@ fn run_asked<F: Files, O: Write, E: Write>(
         Ok(choice) => choice,
         Err(fault) => return tell(&Refusal::general(fault), "", &[], err),
     };
-    match asked.verb {
-        Verb::Index => run_index(alloc, asked, &choice, files, out, err),
-        Verb::Merge => run_merge(alloc, asked, &choice, files, out, err),
-        Verb::Check => run_check(alloc, asked, files, out, err),
-        Verb::List => run_list(alloc, asked, files, out, err),
+    let (folder, paths) = paths_of(asked);
+    match run_verb(alloc, asked, folder, paths, &choice, files, out) {
+        Ok(status) => status,
+        Err(refusal) => tell(&refusal, folder, paths, err),
     }
 }
 
@@ -124,109 +123,111 @@ fn choice_of(asked: &Asked) -> Result<Choice, ProgramFault>
     Ok(Choice { id, uid })
 }
 
-/// Runs `index`.
-fn run_index<F: Files, O: Write, E: Write>(
+/// The folder that the command writes to, if it does, and the paths that it reads.
+fn paths_of(asked: &Asked) -> (&str, &[String])
+    requires { least_paths asked.now.verb ≤ length asked.now.paths.items }
+    ensures { 0 < length result.1.now }
+{
+    let paths = asked.paths.as_slice();
+    match asked.verb {
+        Verb::Index | Verb::Merge => (paths[0].as_str(), &paths[1..]),
+        Verb::Check | Verb::List => ("", paths),
+    }
+}
+
+/// Runs the command, which may write to this folder and reads these paths.
+fn run_verb<F: Files, O: Write>(
     alloc: Global,
     asked: &Asked,
+    folder: &str,
+    paths: &[String],
     choice: &Choice,
     files: &mut F,
     out: &mut O,
-    err: &mut E,
-) -> u8
-    requires { 2 ≤ length asked.now.paths.items }
-    ensures status { result ≤ 1 }
-    ensures done { result ≡ 0 → err.new ≡ err.old }
+) -> Result<u8, Refusal>
+    requires { 0 < length paths.now }
+    ensures refusal { IfErr result (IsOfWork (length paths.now)) }
+    ensures status { IfOk result (λ status. (status ≤ 1) ⊎ ((status ≡ 3) × (asked.now.verb ≡ Verb.Check))) }
 {
-    let [folder, sources @ ..] = asked.paths.as_slice() else {
-        unreachable!()
-    };
-    let folder = folder.as_str();
-    let indexed = match plan_index(alloc, folder, sources, choice, asked.max_bytes, files) {
-        Ok(indexed) => indexed,
-        Err(refusal) => return tell(&refusal, folder, sources, err),
-    };
+    match asked.verb {
+        Verb::Index => run_index(alloc, folder, paths, choice, asked.max_bytes, files, out),
+        Verb::Merge => run_merge(alloc, folder, paths, choice, asked.max_bytes, files, out),
+        Verb::Check => run_check(alloc, paths[0].as_str(), files, out),
+        Verb::List => run_list(alloc, paths[0].as_str(), files, out),
+    }
+}
+
+/// Runs `index`.
+fn run_index<F: Files, O: Write>(
+    alloc: Global,
+    folder: &str,
+    sources: &[String],
+    choice: &Choice,
+    max_bytes: u32,
+    files: &mut F,
+    out: &mut O,
+) -> Result<u8, Refusal>
+    ensures refusal { IfErr result (IsOfWork (length sources.now)) }
+    ensures status { IfOk result (λ status. status ≤ 1) }
+{
+    let indexed = plan_index(alloc, folder, sources, choice, max_bytes, files)?;
     if tell_skipped(&indexed.skipped, sources, out).is_err() {
-        return 1;
+        return Ok(1);
     }
     let origins = SourceFiles { paths: sources };
-    match write_file_set(
+    write_file_set(
         alloc,
         folder,
         &indexed.plan,
         &origins,
         &indexed.picks,
         files,
-    ) {
-        Ok(()) => tell_done(&indexed.plan, out),
-        Err(refusal) => tell(&refusal, folder, sources, err),
-    }
+    )?;
+    Ok(tell_done(&indexed.plan, out))
 }
 
 /// Runs `merge`.
-fn run_merge<F: Files, O: Write, E: Write>(
+fn run_merge<F: Files, O: Write>(
     alloc: Global,
-    asked: &Asked,
+    folder: &str,
+    sets: &[String],
     choice: &Choice,
+    max_bytes: u32,
     files: &mut F,
     out: &mut O,
-    err: &mut E,
-) -> u8
-    requires { 2 ≤ length asked.now.paths.items }
-    ensures status { result ≤ 1 }
-    ensures done { result ≡ 0 → err.new ≡ err.old }
+) -> Result<u8, Refusal>
+    ensures refusal { IfErr result (IsOfWork (length sets.now)) }
+    ensures status { IfOk result (λ status. status ≤ 1) }
 {
-    let [folder, sets @ ..] = asked.paths.as_slice() else {
-        unreachable!()
-    };
-    let folder = folder.as_str();
-    let directories = match read_sets(alloc, folder, sets, files) {
-        Ok(directories) => directories,
-        Err(refusal) => return tell(&refusal, folder, sets, err),
-    };
-    let Ok(slices) = slices(alloc, &directories) else {
-        return tell(&Refusal::memory(), folder, sets, err);
-    };
-    let merged = match plan_merge(alloc, &slices, choice, asked.max_bytes) {
-        Ok(merged) => merged,
-        Err(refusal) => return tell(&refusal, folder, sets, err),
-    };
+    let directories = read_sets(alloc, folder, sets, files)?;
+    let slices = slices(alloc, &directories)?;
+    let merged = plan_merge(alloc, &slices, choice, max_bytes)?;
     let origins = SetFiles { folders: sets };
-    match write_file_set(alloc, folder, &merged.plan, &origins, &merged.picks, files) {
-        Ok(()) => tell_done(&merged.plan, out),
-        Err(refusal) => tell(&refusal, folder, sets, err),
-    }
+    write_file_set(alloc, folder, &merged.plan, &origins, &merged.picks, files)?;
+    Ok(tell_done(&merged.plan, out))
 }
 
-/// Runs `check`.
-fn run_check<F: Files, O: Write, E: Write>(
+/// Runs `check` on the file-set in this folder.
+fn run_check<F: Files, O: Write>(
     alloc: Global,
-    asked: &Asked,
+    folder: &str,
     files: &mut F,
     out: &mut O,
-    err: &mut E,
-) -> u8
-    requires { 1 ≤ length asked.now.paths.items }
-    ensures status { (result ≤ 1) ⊎ (result ≡ 3) }
-    ensures done { result ≡ 0 → err.new ≡ err.old }
+) -> Result<u8, Refusal>
+    ensures refusal { (paths : ℕ) → 0 < paths → IfErr result (IsOfWork paths) }
+    ensures status { IfOk result (λ status. (status ≤ 1) ⊎ (status ≡ 3)) }
 {
-    let sets = asked.paths.as_slice();
-    let folder = sets[0].as_str();
-    let bytes = match directory_bytes(alloc, 0, folder, files) {
-        Ok(bytes) => bytes,
-        Err(refusal) => return tell(&refusal, folder, sets, err),
-    };
+    let bytes = directory_bytes(alloc, 0, folder, files)?;
     let forest = match read_directory(alloc, &bytes) {
         Ok(forest) => forest,
-        Err(fault) if !is_want_of_memory(&fault) => return tell_broken(&fault, out),
-        Err(_) => return tell(&Refusal::memory(), folder, sets, err),
+        Err(fault) if is_want_of_memory(&fault) => return Err(Refusal::memory()),
+        Err(fault) => return Ok(tell_broken(&fault, out)),
     };
     match check_records(alloc, folder, &forest, files, out) {
-        Ok(false) => 0,
-        Ok(true) => 3,
-        Err(CheckFault::Unsent) => 1,
-        Err(CheckFault::Memory) => {
-            tell(&Refusal::memory(), folder, sets, err)
-        }
+        Ok(false) => Ok(0),
+        Ok(true) => Ok(3),
+        Err(CheckFault::Unsent) => Ok(1),
+        Err(CheckFault::Memory) => Err(Refusal::memory()),
     }
 }
 
@@ -242,30 +243,23 @@ fn tell_broken<O: Write>(fault: &DirFault, out: &mut O) -> u8
     }
 }
 
-/// Runs `list`.
-fn run_list<F: Files, O: Write, E: Write>(
+/// Runs `list` on the file-set in this folder.
+fn run_list<F: Files, O: Write>(
     alloc: Global,
-    asked: &Asked,
+    folder: &str,
     files: &mut F,
     out: &mut O,
-    err: &mut E,
-) -> u8
-    requires { 1 ≤ length asked.now.paths.items }
-    ensures status { result ≤ 1 }
-    ensures done { result ≡ 0 → err.new ≡ err.old }
+) -> Result<u8, Refusal>
+    ensures refusal { (paths : ℕ) → 0 < paths → IfErr result (IsOfWork paths) }
+    ensures status { IfOk result (λ status. status ≤ 1) }
 {
-    let sets = asked.paths.as_slice();
-    let folder = sets[0].as_str();
-    let bytes = match directory_bytes(alloc, 0, folder, files) {
-        Ok(bytes) => bytes,
-        Err(refusal) => return tell(&refusal, folder, sets, err),
-    };
+    let bytes = directory_bytes(alloc, 0, folder, files)?;
     match read_directory(alloc, &bytes) {
         Ok(forest) => match list_records(&forest, out) {
-            Ok(()) => 0,
-            Err(_) => 1,
+            Ok(()) => Ok(0),
+            Err(_) => Ok(1),
         },
-        Err(fault) => tell(&refusal_of(0, fault), folder, sets, err),
+        Err(fault) => Err(refusal_of(0, fault)),
     }
 }
 
