@@ -19,13 +19,13 @@ use Rattle.dd_keys.specs.declared.rows.MetaUid.{MetaUid}
 use Rattle.dd_keys.specs.declared.rows.MetaUid.TheVariants.{Class, Instance}
 use Rattle.dd_keys.specs.Classes.{is_image_class}
 use Rattle.dd_keys.specs.Table.{KeyRow, UidRow, Row, key, uid, rows}
-use Rattle.dd_keys.specs.Values.{value_at}
+use Rattle.dd_keys.specs.Values.{max_key_length, value_at}
 
 -- ---- a key: it is no sequence, and not too long
 
 abbrev pub key_fault_of : Tag → Option (List ℕ) → Option KeyFault
 key_fault_of tag None = Some (KeyIsSequence tag)
-key_fault_of tag (Some value) = if nat_lt 1024 (length value) then Some (KeyTooLong tag) else None
+key_fault_of tag (Some value) = if nat_lt max_key_length (length value) then Some (KeyTooLong tag) else None
 
 abbrev pub key_fault : KeyRow → Elements → Option KeyFault
 key_fault row set = key_fault_of row.tag (value_at row.tag set)

@@ -1,7 +1,7 @@
 -- The checks of the table and the keys of a file, by what is told of the values of its data set: that a value is a
 -- sequence, or else its first 1,024 bytes and how many it has.
 use Rattle.std.specs.Prelude.{◌≡◌, ◌≤◌, ◌⊎◌, ℕ, true, List, [], Option, Some, None, Result, Ok, Err, length, map, find}
-use Rattle.std.specs.Prelude.{take, nat_lt, unwrap_or, if◌then◌else◌}
+use Rattle.std.specs.Prelude.{take, nat_lt, if◌then◌else◌}
 use Rattle.dd_elem.specs.Key.{IsKey}
 use Rattle.dd_elem.specs.declared.tag.Tag.{Tag}
 use Rattle.dd_set.specs.Elements.{Elements}
@@ -19,10 +19,8 @@ use Rattle.dd_keys.specs.declared.keys.StudyKeys.{StudyKeys}
 use Rattle.dd_keys.specs.declared.keys.SeriesKeys.{SeriesKeys}
 use Rattle.dd_keys.specs.Classes.{is_image_class}
 use Rattle.dd_keys.specs.Faults.{wanted_uid, uid_fault_of, first}
-use Rattle.dd_keys.specs.Table.{KeyRow, UidRow, Row, key, uid, rows, charset_row, study_date_row, study_time_row}
-use Rattle.dd_keys.specs.Table.{accession_row, modality_row, description_row, patient_name_row, patient_id_row}
-use Rattle.dd_keys.specs.Table.{study_row, series_row, study_id_row, series_number_row, instance_number_row}
-use Rattle.dd_keys.specs.Values.{value_at, or_other}
+use Rattle.dd_keys.specs.Table.{KeyRow, UidRow, Row, key, uid, rows}
+use Rattle.dd_keys.specs.Values.{max_key_length, value_at, key_by, uid_by, patient_by, study_by, series_by, parts_by}
 
 -- ---- what is told
 
@@ -64,7 +62,7 @@ TellsSet tells set = (tag : Tag) → is_wanted wanted_tags tag ≡ true → tell
 -- a told value that is not too long for a key is one
 abbrev pub IsFront : Told → Type 0
 IsFront sequence = Unit {0}
-IsFront (cleaned front size) = size ≤ 1024 → IsKey front
+IsFront (cleaned front size) = size ≤ max_key_length → IsKey front
 
 abbrev pub AreFronts : (Tag → Told) → Type 0
 AreFronts tells = (tag : Tag) → IsFront (tells tag)
@@ -78,7 +76,7 @@ front_of (cleaned front size) = Some front
 
 abbrev pub told_key_fault : Tag → Told → Option KeyFault
 told_key_fault tag sequence = Some (KeyIsSequence tag)
-told_key_fault tag (cleaned front size) = if nat_lt 1024 size then Some (KeyTooLong tag) else None
+told_key_fault tag (cleaned front size) = if nat_lt max_key_length size then Some (KeyTooLong tag) else None
 
 abbrev pub told_uid_fault : UidRow → Meta → Told → Option KeyFault
 told_uid_fault row meta told = uid_fault_of row.tag (wanted_uid meta row.same_as) (front_of told)
@@ -99,48 +97,27 @@ module _ (meta : Meta) (tells : Tag → Told) where
 -- ---- the keys
 
 module _ (tells : Tag → Told) where
+  -- the bytes that are told of the value at each tag
+  abbrev pub told_values : Tag → Option (List ℕ)
+  told_values tag = front_of (tells tag)
+
   abbrev pub told_key : KeyRow → List ℕ
-  told_key row = or_other (unwrap_or (front_of (tells row.tag)) []) row.when_empty
+  told_key row = key_by told_values row
 
   abbrev pub told_uid : Tag → List ℕ
-  told_uid tag = unwrap_or (front_of (tells tag)) []
+  told_uid tag = uid_by told_values tag
 
   abbrev pub told_patient : PatientKeys
-  told_patient = record {
-    id = told_key patient_id_row;
-    name = told_key patient_name_row;
-    charset = told_key charset_row;
-  }
+  told_patient = patient_by told_values
 
   abbrev pub told_study : StudyKeys
-  told_study = record {
-    uid = told_uid study_row.tag;
-    date = told_key study_date_row;
-    time = told_key study_time_row;
-    accession = told_key accession_row;
-    description = told_key description_row;
-    id = told_key study_id_row;
-    charset = told_key charset_row;
-  }
+  told_study = study_by told_values
 
   abbrev pub told_series : SeriesKeys
-  told_series = record {
-    uid = told_uid series_row.tag;
-    modality = told_key modality_row;
-    number = told_key series_number_row;
-  }
+  told_series = series_by told_values
 
   abbrev pub told_parts : List ℕ → Meta → Parts
-  told_parts digest meta = record {
-    digest = digest;
-    patient = told_patient;
-    study = told_study;
-    series = told_series;
-    number = told_key instance_number_row;
-    class = meta.class;
-    transfer = meta.transfer;
-    instance = meta.instance;
-  }
+  told_parts digest meta = parts_by told_values digest meta
 
 -- the answer, where this is the first check that fails and these are the parts; want of memory comes behind all checks
 abbrev pub IsJudged : Option KeyFault → Parts → Result Parts KeyFault → Type 0

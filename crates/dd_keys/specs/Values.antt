@@ -5,6 +5,7 @@ use Rattle.dd_elem.specs.declared.tag.Tag.{Tag}
 use Rattle.dd_set.specs.Elements.{Elements, Content, bytes, items, Entry}
 use Rattle.dd_set.specs.Find.{find_in}
 use Rattle.dd_part10.specs.Reading.{FileParts}
+use Rattle.dd_part10.specs.declared.meta.Meta.{Meta}
 use Rattle.dd_keys.specs.Table.{KeyRow, charset_row, study_date_row, study_time_row, accession_row, modality_row}
 use Rattle.dd_keys.specs.Table.{description_row, patient_name_row, patient_id_row, study_row, series_row, study_id_row}
 use Rattle.dd_keys.specs.Table.{series_number_row, instance_number_row}
@@ -33,47 +34,75 @@ abbrev pub or_other : List ℕ → List ℕ → List ℕ
 or_other [] other = other
 or_other (byte ∷ value) other = byte ∷ value
 
--- the key of a row
+-- the most bytes that a key may have
+abbrev pub max_key_length : ℕ
+max_key_length = 1024
+
+-- ---- keys and UIDs by the value at each tag: bytes without their padding, and None where it is a sequence
+
+module _ (value : Tag → Option (List ℕ)) where
+  -- the key of a row
+  abbrev pub key_by : KeyRow → List ℕ
+  key_by row = or_other (unwrap_or (value row.tag) []) row.when_empty
+
+  -- the UID at a tag
+  abbrev pub uid_by : Tag → List ℕ
+  uid_by tag = unwrap_or (value tag) []
+
+  abbrev pub patient_by : PatientKeys
+  patient_by = record { id = key_by patient_id_row; name = key_by patient_name_row; charset = key_by charset_row }
+
+  abbrev pub study_by : StudyKeys
+  study_by = record {
+    uid = uid_by study_row.tag;
+    date = key_by study_date_row;
+    time = key_by study_time_row;
+    accession = key_by accession_row;
+    description = key_by description_row;
+    id = key_by study_id_row;
+    charset = key_by charset_row;
+  }
+
+  abbrev pub series_by : SeriesKeys
+  series_by = record {
+    uid = uid_by series_row.tag;
+    modality = key_by modality_row;
+    number = key_by series_number_row;
+  }
+
+  -- what a file with this digest and this meta information gives
+  abbrev pub parts_by : List ℕ → Meta → Parts
+  parts_by digest meta = record {
+    digest = digest;
+    patient = patient_by;
+    study = study_by;
+    series = series_by;
+    number = key_by instance_number_row;
+    class = meta.class;
+    transfer = meta.transfer;
+    instance = meta.instance;
+  }
+
+-- ---- those of a data set, and of a file
+
+-- its value at each tag
+abbrev pub values_of : Elements → Tag → Option (List ℕ)
+values_of set tag = value_at tag set
+
 abbrev pub key_in : KeyRow → Elements → List ℕ
-key_in row set = or_other (unwrap_or (value_at row.tag set) []) row.when_empty
+key_in row set = key_by (values_of set) row
 
--- the UID at a tag
 abbrev pub uid_in : Tag → Elements → List ℕ
-uid_in tag set = unwrap_or (value_at tag set) []
-
--- ---- the keys of a file
+uid_in tag set = uid_by (values_of set) tag
 
 abbrev pub patient_in : Elements → PatientKeys
-patient_in set =
-    record { id = key_in patient_id_row set; name = key_in patient_name_row set; charset = key_in charset_row set }
+patient_in set = patient_by (values_of set)
 
 abbrev pub study_in : Elements → StudyKeys
-study_in set = record {
-  uid = uid_in study_row.tag set;
-  date = key_in study_date_row set;
-  time = key_in study_time_row set;
-  accession = key_in accession_row set;
-  description = key_in description_row set;
-  id = key_in study_id_row set;
-  charset = key_in charset_row set;
-}
+study_in set = study_by (values_of set)
 
 abbrev pub series_in : Elements → SeriesKeys
-series_in set = record {
-  uid = uid_in series_row.tag set;
-  modality = key_in modality_row set;
-  number = key_in series_number_row set;
-}
+series_in set = series_by (values_of set)
 
--- what a file with this digest gives
 abbrev pub parts_in : List ℕ → FileParts → Parts
-parts_in digest file = record {
-  digest = digest;
-  patient = patient_in file.set;
-  study = study_in file.set;
-  series = series_in file.set;
-  number = key_in instance_number_row file.set;
-  class = file.meta.class;
-  transfer = file.meta.transfer;
-  instance = file.meta.instance;
-}
+parts_in digest file = parts_by (values_of file.set) digest file.meta

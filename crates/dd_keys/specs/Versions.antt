@@ -11,7 +11,7 @@ use Rattle.dd_keys.specs.Classes.{image_classes}
 use Rattle.dd_keys.specs.Table.{KeyRow, charset_row, class_row, instance_row, study_date_row, study_time_row}
 use Rattle.dd_keys.specs.Table.{accession_row, modality_row, description_row, patient_name_row, patient_id_row}
 use Rattle.dd_keys.specs.Table.{study_row, series_row, study_id_row, series_number_row, instance_number_row}
-use Rattle.dd_keys.specs.Values.{value_at, or_other}
+use Rattle.dd_keys.specs.Values.{max_key_length, value_at, or_other}
 use Rattle.dd_keys.specs.declared.keys.PatientKeys.{PatientKeys}
 use Rattle.dd_keys.specs.declared.keys.StudyKeys.{StudyKeys}
 use Rattle.dd_keys.specs.declared.keys.SeriesKeys.{SeriesKeys}
@@ -21,7 +21,7 @@ use Rattle.dd_keys.specs.declared.parts.Parts.{Parts}
 pub record HasKey (set : Elements) (row : KeyRow) (key : List ℕ) : Type 0 where
   pub value : List ℕ
   pub held : value_at row.tag set ≡ Some value
-  pub short : length value ≤ 1024
+  pub short : length value ≤ max_key_length
   pub is : key ≡ or_other value row.when_empty
 
 -- the UID is the data set's value at the tag
