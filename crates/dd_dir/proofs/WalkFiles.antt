@@ -7,7 +7,7 @@ use Rattle.dd_set.specs.Elements.{Elements}
 use Rattle.dd_part10.specs.declared.fault.FileFault.{FileFault}
 use Rattle.dd_part10.specs.declared.meta.Meta.{Meta}
 use Rattle.dd_part10.specs.File.{IsFile}
-use Rattle.dd_part10.specs.Reading.{FileParts, read_file}
+use Rattle.dd_part10.specs.Reading.{FileParts, file_in}
 use Rattle.dd_part10.proofs.Found.{file_found}
 use Rattle.dd_part10.proofs.Only.{file_only}
 use Rattle.dd_dir.specs.declared.fault.DirFault.{DirFault}
@@ -48,7 +48,7 @@ pub file_one : (file : List ℕ) (meta other : Meta) (set others : Elements) (at
     → ◌≡◌ {A = FileParts} (record { meta = other; set = others; set_at = place })
     (record { meta = meta; set = set; set_at = at })
 file_one file meta other set others at place a b =
-    same_parts (read_file file) (record { meta = meta; set = set; set_at = at })
+    same_parts (file_in file) (record { meta = meta; set = set; set_at = at })
     (record { meta = other; set = others; set_at = place }) (file_only file meta set at a)
     (file_only file other others place b)
 
@@ -65,9 +65,9 @@ directory_or_none file contents a b =
     no_contents (contents_of file a.meta a.set a.at) contents a.says (sym (ap (said_of file) is) ∙ b.says)
 
 file_or_fault : (file : List ℕ) (meta : Meta) (set : Elements) (at : ℕ) (fault : FileFault) → IsFile file meta set at
-    → read_file file ≡ Err fault → ⊥
+    → file_in file ≡ Err fault → ⊥
 file_or_fault file meta set at fault h e =
-    no_parts (read_file file) (record { meta = meta; set = set; set_at = at }) fault (file_only file meta set at h) e
+    no_parts (file_in file) (record { meta = meta; set = set; set_at = at }) fault (file_only file meta set at h) e
 
 -- ---- one walk of what a directory says
 
@@ -145,7 +145,7 @@ one_reason contents empty fault other (inr a) (inr b) =
 
 -- bytes that have no walk are no file, no directory, or one that has none
 data Cause (file : List ℕ) (fault : DirFault) : Type 0 where
-  no_file : (cause : FileFault) → fault ≡ faults.File cause → read_file file ≡ Err cause → Cause file fault
+  no_file : (cause : FileFault) → fault ≡ faults.File cause → file_in file ≡ Err cause → Cause file fault
   no_directory : fault ≡ faults.NotDirectory → IsNoDirectory file → Cause file fault
   no_walk : IsRefused file fault → Cause file fault
 
@@ -192,7 +192,7 @@ walk_or_not file walk fault a h = walk_or_cause file walk fault a (cause_of file
 
 one_cause : (file : List ℕ) (fault other : DirFault) → Cause file fault → Cause file other → other ≡ fault
 one_cause file fault other (no_file a is e) (no_file b also f) =
-    also ∙ ap (λ (x : FileFault). faults.File x) (one_fault_of (read_file file) a b e f) ∙ sym is
+    also ∙ ap (λ (x : FileFault). faults.File x) (one_fault_of (file_in file) a b e f) ∙ sym is
 one_cause file fault other (no_file a is e) (no_directory also h) =
     absurd (file_or_fault file h.meta h.set h.at a h.is_file e)
 one_cause file fault other (no_file a is e) (no_walk h) =
@@ -277,11 +277,11 @@ file_decided file x h (Some contents) e =
     (record { meta = x.meta; set = x.set; at = x.set_at; is_file = h; says = e })
     (always_ends contents.starts contents.sets contents.first 0 nothing)
 
-bytes_decided : (file : List ℕ) (r : Result FileParts FileFault) → read_file file ≡ r → AreBytes file
+bytes_decided : (file : List ℕ) (r : Result FileParts FileFault) → file_in file ≡ r → AreBytes file
     → length file < 2 ^ 64 → Decided file
 bytes_decided file (Err fault) e fits room = inr (faults.File fault, e)
 bytes_decided file (Ok x) e fits room =
     file_decided file x (file_found file x e fits room) (said_of file x) refl
 
 pub walk_or_fault : (file : List ℕ) → AreBytes file → length file < 2 ^ 64 → Decided file
-walk_or_fault file fits room = bytes_decided file (read_file file) refl fits room
+walk_or_fault file fits room = bytes_decided file (file_in file) refl fits room

@@ -7,7 +7,7 @@ use Rattle.dd_set.specs.Elements.{Elements}
 use Rattle.dd_set.specs.Starts.{places_in}
 use Rattle.dd_part10.specs.declared.meta.Meta.{Meta}
 use Rattle.dd_part10.specs.File.{IsFile}
-use Rattle.dd_part10.specs.Reading.{read_file}
+use Rattle.dd_part10.specs.Reading.{file_in}
 use Rattle.dd_layout.specs.Entries.{tag}
 use Rattle.dd_dir.specs.declared.fault.DirFault.{DirFault}
 use Rattle.dd_dir.specs.declared.fault.DirFault.TheVariants as faults
@@ -127,6 +127,6 @@ pub record IsRefused (file : List ℕ) (fault : DirFault) : Type 0 where
 
 -- why bytes have no walk: they are no file, no directory, or their offsets form no trees that end at the last root
 abbrev pub Refuses : List ℕ → DirFault → Type 0
-Refuses file (faults.File fault) = read_file file ≡ Err fault
+Refuses file (faults.File fault) = file_in file ≡ Err fault
 Refuses file faults.NotDirectory = IsNoDirectory file
 Refuses file fault = IsRefused file fault

@@ -6,7 +6,7 @@ use Rattle.std.proofs.lemmas.Bool.{cond-true}
 use Rattle.sha2.specs.Sha256.{sha256}
 use Rattle.dd_set.specs.Elements.{Elements}
 use Rattle.dd_part10.specs.File.{IsFile}
-use Rattle.dd_part10.specs.Reading.{FileParts, read_file}
+use Rattle.dd_part10.specs.Reading.{FileParts, file_in}
 use Rattle.dd_part10.specs.declared.fault.FileFault.{FileFault}
 use Rattle.dd_part10.specs.declared.fault.FileFault.TheVariants as faults
 use Rattle.dd_part10.specs.Matches.{Fails}
@@ -174,7 +174,7 @@ first_fault_none file version h =
     ∙ version_passes file version h
 
 -- a refusal of the parse is the first check that fails, or want of memory
-pub file_refused : (file : List ℕ) (e : FileFault) → Fails e (read_file file)
+pub file_refused : (file : List ℕ) (e : FileFault) → Fails e (file_in file)
     → (e ≡ faults.Meta Memory → GroupWants file) → (e ≡ faults.Set Memory → SetWants file)
     → IsWantOfMemory file (File e) ⊎ (first_fault file ≡ Some (File e))
 file_refused file (faults.Meta Memory) is group set = inl (group refl)
@@ -212,7 +212,7 @@ one_version file version other h k =
 
 -- no check of what was read fails
 version_in : (file : List ℕ) (read : Result FileParts FileFault) → AreBytes file → length file < 2 ^ 64
-    → read_file file ≡ read → fault_of read ≡ None → (version : Parts) × IsVersion file version
+    → file_in file ≡ read → fault_of read ≡ None → (version : Parts) × IsVersion file version
 version_in file (Err fault) fits room is none = absurd (cc)
 version_in file (Ok f) fits room is none =
     let next = continues (is_image_class f.meta.class) (table_fault f) (NotImage f.meta.class) none in
@@ -221,4 +221,4 @@ version_in file (Ok f) fits room is none =
 
 pub version_exists : (file : List ℕ) → AreBytes file → length file < 2 ^ 64 → first_fault file ≡ None
     → (version : Parts) × IsVersion file version
-version_exists file fits room none = version_in file (read_file file) fits room refl none
+version_exists file fits room none = version_in file (file_in file) fits room refl none

@@ -7,7 +7,7 @@ use Rattle.dd_elem.specs.Uid.{is_uid}
 use Rattle.dd_elem.specs.declared.tag.Tag.{Tag}
 use Rattle.dd_set.specs.declared.fault.SetFault.TheVariants as parsing
 use Rattle.dd_part10.specs.Memory.{IsRefused}
-use Rattle.dd_part10.specs.Reading.{FileParts, read_file}
+use Rattle.dd_part10.specs.Reading.{FileParts, file_in}
 use Rattle.dd_part10.specs.Streaming.{IsFileAnswer}
 use Rattle.dd_part10.specs.declared.stream_fault.StreamFault.{StreamFault}
 use Rattle.dd_part10.specs.declared.stream_fault.StreamFault.TheVariants as faults
@@ -76,7 +76,7 @@ file_check : (file : FileParts) → IfSome (fault_of (Ok file)) IsOfKeys
 file_check file = either (is_image_class file.meta.class) (table_fault file) _ (table_check file) tt
 
 -- so the answer for such a file is one of these, or want of memory
-refusal_of_file : (file : List ℕ) (f : FileParts) (fault : KeyFault) → read_file file ≡ Ok f
+refusal_of_file : (file : List ℕ) (f : FileParts) (fault : KeyFault) → file_in file ≡ Ok f
     → IsWantOfMemory file fault ⊎ (first_fault file ≡ Some fault) → IsWantOfMemory file fault ⊎ IsOfKeys fault
 refusal_of_file file f fault read (inl want) = inl want
 refusal_of_file file f fault read (inr is) =
@@ -120,7 +120,7 @@ wanting_reader limit given left old new e read says want = record {
 
 -- a file was read, and this is the answer for it
 pub answers_reader : (limit : ℕ) (given : List ℕ) (left : Option (List ℕ)) (old new : ℕ) (f : FileParts)
-    (answer : Result Parts KeyFault) → IsReadWhole limit given left old new → read_file given ≡ Ok f
+    (answer : Result Parts KeyFault) → IsReadWhole limit given left old new → file_in given ≡ Ok f
     → Answers given answer → AnswersReader limit given left old new answer
 answers_reader limit given left old new f (Ok parts) whole read h = record {
   read = λ e. absurd (cc);
@@ -143,7 +143,7 @@ answers_reader limit given left old new f (Err fault) whole read h =
 
 -- the bytes are no file
 failing_reader : (limit : ℕ) (given : List ℕ) (left : Option (List ℕ)) (old new : ℕ) (e : FileFault)
-    → IsReadWhole limit given left old new → read_file given ≡ Err e → ¬ SaysMemory (File e)
+    → IsReadWhole limit given left old new → file_in given ≡ Err e → ¬ SaysMemory (File e)
     → AnswersReader limit given left old new (Err (File e))
 failing_reader limit given left old new e whole read silent = record {
   read = λ e. absurd (cc);

@@ -11,7 +11,7 @@ use Rattle.dd_elem.specs.declared.tag.Tag.{Tag}
 use Rattle.dd_elem.proofs.UidForm.{is_uid-long}
 use Rattle.dd_set.specs.Scan.{Told, is_wanted}
 use Rattle.dd_part10.specs.File.{IsFile}
-use Rattle.dd_part10.specs.Reading.{FileParts, read_file}
+use Rattle.dd_part10.specs.Reading.{FileParts, file_in}
 use Rattle.dd_part10.specs.Syntaxes.{syntax_of}
 use Rattle.dd_part10.specs.declared.fault.FileFault.{FileFault}
 use Rattle.dd_part10.specs.declared.meta.Meta.{Meta}
@@ -169,7 +169,7 @@ told_fit digest meta tells known image = record {
 -- ---- the answer
 
 -- these are the parts of the version of the file
-version_answers : (file : List ℕ) (f : FileParts) (parts : Parts) → read_file file ≡ Ok f
+version_answers : (file : List ℕ) (f : FileParts) (parts : Parts) → file_in file ≡ Ok f
     → IsFile file f.meta f.set f.set_at
     → fault_of (Ok f) ≡ None → (table_fault f ≡ None → parts ≡ parts_in (sha256 file) f) → Answers file (Ok parts)
 version_answers file f parts read is none same =
@@ -187,7 +187,7 @@ version_answers file f parts read is none same =
     }
 
 judged : (file : List ℕ) (f : FileParts) (check : Option KeyFault) (parts : Parts) (answer : Result Parts KeyFault)
-    → read_file file ≡ Ok f
+    → file_in file ≡ Ok f
     → IsFile file f.meta f.set f.set_at → check ≡ fault_of (Ok f)
     → (table_fault f ≡ None → parts ≡ parts_in (sha256 file) f)
     → IsJudged check parts answer → Answers file answer
@@ -201,7 +201,7 @@ judged file f check parts (Err fault) read is same parts_are h =
 
 -- the answer by what is told of a file is that for the file
 pub judged_answers : (file digest : List ℕ) (f : FileParts) (tells : Tag → Told) (answer : Result Parts KeyFault)
-    → read_file file ≡ Ok f
+    → file_in file ≡ Ok f
     → IsFile file f.meta f.set f.set_at → TellsSet tells f.set → digest ≡ sha256 file
     → IsJudged (told_fault f.meta tells) (told_parts tells digest f.meta) answer → Answers file answer
 judged_answers file digest f tells answer read is shows digests h =

@@ -11,7 +11,7 @@ use Rattle.dd_part10.specs.declared.fault.FileFault.{FileFault}
 use Rattle.dd_part10.specs.declared.fault.FileFault.TheVariants.{Meta as MetaFault, Set}
 use Rattle.dd_part10.specs.declared.meta.Meta.{Meta}
 use Rattle.dd_part10.specs.Memory.{GroupWants, HasHead, SetWants}
-use Rattle.dd_part10.specs.Reading.{FileParts, read_file}
+use Rattle.dd_part10.specs.Reading.{FileParts, file_in}
 use Rattle.dd_keys.specs.declared.fault.KeyFault.{KeyFault}
 use Rattle.dd_keys.specs.declared.fault.KeyFault.TheVariants.{File, NotImage, MissingKey, BadKeyUid, KeyTooLong}
 use Rattle.dd_keys.specs.declared.fault.KeyFault.TheVariants.{KeyIsSequence, MetaMismatch, Memory}
@@ -73,7 +73,7 @@ fault_of (Ok file) = if is_image_class file.meta.class then table_fault file els
 
 -- the first check that the bytes fail
 abbrev pub first_fault : List ℕ → Option KeyFault
-first_fault file = fault_of (read_file file)
+first_fault file = fault_of (file_in file)
 
 -- ---- want of memory: where parsing the file wants it, and behind all checks
 

@@ -11,7 +11,7 @@ use Rattle.dd_part10.specs.declared.fault.FileFault.TheVariants.{OtherSyntax}
 use Rattle.dd_part10.specs.declared.fault.FileFault.TheVariants as faults
 use Rattle.dd_part10.specs.Matches.{Fails}
 use Rattle.dd_part10.specs.Memory.{GroupWants, HasHead, WantsNone, IsRefused}
-use Rattle.dd_part10.specs.Reading.{◌>>=◌, with_fault, read_file}
+use Rattle.dd_part10.specs.Reading.{◌>>=◌, with_fault, file_in}
 
 -- a reading that fails as another does
 pub fails_along : {A B : Type 0} (e : FileFault) (r : Result A FileFault) (s : Result B FileFault) → Fails e r
@@ -75,7 +75,7 @@ fails_is (faults.Set TooDeep) r h = h
 fails_is (faults.Set Memory) r h = tt
 
 -- a file that is refused, with what is known of it where memory is wanted
-pub refused : (e : FileFault) (file : List ℕ) → Fails e (read_file file) → (e ≡ faults.Meta Memory → GroupWants file)
+pub refused : (e : FileFault) (file : List ℕ) → Fails e (file_in file) → (e ≡ faults.Meta Memory → GroupWants file)
     → (e ≡ faults.Set Memory → HasHead file) → IsRefused e file
 refused NotPart10 file h group set = h
 refused GroupLength file h group set = h
@@ -106,7 +106,7 @@ refused (faults.Set TooDeep) file h group set = h
 refused (faults.Set Memory) file h group set = set refl
 
 -- one that a step refused which wants no memory
-pub refused_so : {X : Type 0} (e : FileFault) (file : List ℕ) → WantsNone {X = X} (Err e) → Fails e (read_file file)
+pub refused_so : {X : Type 0} (e : FileFault) (file : List ℕ) → WantsNone {X = X} (Err e) → Fails e (file_in file)
     → IsRefused e file
 refused_so e file none h =
     refused e file h (λ is. absurd (none.0 (ap (λ f. Err f) is))) (λ is. absurd (none.1 (ap (λ f. Err f) is)))

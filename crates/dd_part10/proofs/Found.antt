@@ -31,7 +31,7 @@ use Rattle.dd_part10.specs.declared.meta.Meta.{Meta}
 use Rattle.dd_part10.specs.File.{preamble_length, prefix, max_group_length, group_length_text, StartsAbove, IsFile}
 use Rattle.dd_part10.specs.Meta.{group_length_tag, class_tag, instance_tag, transfer_tag, HasUid, IsMeta}
 use Rattle.dd_part10.specs.Reading.{◌>>=◌, with_fault, FileParts, behind, behind_prefix, behind_length, group_and_set}
-use Rattle.dd_part10.specs.Reading.{is_alone, uid_of, uid_at, uids_in, meta_in, starts_above, set_in, read_file}
+use Rattle.dd_part10.specs.Reading.{is_alone, uid_of, uid_at, uids_in, meta_in, starts_above, set_in, file_in}
 use Rattle.dd_part10.specs.Syntaxes.{syntax_of}
 use Rattle.dd_part10.proofs.Fronts.{behind-is}
 use Rattle.dd_part10.proofs.Steps.{bind_ok, passes, allowed, there, was_read, ok_is}
@@ -256,9 +256,9 @@ abbrev pub with_rest : List ℕ → Result FileParts FileFault
 with_rest rest = behind_length rest >>= with_parts
 
 -- what is read as a file is one
-pub file_found : (file : List ℕ) (x : FileParts) → read_file file ≡ Ok x → AreBytes file → length file < 2 ^ 64
+pub file_found : (file : List ℕ) (x : FileParts) → file_in file ≡ Ok x → AreBytes file → length file < 2 ^ 64
     → IsFile file x.meta x.set x.set_at
-unfolding read_file
+unfolding file_in
 file_found file x e fits room =
     let a = bind_ok (behind_prefix file) with_rest x e in
     let b = bind_ok (behind_length a.0) with_parts x a.2 in

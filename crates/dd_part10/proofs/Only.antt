@@ -29,7 +29,7 @@ use Rattle.dd_part10.specs.declared.meta.Meta.{Meta}
 use Rattle.dd_part10.specs.File.{preamble_length, prefix, max_group_length, group_length_text, StartsAbove, IsFile}
 use Rattle.dd_part10.specs.Meta.{group_length_tag, class_tag, instance_tag, transfer_tag, HasUid, IsMeta}
 use Rattle.dd_part10.specs.Reading.{◌>>=◌, with_fault, behind, behind_prefix, behind_length, group_and_set, is_alone}
-use Rattle.dd_part10.specs.Reading.{uid_of, uid_at, uids_in, meta_in, starts_above, set_in, read_file}
+use Rattle.dd_part10.specs.Reading.{uid_of, uid_at, uids_in, meta_in, starts_above, set_in, file_in}
 use Rattle.dd_part10.specs.Syntaxes.{syntax_of}
 use Rattle.dd_part10.proofs.Found.{length_parts, with_set, with_syntax, with_meta, with_parts, with_rest}
 use Rattle.dd_part10.proofs.Fronts.{behind-front}
@@ -160,8 +160,8 @@ set_again syntax text set spelled above =
 
 -- what is a file is read as one
 pub file_only : (file : List ℕ) (meta : Meta) (set : Elements) (set_at : ℕ) → IsFile file meta set set_at
-    → read_file file ≡ Ok (record { meta = meta; set = set; set_at = set_at })
-unfolding read_file
+    → file_in file ≡ Ok (record { meta = meta; set = set; set_at = set_at })
+unfolding file_in
 file_only file meta set set_at h =
     let parts : List ℕ × List ℕ = (h.group_text, h.set_text) in
     let rest : List ℕ = group_length_text (length h.group_text) ++ (h.group_text ++ h.set_text) in

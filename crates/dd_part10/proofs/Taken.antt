@@ -26,7 +26,7 @@ use Rattle.dd_part10.specs.File.{prefix}
 use Rattle.dd_part10.specs.Matches.{Fails, Matches}
 use Rattle.dd_part10.specs.Memory.{WantsNone, IsRefused}
 use Rattle.dd_part10.specs.Reading.{◌>>=◌, behind, behind_prefix, behind_length, meta_in, starts_above, set_in}
-use Rattle.dd_part10.specs.Reading.{read_file}
+use Rattle.dd_part10.specs.Reading.{file_in}
 use Rattle.dd_part10.specs.Taking.{count_in, split_at, syntax_in, may_follow, whole_with, CountTaken, MetaTaken}
 use Rattle.dd_part10.specs.Taking.{HeadTaken, SetTaken, FileTaken}
 use Rattle.dd_part10.proofs.Cuts.{prefix_cut, length_is, count_cut, count_long, starts_above-is}
@@ -129,7 +129,7 @@ meta_taken (Err e) bytes group rest n h size given wants =
 
 pub head_without_prefix : {X : Type 0} (e : FileFault) (bytes : List ℕ) → WantsNone {X = X} (Err e)
     → Fails e (behind_prefix bytes) → IsRefused e bytes
-unfolding read_file
+unfolding file_in
 head_without_prefix e bytes none h =
     refused_so e bytes none (fails_along e (behind_prefix bytes) (behind_prefix bytes >>= with_rest) h
     (λ f k. bind_fails (behind_prefix bytes) with_rest f k))
@@ -141,7 +141,7 @@ parts_fail (Err e) f h = cc
 
 pub head_without_meta : (e : FileFault) (bytes mid rest : List ℕ) → e ≢ faults.Set Memory → behind_prefix bytes ≡ Ok mid
     → MetaTaken (Err e) mid rest → IsRefused e bytes
-unfolding read_file
+unfolding file_in
 head_without_meta e bytes mid rest none front h =
     refused e bytes
     (fails_along e (behind_length mid >>= λ parts. meta_in parts.0) (behind_prefix bytes >>= with_rest) h.0 (λ f k.
@@ -150,8 +150,8 @@ head_without_meta e bytes mid rest none front h =
     (λ is. absurd (none is))
 
 behind_meta : (bytes mid group rest : List ℕ) (meta : Meta) → behind_prefix bytes ≡ Ok mid
-    → behind_length mid ≡ Ok (group, rest) → meta_in group ≡ Ok meta → read_file bytes ≡ with_meta (group, rest) meta
-unfolding read_file
+    → behind_length mid ≡ Ok (group, rest) → meta_in group ≡ Ok meta → file_in bytes ≡ with_meta (group, rest) meta
+unfolding file_in
 behind_meta bytes mid group rest meta front parts holds =
     onward (behind_prefix bytes) mid with_rest front
     ∙ onward (behind_length mid) (group, rest) with_parts parts
@@ -161,7 +161,7 @@ pub head_without_syntax : {X : Type 0} (e : FileFault) (bytes mid rest : List �
     → WantsNone {X = X} (Err e) → behind_prefix bytes ≡ Ok mid → MetaTaken (Ok meta) mid rest → Fails e (syntax_in meta)
     → IsRefused e bytes
 head_without_syntax e bytes mid rest meta none front taken h =
-    refused_so e bytes none (fails_along e (syntax_in meta) (read_file bytes) h (λ f k.
+    refused_so e bytes none (fails_along e (syntax_in meta) (file_in bytes) h (λ f k.
     behind_meta bytes mid taken.0 rest meta front taken.1 taken.2
     ∙ bind_fails (syntax_in meta) (with_syntax (taken.0, rest) meta) f k))
 
@@ -224,7 +224,7 @@ mapped_gives (Err f) s scan cases is = absurd (rw is at cases)
 pub file_without_set : (e : FileFault) (bytes rest : List ℕ) (meta : Meta) (syntax : Syntax) → e ≢ faults.Meta Memory
     → HeadTaken (Ok (meta, syntax)) bytes rest → Fails e (set_in syntax rest) → IsRefused e bytes
 file_without_set e bytes rest meta syntax none head h =
-    refused e bytes (fails_along e (set_in syntax rest) (read_file bytes) h
+    refused e bytes (fails_along e (set_in syntax rest) (file_in bytes) h
     (λ f k. head.1 ∙ ap (whole_with meta head.0) k))
     (λ is. absurd (none is))
     (λ is. head.2)

@@ -8,7 +8,7 @@ use Rattle.dd_set.specs.Memory.{WantsMemory}
 use Rattle.dd_part10.specs.declared.fault.FileFault.{FileFault}
 use Rattle.dd_part10.specs.declared.fault.FileFault.TheVariants as faults
 use Rattle.dd_part10.specs.declared.meta.Meta.{Meta}
-use Rattle.dd_part10.specs.Reading.{◌>>=◌, behind_prefix, behind_length, meta_in, read_file}
+use Rattle.dd_part10.specs.Reading.{◌>>=◌, behind_prefix, behind_length, meta_in, file_in}
 use Rattle.dd_part10.specs.Syntaxes.{syntax_of}
 
 -- the preamble, the prefix and the group length are there, and reading the bytes that it counts wants memory
@@ -38,7 +38,7 @@ pub record SetWants (file : List ℕ) : Type 0 where
 abbrev pub IsRefused : FileFault → List ℕ → Type 0
 IsRefused (faults.Meta Memory) file = GroupWants file
 IsRefused (faults.Set Memory) file = HasHead file
-IsRefused fault file = read_file file ≡ Err fault
+IsRefused fault file = file_in file ≡ Err fault
 
 -- a step that wants no memory
 abbrev pub WantsNone : {X : Type 0} → Result X FileFault → Type 0

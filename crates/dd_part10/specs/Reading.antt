@@ -108,7 +108,7 @@ set_in syntax text =
 -- ---- the whole
 
 -- a file
-unfoldable pub read_file : List ℕ → Result FileParts FileFault
-read_file file = behind_prefix file >>= λ rest. behind_length rest >>= λ parts. meta_in parts.0
+unfoldable pub file_in : List ℕ → Result FileParts FileFault
+file_in file = behind_prefix file >>= λ rest. behind_length rest >>= λ parts. meta_in parts.0
     >>= λ meta. ok_or (syntax_of meta.transfer) (OtherSyntax meta.transfer) >>= λ syntax. set_in syntax parts.1
     >>= λ set. Ok (record { meta = meta; set = set; set_at = group_at + length parts.0 })

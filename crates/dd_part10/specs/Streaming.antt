@@ -8,14 +8,14 @@ use Rattle.dd_part10.specs.declared.stream_fault.StreamFault.{StreamFault}
 use Rattle.dd_part10.specs.declared.stream_fault.StreamFault.TheVariants as faults
 use Rattle.dd_part10.specs.File.{IsFile}
 use Rattle.dd_part10.specs.Memory.{IsRefused}
-use Rattle.dd_part10.specs.Reading.{FileParts, read_file}
+use Rattle.dd_part10.specs.Reading.{FileParts, file_in}
 use Rattle.dd_part10.specs.Taking.{IsScanned}
 
 -- the bytes are a file, which reading gives, and the scan tells it
 pub record IsScannedOf (wanted : List Tag) (given : List ℕ) (scanned : Scanned) : Type 0 where
   pub file : FileParts
   pub is : IsFile given file.meta file.set file.set_at
-  pub read : read_file given ≡ Ok file
+  pub read : file_in given ≡ Ok file
   pub told : IsScanned wanted scanned file
 
 -- The answer of reading a file of at most `limit` bytes. The reader gave `given` in it, has `left` still to come, and

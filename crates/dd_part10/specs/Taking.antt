@@ -23,7 +23,7 @@ use Rattle.dd_part10.specs.File.{max_group_length}
 use Rattle.dd_part10.specs.Matches.{Fails}
 use Rattle.dd_part10.specs.Memory.{HasHead, IsRefused}
 use Rattle.dd_part10.specs.Meta.{meta_group, group_length_tag}
-use Rattle.dd_part10.specs.Reading.{◌>>=◌, FileParts, behind, behind_prefix, behind_length, meta_in, set_in, read_file}
+use Rattle.dd_part10.specs.Reading.{◌>>=◌, FileParts, behind, behind_prefix, behind_length, meta_in, set_in, file_in}
 use Rattle.dd_part10.specs.Syntaxes.{syntax_of}
 
 -- ---- the checks, each of the front that it looks at
@@ -83,7 +83,7 @@ whole_with meta set_at set = set >>= λ s. Ok (record { meta = meta; set = s; se
 -- all that stands before the data set: what is read of the file is this, and the data set in the syntax that it names
 abbrev pub HeadTaken : Result (Meta × Syntax) FileFault → List ℕ → List ℕ → Type 0
 HeadTaken (Ok (meta, syntax)) bytes rest =
-    (set_at : ℕ) × (read_file bytes ≡ whole_with meta set_at (set_in syntax rest))
+    (set_at : ℕ) × (file_in bytes ≡ whole_with meta set_at (set_in syntax rest))
     × HasHead bytes
 HeadTaken (Err e) bytes rest = IsRefused e bytes
 
@@ -101,5 +101,5 @@ pub record IsScanned (wanted : List Tag) (scanned : Scanned) (file : FileParts) 
 
 -- a returned scan tells the file that reading the bytes gives
 abbrev pub FileTaken : List Tag → Result Scanned FileFault → List ℕ → Type 0
-FileTaken wanted (Ok scanned) bytes = (file : FileParts) × (read_file bytes ≡ Ok file) × IsScanned wanted scanned file
+FileTaken wanted (Ok scanned) bytes = (file : FileParts) × (file_in bytes ≡ Ok file) × IsScanned wanted scanned file
 FileTaken wanted (Err e) bytes = IsRefused e bytes

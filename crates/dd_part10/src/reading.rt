@@ -11,7 +11,7 @@ ghost use Rattle.dd_part10.specs.declared.meta.Meta.{Meta};
 ghost use Rattle.dd_part10.specs.File.{IsFile};
 ghost use Rattle.dd_part10.specs.Matches.{Matches, file_view};
 ghost use Rattle.dd_part10.specs.Memory.{GroupWants, SetWants, WantsNone};
-ghost use Rattle.dd_part10.specs.Reading.{behind_prefix, set_in, read_file};
+ghost use Rattle.dd_part10.specs.Reading.{behind_prefix, set_in, file_in};
 ghost use Rattle.dd_part10.specs.Taking.{may_follow};
 
 use crate::fault::FileFault;
@@ -34,7 +34,7 @@ pub fn parse_file<'a>(alloc: Global, bytes: &'a [u8]) -> Result<DicomFile<'a>, F
     ensures only { (meta : Meta) (set : Elements) (set_at : ℕ) → IsFile bytes.now meta set set_at
         → Matches file_view result (Ok (record { meta = meta; set = set; set_at = set_at })) }
     // A refusal for other than memory is the first check that fails.
-    ensures fault { Matches file_view result (read_file bytes.now) }
+    ensures fault { Matches file_view result (file_in bytes.now) }
     // Memory runs out only where it is wanted, behind all checks that come before.
     ensures group { result ≡ Err (faults.Meta Memory) → GroupWants bytes.now }
     ensures set { result ≡ Err (faults.Set Memory) → SetWants bytes.now }
@@ -43,9 +43,9 @@ pub fn parse_file<'a>(alloc: Global, bytes: &'a [u8]) -> Result<DicomFile<'a>, F
 }
 
 /// The file, or the first check that the bytes fail.
-#[tactic(auto, unfolding(crate::specs::Reading::read_file))]
+#[tactic(auto, unfolding(crate::specs::Reading::file_in))]
 fn checked_file<'a>(alloc: Global, bytes: &'a [u8]) -> Result<DicomFile<'a>, FileFault>
-    ensures exact { Matches file_view result (read_file bytes.now) }
+    ensures exact { Matches file_view result (file_in bytes.now) }
     ensures room { length bytes.now < 2 ^ 64 }
     ensures group { result ≡ Err (faults.Meta Memory) → GroupWants bytes.now }
     ensures set { result ≡ Err (faults.Set Memory) → SetWants bytes.now }
