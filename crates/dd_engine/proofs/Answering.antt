@@ -22,9 +22,9 @@ use Rattle.dd_engine.specs.Supply.{AnswersSource, AreAnswers, Holds, IsAnswer, I
 -- a reader with an answer for its source did not fail
 pub unfailed : (limit : ℕ) (given : List ℕ) (left : Option (List ℕ)) (old new : ℕ) (answer : Answer)
     → AnswersReader limit given left old new answer → IfErr answer IsOfSource → HasWorked old new
-unfailed limit given left old new (Ok version) h settled = (h.ended (λ e. cc) (λ e. cc)).worked
+unfailed limit given left old new (Ok version) h settled = (h.ended (λ e. cc) (λ e. cc)).2
 unfailed limit given left old new (Err FileTooLong) h settled = (h.long refl).1
-unfailed limit given left old new (Err fault) h settled = (h.ended (λ e. settled.0 (cc)) (λ e. cc)).worked
+unfailed limit given left old new (Err fault) h settled = (h.ended (λ e. settled.0 (cc)) (λ e. cc)).2
 
 -- what was told, of a reader that has come to its end within the limit
 fitting_source : (limit : ℕ) (file given rest : List ℕ) (answer : Answer) → file ≡ given ++ rest → rest ≡ []
@@ -51,13 +51,13 @@ source_told : (limit : ℕ) (file given rest : List ℕ) (old new : ℕ) (answer
 source_told limit file given rest old new (Ok version) all h settled =
     let read = h.ended (λ e. cc) (λ e. cc) in
     let answers = h.whole (λ e. cc) (λ e. cc) tt in
-    fitting_source limit file given rest (Ok version) all read.ended read.within (λ e. cc) answers
+    fitting_source limit file given rest (Ok version) all read.1 read.0 (λ e. cc) answers
 source_told limit file given rest old new (Err FileTooLong) all h settled =
     long_source limit file given rest all (h.long refl).0
 source_told limit file given rest old new (Err fault) all h settled =
     let read = h.ended (λ e. settled.0 (cc)) (λ e. cc) in
     let answers = h.whole (λ e. settled.0 (cc)) (λ e. cc) settled.1 in
-    fitting_source limit file given rest (Err fault) all read.ended read.within (λ e. cc) answers
+    fitting_source limit file given rest (Err fault) all read.1 read.0 (λ e. cc) answers
 
 told_right : (limit : ℕ) (told left : Option (List ℕ)) (given : List ℕ) (old new : ℕ) (answer : Answer)
     → Consumes told left given → AnswersReader limit given left old new answer → IfErr answer IsOfSource

@@ -5,6 +5,8 @@ use Rattle.std.proofs.Common.{refl, sym, ap, subst, ⊎_elim, ◌∙◌}
 use Rattle.std.specs.Prelude.{IfSome}
 use Rattle.dd_elem.specs.Uid.{is_uid}
 use Rattle.dd_elem.specs.declared.tag.Tag.{Tag}
+use Rattle.dd_set.specs.Streams.{Ends}
+use Rattle.dd_set.specs.declared.end.End.TheVariants.{Ended}
 use Rattle.dd_set.specs.declared.fault.SetFault.TheVariants as parsing
 use Rattle.dd_part10.specs.Memory.{IsRefused}
 use Rattle.dd_part10.specs.Reading.{FileParts, file_in}
@@ -13,7 +15,7 @@ use Rattle.dd_part10.specs.declared.stream_fault.StreamFault.{StreamFault}
 use Rattle.dd_part10.specs.declared.stream_fault.StreamFault.TheVariants as faults
 use Rattle.dd_part10.specs.declared.fault.FileFault.{FileFault}
 use Rattle.dd_part10.specs.declared.fault.FileFault.TheVariants.{Meta, Set}
-use Rattle.dd_keys.specs.Answers.{Answers, AnswersReader, IsReadWhole, refusal_of}
+use Rattle.dd_keys.specs.Answers.{Answers, AnswersReader, refusal_of}
 use Rattle.dd_keys.specs.Classes.{is_image_class}
 use Rattle.dd_keys.specs.declared.fault.KeyFault.{KeyFault}
 use Rattle.dd_keys.specs.declared.fault.KeyFault.TheVariants.{File, Read, FileTooLong, MetaMismatch, Memory}
@@ -108,7 +110,7 @@ no_want fault check says = says
 -- ---- the answer
 
 wanting_reader : (limit : ℕ) (given : List ℕ) (left : Option (List ℕ)) (old new : ℕ) (e : FileFault)
-    → IsReadWhole limit given left old new → SaysMemory (File e) → IsWantInStream given (File e)
+    → Ends Ended limit given left old new → SaysMemory (File e) → IsWantInStream given (File e)
     → AnswersReader limit given left old new (Err (File e))
 wanting_reader limit given left old new e read says want = record {
   read = λ e. absurd (cc);
@@ -120,7 +122,7 @@ wanting_reader limit given left old new e read says want = record {
 
 -- a file was read, and this is the answer for it
 pub answers_reader : (limit : ℕ) (given : List ℕ) (left : Option (List ℕ)) (old new : ℕ) (f : FileParts)
-    (answer : Result Parts KeyFault) → IsReadWhole limit given left old new → file_in given ≡ Ok f
+    (answer : Result Parts KeyFault) → Ends Ended limit given left old new → file_in given ≡ Ok f
     → Answers given answer → AnswersReader limit given left old new answer
 answers_reader limit given left old new f (Ok parts) whole read h = record {
   read = λ e. absurd (cc);
@@ -143,7 +145,7 @@ answers_reader limit given left old new f (Err fault) whole read h =
 
 -- the bytes are no file
 failing_reader : (limit : ℕ) (given : List ℕ) (left : Option (List ℕ)) (old new : ℕ) (e : FileFault)
-    → IsReadWhole limit given left old new → file_in given ≡ Err e → ¬ SaysMemory (File e)
+    → Ends Ended limit given left old new → file_in given ≡ Err e → ¬ SaysMemory (File e)
     → AnswersReader limit given left old new (Err (File e))
 failing_reader limit given left old new e whole read silent = record {
   read = λ e. absurd (cc);
@@ -155,7 +157,7 @@ failing_reader limit given left old new e whole read silent = record {
 
 -- the bytes are no file, or memory ran out
 file_refused : (limit : ℕ) (given : List ℕ) (left : Option (List ℕ)) (old new : ℕ) (e : FileFault)
-    → IsReadWhole limit given left old new → IsRefused e given → AnswersReader limit given left old new (Err (File e))
+    → Ends Ended limit given left old new → IsRefused e given → AnswersReader limit given left old new (Err (File e))
 file_refused limit given left old new (Meta parsing.Memory) whole h =
     wanting_reader limit given left old new (Meta parsing.Memory) whole tt h
 file_refused limit given left old new (Set parsing.Memory) whole h =
@@ -180,5 +182,5 @@ refused_reader wanted limit given left old new faults.TooLong h = record {
   whole = λ _ no _. absurd (no refl);
   memory = λ says. absurd says;
 }
-refused_reader wanted limit given left old new (faults.File e) h = file_refused limit given left old new e
-    (record { within = h.0.0; ended = h.0.1; worked = h.0.2 }) h.1
+refused_reader wanted limit given left old new (faults.File e) h =
+    file_refused limit given left old new e h.0 h.1

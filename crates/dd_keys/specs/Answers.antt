@@ -1,8 +1,8 @@
 -- What reading a version answers: for the bytes of its file, and for a reader that gives them.
-use Rattle.std.specs.Prelude.{◌≡◌, ◌≢◌, ◌⊎◌, ◌+◌, ◌≤◌, ℕ, List, length}
+use Rattle.std.specs.Prelude.{◌≡◌, ◌≢◌, ◌⊎◌, ℕ, List}
 use Rattle.std.specs.Prelude.{Option, Some, Result, Err, IfOk, IfErr, MatchResult}
-use Rattle.std.specs.Io.KnownBytes.{IsAtEnd}
-use Rattle.dd_elem.specs.Device.{HasFailed, HasWorked}
+use Rattle.dd_set.specs.declared.end.End.TheVariants.{Ended, Failed, TooLong}
+use Rattle.dd_set.specs.Streams.{Ends}
 use Rattle.dd_part10.specs.declared.stream_fault.StreamFault.{StreamFault}
 use Rattle.dd_part10.specs.declared.stream_fault.StreamFault.TheVariants as faults
 use Rattle.dd_keys.specs.declared.fault.KeyFault.{KeyFault}
@@ -21,23 +21,16 @@ pub record Answers (file : List ℕ) (answer : Result Parts KeyFault) : Type 0 w
   -- a refusal is the first check that fails, or want of memory where memory is wanted
   pub fault : IfErr answer (λ fault. IsWantOfMemory file fault ⊎ (first_fault file ≡ Some fault))
 
--- A reader gave `given` in a call and has `left` still to come; its failures were `old` and are `new`.
-
--- it was read to its end, within the limit, and did not fail
-pub record IsReadWhole (limit : ℕ) (given : List ℕ) (left : Option (List ℕ)) (old new : ℕ) : Type 0 where
-  pub within : length given ≤ limit
-  pub ended : IsAtEnd left
-  pub worked : HasWorked old new
-
--- the answer for such a reader
+-- The answer for a reader that gave `given` in the call and has `left` still to come; its failures were `old` and are
+-- `new`.
 pub record AnswersReader (limit : ℕ) (given : List ℕ) (left : Option (List ℕ)) (old new : ℕ)
     (answer : Result Parts KeyFault) : Type 0 where
   -- the reader failed, and had not gone past the limit
-  pub read : answer ≡ Err Read → (length given ≤ limit) × HasFailed old new
+  pub read : answer ≡ Err Read → Ends Failed limit given left old new
   -- it gave one byte more than the limit
-  pub long : answer ≡ Err FileTooLong → (length given ≡ limit + 1) × HasWorked old new
+  pub long : answer ≡ Err FileTooLong → Ends TooLong limit given left old new
   -- each other answer comes once it was read to its end,
-  pub ended : answer ≢ Err Read → answer ≢ Err FileTooLong → IsReadWhole limit given left old new
+  pub ended : answer ≢ Err Read → answer ≢ Err FileTooLong → Ends Ended limit given left old new
   -- and is that for the bytes that it gave,
   pub whole : answer ≢ Err Read → answer ≢ Err FileTooLong → IfErr answer (λ fault. ¬ SaysMemory fault)
       → Answers given answer

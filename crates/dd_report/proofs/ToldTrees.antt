@@ -79,7 +79,7 @@ read_found held folder opened path file given node finding limit old new failure
           (id_ascii (file_in node) id)));
       bytes = given;
       stored = subst (λ (xs : List ℕ). IfSome held (λ files. files.bytes_at xs ≡ Some given)) at
-          (stored_given held opened given old new left known read.1.ended);
+          (stored_given held opened given old new left known read.1.1);
       found = read.0;
     }))
 read_found held folder opened path file given node finding limit old new failures after is id at place left known

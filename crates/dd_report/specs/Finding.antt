@@ -8,11 +8,13 @@ use Rattle.std.specs.Str.{bytes_eq}
 use Rattle.sha2.specs.Sha256.{sha256}
 use Rattle.dd_elem.specs.Device.{Gives}
 use Rattle.dd_elem.specs.FileIdForm.{IsFileId}
+use Rattle.dd_set.specs.Streams.{Ends}
+use Rattle.dd_set.specs.declared.end.End.TheVariants.{Ended}
 use Rattle.dd_keys.specs.Values.{value_at}
 use Rattle.dd_layout.specs.Entries.{tag}
 use Rattle.dd_dir.specs.Trees.{Node}
 use Rattle.dd_dir.specs.Own.{digest_in}
-use Rattle.dd_files.specs.ReadToEnd.{ReadAmiss, ReadWhole}
+use Rattle.dd_files.specs.ReadToEnd.{ReadAmiss}
 use Rattle.dd_report.specs.declared.findings.Finding.{Finding}
 use Rattle.dd_report.specs.declared.findings.Finding.TheVariants.{Differs, Missing, Unreadable}
 
@@ -38,8 +40,8 @@ compared (Some recorded) found = if bytes_eq recorded found then None else Some 
 -- what is found of it
 abbrev pub IsFound : Option Finding → Option (List ℕ) → ℕ → List ℕ → Option (List ℕ) → ℕ → ℕ → Type 0
 IsFound finding recorded limit given left failures after =
-    ((finding ≡ compared recorded (sha256 given)) × ReadWhole limit given left failures after)
-    ⊎ ((finding ≡ Some Unreadable) × ReadAmiss limit given failures after)
+    ((finding ≡ compared recorded (sha256 given)) × Ends Ended limit given left failures after)
+    ⊎ ((finding ≡ Some Unreadable) × ReadAmiss limit given left failures after)
 
 -- What is found of it by reading it once, to its end, to a failure or to a byte more than the limit. Readers tell what
 -- they gave, what they have left and what they count.

@@ -45,6 +45,5 @@ returns-clause-gave g c =
       h.0,
       p.gave,
       h.2,
-      answers_reader _ _ _ _ _ s.file _
-          (record { within = h.3.0.0; ended = h.3.0.1; worked = h.3.0.2 }) s.read answers,
+      answers_reader _ _ _ _ _ s.file _ h.3.0 s.read answers,
     )
