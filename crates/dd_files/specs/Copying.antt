@@ -1,9 +1,10 @@
 -- What copying an image gives.
-use Rattle.std.specs.Prelude.{◌≡◌, ℕ, ◌+◌, ◌≤◌, List, ◌++◌, length, Option, Result, Ok, Err}
-use Rattle.std.specs.Io.KnownBytes.{IsAtEnd}
+use Rattle.std.specs.Prelude.{◌≡◌, ℕ, ◌≤◌, List, ◌++◌, length, Option, Result, Ok, Err}
 use Rattle.sha2.specs.Sha256.{sha256}
-use Rattle.dd_elem.specs.Device.{HasFailed, HasWorked}
+use Rattle.dd_elem.specs.Device.{HasWorked}
 use Rattle.dd_set.specs.Sends.{Goes, Stops}
+use Rattle.dd_set.specs.Streams.{Ends}
+use Rattle.dd_set.specs.declared.end.End.TheVariants.{Ended, Failed, TooLong}
 use Rattle.dd_files.specs.declared.copy.CopyFault.{CopyFault}
 use Rattle.dd_files.specs.declared.copy.CopyFault.TheVariants.{Unread, Unsent, Changed}
 
@@ -21,12 +22,11 @@ pub record FrontGoes {R : Type 0} (bytes : List ℕ) (old new : Option (List ℕ
 abbrev pub IsCopied : {R : Type 0} → Result (List ℕ) CopyFault → ℕ → List ℕ → Option (List ℕ) → ℕ → ℕ
     → Option (List ℕ) × R → Option (List ℕ) × R → ℕ → ℕ → Type 0
 IsCopied (Ok digest) limit given left read_old read_new old new write_old write_new =
-    (digest ≡ sha256 given) × (length given ≤ limit) × IsAtEnd left × HasWorked read_old read_new
-    × Goes given old new write_old write_new
+    (digest ≡ sha256 given) × Ends Ended limit given left read_old read_new × Goes given old new write_old write_new
 IsCopied (Err Unread) limit given left read_old read_new old new write_old write_new =
-    (length given ≤ limit) × HasFailed read_old read_new × Goes given old new write_old write_new
+    Ends Failed limit given left read_old read_new × Goes given old new write_old write_new
 IsCopied (Err Unsent) limit given left read_old read_new old new write_old write_new =
     (length given ≤ limit) × HasWorked read_old read_new
     × ((taken : ℕ) × Stops given 0 taken old new write_old write_new)
 IsCopied (Err Changed) limit given left read_old read_new old new write_old write_new =
-    (length given ≡ limit + 1) × HasWorked read_old read_new × FrontGoes given old new write_old write_new
+    Ends TooLong limit given left read_old read_new × FrontGoes given old new write_old write_new

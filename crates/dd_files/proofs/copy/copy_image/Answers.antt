@@ -14,8 +14,7 @@ returns-in-Err-TooLong-clause-copied g c = (
   consumes_more _ _ _ _ _ c.loop-hasher.invariant.known
       (rw c.in-Err-TooLong.field-0-is at c.in-Err-TooLong.ensures.left),
   (
-    grind (arith, common_steps),
-    grind (arith, common_steps),
+    (grind (arith, common_steps), grind (arith, common_steps)),
     front_goes _ _ _ _ _ _ c.loop-hasher.invariant.went,
   ),
 )
