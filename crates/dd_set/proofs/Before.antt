@@ -14,7 +14,8 @@ use Rattle.dd_set.specs.declared.syntax.Length.TheVariants.{Defined, Undefined}
 use Rattle.dd_set.specs.declared.syntax.Syntax.{Syntax}
 use Rattle.dd_set.specs.declared.syntax.Syntax.TheVariants.{Explicit, Implicit}
 use Rattle.dd_set.specs.Spelling.{tag_text, shape_text}
-use Rattle.dd_set.specs.Reading.{◌>>=◌, At, Reads, leaves_fewer, less, take_at, tag_of, short_of, no_byte_left, is_over, Shape, long_at, explicit_at, shape_at, within}
+use Rattle.dd_set.specs.Reading.{◌>>=◌, At, Reads, leaves_fewer, less, take_at, tag_of, short_of, no_byte_left, is_over, Shape, long_length_at, long_at, explicit_at}
+use Rattle.dd_set.specs.Reading.{shape_at, within}
 use Rattle.dd_set.proofs.Steps.{done, short_again, long_again}
 use Rattle.dd_set.proofs.HeaderLaws.{HasForm, width_limit, long_shape, short_shape, long_width, short_width}
 
@@ -141,13 +142,13 @@ short_shape_again tag vr n a b letters long lt = record {
 
 -- a header with a length of 32 bits
 long_shape_again : (tag : Tag) (vr : Vr) (n a b : ℕ) → letters_of vr ≡ a ∷ b ∷ [] → is_long_of vr ≡ true → n < 2 ^ 32 → ShapeAgain Explicit tag (Some vr) n
-unfolding shape_at shaped long_at
+unfolding shape_at shaped long_at long_length_at
 long_shape_again tag vr n a b letters long lt = record {
   first = a ∷ b ∷ 0 ∷ 0 ∷ [];
   second = little_bytes 4 n;
   whole = long_shape vr n long ∙ ap (λ (l : List ℕ). l ++ (0 ∷ 0 ∷ little_bytes 4 n)) letters;
   four = refl;
-  again = λ left rest. ap (λ (o : Option Vr). explicit_at o (tag_text tag ++ (a ∷ b ∷ 0 ∷ 0 ∷ [])) (before left (little_bytes 4 n) rest)) (named vr a b letters) ∙ into (is_long_of vr) _ (shaped (Some vr) (short_of (tag_text tag ++ (a ∷ b ∷ 0 ∷ 0 ∷ []))) (before left (little_bytes 4 n) rest)) long ∙ onward (take_at 4 (before left (little_bytes 4 n) rest)) (little_bytes 4 n, behind left rest) (λ y. shaped (Some vr) (from_le_bytes w32 y.0) y.1) (take_again 4 left (little_bytes 4 n) rest refl) ∙ ap (λ (k : ℕ). shaped (Some vr) k (behind left rest)) (long_again n [] lt);
+  again = λ left rest. ap (λ (o : Option Vr). explicit_at o (tag_text tag ++ (a ∷ b ∷ 0 ∷ 0 ∷ [])) (before left (little_bytes 4 n) rest)) (named vr a b letters) ∙ into (is_long_of vr) _ (shaped (Some vr) (short_of (tag_text tag ++ (a ∷ b ∷ 0 ∷ 0 ∷ []))) (before left (little_bytes 4 n) rest)) long ∙ onward (long_length_at (before left (little_bytes 4 n) rest)) (from_le_bytes w32 (little_bytes 4 n), behind left rest) (λ y. shaped (Some vr) y.0 y.1) (onward (take_at 4 (before left (little_bytes 4 n) rest)) (little_bytes 4 n, behind left rest) (λ y. Ok (from_le_bytes w32 y.0, y.1)) (take_again 4 left (little_bytes 4 n) rest refl)) ∙ ap (λ (k : ℕ). shaped (Some vr) k (behind left rest)) (long_again n [] lt);
 }
 
 -- a header without a value representation

@@ -15,7 +15,8 @@ use Rattle.dd_set.specs.declared.syntax.Syntax.TheVariants.{Explicit, Implicit}
 use Rattle.dd_set.specs.Elements.{Elements, element, Content, bytes, items, Items, item, Entry, Part}
 use Rattle.dd_set.specs.Spelling.{undefined_length, delimiter_group, item_syntax, max_levels}
 use Rattle.dd_set.specs.Reading.{◌>>=◌, At, Reads, leaves_fewer, less, take_at, tag_of, long_of, short_of, is_item}
-use Rattle.dd_set.specs.Reading.{no_byte_left, is_over, Shape, long_at, explicit_at, shape_at, SequenceReader}
+use Rattle.dd_set.specs.Reading.{no_byte_left, is_over, Shape, long_length_at, long_at, explicit_at, shape_at}
+use Rattle.dd_set.specs.Reading.{SequenceReader}
 use Rattle.dd_set.specs.Reading.{SetReader, ItemReader, within, undefined_at, defined_at, content_at, ends_set}
 use Rattle.dd_set.specs.Reading.{element_at, next_elements, elements_at, ends_sequence, item_at, next_items, items_at}
 use Rattle.dd_set.specs.Reading.{part_at, sequence_with, set_with, item_reader, read_all}
@@ -123,10 +124,11 @@ over_same Defined at q h = go at.left h
 
 -- a header with a length of 32 bits
 long_extends : (c : Bool) (q : List ℕ) (vr : Vr) (head : List ℕ) (at : At) → has at.left ≡ c → Extends c q (long_at vr head at) (long_at vr head (longer at q))
-unfolding long_at
+unfolding long_at long_length_at
 long_extends c q vr head at h =
     extends_if c q (short_of head == 0) _ _ _ _
-    (λ none. extends_map c q (take_at 4 at) (take_at 4 (longer at q)) (λ n. record { vr = Some vr; length = from_le_bytes w32 n }) (take_extends c 4 at q h))
+    (λ none. extends_map c q (long_length_at at) (long_length_at (longer at q)) (λ n. record { vr = Some vr; length = n })
+    (extends_map c q (take_at 4 at) (take_at 4 (longer at q)) (λ n. from_le_bytes w32 n) (take_extends c 4 at q h)))
     (λ some. λ ne. refl)
 
 -- a header with a value representation

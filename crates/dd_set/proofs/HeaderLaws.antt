@@ -13,7 +13,8 @@ use Rattle.dd_set.specs.declared.syntax.Syntax.{Syntax}
 use Rattle.dd_set.specs.declared.syntax.Syntax.TheVariants.{Explicit, Implicit}
 use Rattle.dd_set.specs.Bytes.{AreBytes}
 use Rattle.dd_set.specs.Spelling.{tag_text, shape_text, undefined_length, length_limit}
-use Rattle.dd_set.specs.Reading.{At, take_at, tag_of, long_of, short_of, is_tag, Shape, long_at, explicit_at, shape_at}
+use Rattle.dd_set.specs.Reading.{At, take_at, tag_of, long_of, short_of, is_tag, Shape, long_length_at, long_at, explicit_at}
+use Rattle.dd_set.specs.Reading.{shape_at}
 use Rattle.dd_set.proofs.Steps.{bind_ok, allowed, chosen, ok_is, AreBytes-drop, AreBytes-take, short_text, long_text, short_below, long_below, found_passes}
 use Rattle.dd_set.proofs.Taken.{Takes, Takes-none, taken}
 
@@ -117,12 +118,17 @@ pub record Shaped (syntax : Syntax) (head : List ℕ) (at : At) (shape : Shape) 
 head_letters : (head letters : List ℕ) → letters ≡ take 2 (drop 4 head) → drop 4 head ≡ letters ++ drop 6 head
 head_letters head letters e = sym (take-append-drop 2 (drop 4 head)) ∙ ap₂ (λ (x y : List ℕ). x ++ y) (sym e) (drop-drop 2 4 head)
 
+-- what such a header gives, with its length
+long_made : Vr → ℕ × At → Shape × At
+long_made vr n = (record { vr = Some vr; length = n.0 }, n.1)
+
 -- a header with a length of 32 bits
 long_takes : (vr : Vr) (head : List ℕ) (at : At) (x : Shape × At) → length head ≡ 8 → AreBytes head → AreBytes at.bytes → letters_of vr ≡ take 2 (drop 4 head) → is_long_of vr ≡ true → long_at vr head at ≡ Ok x → Shaped Explicit head at x.0 x.1
-unfolding long_at
+unfolding long_at long_length_at long_made
 long_takes vr head at x len hfits fits letters long e =
     let a = allowed (short_of head == 0) Reserved _ x e in
-    let b = bind_ok (take_at 4 at) (λ n. Ok (record { vr = Some vr; length = from_le_bytes w32 n.0 }, n.1)) x a.1 in
+    let l = bind_ok (long_length_at at) (λ n. Ok (long_made vr n)) x a.1 in
+    let b = bind_ok (take_at 4 at) (λ n. Ok (from_le_bytes w32 n.0, n.1)) l.0 l.1 in
     let t = taken 4 at b.0 fits b.1 in
     let shape : Shape = record { vr = Some vr; length = from_le_bytes w32 b.0.0 } in
     let none : drop 6 head ≡ 0 ∷ 0 ∷ [] = sym (head_short head len hfits) ∙ ap (λ (n : ℕ). little_bytes 2 n) (eqb-true _ _ a.0) in
@@ -131,7 +137,8 @@ long_takes vr head at x len hfits fits letters long e =
     let whole : drop 4 head ++ b.0.0 ≡ shape_text shape.vr shape.length = ap₂ (λ (y z : List ℕ). y ++ z) front (sym number) ∙ append_assoc (letters_of vr) (0 ∷ 0 ∷ []) (little_bytes 4 shape.length) ∙ sym (long_shape vr shape.length long) in
     let below : shape.length < width_limit shape.vr = subst (λ (n : ℕ). shape.length < n) (sym (long_width vr long)) (long_below b.0.0 t.2) in
     let all : Shaped Explicit head at shape b.0.1 = record { text = b.0.0; takes = t.0; whole = whole; form = tt; below = below } in
-    subst (λ (y : Shape × At). Shaped Explicit head at y.0 y.1) (ok_is (shape, b.0.1) x b.2) all
+    let made : (shape, b.0.1) ≡ x = ap (long_made vr) (ok_is (from_le_bytes w32 b.0.0, b.0.1) l.0 b.2) ∙ ok_is (long_made vr l.0) x l.2 in
+    subst (λ (y : Shape × At). Shaped Explicit head at y.0 y.1) made all
 
 -- a header with a value representation
 explicit_takes : (o : Option Vr) (head : List ℕ) (at : At) (x : Shape × At) → length head ≡ 8 → AreBytes head → AreBytes at.bytes → vr_of (take 2 (drop 4 head)) ≡ o → explicit_at o head at ≡ Ok x → Shaped Explicit head at x.0 x.1

@@ -12,7 +12,7 @@ use Rattle.dd_set.specs.declared.syntax.Syntax.{Syntax}
 use Rattle.dd_set.specs.declared.syntax.Syntax.TheVariants.{Explicit, Implicit}
 use Rattle.dd_set.specs.Reading.{Header, there, header_with, eight_at, head_at, header_at, opening_at, behind_head}
 use Rattle.dd_set.specs.Reading.{front_at, item_opening, behind_item_head, item_front_at, At, Reads, ◌>>=◌}
-use Rattle.dd_set.specs.Reading.{leaves_fewer, take_at, tag_of, is_over, shape_at, explicit_at, long_at}
+use Rattle.dd_set.specs.Reading.{leaves_fewer, take_at, tag_of, is_over, shape_at, explicit_at, long_length_at, long_at}
 use Rattle.dd_set.specs.Spelling.{delimiter_group}
 use Rattle.dd_set.proofs.Steps.{passes, bind_ok, ok_is}
 
@@ -55,12 +55,13 @@ take_at_most : (n : ℕ) (at : At) → AtMost (length at.bytes) (take_at n at)
 take_at_most n at = record { left = λ x e. omega (arith, take_fewer n at x.1 x.0 e) }
 
 shape_at_most : (syntax : Syntax) (head : List ℕ) (at : At) → AtMost (length at.bytes) (shape_at syntax head at)
-unfolding shape_at long_at
+unfolding shape_at long_at long_length_at
 shape_at_most Implicit head at = at_most_here (_, at)
 shape_at_most Explicit head at = explicit (vr_of (take 2 (drop 4 head)))
   where
     long : (vr : Vr) → AtMost (length at.bytes) (long_at vr head at)
-    long vr = at_most_either _ _ _ _ (at_most_then _ (take_at 4 at) _ (take_at_most 4 at) (λ x. at_most_here (_, x.1))) (at_most_none _ _)
+    long vr = at_most_either _ _ _ _ (at_most_then _ (long_length_at at) _ (at_most_then _ (take_at 4 at) _ (take_at_most 4 at) (λ x. at_most_here (_, x.1)))
+        (λ x. at_most_here (_, x.1))) (at_most_none _ _)
 
     explicit : (o : Option Vr) → AtMost (length at.bytes) (explicit_at o head at)
     explicit None = at_most_none _ _

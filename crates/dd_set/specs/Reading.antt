@@ -110,7 +110,7 @@ pub record Shape : Type 0 where
 
 unfoldable pub long_at : Vr → List ℕ → At → Reads Shape
 long_at vr head at =
-    if short_of head == 0 then (take_at 4 at >>= λ n. Ok (record { vr = Some vr; length = from_le_bytes w32 n.0 }, n.1))
+    if short_of head == 0 then (long_length_at at >>= λ n. Ok (record { vr = Some vr; length = n.0 }, n.1))
     else Err Reserved
 
 abbrev pub explicit_at : Option Vr → List ℕ → At → Reads Shape

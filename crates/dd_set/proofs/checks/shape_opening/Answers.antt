@@ -1,6 +1,5 @@
 -- A long header, whose length stands behind its first eight bytes.
 use Rattle.std.proofs.Common.{◌≡◌, ◌∙◌, ℕ, true, false, eqb, ap, sym, List, take, drop, Option, Some, Ok, Err, refl}
-use Rattle.std.specs.Int.{w32, from_le_bytes}
 use Rattle.dd_elem.specs.declared.tag.Tag.{Tag}
 use Rattle.dd_elem.specs.declared.vr.Vr.{Vr}
 use Rattle.dd_elem.specs.Vr.{is_long_of, vr_of}
@@ -8,27 +7,25 @@ use Rattle.dd_set.specs.declared.fault.SetFault.TheVariants.{Reserved}
 use Rattle.dd_set.specs.declared.syntax.Syntax.TheVariants.{Explicit}
 use Rattle.dd_set.specs.Checks.{long_header_at}
 use Rattle.dd_set.specs.Reading.{Header, tagged_at, header_with, there, long_length_at, At, Reads, ◌>>=◌, Shape}
-use Rattle.dd_set.specs.Reading.{take_at, short_of, shape_at, long_at}
+use Rattle.dd_set.specs.Reading.{short_of, shape_at, long_at}
 use Rattle.dd_set.proofs.Loops.{differ}
 use Rattle.dd_set.proofs.checks.shape_opening.Goals as goal
 
-abbrev shape_with : Vr → List ℕ × At → Reads Shape
-shape_with vr n = Ok (record { vr = Some vr; length = from_le_bytes w32 n.0 }, n.1)
-
-abbrev length_with : List ℕ × At → Reads ℕ
-length_with n = Ok (from_le_bytes w32 n.0, n.1)
+abbrev shape_with : Vr → ℕ × At → Reads Shape
+shape_with vr n = Ok (record { vr = Some vr; length = n.0 }, n.1)
 
 abbrev whole_with : Tag → Vr → ℕ × At → Reads (Option Header)
 whole_with tag vr n = Ok (Some (record { tag = tag; shape = record { vr = Some vr; length = n.0 } }), n.1)
 
-behind_length : (tag : Tag) (vr : Vr) (r : Reads (List ℕ)) → (r >>= shape_with vr >>= header_with tag >>= there) ≡ (r >>= length_with >>= whole_with tag vr)
+behind_length : (tag : Tag) (vr : Vr) (r : Reads ℕ)
+    → (r >>= shape_with vr >>= header_with tag >>= there) ≡ (r >>= whole_with tag vr)
 behind_length tag vr (Ok n) = refl
 behind_length tag vr (Err e) = refl
 
 long_header : (tag : Tag) (vr : Vr) (head : List ℕ) (at : At) → vr_of (take 2 (drop 4 head)) ≡ Some vr → is_long_of vr ≡ true → eqb (short_of head) 0 ≡ true
     → tagged_at Explicit tag head at ≡ long_header_at tag vr at
-unfolding shape_at long_at long_length_at
-long_header tag vr head at named long zero = rw (named, long, zero) (behind_length tag vr (take_at 4 at))
+unfolding shape_at long_at
+long_header tag vr head at named long zero = rw (named, long, zero) (behind_length tag vr (long_length_at at))
 
 reserved_header : (tag : Tag) (vr : Vr) (head : List ℕ) (at : At) → vr_of (take 2 (drop 4 head)) ≡ Some vr → is_long_of vr ≡ true → eqb (short_of head) 0 ≡ false
     → tagged_at Explicit tag head at ≡ Err Reserved
