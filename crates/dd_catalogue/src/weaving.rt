@@ -38,12 +38,8 @@ fn next<T: Keyed + Drop>(mine: &mut VecDeque<T>, theirs: &mut VecDeque<T>) -> Op
     requires theirs { IsRising T.key_of bytes_cmp theirs.old.items }
     ensures { IsStep T.key_of bytes_cmp T.order mine.old.items theirs.old.items result mine.new.items theirs.new.items }
 {
-    let Some(one) = mine.front() else {
-        return None;
-    };
-    let Some(other) = theirs.front() else {
-        return None;
-    };
+    let one = mine.front()?;
+    let other = theirs.front()?;
     match one.key().cmp(other.key()) {
         Ordering::Less => mine.pop_front(),
         Ordering::Greater => theirs.pop_front(),
