@@ -42,10 +42,10 @@ filing_by uid owner v = record { uid = uid v; owner = owner v }
 
 -- a study is filed under its patient, a series under its study
 abbrev pub study_filing : Parts → Filing
-study_filing v = record { uid = v.study.uid; owner = v.patient.id }
+study_filing = filing_by (λ v. v.study.uid) (λ v. v.patient.id)
 
 abbrev pub series_filing : Parts → Filing
-series_filing v = record { uid = v.series.uid; owner = v.study.uid }
+series_filing = filing_by (λ v. v.series.uid) (λ v. v.study.uid)
 
 -- it is filed under another owner than the table says
 abbrev pub is_of_another_owner : List Filing → Filing → Bool

@@ -1,7 +1,8 @@
 //! Why bytes are no directory that can be read.
 
-ghost use Rattle.std.specs.Prelude.{◌≡◌};
+ghost use Rattle.std.specs.Prelude.{◌≡◌, ◌↔◌, IsTrue};
 ghost use Rattle.dd_dir.specs.declared.fault.DirFault.TheVariants as faults;
+ghost use Rattle.dd_dir.specs.ReadAnswers.{IsWantOfMemory};
 
 use dd_elem;
 use dd_part10::FileFault;
@@ -37,6 +38,19 @@ pub enum DirFault {
     /// The record would be below 32 others.
     #[error("58 TooDeep {0}")]
     TooDeep(u32),
+}
+
+impl DirFault {
+    /// Does the fault say that a growth was refused?
+    pub fn is_want_of_memory(&self) -> bool
+        ensures { IsTrue result ↔ IsWantOfMemory self.now }
+    {
+        match self {
+            DirFault::Memory => true,
+            DirFault::File(fault) => fault.is_want_of_memory(),
+            _ => false,
+        }
+    }
 }
 
 impl From<AllocError> for DirFault {

@@ -1,6 +1,6 @@
 //! What directories list, gathered.
 
-ghost use Rattle.std.specs.Prelude.{◌≡◌, ◌⊎◌, ◌↔◌, ◌++◌, List, [], ℕ, map, IsTrue, OnOk};
+ghost use Rattle.std.specs.Prelude.{◌≡◌, ◌⊎◌, ◌++◌, List, [], ℕ, map, OnOk};
 ghost use Rattle.dd_dir.specs.ReadAnswers.{IsWantOfMemory};
 ghost use Rattle.dd_dir.specs.Own.{Listed};
 ghost use Rattle.dd_dir.specs.OwnVersions.{Tells, place_view};
@@ -101,21 +101,10 @@ fn own_set<'a>(alloc: Global, at: usize, set: &'a [u8]) -> Result<Own<'a>, Merge
 fn dir_fault(at: usize, fault: DirFault) -> MergeFault
     ensures { (set : List ℕ) → IsWantOfMemory fault ⊎ Refuses set fault → FailsAt at set result }
 {
-    if is_want_of_memory(&fault) {
+    if fault.is_want_of_memory() {
         MergeFault::Memory
     } else {
         MergeFault::Dir(at, fault)
-    }
-}
-
-/// Does the fault say that a growth was refused?
-pub fn is_want_of_memory(fault: &DirFault) -> bool
-    ensures { IsTrue result ↔ IsWantOfMemory fault.now }
-{
-    match fault {
-        DirFault::Memory => true,
-        DirFault::File(fault) => fault.is_want_of_memory(),
-        _ => false,
     }
 }
 

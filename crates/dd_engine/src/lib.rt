@@ -19,7 +19,6 @@ mod supply;
 pub use choice::Choice;
 pub use engine::{Indexed, index_engine};
 pub use engine_fault::EngineFault;
-pub use gathering::is_want_of_memory;
 pub use merge::{Merged, Pick, merge_engine};
 pub use merge_fault::MergeFault;
 pub use supply::Supply;

@@ -7,23 +7,23 @@ use Rattle.dd_elem.specs.Device.{Gives}
 use Rattle.dd_set.specs.declared.end.End.{End}
 use Rattle.dd_set.specs.Bytes.{AreBytes}
 use Rattle.dd_set.specs.StreamLaws.{moves_then, tells_then}
-use Rattle.dd_set.specs.Streams.{Place, Tells, Ends, Turns, Moves}
+use Rattle.dd_set.specs.Streams.{Place, MayCome, Ends, Turns, Moves}
 
 not_some : IsSome {T = End} None → ⊥
 not_some h = absurd cc
 
 -- a stream that is open may still have bytes
-pub open_not_over : (held : List ℕ) (left : ℕ) (end : Option End) → end ≡ None → ((rest : List ℕ) → Tells (record { held = held; left = left; end = end }) rest → rest ≡ []) → ⊥
+pub open_not_over : (held : List ℕ) (left : ℕ) (end : Option End) → end ≡ None → ((rest : List ℕ) → MayCome (record { held = held; left = left; end = end }) rest → rest ≡ []) → ⊥
 open_not_over held left end opened none =
     let empty = none (held ++ 0 ∷ []) (record { more = 0 ∷ []; parts = refl; shut = λ h. absurd (not_some (rw opened at h)) }) in
     absurd (omega (arith, ap length empty, length-append held (0 ∷ [])))
 
 -- a stream of which nothing may come holds nothing
-pub over_empty : (held : List ℕ) (left : ℕ) (end : Option End) → ((rest : List ℕ) → Tells (record { held = held; left = left; end = end }) rest → rest ≡ []) → held ≡ []
+pub over_empty : (held : List ℕ) (left : ℕ) (end : Option End) → ((rest : List ℕ) → MayCome (record { held = held; left = left; end = end }) rest → rest ≡ []) → held ≡ []
 over_empty held left end none = none held (record { more = []; parts = sym (append-nil held); shut = λ h. refl })
 
 -- where nothing is held and nothing came, nothing may come
-pub tells_none : (p : Place) → p.held ≡ [] → Tells p []
+pub tells_none : (p : Place) → p.held ≡ [] → MayCome p []
 tells_none p empty = record { more = []; parts = rw empty refl; shut = λ h. refl }
 
 module _ {R : Type 0} (remaining : R → Option (List ℕ)) (failures calls : R → ℕ) where
@@ -52,7 +52,7 @@ pub record Whole {R : Type 0} (remaining : R → Option (List ℕ)) (failures ca
 
 -- a stretch of which this is said whatever comes behind it, and then one to the end of the stream
 pub read_whole : {R : Type 0} (remaining : R → Option (List ℕ)) (failures calls : R → ℕ) (has_given : R → List ℕ → Type 0) (first then last : R) (p q r : Place) (xs ys : List ℕ) (end : End) (answers : List ℕ → Type 0)
-    → Moves remaining failures calls has_given first then p q xs → Moves remaining failures calls has_given then last q r ys → ((rest : List ℕ) → Tells q rest → answers (xs ++ rest))
+    → Moves remaining failures calls has_given first then p q xs → Moves remaining failures calls has_given then last q r ys → ((rest : List ℕ) → MayCome q rest → answers (xs ++ rest))
     → p.held ≡ [] → p.end ≡ None → r.held ≡ [] → r.end ≡ Some end → Whole remaining failures calls has_given first last p.left end answers
 read_whole remaining failures calls has_given first then last p q r xs ys end answers m n gives empty opened none shut =
     let whole = moves_then remaining failures calls has_given first then last p q r xs ys m n in

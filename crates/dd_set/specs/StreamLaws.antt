@@ -7,7 +7,7 @@ use Rattle.dd_elem.proofs.Known.{gives_none, gives_more, consumes_none, consumes
 use Rattle.dd_set.specs.declared.end.End.{End}
 use Rattle.dd_set.specs.declared.end.End.TheVariants.{Ended, Failed, TooLong}
 use Rattle.dd_set.specs.Bytes.{AreBytes}
-use Rattle.dd_set.specs.Streams.{Place, Tells, Ends, Turns, Moves}
+use Rattle.dd_set.specs.Streams.{Place, MayCome, Ends, Turns, Moves}
 
 module _ {R : Type 0} (remaining : R → Option (List ℕ)) (failures calls : R → ℕ) where
   turns_none : (reader : R) (left : ℕ) (end : Option End) → Turns remaining failures calls reader reader [] left left end end
@@ -68,7 +68,7 @@ module _ {R : Type 0} (remaining : R → Option (List ℕ)) (failures calls : R 
         let none = (rw t.0 at shut) refl in
         rw (t.2, none) refl
 
-    pub tells_then : (first then : R) (p q : Place) (xs ys : List ℕ) → Moves remaining failures calls has_given first then p q xs → Tells q ys → Tells p (xs ++ ys)
+    pub tells_then : (first then : R) (p q : Place) (xs ys : List ℕ) → Moves remaining failures calls has_given first then p q xs → MayCome q ys → MayCome p (xs ++ ys)
     tells_then first then p q xs ys m t = record {
       more = m.given ++ t.more;
       parts = ap (λ (z : List ℕ). xs ++ z) t.parts ∙ sym (append_assoc xs q.held t.more) ∙ ap (λ (z : List ℕ). z ++ t.more) (sym m.parts) ∙ append_assoc p.held m.given t.more;

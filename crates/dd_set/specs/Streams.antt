@@ -19,7 +19,7 @@ pub record Place : Type 0 where
   pub end : Option End
 
 -- the bytes that may still come: those that it holds, and others only while it has not ended
-pub record Tells (p : Place) (rest : List ℕ) : Type 0 where
+pub record MayCome (p : Place) (rest : List ℕ) : Type 0 where
   pub more : List ℕ
   pub parts : rest ≡ p.held ++ more
   pub shut : IsSome p.end → more ≡ []

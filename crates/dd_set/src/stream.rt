@@ -2,7 +2,7 @@
 
 ghost use Rattle.std.specs.Prelude.{◌≡◌, ◌≤◌, [], IsSome, None};
 ghost use Rattle.std.proofs.Common.{refl, ◌∙◌};
-ghost use Rattle.dd_set.specs.Streams.{Moves, Tells, most_of};
+ghost use Rattle.dd_set.specs.Streams.{Moves, MayCome, most_of};
 ghost use Rattle.dd_set.specs.StreamLaws.{moves_none, moves_then, tells_then};
 
 use crate::end::End;
@@ -76,7 +76,7 @@ impl<R: Read> Feed for Stream<'_, R> {
         (record { held = old.kept; left = old.left; end = old.end })
         (record { held = new.kept; left = new.left; end = new.end }) taken };
 
-    ghost tells = { λ stream rest. Tells (record { held = stream.kept; left = stream.left; end = stream.end }) rest };
+    ghost tells = { λ stream rest. MayCome (record { held = stream.kept; left = stream.left; end = stream.end }) rest };
 
     ghost most = { λ stream. most_of (record { held = stream.kept; left = stream.left; end = stream.end }) };
 

@@ -16,7 +16,7 @@ use crate::refusal::{ProgramFault, Refusal, Words, tell};
 use crate::set_directory::{directory_bytes, refusal_of};
 use dd_dir::{DirFault, read_directory};
 use dd_elem::{SetId, Uid, Write};
-use dd_engine::{Choice, is_want_of_memory};
+use dd_engine::Choice;
 use dd_files::Files;
 use dd_keys::KeyFault;
 use dd_layout::Plan;
@@ -220,7 +220,7 @@ fn run_check<F: Files, O: Write>(
     let bytes = directory_bytes(alloc, 0, folder, files)?;
     let forest = match read_directory(alloc, &bytes) {
         Ok(forest) => forest,
-        Err(fault) if is_want_of_memory(&fault) => return Err(Refusal::memory()),
+        Err(fault) if fault.is_want_of_memory() => return Err(Refusal::memory()),
         Err(fault) => return Ok(tell_broken(&fault, out)),
     };
     match check_records(alloc, folder, &forest, files, out) {

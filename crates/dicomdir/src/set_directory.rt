@@ -4,7 +4,6 @@ ghost use Rattle.dicomdir.specs.Refusal.{IsOfWork};
 
 use crate::refusal::{ProgramFault, Refusal, Subject};
 use dd_dir::DirFault;
-use dd_engine::is_want_of_memory;
 use dd_files::{DIRECTORY, Files, ReadFault, SOURCE_LIMIT, path_in, read_whole};
 use std::alloc::Global;
 
@@ -53,7 +52,7 @@ pub(crate) fn directory_bytes<F: Files>(
 pub(crate) fn refusal_of(at: usize, fault: DirFault) -> Refusal
     ensures { (paths : ℕ) → at < paths → IsOfWork paths result }
 {
-    if is_want_of_memory(&fault) {
+    if fault.is_want_of_memory() {
         Refusal::memory()
     } else {
         Refusal::of(Subject::Source(at), ProgramFault::Dir(fault))
