@@ -19,7 +19,7 @@ mod set_directory;
 pub use dd_engine::{
     Choice, EngineFault, Indexed, MergeFault, Merged, Pick, Supply, index_engine, merge_engine,
 };
-pub use dd_files::{CopyFault, Files, NotDone, NotThere, copy_image, digest_text};
+pub use dd_files::{CopyFault, DIRECTORY, Files, NotDone, NotThere, copy_image, digest_text};
 pub use dd_line::{Asked, LineFault, Verb, read_words};
 pub use dd_mem_files::{MemFiles, MemReader};
 pub use dd_report::{Finding, finding_of, print_line, send_text};

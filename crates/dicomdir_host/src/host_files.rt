@@ -7,7 +7,7 @@ ghost use Rattle.dicomdir_host.specs.Directory.{IsDirectoryPath};
 use crate::counted::Counted;
 use crate::output::{self, Output};
 use dd_elem::Write;
-use dicomdir::{Files, NotDone, NotThere};
+use dicomdir::{DIRECTORY, Files, NotDone, NotThere};
 use std::alloc::Global;
 use std::fs::{self, File, OpenFile};
 use std::io;
@@ -38,7 +38,10 @@ pub struct HostFiles<'a, R: fs::Files> {
 fn is_directory(path: &str) -> bool
     ensures { IsTrue result ↔ IsDirectoryPath path.now }
 {
-    path == "DICOMDIR" || path.ends_with("/DICOMDIR")
+    match path.as_bytes().strip_suffix(DIRECTORY.as_bytes()) {
+        Some(folder) => folder.is_empty() || folder.ends_with(b"/"),
+        None => false,
+    }
 }
 
 impl<'a, R: fs::Files> HostFiles<'a, R> {
