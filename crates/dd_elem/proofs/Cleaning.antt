@@ -1,5 +1,6 @@
 -- What `clean_of` leaves of a value.
-use Rattle.std.proofs.Common.{◌≡◌, ◌≢◌, ◌≤◌, ◌<◌, ◌+◌, ◌-◌, ℕ, true, false, List, [], ◌∷◌, ◌++◌, length, get_or, take, refl, sym, ap, ◌∙◌, subst, ⊎_elim, arith}
+use Rattle.std.proofs.Common.{◌≡◌, ◌≢◌, ◌≤◌, ◌<◌, ◌+◌, ◌-◌, ℕ, true, false, List, [], ◌∷◌, ◌++◌, length, get_or, take}
+use Rattle.std.proofs.Common.{refl, sym, ap, ◌∙◌, subst, ⊎_elim, arith}
 use Rattle.std.proofs.lemmas.List.{take_at, take_all, take_more, length-append, nil_from_length, same_from_push}
 use Rattle.std.proofs.lemmas.List.Elements.{All-head, All-tail}
 use Rattle.std.proofs.lemmas.Bool.{or_parts, or_from, ne_eqb, eqb-false, cond-true, cond-false, cases_Bool}
@@ -77,7 +78,8 @@ one_unpadded byte ends =
 pub clean_of-unpadded : (bytes : List ℕ) → EndsUnpadded bytes → clean_of bytes ≡ bytes
 clean_of-unpadded [] ends = refl
 clean_of-unpadded (byte ∷ []) ends = keep_other byte (one_unpadded byte ends)
-clean_of-unpadded (byte ∷ next ∷ bytes) ends = ap (keep byte) (clean_of-unpadded (next ∷ bytes) (tail_ends byte (next ∷ bytes) ends))
+clean_of-unpadded (byte ∷ next ∷ bytes) ends = ap (keep byte)
+    (clean_of-unpadded (next ∷ bytes) (tail_ends byte (next ∷ bytes) ends))
 
 -- cleaned bytes are their own clean
 pub clean_of-clean_of : (bytes : List ℕ) → clean_of (clean_of bytes) ≡ clean_of bytes
@@ -101,12 +103,14 @@ clean_of_padding (byte ∷ bytes) pads =
     ∙ keep_padding byte (All-head (λ b. is_padding b ≡ true) byte bytes pads)
 
 -- padding at the end of a value changes nothing of what is left
-pub clean_of-append_padding : (bytes padding : List ℕ) → All (λ byte. is_padding byte ≡ true) padding → clean_of (bytes ++ padding) ≡ clean_of bytes
+pub clean_of-append_padding : (bytes padding : List ℕ) → All (λ byte. is_padding byte ≡ true) padding
+    → clean_of (bytes ++ padding) ≡ clean_of bytes
 clean_of-append_padding [] padding pads = clean_of_padding padding pads
 clean_of-append_padding (byte ∷ bytes) padding pads = ap (keep byte) (clean_of-append_padding bytes padding pads)
 
 -- one padding byte at the end of a value changes nothing of what is left
-pub clean_of_push_padding : (bytes : List ℕ) (byte : ℕ) → is_padding byte ≡ true → clean_of (bytes ++ byte ∷ []) ≡ clean_of bytes
+pub clean_of_push_padding : (bytes : List ℕ) (byte : ℕ) → is_padding byte ≡ true
+    → clean_of (bytes ++ byte ∷ []) ≡ clean_of bytes
 clean_of_push_padding [] byte e = keep_padding byte e
 clean_of_push_padding (first ∷ bytes) byte e = ap (keep first) (clean_of_push_padding bytes byte e)
 
@@ -119,13 +123,15 @@ pub clean_of_push_space : (bytes : List ℕ) → clean_of (bytes ++ 32 ∷ []) �
 clean_of_push_space bytes = clean_of_push_padding bytes 32 refl
 
 -- bytes behind which stands one that is no padding are kept
-pub clean_of_push_other : (bytes : List ℕ) (byte : ℕ) → is_padding byte ≡ false → clean_of (bytes ++ byte ∷ []) ≡ bytes ++ byte ∷ []
+pub clean_of_push_other : (bytes : List ℕ) (byte : ℕ) → is_padding byte ≡ false → clean_of (bytes ++ byte ∷ []) ≡ bytes
+    ++ byte ∷ []
 clean_of_push_other [] byte e = keep_other byte e
 clean_of_push_other (first ∷ []) byte e = ap (keep first) (keep_other byte e)
 clean_of_push_other (first ∷ next ∷ bytes) byte e = ap (keep first) (clean_of_push_other (next ∷ bytes) byte e)
 
 -- what ends in no padding and begins the bytes is no longer than what is kept
-keep_longest : (byte : ℕ) (other kept : List ℕ) → EndsUnpadded (byte ∷ other) → length other ≤ length kept → length (byte ∷ other) ≤ length (keep byte kept)
+keep_longest : (byte : ℕ) (other kept : List ℕ) → EndsUnpadded (byte ∷ other) → length other ≤ length kept
+    → length (byte ∷ other) ≤ length (keep byte kept)
 keep_longest byte other (next ∷ kept) ends short = omega arith
 keep_longest byte [] [] ends short =
     let e : keep byte [] ≡ byte ∷ [] = keep_other byte (one_unpadded byte ends) in
@@ -133,14 +139,16 @@ keep_longest byte [] [] ends short =
 keep_longest byte (next ∷ other) [] ends short = absurd (omega arith)
 
 -- no longer prefix ends in no padding
-clean_of_longest : (bytes other rest : List ℕ) → bytes ≡ other ++ rest → EndsUnpadded other → length other ≤ length (clean_of bytes)
+clean_of_longest : (bytes other rest : List ℕ) → bytes ≡ other ++ rest → EndsUnpadded other
+    → length other ≤ length (clean_of bytes)
 clean_of_longest bytes [] rest is ends = omega arith
 clean_of_longest [] (first ∷ other) rest is ends = absurd (omega (arith, ap length is))
 clean_of_longest (byte ∷ bytes) (first ∷ other) rest is ends =
     let same : byte ≡ first = cc in
     let below : bytes ≡ other ++ rest = cc in
     subst (λ (b : ℕ). length (first ∷ other) ≤ length (keep b (clean_of bytes))) (sym same)
-    (keep_longest first other (clean_of bytes) ends (clean_of_longest bytes other rest below (tail_ends first other ends)))
+    (keep_longest first other (clean_of bytes) ends (clean_of_longest bytes other rest below
+    (tail_ends first other ends)))
 
 -- `clean_of` gives the longest prefix that ends in no padding
 pub IsCleanOf-clean_of : (bytes : List ℕ) → IsCleanOf bytes (clean_of bytes)
@@ -162,14 +170,16 @@ same_from_IsCleanOf bytes kept is =
     let up : length kept ≤ length (clean_of bytes) = clean_of_longest bytes kept q.0 q.1 is.unpadded in
     let down : length (clean_of bytes) ≤ length kept = is.longest (clean_of bytes) p.0 p.1 (clean_of_ends bytes) in
     let equal : length (clean_of bytes) ≡ length kept = omega arith in
-    sym (take_at kept q.0 (length kept) refl) ∙ ap (take (length kept)) (sym q.1 ∙ p.1) ∙ take_at (clean_of bytes) p.0 (length kept) equal
+    sym (take_at kept q.0 (length kept) refl) ∙ ap (take (length kept)) (sym q.1 ∙ p.1)
+    ∙ take_at (clean_of bytes) p.0 (length kept) equal
 
 -- nothing is left of no bytes
 pub clean_of_none : (bytes : List ℕ) → length bytes ≡ 0 → bytes ≡ clean_of bytes
 clean_of_none bytes none = let e : bytes ≡ [] = nil_from_length bytes none in e ∙ ap clean_of (sym e)
 
 -- bytes are their front and their last byte
-split_last : (bytes : List ℕ) (last : ℕ) → 0 < length bytes → last ≡ get_or bytes (length bytes - 1) 0 → bytes ≡ take (length bytes - 1) bytes ++ last ∷ []
+split_last : (bytes : List ℕ) (last : ℕ) → 0 < length bytes → last ≡ get_or bytes (length bytes - 1) 0
+    → bytes ≡ take (length bytes - 1) bytes ++ last ∷ []
 split_last bytes last some is =
     let at : length bytes - 1 + 1 ≡ length bytes = omega arith in
     sym (take_all (length bytes) bytes (omega arith))
@@ -178,12 +188,15 @@ split_last bytes last some is =
     ∙ ap (λ (b : ℕ). take (length bytes - 1) bytes ++ b ∷ []) (sym is)
 
 -- to cut one padding byte from the end changes nothing of what is left
-pub clean_of_front : (bytes : List ℕ) (last : ℕ) → 0 < length bytes → last ≡ get_or bytes (length bytes - 1) 0 → is_padding last ≡ true → clean_of (take (length bytes - 1) bytes) ≡ clean_of bytes
+pub clean_of_front : (bytes : List ℕ) (last : ℕ) → 0 < length bytes → last ≡ get_or bytes (length bytes - 1) 0
+    → is_padding last ≡ true → clean_of (take (length bytes - 1) bytes) ≡ clean_of bytes
 clean_of_front bytes last some is e =
-    sym (clean_of_push_padding (take (length bytes - 1) bytes) last e) ∙ ap clean_of (sym (split_last bytes last some is))
+    sym (clean_of_push_padding (take (length bytes - 1) bytes) last e)
+    ∙ ap clean_of (sym (split_last bytes last some is))
 
 -- bytes whose last is no padding are their own clean
-pub clean_of_whole : (bytes : List ℕ) (last : ℕ) → 0 < length bytes → last ≡ get_or bytes (length bytes - 1) 0 → is_padding last ≡ false → clean_of bytes ≡ bytes
+pub clean_of_whole : (bytes : List ℕ) (last : ℕ) → 0 < length bytes → last ≡ get_or bytes (length bytes - 1) 0
+    → is_padding last ≡ false → clean_of bytes ≡ bytes
 clean_of_whole bytes last some is e =
     let whole = split_last bytes last some is in
     ap clean_of whole ∙ clean_of_push_other (take (length bytes - 1) bytes) last e ∙ sym whole

@@ -1,11 +1,13 @@
 -- The letters of a value representation name it, and no other.
-use Rattle.std.proofs.Common.{◌≡◌, ◌≢◌, ℕ, Bool, true, false, List, [], ◌∷◌, Option, Some, None, cond, refl, sym, ap, subst, ◌∙◌}
+use Rattle.std.proofs.Common.{◌≡◌, ◌≢◌, ℕ, Bool, true, false, List, [], ◌∷◌, Option, Some, None, cond, refl, sym, ap}
+use Rattle.std.proofs.Common.{subst, ◌∙◌}
 use Rattle.std.specs.Prelude.{IfSome, IfNone, find}
 use Rattle.std.specs.Str.{bytes_eq}
 use Rattle.std.proofs.lemmas.Bool.{false_from_ne_true}
 use Rattle.std.proofs.lemmas.Slice.Eq.{bytes_eq-Decides}
 use Rattle.dd_elem.specs.declared.vr.Vr.{Vr}
-use Rattle.dd_elem.specs.declared.vr.Vr.TheVariants.{AE, AS, AT, CS, DA, DS, DT, FD, FL, IS, LO, LT, OB, OD, OF, OL, OV, OW, PN, SH, SL, SQ, SS, ST, SV, TM, UC, UI, UL, UN, UR, US, UT, UV}
+use Rattle.dd_elem.specs.declared.vr.Vr.TheVariants.{AE, AS, AT, CS, DA, DS, DT, FD, FL, IS, LO, LT, OB, OD, OF, OL, OV}
+use Rattle.dd_elem.specs.declared.vr.Vr.TheVariants.{OW, PN, SH, SL, SQ, SS, ST, SV, TM, UC, UI, UL, UN, UR, US, UT, UV}
 use Rattle.dd_elem.specs.Vr.{letters_of, all_vrs, vr_of}
 
 -- its letters name it
@@ -82,13 +84,16 @@ letters_two US = (85, (83, refl))
 letters_two UT = (85, (84, refl))
 letters_two UV = (85, (86, refl))
 
-none_found : (letters : List ℕ) (vs : List Vr) → ((v : Vr) → letters_of v ≢ letters) → find (λ v. bytes_eq (letters_of v) letters) vs ≡ None
+none_found : (letters : List ℕ) (vs : List Vr) → ((v : Vr) → letters_of v ≢ letters)
+    → find (λ v. bytes_eq (letters_of v) letters) vs ≡ None
 none_found letters [] h = refl
 none_found letters (v ∷ vs) h =
-    let differ : bytes_eq (letters_of v) letters ≡ false = false_from_ne_true _ (λ e. h v ((bytes_eq-Decides (letters_of v) letters).0 e)) in
+    let differ : bytes_eq (letters_of v) letters ≡ false = false_from_ne_true _
+    (λ e. h v ((bytes_eq-Decides (letters_of v) letters).0 e)) in
     rw differ (none_found letters vs h)
 
 -- what is named by its letters, and is none only where no letters fit, is the one with these letters
-pub vr_exact : (letters : List ℕ) (r : Option Vr) → IfSome r (λ v. letters_of v ≡ letters) → IfNone r ((v : Vr) → letters_of v ≢ letters) → r ≡ vr_of letters
+pub vr_exact : (letters : List ℕ) (r : Option Vr) → IfSome r (λ v. letters_of v ≡ letters)
+    → IfNone r ((v : Vr) → letters_of v ≢ letters) → r ≡ vr_of letters
 vr_exact letters (Some v) named unnamed = sym (vr_of-letters_of v) ∙ ap vr_of named
 vr_exact letters None named unnamed = sym (none_found letters all_vrs unnamed)

@@ -15,16 +15,19 @@ within_decides low high byte = (
 
 -- a character of an ID is tested
 character_decides : (byte : ℕ) → Decides (is_id_character byte) (IsIdCharacter byte)
-character_decides byte = Decides-or _ _ (within_decides 65 90 byte) (Decides-or _ _ (within_decides 48 57 byte) (Decides-eqb byte 95))
+character_decides byte = Decides-or _ _ (within_decides 65 90 byte)
+    (Decides-or _ _ (within_decides 48 57 byte) (Decides-eqb byte 95))
 
 -- all characters are tested
 pub characters_decide : (bytes : List ℕ) → Decides (list_all is_id_character bytes) (All IsIdCharacter bytes)
-characters_decide bytes = Decides-by_and is_id_character IsIdCharacter (list_all is_id_character) character_decides refl (λ _ _. refl) bytes
+characters_decide bytes = Decides-by_and is_id_character IsIdCharacter (list_all is_id_character) character_decides refl
+    (λ _ _. refl) bytes
 
 -- the test passes at each ID
 pub is_set_id_from_IsSetId : (bytes : List ℕ) → IsSetId bytes → is_set_id bytes ≡ true
 unfolding is_set_id
-is_set_id_from_IsSetId bytes h = and_from _ _ (le-leb (length bytes) 16 h.short) ((characters_decide bytes).1 h.characters)
+is_set_id_from_IsSetId bytes h = and_from _ _ (le-leb (length bytes) 16 h.short)
+    ((characters_decide bytes).1 h.characters)
 
 -- what passes the test is an ID
 pub IsSetId_from_is_set_id : (bytes : List ℕ) → is_set_id bytes ≡ true → IsSetId bytes
@@ -39,7 +42,11 @@ is_set_id_decides bytes = (IsSetId_from_is_set_id bytes, is_set_id_from_IsSetId 
 
 -- the test's result decides
 pub decides_from_is : (bytes : List ℕ) (result : Bool) → result ≡ is_set_id bytes → Decides result (IsSetId bytes)
-decides_from_is bytes result is = (λ e. IsSetId_from_is_set_id bytes (sym is ∙ e), λ h. is ∙ is_set_id_from_IsSetId bytes h)
+decides_from_is bytes result is = (
+  λ e. IsSetId_from_is_set_id bytes (sym is ∙ e),
+  λ h. is
+      ∙ is_set_id_from_IsSetId bytes h,
+)
 
 -- no more than 16 characters, each being tested
 pub is_set_id-short : (bytes : List ℕ) → length bytes ≤ 16 → is_set_id bytes ≡ list_all is_id_character bytes

@@ -1,8 +1,10 @@
 -- The test `is_uid` decides `IsUid`.
-use Rattle.std.proofs.Common.{◌≡◌, ◌≤◌, ◌<◌, ℕ, Bool, true, false, ◌&&◌, eqb, List, [], ◌∷◌, length, refl, sym, ap, ◌∙◌, arith}
+use Rattle.std.proofs.Common.{◌≡◌, ◌≤◌, ◌<◌, ℕ, Bool, true, false, ◌&&◌, eqb, List, [], ◌∷◌, length, refl, sym, ap, ◌∙◌}
+use Rattle.std.proofs.Common.{arith}
 use Rattle.std.specs.Prelude.{All, Decides}
 use Rattle.std.specs.List.{list_all, slice_split, join_with_byte}
-use Rattle.std.proofs.lemmas.Bool.{and_parts, and_from, and_left, leb-true, le-leb, lt-leb, eqb-false, ne_eqb, not-true, not_from_false}
+use Rattle.std.proofs.lemmas.Bool.{and_parts, and_from, and_left, leb-true, le-leb, lt-leb, eqb-false, ne_eqb, not-true}
+use Rattle.std.proofs.lemmas.Bool.{not_from_false}
 use Rattle.std.proofs.lemmas.Bool.Decides.{Decides-by_and}
 use Rattle.std.proofs.lemmas.List.Elements.{All-nil, All-cons, All-head, All-tail, All-weaker}
 use Rattle.std.proofs.lemmas.List.Splits.{slice_split_none, slice_split_at, join_with_byte-slice_split}
@@ -49,21 +51,28 @@ component_decides bytes = (component_from_test bytes, test_from_component bytes)
 
 -- components are tested
 components_decides : (parts : List (List ℕ)) → Decides (list_all is_component parts) (All IsComponent parts)
-components_decides parts = Decides-by_and is_component IsComponent (list_all is_component) component_decides refl (λ _ _. refl) parts
+components_decides parts = Decides-by_and is_component IsComponent (list_all is_component) component_decides refl
+    (λ _ _. refl) parts
 
 -- no dot stands in a component
 no_dot : (component : List ℕ) → IsComponent component → All (λ byte. eqb byte 46 ≡ false) component
-no_dot component h = All-weaker IsDigit (λ byte. eqb byte 46 ≡ false) (λ byte digit. ne_eqb byte 46 (λ e. omega (arith, digit.0))) component h.digits
+no_dot component h = All-weaker IsDigit (λ byte. eqb byte 46 ≡ false)
+    (λ byte digit. ne_eqb byte 46 (λ e. omega (arith, digit.0))) component h.digits
 
 -- components that are joined by dots are found again by cutting at the dots
-slice_split-join : (first : List ℕ) (others : List (List ℕ)) → All IsComponent (first ∷ others) → slice_split (λ byte. eqb byte 46) (join_with_byte 46 (first ∷ others)) ≡ first ∷ others
-slice_split-join first [] each = slice_split_none (λ byte. eqb byte 46) first (no_dot first (All-head IsComponent first [] each))
+slice_split-join : (first : List ℕ) (others : List (List ℕ)) → All IsComponent (first ∷ others)
+    → slice_split (λ byte. eqb byte 46) (join_with_byte 46 (first ∷ others)) ≡ first ∷ others
+slice_split-join first [] each = slice_split_none (λ byte. eqb byte 46) first
+    (no_dot first (All-head IsComponent first [] each))
 slice_split-join first (next ∷ others) each =
-    slice_split_at (λ byte. eqb byte 46) first 46 (join_with_byte 46 (next ∷ others)) (no_dot first (All-head IsComponent first (next ∷ others) each)) refl
-    ∙ ap (λ (l : List (List ℕ)). first ∷ l) (slice_split-join next others (All-tail IsComponent first (next ∷ others) each))
+    slice_split_at (λ byte. eqb byte 46) first 46 (join_with_byte 46 (next ∷ others))
+    (no_dot first (All-head IsComponent first (next ∷ others) each)) refl
+    ∙ ap (λ (l : List (List ℕ)). first ∷ l) (slice_split-join next others
+    (All-tail IsComponent first (next ∷ others) each))
 
 -- what is cut from a UID at its dots is its components
-split_is_components : (bytes : List ℕ) (components : List (List ℕ)) → All IsComponent components → bytes ≡ join_with_byte 46 components → 1 ≤ length bytes → slice_split (λ byte. eqb byte 46) bytes ≡ components
+split_is_components : (bytes : List ℕ) (components : List (List ℕ)) → All IsComponent components
+    → bytes ≡ join_with_byte 46 components → 1 ≤ length bytes → slice_split (λ byte. eqb byte 46) bytes ≡ components
 split_is_components bytes [] each joined some = absurd (omega (arith, ap length joined))
 split_is_components bytes (first ∷ others) each joined some =
     ap (slice_split (λ byte. eqb byte 46)) joined ∙ slice_split-join first others each
@@ -73,10 +82,12 @@ pub is_uid_from_IsUid : (bytes : List ℕ) → IsUid bytes → is_uid bytes ≡ 
 unfolding is_uid
 is_uid_from_IsUid bytes h =
     let parts = split_is_components bytes h.components h.each h.joined h.not_empty in
-    and_from _ _ (le-leb (length bytes) 64 h.short) (ap (list_all is_component) parts ∙ (components_decides h.components).1 h.each)
+    and_from _ _ (le-leb (length bytes) 64 h.short) (ap (list_all is_component) parts
+    ∙ (components_decides h.components).1 h.each)
 
 -- what passes the test is not empty
-not_empty_from_split : (bytes : List ℕ) → list_all is_component (slice_split (λ byte. eqb byte 46) bytes) ≡ true → 1 ≤ length bytes
+not_empty_from_split : (bytes : List ℕ) → list_all is_component (slice_split (λ byte. eqb byte 46) bytes) ≡ true
+    → 1 ≤ length bytes
 not_empty_from_split [] e = absurd (cc)
 not_empty_from_split (byte ∷ bytes) e = omega arith
 
@@ -94,9 +105,11 @@ IsUid_from_is_uid bytes e =
     }
 
 -- no more than 64 characters, each part between dots being tested
-pub is_uid-short : (bytes : List ℕ) → length bytes ≤ 64 → is_uid bytes ≡ list_all is_component (slice_split (λ byte. eqb byte 46) bytes)
+pub is_uid-short : (bytes : List ℕ) → length bytes ≤ 64 → is_uid bytes ≡ list_all is_component
+    (slice_split (λ byte. eqb byte 46) bytes)
 unfolding is_uid
-is_uid-short bytes short = ap (λ (b : Bool). b && list_all is_component (slice_split (λ byte. eqb byte 46) bytes)) (le-leb (length bytes) 64 short)
+is_uid-short bytes short = ap (λ (b : Bool). b && list_all is_component (slice_split (λ byte. eqb byte 46) bytes))
+    (le-leb (length bytes) 64 short)
 
 -- more than 64 characters fail the test
 pub is_uid-long : (bytes : List ℕ) → 64 < length bytes → is_uid bytes ≡ false

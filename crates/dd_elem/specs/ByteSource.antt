@@ -25,5 +25,9 @@ next_len s room = passing s.fails (length s.given) (min (min room s.piece) (leng
 
 -- it after a read with this result
 abbrev pub after_read : {E : Type 0} → Source → Result ℕ E → Source
-after_read s (Ok n) = record s { given = s.given ++ take n s.left; left = drop n s.left; counts = counts_after s.counts true }
+after_read s (Ok n) = record s {
+  given = s.given ++ take n s.left;
+  left = drop n s.left;
+  counts = counts_after s.counts true;
+}
 after_read s (Err e) = record s { counts = counts_after s.counts false }

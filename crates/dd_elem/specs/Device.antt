@@ -1,5 +1,6 @@
 -- How a device counts its calls and its failures, and what one read or write does to it.
-use Rattle.std.specs.Prelude.{◌≡◌, ℕ, ◌+◌, ◌-◌, ◌<◌, ◌≤◌, min, List, [], ◌++◌, length, take, Option, None, Some, Result, Ok, Err, MatchResult, ⊤}
+use Rattle.std.specs.Prelude.{◌≡◌, ℕ, ◌+◌, ◌-◌, ◌<◌, ◌≤◌, min, List, [], ◌++◌, length, take, Option, None, Some, Result}
+use Rattle.std.specs.Prelude.{Ok, Err, MatchResult, ⊤}
 
 -- the value at which a count stays
 abbrev pub last_count : ℕ

@@ -19,8 +19,10 @@ pub record IsFileId (bytes : List ℕ) : Type 0 where
 
 -- is it a component?
 abbrev pub is_file_id_component : List ℕ → Bool
-is_file_id_component component = nat_le 1 (length component) && (nat_le (length component) 8 && list_all is_id_character component)
+is_file_id_component component = nat_le 1 (length component)
+    && (nat_le (length component) 8 && list_all is_id_character component)
 
 -- is it a File ID? (`IsFileId` as a test)
 unfoldable pub is_file_id_form : List ℕ → Bool
-is_file_id_form bytes = nat_lt (count_by (λ byte. byte == 92) bytes) 8 && list_all is_file_id_component (slice_split (λ byte. byte == 92) bytes)
+is_file_id_form bytes = nat_lt (count_by (λ byte. byte == 92) bytes) 8
+    && list_all is_file_id_component (slice_split (λ byte. byte == 92) bytes)

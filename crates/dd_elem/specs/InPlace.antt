@@ -12,6 +12,7 @@ pub record IsFilled (size : ℕ) (array : List ℕ) (len : ℕ) : Type 0 where
   pub zeros : filled size (take len array) ≡ array
 
 -- the array and the length are known from the bytes that they hold
-pub fields_back : {R : Type 0} (size : ℕ) (array : List ℕ) (len : ℕ) (make : List ℕ → ℕ → R) → IsFilled size array len → make (filled size (take len array)) (length (take len array)) ≡ make array len
+pub fields_back : {R : Type 0} (size : ℕ) (array : List ℕ) (len : ℕ) (make : List ℕ → ℕ → R) → IsFilled size array len
+    → make (filled size (take len array)) (length (take len array)) ≡ make array len
 fields_back size array len make held =
     ap (λ (a : List ℕ). make a (length (take len array))) held.zeros ∙ ap (make array) held.within

@@ -1,5 +1,6 @@
 -- Unique identifiers (PS3.5 section 9.1).
-use Rattle.std.specs.Prelude.{◌≡◌, ◌≤◌, ℕ, Bool, false, not, ◌&&◌, ◌==◌, nat_le, List, [], ◌∷◌, length, slice_index, All}
+use Rattle.std.specs.Prelude.{◌≡◌, ◌≤◌, ℕ, Bool, false, not, ◌&&◌, ◌==◌, nat_le, List, [], ◌∷◌, length, slice_index}
+use Rattle.std.specs.Prelude.{All}
 use Rattle.std.specs.List.{list_all, slice_split, join_with_byte}
 
 -- a digit, `0` to `9`

@@ -2,7 +2,8 @@
 use Rattle.std.specs.Prelude.{ℕ, Bool, true, false, List, [], ◌∷◌, Option, find}
 use Rattle.std.specs.Str.{bytes_eq}
 use Rattle.dd_elem.specs.declared.vr.Vr.{Vr}
-use Rattle.dd_elem.specs.declared.vr.Vr.TheVariants.{AE, AS, AT, CS, DA, DS, DT, FD, FL, IS, LO, LT, OB, OD, OF, OL, OV, OW, PN, SH, SL, SQ, SS, ST, SV, TM, UC, UI, UL, UN, UR, US, UT, UV}
+use Rattle.dd_elem.specs.declared.vr.Vr.TheVariants.{AE, AS, AT, CS, DA, DS, DT, FD, FL, IS, LO, LT, OB, OD, OF, OL, OV}
+use Rattle.dd_elem.specs.declared.vr.Vr.TheVariants.{OW, PN, SH, SL, SQ, SS, ST, SV, TM, UC, UI, UL, UN, UR, US, UT, UV}
 
 -- the two letters of each, in ASCII
 abbrev pub letters_of : Vr → List ℕ
@@ -80,7 +81,8 @@ is_long_of US = false
 
 -- all 34
 abbrev pub all_vrs : List Vr
-all_vrs = AE ∷ AS ∷ AT ∷ CS ∷ DA ∷ DS ∷ DT ∷ FD ∷ FL ∷ IS ∷ LO ∷ LT ∷ OB ∷ OD ∷ OF ∷ OL ∷ OV ∷ OW ∷ PN ∷ SH ∷ SL ∷ SQ ∷ SS ∷ ST ∷ SV ∷ TM ∷ UC ∷ UI ∷ UL ∷ UN ∷ UR ∷ US ∷ UT ∷ UV ∷ []
+all_vrs = AE ∷ AS ∷ AT ∷ CS ∷ DA ∷ DS ∷ DT ∷ FD ∷ FL ∷ IS ∷ LO ∷ LT ∷ OB ∷ OD ∷ OF ∷ OL ∷ OV ∷ OW ∷ PN ∷ SH ∷ SL ∷ SQ ∷
+    SS ∷ ST ∷ SV ∷ TM ∷ UC ∷ UI ∷ UL ∷ UN ∷ UR ∷ US ∷ UT ∷ UV ∷ []
 
 -- the one with these letters
 abbrev pub vr_of : List ℕ → Option Vr

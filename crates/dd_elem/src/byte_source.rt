@@ -1,5 +1,6 @@
 //! A reader over bytes in memory.
-ghost use Rattle.std.specs.Prelude.{◌≡◌, [], ◌≤◌, ◌↔◌, ◌<◌, ◌+◌, max, length, take, drop, Some, IsOk, IsErr, IfOk, IsSome, IfSome};
+ghost use Rattle.std.specs.Prelude.{◌≡◌, [], ◌≤◌, ◌↔◌, ◌<◌, ◌+◌, max, length, take, drop, Some, IsOk, IsErr, IfOk};
+ghost use Rattle.std.specs.Prelude.{IsSome, IfSome};
 ghost use Rattle.std.specs.Io.{ReadsAtMost};
 ghost use Rattle.std.specs.Io.KnownBytes.{ReadConsumes};
 ghost use Rattle.dd_elem.specs.ByteSource.{Source, IsReadable, next_len, after_read};

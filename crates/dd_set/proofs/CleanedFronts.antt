@@ -1,5 +1,6 @@
 -- Cleaning a value whose bytes come in pieces, and the front of what is left.
-use Rattle.std.proofs.Common.{◌≡◌, ◌<◌, ◌≤◌, ℕ, ◌+◌, min, List, [], ◌∷◌, ◌++◌, length, take, refl, sym, ap, ◌∙◌, arith, inl, inr}
+use Rattle.std.proofs.Common.{◌≡◌, ◌<◌, ◌≤◌, ℕ, ◌+◌, min, List, [], ◌∷◌, ◌++◌, length, take, refl, sym, ap, ◌∙◌, arith}
+use Rattle.std.proofs.Common.{inl, inr}
 use Rattle.std.proofs.lemmas.Bool.{cases_lt}
 use Rattle.std.proofs.lemmas.List.{length-append, take_all, take-append-le, nil_from_length}
 use Rattle.dd_elem.specs.Clean.{clean_of, keep}
@@ -18,14 +19,16 @@ keep_before x (y ∷ ys) some = refl
 clean_before_others : (xs ys : List ℕ) → 0 < length (clean_of ys) → clean_of (xs ++ ys) ≡ xs ++ clean_of ys
 clean_before_others [] ys some = refl
 clean_before_others (x ∷ xs) ys some =
-    ap (keep x) (clean_before_others xs ys some) ∙ keep_before x (xs ++ clean_of ys) (omega (arith, length-append xs (clean_of ys)))
+    ap (keep x) (clean_before_others xs ys some) ∙ keep_before x (xs ++ clean_of ys)
+    (omega (arith, length-append xs (clean_of ys)))
 
 -- nothing stays of a piece
 pub cleaned_same : (xs ys : List ℕ) → length (clean_of ys) ≡ 0 → length (clean_of (xs ++ ys)) ≡ length (clean_of xs)
 cleaned_same xs ys none = ap length (clean_before_padding xs ys (nil_from_length (clean_of ys) none))
 
 -- something does
-pub cleaned_more : (xs ys : List ℕ) → 0 < length (clean_of ys) → length (clean_of (xs ++ ys)) ≡ length xs + length (clean_of ys)
+pub cleaned_more : (xs ys : List ℕ) → 0 < length (clean_of ys)
+    → length (clean_of (xs ++ ys)) ≡ length xs + length (clean_of ys)
 cleaned_more xs ys some = ap length (clean_before_others xs ys some) ∙ length-append xs (clean_of ys)
 
 -- as many as there are, or k
@@ -37,7 +40,8 @@ take_most k m xs is =
     ]
 
 -- the front of a cleaned value stands in the front of the value
-pub cleaned_front : (k m : ℕ) (xs ys : List ℕ) → m ≡ min (length (clean_of (xs ++ ys))) k → m ≤ length xs → take m xs ≡ take k (clean_of (xs ++ ys))
+pub cleaned_front : (k m : ℕ) (xs ys : List ℕ) → m ≡ min (length (clean_of (xs ++ ys))) k → m ≤ length xs
+    → take m xs ≡ take k (clean_of (xs ++ ys))
 cleaned_front k m xs ys is within =
     let c = clean_of (xs ++ ys) in
     let b = clean_of_begins (xs ++ ys) in

@@ -17,7 +17,9 @@ abbrev entry_with : Tag → Shape → Content × At → Reads Entry
 entry_with tag shape x = Ok (record { tag = tag; vr = shape.vr; content = x.0 }, x.1)
 
 -- the value of an element that is there
-behind_content : (tag : Tag) (shape : Shape) (r : Reads Content) → ((r >>= entry_with tag shape) >>= there) ≡ (r >>= λ x. Ok (Some (record { tag = tag; vr = shape.vr; content = x.0 }), x.1))
+behind_content : (tag : Tag) (shape : Shape) (r : Reads Content)
+    → ((r >>= entry_with tag shape) >>= there) ≡ (r >>= λ x. Ok
+    (Some (record { tag = tag; vr = shape.vr; content = x.0 }), x.1))
 behind_content tag shape (Ok x) = refl
 behind_content tag shape (Err e) = refl
 
@@ -46,37 +48,48 @@ whole_item part syntax form at =
     else (if is_item head.0 then (part syntax (long_of head.0) head.1 >>= there) else Err UnexpectedTag))
 
 module _ (sequence : SequenceReader) (syntax : Syntax) where
-  behind_shape : (tag : Tag) (r : Reads Shape) → ((r >>= λ shape. content_at sequence syntax shape.0 shape.1 >>= entry_with tag shape.0) >>= there) ≡ (((r >>= header_with tag) >>= there) >>= element_behind sequence syntax)
+  behind_shape : (tag : Tag) (r : Reads Shape) → ((r >>= λ shape. content_at sequence syntax shape.0 shape.1 >>=
+      entry_with tag shape.0) >>= there) ≡ (((r >>= header_with tag) >>= there) >>= element_behind sequence syntax)
   behind_shape tag (Ok shape) = behind_content tag shape.0 (content_at sequence syntax shape.0 shape.1)
   behind_shape tag (Err e) = refl
 
   behind_tests : (p q : Bool) (tag : Tag) (r : Reads Shape)
-      → ((if p then Err UnexpectedTag else (if q then Err Order else (r >>= λ shape. content_at sequence syntax shape.0 shape.1 >>= entry_with tag shape.0))) >>= there) ≡ (((if p then Err UnexpectedTag else (if q then Err Order else (r >>= header_with tag))) >>= there) >>= element_behind sequence syntax)
+      → ((if p then Err UnexpectedTag else (if q then Err Order else
+      (r >>= λ shape. content_at sequence syntax shape.0 shape.1 >>= entry_with tag shape.0))) >>= there) ≡
+      (((if p then Err UnexpectedTag else (if q then Err Order else (r >>= header_with tag))) >>= there) >>=
+      element_behind sequence syntax)
   behind_tests true q tag r = refl
   behind_tests false true tag r = refl
   behind_tests false false tag r = behind_shape tag r
 
   -- a body is the rest of a header and a value
-  body_is : (low : ℕ) (head : List ℕ) (at : At) → (body_at sequence syntax low head at >>= there) ≡ ((header_at syntax low head at >>= there) >>= element_behind sequence syntax)
+  body_is : (low : ℕ) (head : List ℕ) (at : At) → (body_at sequence syntax low head at >>= there) ≡
+      ((header_at syntax low head at >>= there) >>= element_behind sequence syntax)
   unfolding body_at header_at
   body_is low head at = behind_tests _ _ (tag_of head) (shape_at syntax head at)
 
   behind_end : (p q : Bool) (low : ℕ) (head : List ℕ) (at : At)
-      → (if p then (if q then Ok (None, at) else Err BadDelimiter) else (body_at sequence syntax low head at >>= there)) ≡ ((if p then (if q then Ok (None, at) else Err BadDelimiter) else (header_at syntax low head at >>= there)) >>= element_behind sequence syntax)
+      → (if p then (if q then Ok (None, at) else Err BadDelimiter) else (body_at sequence syntax low head at >>= there))
+      ≡ ((if p then (if q then Ok (None, at) else Err BadDelimiter) else (header_at syntax low head at >>= there))
+      >>= element_behind sequence syntax)
   behind_end true true low head at = refl
   behind_end true false low head at = refl
   behind_end false q low head at = body_is low head at
 
   behind_eight : (form : Length) (low : ℕ) (r : Reads (List ℕ))
-      → (r >>= λ head. if ends_set form head.0 then (if long_of head.0 == 0 then Ok (None, head.1) else Err BadDelimiter) else (body_at sequence syntax low head.0 head.1 >>= there))
+      → (r >>= λ head. if ends_set form head.0 then (if long_of head.0 == 0 then Ok (None, head.1) else Err
+      BadDelimiter) else (body_at sequence syntax low head.0 head.1 >>= there))
       ≡ (((r >>= there) >>= behind_head syntax form low) >>= element_behind sequence syntax)
   unfolding opening_at
   behind_eight form low (Ok head) = behind_end _ _ low head.0 head.1
   behind_eight form low (Err e) = refl
 
   behind_over : (over : Bool) (form : Length) (low : ℕ) (at : At) (r : Reads (List ℕ))
-      → (if over then Ok (None, at) else (r >>= λ head. if ends_set form head.0 then (if long_of head.0 == 0 then Ok (None, head.1) else Err BadDelimiter) else (body_at sequence syntax low head.0 head.1 >>= there)))
-      ≡ (((if over then Ok (None, at) else (r >>= there)) >>= behind_head syntax form low) >>= element_behind sequence syntax)
+      → (if over then Ok (None, at) else (r >>= λ head. if ends_set form head.0 then
+      (if long_of head.0 == 0 then Ok (None, head.1) else Err BadDelimiter) else
+      (body_at sequence syntax low head.0 head.1 >>= there)))
+      ≡ (((if over then Ok (None, at) else (r >>= there)) >>= behind_head syntax form low) >>= element_behind sequence
+      syntax)
   behind_over true form low at r = refl
   behind_over false form low at r = behind_eight form low r
 
@@ -88,22 +101,28 @@ module _ (sequence : SequenceReader) (syntax : Syntax) where
 
 module _ (part : ItemReader) (syntax : Syntax) where
   behind_item_end : (p q r : Bool) (n : ℕ) (at : At)
-      → (if p then (if q then Ok (None, at) else Err BadDelimiter) else (if r then (part syntax n at >>= there) else Err UnexpectedTag))
-      ≡ (((if p then (if q then Ok None else Err BadDelimiter) else (if r then Ok (Some n) else Err UnexpectedTag)) >>= λ length. Ok (length, at)) >>= item_behind part syntax)
+      → (if p then (if q then Ok (None, at) else Err BadDelimiter) else
+      (if r then (part syntax n at >>= there) else Err UnexpectedTag))
+      ≡ (((if p then (if q then Ok None else Err BadDelimiter) else (if r then Ok (Some n) else Err UnexpectedTag)) >>=
+      λ length. Ok (length, at)) >>= item_behind part syntax)
   behind_item_end true true r n at = refl
   behind_item_end true false r n at = refl
   behind_item_end false q true n at = refl
   behind_item_end false q false n at = refl
 
   behind_item_eight : (form : Length) (r : Reads (List ℕ))
-      → (r >>= λ head. if ends_sequence form head.0 then (if long_of head.0 == 0 then Ok (None, head.1) else Err BadDelimiter) else (if is_item head.0 then (part syntax (long_of head.0) head.1 >>= there) else Err UnexpectedTag))
+      → (r >>= λ head. if ends_sequence form head.0 then (if long_of head.0 == 0 then Ok (None, head.1) else Err
+      BadDelimiter) else (if is_item head.0 then (part syntax (long_of head.0) head.1 >>= there) else Err
+      UnexpectedTag))
       ≡ (((r >>= there) >>= behind_item_head form) >>= item_behind part syntax)
   unfolding item_opening
   behind_item_eight form (Ok head) = behind_item_end _ _ _ (long_of head.0) head.1
   behind_item_eight form (Err e) = refl
 
   behind_item_over : (over : Bool) (form : Length) (at : At) (r : Reads (List ℕ))
-      → (if over then Ok (None, at) else (r >>= λ head. if ends_sequence form head.0 then (if long_of head.0 == 0 then Ok (None, head.1) else Err BadDelimiter) else (if is_item head.0 then (part syntax (long_of head.0) head.1 >>= there) else Err UnexpectedTag)))
+      → (if over then Ok (None, at) else (r >>= λ head. if ends_sequence form head.0 then
+      (if long_of head.0 == 0 then Ok (None, head.1) else Err BadDelimiter) else
+      (if is_item head.0 then (part syntax (long_of head.0) head.1 >>= there) else Err UnexpectedTag)))
       ≡ (((if over then Ok (None, at) else (r >>= there)) >>= behind_item_head form) >>= item_behind part syntax)
   behind_item_over true form at r = refl
   behind_item_over false form at r = behind_item_eight form r

@@ -1,5 +1,6 @@
 -- Spellings have even lengths, and how long their parts are.
-use Rattle.std.proofs.Common.{◌≡◌, ℕ, zero, suc, ◌+◌, ◌%◌, ◌≤◌, Bool, true, false, if◌then◌else◌, List, ◌∷◌, ◌++◌, length, Option, Some, None, IsSomeAnd, refl, ap, ◌∙◌, arith}
+use Rattle.std.proofs.Common.{◌≡◌, ℕ, zero, suc, ◌+◌, ◌%◌, ◌≤◌, Bool, true, false, if◌then◌else◌, List, ◌∷◌, ◌++◌}
+use Rattle.std.proofs.Common.{length, Option, Some, None, IsSomeAnd, refl, ap, ◌∙◌, arith}
 use Rattle.std.proofs.lemmas.List.{length-append}
 use Rattle.byteorder.specs.Endian.{little_bytes}
 use Rattle.dd_elem.specs.declared.tag.Tag.{Tag}
@@ -10,7 +11,9 @@ use Rattle.dd_set.specs.declared.syntax.Length.{Length}
 use Rattle.dd_set.specs.declared.syntax.Length.TheVariants.{Defined, Undefined}
 use Rattle.dd_set.specs.declared.syntax.Syntax.{Syntax}
 use Rattle.dd_set.specs.Elements.{Elements, no_elements, element, Content, bytes, items, Items, no_items, item}
-use Rattle.dd_set.specs.Spelling.{shape_text, header_text, item_end_text, sequence_end_text, length_of, closed, elements_text, content_text, items_text, item_syntax, AreElements, IsContent, AreItems}
+use Rattle.dd_set.specs.Spelling.{shape_text, header_text, item_end_text, sequence_end_text, length_of, closed}
+use Rattle.dd_set.specs.Spelling.{elements_text, content_text, items_text, item_syntax, AreElements, IsContent}
+use Rattle.dd_set.specs.Spelling.{AreItems}
 
 -- how long what a header has behind its tag is
 abbrev pub shape_length : Option Vr → ℕ
@@ -21,9 +24,11 @@ pub length-shape_text : (vr : Option Vr) (n : ℕ) → length (shape_text vr n) 
 length-shape_text None n = refl
 length-shape_text (Some vr) n =
     let two = letters_two vr in
-    ap (λ (l : List ℕ). length (l ++ (if is_long_of vr then 0 ∷ 0 ∷ little_bytes 4 n else little_bytes 2 n))) two.1.1 ∙ go two.0 two.1.0 (is_long_of vr)
+    ap (λ (l : List ℕ). length (l ++ (if is_long_of vr then 0 ∷ 0 ∷ little_bytes 4 n else little_bytes 2 n))) two.1.1
+    ∙ go two.0 two.1.0 (is_long_of vr)
   where
-    go : (a b : ℕ) (long : Bool) → length (a ∷ b ∷ (if long then 0 ∷ 0 ∷ little_bytes 4 n else little_bytes 2 n)) ≡ (if long then 8 else 4)
+    go : (a b : ℕ) (long : Bool) → length (a ∷ b ∷ (if long then 0 ∷ 0 ∷ little_bytes 4 n else little_bytes 2 n)) ≡
+        (if long then 8 else 4)
     go a b true = refl
     go a b false = refl
 
@@ -50,7 +55,8 @@ shape_least (Some vr) = go (is_long_of vr)
     go false = omega arith
 
 -- a mark behind it leaves a length even
-pub closed_even : (form : Length) (mark text : List ℕ) → length mark % 2 ≡ 0 → length text % 2 ≡ 0 → length (closed form mark text) % 2 ≡ 0
+pub closed_even : (form : Length) (mark text : List ℕ) → length mark % 2 ≡ 0 → length text % 2 ≡ 0
+    → length (closed form mark text) % 2 ≡ 0
 closed_even Defined mark text h k = k
 closed_even Undefined mark text h k = let e = length-append text mark in omega arith
 
@@ -60,7 +66,8 @@ closed_longer Defined mark text = omega arith
 closed_longer Undefined mark text = let e = length-append text mark in omega arith
 
 -- how long the text of elements is
-pub length-element : (tag : Tag) (vr : Option Vr) (c : Content) (rest : Elements) → length (elements_text (element tag vr c rest)) ≡ 4 + length (content_text vr c) + length (elements_text rest)
+pub length-element : (tag : Tag) (vr : Option Vr) (c : Content) (rest : Elements)
+    → length (elements_text (element tag vr c rest)) ≡ 4 + length (content_text vr c) + length (elements_text rest)
 length-element tag vr c rest = let e = length-append (content_text vr c) (elements_text rest) in omega arith
 
 -- of a value of bytes
@@ -71,15 +78,21 @@ length-bytes vr v =
     omega arith
 
 -- of a sequence
-pub length-items : (vr : Option Vr) (form : Length) (parts : Items) → length (content_text vr (items form parts)) ≡ shape_length vr + length (closed form sequence_end_text (items_text parts))
+pub length-items : (vr : Option Vr) (form : Length) (parts : Items)
+    → length (content_text vr (items form parts)) ≡ shape_length vr + length
+    (closed form sequence_end_text (items_text parts))
 length-items vr form parts =
-    let e = length-append (shape_text vr (length_of form (items_text parts))) (closed form sequence_end_text (items_text parts)) in
+    let e = length-append (shape_text vr (length_of form (items_text parts)))
+    (closed form sequence_end_text (items_text parts)) in
     let f = length-shape_text vr (length_of form (items_text parts)) in
     omega arith
 
 -- of items
-pub length-item : (form : Length) (set : Elements) (rest : Items) → length (items_text (item form set rest)) ≡ 8 + length (closed form item_end_text (elements_text set)) + length (items_text rest)
-length-item form set rest = let e = length-append (closed form item_end_text (elements_text set)) (items_text rest) in omega arith
+pub length-item : (form : Length) (set : Elements) (rest : Items)
+    → length (items_text (item form set rest)) ≡ 8 + length (closed form item_end_text (elements_text set)) + length
+    (items_text rest)
+length-item form set rest = let e = length-append (closed form item_end_text (elements_text set)) (items_text rest) in
+    omega arith
 
 -- a value behind its tag has four bytes at least
 pub content_least : (vr : Option Vr) (c : Content) → 4 ≤ length (content_text vr c)
@@ -87,7 +100,8 @@ content_least vr (bytes v) = let e = length-bytes vr v in let h = shape_least vr
 content_least vr (items form parts) = let e = length-items vr form parts in let h = shape_least vr in omega arith
 
 -- an element has eight
-pub element_least : (tag : Tag) (vr : Option Vr) (c : Content) (rest : Elements) → 8 + length (elements_text rest) ≤ length (elements_text (element tag vr c rest))
+pub element_least : (tag : Tag) (vr : Option Vr) (c : Content) (rest : Elements)
+    → 8 + length (elements_text rest) ≤ length (elements_text (element tag vr c rest))
 element_least tag vr c rest = let e = length-element tag vr c rest in let h = content_least vr c in omega arith
 
 -- what is there where something is known of it
@@ -97,7 +111,8 @@ some_of (Some x) P h = (x, refl, h)
 
 mutual
   -- the text of a set
-  pub even_elements : (syntax : Syntax) (levels low : ℕ) (set : Elements) → AreElements syntax levels low set → length (elements_text set) % 2 ≡ 0
+  pub even_elements : (syntax : Syntax) (levels low : ℕ) (set : Elements) → AreElements syntax levels low set
+      → length (elements_text set) % 2 ≡ 0
   even_elements syntax levels low no_elements h = refl
   even_elements syntax levels low (element tag vr content rest) h =
       let a : length (content_text vr content) % 2 ≡ 0 = even_content syntax levels vr content h.4 in
@@ -106,7 +121,8 @@ mutual
       omega arith
 
   -- of a value behind its tag
-  pub even_content : (syntax : Syntax) (levels : ℕ) (vr : Option Vr) (content : Content) → IsContent syntax levels vr content → length (content_text vr content) % 2 ≡ 0
+  pub even_content : (syntax : Syntax) (levels : ℕ) (vr : Option Vr) (content : Content)
+      → IsContent syntax levels vr content → length (content_text vr content) % 2 ≡ 0
   even_content syntax levels vr (bytes v) h =
       let e = length-bytes vr v in
       let a = shape_even vr in
@@ -115,18 +131,21 @@ mutual
   even_content syntax levels vr (items form parts) h =
       let inner = some_of (item_syntax syntax vr form) (λ i. AreItems i levels parts) h.0 in
       let a : length (items_text parts) % 2 ≡ 0 = even_items inner.0 levels parts inner.2 in
-      let b : length (closed form sequence_end_text (items_text parts)) % 2 ≡ 0 = closed_even form sequence_end_text (items_text parts) refl a in
+      let b : length (closed form sequence_end_text (items_text parts)) % 2 ≡ 0 =
+      closed_even form sequence_end_text (items_text parts) refl a in
       let c = shape_even vr in
       let e = length-items vr form parts in
       omega arith
 
   -- of items
-  pub even_items : (syntax : Syntax) (levels : ℕ) (parts : Items) → AreItems syntax levels parts → length (items_text parts) % 2 ≡ 0
+  pub even_items : (syntax : Syntax) (levels : ℕ) (parts : Items) → AreItems syntax levels parts
+      → length (items_text parts) % 2 ≡ 0
   even_items syntax levels no_items h = refl
   even_items syntax zero (item form set rest) h = absurd h
   even_items syntax (suc levels) (item form set rest) h =
       let a : length (elements_text set) % 2 ≡ 0 = even_elements syntax levels 0 set h.0 in
-      let b : length (closed form item_end_text (elements_text set)) % 2 ≡ 0 = closed_even form item_end_text (elements_text set) refl a in
+      let b : length (closed form item_end_text (elements_text set)) % 2 ≡ 0 =
+      closed_even form item_end_text (elements_text set) refl a in
       let c : length (items_text rest) % 2 ≡ 0 = even_items syntax (suc levels) rest h.2 in
       let e = length-item form set rest in
       omega arith

@@ -1,10 +1,14 @@
 -- Taking bytes of a feed, where those that were taken are known, and what may follow is not.
-use Rattle.std.proofs.Common.{◌≡◌, ◌≢◌, ◌<◌, ◌≤◌, ℕ, true, false, List, ◌++◌, length, take, Option, Some, None, Result, Ok, Err, refl, sym, ◌∙◌, arith, append-nil}
+use Rattle.std.proofs.Common.{◌≡◌, ◌≢◌, ◌<◌, ◌≤◌, ℕ, true, false, List, ◌++◌, length, take, Option, Some, None, Result}
+use Rattle.std.proofs.Common.{Ok, Err, refl, sym, ◌∙◌, arith, append-nil}
 use Rattle.std.specs.Int.{w32, from_le_bytes}
 use Rattle.std.proofs.lemmas.Bool.{le-ltb, lt-ltb}
-use Rattle.std.proofs.lemmas.List.{length-append, length-take-le, nil_from_length, take_at as take_front, drop_at as drop_front}
+use Rattle.std.proofs.lemmas.List.{length-append, length-take-le, nil_from_length, take_at as take_front}
+use Rattle.std.proofs.lemmas.List.{drop_at as drop_front}
 use Rattle.dd_set.specs.declared.fault.SetFault.{SetFault}
-use Rattle.dd_set.specs.declared.fault.SetFault.TheVariants.{Truncated, Order, BadVr, Reserved, OddLength, UndefinedLength, UnexpectedTag, BadDelimiter, Overrun, TooDeep, Memory}
+use Rattle.dd_set.specs.declared.fault.SetFault.TheVariants.{Truncated, Order, BadVr, Reserved, OddLength}
+use Rattle.dd_set.specs.declared.fault.SetFault.TheVariants.{UndefinedLength, UnexpectedTag, BadDelimiter, Overrun}
+use Rattle.dd_set.specs.declared.fault.SetFault.TheVariants.{TooDeep, Memory}
 use Rattle.dd_set.specs.Gives.{Fails}
 use Rattle.dd_set.specs.declared.syntax.Length.{Length}
 use Rattle.dd_set.specs.declared.syntax.Length.TheVariants.{Defined}
@@ -17,24 +21,34 @@ use Rattle.dd_set.proofs.Loops.{differ}
 -- ---- so many bytes
 
 -- the enclosing length leaves too few
-pub take_overruns : (n : ℕ) (left : Option ℕ) (bytes : List ℕ) → leaves_fewer left n ≡ true → take_at n (record { left = left; bytes = bytes }) ≡ Err Overrun
+pub take_overruns : (n : ℕ) (left : Option ℕ) (bytes : List ℕ) → leaves_fewer left n ≡ true
+    → take_at n (record { left = left; bytes = bytes }) ≡ Err Overrun
 unfolding take_at
 take_overruns n left bytes fewer = rw fewer refl
 
 -- there are too few
-pub take_ends : (n : ℕ) (left : Option ℕ) (bytes : List ℕ) → leaves_fewer left n ≡ false → length bytes < n → take_at n (record { left = left; bytes = bytes }) ≡ Err Truncated
+pub take_ends : (n : ℕ) (left : Option ℕ) (bytes : List ℕ) → leaves_fewer left n ≡ false → length bytes < n
+    → take_at n (record { left = left; bytes = bytes }) ≡ Err Truncated
 unfolding take_at
 take_ends n left bytes enough few = rw (enough, lt-ltb (length bytes) n few) refl
 
 -- there are enough, and these
 pub take_whole : (n : ℕ) (left : Option ℕ) (taken rest : List ℕ) → leaves_fewer left n ≡ false → length taken ≡ n
-    → take_at n (record { left = left; bytes = taken ++ rest }) ≡ Ok (taken, record { left = less left n; bytes = rest })
+    → take_at n (record { left = left; bytes = taken ++ rest }) ≡ Ok
+    (taken, record { left = less left n; bytes = rest })
 unfolding take_at
 take_whole n left taken rest enough whole =
-    rw (enough, le-ltb (length (taken ++ rest)) n (omega (arith, length-append taken rest)), take_front taken rest n (omega arith), drop_front taken rest n (omega arith)) refl
+    rw (
+      enough,
+      le-ltb (length (taken ++ rest)) n (omega (arith, length-append taken rest)),
+      take_front taken rest n
+          (omega arith),
+      drop_front taken rest n (omega arith),
+    ) refl
 
 -- where the feed is over behind some bytes, no more were to come
-pub over_length : {F : Type 0} (tells : F → List ℕ → Type 0) (feed : F) (taken rest : List ℕ) → IsOver tells feed → tells feed rest → length (taken ++ rest) ≡ length taken
+pub over_length : {F : Type 0} (tells : F → List ℕ → Type 0) (feed : F) (taken rest : List ℕ) → IsOver tells feed
+    → tells feed rest → length (taken ++ rest) ≡ length taken
 over_length tells feed taken rest over t = rw (over.none rest t, append-nil) refl
 
 -- a front of a room
@@ -54,7 +68,8 @@ unfolding head_at
 head_more form at over = rw over refl
 
 -- eight bytes are there
-pub eight_found : (n : ℕ) (at end : At) (head : List ℕ) → n ≡ 8 → take_at n at ≡ Ok (head, end) → eight_at at ≡ Ok (Some head, end)
+pub eight_found : (n : ℕ) (at end : At) (head : List ℕ) → n ≡ 8 → take_at n at ≡ Ok (head, end)
+    → eight_at at ≡ Ok (Some head, end)
 eight_found n at end head eight h = rw (rw eight at h) refl
 
 -- they are not
@@ -62,30 +77,37 @@ pub eight_fails : (n : ℕ) (at : At) (e : SetFault) → n ≡ 8 → take_at n a
 eight_fails n at e eight h = rw (rw eight at h) refl
 
 -- at the top: no byte, eight, or fewer
-pub top_none : (bytes rest : List ℕ) → length bytes ≡ 0 → length rest ≡ 0 → head_at Defined (record { left = None; bytes = bytes }) ≡ Ok (None, record { left = None; bytes = rest })
+pub top_none : (bytes rest : List ℕ) → length bytes ≡ 0 → length rest ≡ 0
+    → head_at Defined (record { left = None; bytes = bytes }) ≡ Ok (None, record { left = None; bytes = rest })
 top_none bytes rest none end =
     let over : is_over Defined (record { left = None; bytes = bytes }) ≡ true = rw none refl in
     let same : bytes ≡ rest = nil_from_length bytes none ∙ sym (nil_from_length rest end) in
     head_over Defined (record { left = None; bytes = bytes }) over ∙ rw same refl
 
-pub top_found : (head rest : List ℕ) → length head ≡ 8 → head_at Defined (record { left = None; bytes = head ++ rest }) ≡ Ok (Some head, record { left = None; bytes = rest })
+pub top_found : (head rest : List ℕ) → length head ≡ 8 → head_at Defined (record { left = None; bytes = head ++ rest })
+    ≡ Ok (Some head, record { left = None; bytes = rest })
 top_found head rest eight =
     let at : At = record { left = None; bytes = head ++ rest } in
-    let more : is_over Defined at ≡ false = differ (length (head ++ rest)) 0 (λ none. absurd (omega (arith, length-append head rest))) in
+    let more : is_over Defined at ≡ false = differ (length (head ++ rest)) 0
+    (λ none. absurd (omega (arith, length-append head rest))) in
     head_more Defined at more ∙ eight_found 8 at _ head refl (take_whole 8 None head rest refl eight)
 
-pub top_fails : (bytes : List ℕ) → length bytes ≢ 0 → length bytes < 8 → head_at Defined (record { left = None; bytes = bytes }) ≡ Err Truncated
+pub top_fails : (bytes : List ℕ) → length bytes ≢ 0 → length bytes < 8
+    → head_at Defined (record { left = None; bytes = bytes }) ≡ Err Truncated
 top_fails bytes some few =
     let at : At = record { left = None; bytes = bytes } in
-    head_more Defined at (differ (length bytes) 0 some) ∙ eight_fails 8 at Truncated refl (take_ends 8 None bytes refl few)
+    head_more Defined at (differ (length bytes) 0 some) ∙ eight_fails 8 at Truncated refl
+    (take_ends 8 None bytes refl few)
 
 -- ---- headers
 
 -- a step that is refused
-pub bind_fails : {A B : Type 0} (r : Result A SetFault) (f : A → Result B SetFault) (e : SetFault) → r ≡ Err e → (r >>= f) ≡ Err e
+pub bind_fails : {A B : Type 0} (r : Result A SetFault) (f : A → Result B SetFault) (e : SetFault) → r ≡ Err e
+    → (r >>= f) ≡ Err e
 bind_fails r f e h = rw h refl
 
-pub long_found : (n : ℕ) (at end : At) (length : List ℕ) → n ≡ 4 → take_at n at ≡ Ok (length, end) → long_length_at at ≡ Ok (from_le_bytes w32 length, end)
+pub long_found : (n : ℕ) (at end : At) (length : List ℕ) → n ≡ 4 → take_at n at ≡ Ok (length, end)
+    → long_length_at at ≡ Ok (from_le_bytes w32 length, end)
 unfolding long_length_at
 long_found n at end length four h = rw (rw four at h) refl
 
@@ -102,7 +124,8 @@ module _ (syntax : Syntax) (form : Length) (low : ℕ) (at : At) where
   unfolding front_at
   front_none end h = rw h refl
 
-  pub front_opens : (head : List ℕ) (end : At) → head_at form at ≡ Ok (Some head, end) → front_at syntax form low at ≡ opening_at syntax form low head end
+  pub front_opens : (head : List ℕ) (end : At) → head_at form at ≡ Ok (Some head, end)
+      → front_at syntax form low at ≡ opening_at syntax form low head end
   unfolding front_at
   front_opens head end h = rw h refl
 
@@ -115,7 +138,8 @@ module _ (form : Length) (at : At) where
   unfolding item_front_at
   item_front_none end h = rw h refl
 
-  pub item_front_opens : (head : List ℕ) (end : At) → head_at form at ≡ Ok (Some head, end) → item_front_at form at ≡ (item_opening form head >>= λ length. Ok (length, end))
+  pub item_front_opens : (head : List ℕ) (end : At) → head_at form at ≡ Ok (Some head, end)
+      → item_front_at form at ≡ (item_opening form head >>= λ length. Ok (length, end))
   unfolding item_front_at
   item_front_opens head end h = rw h refl
 

@@ -1,5 +1,7 @@
 -- Reading a front of longer bytes: a refusal other than an early end stands whatever follows the front.
-use Rattle.std.proofs.Common.{◌≡◌, ◌≢◌, ℕ, zero, suc, ◌+◌, ◌%◌, ◌≤◌, Bool, true, false, nat_lt, ◌==◌, if◌then◌else◌, List, ◌++◌, length, take, drop, Option, Some, None, Result, Ok, Err, refl, sym, ap, ap₂, subst, ◌∙◌, arith}
+use Rattle.std.proofs.Common.{◌≡◌, ◌≢◌, ℕ, zero, suc, ◌+◌, ◌%◌, ◌≤◌, Bool, true, false, nat_lt, ◌==◌, if◌then◌else◌}
+use Rattle.std.proofs.Common.{List, ◌++◌, length, take, drop, Option, Some, None, Result, Ok, Err, refl, sym, ap, ap₂}
+use Rattle.std.proofs.Common.{subst, ◌∙◌, arith}
 use Rattle.std.specs.Int.{w32, from_le_bytes}
 use Rattle.std.proofs.lemmas.Bool.{le-ltb, ltb-false, ne_eqb, eqb-false}
 use Rattle.std.proofs.lemmas.List.{length-append, take-append-le, drop-append-le}
@@ -54,28 +56,36 @@ Encloses Undefined c = Unit {0}
 -- ---- chains
 
 -- one step and then another
-extends_then : {X Y : Type 0} (c : Bool) (q : List ℕ) (r s : Reads X) (f g : X × At → Reads Y) → Extends c q r s → ((x : X × At) → has x.1.left ≡ c → Extends c q (f x) (g (x.0, longer x.1 q))) → Extends c q (r >>= f) (s >>= g)
-extends_then {Y = Y} c q (Ok x) s f g h k = subst (λ (t : Reads Y). Extends c q (f x) t) (sym (onward s (x.0, longer x.1 q) g h.0)) (k x h.1)
+extends_then : {X Y : Type 0} (c : Bool) (q : List ℕ) (r s : Reads X) (f g : X × At → Reads Y) → Extends c q r s
+    → ((x : X × At) → has x.1.left ≡ c → Extends c q (f x) (g (x.0, longer x.1 q))) → Extends c q (r >>= f) (s >>= g)
+extends_then {Y = Y} c q (Ok x) s f g h k = subst (λ (t : Reads Y). Extends c q (f x) t)
+    (sym (onward s (x.0, longer x.1 q) g h.0)) (k x h.1)
 extends_then {Y = Y} c q (Err e) s f g h k = λ ne. ap (λ t. t >>= g) (h ne)
 
 -- the same of refusals
-fails_then : {X Y : Type 0} (c : Bool) (q : List ℕ) (r s : Reads X) (f g : X × At → Reads Y) → Extends c q r s → ((x : X × At) → has x.1.left ≡ c → FailsAlike (f x) (g (x.0, longer x.1 q))) → FailsAlike (r >>= f) (s >>= g)
-fails_then {Y = Y} c q (Ok x) s f g h k = subst (λ (t : Reads Y). FailsAlike (f x) t) (sym (onward s (x.0, longer x.1 q) g h.0)) (k x h.1)
+fails_then : {X Y : Type 0} (c : Bool) (q : List ℕ) (r s : Reads X) (f g : X × At → Reads Y) → Extends c q r s
+    → ((x : X × At) → has x.1.left ≡ c → FailsAlike (f x) (g (x.0, longer x.1 q))) → FailsAlike (r >>= f) (s >>= g)
+fails_then {Y = Y} c q (Ok x) s f g h k = subst (λ (t : Reads Y). FailsAlike (f x) t)
+    (sym (onward s (x.0, longer x.1 q) g h.0)) (k x h.1)
 fails_then {Y = Y} c q (Err e) s f g h k = λ ne. ap (λ t. t >>= g) (h ne)
 
 -- what is made of a value takes no refusal away
-fails_on : {X Y : Type 0} (r s : Reads X) (f : X × At → Y) → FailsAlike r s → FailsAlike (r >>= λ x. Ok (f x)) (s >>= λ x. Ok (f x))
+fails_on : {X Y : Type 0} (r s : Reads X) (f : X × At → Y) → FailsAlike r s
+    → FailsAlike (r >>= λ x. Ok (f x)) (s >>= λ x. Ok (f x))
 fails_on (Ok x) s f h = tt
 fails_on (Err e) s f h = λ ne. ap (λ t. t >>= λ x. Ok (f x)) (h ne)
 
 -- one test chooses for both
-extends_if : {X : Type 0} (c : Bool) (q : List ℕ) (b : Bool) (x y v w : Reads X) → (b ≡ true → Extends c q x v) → (b ≡ false → Extends c q y w) → Extends c q (if b then x else y) (if b then v else w)
+extends_if : {X : Type 0} (c : Bool) (q : List ℕ) (b : Bool) (x y v w : Reads X) → (b ≡ true → Extends c q x v)
+    → (b ≡ false → Extends c q y w) → Extends c q (if b then x else y) (if b then v else w)
 extends_if c q true x y v w h k = h refl
 extends_if c q false x y v w h k = k refl
 
 -- what reading gave, made into something else
-extends_map : {X Y : Type 0} (c : Bool) (q : List ℕ) (r s : Reads X) (f : X → Y) → Extends c q r s → Extends c q (r >>= λ x. Ok (f x.0, x.1)) (s >>= λ x. Ok (f x.0, x.1))
-extends_map c q r s f h = extends_then c q r s (λ x. Ok (f x.0, x.1)) (λ x. Ok (f x.0, x.1)) h (λ x has_it. (refl, has_it))
+extends_map : {X Y : Type 0} (c : Bool) (q : List ℕ) (r s : Reads X) (f : X → Y) → Extends c q r s
+    → Extends c q (r >>= λ x. Ok (f x.0, x.1)) (s >>= λ x. Ok (f x.0, x.1))
+extends_map c q r s f h = extends_then c q r s (λ x. Ok (f x.0, x.1)) (λ x. Ok (f x.0, x.1)) h
+    (λ x has_it. (refl, has_it))
 
 -- ---- steps
 
@@ -85,7 +95,8 @@ has_less None n = refl
 has_less (Some left) n = refl
 
 -- bytes that are taken
-take_extends : (c : Bool) (n : ℕ) (at : At) (q : List ℕ) → has at.left ≡ c → Extends c q (take_at n at) (take_at n (longer at q))
+take_extends : (c : Bool) (n : ℕ) (at : At) (q : List ℕ) → has at.left ≡ c
+    → Extends c q (take_at n at) (take_at n (longer at q))
 unfolding take_at
 take_extends c n at q has_it =
     extends_if c q (leaves_fewer at.left n) _ _ _ _ (λ few. λ ne. refl) (λ enough. go (nat_lt (length at.bytes) n) refl)
@@ -93,16 +104,28 @@ take_extends c n at q has_it =
     taken : List ℕ → At → Reads (List ℕ)
     taken x a = Ok (x, a)
 
-    go : (b : Bool) → nat_lt (length at.bytes) n ≡ b → Extends c q (if b then Err Truncated else taken (take n at.bytes) (record { left = less at.left n; bytes = drop n at.bytes })) (if nat_lt (length (at.bytes ++ q)) n then Err Truncated else taken (take n (at.bytes ++ q)) (record { left = less at.left n; bytes = drop n (at.bytes ++ q) }))
+    go : (b : Bool) → nat_lt (length at.bytes) n ≡ b → Extends c q
+        (if b then Err Truncated else taken (take n at.bytes)
+        (record { left = less at.left n; bytes = drop n at.bytes }))
+        (if nat_lt (length (at.bytes ++ q)) n then Err Truncated else taken (take n (at.bytes ++ q))
+        (record { left = less at.left n; bytes = drop n (at.bytes ++ q) }))
     go true short = λ ne. absurd (ne refl)
     go false long =
         let enough : n ≤ length at.bytes = ltb-false _ _ long in
-        let far : nat_lt (length (at.bytes ++ q)) n ≡ false = le-ltb _ _ (omega (arith, length-append at.bytes q)) in
-        (past (nat_lt (length (at.bytes ++ q)) n) (Err Truncated) _ far ∙ ap₂ (λ (x y : List ℕ). taken x (record { left = less at.left n; bytes = y })) (take-append-le n at.bytes q enough) (drop-append-le n at.bytes q enough), has_less at.left n ∙ has_it)
+        let far : nat_lt (length (at.bytes ++ q)) n ≡ false = le-ltb _ _ (omega (arith, length-append at.bytes q)) in (
+          past (nat_lt (length (at.bytes ++ q)) n) (Err Truncated) _ far
+              ∙ ap₂ (λ (x y : List ℕ). taken x (record { left = less at.left n; bytes = y }))
+              (take-append-le n at.bytes q enough) (drop-append-le n at.bytes q enough),
+          has_less at.left n ∙ has_it,
+        )
 
 -- what the next n bytes alone hold
-within_extends : {X : Type 0} (c : Bool) (q : List ℕ) (n : ℕ) (at : At) (read : At → Reads X) → has at.left ≡ c → Extends true q (read (record { left = Some n; bytes = at.bytes })) (read (record { left = Some n; bytes = at.bytes ++ q })) → Extends c q (within n at read) (within n (longer at q) read)
-within_extends {X} c q n at read has_it h = go (read (record { left = Some n; bytes = at.bytes })) (read (record { left = Some n; bytes = at.bytes ++ q })) h
+within_extends : {X : Type 0} (c : Bool) (q : List ℕ) (n : ℕ) (at : At) (read : At → Reads X) → has at.left ≡ c
+    → Extends true q (read (record { left = Some n; bytes = at.bytes }))
+    (read (record { left = Some n; bytes = at.bytes ++ q }))
+    → Extends c q (within n at read) (within n (longer at q) read)
+within_extends {X} c q n at read has_it h = go (read (record { left = Some n; bytes = at.bytes }))
+    (read (record { left = Some n; bytes = at.bytes ++ q })) h
   where
     after : X × At → Reads X
     after x = Ok (x.0, record { left = less at.left n; bytes = x.1.bytes })
@@ -112,7 +135,8 @@ within_extends {X} c q n at read has_it h = go (read (record { left = Some n; by
     go (Err e) s h = λ ne. ap (λ t. t >>= after) (h ne)
 
 -- the end of what a length encloses stays where it is
-over_same : (form : Length) (at : At) (q : List ℕ) → Encloses form (has at.left) → is_over form (longer at q) ≡ is_over form at
+over_same : (form : Length) (at : At) (q : List ℕ) → Encloses form (has at.left)
+    → is_over form (longer at q) ≡ is_over form at
 over_same Undefined at q h = refl
 over_same Defined at q h = go at.left h
   where
@@ -123,21 +147,26 @@ over_same Defined at q h = go at.left h
 -- ---- headers
 
 -- a header with a length of 32 bits
-long_extends : (c : Bool) (q : List ℕ) (vr : Vr) (head : List ℕ) (at : At) → has at.left ≡ c → Extends c q (long_at vr head at) (long_at vr head (longer at q))
+long_extends : (c : Bool) (q : List ℕ) (vr : Vr) (head : List ℕ) (at : At) → has at.left ≡ c
+    → Extends c q (long_at vr head at) (long_at vr head (longer at q))
 unfolding long_at long_length_at
 long_extends c q vr head at h =
     extends_if c q (short_of head == 0) _ _ _ _
-    (λ none. extends_map c q (long_length_at at) (long_length_at (longer at q)) (λ n. record { vr = Some vr; length = n })
+    (λ none. extends_map c q (long_length_at at) (long_length_at (longer at q))
+    (λ n. record { vr = Some vr; length = n })
     (extends_map c q (take_at 4 at) (take_at 4 (longer at q)) (λ n. from_le_bytes w32 n) (take_extends c 4 at q h)))
     (λ some. λ ne. refl)
 
 -- a header with a value representation
-explicit_extends : (c : Bool) (q : List ℕ) (o : Option Vr) (head : List ℕ) (at : At) → has at.left ≡ c → Extends c q (explicit_at o head at) (explicit_at o head (longer at q))
+explicit_extends : (c : Bool) (q : List ℕ) (o : Option Vr) (head : List ℕ) (at : At) → has at.left ≡ c
+    → Extends c q (explicit_at o head at) (explicit_at o head (longer at q))
 explicit_extends c q None head at h = λ ne. refl
-explicit_extends c q (Some vr) head at h = extends_if c q (is_long_of vr) _ _ _ _ (λ long. long_extends c q vr head at h) (λ short. (refl, h))
+explicit_extends c q (Some vr) head at h = extends_if c q (is_long_of vr) _ _ _ _
+    (λ long. long_extends c q vr head at h) (λ short. (refl, h))
 
 -- a header behind its tag
-shape_extends : (c : Bool) (q : List ℕ) (syntax : Syntax) (head : List ℕ) (at : At) → has at.left ≡ c → Extends c q (shape_at syntax head at) (shape_at syntax head (longer at q))
+shape_extends : (c : Bool) (q : List ℕ) (syntax : Syntax) (head : List ℕ) (at : At) → has at.left ≡ c
+    → Extends c q (shape_at syntax head at) (shape_at syntax head (longer at q))
 unfolding shape_at
 shape_extends c q Explicit head at h = explicit_extends c q (vr_of (take 2 (drop 4 head))) head at h
 shape_extends c q Implicit head at h = (refl, h)
@@ -145,46 +174,60 @@ shape_extends c q Implicit head at h = (refl, h)
 -- ---- what readers owe
 
 abbrev pub SequenceExtends : SequenceReader → Type 0
-SequenceExtends read = (c : Bool) (q : List ℕ) (syntax : Syntax) (form : Length) (at : At) → has at.left ≡ c → Encloses form c → Extends c q (read syntax form at) (read syntax form (longer at q))
+SequenceExtends read = (c : Bool) (q : List ℕ) (syntax : Syntax) (form : Length) (at : At) → has at.left ≡ c
+    → Encloses form c → Extends c q (read syntax form at) (read syntax form (longer at q))
 
 abbrev pub SetExtends : SetReader → Type 0
-SetExtends read = (c : Bool) (q : List ℕ) (syntax : Syntax) (form : Length) (at : At) → has at.left ≡ c → Encloses form c → Extends c q (read syntax form at) (read syntax form (longer at q))
+SetExtends read = (c : Bool) (q : List ℕ) (syntax : Syntax) (form : Length) (at : At) → has at.left ≡ c
+    → Encloses form c → Extends c q (read syntax form at) (read syntax form (longer at q))
 
 abbrev pub PartExtends : ItemReader → Type 0
-PartExtends read = (c : Bool) (q : List ℕ) (syntax : Syntax) (n : ℕ) (at : At) → has at.left ≡ c → Extends c q (read syntax n at) (read syntax n (longer at q))
+PartExtends read = (c : Bool) (q : List ℕ) (syntax : Syntax) (n : ℕ) (at : At) → has at.left ≡ c
+    → Extends c q (read syntax n at) (read syntax n (longer at q))
 
 -- ---- elements
 
 module _ (sequence : SequenceReader) (law : SequenceExtends sequence) where
   -- a value of undefined length
-  undefined_extends : (c : Bool) (q : List ℕ) (o : Option Syntax) (at : At) → has at.left ≡ c → Extends c q (undefined_at sequence o at) (undefined_at sequence o (longer at q))
+  undefined_extends : (c : Bool) (q : List ℕ) (o : Option Syntax) (at : At) → has at.left ≡ c
+      → Extends c q (undefined_at sequence o at) (undefined_at sequence o (longer at q))
   undefined_extends c q None at h = λ ne. refl
-  undefined_extends c q (Some inner) at h = extends_map c q (sequence inner Undefined at) (sequence inner Undefined (longer at q)) (λ parts. items Undefined parts) (law c q inner Undefined at h tt)
+  undefined_extends c q (Some inner) at h = extends_map c q (sequence inner Undefined at)
+      (sequence inner Undefined (longer at q)) (λ parts. items Undefined parts) (law c q inner Undefined at h tt)
 
   -- a value of this length
-  defined_extends : (c : Bool) (q : List ℕ) (o : Option Syntax) (n : ℕ) (at : At) → has at.left ≡ c → Extends c q (defined_at sequence o n at) (defined_at sequence o n (longer at q))
-  defined_extends c q None n at h = extends_map c q (take_at n at) (take_at n (longer at q)) (λ v. bytes v) (take_extends c n at q h)
+  defined_extends : (c : Bool) (q : List ℕ) (o : Option Syntax) (n : ℕ) (at : At) → has at.left ≡ c
+      → Extends c q (defined_at sequence o n at) (defined_at sequence o n (longer at q))
+  defined_extends c q None n at h = extends_map c q (take_at n at) (take_at n (longer at q)) (λ v. bytes v)
+      (take_extends c n at q h)
   defined_extends c q (Some inner) n at h =
-      extends_map c q (within n at (sequence inner Defined)) (within n (longer at q) (sequence inner Defined)) (λ parts. items Defined parts)
-      (within_extends c q n at (sequence inner Defined) h (law true q inner Defined (record { left = Some n; bytes = at.bytes }) refl refl))
+      extends_map c q (within n at (sequence inner Defined)) (within n (longer at q) (sequence inner Defined))
+      (λ parts. items Defined parts)
+      (within_extends c q n at (sequence inner Defined) h (law true q inner Defined
+      (record { left = Some n; bytes = at.bytes }) refl refl))
 
   -- a value behind its header
-  content_extends : (c : Bool) (q : List ℕ) (syntax : Syntax) (shape : Shape) (at : At) → has at.left ≡ c → Extends c q (content_at sequence syntax shape at) (content_at sequence syntax shape (longer at q))
+  content_extends : (c : Bool) (q : List ℕ) (syntax : Syntax) (shape : Shape) (at : At) → has at.left ≡ c
+      → Extends c q (content_at sequence syntax shape at) (content_at sequence syntax shape (longer at q))
   unfolding content_at
   content_extends c q syntax shape at h =
-      extends_if c q (shape.length == undefined_length) _ _ _ _ (λ u. undefined_extends c q (item_syntax syntax shape.vr Undefined) at h)
+      extends_if c q (shape.length == undefined_length) _ _ _ _
+      (λ u. undefined_extends c q (item_syntax syntax shape.vr Undefined) at h)
       (λ d. extends_if c q (shape.length % 2 == 1) _ _ _ _ (λ odd. λ ne. refl)
       (λ even. extends_if c q (leaves_fewer at.left shape.length) _ _ _ _ (λ few. λ ne. refl)
       (λ room. defined_extends c q (item_syntax syntax shape.vr Defined) shape.length at h)))
 
   -- an element behind its first eight bytes
-  body_extends : (c : Bool) (q : List ℕ) (syntax : Syntax) (low : ℕ) (head : List ℕ) (at : At) → has at.left ≡ c → Extends c q (body_at sequence syntax low head at) (body_at sequence syntax low head (longer at q))
+  body_extends : (c : Bool) (q : List ℕ) (syntax : Syntax) (low : ℕ) (head : List ℕ) (at : At) → has at.left ≡ c
+      → Extends c q (body_at sequence syntax low head at) (body_at sequence syntax low head (longer at q))
   unfolding body_at
   body_extends c q syntax low head at h =
       extends_if c q ((tag_of head).group == delimiter_group) _ _ _ _ (λ d. λ ne. refl)
       (λ e. extends_if c q (nat_lt (number_of (tag_of head)) low) _ _ _ _ (λ below. λ ne. refl)
-      (λ rises. extends_then c q (shape_at syntax head at) (shape_at syntax head (longer at q)) shape_then shape_then (shape_extends c q syntax head at h)
-      (λ s k. extends_map c q (content_at sequence syntax s.0 s.1) (content_at sequence syntax s.0 (longer s.1 q)) (λ x. entry_of s.0.vr x) (content_extends c q syntax s.0 s.1 k))))
+      (λ rises. extends_then c q (shape_at syntax head at) (shape_at syntax head (longer at q)) shape_then shape_then
+      (shape_extends c q syntax head at h)
+      (λ s k. extends_map c q (content_at sequence syntax s.0 s.1) (content_at sequence syntax s.0 (longer s.1 q))
+      (λ x. entry_of s.0.vr x) (content_extends c q syntax s.0 s.1 k))))
     where
       entry_of : Option Vr → Content → Entry
       entry_of vr x = record { tag = tag_of head; vr = vr; content = x }
@@ -200,46 +243,69 @@ module _ (sequence : SequenceReader) (law : SequenceExtends sequence) where
       else (body_at sequence syntax low head.0 head.1 >>= λ x. Ok (Some x.0, x.1))
 
   -- the same, read on
-  going_extends : (c : Bool) (q : List ℕ) (syntax : Syntax) (form : Length) (low : ℕ) (at : At) → has at.left ≡ c → Extends c q (take_at 8 at >>= head_then syntax form low) (take_at 8 (longer at q) >>= head_then syntax form low)
+  going_extends : (c : Bool) (q : List ℕ) (syntax : Syntax) (form : Length) (low : ℕ) (at : At) → has at.left ≡ c
+      → Extends c q (take_at 8 at >>= head_then syntax form low) (take_at 8 (longer at q) >>= head_then syntax form low)
   unfolding head_then
   going_extends c q syntax form low at h =
-      extends_then c q (take_at 8 at) (take_at 8 (longer at q)) (head_then syntax form low) (head_then syntax form low) (take_extends c 8 at q h)
+      extends_then c q (take_at 8 at) (take_at 8 (longer at q)) (head_then syntax form low) (head_then syntax form low)
+      (take_extends c 8 at q h)
       (λ head k. extends_if c q (ends_set form head.0) _ _ _ _
       (λ ends. extends_if c q (long_of head.0 == 0) _ _ _ _ (λ none. (refl, k)) (λ some. λ ne. refl))
-      (λ on. extends_map c q (body_at sequence syntax low head.0 head.1) (body_at sequence syntax low head.0 (longer head.1 q)) (λ e. Some e) (body_extends c q syntax low head.0 head.1 k)))
+      (λ on. extends_map c q (body_at sequence syntax low head.0 head.1)
+      (body_at sequence syntax low head.0 (longer head.1 q)) (λ e. Some e)
+      (body_extends c q syntax low head.0 head.1 k)))
 
   -- the next element, or the end of the set
-  element_extends : (c : Bool) (q : List ℕ) (syntax : Syntax) (form : Length) (low : ℕ) (at : At) → has at.left ≡ c → is_over form (longer at q) ≡ is_over form at → Extends c q (element_at sequence syntax form low at) (element_at sequence syntax form low (longer at q))
+  element_extends : (c : Bool) (q : List ℕ) (syntax : Syntax) (form : Length) (low : ℕ) (at : At) → has at.left ≡ c
+      → is_over form (longer at q) ≡ is_over form at → Extends c q (element_at sequence syntax form low at)
+      (element_at sequence syntax form low (longer at q))
   unfolding whole_element head_then
   element_extends c q syntax form low at h same =
       rw (element_is sequence syntax form low at, element_is sequence syntax form low (longer at q))
-      (subst (λ (b : Bool). Extends c q (if is_over form at then Ok (None, at) else (take_at 8 at >>= head_then syntax form low)) (if b then Ok (None, longer at q) else (take_at 8 (longer at q) >>= head_then syntax form low))) (sym same)
+      (subst (λ (b : Bool). Extends c q (if is_over form at then Ok (None, at) else
+      (take_at 8 at >>= head_then syntax form low)) (if b then Ok (None, longer at q) else
+      (take_at 8 (longer at q) >>= head_then syntax form low))) (sym same)
       (extends_if c q (is_over form at) _ _ _ _ (λ over. (refl, h)) (λ on. going_extends c q syntax form low at h)))
 
   -- elements up to the end of their set
-  elements_extend : (n m : ℕ) (c : Bool) (q : List ℕ) (syntax : Syntax) (form : Length) (low : ℕ) (at : At) → n ≤ m → has at.left ≡ c → Encloses form c → Extends c q (elements_at sequence syntax form n low at) (elements_at sequence syntax form m low (longer at q))
+  elements_extend : (n m : ℕ) (c : Bool) (q : List ℕ) (syntax : Syntax) (form : Length) (low : ℕ) (at : At) → n ≤ m
+      → has at.left ≡ c → Encloses form c → Extends c q (elements_at sequence syntax form n low at)
+      (elements_at sequence syntax form m low (longer at q))
   unfolding elements_at
   elements_extend zero m c q syntax form low at le h same = λ ne. absurd (ne refl)
   elements_extend (suc n) zero c q syntax form low at le h same = absurd (omega arith)
   elements_extend (suc n) (suc m) c q syntax form low at le h same =
-      extends_then c q (element_at sequence syntax form low at) (element_at sequence syntax form low (longer at q)) (next_elements (elements_at sequence syntax form n)) (next_elements (elements_at sequence syntax form m))
-      (element_extends c q syntax form low at h (over_same form at q (subst (λ (b : Bool). Encloses form b) (sym h) same)))
-      (λ x k. next_extends c q (elements_at sequence syntax form n) (elements_at sequence syntax form m) (λ l a g. elements_extend n m c q syntax form l a (omega arith) g same) x.0 x.1 k)
+      extends_then c q (element_at sequence syntax form low at) (element_at sequence syntax form low (longer at q))
+      (next_elements (elements_at sequence syntax form n)) (next_elements (elements_at sequence syntax form m))
+      (element_extends c q syntax form low at h (over_same form at q
+      (subst (λ (b : Bool). Encloses form b) (sym h) same)))
+      (λ x k. next_extends c q (elements_at sequence syntax form n) (elements_at sequence syntax form m)
+      (λ l a g. elements_extend n m c q syntax form l a (omega arith) g same) x.0 x.1 k)
     where
-      next_extends : (c : Bool) (q : List ℕ) (others those : ℕ → At → Reads Elements) → ((l : ℕ) (a : At) → has a.left ≡ c → Extends c q (others l a) (those l (longer a q))) → (o : Option Entry) (a : At) → has a.left ≡ c → Extends c q (next_elements others (o, a)) (next_elements those (o, longer a q))
+      next_extends : (c : Bool) (q : List ℕ) (others those : ℕ → At → Reads Elements)
+          → ((l : ℕ) (a : At) → has a.left ≡ c → Extends c q (others l a) (those l (longer a q)))
+          → (o : Option Entry) (a : At) → has a.left ≡ c → Extends c q (next_elements others (o, a))
+          (next_elements those (o, longer a q))
       next_extends c q others those ih None a k = (refl, k)
-      next_extends c q others those ih (Some e) a k = extends_map c q (others (number_of e.tag + 1) a) (those (number_of e.tag + 1) (longer a q)) (λ es. element e.tag e.vr e.content es) (ih (number_of e.tag + 1) a k)
+      next_extends c q others those ih (Some e) a k = extends_map c q (others (number_of e.tag + 1) a)
+          (those (number_of e.tag + 1) (longer a q)) (λ es. element e.tag e.vr e.content es)
+          (ih (number_of e.tag + 1) a k)
 
   -- where no length encloses the set, its end is the end of the bytes
-  still_on : (at : At) (q : List ℕ) → has at.left ≡ false → is_over Defined at ≡ false → is_over Defined (longer at q) ≡ false
+  still_on : (at : At) (q : List ℕ) → has at.left ≡ false → is_over Defined at ≡ false
+      → is_over Defined (longer at q) ≡ false
   still_on at q h on = go at.left h on
     where
-      go : (left : Option ℕ) → has left ≡ false → no_byte_left left at.bytes ≡ false → no_byte_left left (at.bytes ++ q) ≡ false
-      go None h on = let some : length at.bytes ≡ 0 → ⊥ = eqb-false _ _ on in ne_eqb (length (at.bytes ++ q)) 0 (λ e. some (omega (arith, length-append at.bytes q)))
+      go : (left : Option ℕ) → has left ≡ false → no_byte_left left at.bytes ≡ false
+          → no_byte_left left (at.bytes ++ q) ≡ false
+      go None h on = let some : length at.bytes ≡ 0 → ⊥ = eqb-false _ _ on in
+          ne_eqb (length (at.bytes ++ q)) 0 (λ e. some (omega (arith, length-append at.bytes q)))
       go (Some l) h on = absurd cc
 
   -- elements up to the end of the bytes: refusals alone, for more bytes are more elements
-  elements_fail : (n m : ℕ) (q : List ℕ) (syntax : Syntax) (low : ℕ) (at : At) → n ≤ m → has at.left ≡ false → FailsAlike (elements_at sequence syntax Defined n low at) (elements_at sequence syntax Defined m low (longer at q))
+  elements_fail : (n m : ℕ) (q : List ℕ) (syntax : Syntax) (low : ℕ) (at : At) → n ≤ m → has at.left ≡ false
+      → FailsAlike (elements_at sequence syntax Defined n low at)
+      (elements_at sequence syntax Defined m low (longer at q))
   unfolding elements_at whole_element head_then
   elements_fail zero m q syntax low at le h = λ ne. absurd (ne refl)
   elements_fail (suc n) zero q syntax low at le h = absurd (omega arith)
@@ -253,97 +319,135 @@ module _ (sequence : SequenceReader) (law : SequenceExtends sequence) where
       those : ℕ → At → Reads Elements
       those = elements_at sequence syntax Defined m
 
-      next_fails : ((l : ℕ) (a : At) → has a.left ≡ false → FailsAlike (others l a) (those l (longer a q))) → (o : Option Entry) (a : At) → has a.left ≡ false → FailsAlike (next_elements others (o, a)) (next_elements those (o, longer a q))
+      next_fails : ((l : ℕ) (a : At) → has a.left ≡ false → FailsAlike (others l a) (those l (longer a q)))
+          → (o : Option Entry) (a : At) → has a.left ≡ false
+          → FailsAlike (next_elements others (o, a)) (next_elements those (o, longer a q))
       next_fails ih None a k = tt
-      next_fails ih (Some e) a k = fails_on (others (number_of e.tag + 1) a) (those (number_of e.tag + 1) (longer a q)) (λ x. (element e.tag e.vr e.content x.0, x.1)) (ih (number_of e.tag + 1) a k)
+      next_fails ih (Some e) a k = fails_on (others (number_of e.tag + 1) a) (those (number_of e.tag + 1) (longer a q))
+          (λ x. (element e.tag e.vr e.content x.0, x.1)) (ih (number_of e.tag + 1) a k)
 
-      go : (b : Bool) → is_over Defined at ≡ b → ((l : ℕ) (a : At) → has a.left ≡ false → FailsAlike (others l a) (those l (longer a q))) → FailsAlike ((if b then Ok (None, at) else (take_at 8 at >>= head_then syntax Defined low)) >>= next_elements others) ((if is_over Defined (longer at q) then Ok (None, longer at q) else (take_at 8 (longer at q) >>= head_then syntax Defined low)) >>= next_elements those)
+      go : (b : Bool) → is_over Defined at ≡ b → ((l : ℕ) (a : At) → has a.left ≡ false
+          → FailsAlike (others l a) (those l (longer a q))) → FailsAlike
+          ((if b then Ok (None, at) else (take_at 8 at >>= head_then syntax Defined low)) >>= next_elements others)
+          ((if is_over Defined (longer at q) then Ok (None, longer at q) else
+          (take_at 8 (longer at q) >>= head_then syntax Defined low)) >>= next_elements those)
       go true over ih = tt
       go false on ih =
-          subst (λ (b : Bool). FailsAlike ((take_at 8 at >>= head_then syntax Defined low) >>= next_elements others) ((if b then Ok (None, longer at q) else (take_at 8 (longer at q) >>= head_then syntax Defined low)) >>= next_elements those)) (sym (still_on at q h on))
-          (fails_then false q (take_at 8 at >>= head_then syntax Defined low) (take_at 8 (longer at q) >>= head_then syntax Defined low) (next_elements others) (next_elements those) (going_extends false q syntax Defined low at h) (λ x k. next_fails ih x.0 x.1 k))
+          subst (λ (b : Bool). FailsAlike ((take_at 8 at >>= head_then syntax Defined low) >>= next_elements others)
+          ((if b then Ok (None, longer at q) else (take_at 8 (longer at q) >>= head_then syntax Defined low)) >>=
+          next_elements those)) (sym (still_on at q h on))
+          (fails_then false q (take_at 8 at >>= head_then syntax Defined low)
+          (take_at 8 (longer at q) >>= head_then syntax Defined low) (next_elements others) (next_elements those)
+          (going_extends false q syntax Defined low at h) (λ x k. next_fails ih x.0 x.1 k))
 
 -- ---- items
 
 module _ (part : ItemReader) (law : PartExtends part) where
   -- the next item, or the end of the sequence
-  item_extends : (c : Bool) (q : List ℕ) (syntax : Syntax) (form : Length) (at : At) → has at.left ≡ c → is_over form (longer at q) ≡ is_over form at → Extends c q (item_at part syntax form at) (item_at part syntax form (longer at q))
+  item_extends : (c : Bool) (q : List ℕ) (syntax : Syntax) (form : Length) (at : At) → has at.left ≡ c
+      → is_over form (longer at q) ≡ is_over form at → Extends c q (item_at part syntax form at)
+      (item_at part syntax form (longer at q))
   unfolding whole_item
   item_extends c q syntax form at h same =
       rw (item_is part syntax form at, item_is part syntax form (longer at q))
-      (subst (λ (b : Bool). Extends c q (if is_over form at then Ok (None, at) else (take_at 8 at >>= head_goes)) (if b then Ok (None, longer at q) else (take_at 8 (longer at q) >>= head_goes))) (sym same)
+      (subst (λ (b : Bool). Extends c q (if is_over form at then Ok (None, at) else (take_at 8 at >>= head_goes))
+      (if b then Ok (None, longer at q) else (take_at 8 (longer at q) >>= head_goes))) (sym same)
       (extends_if c q (is_over form at) _ _ _ _ (λ over. (refl, h))
       (λ on. extends_then c q (take_at 8 at) (take_at 8 (longer at q)) head_goes head_goes (take_extends c 8 at q h)
       (λ head k. extends_if c q (ends_sequence form head.0) _ _ _ _
       (λ ends. extends_if c q (long_of head.0 == 0) _ _ _ _ (λ none. (refl, k)) (λ some. λ ne. refl))
       (λ more. extends_if c q (is_item head.0) _ _ _ _
-      (λ is. extends_map c q (part syntax (long_of head.0) head.1) (part syntax (long_of head.0) (longer head.1 q)) (λ p. Some p) (law c q syntax (long_of head.0) head.1 k))
+      (λ is. extends_map c q (part syntax (long_of head.0) head.1) (part syntax (long_of head.0) (longer head.1 q))
+      (λ p. Some p) (law c q syntax (long_of head.0) head.1 k))
       (λ none. λ ne. refl))))))
     where
       head_goes : List ℕ × At → Reads (Option Part)
       head_goes head =
           if ends_sequence form head.0
           then (if long_of head.0 == 0 then Ok (None, head.1) else Err BadDelimiter)
-          else (if is_item head.0 then (part syntax (long_of head.0) head.1 >>= λ x. Ok (Some x.0, x.1)) else Err UnexpectedTag)
+          else (if is_item head.0 then (part syntax (long_of head.0) head.1 >>= λ x. Ok (Some x.0, x.1)) else Err
+          UnexpectedTag)
 
   -- items up to the end of their sequence
-  items_extend : (n m : ℕ) (c : Bool) (q : List ℕ) (syntax : Syntax) (form : Length) (at : At) → n ≤ m → has at.left ≡ c → Encloses form c → Extends c q (items_at part syntax form n at) (items_at part syntax form m (longer at q))
+  items_extend : (n m : ℕ) (c : Bool) (q : List ℕ) (syntax : Syntax) (form : Length) (at : At) → n ≤ m → has at.left ≡ c
+      → Encloses form c → Extends c q (items_at part syntax form n at) (items_at part syntax form m (longer at q))
   unfolding items_at
   items_extend zero m c q syntax form at le h same = λ ne. absurd (ne refl)
   items_extend (suc n) zero c q syntax form at le h same = absurd (omega arith)
   items_extend (suc n) (suc m) c q syntax form at le h same =
-      extends_then c q (item_at part syntax form at) (item_at part syntax form (longer at q)) (next_items (items_at part syntax form n)) (next_items (items_at part syntax form m))
+      extends_then c q (item_at part syntax form at) (item_at part syntax form (longer at q))
+      (next_items (items_at part syntax form n)) (next_items (items_at part syntax form m))
       (item_extends c q syntax form at h (over_same form at q (subst (λ (b : Bool). Encloses form b) (sym h) same)))
-      (λ x k. next_extends c q (items_at part syntax form n) (items_at part syntax form m) (λ a g. items_extend n m c q syntax form a (omega arith) g same) x.0 x.1 k)
+      (λ x k. next_extends c q (items_at part syntax form n) (items_at part syntax form m)
+      (λ a g. items_extend n m c q syntax form a (omega arith) g same) x.0 x.1 k)
     where
-      next_extends : (c : Bool) (q : List ℕ) (others those : At → Reads Items) → ((a : At) → has a.left ≡ c → Extends c q (others a) (those (longer a q))) → (o : Option Part) (a : At) → has a.left ≡ c → Extends c q (next_items others (o, a)) (next_items those (o, longer a q))
+      next_extends : (c : Bool) (q : List ℕ) (others those : At → Reads Items)
+          → ((a : At) → has a.left ≡ c → Extends c q (others a) (those (longer a q))) → (o : Option Part) (a : At)
+          → has a.left ≡ c → Extends c q (next_items others (o, a)) (next_items those (o, longer a q))
       next_extends c q others those ih None a k = (refl, k)
-      next_extends c q others those ih (Some p) a k = extends_map c q (others a) (those (longer a q)) (λ ps. item p.length p.set ps) (ih a k)
+      next_extends c q others those ih (Some p) a k = extends_map c q (others a) (those (longer a q))
+          (λ ps. item p.length p.set ps) (ih a k)
 
   -- a whole sequence
   sequence_extends : SequenceExtends (sequence_with part)
-  sequence_extends c q syntax form at h same = items_extend (suc (length at.bytes)) (suc (length (at.bytes ++ q))) c q syntax form at (omega (arith, length-append at.bytes q)) h same
+  sequence_extends c q syntax form at h same = items_extend (suc (length at.bytes)) (suc (length (at.bytes ++ q))) c q
+      syntax form at (omega (arith, length-append at.bytes q)) h same
 
   -- a whole set
   set_extends : SetExtends (set_with part)
-  set_extends c q syntax form at h same = elements_extend (sequence_with part) sequence_extends (suc (length at.bytes)) (suc (length (at.bytes ++ q))) c q syntax form 0 at (omega (arith, length-append at.bytes q)) h same
+  set_extends c q syntax form at h same = elements_extend (sequence_with part) sequence_extends (suc (length at.bytes))
+      (suc (length (at.bytes ++ q))) c q syntax form 0 at (omega (arith, length-append at.bytes q)) h same
 
   -- a whole set that nothing encloses
-  set_fails : (q : List ℕ) (syntax : Syntax) (at : At) → has at.left ≡ false → FailsAlike (set_with part syntax Defined at) (set_with part syntax Defined (longer at q))
-  set_fails q syntax at h = elements_fail (sequence_with part) sequence_extends (suc (length at.bytes)) (suc (length (at.bytes ++ q))) q syntax 0 at (omega (arith, length-append at.bytes q)) h
+  set_fails : (q : List ℕ) (syntax : Syntax) (at : At) → has at.left ≡ false
+      → FailsAlike (set_with part syntax Defined at) (set_with part syntax Defined (longer at q))
+  set_fails q syntax at h = elements_fail (sequence_with part) sequence_extends (suc (length at.bytes))
+      (suc (length (at.bytes ++ q))) q syntax 0 at (omega (arith, length-append at.bytes q)) h
 
 -- an item one level further out
 part_extends : (set : SetReader) → SetExtends set → PartExtends (part_at set)
 unfolding part_at
 part_extends set law c q syntax n at h =
     extends_if c q (n == undefined_length) _ _ _ _
-    (λ u. extends_map c q (set syntax Undefined at) (set syntax Undefined (longer at q)) (λ s. record { length = Undefined; set = s }) (law c q syntax Undefined at h tt))
+    (λ u. extends_map c q (set syntax Undefined at) (set syntax Undefined (longer at q))
+    (λ s. record { length = Undefined; set = s }) (law c q syntax Undefined at h tt))
     (λ d. extends_if c q (n % 2 == 1) _ _ _ _ (λ odd. λ ne. refl)
     (λ even. extends_if c q (leaves_fewer at.left n) _ _ _ _ (λ few. λ ne. refl)
-    (λ room. extends_map c q (within n at (set syntax Defined)) (within n (longer at q) (set syntax Defined)) (λ s. record { length = Defined; set = s })
-    (within_extends c q n at (set syntax Defined) h (law true q syntax Defined (record { left = Some n; bytes = at.bytes }) refl refl)))))
+    (λ room. extends_map c q (within n at (set syntax Defined)) (within n (longer at q) (set syntax Defined))
+    (λ s. record { length = Defined; set = s })
+    (within_extends c q n at (set syntax Defined) h (law true q syntax Defined
+    (record { left = Some n; bytes = at.bytes }) refl refl)))))
 
 -- an item in which so many levels may nest, itself included
 reader_extends : (d : ℕ) → PartExtends (item_reader d)
 reader_extends zero c q syntax n at h = λ ne. refl
-reader_extends (suc d) c q syntax n at h = part_extends (set_with (item_reader d)) (set_extends (item_reader d) (reader_extends d)) c q syntax n at h
+reader_extends (suc d) c q syntax n at h = part_extends (set_with (item_reader d))
+    (set_extends (item_reader d) (reader_extends d)) c q syntax n at h
 
 -- ---- the whole
 
 -- a refusal that was carried over
-alike_fails : {X : Type 0} (r s : Result X SetFault) (e : SetFault) → FailsAlike r s → r ≡ Err e → e ≢ Truncated → s ≡ Err e
+alike_fails : {X : Type 0} (r s : Result X SetFault) (e : SetFault) → FailsAlike r s → r ≡ Err e → e ≢ Truncated
+    → s ≡ Err e
 alike_fails (Ok x) s e h same ne = absurd cc
-alike_fails {X} (Err f) s e h same ne = let one : f ≡ e = err_is f e same in subst (λ (g : SetFault). s ≡ Err g) one (h (λ t. ne (sym one ∙ t)))
+alike_fails {X} (Err f) s e h same ne = let one : f ≡ e = err_is f e same in
+    subst (λ (g : SetFault). s ≡ Err g) one (h (λ t. ne (sym one ∙ t)))
   where
     err_is : (a b : SetFault) → ◌≡◌ {A = Result X SetFault} (Err a) (Err b) → a ≡ b
     err_is a b e = cc
 
 -- the whole, at any number of levels
-whole_fails : (d : ℕ) (syntax : Syntax) (front more : List ℕ) → FailsAlike (set_with (item_reader d) syntax Defined (record { left = None; bytes = front }) >>= λ x. done x.0) (set_with (item_reader d) syntax Defined (record { left = None; bytes = front ++ more }) >>= λ x. done x.0)
+whole_fails : (d : ℕ) (syntax : Syntax) (front more : List ℕ)
+    → FailsAlike (set_with (item_reader d) syntax Defined (record { left = None; bytes = front }) >>= λ x. done x.0)
+    (set_with (item_reader d) syntax Defined (record { left = None; bytes = front ++ more }) >>= λ x. done x.0)
 whole_fails d syntax front more =
-    fails_on (set_with (item_reader d) syntax Defined (record { left = None; bytes = front })) (set_with (item_reader d) syntax Defined (record { left = None; bytes = front ++ more })) (λ x. x.0) (set_fails (item_reader d) (reader_extends d) more syntax (record { left = None; bytes = front }) refl)
+    fails_on (set_with (item_reader d) syntax Defined (record { left = None; bytes = front }))
+    (set_with (item_reader d) syntax Defined (record { left = None; bytes = front ++ more })) (λ x. x.0)
+    (set_fails (item_reader d) (reader_extends d) more syntax (record { left = None; bytes = front }) refl)
 
 -- a refusal of a front, other than its early end, is that of all bytes that begin with it
-pub front_fails : (syntax : Syntax) (front more : List ℕ) (e : SetFault) → read_all syntax front ≡ Err e → e ≢ Truncated → read_all syntax (front ++ more) ≡ Err e
+pub front_fails : (syntax : Syntax) (front more : List ℕ) (e : SetFault) → read_all syntax front ≡ Err e → e ≢ Truncated
+    → read_all syntax (front ++ more) ≡ Err e
 unfolding read_all
-front_fails syntax front more e r ne = alike_fails (read_all syntax front) (read_all syntax (front ++ more)) e (whole_fails max_levels syntax front more) r ne
+front_fails syntax front more e r ne = alike_fails (read_all syntax front) (read_all syntax (front ++ more)) e
+    (whole_fails max_levels syntax front more) r ne

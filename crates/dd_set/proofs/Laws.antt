@@ -1,6 +1,7 @@
 -- The laws of spelling and reading: what is read is spelled so and what is spelled so is read; what the results of code
 -- that reads say of them.
-use Rattle.std.proofs.Common.{◌≡◌, ◌≢◌, ℕ, ◌%◌, ◌^◌, ◌<◌, ◌↔◌, List, ◌++◌, length, Some, None, Result, Ok, Err, IfOk, IfErr, refl, sym, ap, subst, ◌∙◌, arith, length-append}
+use Rattle.std.proofs.Common.{◌≡◌, ◌≢◌, ℕ, ◌%◌, ◌^◌, ◌<◌, ◌↔◌, List, ◌++◌, length, Some, None, Result, Ok, Err, IfOk}
+use Rattle.std.proofs.Common.{IfErr, refl, sym, ap, subst, ◌∙◌, arith, length-append}
 use Rattle.dd_set.specs.declared.fault.SetFault.{SetFault}
 use Rattle.dd_set.specs.declared.fault.SetFault.TheVariants.{Truncated, Memory}
 use Rattle.dd_set.specs.declared.syntax.Syntax.{Syntax}
@@ -18,11 +19,13 @@ use Rattle.dd_set.proofs.Fronts.{front_fails}
 -- ---- spelling and reading
 
 -- the set that the bytes spell is read
-pub spelled_is_read : (syntax : Syntax) (set : Elements) (bs : List ℕ) → Spells syntax set bs → read_all syntax bs ≡ Ok set
+pub spelled_is_read : (syntax : Syntax) (set : Elements) (bs : List ℕ) → Spells syntax set bs
+    → read_all syntax bs ≡ Ok set
 spelled_is_read syntax set bs s = ap (λ (b : List ℕ). read_all syntax b) s.whole ∙ all_again syntax set s.valid
 
 -- the set that is read is spelled by the bytes
-pub read_is_spelled : (syntax : Syntax) (bs : List ℕ) (set : Elements) → AreBytes bs → length bs < 2 ^ 64 → read_all syntax bs ≡ Ok set → Spells syntax set bs
+pub read_is_spelled : (syntax : Syntax) (bs : List ℕ) (set : Elements) → AreBytes bs → length bs < 2 ^ 64
+    → read_all syntax bs ≡ Ok set → Spells syntax set bs
 read_is_spelled syntax bs set fits long e =
     let t = all_takes syntax bs set e fits in
     record { valid = t.0; whole = t.1; fits = long }
@@ -37,11 +40,14 @@ one_set syntax a b bs s t = ok_is a b (sym (spelled_is_read syntax a bs s) ∙ s
 
 -- a spelling has an even length
 pub spelling_even : (syntax : Syntax) (set : Elements) (bs : List ℕ) → Spells syntax set bs → length bs % 2 ≡ 0
-spelling_even syntax set bs s = ap (λ (b : List ℕ). length b % 2) s.whole ∙ even_elements syntax max_levels 0 set s.valid
+spelling_even syntax set bs s = ap (λ (b : List ℕ). length b % 2) s.whole
+    ∙ even_elements syntax max_levels 0 set s.valid
 
 -- bytes that are refused spell none
-pub refused_spells_none : (syntax : Syntax) (bs : List ℕ) (e : SetFault) → read_all syntax bs ≡ Err e → (set : Elements) → Spells syntax set bs → ⊥
-refused_spells_none syntax bs e r set s = let both : read_all syntax bs ≡ Ok set = spelled_is_read syntax set bs s in absurd cc
+pub refused_spells_none : (syntax : Syntax) (bs : List ℕ) (e : SetFault) → read_all syntax bs ≡ Err e → (set : Elements)
+    → Spells syntax set bs → ⊥
+refused_spells_none syntax bs e r set s = let both : read_all syntax bs ≡ Ok set = spelled_is_read syntax set bs s in
+    absurd cc
 
 -- a result without a fault is a set
 read_of : (r : Result Elements SetFault) → fault_of r ≡ None → (set : Elements) × (r ≡ Ok set)
@@ -49,7 +55,8 @@ read_of (Ok set) e = (set, refl)
 read_of (Err d) e = absurd cc
 
 -- bytes have no fault just where they spell a set
-pub no_fault : (syntax : Syntax) (bs : List ℕ) → AreBytes bs → length bs < 2 ^ 64 → (first_fault syntax bs ≡ None) ↔ ((set : Elements) × Spells syntax set bs)
+pub no_fault : (syntax : Syntax) (bs : List ℕ) → AreBytes bs → length bs < 2 ^ 64
+    → (first_fault syntax bs ≡ None) ↔ ((set : Elements) × Spells syntax set bs)
 no_fault syntax bs fits long = (
   λ e. let r = read_of (read_all syntax bs) e in (r.0, read_is_spelled syntax bs r.0 fits long r.1),
   λ s. ap fault_of (spelled_is_read syntax s.0 bs s.1),
@@ -58,7 +65,9 @@ no_fault syntax bs fits long = (
 -- ---- fronts
 
 -- the front of a spelling that spells no set itself ends too early
-pub front_too_short : (syntax : Syntax) (set : Elements) (front more : List ℕ) → AreBytes front → Spells syntax set (front ++ more) → ((other : Elements) → Spells syntax other front → ⊥) → first_fault syntax front ≡ Some Truncated
+pub front_too_short : (syntax : Syntax) (set : Elements) (front more : List ℕ) → AreBytes front
+    → Spells syntax set (front ++ more) → ((other : Elements) → Spells syntax other front → ⊥)
+    → first_fault syntax front ≡ Some Truncated
 front_too_short syntax set front more fits s none = go (read_all syntax front) refl
   where
     whole : read_all syntax (front ++ more) ≡ Ok set
@@ -68,7 +77,8 @@ front_too_short syntax set front more fits s none = go (read_all syntax front) r
     long = let all : length (front ++ more) < 2 ^ 64 = s.fits in omega (arith, length-append front more)
 
     differs : (e : SetFault) → read_all syntax front ≡ Err e → (e ≢ Truncated) → ⊥
-    differs e r ne = let read : read_all syntax (front ++ more) ≡ Ok set = whole in let other : read_all syntax (front ++ more) ≡ Err e = front_fails syntax front more e r ne in absurd cc
+    differs e r ne = let read : read_all syntax (front ++ more) ≡ Ok set = whole in
+        let other : read_all syntax (front ++ more) ≡ Err e = front_fails syntax front more e r ne in absurd cc
 
     fault : (e : SetFault) → read_all syntax front ≡ Err e → Some e ≡ Some Truncated
     fault Truncated r = refl
@@ -81,13 +91,16 @@ front_too_short syntax set front more fits s none = go (read_all syntax front) r
 -- ---- what code that reads returns
 
 -- a value that was returned is the set that the bytes spell
-pub is_found : {X : Type 0} (view : X → Elements) (syntax : Syntax) (bs : List ℕ) (r : Result X SetFault) → AreBytes bs → length bs < 2 ^ 64 → Gives view r (read_all syntax bs) → IfOk r (λ x. Spells syntax (view x) bs)
+pub is_found : {X : Type 0} (view : X → Elements) (syntax : Syntax) (bs : List ℕ) (r : Result X SetFault) → AreBytes bs
+    → length bs < 2 ^ 64 → Gives view r (read_all syntax bs) → IfOk r (λ x. Spells syntax (view x) bs)
 is_found view syntax bs (Ok x) fits long given = read_is_spelled syntax bs (view x) fits long given
 is_found view syntax bs (Err e) fits long given = tt
 
 -- where the bytes spell a set, it was returned, unless memory ran out
-pub is_only : {X : Type 0} (view : X → Elements) (syntax : Syntax) (bs : List ℕ) (r : Result X SetFault) → Gives view r (read_all syntax bs) → (set : Elements) → Spells syntax set bs → Gives view r (Ok set)
-is_only view syntax bs r given set s = subst (λ (q : Result Elements SetFault). Gives view r q) (spelled_is_read syntax set bs s) given
+pub is_only : {X : Type 0} (view : X → Elements) (syntax : Syntax) (bs : List ℕ) (r : Result X SetFault)
+    → Gives view r (read_all syntax bs) → (set : Elements) → Spells syntax set bs → Gives view r (Ok set)
+is_only view syntax bs r given set s = subst (λ (q : Result Elements SetFault). Gives view r q)
+    (spelled_is_read syntax set bs s) given
 
 -- a fault that was returned is that of reading
 fails_so : (read : Result Elements SetFault) (e : SetFault) → Fails e read → e ≢ Memory → fault_of read ≡ Some e
@@ -95,6 +108,7 @@ fails_so read Memory h ne = absurd (ne refl)
 fails_so read _ h ne = ap fault_of h
 
 -- a fault that was returned is the first that the bytes have, unless memory ran out
-pub is_fault : {X : Type 0} (view : X → Elements) (syntax : Syntax) (bs : List ℕ) (r : Result X SetFault) → Gives view r (read_all syntax bs) → IfErr r (λ e. e ≢ Memory → first_fault syntax bs ≡ Some e)
+pub is_fault : {X : Type 0} (view : X → Elements) (syntax : Syntax) (bs : List ℕ) (r : Result X SetFault)
+    → Gives view r (read_all syntax bs) → IfErr r (λ e. e ≢ Memory → first_fault syntax bs ≡ Some e)
 is_fault view syntax bs (Ok x) given = tt
 is_fault view syntax bs (Err e) given = λ ne. fails_so (read_all syntax bs) e given ne

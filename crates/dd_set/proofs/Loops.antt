@@ -1,14 +1,19 @@
 -- Reading elements and items one after the other, as a loop does.
-use Rattle.std.proofs.Common.{◌≡◌, ℕ, zero, suc, ◌+◌, ◌-◌, ◌<◌, false, eqb, List, [], ◌∷◌, ◌++◌, Some, None, Result, Ok, Err, refl, sym, ap, ◌∙◌, arith}
+use Rattle.std.proofs.Common.{◌≡◌, ℕ, zero, suc, ◌+◌, ◌-◌, ◌<◌, false, eqb, List, [], ◌∷◌, ◌++◌, Some, None, Result, Ok}
+use Rattle.std.proofs.Common.{Err, refl, sym, ap, ◌∙◌, arith}
 use Rattle.std.proofs.lemmas.Bool.{false_from_ne_true, eqb-true}
 use Rattle.dd_elem.specs.Tag.{number_of}
 use Rattle.dd_set.specs.declared.fault.SetFault.{SetFault}
-use Rattle.dd_set.specs.declared.fault.SetFault.TheVariants.{Truncated, Order, BadVr, Reserved, OddLength, UndefinedLength, UnexpectedTag, BadDelimiter, Overrun, TooDeep, Memory}
+use Rattle.dd_set.specs.declared.fault.SetFault.TheVariants.{Truncated, Order, BadVr, Reserved, OddLength}
+use Rattle.dd_set.specs.declared.fault.SetFault.TheVariants.{UndefinedLength, UnexpectedTag, BadDelimiter, Overrun}
+use Rattle.dd_set.specs.declared.fault.SetFault.TheVariants.{TooDeep, Memory}
 use Rattle.dd_set.specs.declared.syntax.Length.{Length}
 use Rattle.dd_set.specs.declared.syntax.Syntax.{Syntax}
-use Rattle.dd_set.specs.Elements.{Elements, no_elements, element, Items, no_items, item, Entry, Part, elements_of, items_of}
+use Rattle.dd_set.specs.Elements.{Elements, no_elements, element, Items, no_items, item, Entry, Part, elements_of}
+use Rattle.dd_set.specs.Elements.{items_of}
 use Rattle.dd_set.specs.Gives.{Fails}
-use Rattle.dd_set.specs.Reading.{At, Reads, ◌>>=◌, SequenceReader, ItemReader, element_at, elements_at, item_at, items_at}
+use Rattle.dd_set.specs.Reading.{At, Reads, ◌>>=◌, SequenceReader, ItemReader, element_at, elements_at, item_at}
+use Rattle.dd_set.specs.Reading.{items_at}
 
 -- these in front
 abbrev pub items_before : List Part → Items → Items
@@ -26,7 +31,8 @@ with_items front read = read >>= λ x. Ok (items_before front x.0, x.1)
 abbrev pub with_elements : List Entry → Reads Elements → Reads Elements
 with_elements front read = read >>= λ x. Ok (elements_before front x.0, x.1)
 
-items_before-push : (front : List Part) (p : Part) (rest : Items) → items_before (front ++ p ∷ []) rest ≡ items_before front (item p.length p.set rest)
+items_before-push : (front : List Part) (p : Part) (rest : Items)
+    → items_before (front ++ p ∷ []) rest ≡ items_before front (item p.length p.set rest)
 items_before-push [] p rest = refl
 items_before-push (q ∷ qs) p rest = ap (λ (r : Items). item q.length q.set r) (items_before-push qs p rest)
 
@@ -34,24 +40,30 @@ items_before-all : (front : List Part) → items_before front no_items ≡ items
 items_before-all [] = refl
 items_before-all (q ∷ qs) = ap (λ (r : Items). item q.length q.set r) (items_before-all qs)
 
-elements_before-push : (front : List Entry) (e : Entry) (rest : Elements) → elements_before (front ++ e ∷ []) rest ≡ elements_before front (element e.tag e.vr e.content rest)
+elements_before-push : (front : List Entry) (e : Entry) (rest : Elements)
+    → elements_before (front ++ e ∷ []) rest ≡ elements_before front (element e.tag e.vr e.content rest)
 elements_before-push [] e rest = refl
-elements_before-push (q ∷ qs) e rest = ap (λ (r : Elements). element q.tag q.vr q.content r) (elements_before-push qs e rest)
+elements_before-push (q ∷ qs) e rest = ap (λ (r : Elements). element q.tag q.vr q.content r)
+    (elements_before-push qs e rest)
 
 elements_before-all : (front : List Entry) → elements_before front no_elements ≡ elements_of front
 elements_before-all [] = refl
 elements_before-all (q ∷ qs) = ap (λ (r : Elements). element q.tag q.vr q.content r) (elements_before-all qs)
 
-regroup_items : (front : List Part) (p : Part) (read : Reads Items) → with_items front (read >>= λ x. Ok (item p.length p.set x.0, x.1)) ≡ with_items (front ++ p ∷ []) read
+regroup_items : (front : List Part) (p : Part) (read : Reads Items)
+    → with_items front (read >>= λ x. Ok (item p.length p.set x.0, x.1)) ≡ with_items (front ++ p ∷ []) read
 regroup_items front p (Ok x) = ap (λ (is : Items). Ok (is, x.1)) (sym (items_before-push front p x.0))
 regroup_items front p (Err e) = refl
 
-regroup_elements : (front : List Entry) (e : Entry) (read : Reads Elements) → with_elements front (read >>= λ x. Ok (element e.tag e.vr e.content x.0, x.1)) ≡ with_elements (front ++ e ∷ []) read
+regroup_elements : (front : List Entry) (e : Entry) (read : Reads Elements)
+    → with_elements front (read >>= λ x. Ok (element e.tag e.vr e.content x.0, x.1)) ≡ with_elements (front ++ e ∷ [])
+    read
 regroup_elements front e (Ok x) = ap (λ (es : Elements). Ok (es, x.1)) (sym (elements_before-push front e x.0))
 regroup_elements front e (Err f) = refl
 
 -- a step's fault is that of the whole
-pub fails_along : {A B : Type 0} (e : SetFault) (r : Result A SetFault) (s : Result B SetFault) → Fails e r → ((f : SetFault) → r ≡ Err f → s ≡ Err f) → Fails e s
+pub fails_along : {A B : Type 0} (e : SetFault) (r : Result A SetFault) (s : Result B SetFault) → Fails e r
+    → ((f : SetFault) → r ≡ Err f → s ≡ Err f) → Fails e s
 fails_along Truncated r s h k = k Truncated h
 fails_along Order r s h k = k Order h
 fails_along BadVr r s h k = k BadVr h
@@ -66,57 +78,73 @@ fails_along Memory r s h k = tt
 
 module _ (part : ItemReader) (syntax : Syntax) (form : Length) where
   -- one more item
-  pub items_more : (n most : ℕ) (front : List Part) (at end : At) (p : Part) (total : Reads Items) → n < most → item_at part syntax form at ≡ Ok (Some p, end)
-      → with_items front (items_at part syntax form most at) ≡ total → with_items (front ++ p ∷ []) (items_at part syntax form (most - 1) end) ≡ total
+  pub items_more : (n most : ℕ) (front : List Part) (at end : At) (p : Part) (total : Reads Items) → n < most
+      → item_at part syntax form at ≡ Ok (Some p, end)
+      → with_items front (items_at part syntax form most at) ≡ total
+      → with_items (front ++ p ∷ []) (items_at part syntax form (most - 1) end) ≡ total
   unfolding items_at
   items_more n zero front at end p total lt h so_far = absurd (omega arith)
   items_more n (suc most) front at end p total lt h so_far =
       let k : suc most - 1 ≡ most = omega arith in
-      let one : with_items front (items_at part syntax form (suc most) at) ≡ with_items (front ++ p ∷ []) (items_at part syntax form most end) = rw h (regroup_items front p (items_at part syntax form most end)) in
+      let one : with_items front (items_at part syntax form (suc most) at) ≡ with_items (front ++ p ∷ [])
+      (items_at part syntax form most end) = rw h (regroup_items front p (items_at part syntax form most end)) in
       rw k (sym one ∙ so_far)
 
   -- no more items
-  pub items_done : (n most : ℕ) (front : List Part) (at end : At) (total : Reads Items) → n < most → item_at part syntax form at ≡ Ok (None, end)
+  pub items_done : (n most : ℕ) (front : List Part) (at end : At) (total : Reads Items) → n < most
+      → item_at part syntax form at ≡ Ok (None, end)
       → with_items front (items_at part syntax form most at) ≡ total → total ≡ Ok (items_of front, end)
   unfolding items_at
   items_done n zero front at end total lt h so_far = absurd (omega arith)
   items_done n (suc most) front at end total lt h so_far =
-      let one : with_items front (items_at part syntax form (suc most) at) ≡ Ok (items_of front, end) = rw h (ap (λ (is : Items). Ok (is, end)) (items_before-all front)) in
+      let one : with_items front (items_at part syntax form (suc most) at) ≡ Ok (items_of front, end) =
+      rw h (ap (λ (is : Items). Ok (is, end)) (items_before-all front)) in
       sym so_far ∙ one
 
   -- a fault
-  pub items_fail : (n most : ℕ) (front : List Part) (at : At) (total : Reads Items) (e : SetFault) → n < most → Fails e (item_at part syntax form at)
+  pub items_fail : (n most : ℕ) (front : List Part) (at : At) (total : Reads Items) (e : SetFault) → n < most
+      → Fails e (item_at part syntax form at)
       → with_items front (items_at part syntax form most at) ≡ total → Fails e total
   unfolding items_at
   items_fail n zero front at total e lt h so_far = absurd (omega arith)
-  items_fail n (suc most) front at total e lt h so_far = fails_along e (item_at part syntax form at) total h (λ f k. sym so_far ∙ rw k refl)
+  items_fail n (suc most) front at total e lt h so_far = fails_along e (item_at part syntax form at) total h
+      (λ f k. sym so_far ∙ rw k refl)
 
 module _ (sequence : SequenceReader) (syntax : Syntax) (form : Length) where
   -- one more element
-  pub elements_more : (n most low : ℕ) (front : List Entry) (at end : At) (e : Entry) (total : Reads Elements) → n < most → element_at sequence syntax form low at ≡ Ok (Some e, end)
-      → with_elements front (elements_at sequence syntax form most low at) ≡ total → with_elements (front ++ e ∷ []) (elements_at sequence syntax form (most - 1) (number_of e.tag + 1) end) ≡ total
+  pub elements_more : (n most low : ℕ) (front : List Entry) (at end : At) (e : Entry) (total : Reads Elements)
+      → n < most → element_at sequence syntax form low at ≡ Ok (Some e, end)
+      → with_elements front (elements_at sequence syntax form most low at) ≡ total
+      → with_elements (front ++ e ∷ []) (elements_at sequence syntax form (most - 1) (number_of e.tag + 1) end) ≡
+      total
   unfolding elements_at
   elements_more n zero low front at end e total lt h so_far = absurd (omega arith)
   elements_more n (suc most) low front at end e total lt h so_far =
       let k : suc most - 1 ≡ most = omega arith in
-      let one : with_elements front (elements_at sequence syntax form (suc most) low at) ≡ with_elements (front ++ e ∷ []) (elements_at sequence syntax form most (number_of e.tag + 1) end) = rw h (regroup_elements front e (elements_at sequence syntax form most (number_of e.tag + 1) end)) in
+      let one : with_elements front (elements_at sequence syntax form (suc most) low at) ≡ with_elements
+      (front ++ e ∷ []) (elements_at sequence syntax form most (number_of e.tag + 1) end) =
+      rw h (regroup_elements front e (elements_at sequence syntax form most (number_of e.tag + 1) end)) in
       rw k (sym one ∙ so_far)
 
   -- no more elements
-  pub elements_done : (n most low : ℕ) (front : List Entry) (at end : At) (total : Reads Elements) → n < most → element_at sequence syntax form low at ≡ Ok (None, end)
+  pub elements_done : (n most low : ℕ) (front : List Entry) (at end : At) (total : Reads Elements) → n < most
+      → element_at sequence syntax form low at ≡ Ok (None, end)
       → with_elements front (elements_at sequence syntax form most low at) ≡ total → total ≡ Ok (elements_of front, end)
   unfolding elements_at
   elements_done n zero low front at end total lt h so_far = absurd (omega arith)
   elements_done n (suc most) low front at end total lt h so_far =
-      let one : with_elements front (elements_at sequence syntax form (suc most) low at) ≡ Ok (elements_of front, end) = rw h (ap (λ (es : Elements). Ok (es, end)) (elements_before-all front)) in
+      let one : with_elements front (elements_at sequence syntax form (suc most) low at) ≡ Ok (elements_of front, end) =
+      rw h (ap (λ (es : Elements). Ok (es, end)) (elements_before-all front)) in
       sym so_far ∙ one
 
   -- a fault
-  pub elements_fail : (n most low : ℕ) (front : List Entry) (at : At) (total : Reads Elements) (e : SetFault) → n < most → Fails e (element_at sequence syntax form low at)
+  pub elements_fail : (n most low : ℕ) (front : List Entry) (at : At) (total : Reads Elements) (e : SetFault) → n < most
+      → Fails e (element_at sequence syntax form low at)
       → with_elements front (elements_at sequence syntax form most low at) ≡ total → Fails e total
   unfolding elements_at
   elements_fail n zero low front at total e lt h so_far = absurd (omega arith)
-  elements_fail n (suc most) low front at total e lt h so_far = fails_along e (element_at sequence syntax form low at) total h (λ f k. sym so_far ∙ rw k refl)
+  elements_fail n (suc most) low front at total e lt h so_far =
+      fails_along e (element_at sequence syntax form low at) total h (λ f k. sym so_far ∙ rw k refl)
 
 -- numbers that differ fail their test
 pub differ : (a b : ℕ) → (a ≡ b → ⊥) → eqb a b ≡ false

@@ -8,7 +8,8 @@ use Rattle.dd_set.specs.Spelling.{item_syntax, AreElements, IsContent, AreItems}
 use Rattle.dd_set.proofs.Even.{some_of}
 
 -- elements that begin no lower than here begin no lower than further down
-pub AreElements-lower : (syntax : Syntax) (levels low lower : ℕ) (set : Elements) → lower ≤ low → AreElements syntax levels low set → AreElements syntax levels lower set
+pub AreElements-lower : (syntax : Syntax) (levels low lower : ℕ) (set : Elements) → lower ≤ low
+    → AreElements syntax levels low set → AreElements syntax levels lower set
 AreElements-lower syntax levels low lower no_elements le h = tt
 AreElements-lower syntax levels low lower (element tag vr content rest) le h =
     let first : low ≤ number_of tag = h.0 in
@@ -17,23 +18,40 @@ AreElements-lower syntax levels low lower (element tag vr content rest) le h =
 
 mutual
   -- a set that nests no deeper than so many levels nests no deeper than more
-  pub AreElements-deeper : (syntax : Syntax) (levels more low : ℕ) (set : Elements) → levels ≤ more → AreElements syntax levels low set → AreElements syntax more low set
+  pub AreElements-deeper : (syntax : Syntax) (levels more low : ℕ) (set : Elements) → levels ≤ more
+      → AreElements syntax levels low set → AreElements syntax more low set
   AreElements-deeper syntax levels more low no_elements le h = tt
-  AreElements-deeper syntax levels more low (element tag vr content rest) le h =
-      (h.0, h.1, h.2, h.3, IsContent-deeper syntax levels more vr content le h.4, AreElements-deeper syntax levels more _ rest le h.5)
+  AreElements-deeper syntax levels more low (element tag vr content rest) le h = (
+    h.0,
+    h.1,
+    h.2,
+    h.3,
+    IsContent-deeper syntax levels more vr content le h.4,
+    AreElements-deeper syntax levels more
+        _ rest le h.5,
+  )
 
   -- the same of a value
-  pub IsContent-deeper : (syntax : Syntax) (levels more : ℕ) (vr : Option Vr) (content : Content) → levels ≤ more → IsContent syntax levels vr content → IsContent syntax more vr content
+  pub IsContent-deeper : (syntax : Syntax) (levels more : ℕ) (vr : Option Vr) (content : Content) → levels ≤ more
+      → IsContent syntax levels vr content → IsContent syntax more vr content
   IsContent-deeper syntax levels more vr (bytes v) le h = h
   IsContent-deeper syntax levels more vr (items form parts) le h =
-      let inner = some_of (item_syntax syntax vr form) (λ i. AreItems i levels parts) h.0 in
-      (subst (λ (o : Option Syntax). IsSomeAnd o (λ i. AreItems i more parts)) (sym inner.1) (AreItems-deeper inner.0 levels more parts le inner.2), h.1)
+      let inner = some_of (item_syntax syntax vr form) (λ i. AreItems i levels parts) h.0 in (
+        subst (λ (o : Option Syntax). IsSomeAnd o (λ i. AreItems i more parts)) (sym inner.1)
+            (AreItems-deeper inner.0 levels more parts le inner.2),
+        h.1,
+      )
 
   -- the same of items
-  pub AreItems-deeper : (syntax : Syntax) (levels more : ℕ) (parts : Items) → levels ≤ more → AreItems syntax levels parts → AreItems syntax more parts
+  pub AreItems-deeper : (syntax : Syntax) (levels more : ℕ) (parts : Items) → levels ≤ more
+      → AreItems syntax levels parts → AreItems syntax more parts
   AreItems-deeper syntax levels more no_items le h = tt
   AreItems-deeper syntax zero more (item form set rest) le h = absurd h
   AreItems-deeper syntax (suc levels) zero (item form set rest) le h = absurd (omega arith)
   AreItems-deeper syntax (suc levels) (suc more) (item form set rest) le h =
-      let fewer : levels ≤ more = omega arith in
-      (AreElements-deeper syntax levels more 0 set fewer h.0, h.1, AreItems-deeper syntax (suc levels) (suc more) rest le h.2)
+      let fewer : levels ≤ more = omega arith in (
+        AreElements-deeper syntax levels more 0 set fewer h.0,
+        h.1,
+        AreItems-deeper syntax (suc levels) (suc more) rest
+            le h.2,
+      )

@@ -8,23 +8,27 @@ use Rattle.dd_elem.specs.Tag.{number_of}
 use Rattle.dd_set.specs.declared.set.Element.{Element}
 use Rattle.dd_set.specs.declared.set.Item.{Item}
 use Rattle.dd_set.specs.declared.syntax.Syntax.{Syntax}
-use Rattle.dd_set.specs.Elements.{Elements, no_elements, element, Content, bytes, items, Items, no_items, item, Entry, Part}
+use Rattle.dd_set.specs.Elements.{Elements, no_elements, element, Content, bytes, items, Items, no_items, item, Entry}
+use Rattle.dd_set.specs.Elements.{Part}
 use Rattle.dd_set.specs.Find.{same_tag}
 use Rattle.dd_set.specs.Single.{entry_text, part_text, IsEntry, IsPart}
 use Rattle.dd_set.specs.Spelling.{elements_text, items_text, header_text, length_of, AreElements, AreItems}
 use Rattle.dd_set.specs.Starts.{places_in, content_places, item_places}
 use Rattle.dd_set.specs.Views.{element_view, elements_view, value_view, item_view, items_view}
-use Rattle.dd_set.proofs.Counting.{with_entry, with_part, entry_first, part_first, part_valid, elements_view-drop, elements_view-end}
+use Rattle.dd_set.proofs.Counting.{with_entry, with_part, entry_first, part_first, part_valid, elements_view-drop}
+use Rattle.dd_set.proofs.Counting.{elements_view-end}
 use Rattle.dd_set.proofs.Seen.{element_view-is}
 
 -- the places of items behind `at` bytes
 abbrev pub starts_from : ℕ → Items → List ℕ
 starts_from at no_items = []
-starts_from at (item form set rest) = at ∷ starts_from (at + length (part_text (record { length = form; set = set }))) rest
+starts_from at (item form set rest) = at ∷ starts_from (at + length (part_text (record { length = form; set = set })))
+    rest
 
 abbrev pub content_starts : ℕ → Tag → Option Vr → Content → Option (List ℕ)
 content_starts at tag vr (bytes v) = None
-content_starts at tag vr (items form parts) = Some (starts_from (at + length (header_text tag vr (length_of form (items_text parts)))) parts)
+content_starts at tag vr (items form parts) = Some (starts_from
+    (at + length (header_text tag vr (length_of form (items_text parts)))) parts)
 
 abbrev pub starts_in : Tag → ℕ → Elements → Option (List ℕ)
 starts_in wanted at no_elements = None
@@ -37,19 +41,24 @@ pub item_places-sums : (front : List ℕ) (parts : Items) → item_places front 
 item_places-sums front no_items = refl
 item_places-sums front (item form set rest) =
     let text = part_text (record { length = form; set = set }) in
-    ap (λ (starts : List ℕ). length front ∷ starts) (item_places-sums (front ++ text) rest ∙ ap (λ (n : ℕ). starts_from n rest) (length-append front text))
+    ap (λ (starts : List ℕ). length front ∷ starts) (item_places-sums (front ++ text) rest
+    ∙ ap (λ (n : ℕ). starts_from n rest) (length-append front text))
 
-pub content_places-sums : (front : List ℕ) (tag : Tag) (vr : Option Vr) (content : Content) → content_places front tag vr content ≡ content_starts (length front) tag vr content
+pub content_places-sums : (front : List ℕ) (tag : Tag) (vr : Option Vr) (content : Content)
+    → content_places front tag vr content ≡ content_starts (length front) tag vr content
 content_places-sums front tag vr (bytes v) = refl
 content_places-sums front tag vr (items form parts) =
     let text = header_text tag vr (length_of form (items_text parts)) in
-    ap (λ (starts : List ℕ). Some starts) (item_places-sums (front ++ text) parts ∙ ap (λ (n : ℕ). starts_from n parts) (length-append front text))
+    ap (λ (starts : List ℕ). Some starts) (item_places-sums (front ++ text) parts
+    ∙ ap (λ (n : ℕ). starts_from n parts) (length-append front text))
 
-pub places_in-sums : (wanted : Tag) (front : List ℕ) (es : Elements) → places_in wanted front es ≡ starts_in wanted (length front) es
+pub places_in-sums : (wanted : Tag) (front : List ℕ) (es : Elements)
+    → places_in wanted front es ≡ starts_in wanted (length front) es
 places_in-sums wanted front no_elements = refl
 places_in-sums wanted front (element tag vr content rest) =
     let text = entry_text (record { tag = tag; vr = vr; content = content }) in
-    rw (content_places-sums front tag vr content, places_in-sums wanted (front ++ text) rest, length-append front text) refl
+    rw (content_places-sums front tag vr content, places_in-sums wanted (front ++ text) rest, length-append front text)
+    refl
 
 -- as many as there are items
 pub item_places-length : (front : List ℕ) (xs : List Item) → length (item_places front (items_view xs)) ≡ length xs
@@ -59,87 +68,119 @@ item_places-length front (x ∷ xs) = ap suc (item_places-length (front ++ part_
 -- ---- items from left to right
 
 -- The items of a sequence are `all`, of which `rest` begin at the place `at`. The places of those before are `starts`.
-pub record Starting (syntax : Syntax) (levels first : ℕ) (all : Items) (starts : List ℕ) (at : ℕ) (rest : Items) : Type 0 where
+pub record Starting (syntax : Syntax) (levels first : ℕ) (all : Items) (starts : List ℕ) (at : ℕ) (rest : Items)
+    : Type 0 where
   pub valid : AreItems syntax levels rest
   pub fits : at + length (items_text rest) < 2 ^ 64
   pub so_far : starts ++ starts_from at rest ≡ starts_from first all
 
 -- one more
-pub starting_part : (syntax : Syntax) (levels first : ℕ) (all : Items) (starts : List ℕ) (at : ℕ) (p : Part) (rest : Items) → Starting syntax levels first all starts at (with_part p rest) → Starting syntax levels first all (starts ++ at ∷ []) (at + length (part_text p)) rest
+pub starting_part : (syntax : Syntax) (levels first : ℕ) (all : Items) (starts : List ℕ) (at : ℕ) (p : Part)
+    (rest : Items) → Starting syntax levels first all starts at (with_part p rest)
+    → Starting syntax levels first all (starts ++ at ∷ []) (at + length (part_text p)) rest
 starting_part syntax levels first all starts at p rest so = record {
   valid = (part_valid syntax levels p rest so.valid).1;
   fits =
-      let one : length (items_text (with_part p rest)) ≡ length (part_text p) + length (items_text rest) = ap length (part_first p rest) ∙ length-append (part_text p) (items_text rest) in
+      let one : length (items_text (with_part p rest)) ≡ length (part_text p) + length (items_text rest) =
+      ap length (part_first p rest) ∙ length-append (part_text p) (items_text rest) in
       omega (arith, one, so.fits);
   so_far = append_assoc starts (at ∷ []) (starts_from (at + length (part_text p)) rest) ∙ so.so_far;
 }
 
 -- the next item has a size
-pub starting_sized : (syntax : Syntax) (levels first : ℕ) (all : Items) (starts : List ℕ) (at : ℕ) (p : Part) (rest : Items) → Starting syntax levels first all starts at (with_part p rest) → IsPart syntax levels p × (at + length (part_text p) < 2 ^ 64)
+pub starting_sized : (syntax : Syntax) (levels first : ℕ) (all : Items) (starts : List ℕ) (at : ℕ) (p : Part)
+    (rest : Items) → Starting syntax levels first all starts at (with_part p rest) → IsPart syntax levels p
+    × (at + length (part_text p) < 2 ^ 64)
 starting_sized syntax levels first all starts at p rest so =
-    let one : length (items_text (with_part p rest)) ≡ length (part_text p) + length (items_text rest) = ap length (part_first p rest) ∙ length-append (part_text p) (items_text rest) in
+    let one : length (items_text (with_part p rest)) ≡ length (part_text p) + length (items_text rest) =
+    ap length (part_first p rest) ∙ length-append (part_text p) (items_text rest) in
     ((part_valid syntax levels p rest so.valid).0, omega (arith, one, so.fits))
 
 -- ---- elements from left to right
 
 -- The elements of a set are `all`, of which `rest` begin at the place `at`, and those before have another tag.
-pub record Seeking (syntax : Syntax) (levels : ℕ) (wanted : Tag) (first : ℕ) (all : Elements) (at : ℕ) (rest : Elements) : Type 0 where
+pub record Seeking (syntax : Syntax) (levels : ℕ) (wanted : Tag) (first : ℕ) (all : Elements) (at : ℕ) (rest : Elements)
+    : Type 0 where
   pub low : ℕ
   pub valid : AreElements syntax levels low rest
   pub fits : at + length (elements_text rest) < 2 ^ 64
   pub so_far : starts_in wanted at rest ≡ starts_in wanted first all
 
 -- one more
-pub seeking_entry : (syntax : Syntax) (levels : ℕ) (wanted : Tag) (first : ℕ) (all : Elements) (at : ℕ) (e : Entry) (rest : Elements) → Seeking syntax levels wanted first all at (with_entry e rest) → same_tag e.tag wanted ≡ false → Seeking syntax levels wanted first all (at + length (entry_text e)) rest
+pub seeking_entry : (syntax : Syntax) (levels : ℕ) (wanted : Tag) (first : ℕ) (all : Elements) (at : ℕ) (e : Entry)
+    (rest : Elements) → Seeking syntax levels wanted first all at (with_entry e rest) → same_tag e.tag wanted ≡ false
+    → Seeking syntax levels wanted first all (at + length (entry_text e)) rest
 seeking_entry syntax levels wanted first all at e rest so other = record {
   low = number_of e.tag + 1;
   valid = so.valid.5;
   fits =
-      let one : length (elements_text (with_entry e rest)) ≡ length (entry_text e) + length (elements_text rest) = ap length (entry_first e rest) ∙ length-append (entry_text e) (elements_text rest) in
+      let one : length (elements_text (with_entry e rest)) ≡ length (entry_text e) + length (elements_text rest) =
+      ap length (entry_first e rest) ∙ length-append (entry_text e) (elements_text rest) in
       omega (arith, one, so.fits);
   so_far =
-      let test = λ (b : Bool). if b then content_starts at e.tag e.vr e.content else starts_in wanted (at + length (entry_text e)) rest in
+      let test = λ (b : Bool). if b then content_starts at e.tag e.vr e.content else starts_in wanted
+      (at + length (entry_text e)) rest in
       sym (ap test other) ∙ so.so_far;
 }
 
 -- the next element has a size
-pub seeking_sized : (syntax : Syntax) (levels : ℕ) (wanted : Tag) (first : ℕ) (all : Elements) (at : ℕ) (e : Entry) (rest : Elements) → Seeking syntax levels wanted first all at (with_entry e rest) → IsEntry syntax levels 0 e × (at + length (entry_text e) < 2 ^ 64)
+pub seeking_sized : (syntax : Syntax) (levels : ℕ) (wanted : Tag) (first : ℕ) (all : Elements) (at : ℕ) (e : Entry)
+    (rest : Elements) → Seeking syntax levels wanted first all at (with_entry e rest) → IsEntry syntax levels 0 e
+    × (at + length (entry_text e) < 2 ^ 64)
 seeking_sized syntax levels wanted first all at e rest so =
-    let one : length (elements_text (with_entry e rest)) ≡ length (entry_text e) + length (elements_text rest) = ap length (entry_first e rest) ∙ length-append (entry_text e) (elements_text rest) in
+    let one : length (elements_text (with_entry e rest)) ≡ length (entry_text e) + length (elements_text rest) =
+    ap length (entry_first e rest) ∙ length-append (entry_text e) (elements_text rest) in
     ((omega arith, so.valid.1, so.valid.2, so.valid.3, so.valid.4), omega (arith, one, so.fits))
 
 -- it is the one
-pub seeking_found : (syntax : Syntax) (levels : ℕ) (wanted : Tag) (first : ℕ) (all : Elements) (at : ℕ) (e : Entry) (rest : Elements) → Seeking syntax levels wanted first all at (with_entry e rest) → same_tag e.tag wanted ≡ true → content_starts at e.tag e.vr e.content ≡ starts_in wanted first all
+pub seeking_found : (syntax : Syntax) (levels : ℕ) (wanted : Tag) (first : ℕ) (all : Elements) (at : ℕ) (e : Entry)
+    (rest : Elements) → Seeking syntax levels wanted first all at (with_entry e rest) → same_tag e.tag wanted ≡ true
+    → content_starts at e.tag e.vr e.content ≡ starts_in wanted first all
 seeking_found syntax levels wanted first all at e rest so same =
-    let test = λ (b : Bool). if b then content_starts at e.tag e.vr e.content else starts_in wanted (at + length (entry_text e)) rest in
+    let test = λ (b : Bool). if b then content_starts at e.tag e.vr e.content else starts_in wanted
+    (at + length (entry_text e)) rest in
     sym (ap test same) ∙ so.so_far
 
 -- ---- at a place of a list
 
 -- the next element of a list is not the one
-pub seek_more : (syntax : Syntax) (levels : ℕ) (wanted : Tag) (first : ℕ) (all : Elements) (at : ℕ) (es : List Element) (i : ℕ) (e : Element) (size : ℕ) → i < length es → e ≡ get_or es i e
-    → Seeking syntax levels wanted first all at (elements_view (drop i es)) → same_tag e.tag wanted ≡ false → size ≡ length (entry_text (element_view e)) → Seeking syntax levels wanted first all (at + size) (elements_view (drop (i + 1) es))
+pub seek_more : (syntax : Syntax) (levels : ℕ) (wanted : Tag) (first : ℕ) (all : Elements) (at : ℕ) (es : List Element)
+    (i : ℕ) (e : Element) (size : ℕ) → i < length es → e ≡ get_or es i e
+    → Seeking syntax levels wanted first all at (elements_view (drop i es)) → same_tag e.tag wanted ≡ false
+    → size ≡ length (entry_text (element_view e)) → Seeking syntax levels wanted first all (at + size)
+    (elements_view (drop (i + 1) es))
 seek_more syntax levels wanted first all at es i e size within is so other size_is =
     let rest = elements_view (drop (i + 1) es) in
-    let here : Seeking syntax levels wanted first all at (with_entry (element_view e) rest) = subst (Seeking syntax levels wanted first all at) (elements_view-drop es i e within is) so in
-    let tag : same_tag (element_view e).tag wanted ≡ false = ap (λ (x : Entry). same_tag x.tag wanted) (element_view-is e) ∙ other in
-    subst (λ (n : ℕ). Seeking syntax levels wanted first all (at + n) rest) (sym size_is) (seeking_entry syntax levels wanted first all at (element_view e) rest here tag)
+    let here : Seeking syntax levels wanted first all at (with_entry (element_view e) rest) =
+    subst (Seeking syntax levels wanted first all at) (elements_view-drop es i e within is) so in
+    let tag : same_tag (element_view e).tag wanted ≡ false =
+    ap (λ (x : Entry). same_tag x.tag wanted) (element_view-is e) ∙ other in
+    subst (λ (n : ℕ). Seeking syntax levels wanted first all (at + n) rest) (sym size_is)
+    (seeking_entry syntax levels wanted first all at (element_view e) rest here tag)
 
 -- the next element is the one: its places are those of the set, with any bytes of the right lengths before them
-pub seek_found : (syntax : Syntax) (levels : ℕ) (wanted : Tag) (first : ℕ) (all : Elements) (at : ℕ) (es : List Element) (i : ℕ) (e : Element) (before front : List ℕ) → i < length es → e ≡ get_or es i e
-    → Seeking syntax levels wanted first all at (elements_view (drop i es)) → same_tag e.tag wanted ≡ true → length before ≡ at → length front ≡ first → content_places before e.tag e.vr (value_view e.value) ≡ places_in wanted front all
+pub seek_found : (syntax : Syntax) (levels : ℕ) (wanted : Tag) (first : ℕ) (all : Elements) (at : ℕ) (es : List Element)
+    (i : ℕ) (e : Element) (before front : List ℕ) → i < length es → e ≡ get_or es i e
+    → Seeking syntax levels wanted first all at (elements_view (drop i es)) → same_tag e.tag wanted ≡ true
+    → length before ≡ at → length front ≡ first → content_places before e.tag e.vr (value_view e.value) ≡ places_in
+    wanted front all
 seek_found syntax levels wanted first all at es i e before front within is so same before_is front_is =
     let rest = elements_view (drop (i + 1) es) in
-    let here : Seeking syntax levels wanted first all at (with_entry (element_view e) rest) = subst (Seeking syntax levels wanted first all at) (elements_view-drop es i e within is) so in
-    let tag : same_tag (element_view e).tag wanted ≡ true = ap (λ (x : Entry). same_tag x.tag wanted) (element_view-is e) ∙ same in
-    content_places-sums before e.tag e.vr (value_view e.value) ∙ ap (λ (n : ℕ). content_starts n e.tag e.vr (value_view e.value)) before_is
+    let here : Seeking syntax levels wanted first all at (with_entry (element_view e) rest) =
+    subst (Seeking syntax levels wanted first all at) (elements_view-drop es i e within is) so in
+    let tag : same_tag (element_view e).tag wanted ≡ true = ap (λ (x : Entry). same_tag x.tag wanted)
+    (element_view-is e) ∙ same in
+    content_places-sums before e.tag e.vr (value_view e.value)
+    ∙ ap (λ (n : ℕ). content_starts n e.tag e.vr (value_view e.value)) before_is
     ∙ ap (λ (x : Entry). content_starts at x.tag x.vr x.content) (sym (element_view-is e))
     ∙ seeking_found syntax levels wanted first all at (element_view e) rest here tag
     ∙ ap (λ (n : ℕ). starts_in wanted n all) (sym front_is) ∙ sym (places_in-sums wanted front all)
 
 -- no element was the one
-pub seek_none : (syntax : Syntax) (levels : ℕ) (wanted : Tag) (first : ℕ) (all : Elements) (at : ℕ) (es : List Element) (i : ℕ) (front : List ℕ) → length es ≤ i
-    → Seeking syntax levels wanted first all at (elements_view (drop i es)) → length front ≡ first → None ≡ places_in wanted front all
+pub seek_none : (syntax : Syntax) (levels : ℕ) (wanted : Tag) (first : ℕ) (all : Elements) (at : ℕ) (es : List Element)
+    (i : ℕ) (front : List ℕ) → length es ≤ i
+    → Seeking syntax levels wanted first all at (elements_view (drop i es)) → length front ≡ first
+    → None ≡ places_in wanted front all
 seek_none syntax levels wanted first all at es i front past so front_is =
     ap (λ (rest : Elements). starts_in wanted at rest) (sym (elements_view-end es i past)) ∙ so.so_far
     ∙ ap (λ (n : ℕ). starts_in wanted n all) (sym front_is) ∙ sym (places_in-sums wanted front all)

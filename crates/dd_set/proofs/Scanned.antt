@@ -1,5 +1,7 @@
 -- What is told of a set, element by element.
-use Rattle.std.proofs.Common.{◌≡◌, ◌<◌, ◌≤◌, ℕ, suc, ◌+◌, ◌-◌, Bool, true, false, if◌then◌else◌, List, [], ◌∷◌, ◌++◌, length, map, filter, Option, Some, None, option_map, unwrap_or, Result, Ok, Err, refl, sym, ap, arith}
+use Rattle.std.proofs.Common.{◌≡◌, ◌<◌, ◌≤◌, ℕ, suc, ◌+◌, ◌-◌, Bool, true, false, if◌then◌else◌, List, [], ◌∷◌, ◌++◌}
+use Rattle.std.proofs.Common.{length, map, filter, Option, Some, None, option_map, unwrap_or, Result, Ok, Err, refl}
+use Rattle.std.proofs.Common.{sym, ap, arith}
 use Rattle.dd_elem.specs.declared.tag.Tag.{Tag}
 use Rattle.dd_elem.specs.Tag.{number_of}
 use Rattle.dd_set.specs.declared.checks.Sort.{Sort}
@@ -13,7 +15,8 @@ use Rattle.dd_set.specs.Elements.{Content, bytes, items, Entry, elements_of}
 use Rattle.dd_set.specs.Gives.{Fails}
 use Rattle.dd_set.specs.Reading.{Header, front_at, At, Reads, ◌>>=◌, SequenceReader, ItemReader, content_at, element_at}
 use Rattle.dd_set.specs.Reading.{elements_at, sequence_with, set_with, within}
-use Rattle.dd_set.specs.Scan.{Told, sequence, Hit, hit_of, is_wanted, hits_of, first_tag, first_of, told_of, value_told, told_where, noted, whole_with}
+use Rattle.dd_set.specs.Scan.{Told, sequence, Hit, hit_of, is_wanted, hits_of, first_tag, first_of, told_of, value_told}
+use Rattle.dd_set.specs.Scan.{told_where, noted, whole_with}
 use Rattle.dd_set.specs.Skips.{TellsValue}
 use Rattle.dd_set.proofs.Entries.{entries_of-elements_of}
 use Rattle.dd_set.proofs.Feeding.{bind_fails}
@@ -25,13 +28,15 @@ use Rattle.dd_set.proofs.Steps.{bind_ok, ok_is}
 -- ---- values
 
 -- a value of bytes
-pub tells_bytes : (r : Result (FoundValue × Option ℕ) SetFault) (read : Reads (List ℕ)) (rest : List ℕ) → TellsValue value_told (λ v. told_of (bytes v)) r read rest
+pub tells_bytes : (r : Result (FoundValue × Option ℕ) SetFault) (read : Reads (List ℕ)) (rest : List ℕ)
+    → TellsValue value_told (λ v. told_of (bytes v)) r read rest
     → TellsValue value_told told_of r (read >>= λ x. Ok (bytes x.0, x.1)) rest
 tells_bytes (Ok x) read rest h = (bytes h.0, h.1, rw h.2 refl)
 tells_bytes (Err e) read rest h = fails_along e _ _ h (λ f k. bind_fails read _ f k)
 
 -- a value that is not bytes is a sequence
-pub items_told : (read : SequenceReader) (sort : Sort) (at end : At) (y : Content) → ((n : ℕ) → sort ≡ sorts.Bytes n → ⊥) → sorted read (Ok sort) at ≡ Ok (y, end) → sequence ≡ told_of y
+pub items_told : (read : SequenceReader) (sort : Sort) (at end : At) (y : Content)
+    → ((n : ℕ) → sort ≡ sorts.Bytes n → ⊥) → sorted read (Ok sort) at ≡ Ok (y, end) → sequence ≡ told_of y
 items_told read (sorts.Bytes n) at end y other h = absurd (other n refl)
 items_told read (sorts.Open inner) at end y other h =
     let e = bind_ok (read inner Undefined at) (λ x. Ok (items Undefined x.0, x.1)) (y, end) h in
@@ -50,69 +55,98 @@ module _ (wanted : List Tag) where
   hits_one true e = refl
   hits_one false e = refl
 
-  hits_more : (b : Bool) (q e : Entry) (all some : List Entry) → map hit_of all ≡ map hit_of some ++ noted e.tag (told_where (is_wanted wanted e.tag) e.content)
-      → map hit_of (if b then (q ∷ all) else all) ≡ map hit_of (if b then (q ∷ some) else some) ++ noted e.tag (told_where (is_wanted wanted e.tag) e.content)
+  hits_more : (b : Bool) (q e : Entry) (all some : List Entry) → map hit_of all ≡ map hit_of some
+      ++ noted e.tag (told_where (is_wanted wanted e.tag) e.content)
+      → map hit_of (if b then (q ∷ all) else all) ≡ map hit_of (if b then (q ∷ some) else some)
+      ++ noted e.tag (told_where (is_wanted wanted e.tag) e.content)
   hits_more true q e all some h = ap (λ (hs : List Hit). hit_of q ∷ hs) h
   hits_more false q e all some h = h
 
-  hits_in-push : (es : List Entry) (e : Entry) → hits_in (es ++ e ∷ []) ≡ hits_in es ++ noted e.tag (told_where (is_wanted wanted e.tag) e.content)
+  hits_in-push : (es : List Entry) (e : Entry) → hits_in (es ++ e ∷ []) ≡ hits_in es
+      ++ noted e.tag (told_where (is_wanted wanted e.tag) e.content)
   unfolding hits_in
   hits_in-push [] e = hits_one (is_wanted wanted e.tag) e
-  hits_in-push (q ∷ qs) e = hits_more (is_wanted wanted q.tag) q e (filter (λ x. is_wanted wanted x.tag) (qs ++ e ∷ [])) (filter (λ x. is_wanted wanted x.tag) qs) (hits_in-push qs e)
+  hits_in-push (q ∷ qs) e = hits_more (is_wanted wanted q.tag) q e (filter (λ x. is_wanted wanted x.tag) (qs ++ e ∷ []))
+      (filter (λ x. is_wanted wanted x.tag) qs) (hits_in-push qs e)
 
-  hits_of-push : (front : List Entry) (e : Entry) → hits_of wanted (elements_of (front ++ e ∷ [])) ≡ hits_of wanted (elements_of front) ++ noted e.tag (told_where (is_wanted wanted e.tag) e.content)
+  hits_of-push : (front : List Entry) (e : Entry) → hits_of wanted (elements_of (front ++ e ∷ [])) ≡ hits_of wanted
+      (elements_of front) ++ noted e.tag (told_where (is_wanted wanted e.tag) e.content)
   unfolding hits_in
-  hits_of-push front e = rw (entries_of-elements_of (front ++ e ∷ []), entries_of-elements_of front) (hits_in-push front e)
+  hits_of-push front e = rw (entries_of-elements_of (front ++ e ∷ []), entries_of-elements_of front)
+      (hits_in-push front e)
 
-first_tag-push : (front : List Entry) (e : Entry) → first_tag (front ++ e ∷ []) ≡ Some (unwrap_or (first_tag front) e.tag)
+first_tag-push : (front : List Entry) (e : Entry) → first_tag (front ++ e ∷ []) ≡ Some
+    (unwrap_or (first_tag front) e.tag)
 first_tag-push [] e = refl
 first_tag-push (q ∷ qs) e = refl
 
-first_of-push : (front : List Entry) (e : Entry) → first_of (elements_of (front ++ e ∷ [])) ≡ Some (unwrap_or (first_of (elements_of front)) e.tag)
-first_of-push front e = rw (entries_of-elements_of (front ++ e ∷ []), entries_of-elements_of front) (first_tag-push front e)
+first_of-push : (front : List Entry) (e : Entry) → first_of (elements_of (front ++ e ∷ [])) ≡ Some
+    (unwrap_or (first_of (elements_of front)) e.tag)
+first_of-push front e = rw (entries_of-elements_of (front ++ e ∷ []), entries_of-elements_of front)
+    (first_tag-push front e)
 
 -- an element with this header was read, this is told of its value, and bytes went with it
-pub record ValueStep (reader : SequenceReader) (syntax : Syntax) (low : ℕ) (left : Option ℕ) (header : Header) (told : Option Told) (keeps : Bool) (all : List ℕ) (now : Option ℕ) (rest : List ℕ) : Type 0 where
+pub record ValueStep (reader : SequenceReader) (syntax : Syntax) (low : ℕ) (left : Option ℕ) (header : Header)
+    (told : Option Told) (keeps : Bool) (all : List ℕ) (now : Option ℕ) (rest : List ℕ) : Type 0 where
   pub content : Content
   pub tells : told ≡ told_where keeps content
-  pub read : element_at reader syntax Defined low (record { left = left; bytes = all }) ≡ Ok (Some (record { tag = header.tag; vr = header.shape.vr; content = content }), record { left = now; bytes = rest })
+  pub read : element_at reader syntax Defined low (record { left = left; bytes = all }) ≡ Ok
+      (Some (record { tag = header.tag; vr = header.shape.vr; content = content }), record { left = now; bytes = rest })
   pub shorter : length rest < length all
 
-pub value_steps : (reader : SequenceReader) (syntax : Syntax) (low : ℕ) (left : Option ℕ) (header : Header) (value : Option FoundValue) (keeps : Bool) (all : List ℕ) (behind now : Option ℕ) (mid rest : List ℕ)
-    → front_at syntax Defined low (record { left = left; bytes = all }) ≡ Ok (Some header, record { left = behind; bytes = mid })
-    → TellsValue (option_map value_told) (told_where keeps) (Ok (value, now)) (content_at reader syntax header.shape (record { left = behind; bytes = mid })) rest → length rest ≤ length mid
+pub value_steps : (reader : SequenceReader) (syntax : Syntax) (low : ℕ) (left : Option ℕ) (header : Header)
+    (value : Option FoundValue) (keeps : Bool) (all : List ℕ) (behind now : Option ℕ) (mid rest : List ℕ)
+    → front_at syntax Defined low (record { left = left; bytes = all }) ≡ Ok
+    (Some header, record { left = behind; bytes = mid })
+    → TellsValue (option_map value_told) (told_where keeps) (Ok (value, now))
+    (content_at reader syntax header.shape (record { left = behind; bytes = mid })) rest → length rest ≤ length mid
     → ValueStep reader syntax low left header (option_map value_told value) keeps all now rest
 value_steps reader syntax low left header value keeps all behind now mid rest h k few = record {
   content = k.0;
   tells = k.1;
-  read = element_found reader syntax Defined low (record { left = left; bytes = all }) header (record { left = behind; bytes = mid }) (record { left = now; bytes = rest }) k.0 h k.2;
+  read = element_found reader syntax Defined low (record { left = left; bytes = all }) header
+      (record { left = behind; bytes = mid }) (record { left = now; bytes = rest }) k.0 h k.2;
   shorter = omega (arith, (front_shortens syntax Defined low (record { left = left; bytes = all })).left header _ h);
 }
 
 -- some elements were read, this is told of them, and those that reading gives from here are the others
-pub record ScanGo (wanted : List Tag) (part : ItemReader) (syntax : Syntax) (all : List ℕ) (low : ℕ) (left : Option ℕ) (first : Option Tag) (hits : List Hit) (rest : List ℕ) : Type 0 where
+pub record ScanGo (wanted : List Tag) (part : ItemReader) (syntax : Syntax) (all : List ℕ) (low : ℕ) (left : Option ℕ)
+    (first : Option Tag) (hits : List Hit) (rest : List ℕ) : Type 0 where
   pub most : ℕ
   pub front : List Entry
   pub enough : length rest < most
-  pub so_far : with_elements front (elements_at (sequence_with part) syntax Defined most low (record { left = left; bytes = rest })) ≡ set_with part syntax Defined (record { left = None; bytes = all })
+  pub so_far : with_elements front (elements_at (sequence_with part) syntax Defined most low
+      (record { left = left; bytes = rest })) ≡ set_with part syntax Defined (record { left = None; bytes = all })
   pub first_is : first ≡ first_of (elements_of front)
   pub hits_are : hits ≡ hits_of wanted (elements_of front)
 
 module _ (wanted : List Tag) (part : ItemReader) (syntax : Syntax) where
   pub scan_start : (all : List ℕ) → ScanGo wanted part syntax all 0 None None [] all
-  scan_start all = record { most = suc (length all); front = []; enough = omega arith; so_far = with_no_elements _; first_is = refl; hits_are = refl }
+  scan_start all = record {
+    most = suc (length all);
+    front = [];
+    enough = omega arith;
+    so_far =
+        with_no_elements _;
+    first_is = refl;
+    hits_are = refl;
+  }
 
   module _ (all : List ℕ) (left : Option ℕ) (first : Option Tag) (hits : List Hit) (mid : List ℕ) (low : ℕ) where
-    pub scan_go : (header : Header) (told : Option Told) (now : Option ℕ) (rest : List ℕ) → ScanGo wanted part syntax all low left first hits mid
+    pub scan_go : (header : Header) (told : Option Told) (now : Option ℕ) (rest : List ℕ)
+        → ScanGo wanted part syntax all low left first hits mid
         → ValueStep (sequence_with part) syntax low left header told (is_wanted wanted header.tag) mid now rest
-        → ScanGo wanted part syntax all (number_of header.tag + 1) now (Some (unwrap_or first header.tag)) (hits ++ noted header.tag told) rest
+        → ScanGo wanted part syntax all (number_of header.tag + 1) now (Some (unwrap_or first header.tag))
+        (hits ++ noted header.tag told) rest
     scan_go header told now rest go step =
         let e : Entry = record { tag = header.tag; vr = header.shape.vr; content = step.content } in
         record {
           most = go.most - 1;
           front = go.front ++ e ∷ [];
           enough = omega (arith, step.shorter, go.enough);
-          so_far = elements_more (sequence_with part) syntax Defined (length mid) go.most low go.front (record { left = left; bytes = mid }) (record { left = now; bytes = rest }) e _ go.enough step.read go.so_far;
+          so_far = elements_more (sequence_with part) syntax Defined (length mid) go.most low go.front
+              (record { left = left; bytes = mid }) (record { left = now; bytes = rest }) e _ go.enough step.read
+              go.so_far;
           first_is = rw go.first_is (sym (first_of-push go.front e));
           hits_are = rw (go.hits_are, step.tells) (sym (hits_of-push wanted go.front e));
         }
@@ -121,11 +155,14 @@ module _ (wanted : List Tag) (part : ItemReader) (syntax : Syntax) where
         → element_at (sequence_with part) syntax Defined low (record { left = left; bytes = mid }) ≡ Ok (None, end)
         → whole_with part syntax all ≡ Ok (elements_of go.front)
     scan_end end go h =
-        let done = elements_done (sequence_with part) syntax Defined (length mid) go.most low go.front (record { left = left; bytes = mid }) end _ go.enough h go.so_far in
+        let done = elements_done (sequence_with part) syntax Defined (length mid) go.most low go.front
+        (record { left = left; bytes = mid }) end _ go.enough h go.so_far in
         rw done refl
 
     pub scan_stop : (e : SetFault) → ScanGo wanted part syntax all low left first hits mid
-        → Fails e (element_at (sequence_with part) syntax Defined low (record { left = left; bytes = mid })) → Fails e (whole_with part syntax all)
+        → Fails e (element_at (sequence_with part) syntax Defined low (record { left = left; bytes = mid }))
+        → Fails e (whole_with part syntax all)
     scan_stop e go h =
-        let failed = elements_fail (sequence_with part) syntax Defined (length mid) go.most low go.front (record { left = left; bytes = mid }) _ e go.enough h go.so_far in
+        let failed = elements_fail (sequence_with part) syntax Defined (length mid) go.most low go.front
+        (record { left = left; bytes = mid }) _ e go.enough h go.so_far in
         fails_along e _ _ failed (λ f k. bind_fails _ _ f k)

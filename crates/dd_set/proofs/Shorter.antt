@@ -1,5 +1,6 @@
 -- No step of reading gives bytes back, and a header takes some.
-use Rattle.std.proofs.Common.{◌≡◌, ◌<◌, ◌≤◌, ◌+◌, ℕ, Bool, true, false, if◌then◌else◌, List, length, take, drop, Option, Some, None, Ok, Err, refl, ap, nat_lt, ◌==◌, arith}
+use Rattle.std.proofs.Common.{◌≡◌, ◌<◌, ◌≤◌, ◌+◌, ℕ, Bool, true, false, if◌then◌else◌, List, length, take, drop, Option}
+use Rattle.std.proofs.Common.{Some, None, Ok, Err, refl, ap, nat_lt, ◌==◌, arith}
 use Rattle.std.proofs.lemmas.Bool.{ltb-false}
 use Rattle.std.proofs.lemmas.List.{length-drop}
 use Rattle.dd_elem.specs.declared.vr.Vr.{Vr}
@@ -26,19 +27,25 @@ pub record Shortens {X : Type 0} (n : ℕ) (r : Reads (Option X)) : Type 0 where
 
 -- nothing is not something
 nothing_read : {X : Type 0} (x : X) (a b : At) → ◌≡◌ {A = Reads (Option X)} (Ok (None, a)) (Ok (Some x, b)) → ⊥
-nothing_read {X = X} x a b h = let e : ◌≡◌ {A = Option X} None (Some x) = ap (λ (y : Option X × At). y.0) (ok_is _ _ h) in absurd cc
+nothing_read {X = X} x a b h = let e : ◌≡◌ {A = Option X} None (Some x) = ap (λ (y : Option X × At). y.0) (ok_is _ _ h)
+    in absurd cc
 
 at_most_here : {X : Type 0} (x : X × At) → AtMost (length x.1.bytes) (Ok x)
-at_most_here x = record { left = λ y e. let same = ok_is _ _ e in omega (arith, ap (λ (z : _ × At). length z.1.bytes) same) }
+at_most_here x = record {
+  left = λ y e. let same = ok_is _ _ e in
+      omega (arith, ap (λ (z : _ × At). length z.1.bytes) same);
+}
 
 at_most_none : {X : Type 0} (n : ℕ) (e : SetFault) → AtMost {X = X} n (Err e)
 at_most_none n e = record { left = λ y h. absurd cc }
 
-at_most_either : {X : Type 0} (n : ℕ) (b : Bool) (r s : Reads X) → AtMost n r → AtMost n s → AtMost n (if b then r else s)
+at_most_either : {X : Type 0} (n : ℕ) (b : Bool) (r s : Reads X) → AtMost n r → AtMost n s
+    → AtMost n (if b then r else s)
 at_most_either n true r s h k = h
 at_most_either n false r s h k = k
 
-at_most_then : {X Y : Type 0} (n : ℕ) (r : Reads X) (f : X × At → Reads Y) → AtMost n r → ((x : X × At) → AtMost (length x.1.bytes) (f x)) → AtMost n (r >>= f)
+at_most_then : {X Y : Type 0} (n : ℕ) (r : Reads X) (f : X × At → Reads Y) → AtMost n r
+    → ((x : X × At) → AtMost (length x.1.bytes) (f x)) → AtMost n (r >>= f)
 at_most_then n (Ok x) f h k = record { left = λ y e. omega (arith, (k x).left y e, h.left x refl) }
 at_most_then n (Err e) f h k = record { left = λ y h. absurd cc }
 
@@ -60,21 +67,24 @@ shape_at_most Implicit head at = at_most_here (_, at)
 shape_at_most Explicit head at = explicit (vr_of (take 2 (drop 4 head)))
   where
     long : (vr : Vr) → AtMost (length at.bytes) (long_at vr head at)
-    long vr = at_most_either _ _ _ _ (at_most_then _ (long_length_at at) _ (at_most_then _ (take_at 4 at) _ (take_at_most 4 at) (λ x. at_most_here (_, x.1)))
+    long vr = at_most_either _ _ _ _ (at_most_then _ (long_length_at at) _
+        (at_most_then _ (take_at 4 at) _ (take_at_most 4 at) (λ x. at_most_here (_, x.1)))
         (λ x. at_most_here (_, x.1))) (at_most_none _ _)
 
     explicit : (o : Option Vr) → AtMost (length at.bytes) (explicit_at o head at)
     explicit None = at_most_none _ _
     explicit (Some vr) = at_most_either _ _ _ _ (long vr) (at_most_here (_, at))
 
-header_at_most : (syntax : Syntax) (low : ℕ) (head : List ℕ) (at : At) → AtMost (length at.bytes) (header_at syntax low head at)
+header_at_most : (syntax : Syntax) (low : ℕ) (head : List ℕ) (at : At)
+    → AtMost (length at.bytes) (header_at syntax low head at)
 unfolding header_at
 header_at_most syntax low head at =
     at_most_either _ ((tag_of head).group == delimiter_group) _ _ (at_most_none _ UnexpectedTag)
     (at_most_either _ (nat_lt (number_of (tag_of head)) low) _ _ (at_most_none _ Order)
     (at_most_then _ _ (header_with (tag_of head)) (shape_at_most syntax head at) (λ x. at_most_here (_, x.1))))
 
-opening_at_most : (syntax : Syntax) (form : Length) (low : ℕ) (head : List ℕ) (at : At) → AtMost (length at.bytes) (opening_at syntax form low head at)
+opening_at_most : (syntax : Syntax) (form : Length) (low : ℕ) (head : List ℕ) (at : At)
+    → AtMost (length at.bytes) (opening_at syntax form low head at)
 unfolding opening_at
 opening_at_most syntax form low head at =
     at_most_either _ _ _ _ (at_most_either _ _ _ _ (at_most_here (None, at)) (at_most_none _ _))
@@ -82,11 +92,13 @@ opening_at_most syntax form low head at =
 
 -- ---- headers
 
-head_shortens : (form : Length) (at end : At) (head : List ℕ) → head_at form at ≡ Ok (Some head, end) → length end.bytes < length at.bytes
+head_shortens : (form : Length) (at end : At) (head : List ℕ) → head_at form at ≡ Ok (Some head, end)
+    → length end.bytes < length at.bytes
 unfolding head_at
 head_shortens form at end head = go (is_over form at)
   where
-    go : (b : Bool) → (if b then Ok (None, at) else eight_at at) ≡ Ok (Some head, end) → length end.bytes < length at.bytes
+    go : (b : Bool) → (if b then Ok (None, at) else eight_at at) ≡ Ok (Some head, end)
+        → length end.bytes < length at.bytes
     go true h = absurd (nothing_read head at end h)
     go false h =
         let e = bind_ok (take_at 8 at) there (Some head, end) h in
@@ -94,7 +106,8 @@ head_shortens form at end head = go (is_over form at)
         omega (arith, take_fewer 8 at e.0.1 e.0.0 e.1, ap (λ (a : At). length a.bytes) same)
 
 -- the header of an element takes bytes
-pub front_shortens : (syntax : Syntax) (form : Length) (low : ℕ) (at : At) → Shortens (length at.bytes) (front_at syntax form low at)
+pub front_shortens : (syntax : Syntax) (form : Length) (low : ℕ) (at : At)
+    → Shortens (length at.bytes) (front_at syntax form low at)
 unfolding front_at
 front_shortens syntax form low at = record {
   left = λ header end h.
@@ -102,9 +115,14 @@ front_shortens syntax form low at = record {
       go e.0.0 e.0.1 header end e.1 e.2;
 }
   where
-    go : (o : Option (List ℕ)) (mid : At) (header : Header) (end : At) → head_at form at ≡ Ok (o, mid) → behind_head syntax form low (o, mid) ≡ Ok (Some header, end) → length end.bytes < length at.bytes
+    go : (o : Option (List ℕ)) (mid : At) (header : Header) (end : At) → head_at form at ≡ Ok (o, mid)
+        → behind_head syntax form low (o, mid) ≡ Ok (Some header, end) → length end.bytes < length at.bytes
     go None mid header end e h = absurd (nothing_read header mid end h)
-    go (Some head) mid header end e h = omega (arith, head_shortens form at mid head e, (opening_at_most syntax form low head mid).left (Some header, end) h)
+    go (Some head) mid header end e h = omega (
+      arith,
+      head_shortens form at mid head e,
+      (opening_at_most syntax form low head mid).left (Some header, end) h,
+    )
 
 -- the header of an item takes bytes
 pub item_front_shortens : (form : Length) (at : At) → Shortens (length at.bytes) (item_front_at form at)
@@ -115,7 +133,8 @@ item_front_shortens form at = record {
       go e.0.0 e.0.1 n end e.1 e.2;
 }
   where
-    go : (o : Option (List ℕ)) (mid : At) (n : ℕ) (end : At) → head_at form at ≡ Ok (o, mid) → behind_item_head form (o, mid) ≡ Ok (Some n, end) → length end.bytes < length at.bytes
+    go : (o : Option (List ℕ)) (mid : At) (n : ℕ) (end : At) → head_at form at ≡ Ok (o, mid)
+        → behind_item_head form (o, mid) ≡ Ok (Some n, end) → length end.bytes < length at.bytes
     go None mid n end e h = absurd (nothing_read n mid end h)
     go (Some head) mid n end e h =
         let b = bind_ok (item_opening form head) _ (Some n, end) h in

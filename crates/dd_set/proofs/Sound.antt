@@ -1,5 +1,7 @@
 -- What is read is spelled so: reading that gives a set took the spelling of that set, level by level.
-use Rattle.std.proofs.Common.{◌≡◌, ◌≢◌, ℕ, zero, suc, ◌+◌, ◌%◌, ◌^◌, ◌<◌, ◌≤◌, true, false, nat_lt, ◌==◌, if◌then◌else◌, List, [], ◌++◌, length, drop, Option, Some, None, IsSomeAnd, Ok, Err, refl, sym, ap, subst, ◌∙◌, append_assoc, append-nil, arith, inl, inr}
+use Rattle.std.proofs.Common.{◌≡◌, ◌≢◌, ℕ, zero, suc, ◌+◌, ◌%◌, ◌^◌, ◌<◌, ◌≤◌, true, false, nat_lt, ◌==◌, if◌then◌else◌}
+use Rattle.std.proofs.Common.{List, [], ◌++◌, length, drop, Option, Some, None, IsSomeAnd, Ok, Err, refl, sym, ap}
+use Rattle.std.proofs.Common.{subst, ◌∙◌, append_assoc, append-nil, arith, inl, inr}
 use Rattle.std.proofs.lemmas.Bool.{eqb-true, eqb-false, ltb-false}
 use Rattle.std.proofs.lemmas.List.{take-append-drop, nil_from_length}
 use Rattle.byteorder.specs.Endian.{little_bytes}
@@ -12,8 +14,12 @@ use Rattle.dd_set.specs.declared.syntax.Length.TheVariants.{Defined, Undefined}
 use Rattle.dd_set.specs.declared.syntax.Syntax.{Syntax}
 use Rattle.dd_set.specs.declared.syntax.Syntax.TheVariants.{Explicit, Implicit}
 use Rattle.dd_set.specs.Bytes.{AreBytes}
-use Rattle.dd_set.specs.Elements.{Elements, no_elements, element, Content, bytes, items, Items, no_items, item, Entry, Part}
-use Rattle.dd_set.specs.Spelling.{undefined_length, delimiter_group, tag_text, shape_text, item_tag_text, item_end_text, sequence_end_text, length_of, closed, elements_text, content_text, items_text, FitsLong, length_limit, explicit_item_syntax, item_syntax, HoldsBytes, max_levels, AreElements, IsContent, AreItems}
+use Rattle.dd_set.specs.Elements.{Elements, no_elements, element, Content, bytes, items, Items, no_items, item, Entry}
+use Rattle.dd_set.specs.Elements.{Part}
+use Rattle.dd_set.specs.Spelling.{undefined_length, delimiter_group, tag_text, shape_text, item_tag_text, item_end_text}
+use Rattle.dd_set.specs.Spelling.{sequence_end_text, length_of, closed, elements_text, content_text, items_text}
+use Rattle.dd_set.specs.Spelling.{FitsLong, length_limit, explicit_item_syntax, item_syntax, HoldsBytes, max_levels}
+use Rattle.dd_set.specs.Spelling.{AreElements, IsContent, AreItems}
 use Rattle.dd_set.specs.Reading.{◌>>=◌, At, Reads, leaves_fewer, take_at, tag_of, long_of, is_item, no_byte_left}
 use Rattle.dd_set.specs.Reading.{is_over, Shape, shape_at, SequenceReader, SetReader, ItemReader, within, undefined_at}
 use Rattle.dd_set.specs.Reading.{defined_at, content_at, ends_set, element_at, next_elements, elements_at}
@@ -22,7 +28,8 @@ use Rattle.dd_set.specs.Reading.{item_reader, read_all}
 use Rattle.dd_set.proofs.Cut.{body_at, whole_element, element_is, whole_item, item_is}
 use Rattle.dd_set.proofs.Steps.{bind_ok, passes, allowed, chosen, ok_is, short_below, long_below, AreBytes-drop}
 use Rattle.dd_set.proofs.Taken.{Leaves, Takes, Takes-none, Takes-then, taken, Ends, closed-append, within_takes}
-use Rattle.dd_set.proofs.HeaderLaws.{head_tag, head_is, HasForm, width_limit, width_at_most, within_limit, Shaped, shape_takes}
+use Rattle.dd_set.proofs.HeaderLaws.{head_tag, head_is, HasForm, width_limit, width_at_most, within_limit, Shaped}
+use Rattle.dd_set.proofs.HeaderLaws.{shape_takes}
 
 -- ---- the parts of a spelling
 
@@ -36,7 +43,8 @@ content_length (bytes v) = length v
 content_length (items form parts) = length_of form (items_text parts)
 
 -- a header's rest and a value are these two
-pub content_parts : (vr : Option Vr) (c : Content) → content_text vr c ≡ shape_text vr (content_length c) ++ content_body c
+pub content_parts : (vr : Option Vr) (c : Content) → content_text vr c ≡ shape_text vr (content_length c)
+    ++ content_body c
 content_parts vr (bytes v) = refl
 content_parts vr (items form parts) = refl
 
@@ -46,7 +54,8 @@ entry_text e = tag_text e.tag ++ content_text e.vr e.content
 
 -- an element that a set may have, with a tag not below `low`
 abbrev pub IsEntry : Syntax → ℕ → ℕ → Entry → Type 0
-IsEntry syntax d low e = (low ≤ number_of e.tag) × (e.tag.group < 2 ^ 16) × (e.tag.element < 2 ^ 16) × (e.tag.group ≢ delimiter_group) × IsContent syntax d e.vr e.content
+IsEntry syntax d low e = (low ≤ number_of e.tag) × (e.tag.group < 2 ^ 16) × (e.tag.element < 2 ^ 16)
+    × (e.tag.group ≢ delimiter_group) × IsContent syntax d e.vr e.content
 
 -- an item by itself: behind its header, the length that its header gives, and all of it
 abbrev pub part_body : Part → List ℕ
@@ -64,7 +73,8 @@ IsPart syntax zero p = ⊥
 IsPart syntax (suc d) p = AreElements syntax d 0 p.set × FitsLong p.length (elements_text p.set)
 
 -- one more item
-pub AreItems-more : (syntax : Syntax) (d : ℕ) (p : Part) (rest : Items) → IsPart syntax d p → AreItems syntax d rest → AreItems syntax d (item p.length p.set rest)
+pub AreItems-more : (syntax : Syntax) (d : ℕ) (p : Part) (rest : Items) → IsPart syntax d p → AreItems syntax d rest
+    → AreItems syntax d (item p.length p.set rest)
 AreItems-more syntax zero p rest h k = h
 AreItems-more syntax (suc d) p rest h k = (h.0, h.1, k)
 
@@ -72,41 +82,57 @@ AreItems-more syntax (suc d) p rest h k = (h.0, h.1, k)
 
 -- a sequence that was read
 abbrev pub SequenceTaken : Syntax → ℕ → Length → At → Items → At → Type 0
-SequenceTaken syntax d form at parts next = Takes at (closed form sequence_end_text (items_text parts)) next × AreItems syntax d parts × Ends form next
+SequenceTaken syntax d form at parts next = Takes at (closed form sequence_end_text (items_text parts)) next
+    × AreItems syntax d parts × Ends form next
 
 abbrev pub SequenceLaw : ℕ → SequenceReader → Type 0
-SequenceLaw d read = (syntax : Syntax) (form : Length) (at : At) (x : Items × At) → AreBytes at.bytes → read syntax form at ≡ Ok x → SequenceTaken syntax d form at x.0 x.1
+SequenceLaw d read = (syntax : Syntax) (form : Length) (at : At) (x : Items × At) → AreBytes at.bytes
+    → read syntax form at ≡ Ok x → SequenceTaken syntax d form at x.0 x.1
 
 -- a set that was read
 abbrev pub SetTaken : Syntax → ℕ → Length → ℕ → At → Elements → At → Type 0
-SetTaken syntax d form low at set next = Takes at (closed form item_end_text (elements_text set)) next × AreElements syntax d low set × Ends form next
+SetTaken syntax d form low at set next = Takes at (closed form item_end_text (elements_text set)) next
+    × AreElements syntax d low set × Ends form next
 
 abbrev pub SetLaw : ℕ → SetReader → Type 0
-SetLaw d read = (syntax : Syntax) (form : Length) (at : At) (x : Elements × At) → AreBytes at.bytes → read syntax form at ≡ Ok x → SetTaken syntax d form 0 at x.0 x.1
+SetLaw d read = (syntax : Syntax) (form : Length) (at : At) (x : Elements × At) → AreBytes at.bytes
+    → read syntax form at ≡ Ok x → SetTaken syntax d form 0 at x.0 x.1
 
 -- an item that was read behind a header with this length
 abbrev pub PartTaken : Syntax → ℕ → ℕ → At → Part → At → Type 0
 PartTaken syntax d n at p next = Takes at (part_body p) next × (n ≡ part_length p) × IsPart syntax d p
 
 abbrev pub PartLaw : ℕ → ItemReader → Type 0
-PartLaw d read = (syntax : Syntax) (n : ℕ) (at : At) (x : Part × At) → AreBytes at.bytes → n < 2 ^ 32 → read syntax n at ≡ Ok x → PartTaken syntax d n at x.0 x.1
+PartLaw d read = (syntax : Syntax) (n : ℕ) (at : At) (x : Part × At) → AreBytes at.bytes → n < 2 ^ 32
+    → read syntax n at ≡ Ok x → PartTaken syntax d n at x.0 x.1
 
 -- ---- ends
 
 -- a set or a sequence that is over where its length says so
-over_ends : (form : Length) (mark : List ℕ) (at : At) → AreBytes at.bytes → is_over form at ≡ true → Takes at (closed form mark []) at × Ends form at
+over_ends : (form : Length) (mark : List ℕ) (at : At) → AreBytes at.bytes → is_over form at ≡ true
+    → Takes at (closed form mark []) at × Ends form at
 over_ends Undefined mark at fits over = absurd cc
 over_ends Defined mark at fits over = (Takes-none at fits, over)
 
 -- the eight bytes of the delimiter of a set
-set_mark : (form : Length) (head : List ℕ) → length head ≡ 8 → AreBytes head → ends_set form head ≡ true → (long_of head == 0) ≡ true → (head ≡ closed form item_end_text []) × (form ≡ Undefined)
+set_mark : (form : Length) (head : List ℕ) → length head ≡ 8 → AreBytes head → ends_set form head ≡ true
+    → (long_of head == 0) ≡ true → (head ≡ closed form item_end_text []) × (form ≡ Undefined)
 set_mark Defined head len fits is none = absurd cc
-set_mark Undefined head len fits is none = (head_is head 0xfffe 0xe00d len fits is ∙ ap (λ (n : ℕ). (little_bytes 2 0xfffe ++ little_bytes 2 0xe00d) ++ little_bytes 4 n) (eqb-true _ _ none), refl)
+set_mark Undefined head len fits is none = (
+  head_is head 0xfffe 0xe00d len fits is
+      ∙ ap (λ (n : ℕ). (little_bytes 2 0xfffe ++ little_bytes 2 0xe00d) ++ little_bytes 4 n) (eqb-true _ _ none),
+  refl,
+)
 
 -- the same of a sequence
-sequence_mark : (form : Length) (head : List ℕ) → length head ≡ 8 → AreBytes head → ends_sequence form head ≡ true → (long_of head == 0) ≡ true → (head ≡ closed form sequence_end_text []) × (form ≡ Undefined)
+sequence_mark : (form : Length) (head : List ℕ) → length head ≡ 8 → AreBytes head → ends_sequence form head ≡ true
+    → (long_of head == 0) ≡ true → (head ≡ closed form sequence_end_text []) × (form ≡ Undefined)
 sequence_mark Defined head len fits is none = absurd cc
-sequence_mark Undefined head len fits is none = (head_is head 0xfffe 0xe0dd len fits is ∙ ap (λ (n : ℕ). (little_bytes 2 0xfffe ++ little_bytes 2 0xe0dd) ++ little_bytes 4 n) (eqb-true _ _ none), refl)
+sequence_mark Undefined head len fits is none = (
+  head_is head 0xfffe 0xe0dd len fits is
+      ∙ ap (λ (n : ℕ). (little_bytes 2 0xfffe ++ little_bytes 2 0xe0dd) ++ little_bytes 4 n) (eqb-true _ _ none),
+  refl,
+)
 
 -- a delimiter ends what has no defined length
 ends_undefined : (form : Length) (at : At) → form ≡ Undefined → Ends form at
@@ -115,16 +141,19 @@ ends_undefined form at e = subst (λ (f : Length). Ends f at) (sym e) tt
 -- ---- an element
 
 -- where no sequence may follow a header there are bytes
-holds_bytes : (syntax : Syntax) (vr : Option Vr) → HasForm syntax vr → item_syntax syntax vr Defined ≡ None → HoldsBytes syntax vr
+holds_bytes : (syntax : Syntax) (vr : Option Vr) → HasForm syntax vr → item_syntax syntax vr Defined ≡ None
+    → HoldsBytes syntax vr
 holds_bytes Explicit None h e = absurd h
-holds_bytes Explicit (Some vr) h e = λ is. let both : ◌≡◌ {A = Option Syntax} (Some Explicit) None = sym (ap (λ (v : Vr). explicit_item_syntax v Defined) is) ∙ e in absurd cc
+holds_bytes Explicit (Some vr) h e = λ is. let both : ◌≡◌ {A = Option Syntax} (Some Explicit) None =
+    sym (ap (λ (v : Vr). explicit_item_syntax v Defined) is) ∙ e in absurd cc
 holds_bytes Implicit None h e = tt
 holds_bytes Implicit (Some vr) h e = absurd h
 
 -- a header in two parts, and the value behind it
 regroup : (h t r x b s : List ℕ) → h ≡ t ++ r → r ++ x ≡ s → h ++ (x ++ b) ≡ t ++ (s ++ b)
 regroup h t r x b s p q =
-    ap (λ (y : List ℕ). y ++ (x ++ b)) p ∙ append_assoc t r (x ++ b) ∙ ap (λ (y : List ℕ). t ++ y) (sym (append_assoc r x b) ∙ ap (λ (y : List ℕ). y ++ b) q)
+    ap (λ (y : List ℕ). y ++ (x ++ b)) p ∙ append_assoc t r (x ++ b)
+    ∙ ap (λ (y : List ℕ). t ++ y) (sym (append_assoc r x b) ∙ ap (λ (y : List ℕ). y ++ b) q)
 
 -- a length that the check of odd ones passes
 even_from : (n : ℕ) → (n % 2 == 1) ≡ false → n % 2 ≡ 0
@@ -136,17 +165,24 @@ ContentTaken d syntax vr n at c next = Takes at (content_body c) next × (n ≡ 
 
 module _ (d : ℕ) (sequence : SequenceReader) (law : SequenceLaw d sequence) where
   -- a value of undefined length
-  undefined_takes : (o : Option Syntax) (syntax : Syntax) (vr : Option Vr) (at : At) (x : Content × At) → AreBytes at.bytes → item_syntax syntax vr Undefined ≡ o → undefined_at sequence o at ≡ Ok x → ContentTaken d syntax vr undefined_length at x.0 x.1
+  undefined_takes : (o : Option Syntax) (syntax : Syntax) (vr : Option Vr) (at : At) (x : Content × At)
+      → AreBytes at.bytes → item_syntax syntax vr Undefined ≡ o → undefined_at sequence o at ≡ Ok x
+      → ContentTaken d syntax vr undefined_length at x.0 x.1
   undefined_takes None syntax vr at x fits is e = absurd cc
   undefined_takes (Some inner) syntax vr at x fits is e =
       let a = bind_ok (sequence inner Undefined at) (λ y. Ok (items Undefined y.0, y.1)) x e in
       let l = law inner Undefined at a.0 fits a.1 in
-      let valid : IsSomeAnd (item_syntax syntax vr Undefined) (λ i. AreItems i d a.0.0) = subst (λ (o : Option Syntax). IsSomeAnd o (λ i. AreItems i d a.0.0)) (sym is) l.1 in
+      let valid : IsSomeAnd (item_syntax syntax vr Undefined) (λ i. AreItems i d a.0.0) =
+      subst (λ (o : Option Syntax). IsSomeAnd o (λ i. AreItems i d a.0.0)) (sym is) l.1 in
       let made : Content × At = (items Undefined a.0.0, a.0.1) in
-      subst (λ (y : Content × At). ContentTaken d syntax vr undefined_length at y.0 y.1) (ok_is made x a.2) (l.0, refl, (valid, tt))
+      subst (λ (y : Content × At). ContentTaken d syntax vr undefined_length at y.0 y.1) (ok_is made x a.2)
+      (l.0, refl, (valid, tt))
 
   -- a value of this length
-  defined_takes : (o : Option Syntax) (syntax : Syntax) (vr : Option Vr) (n : ℕ) (at : At) (x : Content × At) → AreBytes at.bytes → item_syntax syntax vr Defined ≡ o → HasForm syntax vr → n % 2 ≡ 0 → n < undefined_length → n < length_limit vr → leaves_fewer at.left n ≡ false → defined_at sequence o n at ≡ Ok x → ContentTaken d syntax vr n at x.0 x.1
+  defined_takes : (o : Option Syntax) (syntax : Syntax) (vr : Option Vr) (n : ℕ) (at : At) (x : Content × At)
+      → AreBytes at.bytes → item_syntax syntax vr Defined ≡ o → HasForm syntax vr → n % 2 ≡ 0 → n < undefined_length
+      → n < length_limit vr → leaves_fewer at.left n ≡ false → defined_at sequence o n at ≡ Ok x
+      → ContentTaken d syntax vr n at x.0 x.1
   defined_takes None syntax vr n at x fits is form even low limit enough e =
       let a = bind_ok (take_at n at) (λ y. Ok (bytes y.0, y.1)) x e in
       let t = taken n at a.0 fits a.1 in
@@ -157,18 +193,23 @@ module _ (d : ℕ) (sequence : SequenceReader) (law : SequenceLaw d sequence) wh
       subst (λ (y : Content × At). ContentTaken d syntax vr n at y.0 y.1) (ok_is made x a.2) (t.0, sym t.1, valid)
   defined_takes (Some inner) syntax vr n at x fits is form even low limit enough e =
       let a = bind_ok (within n at (sequence inner Defined)) (λ y. Ok (items Defined y.0, y.1)) x e in
-      let t = within_takes n at (sequence inner Defined) (λ y. items_text y) (λ y. AreItems inner d y) (λ y r. law inner Defined (record { left = Some n; bytes = at.bytes }) y fits r) a.0 enough a.1 in
+      let t = within_takes n at (sequence inner Defined) (λ y. items_text y) (λ y. AreItems inner d y)
+      (λ y r. law inner Defined (record { left = Some n; bytes = at.bytes }) y fits r) a.0 enough a.1 in
       let made : Content × At = (items Defined a.0.0, a.0.1) in
-      let some_inner : IsSomeAnd (item_syntax syntax vr Defined) (λ i. AreItems i d a.0.0) = subst (λ (o : Option Syntax). IsSomeAnd o (λ i. AreItems i d a.0.0)) (sym is) t.2 in
+      let some_inner : IsSomeAnd (item_syntax syntax vr Defined) (λ i. AreItems i d a.0.0) =
+      subst (λ (o : Option Syntax). IsSomeAnd o (λ i. AreItems i d a.0.0)) (sym is) t.2 in
       let fits' : length (items_text a.0.0) < undefined_length = subst (λ (k : ℕ). k < undefined_length) t.1 low in
       let valid : IsContent syntax d vr (items Defined a.0.0) = (some_inner, fits') in
       subst (λ (y : Content × At). ContentTaken d syntax vr n at y.0 y.1) (ok_is made x a.2) (t.0, t.1, valid)
 
   -- a value behind its header
-  pub content_takes : (syntax : Syntax) (shape : Shape) (at : At) (x : Content × At) → AreBytes at.bytes → HasForm syntax shape.vr → shape.length < width_limit shape.vr → content_at sequence syntax shape at ≡ Ok x → ContentTaken d syntax shape.vr shape.length at x.0 x.1
+  pub content_takes : (syntax : Syntax) (shape : Shape) (at : At) (x : Content × At) → AreBytes at.bytes
+      → HasForm syntax shape.vr → shape.length < width_limit shape.vr → content_at sequence syntax shape at ≡ Ok x
+      → ContentTaken d syntax shape.vr shape.length at x.0 x.1
   unfolding content_at
   content_takes syntax shape at x fits form below e =
-      elim (chosen (shape.length == undefined_length) (undefined_at sequence (item_syntax syntax shape.vr Undefined) at) _ (Ok x) e) [
+      elim (chosen (shape.length == undefined_length) (undefined_at sequence (item_syntax syntax shape.vr Undefined) at)
+      _ (Ok x) e) [
         | inl a ↦
             let len : shape.length ≡ undefined_length = eqb-true _ _ a.0 in
             let t = undefined_takes (item_syntax syntax shape.vr Undefined) syntax shape.vr at x fits refl a.1 in
@@ -179,29 +220,49 @@ module _ (d : ℕ) (sequence : SequenceReader) (law : SequenceLaw d sequence) wh
             let ne : shape.length ≡ undefined_length → ⊥ = eqb-false _ _ b.0 in
             let most : width_limit shape.vr ≤ 2 ^ 32 = width_at_most shape.vr in
             let low : shape.length < undefined_length = omega arith in
-            defined_takes (item_syntax syntax shape.vr Defined) syntax shape.vr shape.length at x fits refl form (even_from shape.length odd.0) low (within_limit shape.vr shape.length below ne) room.0 room.1
+            defined_takes (item_syntax syntax shape.vr Defined) syntax shape.vr shape.length at x fits refl form
+            (even_from shape.length odd.0) low (within_limit shape.vr shape.length below ne) room.0 room.1
       ]
 
   -- an element behind its first eight bytes
-  pub body_takes : (syntax : Syntax) (low : ℕ) (head : List ℕ) (at : At) (x : Entry × At) → length head ≡ 8 → AreBytes head → AreBytes at.bytes → body_at sequence syntax low head at ≡ Ok x → (text : List ℕ) × Takes at text x.1 × (head ++ text ≡ entry_text x.0) × IsEntry syntax d low x.0
+  pub body_takes : (syntax : Syntax) (low : ℕ) (head : List ℕ) (at : At) (x : Entry × At) → length head ≡ 8
+      → AreBytes head → AreBytes at.bytes → body_at sequence syntax low head at ≡ Ok x → (text : List ℕ)
+      × Takes at text x.1 × (head ++ text ≡ entry_text x.0) × IsEntry syntax d low x.0
   unfolding body_at
   body_takes syntax low head at x len hfits fits e =
       let tag : Tag = tag_of head in
       let a = passes (tag.group == delimiter_group) UnexpectedTag _ x e in
       let b = passes (nat_lt (number_of tag) low) Order _ x a.1 in
-      let s = bind_ok (shape_at syntax head at) (λ shape. content_at sequence syntax shape.0 shape.1 >>= λ y. Ok (record { tag = tag_of head; vr = shape.0.vr; content = y.0 }, y.1)) x b.1 in
+      let s = bind_ok (shape_at syntax head at) (λ shape. content_at sequence syntax shape.0 shape.1 >>= λ y. Ok
+      (record { tag = tag_of head; vr = shape.0.vr; content = y.0 }, y.1)) x b.1 in
       let shaped : Shaped syntax head at s.0.0 s.0.1 = shape_takes syntax head at s.0 len hfits fits s.1 in
-      let c = bind_ok (content_at sequence syntax s.0.0 s.0.1) (λ y. Ok (record { tag = tag_of head; vr = s.0.0.vr; content = y.0 }, y.1)) x s.2 in
+      let c = bind_ok (content_at sequence syntax s.0.0 s.0.1)
+      (λ y. Ok (record { tag = tag_of head; vr = s.0.0.vr; content = y.0 }, y.1)) x s.2 in
       let t = content_takes syntax s.0.0 s.0.1 c.0 shaped.takes.fits shaped.form shaped.below c.1 in
       let made : Entry = record { tag = tag; vr = s.0.0.vr; content = c.0.0 } in
-      let both : Takes at (shaped.text ++ content_body c.0.0) c.0.1 = Takes-then at s.0.1 c.0.1 shaped.text (content_body c.0.0) shaped.takes t.0 in
-      let split : head ≡ tag_text tag ++ drop 4 head = sym (take-append-drop 4 head) ∙ ap (λ (y : List ℕ). y ++ drop 4 head) (sym (head_tag head len hfits)) in
-      let shape_is : drop 4 head ++ shaped.text ≡ shape_text s.0.0.vr (content_length c.0.0) = shaped.whole ∙ ap (λ (n : ℕ). shape_text s.0.0.vr n) t.1 in
-      let whole : head ++ (shaped.text ++ content_body c.0.0) ≡ entry_text made = regroup head (tag_text tag) (drop 4 head) shaped.text (content_body c.0.0) (shape_text s.0.0.vr (content_length c.0.0)) split shape_is ∙ ap (λ (y : List ℕ). tag_text tag ++ y) (sym (content_parts s.0.0.vr c.0.0)) in
+      let both : Takes at (shaped.text ++ content_body c.0.0) c.0.1 =
+      Takes-then at s.0.1 c.0.1 shaped.text (content_body c.0.0) shaped.takes t.0 in
+      let split : head ≡ tag_text tag ++ drop 4 head = sym (take-append-drop 4 head)
+      ∙ ap (λ (y : List ℕ). y ++ drop 4 head) (sym (head_tag head len hfits)) in
+      let shape_is : drop 4 head ++ shaped.text ≡ shape_text s.0.0.vr (content_length c.0.0) = shaped.whole
+      ∙ ap (λ (n : ℕ). shape_text s.0.0.vr n) t.1 in
+      let whole : head ++ (shaped.text ++ content_body c.0.0) ≡ entry_text made =
+      regroup head (tag_text tag) (drop 4 head) shaped.text (content_body c.0.0)
+      (shape_text s.0.0.vr (content_length c.0.0)) split shape_is
+      ∙ ap (λ (y : List ℕ). tag_text tag ++ y) (sym (content_parts s.0.0.vr c.0.0)) in
       let low_is : low ≤ number_of tag = ltb-false _ _ b.0 in
       let group_ne : tag.group ≢ delimiter_group = eqb-false _ _ a.0 in
-      let valid : IsEntry syntax d low made = (low_is, short_below head hfits, short_below (drop 2 head) (AreBytes-drop 2 head hfits), group_ne, t.2) in
-      subst (λ (y : Entry × At). (text : List ℕ) × Takes at text y.1 × (head ++ text ≡ entry_text y.0) × IsEntry syntax d low y.0) (ok_is (made, c.0.1) x c.2) (shaped.text ++ content_body c.0.0, both, whole, valid)
+      let valid : IsEntry syntax d low made = (
+        low_is,
+        short_below head hfits,
+        short_below (drop 2 head)
+            (AreBytes-drop 2 head hfits),
+        group_ne,
+        t.2,
+      ) in
+      subst (λ (y : Entry × At). (text : List ℕ) × Takes at text y.1 × (head ++ text ≡ entry_text y.0)
+      × IsEntry syntax d low y.0) (ok_is (made, c.0.1) x c.2)
+      (shaped.text ++ content_body c.0.0, both, whole, valid)
 
 -- an element that was read, or the end of its set
 abbrev pub ElementTaken : ℕ → Syntax → Length → ℕ → At → Option Entry → At → Type 0
@@ -210,11 +271,13 @@ ElementTaken d syntax form low at (Some e) next = Takes at (entry_text e) next �
 
 module _ (d : ℕ) (sequence : SequenceReader) (law : SequenceLaw d sequence) where
   -- the next element, or the end of the set
-  pub element_takes : (syntax : Syntax) (form : Length) (low : ℕ) (at : At) (x : Option Entry × At) → AreBytes at.bytes → element_at sequence syntax form low at ≡ Ok x → ElementTaken d syntax form low at x.0 x.1
+  pub element_takes : (syntax : Syntax) (form : Length) (low : ℕ) (at : At) (x : Option Entry × At) → AreBytes at.bytes
+      → element_at sequence syntax form low at ≡ Ok x → ElementTaken d syntax form low at x.0 x.1
   unfolding whole_element
   element_takes syntax form low at x fits e =
       elim (chosen (is_over form at) (Ok (None, at)) _ (Ok x) (sym (element_is sequence syntax form low at) ∙ e)) [
-        | inl over ↦ subst (λ (y : Option Entry × At). ElementTaken d syntax form low at y.0 y.1) (ok_is (None, at) x over.1) (over_ends form item_end_text at fits over.0)
+        | inl over ↦ subst (λ (y : Option Entry × At). ElementTaken d syntax form low at y.0 y.1)
+            (ok_is (None, at) x over.1) (over_ends form item_end_text at fits over.0)
         | inr on ↦
             let h = bind_ok (take_at 8 at) (λ head. if ends_set form head.0
             then (if long_of head.0 == 0 then Ok (None, head.1) else Err BadDelimiter)
@@ -222,53 +285,72 @@ module _ (d : ℕ) (sequence : SequenceReader) (law : SequenceLaw d sequence) wh
             let head : List ℕ = h.0.0 in
             let behind : At = h.0.1 in
             let t = taken 8 at h.0 fits h.1 in
-            elim (chosen (ends_set form head) (if long_of head == 0 then Ok (None, behind) else Err BadDelimiter) (body_at sequence syntax low head behind >>= λ y. Ok (Some y.0, y.1)) (Ok x) h.2) [
+            elim (chosen (ends_set form head) (if long_of head == 0 then Ok (None, behind) else Err BadDelimiter)
+            (body_at sequence syntax low head behind >>= λ y. Ok (Some y.0, y.1)) (Ok x) h.2) [
               | inl ends ↦
                   let none = allowed (long_of head == 0) BadDelimiter (Ok (None, behind)) x ends.1 in
                   let mark = set_mark form head t.1 t.2 ends.0 none.0 in
-                  let took : Takes at (closed form item_end_text []) behind = subst (λ (y : List ℕ). Takes at y behind) mark.0 t.0 in
-                  subst (λ (y : Option Entry × At). ElementTaken d syntax form low at y.0 y.1) (ok_is (None, behind) x none.1) (took, ends_undefined form behind mark.1)
+                  let took : Takes at (closed form item_end_text []) behind =
+                  subst (λ (y : List ℕ). Takes at y behind) mark.0 t.0 in
+                  subst (λ (y : Option Entry × At). ElementTaken d syntax form low at y.0 y.1)
+                  (ok_is (None, behind) x none.1) (took, ends_undefined form behind mark.1)
               | inr more ↦
                   let b = bind_ok (body_at sequence syntax low head behind) (λ y. Ok (Some y.0, y.1)) x more.1 in
                   let body = body_takes d sequence law syntax low head behind b.0 t.1 t.2 t.0.fits b.1 in
                   let both : Takes at (head ++ body.0) b.0.1 = Takes-then at behind b.0.1 head body.0 t.0 body.1 in
                   let took : Takes at (entry_text b.0.0) b.0.1 = subst (λ (y : List ℕ). Takes at y b.0.1) body.2 both in
-                  subst (λ (y : Option Entry × At). ElementTaken d syntax form low at y.0 y.1) (ok_is (Some b.0.0, b.0.1) x b.2) (took, body.3)
+                  subst (λ (y : Option Entry × At). ElementTaken d syntax form low at y.0 y.1)
+                  (ok_is (Some b.0.0, b.0.1) x b.2) (took, body.3)
             ]
       ]
 
   -- the text of a set by its first element
-  set_text_more : (form : Length) (mark t c r : List ℕ) → (t ++ c) ++ closed form mark r ≡ closed form mark (t ++ (c ++ r))
-  set_text_more form mark t c r = append_assoc t c (closed form mark r) ∙ ap (λ (y : List ℕ). t ++ y) (sym (closed-append form mark c r)) ∙ sym (closed-append form mark t (c ++ r))
+  set_text_more : (form : Length) (mark t c r : List ℕ) → (t ++ c)
+      ++ closed form mark r ≡ closed form mark (t ++ (c ++ r))
+  set_text_more form mark t c r = append_assoc t c (closed form mark r)
+      ∙ ap (λ (y : List ℕ). t ++ y) (sym (closed-append form mark c r)) ∙ sym (closed-append form mark t (c ++ r))
 
   -- the elements behind one, or none
   next_takes : (syntax : Syntax) (form : Length) (low : ℕ) (at : At) (others : ℕ → At → Reads Elements)
-      → ((l : ℕ) (a : At) (y : Elements × At) → AreBytes a.bytes → others l a ≡ Ok y → SetTaken syntax d form l a y.0 y.1)
-      → (o : Option Entry) (next : At) (x : Elements × At) → AreBytes next.bytes → ElementTaken d syntax form low at o next → next_elements others (o, next) ≡ Ok x → SetTaken syntax d form low at x.0 x.1
+      → ((l : ℕ) (a : At) (y : Elements × At) → AreBytes a.bytes → others l a ≡ Ok y
+      → SetTaken syntax d form l a y.0 y.1)
+      → (o : Option Entry) (next : At) (x : Elements × At) → AreBytes next.bytes
+      → ElementTaken d syntax form low at o next → next_elements others (o, next) ≡ Ok x
+      → SetTaken syntax d form low at x.0 x.1
   next_takes syntax form low at others ih None next x fits h e =
-      subst (λ (y : Elements × At). SetTaken syntax d form low at y.0 y.1) (ok_is (no_elements, next) x e) (h.0, tt, h.1)
+      subst (λ (y : Elements × At). SetTaken syntax d form low at y.0 y.1) (ok_is (no_elements, next) x e)
+      (h.0, tt, h.1)
   next_takes syntax form low at others ih (Some f) next x fits h e =
       let a = bind_ok (others (number_of f.tag + 1) next) (λ y. Ok (element f.tag f.vr f.content y.0, y.1)) x e in
       let r = ih (number_of f.tag + 1) next a.0 fits a.1 in
       let made : Elements = element f.tag f.vr f.content a.0.0 in
-      let both : Takes at (entry_text f ++ closed form item_end_text (elements_text a.0.0)) a.0.1 = Takes-then at next a.0.1 (entry_text f) (closed form item_end_text (elements_text a.0.0)) h.0 r.0 in
-      let took : Takes at (closed form item_end_text (elements_text made)) a.0.1 = subst (λ (y : List ℕ). Takes at y a.0.1) (set_text_more form item_end_text (tag_text f.tag) (content_text f.vr f.content) (elements_text a.0.0)) both in
+      let both : Takes at (entry_text f ++ closed form item_end_text (elements_text a.0.0)) a.0.1 =
+      Takes-then at next a.0.1 (entry_text f) (closed form item_end_text (elements_text a.0.0)) h.0 r.0 in
+      let took : Takes at (closed form item_end_text (elements_text made)) a.0.1 =
+      subst (λ (y : List ℕ). Takes at y a.0.1) (set_text_more form item_end_text (tag_text f.tag)
+      (content_text f.vr f.content) (elements_text a.0.0)) both in
       let valid : AreElements syntax d low made = (h.1.0, h.1.1, h.1.2, h.1.3, h.1.4, r.1) in
-      subst (λ (y : Elements × At). SetTaken syntax d form low at y.0 y.1) (ok_is (made, a.0.1) x a.2) (took, valid, r.2)
+      subst (λ (y : Elements × At). SetTaken syntax d form low at y.0 y.1) (ok_is (made, a.0.1) x a.2)
+      (took, valid, r.2)
 
   -- bytes are left
-  taken_fits : (syntax : Syntax) (form : Length) (low : ℕ) (at : At) (o : Option Entry) (next : At) → ElementTaken d syntax form low at o next → AreBytes next.bytes
+  taken_fits : (syntax : Syntax) (form : Length) (low : ℕ) (at : At) (o : Option Entry) (next : At)
+      → ElementTaken d syntax form low at o next → AreBytes next.bytes
   taken_fits syntax form low at None next h = h.0.fits
   taken_fits syntax form low at (Some e) next h = h.0.fits
 
   -- elements up to the end of their set
-  pub elements_take : (most : ℕ) (syntax : Syntax) (form : Length) (low : ℕ) (at : At) (x : Elements × At) → AreBytes at.bytes → elements_at sequence syntax form most low at ≡ Ok x → SetTaken syntax d form low at x.0 x.1
+  pub elements_take : (most : ℕ) (syntax : Syntax) (form : Length) (low : ℕ) (at : At) (x : Elements × At)
+      → AreBytes at.bytes → elements_at sequence syntax form most low at ≡ Ok x → SetTaken syntax d form low at x.0 x.1
   unfolding elements_at
   elements_take zero syntax form low at x fits e = absurd cc
   elements_take (suc most) syntax form low at x fits e =
-      let a = bind_ok (element_at sequence syntax form low at) (next_elements (elements_at sequence syntax form most)) x e in
+      let a = bind_ok (element_at sequence syntax form low at) (next_elements (elements_at sequence syntax form most)) x
+      e in
       let h = element_takes syntax form low at a.0 fits a.1 in
-      next_takes syntax form low at (elements_at sequence syntax form most) (λ l b y k r. elements_take most syntax form l b y k r) a.0.0 a.0.1 x (taken_fits syntax form low at a.0.0 a.0.1 h) h a.2
+      next_takes syntax form low at (elements_at sequence syntax form most)
+      (λ l b y k r. elements_take most syntax form l b y k r) a.0.0 a.0.1 x
+      (taken_fits syntax form low at a.0.0 a.0.1 h) h a.2
 
 -- ---- an item
 
@@ -279,70 +361,92 @@ ItemTaken d syntax form at (Some p) next = Takes at (part_text p) next × IsPart
 
 module _ (d : ℕ) (part : ItemReader) (law : PartLaw d part) where
   -- the next item, or the end of the sequence
-  pub item_takes : (syntax : Syntax) (form : Length) (at : At) (x : Option Part × At) → AreBytes at.bytes → item_at part syntax form at ≡ Ok x → ItemTaken d syntax form at x.0 x.1
+  pub item_takes : (syntax : Syntax) (form : Length) (at : At) (x : Option Part × At) → AreBytes at.bytes
+      → item_at part syntax form at ≡ Ok x → ItemTaken d syntax form at x.0 x.1
   unfolding whole_item
   item_takes syntax form at x fits e =
       elim (chosen (is_over form at) (Ok (None, at)) _ (Ok x) (sym (item_is part syntax form at) ∙ e)) [
-        | inl over ↦ subst (λ (y : Option Part × At). ItemTaken d syntax form at y.0 y.1) (ok_is (None, at) x over.1) (over_ends form sequence_end_text at fits over.0)
+        | inl over ↦ subst (λ (y : Option Part × At). ItemTaken d syntax form at y.0 y.1) (ok_is (None, at) x over.1)
+            (over_ends form sequence_end_text at fits over.0)
         | inr on ↦
             let h = bind_ok (take_at 8 at) (λ head. if ends_sequence form head.0
             then (if long_of head.0 == 0 then Ok (None, head.1) else Err BadDelimiter)
-            else (if is_item head.0 then (part syntax (long_of head.0) head.1 >>= λ y. Ok (Some y.0, y.1)) else Err UnexpectedTag)) x on.1 in
+            else (if is_item head.0 then (part syntax (long_of head.0) head.1 >>= λ y. Ok (Some y.0, y.1)) else Err
+            UnexpectedTag)) x on.1 in
             let head : List ℕ = h.0.0 in
             let behind : At = h.0.1 in
             let t = taken 8 at h.0 fits h.1 in
-            elim (chosen (ends_sequence form head) (if long_of head == 0 then Ok (None, behind) else Err BadDelimiter) (if is_item head then (part syntax (long_of head) behind >>= λ y. Ok (Some y.0, y.1)) else Err UnexpectedTag) (Ok x) h.2) [
+            elim (chosen (ends_sequence form head) (if long_of head == 0 then Ok (None, behind) else Err BadDelimiter)
+            (if is_item head then (part syntax (long_of head) behind >>= λ y. Ok (Some y.0, y.1)) else Err
+            UnexpectedTag) (Ok x) h.2) [
               | inl ends ↦
                   let none = allowed (long_of head == 0) BadDelimiter (Ok (None, behind)) x ends.1 in
                   let mark = sequence_mark form head t.1 t.2 ends.0 none.0 in
-                  let took : Takes at (closed form sequence_end_text []) behind = subst (λ (y : List ℕ). Takes at y behind) mark.0 t.0 in
-                  subst (λ (y : Option Part × At). ItemTaken d syntax form at y.0 y.1) (ok_is (None, behind) x none.1) (took, ends_undefined form behind mark.1)
+                  let took : Takes at (closed form sequence_end_text []) behind =
+                  subst (λ (y : List ℕ). Takes at y behind) mark.0 t.0 in
+                  subst (λ (y : Option Part × At). ItemTaken d syntax form at y.0 y.1) (ok_is (None, behind) x none.1)
+                  (took, ends_undefined form behind mark.1)
               | inr more ↦
-                  let is = allowed (is_item head) UnexpectedTag (part syntax (long_of head) behind >>= λ y. Ok (Some y.0, y.1)) x more.1 in
+                  let is = allowed (is_item head) UnexpectedTag
+                  (part syntax (long_of head) behind >>= λ y. Ok (Some y.0, y.1)) x more.1 in
                   let b = bind_ok (part syntax (long_of head) behind) (λ y. Ok (Some y.0, y.1)) x is.1 in
                   let p : Part = b.0.0 in
-                  let l = law syntax (long_of head) behind b.0 t.0.fits (long_below (drop 4 head) (AreBytes-drop 4 head t.2)) b.1 in
-                  let front : head ≡ item_tag_text ++ little_bytes 4 (part_length p) = head_is head 0xfffe 0xe000 t.1 t.2 is.0 ∙ ap (λ (n : ℕ). item_tag_text ++ little_bytes 4 n) l.1 in
-                  let both : Takes at (head ++ part_body p) b.0.1 = Takes-then at behind b.0.1 head (part_body p) t.0 l.0 in
-                  let whole : head ++ part_body p ≡ part_text p = ap (λ (y : List ℕ). y ++ part_body p) front ∙ append_assoc item_tag_text (little_bytes 4 (part_length p)) (part_body p) in
+                  let l = law syntax (long_of head) behind b.0 t.0.fits
+                  (long_below (drop 4 head) (AreBytes-drop 4 head t.2)) b.1 in
+                  let front : head ≡ item_tag_text ++ little_bytes 4 (part_length p) =
+                  head_is head 0xfffe 0xe000 t.1 t.2 is.0 ∙ ap (λ (n : ℕ). item_tag_text ++ little_bytes 4 n) l.1 in
+                  let both : Takes at (head ++ part_body p) b.0.1 =
+                  Takes-then at behind b.0.1 head (part_body p) t.0 l.0 in
+                  let whole : head ++ part_body p ≡ part_text p = ap (λ (y : List ℕ). y ++ part_body p) front
+                  ∙ append_assoc item_tag_text (little_bytes 4 (part_length p)) (part_body p) in
                   let took : Takes at (part_text p) b.0.1 = subst (λ (y : List ℕ). Takes at y b.0.1) whole both in
-                  subst (λ (y : Option Part × At). ItemTaken d syntax form at y.0 y.1) (ok_is (Some p, b.0.1) x b.2) (took, l.2)
+                  subst (λ (y : Option Part × At). ItemTaken d syntax form at y.0 y.1) (ok_is (Some p, b.0.1) x b.2)
+                  (took, l.2)
             ]
       ]
 
   -- the text of a sequence by its first item
-  items_text_more : (form : Length) (mark t n b r : List ℕ) → (t ++ (n ++ b)) ++ closed form mark r ≡ closed form mark (t ++ (n ++ (b ++ r)))
+  items_text_more : (form : Length) (mark t n b r : List ℕ) → (t ++ (n ++ b))
+      ++ closed form mark r ≡ closed form mark (t ++ (n ++ (b ++ r)))
   items_text_more form mark t n b r =
-      sym (closed-append form mark (t ++ (n ++ b)) r) ∙ ap (λ (y : List ℕ). closed form mark y) (append_assoc t (n ++ b) r ∙ ap (λ (y : List ℕ). t ++ y) (append_assoc n b r))
+      sym (closed-append form mark (t ++ (n ++ b)) r) ∙ ap (λ (y : List ℕ). closed form mark y)
+      (append_assoc t (n ++ b) r ∙ ap (λ (y : List ℕ). t ++ y) (append_assoc n b r))
 
   -- the items behind one, or none
   next_item_takes : (syntax : Syntax) (form : Length) (at : At) (others : At → Reads Items)
       → ((a : At) (y : Items × At) → AreBytes a.bytes → others a ≡ Ok y → SequenceTaken syntax d form a y.0 y.1)
-      → (o : Option Part) (next : At) (x : Items × At) → AreBytes next.bytes → ItemTaken d syntax form at o next → next_items others (o, next) ≡ Ok x → SequenceTaken syntax d form at x.0 x.1
+      → (o : Option Part) (next : At) (x : Items × At) → AreBytes next.bytes → ItemTaken d syntax form at o next
+      → next_items others (o, next) ≡ Ok x → SequenceTaken syntax d form at x.0 x.1
   next_item_takes syntax form at others ih None next x fits h e =
       subst (λ (y : Items × At). SequenceTaken syntax d form at y.0 y.1) (ok_is (no_items, next) x e) (h.0, tt, h.1)
   next_item_takes syntax form at others ih (Some p) next x fits h e =
       let a = bind_ok (others next) (λ y. Ok (item p.length p.set y.0, y.1)) x e in
       let r = ih next a.0 fits a.1 in
       let made : Items = item p.length p.set a.0.0 in
-      let both : Takes at (part_text p ++ closed form sequence_end_text (items_text a.0.0)) a.0.1 = Takes-then at next a.0.1 (part_text p) (closed form sequence_end_text (items_text a.0.0)) h.0 r.0 in
-      let took : Takes at (closed form sequence_end_text (items_text made)) a.0.1 = subst (λ (y : List ℕ). Takes at y a.0.1) (items_text_more form sequence_end_text item_tag_text (little_bytes 4 (part_length p)) (part_body p) (items_text a.0.0)) both in
+      let both : Takes at (part_text p ++ closed form sequence_end_text (items_text a.0.0)) a.0.1 =
+      Takes-then at next a.0.1 (part_text p) (closed form sequence_end_text (items_text a.0.0)) h.0 r.0 in
+      let took : Takes at (closed form sequence_end_text (items_text made)) a.0.1 =
+      subst (λ (y : List ℕ). Takes at y a.0.1) (items_text_more form sequence_end_text item_tag_text
+      (little_bytes 4 (part_length p)) (part_body p) (items_text a.0.0)) both in
       let valid : AreItems syntax d made = AreItems-more syntax d p a.0.0 h.1 r.1 in
       subst (λ (y : Items × At). SequenceTaken syntax d form at y.0 y.1) (ok_is (made, a.0.1) x a.2) (took, valid, r.2)
 
   -- bytes are left
-  item_taken_fits : (syntax : Syntax) (form : Length) (at : At) (o : Option Part) (next : At) → ItemTaken d syntax form at o next → AreBytes next.bytes
+  item_taken_fits : (syntax : Syntax) (form : Length) (at : At) (o : Option Part) (next : At)
+      → ItemTaken d syntax form at o next → AreBytes next.bytes
   item_taken_fits syntax form at None next h = h.0.fits
   item_taken_fits syntax form at (Some p) next h = h.0.fits
 
   -- items up to the end of their sequence
-  pub items_take : (most : ℕ) (syntax : Syntax) (form : Length) (at : At) (x : Items × At) → AreBytes at.bytes → items_at part syntax form most at ≡ Ok x → SequenceTaken syntax d form at x.0 x.1
+  pub items_take : (most : ℕ) (syntax : Syntax) (form : Length) (at : At) (x : Items × At) → AreBytes at.bytes
+      → items_at part syntax form most at ≡ Ok x → SequenceTaken syntax d form at x.0 x.1
   unfolding items_at
   items_take zero syntax form at x fits e = absurd cc
   items_take (suc most) syntax form at x fits e =
       let a = bind_ok (item_at part syntax form at) (next_items (items_at part syntax form most)) x e in
       let h = item_takes syntax form at a.0 fits a.1 in
-      next_item_takes syntax form at (items_at part syntax form most) (λ b y k r. items_take most syntax form b y k r) a.0.0 a.0.1 x (item_taken_fits syntax form at a.0.0 a.0.1 h) h a.2
+      next_item_takes syntax form at (items_at part syntax form most) (λ b y k r. items_take most syntax form b y k r)
+      a.0.0 a.0.1 x (item_taken_fits syntax form at a.0.0 a.0.1 h) h a.2
 
   -- a whole sequence
   pub sequence_takes : SequenceLaw d (sequence_with part)
@@ -350,13 +454,15 @@ module _ (d : ℕ) (part : ItemReader) (law : PartLaw d part) where
 
 -- a whole set
 pub set_takes : (d : ℕ) (part : ItemReader) → PartLaw d part → SetLaw d (set_with part)
-set_takes d part law syntax form at x fits e = elements_take d (sequence_with part) (sequence_takes d part law) (suc (length at.bytes)) syntax form 0 at x fits e
+set_takes d part law syntax form at x fits e = elements_take d (sequence_with part) (sequence_takes d part law)
+    (suc (length at.bytes)) syntax form 0 at x fits e
 
 -- an item one level further out
 pub part_takes : (d : ℕ) (set : SetReader) → SetLaw d set → PartLaw (suc d) (part_at set)
 unfolding part_at
 part_takes d set law syntax n at x fits below e =
-    elim (chosen (n == undefined_length) (set syntax Undefined at >>= λ y. Ok (record { length = Undefined; set = y.0 }, y.1)) _ (Ok x) e) [
+    elim (chosen (n == undefined_length) (set syntax Undefined at >>= λ y. Ok
+    (record { length = Undefined; set = y.0 }, y.1)) _ (Ok x) e) [
       | inl a ↦
           let len : n ≡ undefined_length = eqb-true _ _ a.0 in
           let s = bind_ok (set syntax Undefined at) (λ y. Ok (record { length = Undefined; set = y.0 }, y.1)) x a.1 in
@@ -366,11 +472,14 @@ part_takes d set law syntax n at x fits below e =
       | inr b ↦
           let odd = passes (n % 2 == 1) OddLength _ x b.1 in
           let room = passes (leaves_fewer at.left n) Overrun _ x odd.1 in
-          let s = bind_ok (within n at (set syntax Defined)) (λ y. Ok (record { length = Defined; set = y.0 }, y.1)) x room.1 in
-          let t = within_takes n at (set syntax Defined) (λ y. elements_text y) (λ y. AreElements syntax d 0 y) (λ y r. law syntax Defined (record { left = Some n; bytes = at.bytes }) y fits r) s.0 room.0 s.1 in
+          let s = bind_ok (within n at (set syntax Defined)) (λ y. Ok (record { length = Defined; set = y.0 }, y.1)) x
+          room.1 in
+          let t = within_takes n at (set syntax Defined) (λ y. elements_text y) (λ y. AreElements syntax d 0 y)
+          (λ y r. law syntax Defined (record { left = Some n; bytes = at.bytes }) y fits r) s.0 room.0 s.1 in
           let ne : n ≡ undefined_length → ⊥ = eqb-false _ _ b.0 in
           let low : n < undefined_length = omega arith in
-          let fits' : length (elements_text s.0.0) < undefined_length = subst (λ (k : ℕ). k < undefined_length) t.1 low in
+          let fits' : length (elements_text s.0.0) < undefined_length =
+          subst (λ (k : ℕ). k < undefined_length) t.1 low in
           let made : Part × At = (record { length = Defined; set = s.0.0 }, s.0.1) in
           subst (λ (y : Part × At). PartTaken syntax (suc d) n at y.0 y.1) (ok_is made x s.2) (t.0, t.1, (t.2, fits'))
     ]
@@ -380,7 +489,8 @@ part_takes d set law syntax n at x fits below e =
 -- an item in which so many levels may nest, itself included
 pub reader_takes : (d : ℕ) → PartLaw d (item_reader d)
 reader_takes zero syntax n at x fits below e = absurd cc
-reader_takes (suc d) syntax n at x fits below e = part_takes d (set_with (item_reader d)) (set_takes d (item_reader d) (reader_takes d)) syntax n at x fits below e
+reader_takes (suc d) syntax n at x fits below e = part_takes d (set_with (item_reader d))
+    (set_takes d (item_reader d) (reader_takes d)) syntax n at x fits below e
 
 -- ---- the whole
 
@@ -390,16 +500,20 @@ whole_ends n None bs h over = nil_from_length bs (eqb-true _ _ over)
 whole_ends n (Some l) bs h over = absurd h
 
 -- the whole, at any number of levels
-pub whole_takes : (d : ℕ) (syntax : Syntax) (bs : List ℕ) (x : Elements × At) → AreBytes bs → set_with (item_reader d) syntax Defined (record { left = None; bytes = bs }) ≡ Ok x → AreElements syntax d 0 x.0 × (bs ≡ elements_text x.0)
+pub whole_takes : (d : ℕ) (syntax : Syntax) (bs : List ℕ) (x : Elements × At) → AreBytes bs
+    → set_with (item_reader d) syntax Defined (record { left = None; bytes = bs }) ≡ Ok x → AreElements syntax d 0 x.0
+    × (bs ≡ elements_text x.0)
 whole_takes d syntax bs x fits e =
     let t = set_takes d (item_reader d) (reader_takes d) syntax Defined (record { left = None; bytes = bs }) x fits e in
     let none : x.1.bytes ≡ [] = whole_ends (length (elements_text x.0)) x.1.left x.1.bytes t.0.left t.2 in
     (t.1, t.0.parts ∙ ap (λ (y : List ℕ). elements_text x.0 ++ y) none ∙ append-nil (elements_text x.0))
 
 -- bytes that are read as a set are its spelling, and the set has one
-pub all_takes : (syntax : Syntax) (bs : List ℕ) (set : Elements) → read_all syntax bs ≡ Ok set → AreBytes bs → AreElements syntax max_levels 0 set × (bs ≡ elements_text set)
+pub all_takes : (syntax : Syntax) (bs : List ℕ) (set : Elements) → read_all syntax bs ≡ Ok set → AreBytes bs
+    → AreElements syntax max_levels 0 set × (bs ≡ elements_text set)
 unfolding read_all
 all_takes syntax bs set e fits =
-    let a = bind_ok (set_with (item_reader max_levels) syntax Defined (record { left = None; bytes = bs })) (λ x. Ok x.0) set e in
+    let a = bind_ok (set_with (item_reader max_levels) syntax Defined (record { left = None; bytes = bs }))
+    (λ x. Ok x.0) set e in
     let w = whole_takes max_levels syntax bs a.0 fits a.1 in
     subst (λ (s : Elements). AreElements syntax max_levels 0 s × (bs ≡ elements_text s)) (ok_is a.0.0 set a.2) w

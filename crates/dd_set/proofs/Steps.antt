@@ -1,5 +1,6 @@
 -- Steps of reading: chains of results, tests, and numbers as bytes.
-use Rattle.std.proofs.Common.{◌≡◌, ℕ, ◌+◌, ◌^◌, ◌<◌, ◌⊎◌, Bool, true, false, if◌then◌else◌, List, [], ◌∷◌, ◌++◌, length, take, drop, Option, Some, Result, Ok, Err, refl, subst, arith, inl, inr}
+use Rattle.std.proofs.Common.{◌≡◌, ℕ, ◌+◌, ◌^◌, ◌<◌, ◌⊎◌, Bool, true, false, if◌then◌else◌, List, [], ◌∷◌, ◌++◌, length}
+use Rattle.std.proofs.Common.{take, drop, Option, Some, Result, Ok, Err, refl, subst, arith, inl, inr}
 use Rattle.std.specs.Int.{w16, w32, from_le_bytes}
 use Rattle.std.specs.Prelude.{find}
 use Rattle.std.proofs.lemmas.Bool.{cases_lt}
@@ -13,7 +14,8 @@ use Rattle.dd_set.specs.Reading.{◌>>=◌}
 -- ---- results
 
 -- the value of a step that did not fail
-pub bind_ok : {A B : Type 0} (r : Result A SetFault) (f : A → Result B SetFault) (y : B) → (r >>= f) ≡ Ok y → (x : A) × (r ≡ Ok x) × (f x ≡ Ok y)
+pub bind_ok : {A B : Type 0} (r : Result A SetFault) (f : A → Result B SetFault) (y : B) → (r >>= f) ≡ Ok y → (x : A)
+    × (r ≡ Ok x) × (f x ≡ Ok y)
 bind_ok (Ok x) f y e = (x, refl, e)
 bind_ok (Err d) f y e = absurd cc
 
@@ -22,17 +24,20 @@ pub bind_made : {A B : Type 0} (r : Result A SetFault) (f : A → Result B SetFa
 bind_made r f x e = rw e refl
 
 -- a test that refuses did not hold
-pub passes : {A : Type 0} (b : Bool) (d : SetFault) (r : Result A SetFault) (y : A) → (if b then Err d else r) ≡ Ok y → (b ≡ false) × (r ≡ Ok y)
+pub passes : {A : Type 0} (b : Bool) (d : SetFault) (r : Result A SetFault) (y : A) → (if b then Err d else r) ≡ Ok y
+    → (b ≡ false) × (r ≡ Ok y)
 passes true d r y e = absurd cc
 passes false d r y e = (refl, e)
 
 -- a test that lets pass held
-pub allowed : {A : Type 0} (b : Bool) (d : SetFault) (r : Result A SetFault) (y : A) → (if b then r else Err d) ≡ Ok y → (b ≡ true) × (r ≡ Ok y)
+pub allowed : {A : Type 0} (b : Bool) (d : SetFault) (r : Result A SetFault) (y : A) → (if b then r else Err d) ≡ Ok y
+    → (b ≡ true) × (r ≡ Ok y)
 allowed true d r y e = (refl, e)
 allowed false d r y e = absurd cc
 
 -- one of two was chosen
-pub chosen : {A : Type 0} (b : Bool) (r s : A) (y : A) → (if b then r else s) ≡ y → (b ≡ true) × (r ≡ y) ⊎ (b ≡ false) × (s ≡ y)
+pub chosen : {A : Type 0} (b : Bool) (r s : A) (y : A) → (if b then r else s) ≡ y → (b ≡ true) × (r ≡ y) ⊎ (b ≡ false)
+    × (s ≡ y)
 chosen true r s y e = inl (refl, e)
 chosen false r s y e = inr (refl, e)
 
@@ -68,7 +73,12 @@ pub short_front : (xs ys : List ℕ) → length xs ≡ 2 → from_le_bytes w16 (
 short_front xs ys len = rw (get_or_append_left xs ys 0 0 (omega arith), get_or_append_left xs ys 0 1 (omega arith)) refl
 
 pub long_front : (xs ys : List ℕ) → length xs ≡ 4 → from_le_bytes w32 (xs ++ ys) ≡ from_le_bytes w32 xs
-long_front xs ys len = rw (get_or_append_left xs ys 0 0 (omega arith), get_or_append_left xs ys 0 1 (omega arith), get_or_append_left xs ys 0 2 (omega arith), get_or_append_left xs ys 0 3 (omega arith)) refl
+long_front xs ys len = rw (
+  get_or_append_left xs ys 0 0 (omega arith),
+  get_or_append_left xs ys 0 1 (omega arith),
+  get_or_append_left xs ys 0 2 (omega arith),
+  get_or_append_left xs ys 0 3 (omega arith),
+) refl
 
 -- bytes make no more than they have room for
 pub short_below : (bs : List ℕ) → AreBytes bs → from_le_bytes w16 bs < 2 ^ 16

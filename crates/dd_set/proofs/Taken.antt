@@ -1,5 +1,6 @@
 -- What a step of reading took from the front of the bytes, and what the enclosing length leaves behind it.
-use Rattle.std.proofs.Common.{◌≡◌, ℕ, ◌+◌, ◌≤◌, true, false, nat_lt, List, [], ◌++◌, length, take, drop, Option, Some, None, Ok, refl, sym, ap, subst, ◌∙◌, append_assoc, arith}
+use Rattle.std.proofs.Common.{◌≡◌, ℕ, ◌+◌, ◌≤◌, true, false, nat_lt, List, [], ◌++◌, length, take, drop, Option, Some}
+use Rattle.std.proofs.Common.{None, Ok, refl, sym, ap, subst, ◌∙◌, append_assoc, arith}
 use Rattle.std.proofs.lemmas.Bool.{ltb-false, eqb-true}
 use Rattle.std.proofs.lemmas.List.{take-append-drop, length-append, length-take-le}
 use Rattle.dd_set.specs.declared.fault.SetFault.TheVariants.{Truncated, Overrun}
@@ -50,12 +51,14 @@ Takes-none at fits = record { parts = refl; left = Leaves-none at.left; fits = f
 pub Takes-then : (a b c : At) (x y : List ℕ) → Takes a x b → Takes b y c → Takes a (x ++ y) c
 Takes-then a b c x y p q = record {
   parts = p.parts ∙ ap (λ (t : List ℕ). x ++ t) q.parts ∙ sym (append_assoc x y c.bytes);
-  left = subst (λ (n : ℕ). Leaves a.left n c.left) (sym (length-append x y)) (Leaves-then a.left b.left c.left (length x) (length y) p.left q.left);
+  left = subst (λ (n : ℕ). Leaves a.left n c.left) (sym (length-append x y))
+      (Leaves-then a.left b.left c.left (length x) (length y) p.left q.left);
   fits = q.fits;
 }
 
 -- bytes that are taken
-pub taken : (n : ℕ) (at : At) (x : List ℕ × At) → AreBytes at.bytes → take_at n at ≡ Ok x → Takes at x.0 x.1 × (length x.0 ≡ n) × AreBytes x.0
+pub taken : (n : ℕ) (at : At) (x : List ℕ × At) → AreBytes at.bytes → take_at n at ≡ Ok x → Takes at x.0 x.1
+    × (length x.0 ≡ n) × AreBytes x.0
 unfolding take_at
 taken n at x fits e =
     let a = passes (leaves_fewer at.left n) Overrun _ x e in
@@ -63,9 +66,16 @@ taken n at x fits e =
     let long : n ≤ length at.bytes = ltb-false _ _ b.0 in
     let len : length (take n at.bytes) ≡ n = length-take-le n at.bytes long in
     let next : At = record { left = less at.left n; bytes = drop n at.bytes } in
-    let left : Leaves at.left (length (take n at.bytes)) next.left = subst (λ (k : ℕ). Leaves at.left k next.left) (sym len) (Leaves-less at.left n a.0) in
-    let all : Takes at (take n at.bytes) next = record { parts = sym (take-append-drop n at.bytes); left = left; fits = AreBytes-drop n at.bytes fits } in
-    subst (λ (y : List ℕ × At). Takes at y.0 y.1 × (length y.0 ≡ n) × AreBytes y.0) (ok_is (take n at.bytes, next) x b.1) (all, len, AreBytes-take n at.bytes fits)
+    let left : Leaves at.left (length (take n at.bytes)) next.left =
+    subst (λ (k : ℕ). Leaves at.left k next.left) (sym len) (Leaves-less at.left n a.0) in
+    let all : Takes at (take n at.bytes) next = record {
+      parts = sym (take-append-drop n at.bytes);
+      left = left;
+      fits =
+          AreBytes-drop n at.bytes fits;
+    } in
+    subst (λ (y : List ℕ × At). Takes at y.0 y.1 × (length y.0 ≡ n) × AreBytes y.0)
+    (ok_is (take n at.bytes, next) x b.1) (all, len, AreBytes-take n at.bytes fits)
 
 -- what a length tells ends here
 abbrev pub Ends : Length → At → Type 0
@@ -87,15 +97,20 @@ ended_length n k next h over = go next.left h over
 
 -- reading within n bytes, up to their end
 module _ {X : Type 0} (n : ℕ) (at : At) (read : At → Reads X) (text : X → List ℕ) (Valid : X → Type 0)
-    (law : (x : X × At) → read (record { left = Some n; bytes = at.bytes }) ≡ Ok x → Takes (record { left = Some n; bytes = at.bytes }) (text x.0) x.1 × Valid x.0 × Ends Defined x.1) where
-  pub within_takes : (x : X × At) → leaves_fewer at.left n ≡ false → within n at read ≡ Ok x → Takes at (text x.0) x.1 × (n ≡ length (text x.0)) × Valid x.0
+    (law : (x : X × At) → read (record { left = Some n; bytes = at.bytes }) ≡ Ok x
+    → Takes (record { left = Some n; bytes = at.bytes }) (text x.0) x.1 × Valid x.0 × Ends Defined x.1) where
+  pub within_takes : (x : X × At) → leaves_fewer at.left n ≡ false → within n at read ≡ Ok x → Takes at (text x.0) x.1
+      × (n ≡ length (text x.0)) × Valid x.0
   within_takes x enough e =
       let inner : At = record { left = Some n; bytes = at.bytes } in
-      let a = bind_ok (read inner) (λ (y : X × At). Ok (y.0, record { left = less at.left n; bytes = y.1.bytes })) x e in
+      let a = bind_ok (read inner) (λ (y : X × At). Ok (y.0, record { left = less at.left n; bytes = y.1.bytes })) x e
+      in
       let y : X × At = a.0 in
       let l = law y a.1 in
       let len : n ≡ length (text y.0) = ended_length n (length (text y.0)) y.1 l.0.left l.2 in
       let next : At = record { left = less at.left n; bytes = y.1.bytes } in
-      let left : Leaves at.left (length (text y.0)) next.left = subst (λ (k : ℕ). Leaves at.left k next.left) len (Leaves-less at.left n enough) in
+      let left : Leaves at.left (length (text y.0)) next.left =
+      subst (λ (k : ℕ). Leaves at.left k next.left) len (Leaves-less at.left n enough) in
       let all : Takes at (text y.0) next = record { parts = l.0.parts; left = left; fits = l.0.fits } in
-      subst (λ (z : X × At). Takes at (text z.0) z.1 × (n ≡ length (text z.0)) × Valid z.0) (ok_is (y.0, next) x a.2) (all, len, l.1)
+      subst (λ (z : X × At). Takes at (text z.0) z.1 × (n ≡ length (text z.0)) × Valid z.0) (ok_is (y.0, next) x a.2)
+      (all, len, l.1)

@@ -1,8 +1,10 @@
--- What a function of the crate returned, seen as elements, is what the definition of reading gives; only memory that ran
--- out says nothing of the bytes.
+-- What a function of the crate returned, seen as elements, is what the definition of reading gives; only memory that
+-- ran out says nothing of the bytes.
 use Rattle.std.specs.Prelude.{◌≡◌, Result, Ok, Err}
 use Rattle.dd_set.specs.declared.fault.SetFault.{SetFault}
-use Rattle.dd_set.specs.declared.fault.SetFault.TheVariants.{Truncated, Order, BadVr, Reserved, OddLength, UndefinedLength, UnexpectedTag, BadDelimiter, Overrun, TooDeep, Memory}
+use Rattle.dd_set.specs.declared.fault.SetFault.TheVariants.{Truncated, Order, BadVr, Reserved, OddLength}
+use Rattle.dd_set.specs.declared.fault.SetFault.TheVariants.{UndefinedLength, UnexpectedTag, BadDelimiter, Overrun}
+use Rattle.dd_set.specs.declared.fault.SetFault.TheVariants.{TooDeep, Memory}
 
 -- a returned fault is the one that reading gives, unless it is Memory
 abbrev pub Fails : {Y : Type 0} → SetFault → Result Y SetFault → Type 0

@@ -46,6 +46,7 @@ abbrev pub SendsTo : {W R : Type 0} → (W → Option (List ℕ)) → (W → R) 
 SendsTo contents rest failures text sent result old new =
     Sends text sent result (contents old, rest old) (contents new, rest new) (failures old) (failures new)
 
--- the lengths that the header of a value representation has room for in Explicit VR are below this (PS3.5 section 7.1.2)
+-- the lengths that the header of a value representation has room for in Explicit VR are below this
+-- (PS3.5 section 7.1.2)
 abbrev pub header_limit : Vr → ℕ
 header_limit vr = if is_long_of vr then 2 ^ 32 else 2 ^ 16

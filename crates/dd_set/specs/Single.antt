@@ -7,7 +7,8 @@ use Rattle.dd_set.specs.declared.syntax.Length.{Length}
 use Rattle.dd_set.specs.declared.syntax.Length.TheVariants.{Defined, Undefined}
 use Rattle.dd_set.specs.declared.syntax.Syntax.{Syntax}
 use Rattle.dd_set.specs.Elements.{Entry, Part}
-use Rattle.dd_set.specs.Spelling.{tag_text, content_text, elements_text, item_tag_text, item_end_text, length_of, closed, delimiter_group, AreElements, IsContent, FitsLong}
+use Rattle.dd_set.specs.Spelling.{tag_text, content_text, elements_text, item_tag_text, item_end_text, length_of}
+use Rattle.dd_set.specs.Spelling.{closed, delimiter_group, AreElements, IsContent, FitsLong}
 
 -- an element: tag, the rest of the header, and the value
 abbrev pub entry_text : Entry → List ℕ
@@ -15,12 +16,14 @@ entry_text e = tag_text e.tag ++ content_text e.vr e.content
 
 -- an item: its tag, a length and its data set, with the mark of its end where it wants one
 abbrev pub part_text : Part → List ℕ
-part_text p = item_tag_text ++ (little_bytes 4 (length_of p.length (elements_text p.set)) ++ closed p.length item_end_text (elements_text p.set))
+part_text p = item_tag_text ++ (little_bytes 4 (length_of p.length (elements_text p.set))
+    ++ closed p.length item_end_text (elements_text p.set))
 
 -- an element of a set in this syntax, whose tag is not below the number `low`
 abbrev pub IsEntry : Syntax → ℕ → ℕ → Entry → Type 0
 IsEntry syntax levels low e =
-    (low ≤ number_of e.tag) × (e.tag.group < 2 ^ 16) × (e.tag.element < 2 ^ 16) × (e.tag.group ≢ delimiter_group) × IsContent syntax levels e.vr e.content
+    (low ≤ number_of e.tag) × (e.tag.group < 2 ^ 16) × (e.tag.element < 2 ^ 16) × (e.tag.group ≢ delimiter_group)
+    × IsContent syntax levels e.vr e.content
 
 -- an item where so many levels may still nest, itself included
 abbrev pub IsPart : Syntax → ℕ → Part → Type 0

@@ -1,5 +1,6 @@
 -- The bytes of a data set, and which data sets have bytes (PS3.5 sections 6.2, 7.1 and 7.5).
-use Rattle.std.specs.Prelude.{◌≡◌, ◌≢◌, ℕ, zero, suc, ◌+◌, ◌^◌, ◌<◌, ◌≤◌, ◌%◌, List, [], ◌∷◌, ◌++◌, length, Option, Some, None, IsSomeAnd, if◌then◌else◌}
+use Rattle.std.specs.Prelude.{◌≡◌, ◌≢◌, ℕ, zero, suc, ◌+◌, ◌^◌, ◌<◌, ◌≤◌, ◌%◌, List, [], ◌∷◌, ◌++◌, length, Option}
+use Rattle.std.specs.Prelude.{Some, None, IsSomeAnd, if◌then◌else◌}
 use Rattle.byteorder.specs.Endian.{little_bytes}
 use Rattle.dd_elem.specs.declared.tag.Tag.{Tag}
 use Rattle.dd_elem.specs.declared.vr.Vr.{Vr}
@@ -36,7 +37,7 @@ shape_text (Some vr) n = letters_of vr ++ (if is_long_of vr then 0 ∷ 0 ∷ lit
 abbrev pub header_text : Tag → Option Vr → ℕ → List ℕ
 header_text t vr n = tag_text t ++ shape_text vr n
 
--- the tag of an item (FFFE,E000), the end of an item (FFFE,E00D) and the end of a sequence (FFFE,E0DD), both of length 0
+-- the tag of an item (FFFE,E000), the end of an item (FFFE,E00D) and that of a sequence (FFFE,E0DD), both of length 0
 abbrev pub item_tag_text : List ℕ
 item_tag_text = 0xfe ∷ 0xff ∷ 0x00 ∷ 0xe0 ∷ []
 
@@ -64,12 +65,14 @@ abbrev mutual
   -- the header behind its tag, and the value
   pub content_text : Option Vr → Content → List ℕ
   content_text vr (bytes v) = shape_text vr (length v) ++ v
-  content_text vr (items form parts) = shape_text vr (length_of form (items_text parts)) ++ closed form sequence_end_text (items_text parts)
+  content_text vr (items form parts) = shape_text vr (length_of form (items_text parts))
+      ++ closed form sequence_end_text (items_text parts)
 
   -- the items of a sequence, one after the other
   pub items_text : Items → List ℕ
   items_text no_items = []
-  items_text (item form set rest) = item_tag_text ++ (little_bytes 4 (length_of form (elements_text set)) ++ (closed form item_end_text (elements_text set) ++ items_text rest))
+  items_text (item form set rest) = item_tag_text ++ (little_bytes 4 (length_of form (elements_text set))
+      ++ (closed form item_end_text (elements_text set) ++ items_text rest))
 
 -- ---- which sets have bytes
 
@@ -84,8 +87,8 @@ length_limit None = undefined_length
 length_limit (Some vr) = if is_long_of vr then undefined_length else 2 ^ 16
 
 -- The syntax in which the items of a sequence are spelled, where an element of this value representation may hold a
--- sequence of this form. Explicit: SQ, of either form, and UN of undefined length, whose items are Implicit. Implicit: of
--- undefined length alone.
+-- sequence of this form. Explicit: SQ, of either form, and UN of undefined length, whose items are Implicit. Implicit:
+-- of undefined length alone.
 abbrev pub explicit_item_syntax : Vr → Length → Option Syntax
 explicit_item_syntax SQ form = Some Explicit
 explicit_item_syntax UN Undefined = Some Implicit
@@ -122,13 +125,15 @@ abbrev mutual
   -- a value: bytes of even length, or items, with a length that fits
   pub IsContent : Syntax → ℕ → Option Vr → Content → Type 0
   IsContent syntax levels vr (bytes v) = HoldsBytes syntax vr × (length v % 2 ≡ 0) × (length v < length_limit vr)
-  IsContent syntax levels vr (items form parts) = IsSomeAnd (item_syntax syntax vr form) (λ inner. AreItems inner levels parts) × FitsLong form (items_text parts)
+  IsContent syntax levels vr (items form parts) = IsSomeAnd (item_syntax syntax vr form)
+      (λ inner. AreItems inner levels parts) × FitsLong form (items_text parts)
 
   -- items, each one level further in
   pub AreItems : Syntax → ℕ → Items → Type 0
   AreItems syntax levels no_items = Unit {0}
   AreItems syntax zero (item form set rest) = ⊥
-  AreItems syntax (suc levels) (item form set rest) = AreElements syntax levels 0 set × FitsLong form (elements_text set) × AreItems syntax (suc levels) rest
+  AreItems syntax (suc levels) (item form set rest) = AreElements syntax levels 0 set
+      × FitsLong form (elements_text set) × AreItems syntax (suc levels) rest
 
 -- The bytes spell the set in this syntax. Both length forms are part of the set, so it has one spelling at most.
 pub record Spells (syntax : Syntax) (set : Elements) (text : List ℕ) : Type 0 where

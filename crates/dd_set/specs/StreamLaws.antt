@@ -10,19 +10,24 @@ use Rattle.dd_set.specs.Bytes.{AreBytes}
 use Rattle.dd_set.specs.Streams.{Place, MayCome, Ends, Turns, Moves}
 
 module _ {R : Type 0} (remaining : R → Option (List ℕ)) (failures calls : R → ℕ) where
-  turns_none : (reader : R) (left : ℕ) (end : Option End) → Turns remaining failures calls reader reader [] left left end end
+  turns_none : (reader : R) (left : ℕ) (end : Option End)
+      → Turns remaining failures calls reader reader [] left left end end
   turns_none reader left None = (refl, omega arith, omega arith)
   turns_none reader left (Some end) = (refl, refl, refl)
 
   -- a stretch while it was open, and then one in which it ended
-  ends_then : (first then last : R) (g h : List ℕ) (left now : ℕ) (end : End) → failures then ≡ failures first → now + length g ≡ left
-      → Ends end now h (remaining last) (failures then) (failures last) → Ends end left (g ++ h) (remaining last) (failures first) (failures last)
+  ends_then : (first then last : R) (g h : List ℕ) (left now : ℕ) (end : End) → failures then ≡ failures first
+      → now + length g ≡ left
+      → Ends end now h (remaining last) (failures then) (failures last)
+      → Ends end left (g ++ h) (remaining last) (failures first) (failures last)
   ends_then first then last g h left now Ended same count e = (omega (arith, length-append g h), e.1, rw same at e.2)
   ends_then first then last g h left now Failed same count e = (omega (arith, length-append g h), rw same at e.1)
   ends_then first then last g h left now TooLong same count e = (omega (arith, length-append g h), rw same at e.1)
 
-  turns_then : (first then last : R) (g h : List ℕ) (a b c : ℕ) (one two three : Option End) → Turns remaining failures calls first then g a b one two
-      → Turns remaining failures calls then last h b c two three → Turns remaining failures calls first last (g ++ h) a c one three
+  turns_then : (first then last : R) (g h : List ℕ) (a b c : ℕ) (one two three : Option End)
+      → Turns remaining failures calls first then g a b one two
+      → Turns remaining failures calls then last h b c two three
+      → Turns remaining failures calls first last (g ++ h) a c one three
   turns_then first then last g h a b c None None None t u =
       (u.0 ∙ t.0, omega (arith, length-append g h), omega (arith, length-append g h))
   turns_then first then last g h a b c None None (Some end) t u =
@@ -50,27 +55,33 @@ module _ {R : Type 0} (remaining : R → Option (List ℕ)) (failures calls : R 
       turns = turns_none reader p.left p.end;
     }
 
-    pub moves_then : (first then last : R) (p q r : Place) (xs ys : List ℕ) → Moves remaining failures calls has_given first then p q xs
-        → Moves remaining failures calls has_given then last q r ys → Moves remaining failures calls has_given first last p r (xs ++ ys)
+    pub moves_then : (first then last : R) (p q r : Place) (xs ys : List ℕ)
+        → Moves remaining failures calls has_given first then p q xs
+        → Moves remaining failures calls has_given then last q r ys
+        → Moves remaining failures calls has_given first last p r (xs ++ ys)
     moves_then first then last p q r xs ys m n = record {
       given = m.given ++ n.given;
       gave = gives_more has_given first then last m.given n.given m.gave n.gave;
       known = consumes_more (remaining first) (remaining then) (remaining last) m.given n.given m.known n.known;
       bytes = bytes_then m.given n.given m.bytes n.bytes;
-      parts = sym (append_assoc p.held m.given n.given) ∙ ap (λ (z : List ℕ). z ++ n.given) m.parts ∙ append_assoc xs q.held n.given ∙ ap (λ (z : List ℕ). xs ++ z) n.parts ∙ sym (append_assoc xs ys r.held);
+      parts = sym (append_assoc p.held m.given n.given) ∙ ap (λ (z : List ℕ). z ++ n.given) m.parts
+          ∙ append_assoc xs q.held n.given ∙ ap (λ (z : List ℕ). xs ++ z) n.parts ∙ sym (append_assoc xs ys r.held);
       turns = turns_then first then last m.given n.given p.left q.left r.left p.end q.end r.end m.turns n.turns;
     }
 
-    shut_then : (first then : R) (given more : List ℕ) (a b : ℕ) (one two : Option End) → Turns remaining failures calls first then given a b one two → (IsSome two → more ≡ [])
+    shut_then : (first then : R) (given more : List ℕ) (a b : ℕ) (one two : Option End)
+        → Turns remaining failures calls first then given a b one two → (IsSome two → more ≡ [])
         → IsSome one → given ++ more ≡ []
     shut_then first then given more a b None two t shut h = absurd cc
     shut_then first then given more a b (Some end) two t shut h =
         let none = (rw t.0 at shut) refl in
         rw (t.2, none) refl
 
-    pub tells_then : (first then : R) (p q : Place) (xs ys : List ℕ) → Moves remaining failures calls has_given first then p q xs → MayCome q ys → MayCome p (xs ++ ys)
+    pub tells_then : (first then : R) (p q : Place) (xs ys : List ℕ)
+        → Moves remaining failures calls has_given first then p q xs → MayCome q ys → MayCome p (xs ++ ys)
     tells_then first then p q xs ys m t = record {
       more = m.given ++ t.more;
-      parts = ap (λ (z : List ℕ). xs ++ z) t.parts ∙ sym (append_assoc xs q.held t.more) ∙ ap (λ (z : List ℕ). z ++ t.more) (sym m.parts) ∙ append_assoc p.held m.given t.more;
+      parts = ap (λ (z : List ℕ). xs ++ z) t.parts ∙ sym (append_assoc xs q.held t.more)
+          ∙ ap (λ (z : List ℕ). z ++ t.more) (sym m.parts) ∙ append_assoc p.held m.given t.more;
       shut = shut_then first then m.given t.more p.left q.left p.end q.end m.turns t.shut;
     }

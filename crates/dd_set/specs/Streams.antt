@@ -1,5 +1,5 @@
--- How a stream of a reader's bytes moves on: what it keeps of the last read, how many bytes it may still read, and how it
--- came to its end.
+-- How a stream of a reader's bytes moves on: what it keeps of the last read, how many bytes it may still read, and how
+-- it came to its end.
 use Rattle.std.specs.Prelude.{◌≡◌, ◌≤◌, ℕ, ◌+◌, List, [], ◌++◌, length, take, Option, Some, None, IsSome}
 use Rattle.std.specs.Io.KnownBytes.{Consumes, IsAtEnd}
 use Rattle.dd_elem.specs.Device.{Gives, HasWorked, HasFailed}
@@ -41,12 +41,15 @@ Ends TooLong left given remaining old new = (length given ≡ left + 1) × HasWo
 module _ {R : Type 0} (remaining : R → Option (List ℕ)) (failures calls : R → ℕ) where
   -- a stream that has not ended did not fail; one that ended did so as its reader says; and then it rests
   abbrev pub Turns : R → R → List ℕ → ℕ → ℕ → Option End → Option End → Type 0
-  Turns old new given left now None None = (failures new ≡ failures old) × (now + length given ≡ left) × (calls new ≤ calls old + length given)
-  Turns old new given left now None (Some end) = Ends end left given (remaining new) (failures old) (failures new) × (calls new ≤ calls old + left + 1)
+  Turns old new given left now None None = (failures new ≡ failures old) × (now + length given ≡ left)
+      × (calls new ≤ calls old + length given)
+  Turns old new given left now None (Some end) = Ends end left given (remaining new) (failures old) (failures new)
+      × (calls new ≤ calls old + left + 1)
   Turns old new given left now (Some end) after = (after ≡ Some end) × (new ≡ old) × (given ≡ [])
 
   -- Between two places of a stream these bytes were taken. Meanwhile its reader gave some.
-  pub record Moves (has_given : R → List ℕ → Type 0) (old new : R) (before after : Place) (taken : List ℕ) : Type 0 where
+  pub record Moves (has_given : R → List ℕ → Type 0) (old new : R) (before after : Place) (taken : List ℕ)
+      : Type 0 where
     pub given : List ℕ
     pub gave : Gives has_given old new given
     pub known : Consumes (remaining old) (remaining new) given

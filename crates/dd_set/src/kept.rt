@@ -1,6 +1,7 @@
 //! Bytes of a reader that were read and not taken yet.
 
-ghost use Rattle.std.specs.Prelude.{◌≡◌, ◌≤◌, ◌<◌, ◌+◌, ◌++◌, [], min, length, take, drop, Some, IsSome, IfSome, IsNone};
+ghost use Rattle.std.specs.Prelude.{◌≡◌, ◌≤◌, ◌<◌, ◌+◌, ◌++◌, [], min, length, take, drop, Some, IsSome, IfSome};
+ghost use Rattle.std.specs.Prelude.{IsNone};
 ghost use Rattle.std.specs.Io.KnownBytes.{Consumes, IsAtEnd};
 ghost use Rattle.dd_elem.specs.Device.{Gives, HasWorked, HasFailed};
 ghost use Rattle.dd_set.specs.Bytes.{AreBytes};

@@ -4,7 +4,8 @@ ghost use Rattle.std.specs.Prelude.{◌≡◌, ℕ, List, ◌+◌, ◌≤◌, �
 ghost use Rattle.std.specs.Option.{SomeIff};
 ghost use Rattle.dd_set.specs.Elements.{bytes};
 ghost use Rattle.dd_set.specs.Single.{entry_text, part_text, IsEntry, IsPart};
-ghost use Rattle.dd_set.specs.Spelling.{elements_text, content_text, items_text, AreElements, IsContent, AreItems, FitsLong, closed};
+ghost use Rattle.dd_set.specs.Spelling.{elements_text, content_text, items_text, AreElements, IsContent, AreItems};
+ghost use Rattle.dd_set.specs.Spelling.{FitsLong, closed};
 ghost use Rattle.dd_set.specs.Views.{set_view, element_view, value_view, items_view, item_view};
 
 use crate::headers::{

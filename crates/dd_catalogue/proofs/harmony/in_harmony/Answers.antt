@@ -32,7 +32,8 @@ loop-version-preserved c =
     map_more (agreed m) m c.loop-version.version-index c.version-item.result c.loop-version.held.items
     c.push.new.self.items c.loop-version-test.true c.version-item.is
     c.loop-version.invariant (c.in_ok-push.ensures.items
-    ∙ ap (λ x. c.loop-version.held.items ++ x ∷ []) (subst (λ r. IfOk r (λ v. v ≡ c.in_ok-parts.parts)) c.unwrap.ensures c.of.ensures.value ∙ is))
+    ∙ ap (λ x. c.loop-version.held.items ++ x ∷ []) (subst (λ r. IfOk r (λ v. v ≡ c.in_ok-parts.parts)) c.unwrap.ensures
+    c.of.ensures.value ∙ is))
 
 pub rising-requires : goal.rising-requires
 rising-requires c =

@@ -8,5 +8,6 @@ use Rattle.dd_elem.proofs.file_id_form.are_components.Goals as goal
 pub returns : goal.returns
 returns c =
     all_from_yields_List is_file_id_component _ _ _ c.all.ensures.ran
-    (YieldsList-from_slice_split _ (λ byte. byte == 92) c.args.bytes.now c.split.ensures.rest c.split.ensures.done c.split.ensures.closure (λ x b q k. search (rules, tests)))
+    (YieldsList-from_slice_split _ (λ byte. byte == 92) c.args.bytes.now c.split.ensures.rest c.split.ensures.done
+    c.split.ensures.closure (λ x b q k. search (rules, tests)))
     (λ x b q k. search (rules, tests))

@@ -3,4 +3,5 @@ use Rattle.dd_elem.proofs.file_id_form.is_file_id.Goals as goal
 
 pub returns-else-separators-lt8-clause-form : goal.returns-else-separators-lt8-clause-form
 returns-else-separators-lt8-clause-form c =
-    decides_from_is c.args.bytes.now _ (is_file_id_form-many c.args.bytes.now _ c.separators.ensures c.if-separators-lt8.false)
+    decides_from_is c.args.bytes.now _ (is_file_id_form-many c.args.bytes.now _ c.separators.ensures
+    c.if-separators-lt8.false)

@@ -18,4 +18,5 @@ pub returns-then-bytes-le16-clause-form : goal.returns-then-bytes-le16-clause-fo
 returns-then-bytes-le16-clause-form c = decides_from_is c.args.bytes.now _ (returns-then-bytes-le16-clause-test c)
 
 pub returns-else-bytes-le16-clause-test : goal.returns-else-bytes-le16-clause-test
-returns-else-bytes-le16-clause-test c = lt-leb _ _ c.if-bytes-le16.false ∙ sym (is_set_id-long c.args.bytes.now c.if-bytes-le16.false)
+returns-else-bytes-le16-clause-test c = lt-leb _ _ c.if-bytes-le16.false
+    ∙ sym (is_set_id-long c.args.bytes.now c.if-bytes-le16.false)

@@ -6,4 +6,5 @@ use Rattle.dd_elem.specs.Uid.{is_digit}
 use Rattle.dd_elem.proofs.uid.are_digits.Goals as goal
 
 pub returns : goal.returns
-returns c = all_from_yields_List is_digit _ _ _ c.all.ensures.ran (YieldsList-from_slice c.args.bytes.now cc) (λ x b q k. search (rules, tests))
+returns c = all_from_yields_List is_digit _ _ _ c.all.ensures.ran (YieldsList-from_slice c.args.bytes.now cc)
+    (λ x b q k. search (rules, tests))

@@ -22,12 +22,14 @@ behind_length : (tag : Tag) (vr : Vr) (r : Reads ℕ)
 behind_length tag vr (Ok n) = refl
 behind_length tag vr (Err e) = refl
 
-long_header : (tag : Tag) (vr : Vr) (head : List ℕ) (at : At) → vr_of (take 2 (drop 4 head)) ≡ Some vr → is_long_of vr ≡ true → eqb (short_of head) 0 ≡ true
+long_header : (tag : Tag) (vr : Vr) (head : List ℕ) (at : At) → vr_of (take 2 (drop 4 head)) ≡ Some vr
+    → is_long_of vr ≡ true → eqb (short_of head) 0 ≡ true
     → tagged_at Explicit tag head at ≡ long_header_at tag vr at
 unfolding shape_at long_at
 long_header tag vr head at named long zero = rw (named, long, zero) (behind_length tag vr (long_length_at at))
 
-reserved_header : (tag : Tag) (vr : Vr) (head : List ℕ) (at : At) → vr_of (take 2 (drop 4 head)) ≡ Some vr → is_long_of vr ≡ true → eqb (short_of head) 0 ≡ false
+reserved_header : (tag : Tag) (vr : Vr) (head : List ℕ) (at : At) → vr_of (take 2 (drop 4 head)) ≡ Some vr
+    → is_long_of vr ≡ true → eqb (short_of head) 0 ≡ false
     → tagged_at Explicit tag head at ≡ Err Reserved
 unfolding shape_at long_at
 reserved_header tag vr head at named long other = rw (named, long, other) refl
@@ -35,10 +37,13 @@ reserved_header tag vr head at named long other = rw (named, long, other) refl
 pub returns-then-short_in-ne0-clause-exact : goal.returns-then-short_in-ne0-clause-exact
 returns-then-short_in-ne0-clause-exact c = λ at.
     let named = ap vr_of (sym c.letters_in.ensures) ∙ sym c.in-Some.ensures.exact in
-    rw c.in-Explicit.is (reserved_header c.args.tag c.in-Some.vr c.args.head.now at named (sym c.is_long.ensures ∙ c.if-is_long.true) (differ _ _ (λ zero. c.if-short_in-ne0.true (c.short_in.ensures ∙ zero))))
+    rw c.in-Explicit.is (reserved_header c.args.tag c.in-Some.vr c.args.head.now at named
+    (sym c.is_long.ensures ∙ c.if-is_long.true) (differ _ _
+    (λ zero. c.if-short_in-ne0.true (c.short_in.ensures ∙ zero))))
 
 pub returns-then-is_long-clause-exact : goal.returns-then-is_long-clause-exact
 returns-then-is_long-clause-exact c = λ at.
     let named = ap vr_of (sym c.letters_in.ensures) ∙ sym c.in-Some.ensures.exact in
     let zero : short_of c.args.head.now ≡ 0 = sym c.short_in.ensures ∙ c.if-short_in-ne0.false in
-    rw c.in-Explicit.is (long_header c.args.tag c.in-Some.vr c.args.head.now at named (sym c.is_long.ensures ∙ c.if-is_long.true) (ap (λ n. eqb n 0) zero))
+    rw c.in-Explicit.is (long_header c.args.tag c.in-Some.vr c.args.head.now at named
+    (sym c.is_long.ensures ∙ c.if-is_long.true) (ap (λ n. eqb n 0) zero))

@@ -14,7 +14,8 @@ loop-passed-preserved g c =
     let before = c.loop-passed.invariant.moved in
     let piece = take c.give-came.result c.give-came.new.room in
     let count = length-take-le c.give-came.result c.give-came.new.room c.give-came.ensures.bound in
-    let room : length c.give-came.new.room ≡ length (take c.min-wanted.result c.loop-passed.piece) = c.give-came.auto.room in
+    let room : length c.give-came.new.room ≡ length (take c.min-wanted.result c.loop-passed.piece) =
+    c.give-came.auto.room in
     let few = length-take c.min-wanted.result c.loop-passed.piece in
     record {
       within = omega arith;
@@ -23,7 +24,8 @@ loop-passed-preserved g c =
         g.met.F.Feed.goes _ _ _ _ _ before.1 c.give-came.ensures.moved,
         omega (arith, length-append before.0 piece, before.2),
         λ front counted start. rw (← append_assoc front before.0 piece)
-            (c.cleaned_with-cleaned.ensures (front ++ before.0) (omega (arith, length-append front before.0, before.2)) (before.3 front counted start)),
+            (c.cleaned_with-cleaned.ensures (front ++ before.0) (omega (arith, length-append front before.0, before.2))
+            (before.3 front counted start)),
       );
       fewer = omega arith;
     }

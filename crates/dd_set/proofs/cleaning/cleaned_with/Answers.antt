@@ -5,7 +5,8 @@ use Rattle.dd_set.proofs.cleaning.cleaned_with.Goals as goal
 
 pub returns-then-kept-eq0 : goal.returns-then-kept-eq0
 returns-then-kept-eq0 c = λ front counted before.
-    let none : length (clean_of c.args.piece.now) ≡ 0 = sym (ap length c.clean-kept.ensures.exact) ∙ c.if-kept-eq0.true in
+    let none : length (clean_of c.args.piece.now) ≡ 0 = sym (ap length c.clean-kept.ensures.exact)
+    ∙ c.if-kept-eq0.true in
     before ∙ sym (cleaned_same front c.args.piece.now none)
 
 pub returns : goal.returns

@@ -1,5 +1,6 @@
 -- The front of the value, and the rest of it behind.
-use Rattle.std.proofs.Common.{◌≡◌, ◌∙◌, ◌≤◌, ◌++◌, ℕ, List, length, take, ap, sym, subst, refl, true, false, arith, replicate}
+use Rattle.std.proofs.Common.{◌≡◌, ◌∙◌, ◌≤◌, ◌++◌, ℕ, List, length, take, ap, sym, subst, refl, true, false, arith}
+use Rattle.std.proofs.Common.{replicate}
 use Rattle.std.proofs.lemmas.List.{length-append, length-take-le, length-replicate, take_all}
 use Rattle.std.proofs.lemmas.Result.{err_from_is_err_and}
 use Rattle.dd_elem.proofs.Cleaning.{length-clean_of}
@@ -10,7 +11,8 @@ use Rattle.dd_set.proofs.CleanedFronts.{cleaned_front}
 use Rattle.dd_set.proofs.Feeding.{take_overruns, take_ends, take_whole, over_length, front_length}
 use Rattle.dd_set.proofs.cleaning.take_long.Goals as goal
 
-told_cleaned : (front same : List ℕ) (n m : ℕ) → front ≡ same → n ≡ m → ◌≡◌ {A = Told} (cleaned front n) (cleaned same m)
+told_cleaned : (front same : List ℕ) (n m : ℕ) → front ≡ same → n ≡ m
+    → ◌≡◌ {A = Told} (cleaned front n) (cleaned same m)
 told_cleaned front same n m e f = rw (e, f) refl
 
 -- a front of the room for what is kept
@@ -22,12 +24,14 @@ room_is room n few is = is ∙ length-take-le n zeros (omega (arith, length-repl
 
 pub returns-then-leaves_fewer-clause-found : goal.returns-then-leaves_fewer-clause-found
 returns-then-leaves_fewer-clause-found g c =
-    let fewer : leaves_fewer c.args.left c.args.n ≡ true = rw c.from-n.ensures at (sym c.leaves_fewer.ensures ∙ c.if-leaves_fewer.true) in
+    let fewer : leaves_fewer c.args.left c.args.n ≡ true = rw c.from-n.ensures at
+    (sym c.leaves_fewer.ensures ∙ c.if-leaves_fewer.true) in
     scans_none _ _ _ _ (g.met.F.Feed.stays _) (λ rest t. take_overruns c.args.n c.args.left rest fewer)
 
 pub returns-then-fill-first-clause-found : goal.returns-then-fill-first-clause-found
 returns-then-fill-first-clause-found g c =
-    let enough : leaves_fewer c.args.left c.args.n ≡ false = rw c.from-n.ensures at (sym c.leaves_fewer.ensures ∙ c.if-leaves_fewer.false) in
+    let enough : leaves_fewer c.args.left c.args.n ≡ false =
+    rw c.from-n.ensures at (sym c.leaves_fewer.ensures ∙ c.if-leaves_fewer.false) in
     let room = c.fill.new.room in
     let size : length room ≡ c.min-first.result = room_is room c.min-first.result (omega arith) c.fill.auto.room in
     let taken = take c.fill.result room in
@@ -36,12 +40,14 @@ returns-then-fill-first-clause-found g c =
     record {
       taken = taken;
       moved = c.fill.ensures.moved;
-      gives = λ rest t. take_ends c.args.n c.args.left (taken ++ rest) enough (omega (arith, over_length _ _ taken rest over t));
+      gives = λ rest t. take_ends c.args.n c.args.left (taken ++ rest) enough
+          (omega (arith, over_length _ _ taken rest over t));
     }
 
 pub returns-in_default-clause-found : goal.returns-in_default-clause-found
 returns-in_default-clause-found g c =
-    let enough : leaves_fewer c.args.left c.args.n ≡ false = rw c.from-n.ensures at (sym c.leaves_fewer.ensures ∙ c.if-leaves_fewer.false) in
+    let enough : leaves_fewer c.args.left c.args.n ≡ false =
+    rw c.from-n.ensures at (sym c.leaves_fewer.ensures ∙ c.if-leaves_fewer.false) in
     let room = c.fill.new.room in
     let size : length room ≡ c.min-first.result = room_is room c.min-first.result (omega arith) c.fill.auto.room in
     let all : take c.fill.result room ≡ room = take_all c.fill.result room (omega arith) in
@@ -50,8 +56,10 @@ returns-in_default-clause-found g c =
     let few = m.3 refl in
     record {
       taken = room ++ m.0;
-      moved = g.met.F.Feed.goes _ _ _ _ _ (subst (g.F.Feed.moves c.args.feed.now c.fill.new.feed) all c.fill.ensures.moved) m.1;
-      gives = λ rest t. take_ends c.args.n c.args.left ((room ++ m.0) ++ rest) enough (omega (arith, length-append room m.0, over_length _ _ (room ++ m.0) rest over t));
+      moved = g.met.F.Feed.goes _ _ _ _ _ (subst (g.F.Feed.moves c.args.feed.now c.fill.new.feed) all
+          c.fill.ensures.moved) m.1;
+      gives = λ rest t. take_ends c.args.n c.args.left ((room ++ m.0) ++ rest) enough
+          (omega (arith, length-append room m.0, over_length _ _ (room ++ m.0) rest over t));
     }
 
 pub slice_bounds-to_vec-end : goal.slice_bounds-to_vec-end
@@ -77,7 +85,8 @@ returns-in_err-front-clause-found g c =
 
 pub returns-clause-found : goal.returns-clause-found
 returns-clause-found g c =
-    let enough : leaves_fewer c.args.left c.args.n ≡ false = rw c.from-n.ensures at (sym c.leaves_fewer.ensures ∙ c.if-leaves_fewer.false) in
+    let enough : leaves_fewer c.args.left c.args.n ≡ false =
+    rw c.from-n.ensures at (sym c.leaves_fewer.ensures ∙ c.if-leaves_fewer.false) in
     let room = c.fill.new.room in
     let size : length room ≡ c.min-first.result = room_is room c.min-first.result (omega arith) c.fill.auto.room in
     let all : take c.fill.result room ≡ room = take_all c.fill.result room (omega arith) in
@@ -86,11 +95,13 @@ returns-clause-found g c =
     let length_is = m.4.1 room (omega arith) (ap length c.clean.ensures.exact) in
     let fits = length-clean_of (room ++ m.0) in
     let kept = c.in_ok-front.ensures.items_if_clones_equal (λ x y h. h) in
-    let front_is = cleaned_front 1024 c.min-kept.result room m.0 (omega arith) (omega (arith, length-append room m.0)) in
+    let front_is = cleaned_front 1024 c.min-kept.result room m.0 (omega arith) (omega (arith, length-append room m.0))
+    in
     let less_is : c.less.result ≡ less c.args.left c.args.n = c.less.ensures ∙ ap (less c.args.left) c.from-n.ensures in
     record {
       taken = room ++ m.0;
-      moved = g.met.F.Feed.goes _ _ _ _ _ (subst (g.F.Feed.moves c.args.feed.now c.fill.new.feed) all c.fill.ensures.moved) m.1;
+      moved = g.met.F.Feed.goes _ _ _ _ _ (subst (g.F.Feed.moves c.args.feed.now c.fill.new.feed) all
+          c.fill.ensures.moved) m.1;
       gives = λ rest t. (
         room ++ m.0,
         told_cleaned _ _ _ _ (kept ∙ front_is) length_is,

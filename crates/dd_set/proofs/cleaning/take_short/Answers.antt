@@ -7,7 +7,8 @@ use Rattle.dd_set.specs.Scan.{Told, cleaned}
 use Rattle.dd_set.proofs.Along.{scans_same}
 use Rattle.dd_set.proofs.cleaning.take_short.Goals as goal
 
-told_cleaned : (front same : List ℕ) (n m : ℕ) → front ≡ same → n ≡ m → ◌≡◌ {A = Told} (cleaned front n) (cleaned same m)
+told_cleaned : (front same : List ℕ) (n m : ℕ) → front ≡ same → n ≡ m
+    → ◌≡◌ {A = Told} (cleaned front n) (cleaned same m)
 told_cleaned front same n m e f = rw (e, f) refl
 
 pub returns-clause-found : goal.returns-clause-found

@@ -6,8 +6,12 @@ use Rattle.dd_set.proofs.filling.skip.Goals as goal
 pub returns-then-passed-eq0-clause-moved : goal.returns-then-passed-eq0-clause-moved
 returns-then-passed-eq0-clause-moved g c =
     let before = c.loop-at.invariant.moved in
-    let more = c.pass-passed.ensures.moved in
-    (before.0 ++ more.0, omega (arith, length-append before.0 more.0, before.1, more.1), g.met.F.Feed.goes _ _ _ _ _ before.2 more.2)
+    let more = c.pass-passed.ensures.moved in (
+      before.0 ++ more.0,
+      omega (arith, length-append before.0 more.0, before.1, more.1),
+      g.met.F.Feed.goes _ _ _ _ _
+          before.2 more.2,
+    )
 
 pub loop-at-preserved : goal.loop-at-preserved
 loop-at-preserved g c =
@@ -15,6 +19,11 @@ loop-at-preserved g c =
     let more = c.pass-passed.ensures.moved in
     record {
       within = omega arith;
-      moved = (before.0 ++ more.0, omega (arith, length-append before.0 more.0, before.1, more.1), g.met.F.Feed.goes _ _ _ _ _ before.2 more.2);
+      moved = (
+        before.0 ++ more.0,
+        omega (arith, length-append before.0 more.0, before.1, more.1),
+        g.met.F.Feed.goes _ _
+            _ _ _ before.2 more.2,
+      );
       fewer = omega arith;
     }

@@ -31,7 +31,8 @@ decreases-set l = 8 * l.levels + 5
 abbrev pub invariant-sequence-items : goal.invariant-sequence-items
 invariant-sequence-items l =
     (most : ℕ) × (length l.place.rest.now < most) × (length l.place.rest.now ≤ length l.at.rest.now)
-    × (with_items (map item_view l.items.items) (items_at (item_reader l.levels) l.syntax l.form most (at_view l.place)) ≡ sequence_with (item_reader l.levels) l.syntax l.form (at_view l.at))
+    × (with_items (map item_view l.items.items) (items_at (item_reader l.levels) l.syntax l.form most (at_view l.place))
+    ≡ sequence_with (item_reader l.levels) l.syntax l.form (at_view l.at))
     × ((at_view l.place ≡ at_view l.at) ⊎ (unkept_sequence (unkept_item l.levels) l.syntax l.form (at_view l.at)
     ≡ Err Memory))
 
@@ -42,7 +43,8 @@ decreases-sequence-items l = length l.place.rest.now
 abbrev pub invariant-set-elements : goal.invariant-set-elements
 invariant-set-elements l =
     (most : ℕ) × (length l.place.rest.now < most) × (length l.place.rest.now ≤ length l.at.rest.now)
-    × (with_elements (map element_view l.elements.items) (elements_at (sequence_with (item_reader l.levels)) l.syntax l.form most l.low (at_view l.place)) ≡ set_with (item_reader l.levels) l.syntax l.form (at_view l.at))
+    × (with_elements (map element_view l.elements.items) (elements_at (sequence_with (item_reader l.levels)) l.syntax
+    l.form most l.low (at_view l.place)) ≡ set_with (item_reader l.levels) l.syntax l.form (at_view l.at))
     × ((l.low ≡ 0) × (at_view l.place ≡ at_view l.at) ⊎ (unkept_set (unkept_item l.levels) l.syntax l.form
     (at_view l.at) ≡ Err Memory))
 

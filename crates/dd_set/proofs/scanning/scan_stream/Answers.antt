@@ -12,45 +12,56 @@ pub returns-in-Failed-clause-gave : goal.returns-in-Failed-clause-gave
 returns-in-Failed-clause-gave g c =
     let s = c.take_set-answer.ensures.found in
     let m = c.finish.ensures.moved in
-    let w = read_whole g.R.Read.remaining g.R.Read.failures g.R.Read.calls g.R.Read.has_given _ _ _ _ _ _ s.taken m.0 Failed
+    let w = read_whole g.R.Read.remaining g.R.Read.failures g.R.Read.calls g.R.Read.has_given _ _ _ _ _ _ s.taken m.0
+    Failed
     (λ _. Unit {0}) s.moved.1 m.1 (λ rest t. tt)
-    c.requires.empty c.requires.open c.finish.ensures.empty (c.finish.ensures.ended ∙ ap (λ e. Some e) c.in-Failed.is) in
+    c.requires.empty c.requires.open c.finish.ensures.empty (c.finish.ensures.ended ∙ ap (λ e. Some e) c.in-Failed.is)
+    in
     (w.given, w.gave, w.known, w.ends)
 
 pub returns-in-Failed-clause-calls : goal.returns-in-Failed-clause-calls
 returns-in-Failed-clause-calls g c =
     let s = c.take_set-answer.ensures.found in
     let m = c.finish.ensures.moved in
-    let w = read_whole g.R.Read.remaining g.R.Read.failures g.R.Read.calls g.R.Read.has_given _ _ _ _ _ _ s.taken m.0 Failed
+    let w = read_whole g.R.Read.remaining g.R.Read.failures g.R.Read.calls g.R.Read.has_given _ _ _ _ _ _ s.taken m.0
+    Failed
     (λ _. Unit {0}) s.moved.1 m.1 (λ rest t. tt)
-    c.requires.empty c.requires.open c.finish.ensures.empty (c.finish.ensures.ended ∙ ap (λ e. Some e) c.in-Failed.is) in
+    c.requires.empty c.requires.open c.finish.ensures.empty (c.finish.ensures.ended ∙ ap (λ e. Some e) c.in-Failed.is)
+    in
     w.few
 
 pub returns-in-TooLong-clause-gave : goal.returns-in-TooLong-clause-gave
 returns-in-TooLong-clause-gave g c =
     let s = c.take_set-answer.ensures.found in
     let m = c.finish.ensures.moved in
-    let w = read_whole g.R.Read.remaining g.R.Read.failures g.R.Read.calls g.R.Read.has_given _ _ _ _ _ _ s.taken m.0 TooLong
+    let w = read_whole g.R.Read.remaining g.R.Read.failures g.R.Read.calls g.R.Read.has_given _ _ _ _ _ _ s.taken m.0
+    TooLong
     (λ _. Unit {0}) s.moved.1 m.1 (λ rest t. tt)
-    c.requires.empty c.requires.open c.finish.ensures.empty (c.finish.ensures.ended ∙ ap (λ e. Some e) c.in-TooLong.is) in
+    c.requires.empty c.requires.open c.finish.ensures.empty (c.finish.ensures.ended ∙ ap (λ e. Some e) c.in-TooLong.is)
+    in
     (w.given, w.gave, w.known, w.ends)
 
 pub returns-in-TooLong-clause-calls : goal.returns-in-TooLong-clause-calls
 returns-in-TooLong-clause-calls g c =
     let s = c.take_set-answer.ensures.found in
     let m = c.finish.ensures.moved in
-    let w = read_whole g.R.Read.remaining g.R.Read.failures g.R.Read.calls g.R.Read.has_given _ _ _ _ _ _ s.taken m.0 TooLong
+    let w = read_whole g.R.Read.remaining g.R.Read.failures g.R.Read.calls g.R.Read.has_given _ _ _ _ _ _ s.taken m.0
+    TooLong
     (λ _. Unit {0}) s.moved.1 m.1 (λ rest t. tt)
-    c.requires.empty c.requires.open c.finish.ensures.empty (c.finish.ensures.ended ∙ ap (λ e. Some e) c.in-TooLong.is) in
+    c.requires.empty c.requires.open c.finish.ensures.empty (c.finish.ensures.ended ∙ ap (λ e. Some e) c.in-TooLong.is)
+    in
     w.few
 
 pub returns-in-Ok-clause-gave : goal.returns-in-Ok-clause-gave
 returns-in-Ok-clause-gave g c =
     let s = c.in-Ok.ensures.found in
     let m = c.finish.ensures.moved in
-    let w = read_whole g.R.Read.remaining g.R.Read.failures g.R.Read.calls g.R.Read.has_given _ _ _ _ _ _ s.taken m.0 Ended
-    (λ whole. ScanGives c.args.wanted.now (Ok c.in-Ok.scan) (read_all c.args.syntax whole)) s.moved.1 m.1 (λ rest t. s.gives rest t)
-    c.requires.empty c.requires.open c.finish.ensures.empty (c.finish.ensures.ended ∙ ap (λ e. Some e) c.in-Ended.is) in (
+    let w = read_whole g.R.Read.remaining g.R.Read.failures g.R.Read.calls g.R.Read.has_given _ _ _ _ _ _ s.taken m.0
+    Ended
+    (λ whole. ScanGives c.args.wanted.now (Ok c.in-Ok.scan) (read_all c.args.syntax whole)) s.moved.1 m.1
+    (λ rest t. s.gives rest t)
+    c.requires.empty c.requires.open c.finish.ensures.empty
+    (c.finish.ensures.ended ∙ ap (λ e. Some e) c.in-Ended.is) in (
       w.given,
       w.gave,
       w.known,
@@ -58,7 +69,8 @@ returns-in-Ok-clause-gave g c =
         w.ends,
         record {
           set = w.answered.0;
-          spelled = read_is_spelled c.args.syntax w.given w.answered.0 w.bytes (omega (arith, w.ends.0, c.requires.room)) w.answered.1;
+          spelled = read_is_spelled c.args.syntax w.given w.answered.0 w.bytes
+              (omega (arith, w.ends.0, c.requires.room)) w.answered.1;
           told = w.answered.2;
         },
       ),
@@ -68,8 +80,10 @@ pub returns-in-Ok-clause-calls : goal.returns-in-Ok-clause-calls
 returns-in-Ok-clause-calls g c =
     let s = c.in-Ok.ensures.found in
     let m = c.finish.ensures.moved in
-    let w = read_whole g.R.Read.remaining g.R.Read.failures g.R.Read.calls g.R.Read.has_given _ _ _ _ _ _ s.taken m.0 Ended
-    (λ whole. ScanGives c.args.wanted.now (Ok c.in-Ok.scan) (read_all c.args.syntax whole)) s.moved.1 m.1 (λ rest t. s.gives rest t)
+    let w = read_whole g.R.Read.remaining g.R.Read.failures g.R.Read.calls g.R.Read.has_given _ _ _ _ _ _ s.taken m.0
+    Ended
+    (λ whole. ScanGives c.args.wanted.now (Ok c.in-Ok.scan) (read_all c.args.syntax whole)) s.moved.1 m.1
+    (λ rest t. s.gives rest t)
     c.requires.empty c.requires.open c.finish.ensures.empty (c.finish.ensures.ended ∙ ap (λ e. Some e) c.in-Ended.is) in
     w.few
 
@@ -77,7 +91,8 @@ pub returns-in-Err-clause-gave : goal.returns-in-Err-clause-gave
 returns-in-Err-clause-gave g c =
     let s = c.in-Err.ensures.found in
     let m = c.finish.ensures.moved in
-    let w = read_whole g.R.Read.remaining g.R.Read.failures g.R.Read.calls g.R.Read.has_given _ _ _ _ _ _ s.taken m.0 Ended
+    let w = read_whole g.R.Read.remaining g.R.Read.failures g.R.Read.calls g.R.Read.has_given _ _ _ _ _ _ s.taken m.0
+    Ended
     (λ whole. Fails c.in-Err.fault (read_all c.args.syntax whole)) s.moved.1 m.1 (λ rest t. s.gives rest t)
     c.requires.empty c.requires.open c.finish.ensures.empty (c.finish.ensures.ended ∙ ap (λ e. Some e) c.in-Ended.is) in
     (w.given, w.gave, w.known, (w.ends, w.answered))
@@ -86,7 +101,8 @@ pub returns-in-Err-clause-calls : goal.returns-in-Err-clause-calls
 returns-in-Err-clause-calls g c =
     let s = c.in-Err.ensures.found in
     let m = c.finish.ensures.moved in
-    let w = read_whole g.R.Read.remaining g.R.Read.failures g.R.Read.calls g.R.Read.has_given _ _ _ _ _ _ s.taken m.0 Ended
+    let w = read_whole g.R.Read.remaining g.R.Read.failures g.R.Read.calls g.R.Read.has_given _ _ _ _ _ _ s.taken m.0
+    Ended
     (λ whole. Fails c.in-Err.fault (read_all c.args.syntax whole)) s.moved.1 m.1 (λ rest t. s.gives rest t)
     c.requires.empty c.requires.open c.finish.ensures.empty (c.finish.ensures.ended ∙ ap (λ e. Some e) c.in-Ended.is) in
     w.few

@@ -19,7 +19,8 @@ returns-in_default g c =
       | in_default-via-in-Ok+else-n-gt0 w ↦
           let none : w.in-Ok.n ≡ 0 = omega arith in
           fails_at c.args.bytes.now c.args.sent c.loop-at.at _ _ _ _ c.loop-at-test.true
-          (took_none _ _ _ c.args.bytes.now c.loop-at.at w.in-Ok.n none c.loop-at.invariant.holds w.in-Ok.ensures.appends)
+          (took_none _ _ _ c.args.bytes.now c.loop-at.at w.in-Ok.n none c.loop-at.invariant.holds
+          w.in-Ok.ensures.appends)
           (w.in-Ok.ensures.rest ∙ c.loop-at.invariant.stays)
           (failed_then _ _ _ c.loop-at.invariant.worked (w.in-Ok.ensures.failed (none, grind (arith, common_steps))))
       | in_default-via-in_default w ↦

@@ -11,6 +11,7 @@ invariant-items_size-loop-item l = record {
 
 abbrev pub invariant-set_size-loop-element : goal.invariant-set_size-loop-element
 invariant-set_size-loop-element l = record {
-  counts : CountsElements l.syntax l.levels (elements_view l.element-items) (elements_view (drop l.element-index l.element-items)) l.low l.total;
+  counts : CountsElements l.syntax l.levels (elements_view l.element-items)
+      (elements_view (drop l.element-index l.element-items)) l.low l.total;
   fits : l.total < 2 ^ 64;
 }

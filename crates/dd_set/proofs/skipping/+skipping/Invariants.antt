@@ -19,7 +19,8 @@ decreases-skip_set g l = 4 * l.levels + 3
 
 abbrev pub invariant-skip_set-elements : goal.invariant-skip_set-elements
 invariant-skip_set-elements g l = record {
-  goes : Scans g.F.Feed.moves g.F.Feed.tells l.initial.feed l.feed (λ bytes rest. ElementsGo (item_reader l.levels) l.syntax l.form l.fn.left bytes l.low l.left rest);
+  goes : Scans g.F.Feed.moves g.F.Feed.tells l.initial.feed l.feed
+      (λ bytes rest. ElementsGo (item_reader l.levels) l.syntax l.form l.fn.left bytes l.low l.left rest);
   fewer : g.F.Feed.most l.feed ≤ g.F.Feed.most l.initial.feed;
 }
 
@@ -28,7 +29,8 @@ decreases-skip_set-elements g l = g.F.Feed.most l.feed
 
 abbrev pub invariant-skip_items-items : goal.invariant-skip_items-items
 invariant-skip_items-items g l = record {
-  goes : Scans g.F.Feed.moves g.F.Feed.tells l.initial.feed l.feed (λ bytes rest. ItemsGo (item_reader l.levels) l.syntax l.form l.fn.left bytes l.left rest);
+  goes : Scans g.F.Feed.moves g.F.Feed.tells l.initial.feed l.feed
+      (λ bytes rest. ItemsGo (item_reader l.levels) l.syntax l.form l.fn.left bytes l.left rest);
   fewer : g.F.Feed.most l.feed ≤ g.F.Feed.most l.initial.feed;
 }
 

@@ -5,4 +5,5 @@ use Rattle.dd_set.proofs.Places.{Starting}
 use Rattle.dd_set.proofs.starts.items_starts.Given as goal
 
 abbrev pub invariant-loop-item : goal.invariant-loop-item
-invariant-loop-item l = Starting l.syntax max_levels l.first (items_view l.items) l.starts.items l.at (items_view (drop l.item-index l.items))
+invariant-loop-item l = Starting l.syntax max_levels l.first (items_view l.items) l.starts.items l.at
+    (items_view (drop l.item-index l.items))

@@ -30,5 +30,6 @@ returns-in_ok-items_starts-in-Some-clause-places c = λ front is.
     let seen : value_view e.value ≡ items c.in-Items.length parts = search (rules, the_lemmas) in
     let first : length (front ++ header) ≡ c.args.at + 4 + c.shape_size.result = omega
     (arith, is, c.shape_size.ensures.exact n, length-append front header) in
-    ap (λ (xs : List ℕ). Some xs) (rw c.deref.ensures.value at (c.in_ok-items_starts-in-Some.ensures.places (front ++ header) first))
+    ap (λ (xs : List ℕ). Some xs) (rw c.deref.ensures.value at
+    (c.in_ok-items_starts-in-Some.ensures.places (front ++ header) first))
     ∙ ap (λ (v : Content). content_places front e.tag e.vr v) (sym seen)

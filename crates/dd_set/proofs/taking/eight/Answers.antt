@@ -11,9 +11,11 @@ returns-in_err-left-clause-found g c =
     let p = err_from_is_err_and c.from_residual.result c.from_residual.ensures.1 in
     let at : List ℕ → At = λ bytes. record { left = c.args.left; bytes = bytes } in
     rw (p.1, p.2) (scans_same _ _ _ _ _ _ c.in_err-left.ensures.found
-    (λ bytes rest t few h. fails_along c.in_err-left.field-0.0 _ _ h (λ e. eight_fails _ (at bytes) e c.take.auto.room)))
+    (λ bytes rest t few h. fails_along c.in_err-left.field-0.0 _ _ h
+    (λ e. eight_fails _ (at bytes) e c.take.auto.room)))
 
 pub returns-clause-found : goal.returns-clause-found
 returns-clause-found g c =
     let at : List ℕ → At = λ bytes. record { left = c.args.left; bytes = bytes } in
-    scans_same _ _ _ _ _ _ c.in_ok-left.ensures.found (λ bytes rest t few h. eight_found _ (at bytes) _ _ c.take.auto.room h)
+    scans_same _ _ _ _ _ _ c.in_ok-left.ensures.found (λ bytes rest t few h. eight_found _ (at bytes) _ _
+    c.take.auto.room h)

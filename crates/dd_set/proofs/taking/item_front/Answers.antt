@@ -16,19 +16,23 @@ returns-in_err-head-clause-found g c =
 
 pub returns-in_err-item_opening-in-Some-clause-found : goal.returns-in_err-item_opening-in-Some-clause-found
 returns-in_err-item_opening-in-Some-clause-found g c =
-    let p = err_from_is_err_and c.from_residual-in_err-item_opening-in-Some.result c.from_residual-in_err-item_opening-in-Some.ensures.1 in
+    let p = err_from_is_err_and c.from_residual-in_err-item_opening-in-Some.result
+    c.from_residual-in_err-item_opening-in-Some.ensures.1 in
     let at : List ℕ → At = λ bytes. record { left = c.args.left; bytes = bytes } in
     rw (p.1, p.2) (scans_same _ _ _ _ _ _ c.in_ok-head.ensures.found (λ bytes rest t few h.
     fails_is c.in_err-item_opening-in-Some.field-0.0 _
-    (item_front_opens c.args.form (at bytes) c.in-Some.head _ (rw c.in-Some.is at h) ∙ bind_fails _ _ _ (sym c.item_opening.ensures.exact ∙ c.in_err-item_opening-in-Some.was))))
+    (item_front_opens c.args.form (at bytes) c.in-Some.head _ (rw c.in-Some.is at h)
+    ∙ bind_fails _ _ _ (sym c.item_opening.ensures.exact ∙ c.in_err-item_opening-in-Some.was))))
 
 pub returns-in-None-clause-found : goal.returns-in-None-clause-found
 returns-in-None-clause-found g c =
     let at : List ℕ → At = λ bytes. record { left = c.args.left; bytes = bytes } in
-    scans_same _ _ _ _ _ _ c.in_ok-head.ensures.found (λ bytes rest t few h. item_front_none c.args.form (at bytes) _ (rw c.in-None.is at h))
+    scans_same _ _ _ _ _ _ c.in_ok-head.ensures.found (λ bytes rest t few h. item_front_none c.args.form (at bytes) _
+    (rw c.in-None.is at h))
 
 pub returns-in_ok-item_opening-in-Some-clause-found : goal.returns-in_ok-item_opening-in-Some-clause-found
 returns-in_ok-item_opening-in-Some-clause-found g c =
     let at : List ℕ → At = λ bytes. record { left = c.args.left; bytes = bytes } in
     scans_same _ _ _ _ _ _ c.in_ok-head.ensures.found (λ bytes rest t few h.
-    item_front_opens c.args.form (at bytes) c.in-Some.head _ (rw c.in-Some.is at h) ∙ bind_made _ _ _ (sym c.item_opening.ensures.exact ∙ c.in_ok-item_opening-in-Some.was))
+    item_front_opens c.args.form (at bytes) c.in-Some.head _ (rw c.in-Some.is at h)
+    ∙ bind_made _ _ _ (sym c.item_opening.ensures.exact ∙ c.in_ok-item_opening-in-Some.was))

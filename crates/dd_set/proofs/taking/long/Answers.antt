@@ -16,4 +16,5 @@ returns-in_err-left-clause-found g c =
 pub returns-clause-found : goal.returns-clause-found
 returns-clause-found g c =
     let at : List ℕ → At = λ bytes. record { left = c.args.left; bytes = bytes } in
-    scans_same _ _ _ _ _ _ c.in_ok-left.ensures.found (λ bytes rest t few h. rw c.from_le_bytes.ensures (long_found _ (at bytes) _ _ c.take.auto.room h))
+    scans_same _ _ _ _ _ _ c.in_ok-left.ensures.found (λ bytes rest t few h. rw c.from_le_bytes.ensures
+    (long_found _ (at bytes) _ _ c.take.auto.room h))

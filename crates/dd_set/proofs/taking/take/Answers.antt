@@ -7,7 +7,8 @@ use Rattle.dd_set.proofs.taking.take.Goals as goal
 
 pub returns-then-leaves_fewer-clause-found : goal.returns-then-leaves_fewer-clause-found
 returns-then-leaves_fewer-clause-found g c =
-    scans_none _ _ _ _ (g.met.F.Feed.stays _) (λ rest t. take_overruns _ c.args.left rest (sym c.leaves_fewer.ensures ∙ c.if-leaves_fewer.true))
+    scans_none _ _ _ _ (g.met.F.Feed.stays _) (λ rest t. take_overruns _ c.args.left rest
+    (sym c.leaves_fewer.ensures ∙ c.if-leaves_fewer.true))
 
 pub returns-then-fill-n-clause-found : goal.returns-then-fill-n-clause-found
 returns-then-fill-n-clause-found g c =
@@ -20,7 +21,8 @@ returns-then-fill-n-clause-found g c =
     record {
       taken = taken;
       moved = c.fill.ensures.moved;
-      gives = λ rest t. take_ends n c.args.left (taken ++ rest) enough (omega (arith, over_length _ _ taken rest over t));
+      gives = λ rest t. take_ends n c.args.left (taken ++ rest) enough
+          (omega (arith, over_length _ _ taken rest over t));
     }
 
 pub returns-clause-found : goal.returns-clause-found

@@ -15,7 +15,8 @@ use Rattle.dd_set.proofs.top_set.take_elements.Goals as goal
 
 pub elements-init : goal.elements-init
 elements-init g c = record {
-  goes = scans_none _ _ _ _ (g.met.F.Feed.stays _) (λ rest t. rw c.new.ensures.items (scan_start c.args.wanted.now (item_reader c.args.levels) c.args.syntax rest));
+  goes = scans_none _ _ _ _ (g.met.F.Feed.stays _) (λ rest t. rw c.new.ensures.items
+      (scan_start c.args.wanted.now (item_reader c.args.levels) c.args.syntax rest));
   fewer = omega arith;
 }
 
@@ -25,14 +26,19 @@ elements-preserved g c =
     let wanted = c.args.wanted.now in
     let header = header_view c.in-Some.header in
     let one = scans_then _ _ g.met.F.Feed.goes g.met.F.Feed.told _ _ _ _ _
-    (λ all rest. ValueStep (sequence_with part) c.args.syntax c.elements.low c.elements.left header (option_map value_told c.in_ok-value.value) c.is_wanted-keeps.result all c.in_ok-value.behind rest)
+    (λ all rest. ValueStep (sequence_with part) c.args.syntax c.elements.low c.elements.left header
+    (option_map value_told c.in_ok-value.value) c.is_wanted-keeps.result all c.in_ok-value.behind rest)
     c.in_ok-header.ensures.found c.in_ok-value.ensures.found
-    (λ all mid rest few fewer h k. value_steps (sequence_with part) c.args.syntax c.elements.low c.elements.left header c.in_ok-value.value c.is_wanted-keeps.result all c.in_ok-header.behind c.in_ok-value.behind mid rest (rw c.in-Some.is at h) k few) in
+    (λ all mid rest few fewer h k. value_steps (sequence_with part) c.args.syntax c.elements.low c.elements.left header
+    c.in_ok-value.value c.is_wanted-keeps.result all c.in_ok-header.behind c.in_ok-value.behind mid rest
+    (rw c.in-Some.is at h) k few) in
     record {
       goes = scans_then _ _ g.met.F.Feed.goes g.met.F.Feed.told _ _ _ _ _ _ c.elements.invariant.goes one
           (λ all mid rest few fewer go h.
           let step = rw c.is_wanted-keeps.ensures at h in
-          let next = scan_go wanted part c.args.syntax all c.elements.left c.elements.scan.first (map found_hit c.elements.scan.found.items) mid c.elements.low header (option_map value_told c.in_ok-value.value) c.in_ok-value.behind rest go step in
+          let next = scan_go wanted part c.args.syntax all c.elements.left c.elements.scan.first
+          (map found_hit c.elements.scan.found.items) mid c.elements.low header
+          (option_map value_told c.in_ok-value.value) c.in_ok-value.behind rest go step in
           rw (c.low_behind-low.ensures, c.in_ok-note.ensures.first, c.in_ok-note.ensures.found) next);
       fewer = omega arith;
     }
@@ -40,11 +46,14 @@ elements-preserved g c =
 pub returns-in_default-clause-found : goal.returns-in_default-clause-found
 returns-in_default-clause-found g c =
     let part = item_reader c.args.levels in
-    scans_then _ _ g.met.F.Feed.goes g.met.F.Feed.told _ _ _ _ _ _ c.elements.invariant.goes c.in_ok-header.ensures.found
+    scans_then _ _ g.met.F.Feed.goes g.met.F.Feed.told _ _ _ _ _ _ c.elements.invariant.goes
+    c.in_ok-header.ensures.found
     (λ all mid rest few fewer go h.
-    let ended = element_none (sequence_with part) c.args.syntax Defined c.elements.low (record { left = c.elements.left; bytes = mid }) _ (rw c.in_default.is at h) in (
+    let ended = element_none (sequence_with part) c.args.syntax Defined c.elements.low
+    (record { left = c.elements.left; bytes = mid }) _ (rw c.in_default.is at h) in (
       elements_of go.front,
-      scan_end c.args.wanted.now part c.args.syntax all c.elements.left c.elements.scan.first (map found_hit c.elements.scan.found.items) mid c.elements.low _ go ended,
+      scan_end c.args.wanted.now part c.args.syntax all c.elements.left c.elements.scan.first
+          (map found_hit c.elements.scan.found.items) mid c.elements.low _ go ended,
       record { first = go.first_is; found = go.hits_are },
     ))
 
@@ -52,25 +61,34 @@ pub returns-in_err-header-clause-found : goal.returns-in_err-header-clause-found
 returns-in_err-header-clause-found g c =
     let p = err_from_is_err_and c.from_residual.result c.from_residual.ensures.1 in
     let part = item_reader c.args.levels in
-    rw (p.1, p.2) (scans_then _ _ g.met.F.Feed.goes g.met.F.Feed.told _ _ _ _ _ _ c.elements.invariant.goes c.in_err-header.ensures.found
+    rw (p.1, p.2) (scans_then _ _ g.met.F.Feed.goes g.met.F.Feed.told _ _ _ _ _ _ c.elements.invariant.goes
+    c.in_err-header.ensures.found
     (λ all mid rest few fewer go h.
-    scan_stop c.args.wanted.now part c.args.syntax all c.elements.left c.elements.scan.first (map found_hit c.elements.scan.found.items) mid c.elements.low c.in_err-header.field-0.0 go
-    (front_stops (sequence_with part) c.args.syntax Defined c.elements.low (record { left = c.elements.left; bytes = mid }) c.in_err-header.field-0.0 h)))
+    scan_stop c.args.wanted.now part c.args.syntax all c.elements.left c.elements.scan.first
+    (map found_hit c.elements.scan.found.items) mid c.elements.low c.in_err-header.field-0.0 go
+    (front_stops (sequence_with part) c.args.syntax Defined c.elements.low
+    (record { left = c.elements.left; bytes = mid }) c.in_err-header.field-0.0 h)))
 
 pub returns-in_err-value-clause-found : goal.returns-in_err-value-clause-found
 returns-in_err-value-clause-found g c =
     let p = err_from_is_err_and c.from_residual-in_err-value.result c.from_residual-in_err-value.ensures.1 in
     let part = item_reader c.args.levels in
     let e = c.in_err-value.field-0.0 in
-    let one = scans_then _ _ g.met.F.Feed.goes g.met.F.Feed.told _ _ _ _ _ (λ all rest. Fails e (element_at (sequence_with part) c.args.syntax Defined c.elements.low (record { left = c.elements.left; bytes = all })))
+    let one = scans_then _ _ g.met.F.Feed.goes g.met.F.Feed.told _ _ _ _ _
+    (λ all rest. Fails e (element_at (sequence_with part) c.args.syntax Defined c.elements.low
+    (record { left = c.elements.left; bytes = all })))
     c.in_ok-header.ensures.found c.in_err-value.ensures.found
-    (λ all mid rest few fewer h k. content_stops (sequence_with part) c.args.syntax Defined c.elements.low (record { left = c.elements.left; bytes = all }) (header_view c.in-Some.header) _ e (rw c.in-Some.is at h) k) in
+    (λ all mid rest few fewer h k. content_stops (sequence_with part) c.args.syntax Defined c.elements.low
+    (record { left = c.elements.left; bytes = all }) (header_view c.in-Some.header) _ e (rw c.in-Some.is at h) k) in
     rw (p.1, p.2) (scans_then _ _ g.met.F.Feed.goes g.met.F.Feed.told _ _ _ _ _ _ c.elements.invariant.goes one
-    (λ all mid rest few fewer go h. scan_stop c.args.wanted.now part c.args.syntax all c.elements.left c.elements.scan.first (map found_hit c.elements.scan.found.items) mid c.elements.low e go h))
+    (λ all mid rest few fewer go h. scan_stop c.args.wanted.now part c.args.syntax all c.elements.left
+    c.elements.scan.first (map found_hit c.elements.scan.found.items) mid c.elements.low e go h))
 
 pub returns-in_err-note-clause-found : goal.returns-in_err-note-clause-found
 returns-in_err-note-clause-found g c =
     let p = err_from_is_err_and c.from_residual-in_err-note.result c.from_residual-in_err-note.ensures.1 in
-    rw (p.1, p.2, c.in_err-note.ensures.memory.0) (scans_then _ _ g.met.F.Feed.goes g.met.F.Feed.told _ _ _ _ _ _ c.elements.invariant.goes
-    (scans_then _ _ g.met.F.Feed.goes g.met.F.Feed.told _ _ _ _ _ (λ all rest. Unit {0}) c.in_ok-header.ensures.found c.in_ok-value.ensures.found (λ all mid rest few fewer h k. tt))
+    rw (p.1, p.2, c.in_err-note.ensures.memory.0) (scans_then _ _ g.met.F.Feed.goes g.met.F.Feed.told _ _ _ _ _ _
+    c.elements.invariant.goes
+    (scans_then _ _ g.met.F.Feed.goes g.met.F.Feed.told _ _ _ _ _ (λ all rest. Unit {0}) c.in_ok-header.ensures.found
+    c.in_ok-value.ensures.found (λ all mid rest few fewer h k. tt))
     (λ all mid rest few fewer go h. tt))

@@ -7,7 +7,9 @@ use Rattle.dd_set.proofs.top_set.take_elements.Given as goal
 
 abbrev pub invariant-elements : goal.invariant-elements
 invariant-elements g l = record {
-  goes : Scans g.F.Feed.moves g.F.Feed.tells l.initial.feed l.feed (λ bytes rest. ScanGo l.wanted (item_reader l.levels) l.syntax bytes l.low l.left l.scan.first (map found_hit l.scan.found.items) rest);
+  goes : Scans g.F.Feed.moves g.F.Feed.tells l.initial.feed l.feed
+      (λ bytes rest. ScanGo l.wanted (item_reader l.levels) l.syntax bytes l.low l.left l.scan.first
+      (map found_hit l.scan.found.items) rest);
   fewer : g.F.Feed.most l.feed ≤ g.F.Feed.most l.initial.feed;
 }
 

@@ -11,4 +11,5 @@ unfolding read_all
 whole_is syntax all = refl
 
 pub returns-clause-found : goal.returns-clause-found
-returns-clause-found g c = scans_same _ _ _ _ _ _ c.take_elements.ensures.found (λ all rest t few h. rw (whole_is c.args.syntax all) h)
+returns-clause-found g c = scans_same _ _ _ _ _ _ c.take_elements.ensures.found
+    (λ all rest t few h. rw (whole_is c.args.syntax all) h)

@@ -21,5 +21,9 @@ pub returns-clause-found : goal.returns-clause-found
 returns-clause-found g c =
     let reader = sequence_with (item_reader c.args.levels) in
     scans_same _ _ _ _ _ _ c.in_ok-left.ensures.found (λ all rest t few h.
-    let at : At = record { left = c.args.left; bytes = all } in
-    (h.0, items_told reader c.in_ok-n.field-0 at _ h.0 c.in_default.not-Bytes (sym (c.in_ok-n.ensures.exact reader all) ∙ h.1), h.1))
+    let at : At = record { left = c.args.left; bytes = all } in (
+      h.0,
+      items_told reader c.in_ok-n.field-0 at _ h.0 c.in_default.not-Bytes
+          (sym (c.in_ok-n.ensures.exact reader all) ∙ h.1),
+      h.1,
+    ))

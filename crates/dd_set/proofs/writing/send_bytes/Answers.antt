@@ -8,11 +8,13 @@ pub returns-in_err-sent : goal.returns-in_err-sent
 returns-in_err-sent g c =
     let p = err_from_is_err_and c.from_residual.result c.from_residual.ensures.1 in
     let header = header_text c.args.tag c.args.vr (length c.args.value.now) in
-    rw (p.1, p.2) (sends_same (header ++ c.args.value.now) _ _ _ _ _ _ _ (append_assoc (tag_text c.args.tag) (shape_text c.args.vr (length c.args.value.now)) c.args.value.now)
+    rw (p.1, p.2) (sends_same (header ++ c.args.value.now) _ _ _ _ _ _ _
+    (append_assoc (tag_text c.args.tag) (shape_text c.args.vr (length c.args.value.now)) c.args.value.now)
     (first_fails header c.args.value.now _ _ _ _ _ _ c.in_err-sent.ensures))
 
 pub returns : goal.returns
 returns g c =
     let header = header_text c.args.tag c.args.vr (length c.args.value.now) in
-    sends_same (header ++ c.args.value.now) _ _ _ _ _ _ _ (append_assoc (tag_text c.args.tag) (shape_text c.args.vr (length c.args.value.now)) c.args.value.now)
+    sends_same (header ++ c.args.value.now) _ _ _ _ _ _ _ (append_assoc (tag_text c.args.tag)
+    (shape_text c.args.vr (length c.args.value.now)) c.args.value.now)
     (then_sends header c.args.value.now _ _ _ _ _ _ _ _ _ c.in_ok-sent.ensures c.send.ensures)

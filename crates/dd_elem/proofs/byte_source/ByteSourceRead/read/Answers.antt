@@ -19,7 +19,8 @@ returns-in-Some-clause-left c =
     rw (← c.self.view_is) (
       grind (arith, common_steps),
       λ none room. let same = here none in rw same
-          (left_is ∙ next_len-end c.args.self.now (length c.args.buf.now) (omega arith) (next.readable.0 refl).1 (sym next.len ∙ none) (omega arith)),
+          (left_is ∙ next_len-end c.args.self.now (length c.args.buf.now) (omega arith) (next.readable.0 refl).1
+          (sym next.len ∙ none) (omega arith)),
     )
 
 pub returns-in-Some-clause-gives : goal.returns-in-Some-clause-gives

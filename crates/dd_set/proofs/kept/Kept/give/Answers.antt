@@ -14,4 +14,7 @@ went_before bytes piece others at len n few whole is =
     grind (arith, common_steps)
 
 pub returns-clause-gave : goal.returns-clause-gave
-returns-clause-gave c = rw (← c.self.view_is) (went_before c.self.inside.bytes c.copy_from_slice.new.self _ c.self.inside.at c.self.inside.len c.min-n.result (omega arith) (omega (arith, length-take-le c.min-n.result c.args.room.now (omega arith), c.copy_from_slice.ensures.len)) (search rules))
+returns-clause-gave c = rw (← c.self.view_is) (went_before c.self.inside.bytes c.copy_from_slice.new.self _
+    c.self.inside.at c.self.inside.len c.min-n.result (omega arith)
+    (omega (arith, length-take-le c.min-n.result c.args.room.now (omega arith), c.copy_from_slice.ensures.len))
+    (search rules))

@@ -14,5 +14,6 @@ pub returns : goal.returns
 returns c =
     let es = (out-DataSet c.args.self.now).elements.items in
     let found : option_copied c.find.result ≡ find (λ e. same_tag e.tag c.args.tag) es =
-    find_from_yields_List (λ e. same_tag e.tag c.args.tag) _ _ c.find.result c.find.ensures.ran (YieldsList-from_slice es cc) (λ x b q k. search (rules, tests)) in
+    find_from_yields_List (λ e. same_tag e.tag c.args.tag) _ _ c.find.result c.find.ensures.ran
+    (YieldsList-from_slice es cc) (λ x b q k. search (rules, tests)) in
     rw (found, set_view-is c.args.self.now) (find_in-elements_view c.args.tag es)

@@ -20,7 +20,8 @@ returns-then-eq-clause-spelled c = λ spelled.
     let all : elements_view es ≡ set_view c.args.self.now = ap elements_view c.deref-element-items.ensures.value
     ∙ sym (set_view-is c.args.self.now) in
     IfOk-weaker c.starts_of.result _ _ (λ starts found. found
-    ∙ seek_found _ _ _ _ _ _ es c.loop-element.element-index e before [] c.loop-element-test.true c.element-item.is c.loop-element.invariant same before_is refl
+    ∙ seek_found _ _ _ _ _ _ es c.loop-element.element-index e before [] c.loop-element-test.true c.element-item.is
+    c.loop-element.invariant same before_is refl
     ∙ ap (λ (set : Elements). places_in c.args.tag [] set) all) (c.starts_of.ensures.places before before_is)
 
 pub returns-then-eq-clause-memory : goal.returns-then-eq-clause-memory
@@ -43,7 +44,8 @@ loop-element-preserved c =
     let es = c.deref-element-items.result.now in
     let e = c.element-item.result in
     let other : same_tag e.tag c.args.tag ≡ false = sym c.eq.ensures ∙ c.if-eq.false in
-    seek_more _ _ _ _ _ _ es c.loop-element.element-index e c.in-Some.size c.loop-element-test.true c.element-item.is c.loop-element.invariant other c.in-Some.ensures.1
+    seek_more _ _ _ _ _ _ es c.loop-element.element-index e c.in-Some.size c.loop-element-test.true c.element-item.is
+    c.loop-element.invariant other c.in-Some.ensures.1
 
 pub returns-clause-spelled : goal.returns-clause-spelled
 returns-clause-spelled c = λ spelled.
@@ -51,4 +53,5 @@ returns-clause-spelled c = λ spelled.
     let past : length es ≤ c.loop-element.element-index = omega arith in
     let all : elements_view es ≡ set_view c.args.self.now = ap elements_view c.deref-element-items.ensures.value
     ∙ sym (set_view-is c.args.self.now) in
-    seek_none _ _ _ _ _ _ es c.loop-element.element-index [] past c.loop-element.invariant refl ∙ ap (λ (set : Elements). places_in c.args.tag [] set) all
+    seek_none _ _ _ _ _ _ es c.loop-element.element-index [] past c.loop-element.invariant refl
+    ∙ ap (λ (set : Elements). places_in c.args.tag [] set) all

@@ -5,4 +5,5 @@ use Rattle.dd_set.proofs.Places.{Seeking}
 use Rattle.dd_set.proofs.set.DataSet.item_starts.Given as goal
 
 abbrev pub invariant-loop-element : goal.invariant-loop-element
-invariant-loop-element l = Seeking l.syntax max_levels l.tag 0 (elements_view l.element-items) l.at (elements_view (drop l.element-index l.element-items))
+invariant-loop-element l = Seeking l.syntax max_levels l.tag 0 (elements_view l.element-items) l.at
+    (elements_view (drop l.element-index l.element-items))
