@@ -16,7 +16,7 @@ use crate::well_formed::parts_of;
 use dd_elem::Write;
 use dd_keys::Version;
 use dd_layout::{PlanRecord, record_size, rows};
-use dd_set::{WriteFault, item_header, send};
+use dd_set::{HEADER_SIZE, WriteFault, item_header, send};
 
 /// Sends these records behind `sent` bytes.
 pub(crate) fn send_records<W: Write>(
@@ -54,7 +54,7 @@ fn send_record<W: Write>(
     ensures keyed { IsKeyed versions.now planned.now }
 {
     let parts = parts_of(&versions[planned.of]);
-    let header = item_header(record_size(planned.level, parts) as u32 - 8);
+    let header = item_header(record_size(planned.level, parts) as u32 - HEADER_SIZE as u32);
     let sent = send(&header, writer, sent)?;
     send_rows(rows(planned.level), planned, parts, writer, sent)
 }

@@ -15,9 +15,10 @@ use crate::record::PlanRecord;
 use crate::table::{Row, rows};
 use dd_elem::FileId;
 use dd_keys::Parts;
+use dd_set::HEADER_SIZE;
 
 /// The Item tag and the length before the elements of a record (PS3.5 section 7.5).
-const ITEM_HEADER: u64 = 8;
+const ITEM_HEADER: u64 = HEADER_SIZE as u64;
 
 /// How many bytes a record of this level takes: its Item tag and length, the elements that link it,
 /// and its keys. Neither its offsets nor its File ID change that. At most 11 rows of 1,036 bytes stand
