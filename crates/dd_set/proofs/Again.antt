@@ -1,24 +1,22 @@
 -- What is spelled is read again: reading the spelling of a set gives that set, whatever stands behind it.
-use Rattle.std.proofs.Common.{◌≡◌, ◌≢◌, ℕ, zero, suc, ◌+◌, ◌%◌, ◌^◌, ◌<◌, ◌≤◌, Bool, true, false, nat_lt, ◌==◌, ◌&&◌}
-use Rattle.std.proofs.Common.{if◌then◌else◌, List, [], ◌++◌, length, Option, Some, None, Ok, Err, refl, sym, ap, subst}
+use Rattle.std.proofs.Common.{◌≡◌, ◌≢◌, ℕ, zero, suc, ◌+◌, ◌%◌, ◌^◌, ◌<◌, ◌≤◌, false, nat_lt, ◌==◌, ◌&&◌}
+use Rattle.std.proofs.Common.{if◌then◌else◌, List, [], ◌++◌, length, Option, Some, None, Ok, Err, refl, sym, ap}
 use Rattle.std.proofs.Common.{◌∙◌, append_assoc, append-nil, arith}
 use Rattle.std.proofs.lemmas.Bool.{le-ltb, ne_eqb, and_left}
 use Rattle.std.proofs.lemmas.List.{length-append}
 use Rattle.byteorder.specs.Endian.{little_bytes}
 use Rattle.dd_elem.specs.declared.tag.Tag.{Tag}
 use Rattle.dd_elem.specs.declared.vr.Vr.{Vr}
-use Rattle.dd_elem.specs.declared.vr.Vr.TheVariants.{SQ, UN}
 use Rattle.dd_elem.specs.Tag.{number_of}
 use Rattle.dd_set.specs.declared.fault.SetFault.TheVariants.{Order, UnexpectedTag, BadDelimiter}
 use Rattle.dd_set.specs.declared.syntax.Length.{Length}
 use Rattle.dd_set.specs.declared.syntax.Length.TheVariants.{Defined, Undefined}
 use Rattle.dd_set.specs.declared.syntax.Syntax.{Syntax}
-use Rattle.dd_set.specs.declared.syntax.Syntax.TheVariants.{Explicit, Implicit}
 use Rattle.dd_set.specs.Elements.{Elements, no_elements, element, Content, bytes, items, Items, no_items, item, Entry}
 use Rattle.dd_set.specs.Elements.{Part}
 use Rattle.dd_set.specs.Spelling.{undefined_length, delimiter_group, tag_text, item_tag_text, item_end_text}
 use Rattle.dd_set.specs.Spelling.{sequence_end_text, length_of, closed, elements_text, content_text, items_text}
-use Rattle.dd_set.specs.Spelling.{FitsLong, length_limit, explicit_item_syntax, item_syntax, HoldsBytes, max_levels}
+use Rattle.dd_set.specs.Spelling.{item_syntax, max_levels}
 use Rattle.dd_set.specs.Spelling.{AreElements, IsContent, AreItems}
 use Rattle.dd_set.specs.Reading.{◌>>=◌, At, Reads, leaves_fewer, take_at, long_of, is_item, is_over, Shape, shape_at}
 use Rattle.dd_set.specs.Reading.{SequenceReader, SetReader, ItemReader, within, undefined_at, defined_at, content_at}
@@ -27,12 +25,12 @@ use Rattle.dd_set.specs.Reading.{next_items, items_at, part_at, sequence_with, s
 use Rattle.dd_set.proofs.Cut.{body_at, whole_element, element_is, whole_item, item_is}
 use Rattle.dd_set.proofs.Steps.{done, long_again}
 use Rattle.dd_set.proofs.Taken.{closed-append}
-use Rattle.dd_set.proofs.HeaderLaws.{HasForm, width_limit, limit_within}
 use Rattle.dd_set.proofs.Sound.{content_body, content_length, content_parts, entry_text, IsEntry, part_body}
 use Rattle.dd_set.proofs.Sound.{part_length, part_text, IsPart}
 use Rattle.dd_set.proofs.Even.{some_of, even_elements, even_items, closed_longer, element_least, length-item}
 use Rattle.dd_set.proofs.Before.{more, before, behind, before-append, before-none, fewer_not, past, into, onward}
 use Rattle.dd_set.proofs.Before.{take_again, within_again, Closes, over_not, tag_again, ShapeAgain, shape_again}
+use Rattle.dd_set.proofs.Widths.{even_not_odd, holds_none, content_form, fits_width, content_width, limit_most}
 
 -- ---- what readers owe: what is spelled in front of the bytes is what each gives
 
@@ -49,88 +47,6 @@ SetAgain d read = (syntax : Syntax) (form : Length) (set : Elements) (left : Opt
 abbrev pub PartAgain : ℕ → ItemReader → Type 0
 PartAgain d read = (syntax : Syntax) (p : Part) (left : Option ℕ) (rest : List ℕ) → IsPart syntax d p
     → read syntax (part_length p) (before left (part_body p) rest) ≡ Ok (p, behind left rest)
-
--- ---- a value
-
--- a length that the check of odd ones passes
-even_not_odd : (n : ℕ) → n % 2 ≡ 0 → (n % 2 == 1) ≡ false
-even_not_odd n e = ne_eqb (n % 2) 1 (λ f. omega arith)
-
--- bytes stand where no sequence may
-not_sequence : (vr : Vr) → vr ≢ SQ → explicit_item_syntax vr Defined ≡ None
-not_sequence SQ h = absurd (h refl)
-not_sequence UN h = refl
-not_sequence _ h = refl
-
--- the same in either syntax
-holds_none : (syntax : Syntax) (vr : Option Vr) → HoldsBytes syntax vr → item_syntax syntax vr Defined ≡ None
-holds_none Explicit None h = absurd h
-holds_none Explicit (Some vr) h = not_sequence vr h
-holds_none Implicit None h = refl
-holds_none Implicit (Some vr) h = absurd h
-
--- what a header in this syntax has
-holds_form : (syntax : Syntax) (vr : Option Vr) → HoldsBytes syntax vr → HasForm syntax vr
-holds_form Explicit None h = absurd h
-holds_form Explicit (Some vr) h = tt
-holds_form Implicit None h = tt
-holds_form Implicit (Some vr) h = absurd h
-
--- the same where it may hold items
-item_form : (syntax : Syntax) (vr : Option Vr) (form : Length) (inner : Syntax)
-    → item_syntax syntax vr form ≡ Some inner → HasForm syntax vr
-item_form Explicit None form inner e = absurd cc
-item_form Explicit (Some vr) form inner e = tt
-item_form Implicit None form inner e = tt
-item_form Implicit (Some vr) Defined inner e = absurd cc
-item_form Implicit (Some vr) Undefined inner e = absurd cc
-
--- a value representation that may hold a sequence has room for a length of 32 bits
-explicit_wide : (vr : Vr) (form : Length) (inner : Syntax) → explicit_item_syntax vr form ≡ Some inner
-    → width_limit (Some vr) ≡ 2 ^ 32
-explicit_wide SQ form inner e = refl
-explicit_wide UN form inner e = refl
-explicit_wide _ form inner e = absurd cc
-
--- the same in either syntax
-item_wide : (syntax : Syntax) (vr : Option Vr) (form : Length) (inner : Syntax)
-    → item_syntax syntax vr form ≡ Some inner → width_limit vr ≡ 2 ^ 32
-item_wide Explicit None form inner e = absurd cc
-item_wide Explicit (Some vr) form inner e = explicit_wide vr form inner e
-item_wide Implicit None form inner e = refl
-item_wide Implicit (Some vr) Defined inner e = absurd cc
-item_wide Implicit (Some vr) Undefined inner e = absurd cc
-
--- a value that fits has a header of its syntax
-pub content_form : (syntax : Syntax) (d : ℕ) (vr : Option Vr) (c : Content) → IsContent syntax d vr c
-    → HasForm syntax vr
-content_form syntax d vr (bytes v) h = holds_form syntax vr h.0
-content_form syntax d vr (items form parts) h =
-    let inner = some_of (item_syntax syntax vr form) (λ i. AreItems i d parts) h.0 in
-    item_form syntax vr form inner.0 inner.1
-
--- a length that fits has 32 bits
-fits_width : (form : Length) (text : List ℕ) → FitsLong form text → length_of form text < 2 ^ 32
-fits_width Defined text h = let low : length text < undefined_length = h in omega arith
-fits_width Undefined text h = omega arith
-
--- a value that fits has a length that its header has room for
-pub content_width : (syntax : Syntax) (d : ℕ) (vr : Option Vr) (c : Content) → IsContent syntax d vr c
-    → content_length c < width_limit vr
-content_width syntax d vr (bytes v) h = limit_within vr (length v) h.2
-content_width syntax d vr (items form parts) h =
-    let inner = some_of (item_syntax syntax vr form) (λ i. AreItems i d parts) h.0 in
-    subst (λ (n : ℕ). length_of form (items_text parts) < n) (sym (item_wide syntax vr form inner.0 inner.1))
-    (fits_width form (items_text parts) h.1)
-
--- no limit is above the mark of an undefined length
-limit_most : (vr : Option Vr) (n : ℕ) → n < length_limit vr → n < undefined_length
-limit_most None n h = h
-limit_most (Some vr) n h = go _ h
-  where
-    go : (b : Bool) → n < (if b then undefined_length else 2 ^ 16) → n < undefined_length
-    go true h = h
-    go false h = omega arith
 
 module _ (d : ℕ) (sequence : SequenceReader) (law : SequenceAgain d sequence) where
   -- a defined length that the checks of a value pass

@@ -9,21 +9,19 @@ use Rattle.dd_elem.specs.declared.vr.Vr.{Vr}
 use Rattle.dd_elem.specs.Tag.{number_of}
 use Rattle.dd_elem.specs.Vr.{is_long_of, vr_of}
 use Rattle.dd_set.specs.declared.fault.SetFault.{SetFault}
-use Rattle.dd_set.specs.declared.fault.SetFault.TheVariants.{Truncated, UnexpectedTag, BadDelimiter}
+use Rattle.dd_set.specs.declared.fault.SetFault.TheVariants.{Truncated, BadDelimiter}
 use Rattle.dd_set.specs.declared.syntax.Length.{Length}
 use Rattle.dd_set.specs.declared.syntax.Length.TheVariants.{Defined, Undefined}
 use Rattle.dd_set.specs.declared.syntax.Syntax.{Syntax}
 use Rattle.dd_set.specs.declared.syntax.Syntax.TheVariants.{Explicit, Implicit}
-use Rattle.dd_set.specs.Elements.{Elements, element, Content, bytes, items, Items, item, Entry, Part}
-use Rattle.dd_set.specs.Spelling.{undefined_length, delimiter_group, item_syntax, max_levels}
-use Rattle.dd_set.specs.Reading.{◌>>=◌, At, Reads, leaves_fewer, less, take_at, tag_of, long_of, short_of, is_item}
+use Rattle.dd_set.specs.Elements.{Elements, element, Content, bytes, items, Entry}
+use Rattle.dd_set.specs.Spelling.{undefined_length, delimiter_group, item_syntax}
+use Rattle.dd_set.specs.Reading.{◌>>=◌, At, Reads, leaves_fewer, less, take_at, tag_of, long_of, short_of}
 use Rattle.dd_set.specs.Reading.{no_byte_left, is_over, Shape, long_length_at, long_at, explicit_at, shape_at}
 use Rattle.dd_set.specs.Reading.{SequenceReader}
 use Rattle.dd_set.specs.Reading.{SetReader, ItemReader, within, undefined_at, defined_at, content_at, ends_set}
-use Rattle.dd_set.specs.Reading.{element_at, next_elements, elements_at, ends_sequence, item_at, next_items, items_at}
-use Rattle.dd_set.specs.Reading.{part_at, sequence_with, set_with, item_reader, read_all}
-use Rattle.dd_set.proofs.Cut.{body_at, whole_element, element_is, whole_item, item_is}
-use Rattle.dd_set.proofs.Steps.{done}
+use Rattle.dd_set.specs.Reading.{element_at, next_elements, elements_at}
+use Rattle.dd_set.proofs.Cut.{body_at, whole_element, element_is}
 use Rattle.dd_set.proofs.Before.{past, onward}
 
 -- ---- words
@@ -56,7 +54,7 @@ Encloses Undefined c = Unit {0}
 -- ---- chains
 
 -- one step and then another
-extends_then : {X Y : Type 0} (c : Bool) (q : List ℕ) (r s : Reads X) (f g : X × At → Reads Y) → Extends c q r s
+pub extends_then : {X Y : Type 0} (c : Bool) (q : List ℕ) (r s : Reads X) (f g : X × At → Reads Y) → Extends c q r s
     → ((x : X × At) → has x.1.left ≡ c → Extends c q (f x) (g (x.0, longer x.1 q))) → Extends c q (r >>= f) (s >>= g)
 extends_then {Y = Y} c q (Ok x) s f g h k = subst (λ (t : Reads Y). Extends c q (f x) t)
     (sym (onward s (x.0, longer x.1 q) g h.0)) (k x h.1)
@@ -70,19 +68,19 @@ fails_then {Y = Y} c q (Ok x) s f g h k = subst (λ (t : Reads Y). FailsAlike (f
 fails_then {Y = Y} c q (Err e) s f g h k = λ ne. ap (λ t. t >>= g) (h ne)
 
 -- what is made of a value takes no refusal away
-fails_on : {X Y : Type 0} (r s : Reads X) (f : X × At → Y) → FailsAlike r s
+pub fails_on : {X Y : Type 0} (r s : Reads X) (f : X × At → Y) → FailsAlike r s
     → FailsAlike (r >>= λ x. Ok (f x)) (s >>= λ x. Ok (f x))
 fails_on (Ok x) s f h = tt
 fails_on (Err e) s f h = λ ne. ap (λ t. t >>= λ x. Ok (f x)) (h ne)
 
 -- one test chooses for both
-extends_if : {X : Type 0} (c : Bool) (q : List ℕ) (b : Bool) (x y v w : Reads X) → (b ≡ true → Extends c q x v)
+pub extends_if : {X : Type 0} (c : Bool) (q : List ℕ) (b : Bool) (x y v w : Reads X) → (b ≡ true → Extends c q x v)
     → (b ≡ false → Extends c q y w) → Extends c q (if b then x else y) (if b then v else w)
 extends_if c q true x y v w h k = h refl
 extends_if c q false x y v w h k = k refl
 
 -- what reading gave, made into something else
-extends_map : {X Y : Type 0} (c : Bool) (q : List ℕ) (r s : Reads X) (f : X → Y) → Extends c q r s
+pub extends_map : {X Y : Type 0} (c : Bool) (q : List ℕ) (r s : Reads X) (f : X → Y) → Extends c q r s
     → Extends c q (r >>= λ x. Ok (f x.0, x.1)) (s >>= λ x. Ok (f x.0, x.1))
 extends_map c q r s f h = extends_then c q r s (λ x. Ok (f x.0, x.1)) (λ x. Ok (f x.0, x.1)) h
     (λ x has_it. (refl, has_it))
@@ -95,7 +93,7 @@ has_less None n = refl
 has_less (Some left) n = refl
 
 -- bytes that are taken
-take_extends : (c : Bool) (n : ℕ) (at : At) (q : List ℕ) → has at.left ≡ c
+pub take_extends : (c : Bool) (n : ℕ) (at : At) (q : List ℕ) → has at.left ≡ c
     → Extends c q (take_at n at) (take_at n (longer at q))
 unfolding take_at
 take_extends c n at q has_it =
@@ -120,7 +118,7 @@ take_extends c n at q has_it =
         )
 
 -- what the next n bytes alone hold
-within_extends : {X : Type 0} (c : Bool) (q : List ℕ) (n : ℕ) (at : At) (read : At → Reads X) → has at.left ≡ c
+pub within_extends : {X : Type 0} (c : Bool) (q : List ℕ) (n : ℕ) (at : At) (read : At → Reads X) → has at.left ≡ c
     → Extends true q (read (record { left = Some n; bytes = at.bytes }))
     (read (record { left = Some n; bytes = at.bytes ++ q }))
     → Extends c q (within n at read) (within n (longer at q) read)
@@ -135,7 +133,7 @@ within_extends {X} c q n at read has_it h = go (read (record { left = Some n; by
     go (Err e) s h = λ ne. ap (λ t. t >>= after) (h ne)
 
 -- the end of what a length encloses stays where it is
-over_same : (form : Length) (at : At) (q : List ℕ) → Encloses form (has at.left)
+pub over_same : (form : Length) (at : At) (q : List ℕ) → Encloses form (has at.left)
     → is_over form (longer at q) ≡ is_over form at
 over_same Undefined at q h = refl
 over_same Defined at q h = go at.left h
@@ -268,7 +266,7 @@ module _ (sequence : SequenceReader) (law : SequenceExtends sequence) where
       (extends_if c q (is_over form at) _ _ _ _ (λ over. (refl, h)) (λ on. going_extends c q syntax form low at h)))
 
   -- elements up to the end of their set
-  elements_extend : (n m : ℕ) (c : Bool) (q : List ℕ) (syntax : Syntax) (form : Length) (low : ℕ) (at : At) → n ≤ m
+  pub elements_extend : (n m : ℕ) (c : Bool) (q : List ℕ) (syntax : Syntax) (form : Length) (low : ℕ) (at : At) → n ≤ m
       → has at.left ≡ c → Encloses form c → Extends c q (elements_at sequence syntax form n low at)
       (elements_at sequence syntax form m low (longer at q))
   unfolding elements_at
@@ -303,7 +301,7 @@ module _ (sequence : SequenceReader) (law : SequenceExtends sequence) where
       go (Some l) h on = absurd cc
 
   -- elements up to the end of the bytes: refusals alone, for more bytes are more elements
-  elements_fail : (n m : ℕ) (q : List ℕ) (syntax : Syntax) (low : ℕ) (at : At) → n ≤ m → has at.left ≡ false
+  pub elements_fail : (n m : ℕ) (q : List ℕ) (syntax : Syntax) (low : ℕ) (at : At) → n ≤ m → has at.left ≡ false
       → FailsAlike (elements_at sequence syntax Defined n low at)
       (elements_at sequence syntax Defined m low (longer at q))
   unfolding elements_at whole_element head_then
@@ -339,115 +337,3 @@ module _ (sequence : SequenceReader) (law : SequenceExtends sequence) where
           (fails_then false q (take_at 8 at >>= head_then syntax Defined low)
           (take_at 8 (longer at q) >>= head_then syntax Defined low) (next_elements others) (next_elements those)
           (going_extends false q syntax Defined low at h) (λ x k. next_fails ih x.0 x.1 k))
-
--- ---- items
-
-module _ (part : ItemReader) (law : PartExtends part) where
-  -- the next item, or the end of the sequence
-  item_extends : (c : Bool) (q : List ℕ) (syntax : Syntax) (form : Length) (at : At) → has at.left ≡ c
-      → is_over form (longer at q) ≡ is_over form at → Extends c q (item_at part syntax form at)
-      (item_at part syntax form (longer at q))
-  unfolding whole_item
-  item_extends c q syntax form at h same =
-      rw (item_is part syntax form at, item_is part syntax form (longer at q))
-      (subst (λ (b : Bool). Extends c q (if is_over form at then Ok (None, at) else (take_at 8 at >>= head_goes))
-      (if b then Ok (None, longer at q) else (take_at 8 (longer at q) >>= head_goes))) (sym same)
-      (extends_if c q (is_over form at) _ _ _ _ (λ over. (refl, h))
-      (λ on. extends_then c q (take_at 8 at) (take_at 8 (longer at q)) head_goes head_goes (take_extends c 8 at q h)
-      (λ head k. extends_if c q (ends_sequence form head.0) _ _ _ _
-      (λ ends. extends_if c q (long_of head.0 == 0) _ _ _ _ (λ none. (refl, k)) (λ some. λ ne. refl))
-      (λ more. extends_if c q (is_item head.0) _ _ _ _
-      (λ is. extends_map c q (part syntax (long_of head.0) head.1) (part syntax (long_of head.0) (longer head.1 q))
-      (λ p. Some p) (law c q syntax (long_of head.0) head.1 k))
-      (λ none. λ ne. refl))))))
-    where
-      head_goes : List ℕ × At → Reads (Option Part)
-      head_goes head =
-          if ends_sequence form head.0
-          then (if long_of head.0 == 0 then Ok (None, head.1) else Err BadDelimiter)
-          else (if is_item head.0 then (part syntax (long_of head.0) head.1 >>= λ x. Ok (Some x.0, x.1)) else Err
-          UnexpectedTag)
-
-  -- items up to the end of their sequence
-  items_extend : (n m : ℕ) (c : Bool) (q : List ℕ) (syntax : Syntax) (form : Length) (at : At) → n ≤ m → has at.left ≡ c
-      → Encloses form c → Extends c q (items_at part syntax form n at) (items_at part syntax form m (longer at q))
-  unfolding items_at
-  items_extend zero m c q syntax form at le h same = λ ne. absurd (ne refl)
-  items_extend (suc n) zero c q syntax form at le h same = absurd (omega arith)
-  items_extend (suc n) (suc m) c q syntax form at le h same =
-      extends_then c q (item_at part syntax form at) (item_at part syntax form (longer at q))
-      (next_items (items_at part syntax form n)) (next_items (items_at part syntax form m))
-      (item_extends c q syntax form at h (over_same form at q (subst (λ (b : Bool). Encloses form b) (sym h) same)))
-      (λ x k. next_extends c q (items_at part syntax form n) (items_at part syntax form m)
-      (λ a g. items_extend n m c q syntax form a (omega arith) g same) x.0 x.1 k)
-    where
-      next_extends : (c : Bool) (q : List ℕ) (others those : At → Reads Items)
-          → ((a : At) → has a.left ≡ c → Extends c q (others a) (those (longer a q))) → (o : Option Part) (a : At)
-          → has a.left ≡ c → Extends c q (next_items others (o, a)) (next_items those (o, longer a q))
-      next_extends c q others those ih None a k = (refl, k)
-      next_extends c q others those ih (Some p) a k = extends_map c q (others a) (those (longer a q))
-          (λ ps. item p.length p.set ps) (ih a k)
-
-  -- a whole sequence
-  sequence_extends : SequenceExtends (sequence_with part)
-  sequence_extends c q syntax form at h same = items_extend (suc (length at.bytes)) (suc (length (at.bytes ++ q))) c q
-      syntax form at (omega (arith, length-append at.bytes q)) h same
-
-  -- a whole set
-  set_extends : SetExtends (set_with part)
-  set_extends c q syntax form at h same = elements_extend (sequence_with part) sequence_extends (suc (length at.bytes))
-      (suc (length (at.bytes ++ q))) c q syntax form 0 at (omega (arith, length-append at.bytes q)) h same
-
-  -- a whole set that nothing encloses
-  set_fails : (q : List ℕ) (syntax : Syntax) (at : At) → has at.left ≡ false
-      → FailsAlike (set_with part syntax Defined at) (set_with part syntax Defined (longer at q))
-  set_fails q syntax at h = elements_fail (sequence_with part) sequence_extends (suc (length at.bytes))
-      (suc (length (at.bytes ++ q))) q syntax 0 at (omega (arith, length-append at.bytes q)) h
-
--- an item one level further out
-part_extends : (set : SetReader) → SetExtends set → PartExtends (part_at set)
-unfolding part_at
-part_extends set law c q syntax n at h =
-    extends_if c q (n == undefined_length) _ _ _ _
-    (λ u. extends_map c q (set syntax Undefined at) (set syntax Undefined (longer at q))
-    (λ s. record { length = Undefined; set = s }) (law c q syntax Undefined at h tt))
-    (λ d. extends_if c q (n % 2 == 1) _ _ _ _ (λ odd. λ ne. refl)
-    (λ even. extends_if c q (leaves_fewer at.left n) _ _ _ _ (λ few. λ ne. refl)
-    (λ room. extends_map c q (within n at (set syntax Defined)) (within n (longer at q) (set syntax Defined))
-    (λ s. record { length = Defined; set = s })
-    (within_extends c q n at (set syntax Defined) h (law true q syntax Defined
-    (record { left = Some n; bytes = at.bytes }) refl refl)))))
-
--- an item in which so many levels may nest, itself included
-reader_extends : (d : ℕ) → PartExtends (item_reader d)
-reader_extends zero c q syntax n at h = λ ne. refl
-reader_extends (suc d) c q syntax n at h = part_extends (set_with (item_reader d))
-    (set_extends (item_reader d) (reader_extends d)) c q syntax n at h
-
--- ---- the whole
-
--- a refusal that was carried over
-alike_fails : {X : Type 0} (r s : Result X SetFault) (e : SetFault) → FailsAlike r s → r ≡ Err e → e ≢ Truncated
-    → s ≡ Err e
-alike_fails (Ok x) s e h same ne = absurd cc
-alike_fails {X} (Err f) s e h same ne = let one : f ≡ e = err_is f e same in
-    subst (λ (g : SetFault). s ≡ Err g) one (h (λ t. ne (sym one ∙ t)))
-  where
-    err_is : (a b : SetFault) → ◌≡◌ {A = Result X SetFault} (Err a) (Err b) → a ≡ b
-    err_is a b e = cc
-
--- the whole, at any number of levels
-whole_fails : (d : ℕ) (syntax : Syntax) (front more : List ℕ)
-    → FailsAlike (set_with (item_reader d) syntax Defined (record { left = None; bytes = front }) >>= λ x. done x.0)
-    (set_with (item_reader d) syntax Defined (record { left = None; bytes = front ++ more }) >>= λ x. done x.0)
-whole_fails d syntax front more =
-    fails_on (set_with (item_reader d) syntax Defined (record { left = None; bytes = front }))
-    (set_with (item_reader d) syntax Defined (record { left = None; bytes = front ++ more })) (λ x. x.0)
-    (set_fails (item_reader d) (reader_extends d) more syntax (record { left = None; bytes = front }) refl)
-
--- a refusal of a front, other than its early end, is that of all bytes that begin with it
-pub front_fails : (syntax : Syntax) (front more : List ℕ) (e : SetFault) → read_all syntax front ≡ Err e → e ≢ Truncated
-    → read_all syntax (front ++ more) ≡ Err e
-unfolding read_all
-front_fails syntax front more e r ne = alike_fails (read_all syntax front) (read_all syntax (front ++ more)) e
-    (whole_fails max_levels syntax front more) r ne

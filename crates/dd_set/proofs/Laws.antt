@@ -11,10 +11,10 @@ use Rattle.dd_set.specs.Spelling.{max_levels, Spells}
 use Rattle.dd_set.specs.Reading.{read_all, fault_of, first_fault}
 use Rattle.dd_set.specs.Gives.{Fails, Gives}
 use Rattle.dd_set.proofs.Steps.{ok_is}
-use Rattle.dd_set.proofs.Sound.{all_takes}
+use Rattle.dd_set.proofs.SoundItems.{all_takes}
 use Rattle.dd_set.proofs.Again.{all_again}
 use Rattle.dd_set.proofs.Even.{even_elements}
-use Rattle.dd_set.proofs.Fronts.{front_fails}
+use Rattle.dd_set.proofs.FrontItems.{front_fails}
 
 -- ---- spelling and reading
 

@@ -7,6 +7,7 @@ pub mod Cut
 pub mod Entries
 pub mod Even
 pub mod Feeding
+pub mod FrontItems
 pub mod Fronts
 pub mod Going
 pub mod HeaderLaws
@@ -15,12 +16,14 @@ pub mod Loops
 pub mod Looser
 pub mod Parts
 pub mod Places
+pub mod ReadingOn
 pub mod Scanned
 pub mod Seen
 pub mod Shorter
-pub mod ReadingOn
 pub mod Sound
+pub mod SoundItems
 pub mod Steps
 pub mod StreamEnds
 pub mod Taken
 pub mod Unkept
+pub mod Widths
