@@ -16,8 +16,7 @@ use Rattle.dd_part10.specs.declared.fault.FileFault.TheVariants.{NotPart10, Grou
 use Rattle.dd_part10.specs.File.{prefix, max_group_length}
 use Rattle.dd_part10.specs.Matches.{Fails}
 use Rattle.dd_part10.specs.Meta.{group_length_tag}
-use Rattle.dd_part10.specs.Reading.{◌>>=◌, behind, behind_prefix, behind_length, group_and_set, starts_above}
-use Rattle.dd_part10.specs.Taking.{count_in, split_at, may_follow}
+use Rattle.dd_part10.specs.Reading.{◌>>=◌, behind, behind_prefix, count_in, split_at, behind_length, starts_above}
 use Rattle.dd_part10.proofs.Faults.{fails_along, bind_fails}
 use Rattle.dd_part10.proofs.Fronts.{behind-is}
 use Rattle.dd_part10.proofs.Steps.{bind_ok, onward, there, passes}
@@ -61,30 +60,10 @@ prefix_cut front more size =
 
 -- ---- the group length
 
-number_behind : (p q : Bool) (n : ℕ) (rest bs : List ℕ) → bs ≡ drop 4 rest
-    → (if p then Err GroupLength else (if q then Err GroupLength else split_at n (drop 4 rest)))
-    ≡ ((if p then Err GroupLength else (if q then Err GroupLength else Ok n)) >>= λ k. split_at k bs)
-number_behind true q n rest bs same = refl
-number_behind false true n rest bs same = refl
-number_behind false false n rest bs same = ap (λ (s : List ℕ). split_at n s) (sym same)
-
-length_behind : (o : Option (List ℕ)) (bs : List ℕ) → ((rest : List ℕ) → o ≡ Some rest → bs ≡ drop 4 rest)
-    → (ok_or o GroupLength >>= λ rest. if nat_lt (length rest) 4 then Err GroupLength
-    else group_and_set (from_le_bytes w32 rest) (drop 4 rest))
-    ≡ ((ok_or o GroupLength >>= λ rest. if nat_lt (length rest) 4 then Err GroupLength
-    else (if nat_lt max_group_length (from_le_bytes w32 rest) then Err GroupLength
-    else Ok (from_le_bytes w32 rest))) >>= λ k. split_at k bs)
-length_behind None bs same = refl
-length_behind (Some rest) bs same = number_behind (nat_lt (length rest) 4)
-    (nat_lt max_group_length (from_le_bytes w32 rest)) (from_le_bytes w32 rest) rest bs (same rest refl)
-
 -- it is a number, and so many bytes behind it
 pub length_is : (bs : List ℕ) → behind_length bs ≡ (count_in bs >>= λ n. split_at n (drop 12 bs))
-unfolding behind_length count_in
-length_is bs =
-    let header = header_text group_length_tag (Some UL) 4 in
-    length_behind (behind header bs) (drop 12 bs)
-    (λ rest found. ap (λ (s : List ℕ). drop 12 s) (behind-is header bs rest found))
+unfolding behind_length
+length_is bs = refl
 
 -- the number in what stands behind its header
 abbrev number_of_rest : List ℕ → Result ℕ FileFault
@@ -154,10 +133,3 @@ split_gives bs group set n count enough front back =
     let whole : split_at n (drop 12 bs) ≡ Ok
     (group, set) = rw (le-ltb (length (drop 12 bs)) n enough, front, back) refl in
     length_is bs ∙ onward (count_in bs) n (λ k. split_at k (drop 12 bs)) count ∙ whole
-
--- ---- the data set
-
--- its first tag says whether it may follow
-pub starts_above-is : (set : Elements) → starts_above set ≡ may_follow (first_of set)
-starts_above-is no_elements = refl
-starts_above-is (element tag vr content rest) = refl

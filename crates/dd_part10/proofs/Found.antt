@@ -21,7 +21,7 @@ use Rattle.dd_set.specs.Elements.{Elements, no_elements, element, Content, bytes
 use Rattle.dd_set.specs.Find.{same_tag, entries_of, find_in}
 use Rattle.dd_set.specs.Reading.{read_all}
 use Rattle.dd_set.specs.Spelling.{Spells, header_text}
-use Rattle.dd_set.proofs.Sound.{all_takes}
+use Rattle.dd_set.proofs.SoundItems.{all_takes}
 use Rattle.dd_set.proofs.Steps.{AreBytes-drop, AreBytes-take, long_front, long_text, found_passes}
 use Rattle.dd_part10.specs.declared.fault.FileFault.{FileFault}
 use Rattle.dd_part10.specs.declared.fault.FileFault.TheVariants.{NotPart10, GroupLength, MetaMissing, MetaUid}
@@ -30,7 +30,8 @@ use Rattle.dd_part10.specs.declared.fault.FileFault.TheVariants as faults
 use Rattle.dd_part10.specs.declared.meta.Meta.{Meta}
 use Rattle.dd_part10.specs.File.{preamble_length, prefix, max_group_length, group_length_text, StartsAbove, IsFile}
 use Rattle.dd_part10.specs.Meta.{group_length_tag, class_tag, instance_tag, transfer_tag, HasUid, IsMeta}
-use Rattle.dd_part10.specs.Reading.{◌>>=◌, with_fault, FileParts, behind, behind_prefix, behind_length, group_and_set}
+use Rattle.dd_part10.specs.Reading.{◌>>=◌, with_fault, FileParts, behind, behind_prefix, count_in, split_at}
+use Rattle.dd_part10.specs.Reading.{behind_length, syntax_in}
 use Rattle.dd_part10.specs.Reading.{is_alone, uid_of, uid_at, uids_in, meta_in, starts_above, set_in, file_in}
 use Rattle.dd_part10.specs.Syntaxes.{syntax_of}
 use Rattle.dd_part10.proofs.Fronts.{behind-is}
@@ -74,13 +75,40 @@ record Counted (bs group set : List ℕ) : Type 0 where
   fits : AreBytes group × AreBytes set
 
 -- the bytes that a length counts
-split_takes : (n : ℕ) (bs : List ℕ) (x : List ℕ × List ℕ) → group_and_set n bs ≡ Ok x
-    → (n ≤ max_group_length) × (n ≤ length bs) × (x ≡ (take n bs, drop n bs))
+split_takes : (n : ℕ) (bs : List ℕ) (x : List ℕ × List ℕ) → split_at n bs ≡ Ok x
+    → (n ≤ length bs) × (x ≡ (take n bs, drop n bs))
 split_takes n bs x e =
-    let a = passes (nat_lt max_group_length n) GroupLength
-    (if nat_lt (length bs) n then Err GroupLength else Ok (take n bs, drop n bs)) x e in
-    let b = passes (nat_lt (length bs) n) GroupLength (Ok (take n bs, drop n bs)) x a.1 in
-    (ltb-false _ _ a.0, ltb-false _ _ b.0, sym (ok_is (take n bs, drop n bs) x b.1))
+    let a = passes (nat_lt (length bs) n) GroupLength (Ok (take n bs, drop n bs)) x e in
+    (ltb-false _ _ a.0, sym (ok_is (take n bs, drop n bs) x a.1))
+
+-- the number behind a header
+record Numbered (bs : List ℕ) (n : ℕ) : Type 0 where
+  rest : List ℕ
+  is : bs ≡ header_text group_length_tag (Some UL) 4 ++ rest
+  long : 4 ≤ length rest
+  number : n ≡ from_le_bytes w32 rest
+  short : n ≤ max_group_length
+
+count_takes : (bs : List ℕ) (n : ℕ) → count_in bs ≡ Ok n → Numbered bs n
+unfolding count_in
+count_takes bs n e =
+    let header : List ℕ = header_text group_length_tag (Some UL) 4 in
+    let a = bind_ok (ok_or (behind header bs) GroupLength)
+    (λ (rest : List ℕ). if nat_lt (length rest) 4 then Err GroupLength
+    else (if nat_lt max_group_length (from_le_bytes w32 rest) then Err GroupLength else Ok (from_le_bytes w32 rest))) n
+    e in
+    let number : ℕ = from_le_bytes w32 a.0 in
+    let b = passes (nat_lt (length a.0) 4) GroupLength
+    (if nat_lt max_group_length number then Err GroupLength else Ok number) n a.2 in
+    let c = passes (nat_lt max_group_length number) GroupLength (Ok number) n b.1 in
+    let same : number ≡ n = ok_is number n c.1 in
+    record {
+      rest = a.0;
+      is = behind-is header bs a.0 (there (behind header bs) GroupLength a.0 a.1);
+      long = ltb-false (length a.0) 4 b.0;
+      number = sym same;
+      short = subst (λ (k : ℕ). k ≤ max_group_length) same (ltb-false max_group_length number c.0);
+    }
 
 -- the number behind a header, spelled again
 counted : (header rest bs : List ℕ) (n : ℕ) → bs ≡ header ++ rest → n ≡ from_le_bytes w32 rest → 4 ≤ length rest
@@ -108,26 +136,21 @@ counted header rest bs n is count long fits within =
 length_takes : (bs : List ℕ) (x : List ℕ × List ℕ) → AreBytes bs → behind_length bs ≡ Ok x → Counted bs x.0 x.1
 unfolding behind_length
 length_takes bs x fits e =
-    let a = bind_ok (ok_or (behind (header_text group_length_tag (Some UL) 4) bs) GroupLength)
-    (λ (rest : List ℕ). if nat_lt (length rest) 4 then Err GroupLength
-    else group_and_set (from_le_bytes w32 rest) (drop 4 rest)) x e in
-    let rest = a.0 in
-    let is : bs ≡ header_text group_length_tag (Some UL) 4
-    ++ rest = behind-is (header_text group_length_tag (Some UL) 4) bs rest
-    (there (behind (header_text group_length_tag (Some UL) 4) bs) GroupLength rest a.1) in
-    let b = passes (nat_lt (length rest) 4) GroupLength (group_and_set (from_le_bytes w32 rest) (drop 4 rest)) x a.2 in
-    let n = from_le_bytes w32 rest in
-    let long : 4 ≤ length rest = ltb-false (length rest) 4 b.0 in
-    let s = split_takes n (drop 4 rest) x b.1 in
-    let bytes_rest : AreBytes rest = subst (λ (t : List ℕ). AreBytes (drop 8 t)) is (AreBytes-drop 8 bs fits) in
+    let a = bind_ok (count_in bs) (λ k. split_at k (drop 12 bs)) x e in
+    let n : ℕ = a.0 in
+    let c = count_takes bs n a.1 in
+    let rest : List ℕ = c.rest in
+    let back : drop 12 bs ≡ drop 4 rest = ap (λ (s : List ℕ). drop 12 s) c.is in
+    let s = split_takes n (drop 4 rest) x (subst (λ (t : List ℕ). split_at n t ≡ Ok x) back a.2) in
+    let bytes_rest : AreBytes rest = subst (λ (t : List ℕ). AreBytes (drop 8 t)) c.is (AreBytes-drop 8 bs fits) in
     let bytes_behind : AreBytes (drop 4 rest) = AreBytes-drop 4 rest bytes_rest in
-    let len : length (take n (drop 4 rest)) ≡ n = omega (arith, length-take n (drop 4 rest), s.1) in
+    let len : length (take n (drop 4 rest)) ≡ n = omega (arith, length-take n (drop 4 rest), s.0) in
     let made : Counted bs (take n (drop 4 rest)) (drop n (drop 4 rest)) = record {
-      parts = counted (header_text group_length_tag (Some UL) 4) rest bs n is refl long bytes_rest s.1;
-      short = omega (arith, len, s.0);
+      parts = counted (header_text group_length_tag (Some UL) 4) rest bs n c.is c.number c.long bytes_rest s.0;
+      short = omega (arith, len, c.short);
       fits = (AreBytes-take n (drop 4 rest) bytes_behind, AreBytes-drop n (drop 4 rest) bytes_behind);
     } in
-    subst (λ (y : List ℕ × List ℕ). Counted bs y.0 y.1) (sym s.2) made
+    subst (λ (y : List ℕ × List ℕ). Counted bs y.0 y.1) (sym s.1) made
 
 -- ---- the meta information
 

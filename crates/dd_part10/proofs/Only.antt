@@ -28,7 +28,8 @@ use Rattle.dd_part10.specs.declared.fault.FileFault.TheVariants as faults
 use Rattle.dd_part10.specs.declared.meta.Meta.{Meta}
 use Rattle.dd_part10.specs.File.{preamble_length, prefix, max_group_length, group_length_text, StartsAbove, IsFile}
 use Rattle.dd_part10.specs.Meta.{group_length_tag, class_tag, instance_tag, transfer_tag, HasUid, IsMeta}
-use Rattle.dd_part10.specs.Reading.{◌>>=◌, with_fault, behind, behind_prefix, behind_length, group_and_set, is_alone}
+use Rattle.dd_part10.specs.Reading.{◌>>=◌, with_fault, behind, behind_prefix, count_in, split_at, behind_length}
+use Rattle.dd_part10.specs.Reading.{is_alone, syntax_in}
 use Rattle.dd_part10.specs.Reading.{uid_of, uid_at, uids_in, meta_in, starts_above, set_in, file_in}
 use Rattle.dd_part10.specs.Syntaxes.{syntax_of}
 use Rattle.dd_part10.proofs.Found.{length_parts, with_set, with_syntax, with_meta, with_parts, with_rest}
@@ -48,44 +49,48 @@ prefix_again preamble rest len =
     ∙ ap (λ (o : Option (List ℕ)). ok_or o NotPart10) (behind-front prefix rest)
 
 -- the bytes that the length counts
-split_again : (group set : List ℕ) → length group ≤ max_group_length
-    → group_and_set (length group) (group ++ set) ≡ Ok (group, set)
-split_again group set short =
-    let one : nat_lt max_group_length (length group) ≡ false = le-ltb _ _ short in
-    let two : nat_lt (length (group ++ set)) (length group)
+split_again : (group set : List ℕ) → split_at (length group) (group ++ set) ≡ Ok (group, set)
+split_again group set =
+    let enough : nat_lt (length (group ++ set)) (length group)
     ≡ false = le-ltb _ _ (omega (arith, length-append group set)) in
-    rw (one, two, take_at group set (length group) refl, drop_at group set (length group) refl) refl
+    rw (enough, take_at group set (length group) refl, drop_at group set (length group) refl) refl
 
--- a number and as many bytes
-number_again : (n : ℕ) (bs : List ℕ) (x : List ℕ × List ℕ) → n < 2 ^ 32 → group_and_set n bs ≡ Ok x
+-- a number, whatever stands behind it
+number_again : (n : ℕ) (bs : List ℕ) → n ≤ max_group_length
     → (if nat_lt (length (little_bytes 4 n ++ bs)) 4 then Err GroupLength
-    else group_and_set (from_le_bytes w32 (little_bytes 4 n ++ bs)) (drop 4 (little_bytes 4 n ++ bs))) ≡ Ok x
-number_again n bs x room e =
+    else (if nat_lt max_group_length (from_le_bytes w32 (little_bytes 4 n ++ bs)) then Err GroupLength
+    else Ok (from_le_bytes w32 (little_bytes 4 n ++ bs)))) ≡ Ok n
+number_again n bs short =
+    let long : nat_lt (length (little_bytes 4 n ++ bs)) 4 ≡ false =
+    le-ltb _ _ (omega (arith, length-append (little_bytes 4 n) bs)) in
+    let few : nat_lt max_group_length n ≡ false = le-ltb _ _ short in
+    rw (long, long_again n bs (omega (arith, short)), few) refl
+
+-- the number in a group length
+count_again : (n : ℕ) (bs : List ℕ) → n ≤ max_group_length → count_in (group_length_text n ++ bs) ≡ Ok n
+unfolding count_in
+count_again n bs short =
+    let header : List ℕ = header_text group_length_tag (Some UL) 4 in
     let rest : List ℕ = little_bytes 4 n ++ bs in
-    let len : length rest ≡ 4 + length bs = length-append (little_bytes 4 n) bs in
-    let long : nat_lt (length rest) 4 ≡ false = le-ltb _ _ (omega (arith, len)) in
-    let is : from_le_bytes w32 rest ≡ n = long_again n bs room in
-    let behind_it : drop 4 rest ≡ bs = drop_at (little_bytes 4 n) bs 4 refl in
-    past (nat_lt (length rest) 4) (Err GroupLength) (group_and_set (from_le_bytes w32 rest) (drop 4 rest)) long
-    ∙ ap (λ (k : ℕ). group_and_set k (drop 4 rest)) is ∙ ap (λ (s : List ℕ). group_and_set n s) behind_it ∙ e
+    let next : List ℕ → Result ℕ FileFault = λ r. if nat_lt (length r) 4 then Err GroupLength
+    else (if nat_lt max_group_length (from_le_bytes w32 r) then Err GroupLength else Ok (from_le_bytes w32 r)) in
+    let parts : group_length_text n ++ bs ≡ header ++ rest =
+    ap (λ (s : List ℕ). s ++ bs) (length_parts n) ∙ append_assoc header (little_bytes 4 n) bs in
+    let there : ok_or (behind header (header ++ rest)) GroupLength
+    ≡ Ok rest = ap (λ (o : Option (List ℕ)). ok_or o GroupLength) (behind-front header rest) in
+    ap (λ (s : List ℕ). ok_or (behind header s) GroupLength >>= next) parts
+    ∙ onward (ok_or (behind header (header ++ rest)) GroupLength) rest next there ∙ number_again n bs short
 
 -- behind the group length
 length_again : (group set : List ℕ) → length group ≤ max_group_length
     → behind_length (group_length_text (length group) ++ (group ++ set)) ≡ Ok (group, set)
 unfolding behind_length
 length_again group set short =
-    let header : List ℕ = header_text group_length_tag (Some UL) 4 in
-    let rest : List ℕ = little_bytes 4 (length group) ++ (group ++ set) in
-    let next : List ℕ → Result (List ℕ × List ℕ) FileFault = λ r. if nat_lt (length r) 4 then Err GroupLength
-    else group_and_set (from_le_bytes w32 r) (drop 4 r) in
-    let parts : group_length_text (length group) ++ (group ++ set) ≡ header ++ rest =
-    ap (λ (s : List ℕ). s ++ (group ++ set)) (length_parts (length group))
-    ∙ append_assoc header (little_bytes 4 (length group)) (group ++ set) in
-    let there : ok_or (behind header (header ++ rest)) GroupLength
-    ≡ Ok rest = ap (λ (o : Option (List ℕ)). ok_or o GroupLength) (behind-front header rest) in
-    ap (λ (s : List ℕ). ok_or (behind header s) GroupLength >>= next) parts
-    ∙ onward (ok_or (behind header (header ++ rest)) GroupLength) rest next there
-    ∙ number_again (length group) (group ++ set) (group, set) (omega (arith, short)) (split_again group set short)
+    let n : ℕ = length group in
+    let bs : List ℕ = group_length_text n ++ (group ++ set) in
+    let back : drop 12 bs ≡ group ++ set = drop_at (group_length_text n) (group ++ set) 12 refl in
+    onward (count_in bs) n (λ k. split_at k (drop 12 bs)) (count_again n (group ++ set) short)
+    ∙ ap (λ (s : List ℕ). split_at n s) back ∙ split_again group set
 
 -- ---- the meta information
 

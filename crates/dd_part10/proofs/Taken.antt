@@ -27,9 +27,9 @@ use Rattle.dd_part10.specs.Matches.{Fails, Matches}
 use Rattle.dd_part10.specs.Memory.{WantsNone, IsRefused}
 use Rattle.dd_part10.specs.Reading.{◌>>=◌, behind, behind_prefix, behind_length, meta_in, starts_above, set_in}
 use Rattle.dd_part10.specs.Reading.{file_in}
-use Rattle.dd_part10.specs.Taking.{count_in, split_at, syntax_in, may_follow, whole_with, CountTaken, MetaTaken}
-use Rattle.dd_part10.specs.Taking.{HeadTaken, SetTaken, FileTaken}
-use Rattle.dd_part10.proofs.Cuts.{prefix_cut, length_is, count_cut, count_long, starts_above-is}
+use Rattle.dd_part10.specs.Reading.{count_in, split_at, syntax_in, may_follow}
+use Rattle.dd_part10.specs.Taking.{whole_with, CountTaken, MetaTaken, HeadTaken, SetTaken, FileTaken}
+use Rattle.dd_part10.proofs.Cuts.{prefix_cut, length_is, count_cut, count_long}
 use Rattle.dd_part10.proofs.Faults.{fails_along, refused, refused_so, set_fails, bind_fails}
 use Rattle.dd_part10.proofs.Found.{with_syntax, with_meta, with_parts, with_rest}
 use Rattle.dd_part10.proofs.Fronts.{behind-is}
@@ -186,7 +186,7 @@ set_refused e syntax bytes h =
 set_read : (syntax : Syntax) (bytes : List ℕ) (set : Elements) → read_all syntax bytes ≡ Ok set
     → set_in syntax bytes ≡ (if may_follow (first_of set) then Ok set else Err GroupLength)
 unfolding set_in
-set_read syntax bytes set h = rw (h, starts_above-is set) refl
+set_read syntax bytes set h = rw h refl
 
 -- one whose first tag may not follow
 pub set_below : (wanted : List Tag) (scan : Scan) (syntax : Syntax) (bytes : List ℕ)

@@ -7,9 +7,8 @@ use Rattle.dd_part10.specs.declared.fault.FileFault.{FileFault}
 use Rattle.dd_part10.specs.declared.fault.FileFault.TheVariants.{OtherSyntax}
 use Rattle.dd_part10.specs.declared.meta.Meta.{Meta}
 use Rattle.dd_part10.specs.Memory.{GroupWants, HasHead, SetWants}
-use Rattle.dd_part10.specs.Reading.{behind_prefix, behind_length, meta_in}
+use Rattle.dd_part10.specs.Reading.{behind_prefix, behind_length, syntax_in, meta_in}
 use Rattle.dd_part10.specs.Syntaxes.{syntax_of}
-use Rattle.dd_part10.specs.Taking.{syntax_in}
 use Rattle.dd_part10.proofs.Steps.{onward, there}
 
 -- the fault that was handed on is that of the answer

@@ -22,7 +22,10 @@ prefix = codes "DICM"
 abbrev pub max_group_length : ℕ
 max_group_length = 65536
 
--- the element (0002,0000), which says how many bytes of its group stand behind it
+-- the element (0002,0000), which says how many bytes of its group stand behind it: 12 bytes
+abbrev pub group_length_size : ℕ
+group_length_size = 12
+
 abbrev pub group_length_text : ℕ → List ℕ
 group_length_text n = elements_text (element group_length_tag (Some UL) (bytes (little_bytes 4 n)) no_elements)
 

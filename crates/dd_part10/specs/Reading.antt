@@ -11,16 +11,17 @@ use Rattle.dd_elem.specs.declared.vr.Vr.TheVariants.{UL}
 use Rattle.dd_set.specs.declared.fault.SetFault.{SetFault}
 use Rattle.dd_set.specs.declared.syntax.Syntax.{Syntax}
 use Rattle.dd_set.specs.declared.syntax.Syntax.TheVariants.{Explicit}
-use Rattle.dd_set.specs.Elements.{Elements, no_elements, element, Content, bytes, items}
+use Rattle.dd_set.specs.Elements.{Elements, Content, bytes, items}
 use Rattle.dd_set.specs.Find.{entries_of, find_in}
 use Rattle.dd_set.specs.Reading.{read_all}
+use Rattle.dd_set.specs.Scan.{first_of}
 use Rattle.dd_set.specs.Spelling.{header_text}
 use Rattle.dd_part10.specs.declared.fault.FileFault.{FileFault}
 use Rattle.dd_part10.specs.declared.fault.FileFault.TheVariants.{NotPart10, GroupLength, MetaMissing, MetaUid}
 use Rattle.dd_part10.specs.declared.fault.FileFault.TheVariants.{OtherSyntax}
 use Rattle.dd_part10.specs.declared.fault.FileFault.TheVariants as faults
 use Rattle.dd_part10.specs.declared.meta.Meta.{Meta}
-use Rattle.dd_part10.specs.File.{preamble_length, prefix, group_at, max_group_length}
+use Rattle.dd_part10.specs.File.{preamble_length, prefix, group_length_size, group_at, max_group_length}
 use Rattle.dd_part10.specs.Meta.{meta_group, group_length_tag, class_tag, instance_tag, transfer_tag}
 use Rattle.dd_part10.specs.Syntaxes.{syntax_of}
 
@@ -55,15 +56,19 @@ behind_prefix bs = ok_or (behind prefix (drop preamble_length bs)) NotPart10
 
 -- ---- the group length
 
--- the n bytes that it counts, and the others behind them
-abbrev pub group_and_set : ℕ → List ℕ → Result (List ℕ × List ℕ) FileFault
-group_and_set n bs = if nat_lt max_group_length n then Err GroupLength
-    else (if nat_lt (length bs) n then Err GroupLength else Ok (take n bs, drop n bs))
+-- the number that it holds
+unfoldable pub count_in : List ℕ → Result ℕ FileFault
+count_in bs = ok_or (behind (header_text group_length_tag (Some UL) 4) bs) GroupLength
+    >>= λ rest. if nat_lt (length rest) 4 then Err GroupLength
+    else (if nat_lt max_group_length (from_le_bytes w32 rest) then Err GroupLength else Ok (from_le_bytes w32 rest))
 
--- the same behind the group length at the front
+-- so many bytes, and the others behind them
+abbrev pub split_at : ℕ → List ℕ → Result (List ℕ × List ℕ) FileFault
+split_at n bs = if nat_lt (length bs) n then Err GroupLength else Ok (take n bs, drop n bs)
+
+-- the bytes behind it that it counts, and the others behind them
 unfoldable pub behind_length : List ℕ → Result (List ℕ × List ℕ) FileFault
-behind_length bs = ok_or (behind (header_text group_length_tag (Some UL) 4) bs) GroupLength
-    >>= λ rest. if nat_lt (length rest) 4 then Err GroupLength else group_and_set (from_le_bytes w32 rest) (drop 4 rest)
+behind_length bs = count_in bs >>= λ n. split_at n (drop group_length_size bs)
 
 -- ---- the meta information
 
@@ -88,6 +93,10 @@ unfoldable pub uids_in : Elements → Result Meta FileFault
 uids_in group = uid_at class_tag group >>= λ class. uid_at instance_tag group >>= λ instance. uid_at transfer_tag group
     >>= λ transfer. Ok (record { class = class; instance = instance; transfer = transfer })
 
+-- the syntax that it names
+abbrev pub syntax_in : Meta → Result Syntax FileFault
+syntax_in meta = ok_or (syntax_of meta.transfer) (OtherSyntax meta.transfer)
+
 -- the meta information in the bytes behind the group length
 unfoldable pub meta_in : List ℕ → Result Meta FileFault
 meta_in text = with_fault faults.Meta (read_all Explicit text) >>= λ group. if is_alone group then uids_in group
@@ -95,10 +104,13 @@ meta_in text = with_fault faults.Meta (read_all Explicit text) >>= λ group. if 
 
 -- ---- the data set
 
--- the first element, if there is one, is of a higher group
+-- a data set with this first tag may follow group 0002: it is of a higher group
+abbrev pub may_follow : Option Tag → Bool
+may_follow None = true
+may_follow (Some tag) = nat_lt meta_group tag.group
+
 abbrev pub starts_above : Elements → Bool
-starts_above no_elements = true
-starts_above (element tag vr content rest) = nat_lt meta_group tag.group
+starts_above set = may_follow (first_of set)
 
 -- the data set in the bytes behind group 0002
 unfoldable pub set_in : Syntax → List ℕ → Result Elements FileFault
@@ -110,5 +122,5 @@ set_in syntax text =
 -- a file
 unfoldable pub file_in : List ℕ → Result FileParts FileFault
 file_in file = behind_prefix file >>= λ rest. behind_length rest >>= λ parts. meta_in parts.0
-    >>= λ meta. ok_or (syntax_of meta.transfer) (OtherSyntax meta.transfer) >>= λ syntax. set_in syntax parts.1
+    >>= λ meta. syntax_in meta >>= λ syntax. set_in syntax parts.1
     >>= λ set. Ok (record { meta = meta; set = set; set_at = group_at + length parts.0 })

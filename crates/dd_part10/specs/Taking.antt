@@ -1,11 +1,7 @@
 -- A file taken from a feed, front by front, against reading it in memory. Where `bytes` were to come at first, `rest`
 -- is still to come.
-use Rattle.std.specs.Prelude.{◌≡◌, ℕ, List, length, take, drop, map, Option, Some, None, Result, Ok, Err, Bool, true}
-use Rattle.std.specs.Prelude.{nat_lt, if◌then◌else◌}
-use Rattle.std.specs.Int.{w32, from_le_bytes}
-use Rattle.std.specs.Option.{ok_or}
+use Rattle.std.specs.Prelude.{◌≡◌, ℕ, List, map, Result, Ok, Err}
 use Rattle.dd_elem.specs.declared.tag.Tag.{Tag}
-use Rattle.dd_elem.specs.declared.vr.Vr.TheVariants.{UL}
 use Rattle.dd_set.specs.declared.fault.SetFault.TheVariants.{Memory}
 use Rattle.dd_set.specs.declared.found.Scan.{Scan}
 use Rattle.dd_set.specs.declared.syntax.Syntax.{Syntax}
@@ -13,39 +9,13 @@ use Rattle.dd_set.specs.declared.syntax.Syntax.TheVariants.{Explicit}
 use Rattle.dd_set.specs.Elements.{Elements}
 use Rattle.dd_set.specs.Memory.{WantsMemory}
 use Rattle.dd_set.specs.Scan.{IsScan, found_hit, hits_of}
-use Rattle.dd_set.specs.Spelling.{header_text}
 use Rattle.dd_part10.specs.declared.fault.FileFault.{FileFault}
-use Rattle.dd_part10.specs.declared.fault.FileFault.TheVariants.{GroupLength, OtherSyntax}
 use Rattle.dd_part10.specs.declared.fault.FileFault.TheVariants as faults
 use Rattle.dd_part10.specs.declared.meta.Meta.{Meta}
 use Rattle.dd_part10.specs.declared.scanned.Scanned.{Scanned}
-use Rattle.dd_part10.specs.File.{max_group_length}
 use Rattle.dd_part10.specs.Matches.{Fails}
 use Rattle.dd_part10.specs.Memory.{HasHead, IsRefused}
-use Rattle.dd_part10.specs.Meta.{meta_group, group_length_tag}
-use Rattle.dd_part10.specs.Reading.{◌>>=◌, FileParts, behind, behind_prefix, behind_length, meta_in, set_in, file_in}
-use Rattle.dd_part10.specs.Syntaxes.{syntax_of}
-
--- ---- the checks, each of the front that it looks at
-
--- the number that the group length at the front holds
-unfoldable pub count_in : List ℕ → Result ℕ FileFault
-count_in front = ok_or (behind (header_text group_length_tag (Some UL) 4) front) GroupLength
-    >>= λ rest. if nat_lt (length rest) 4 then Err GroupLength
-    else (if nat_lt max_group_length (from_le_bytes w32 rest) then Err GroupLength else Ok (from_le_bytes w32 rest))
-
--- so many bytes, and the others behind them
-abbrev pub split_at : ℕ → List ℕ → Result (List ℕ × List ℕ) FileFault
-split_at n bs = if nat_lt (length bs) n then Err GroupLength else Ok (take n bs, drop n bs)
-
--- the syntax that the meta information names
-abbrev pub syntax_in : Meta → Result Syntax FileFault
-syntax_in meta = ok_or (syntax_of meta.transfer) (OtherSyntax meta.transfer)
-
--- a data set with this first tag may follow group 0002
-abbrev pub may_follow : Option Tag → Bool
-may_follow None = true
-may_follow (Some tag) = nat_lt meta_group tag.group
+use Rattle.dd_part10.specs.Reading.{◌>>=◌, FileParts, behind_prefix, split_at, behind_length, meta_in, set_in, file_in}
 
 -- ---- what was taken
 

@@ -6,10 +6,11 @@ ghost use Rattle.dd_set.specs.declared.syntax.Syntax.TheVariants.{Explicit};
 ghost use Rattle.dd_set.specs.Memory.{WantsMemory};
 ghost use Rattle.dd_set.specs.Views.{set_view};
 ghost use Rattle.dd_part10.specs.declared.fault.FileFault.TheVariants as faults;
+ghost use Rattle.dd_part10.specs.File.{max_group_length};
 ghost use Rattle.dd_part10.specs.Matches.{Matches};
 ghost use Rattle.dd_part10.specs.Memory.{WantsNone};
-ghost use Rattle.dd_part10.specs.Reading.{behind, behind_length, is_meta_tag, is_alone, uid_at, uids_in, meta_in};
-ghost use Rattle.dd_part10.specs.Taking.{count_in, syntax_in};
+ghost use Rattle.dd_part10.specs.Reading.{behind, count_in, behind_length, is_meta_tag, is_alone, uid_at, uids_in};
+ghost use Rattle.dd_part10.specs.Reading.{meta_in, syntax_in};
 
 use crate::fault::FileFault;
 use crate::meta::Meta;
@@ -57,10 +58,10 @@ pub fn behind<'a>(front: &[u8], bytes: &'a [u8]) -> Option<&'a [u8]>
 
 /// The number in the group length at the front. GroupLength where none stands there, or one above
 /// 65,536.
-#[tactic(auto, unfolding(crate::specs::Taking::count_in))]
+#[tactic(auto, unfolding(crate::specs::Reading::count_in))]
 pub fn read_count(front: &[u8]) -> Result<u32, FileFault>
     ensures exact { Matches (λ n. n) result (count_in front.now) }
-    ensures few { IfOk result (λ n. n ≤ 65536) }
+    ensures few { IfOk result (λ n. n ≤ max_group_length) }
     ensures whole { IfOk result (λ n. 12 ≤ length front.now) }
     ensures memory { WantsNone result }
 {

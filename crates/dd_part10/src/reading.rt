@@ -12,7 +12,7 @@ ghost use Rattle.dd_part10.specs.File.{IsFile};
 ghost use Rattle.dd_part10.specs.Matches.{Matches, file_view};
 ghost use Rattle.dd_part10.specs.Memory.{GroupWants, SetWants, WantsNone};
 ghost use Rattle.dd_part10.specs.Reading.{behind_prefix, set_in, file_in};
-ghost use Rattle.dd_part10.specs.Taking.{may_follow};
+ghost use Rattle.dd_part10.specs.Reading.{may_follow};
 
 use crate::fault::FileFault;
 use crate::file::DicomFile;

@@ -4,6 +4,7 @@ ghost use Rattle.std.specs.Prelude.{◌≡◌, ◌≢◌, ◌≤◌, [], length,
 ghost use Rattle.dd_set.specs.declared.fault.SetFault.TheVariants.{Memory};
 ghost use Rattle.dd_set.specs.Feeds.{Scans};
 ghost use Rattle.dd_part10.specs.declared.fault.FileFault.TheVariants as faults;
+ghost use Rattle.dd_part10.specs.File.{max_group_length};
 ghost use Rattle.dd_part10.specs.Memory.{WantsNone};
 ghost use Rattle.dd_part10.specs.Reading.{set_in};
 ghost use Rattle.dd_part10.specs.Taking.{PrefixTaken, CountTaken, GroupTaken, MetaTaken, HeadTaken, SetTaken};
@@ -65,7 +66,7 @@ fn take_prefix<F: Feed>(feed: &mut F) -> Result<(), FileFault>
 /// Takes the group length, and answers its number.
 fn take_count<F: Feed>(feed: &mut F) -> Result<u32, FileFault>
     ensures found { Scans F.moves F.tells feed.old feed.new (λ bytes rest. CountTaken result bytes rest) }
-    ensures few { IfOk result (λ n. n ≤ 65536) }
+    ensures few { IfOk result (λ n. n ≤ max_group_length) }
     ensures memory { WantsNone result }
 {
     let mut front = [0; COUNT_LENGTH];

@@ -2,8 +2,8 @@ use Rattle.std.proofs.Common.{◌≡◌, ◌≤◌, ℕ, replicate, length, take
 use Rattle.std.proofs.lemmas.Result.{err_from_is_err_and}
 use Rattle.std.proofs.lemmas.List.{length-take-le, length-replicate}
 use Rattle.dd_set.proofs.Along.{scans_same, scans_then}
-use Rattle.dd_part10.specs.Reading.{behind_length}
-use Rattle.dd_part10.specs.Taking.{GroupTaken, split_at}
+use Rattle.dd_part10.specs.Reading.{split_at, behind_length}
+use Rattle.dd_part10.specs.Taking.{GroupTaken}
 use Rattle.dd_part10.proofs.Taken.{meta_without_count}
 use Rattle.dd_part10.proofs.taking.take_meta.Goals as goal
 
