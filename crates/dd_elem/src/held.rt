@@ -1,6 +1,6 @@
 //! Bytes that are mostly few: these are held in place, and copies of more share them.
 
-ghost use Rattle.std.specs.Prelude.{◌≡◌, ◌≤◌, length, IfOk, IsErr, ◌<◌};
+ghost use Rattle.std.specs.Prelude.{◌≡◌, length, IfOk, IsErr, ◌<◌};
 ghost use Rattle.dd_elem.specs.Held.{IsHeld, held_bytes, most_in_place};
 
 use crate::in_place::fill;

@@ -3,7 +3,7 @@
 ghost use Rattle.std.specs.Prelude.{◌≡◌, ◌<◌, ◌↔◌, List, ℕ, length, IfOk, IsErr};
 ghost use Rattle.dd_elem.specs.Clean.{clean_of};
 ghost use Rattle.dd_elem.specs.Held.{most_in_place};
-ghost use Rattle.dd_elem.specs.Key.{IsKey};
+ghost use Rattle.dd_elem.specs.Key.{IsKey, max_key_length};
 
 use crate::held::Held;
 use crate::memory::Memory;
@@ -53,7 +53,7 @@ impl Key {
     #[tactic(auto, using(crate::proofs::Keys::IsKey_from_clean_of))]
     pub fn copy_of(alloc: Global, bytes: &[u8]) -> Result<Key, KeyRefused>
         ensures value { IfOk result (λ key. key ≡ clean_of bytes.now) }
-        ensures too_long { (result ≡ Err KeyRefused.TooLong) ↔ (1024 < length (clean_of bytes.now)) }
+        ensures too_long { (result ≡ Err KeyRefused.TooLong) ↔ (max_key_length < length (clean_of bytes.now)) }
         ensures memory { result ≡ Err KeyRefused.Memory → most_in_place < length (clean_of bytes.now) }
     {
         let kept = clean(bytes);
@@ -74,7 +74,8 @@ impl Key {
         self.held.as_slice()
     }
 
-    /// An equal key. Memory where it was refused, which a key of at most 22 bytes does not want.
+    /// An equal key. Memory where no more copies can share its bytes, which those of a key of at most 22
+    /// bytes never do.
     pub fn copy(&self) -> Result<Key, Memory>
         ensures value { IfOk result (λ key. key ≡ self.now) }
         ensures memory { IsErr result → most_in_place < length self.now }

@@ -4,6 +4,7 @@ use Rattle.std.specs.Prelude.{◌≡◌, ℕ, Bool, true, false, List, [], ◌�
 use Rattle.std.specs.Prelude.{Result, Ok, Err}
 use Rattle.std.specs.List.{list_any}
 use Rattle.dd_elem.specs.Clean.{clean_of}
+use Rattle.dd_elem.specs.Key.{max_key_length}
 use Rattle.dd_elem.specs.declared.tag.Tag.{Tag}
 use Rattle.dd_set.specs.declared.fault.SetFault.{SetFault}
 use Rattle.dd_set.specs.declared.found.Scan.{Scan}
@@ -17,9 +18,9 @@ use Rattle.dd_set.specs.declared.syntax.Syntax.{Syntax}
 use Rattle.dd_set.specs.Gives.{Fails}
 use Rattle.dd_set.specs.Reading.{◌>>=◌, ItemReader, set_with}
 
--- how many bytes of a value are told
+-- how many bytes of a value are told: as many as a key may have
 abbrev pub most_told : ℕ
-most_told = 1024
+most_told = max_key_length
 
 -- what is told of a value: that it is a sequence; or the front of its bytes without the padding, and how many they are
 pub data Told : Type 0 where

@@ -81,7 +81,7 @@ abbrev pub FitsLong : Length → List ℕ → Type 0
 FitsLong Defined text = length text < undefined_length
 FitsLong Undefined text = Unit {0}
 
--- the lengths that a header has room for are below this
+-- the defined lengths that a header has room for are below this
 abbrev pub length_limit : Option Vr → ℕ
 length_limit None = undefined_length
 length_limit (Some vr) = if is_long_of vr then undefined_length else 2 ^ 16

@@ -55,7 +55,7 @@ fn take_short<F: Feed>(
     room: &mut [u8],
     left: Option<u64>,
 ) -> Result<(FoundValue, Option<u64>), SetFault>
-    requires { length room.old ≤ 64 }
+    requires { length room.old ≤ SHORT }
     ensures found { Scans F.moves F.tells feed.old feed.new
         (λ bytes rest. TellsValue value_told (λ v. told_of (value v)) result
         (take_at (length room.old) (record { left = left; bytes = bytes })) rest) }

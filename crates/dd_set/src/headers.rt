@@ -85,7 +85,7 @@ pub fn holds_bytes(syntax: Syntax, vr: Option<Vr>) -> bool
     }
 }
 
-/// The lengths that a header of this value representation has room for are below this.
+/// The defined lengths that a header of this value representation has room for are below this.
 pub fn length_limit(vr: Option<Vr>) -> u64
     ensures { result ≡ length_limit vr }
 {

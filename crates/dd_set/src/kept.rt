@@ -22,13 +22,13 @@ pub(crate) struct Kept {
 }
 
 impl Model for Kept {
-    ghost use Rattle.std.specs.Prelude.{◌≤◌, ◌+◌, ℕ, List, take, drop};
+    ghost use Rattle.std.specs.Prelude.{◌≤◌, ◌+◌, ℕ, List, take, drop, length};
 
     ghost Value = { List ℕ };
 
     ghost view = { λ k. take k.len (drop k.at k.bytes) };
 
-    ghost invariant = { λ k. k.at + k.len ≤ 16384 };
+    ghost invariant = { λ k. k.at + k.len ≤ length k.bytes };
 }
 
 impl Kept {

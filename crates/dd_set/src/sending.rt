@@ -2,7 +2,7 @@
 
 ghost use Rattle.std.specs.Prelude.{◌≡◌, ◌+◌, ◌<◌, ◌≤◌, ◌^◌, length, Err, Some};
 ghost use Rattle.dd_set.specs.Sends.{SendsTo, header_limit};
-ghost use Rattle.dd_set.specs.Spelling.{header_text, length_limit};
+ghost use Rattle.dd_set.specs.Spelling.{header_text};
 
 use crate::headers::{long_header, plain_header, short_header};
 use crate::write_fault::WriteFault;

@@ -1,6 +1,6 @@
 //! How long the bytes of a data set are.
 
-ghost use Rattle.std.specs.Prelude.{◌≡◌, ℕ, List, ◌+◌, ◌≤◌, ◌<◌, ◌^◌, length, OnSome};
+ghost use Rattle.std.specs.Prelude.{◌≡◌, ℕ, List, ◌+◌, ◌≤◌, ◌<◌, ◌^◌, length};
 ghost use Rattle.std.specs.Option.{SomeIff};
 ghost use Rattle.dd_set.specs.Elements.{bytes};
 ghost use Rattle.dd_set.specs.Single.{entry_text, part_text, IsEntry, IsPart};

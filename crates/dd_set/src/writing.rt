@@ -1,12 +1,11 @@
 //! Data sets sent to a writer.
 
-ghost use Rattle.std.specs.Prelude.{◌≡◌, ℕ, ◌+◌, ◌++◌, ◌≤◌, ◌<◌, ◌^◌, length, unwrap_or, Some, None, Err, IfSome};
-ghost use Rattle.std.specs.Prelude.{IsSomeAnd};
+ghost use Rattle.std.specs.Prelude.{◌≡◌, ◌+◌, ◌++◌, ◌<◌, ◌^◌, length, unwrap_or, Some, None, Err, IfSome};
 ghost use Rattle.dd_set.specs.Elements.{bytes, items};
 ghost use Rattle.dd_set.specs.Sends.{SendsTo};
 ghost use Rattle.dd_set.specs.Single.{entry_text, part_text, mark_text, IsPart};
 ghost use Rattle.dd_set.specs.Spelling.{Spells, elements_text, items_text, header_text, tag_text, content_text};
-ghost use Rattle.dd_set.specs.Spelling.{length_of, length_limit, closed, sequence_end_text, AreElements, IsContent};
+ghost use Rattle.dd_set.specs.Spelling.{length_of, length_limit, AreElements, IsContent};
 ghost use Rattle.dd_set.specs.Spelling.{AreItems, FitsLong};
 ghost use Rattle.dd_set.specs.Spelling.{undefined_length};
 ghost use Rattle.dd_set.specs.Views.{set_view, element_view, value_view, items_view, item_view};
