@@ -23,7 +23,8 @@ use Rattle.dd_keys.specs.Answers.{Answers}
 use Rattle.dd_keys.specs.Table.{charset_row, class_row, instance_row, study_date_row, study_time_row, accession_row}
 use Rattle.dd_keys.specs.Table.{modality_row, description_row, patient_name_row, patient_id_row, study_row, series_row}
 use Rattle.dd_keys.specs.Table.{study_id_row, series_number_row, instance_number_row}
-use Rattle.dd_keys.specs.Values.{or_other, parts_in, patient_in, study_in, series_in}
+use Rattle.dd_keys.specs.Values.{or_other}
+use Rattle.dd_keys.proofs.SetValues.{parts_in, patient_in, study_in, series_in}
 use Rattle.dd_keys.specs.Versions.{HasPatient, HasStudy, HasSeries, IsVersion}
 use Rattle.dd_keys.specs.declared.keys.PatientKeys.{PatientKeys}
 use Rattle.dd_keys.specs.declared.keys.StudyKeys.{StudyKeys}

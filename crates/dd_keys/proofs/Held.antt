@@ -16,7 +16,8 @@ use Rattle.dd_keys.specs.declared.fault.KeyFault.{KeyFault}
 use Rattle.dd_keys.specs.declared.fault.KeyFault.TheVariants.{BadKeyUid, KeyTooLong, MetaMismatch}
 use Rattle.dd_keys.specs.Faults.{key_fault_of, key_fault, wanted_uid, mismatch_of, uid_fault_of, uid_fault}
 use Rattle.dd_keys.specs.Table.{KeyRow, UidRow}
-use Rattle.dd_keys.specs.Values.{content_value, entry_value, value_at, or_other, key_in, uid_in}
+use Rattle.dd_keys.specs.Values.{content_value, entry_value, value_at, or_other}
+use Rattle.dd_keys.proofs.SetValues.{key_in, uid_in}
 use Rattle.dd_keys.specs.Versions.{HasKey, HasUid}
 
 -- ---- a value is its own clean

@@ -26,9 +26,11 @@ use Rattle.dd_keys.specs.Fitting.{Fits}
 use Rattle.dd_keys.specs.Table.{KeyRow, UidRow, Row, key, uid, rows, charset_row, study_date_row, study_time_row}
 use Rattle.dd_keys.specs.Table.{accession_row, modality_row, description_row, patient_name_row, patient_id_row}
 use Rattle.dd_keys.specs.Table.{study_row, series_row, study_id_row, series_number_row, instance_number_row}
-use Rattle.dd_keys.specs.Told.{told_value, tag_of, wanted_tags, TellsSet, front_of, told_key_fault, told_row_fault}
+use Rattle.dd_keys.specs.Told.{told_value, front_of, told_key_fault, told_row_fault}
+use Rattle.dd_keys.proofs.Tells.{tag_of, wanted_tags, TellsSet}
 use Rattle.dd_keys.specs.Told.{told_table_fault, told_fault, told_key, told_uid, told_parts, IsJudged}
-use Rattle.dd_keys.specs.Values.{value_at, or_other, key_in, uid_in, parts_in}
+use Rattle.dd_keys.specs.Values.{value_at, or_other}
+use Rattle.dd_keys.proofs.SetValues.{key_in, uid_in, parts_in}
 use Rattle.dd_keys.proofs.FoundVersions.{found_version, or_other_some, file_of, version_parts, refusal_answers}
 use Rattle.dd_keys.proofs.Held.{continues, key_held, uid_held}
 use Rattle.dd_keys.proofs.ImageClasses.{is_image_class_decides}

@@ -6,4 +6,6 @@ pub mod Ingesting
 pub mod Judging
 pub mod Misfits
 pub mod Passes
+pub mod SetValues
 pub mod Telling
+pub mod Tells

@@ -3,6 +3,7 @@
 use Rattle.std.specs.Prelude.{◌≡◌, ℕ, List, [], ◌∷◌, Option, Some, None, Result, Ok, Err, length, map, nat_lt}
 use Rattle.std.specs.Prelude.{if◌then◌else◌}
 use Rattle.std.specs.Str.{bytes_eq}
+use Rattle.dd_elem.specs.Key.{max_key_length}
 use Rattle.dd_elem.specs.Uid.{is_uid}
 use Rattle.dd_elem.specs.declared.tag.Tag.{Tag}
 use Rattle.dd_set.specs.Elements.{Elements}
@@ -10,6 +11,7 @@ use Rattle.dd_set.specs.declared.fault.SetFault.TheVariants as parsing
 use Rattle.dd_part10.specs.declared.fault.FileFault.{FileFault}
 use Rattle.dd_part10.specs.declared.fault.FileFault.TheVariants.{Meta as MetaFault, Set}
 use Rattle.dd_part10.specs.declared.meta.Meta.{Meta}
+use Rattle.dd_part10.specs.Faults as file_faults
 use Rattle.dd_part10.specs.Memory.{GroupWants, HasHead, SetWants}
 use Rattle.dd_part10.specs.Reading.{FileParts, file_in}
 use Rattle.dd_keys.specs.declared.fault.KeyFault.{KeyFault}
@@ -19,7 +21,7 @@ use Rattle.dd_keys.specs.declared.rows.MetaUid.{MetaUid}
 use Rattle.dd_keys.specs.declared.rows.MetaUid.TheVariants.{Class, Instance}
 use Rattle.dd_keys.specs.Classes.{is_image_class}
 use Rattle.dd_keys.specs.Table.{KeyRow, UidRow, Row, key, uid, rows}
-use Rattle.dd_keys.specs.Values.{max_key_length, value_at}
+use Rattle.dd_keys.specs.Values.{value_at}
 
 -- ---- a key: it is no sequence, and not too long
 
@@ -77,11 +79,10 @@ first_fault file = fault_of (file_in file)
 
 -- ---- want of memory: where parsing the file wants it, and behind all checks
 
--- the fault says that a growth was refused
+-- the fault says that a growth was refused: here, or while the bytes were read as a file
 abbrev pub SaysMemory : KeyFault → Type 0
 SaysMemory Memory = Unit {0}
-SaysMemory (File (MetaFault parsing.Memory)) = Unit {0}
-SaysMemory (File (Set parsing.Memory)) = Unit {0}
+SaysMemory (File fault) = file_faults.SaysMemory fault
 SaysMemory fault = ⊥
 
 -- it says so where memory is wanted

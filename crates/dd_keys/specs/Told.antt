@@ -1,12 +1,12 @@
 -- The checks of the table and the keys of a file, by what is told of the values of its data set: that a value is a
 -- sequence, or else its first 1,024 bytes and how many it has.
-use Rattle.std.specs.Prelude.{◌≡◌, ◌≤◌, ◌⊎◌, ℕ, true, List, [], Option, Some, None, Result, Ok, Err, length, map, find}
+use Rattle.std.specs.Prelude.{◌≡◌, ◌≤◌, ◌⊎◌, ℕ, List, [], Option, Some, None, Result, Ok, Err, length, map, find}
 use Rattle.std.specs.Prelude.{take, nat_lt, if◌then◌else◌}
-use Rattle.dd_elem.specs.Key.{IsKey}
+use Rattle.dd_elem.specs.Key.{IsKey, max_key_length}
 use Rattle.dd_elem.specs.declared.tag.Tag.{Tag}
 use Rattle.dd_set.specs.Elements.{Elements}
 use Rattle.dd_set.specs.Find.{same_tag}
-use Rattle.dd_set.specs.Scan.{Told, sequence, cleaned, most_told, value_told, is_wanted}
+use Rattle.dd_set.specs.Scan.{Told, sequence, cleaned, most_told, value_told}
 use Rattle.dd_set.specs.declared.found.Found.{Found}
 use Rattle.dd_part10.specs.declared.meta.Meta.{Meta}
 use Rattle.dd_keys.specs.declared.fault.KeyFault.{KeyFault}
@@ -20,7 +20,7 @@ use Rattle.dd_keys.specs.declared.keys.SeriesKeys.{SeriesKeys}
 use Rattle.dd_keys.specs.Classes.{is_image_class}
 use Rattle.dd_keys.specs.Faults.{wanted_uid, uid_fault_of, first}
 use Rattle.dd_keys.specs.Table.{KeyRow, UidRow, Row, key, uid, rows}
-use Rattle.dd_keys.specs.Values.{max_key_length, value_at, key_by, uid_by, patient_by, study_by, series_by, parts_by}
+use Rattle.dd_keys.specs.Values.{value_at, key_by, uid_by, patient_by, study_by, series_by, parts_by}
 
 -- ---- what is told
 
@@ -46,18 +46,6 @@ told_found tag founds = found_told (find (λ found. same_tag found.tag tag) foun
 abbrev pub shown_told : Shown → Told
 shown_told Items = sequence
 shown_told (Bytes front size) = cleaned front.now size
-
--- the tag of a row, and those of the table
-abbrev pub tag_of : Row → Tag
-tag_of (key row) = row.tag
-tag_of (uid row) = row.tag
-
-abbrev pub wanted_tags : List Tag
-wanted_tags = map tag_of rows
-
--- at each tag of the table they tell the value of the data set
-abbrev pub TellsSet : (Tag → Told) → Elements → Type 0
-TellsSet tells set = (tag : Tag) → is_wanted wanted_tags tag ≡ true → tells tag ≡ told_at tag set
 
 -- a told value that is not too long for a key is one
 abbrev pub IsFront : Told → Type 0

@@ -4,7 +4,6 @@ use Rattle.dd_elem.specs.Clean.{clean_of}
 use Rattle.dd_elem.specs.declared.tag.Tag.{Tag}
 use Rattle.dd_set.specs.Elements.{Elements, Content, bytes, items, Entry}
 use Rattle.dd_set.specs.Find.{find_in}
-use Rattle.dd_part10.specs.Reading.{FileParts}
 use Rattle.dd_part10.specs.declared.meta.Meta.{Meta}
 use Rattle.dd_keys.specs.Table.{KeyRow, charset_row, study_date_row, study_time_row, accession_row, modality_row}
 use Rattle.dd_keys.specs.Table.{description_row, patient_name_row, patient_id_row, study_row, series_row, study_id_row}
@@ -33,10 +32,6 @@ value_at tag set = entry_value (find_in tag set)
 abbrev pub or_other : List ℕ → List ℕ → List ℕ
 or_other [] other = other
 or_other (byte ∷ value) other = byte ∷ value
-
--- the most bytes that a key may have
-abbrev pub max_key_length : ℕ
-max_key_length = 1024
 
 -- ---- keys and UIDs by the value at each tag: bytes without their padding, and None where it is a sequence
 
@@ -82,27 +77,3 @@ module _ (value : Tag → Option (List ℕ)) where
     transfer = meta.transfer;
     instance = meta.instance;
   }
-
--- ---- those of a data set, and of a file
-
--- its value at each tag
-abbrev pub values_of : Elements → Tag → Option (List ℕ)
-values_of set tag = value_at tag set
-
-abbrev pub key_in : KeyRow → Elements → List ℕ
-key_in row set = key_by (values_of set) row
-
-abbrev pub uid_in : Tag → Elements → List ℕ
-uid_in tag set = uid_by (values_of set) tag
-
-abbrev pub patient_in : Elements → PatientKeys
-patient_in set = patient_by (values_of set)
-
-abbrev pub study_in : Elements → StudyKeys
-study_in set = study_by (values_of set)
-
-abbrev pub series_in : Elements → SeriesKeys
-series_in set = series_by (values_of set)
-
-abbrev pub parts_in : List ℕ → FileParts → Parts
-parts_in digest file = parts_by (values_of file.set) digest file.meta

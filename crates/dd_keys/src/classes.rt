@@ -35,7 +35,7 @@ const IMAGE_CLASSES: [&[u8]; 23] = [
     b"1.2.840.10008.5.1.4.1.1.128", // Positron Emission Tomography Image
 ];
 
-/// Are files of this SOP class taken: is it one of 23 storage classes of images (PS3.4 section B.5)?
+/// Are files of this SOP class taken: is it one of these storage classes of images (PS3.4 section B.5)?
 pub fn is_image_class(class: &Uid) -> bool
     ensures form { IsTrue result ↔ Contains image_classes class.now }
     ensures test { result ≡ is_image_class class.now }

@@ -1,7 +1,8 @@
 //! Why bytes are no file of a version.
 
-ghost use Rattle.std.specs.Prelude.{◌≡◌};
+ghost use Rattle.std.specs.Prelude.{◌≡◌, ◌↔◌, IsTrue};
 ghost use Rattle.dd_keys.specs.Answers.{refusal_of};
+ghost use Rattle.dd_keys.specs.Faults.{SaysMemory};
 ghost use Rattle.dd_keys.specs.declared.fault.KeyFault.TheVariants as faults;
 
 use dd_elem::{self, Tag, Uid};
@@ -42,6 +43,19 @@ pub enum KeyFault {
     /// A growth was refused after all checks.
     #[error("91 Memory")]
     Memory,
+}
+
+impl KeyFault {
+    /// Does the fault say that a growth was refused?
+    pub fn is_want_of_memory(&self) -> bool
+        ensures { IsTrue result ↔ SaysMemory self.now }
+    {
+        match self {
+            KeyFault::Memory => true,
+            KeyFault::File(fault) => fault.is_want_of_memory(),
+            _ => false,
+        }
+    }
 }
 
 impl From<FileFault> for KeyFault {

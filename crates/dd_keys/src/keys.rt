@@ -85,7 +85,7 @@ impl Drop for SeriesKeys {
 }
 
 impl PatientKeys {
-    /// Equal keys. Memory where a growth was refused.
+    /// Equal keys. Memory where no more copies can share a key of more than 22 bytes.
     pub fn copy(&self) -> Result<PatientKeys, Memory>
         ensures { IfOk result (λ keys. keys ≡ self.now) }
     {
@@ -98,7 +98,7 @@ impl PatientKeys {
 }
 
 impl StudyKeys {
-    /// Equal keys. Memory where a growth was refused.
+    /// Equal keys. Memory where no more copies can share a key of more than 22 bytes.
     pub fn copy(&self) -> Result<StudyKeys, Memory>
         ensures { IfOk result (λ keys. keys ≡ self.now) }
     {
@@ -115,7 +115,7 @@ impl StudyKeys {
 }
 
 impl SeriesKeys {
-    /// Equal keys. Memory where a growth was refused.
+    /// Equal keys. Memory where no more copies can share a key of more than 22 bytes.
     pub fn copy(&self) -> Result<SeriesKeys, Memory>
         ensures { IfOk result (λ keys. keys ≡ self.now) }
     {

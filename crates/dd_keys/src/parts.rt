@@ -45,7 +45,7 @@ impl Drop for Parts {
 }
 
 impl Parts {
-    /// Equal parts. Memory where a growth was refused.
+    /// Equal parts. Memory where no more copies can share a key of more than 22 bytes.
     pub fn copy(&self) -> Result<Parts, Memory>
         ensures { IfOk result (λ parts. parts ≡ self.now) }
     {

@@ -3,7 +3,7 @@
 ghost use Rattle.std.specs.Prelude.{◌≡◌, ◌≤◌, length, None, IfOk};
 ghost use Rattle.std.specs.Option.{option_copied};
 ghost use Rattle.dd_elem.specs.Clean.{clean_of};
-ghost use Rattle.dd_elem.specs.Key.{IsKey};
+ghost use Rattle.dd_elem.specs.Key.{IsKey, max_key_length};
 ghost use Rattle.dd_set.specs.Views.{set_view};
 ghost use Rattle.dd_keys.specs.RowViews.{key_row_view, uid_row_view};
 ghost use Rattle.dd_keys.specs.Told.{AreFronts, told_key_fault, told_uid_fault, told_table_fault};
@@ -54,7 +54,7 @@ impl KeyRow {
         requires passes { told_key_fault self.now.tag (V.tells values.now self.now.tag) ≡ None }
         requires fronts { AreFronts (V.tells values.now) }
         requires clean { clean_of self.now.when_empty.now ≡ self.now.when_empty.now }
-        requires short { length self.now.when_empty.now ≤ 1024 }
+        requires short { length self.now.when_empty.now ≤ max_key_length }
         ensures { IfOk result (λ key. key ≡ told_key (V.tells values.now) (key_row_view self.now)) }
     {
         let Shown::Bytes { front, .. } = values.value(self.tag) else {

@@ -53,8 +53,8 @@ pub struct Misfit {
 }
 
 impl Version {
-    /// The version of these parts. Refused where one does not fit: where the transfer syntax is
-    /// neither Implicit nor Explicit VR Little Endian, the class is no image class that is taken, or
+    /// The version of these parts. Refused where one does not fit: where the transfer syntax is none of
+    /// those that are read, the class is no image class that is taken, or
     /// study date, study time, modality, Patient ID, study ID, series number or instance number is
     /// empty.
     pub fn of(parts: Parts) -> Result<Version, Misfit>
@@ -85,7 +85,7 @@ impl Version {
         &self.parts
     }
 
-    /// An equal version. Memory where a growth was refused.
+    /// An equal version. Memory where no more copies can share a key of more than 22 bytes.
     pub fn copy(&self) -> Result<Version, Memory>
         ensures { IfOk result (λ version. version ≡ self.now) }
     {

@@ -2,7 +2,8 @@
 use Rattle.std.proofs.Common.{subst}
 use Rattle.std.proofs.lemmas.Result.{err_from_is_err_and}
 use Rattle.dd_part10.specs.declared.meta.Meta.{Meta}
-use Rattle.dd_keys.specs.Told.{IsJudged, told_fault, told_found, told_parts, wanted_tags}
+use Rattle.dd_keys.specs.Told.{IsJudged, told_fault, told_found, told_parts}
+use Rattle.dd_keys.proofs.Tells.{wanted_tags}
 use Rattle.dd_keys.proofs.Carrying.{passed}
 use Rattle.dd_keys.proofs.Ingesting.{answers_reader, refused_reader}
 use Rattle.dd_keys.proofs.Judging.{judged_answers}
