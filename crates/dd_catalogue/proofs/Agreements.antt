@@ -15,7 +15,8 @@ use Rattle.dd_catalogue.proofs.Members.{Member, member_of, contained}
 use Rattle.dd_catalogue.proofs.BestMembers.{best_is_best, best_at_key, is_greatest, absorbed, one_itself}
 use Rattle.dd_catalogue.specs.Harmony.{greatest_like, patient_of, study_of, series_of, agreed, harmonised}
 use Rattle.dd_catalogue.specs.Histories.{together}
-use Rattle.dd_catalogue.specs.Rising.{Orders, by_option, either}
+use Rattle.dd_catalogue.specs.Rising.{Orders, either}
+use Rattle.dd_catalogue.proofs.Cases.{by_option}
 use Rattle.dd_catalogue.specs.Versions.{instance_of, IsCatalogue, best_of, versions_ordered}
 use Rattle.dd_catalogue.proofs.Again.{StandsFor, AllStandFor, agreed_again}
 use Rattle.dd_catalogue.proofs.Clashes.{one_version}

@@ -8,7 +8,8 @@ use Rattle.std.proofs.Common.{refl, sym, ◌∙◌, ap, subst, inl, inr}
 use Rattle.std.proofs.lemmas.Cmp.{tied_itself}
 use Rattle.std.proofs.lemmas.Option.{none-some, same_Some}
 use Rattle.dd_catalogue.specs.Best.{IsAbove, IsRising, at, greater, best, SameMembers, IsGreatest, IsBest}
-use Rattle.dd_catalogue.specs.Rising.{Orders, by_order, by_test, by_option, is_eq_Equal, either, either_self}
+use Rattle.dd_catalogue.specs.Rising.{Orders, by_order, by_test, is_eq_Equal, either, either_self}
+use Rattle.dd_catalogue.proofs.Cases.{by_option}
 use Rattle.dd_catalogue.specs.Rising.{either_comm, either_assoc, either_swap, one, same_rising, less_turned}
 use Rattle.dd_catalogue.specs.Rising.{greater_greater, at-first}
 use Rattle.dd_catalogue.specs.BestLaws.{best_at, rising-best, at-best, best_at-rising, best_at-best, same_best_at}

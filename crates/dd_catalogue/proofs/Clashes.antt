@@ -12,7 +12,8 @@ use Rattle.dd_catalogue.proofs.Members.{Member, member_of, contained}
 use Rattle.dd_catalogue.proofs.BestMembers.{above_member, at-member}
 use Rattle.dd_catalogue.specs.Clash.{same, splits, conflicts, clash, Conflict, IsBelow, IsFirstConflict}
 use Rattle.dd_catalogue.specs.Clash.{IsClash}
-use Rattle.dd_catalogue.specs.Rising.{by_order, by_test, by_option, is_eq_Equal, less_turned, greater_turned}
+use Rattle.dd_catalogue.specs.Rising.{by_order, by_test, is_eq_Equal, less_turned, greater_turned}
+use Rattle.dd_catalogue.proofs.Cases.{by_option}
 use Rattle.dd_catalogue.specs.Versions.{instance_of, IsCatalogue, kept}
 
 -- ---- the test of a conflict decides it

@@ -2,6 +2,8 @@ pub mod Again
 pub mod Agreements
 pub mod AnyOrder
 pub mod BestMembers
+pub mod BestOfBests
+pub mod Cases
 pub mod Clashes
 pub mod Gathering
 pub mod Harmonies

@@ -7,7 +7,7 @@ use Rattle.std.proofs.lemmas.List.{take_more, take_all, map-append}
 use Rattle.std.proofs.lemmas.List.Sorted.{Contains-permutation, IsPermutation-sym}
 use Rattle.dd_catalogue.specs.Best.{best, SameMembers}
 use Rattle.dd_catalogue.specs.Rising.{Orders}
-use Rattle.dd_catalogue.specs.BestLaws.{best_push}
+use Rattle.dd_catalogue.proofs.BestOfBests.{best_push}
 use Rattle.dd_catalogue.proofs.BestMembers.{best_of_same}
 
 one_more : {V : Type 0} (m : List V) (i : ℕ) (x : V) → i < length m → x ≡ get_or m i x

@@ -9,7 +9,8 @@ use Rattle.std.proofs.lemmas.Option.{none-some}
 use Rattle.dd_elem.specs.Ordered.{bytes_cmp}
 use Rattle.dd_keys.specs.declared.parts.Parts.{Parts}
 use Rattle.dd_catalogue.specs.Best.{at, best}
-use Rattle.dd_catalogue.specs.Rising.{Orders, by_test, by_option, is_eq_Equal, either}
+use Rattle.dd_catalogue.specs.Rising.{Orders, by_test, is_eq_Equal, either}
+use Rattle.dd_catalogue.proofs.Cases.{by_option}
 use Rattle.dd_catalogue.specs.BestLaws.{best_at, at-best}
 use Rattle.dd_catalogue.proofs.Members.{Member, member_of, contained}
 use Rattle.dd_catalogue.proofs.BestMembers.{absorbed, one_itself}

@@ -3,7 +3,7 @@
 use Rattle.std.specs.Prelude.{◌≡◌, List, [], ◌∷◌, ◌++◌, Option, None}
 use Rattle.std.specs.declared.cmp.Ordering.{Ordering}
 use Rattle.std.proofs.Common.{refl, sym, ◌∙◌, ap, append_assoc}
-use Rattle.dd_catalogue.specs.Best.{IsRising, at, put, best}
+use Rattle.dd_catalogue.specs.Best.{IsRising, at, best}
 use Rattle.dd_catalogue.specs.Rising.{Orders, either, either_self, either_comm, either_assoc, one, at-cons, rising-put}
 use Rattle.dd_catalogue.specs.Rising.{at-put, same_rising}
 
@@ -66,17 +66,6 @@ pub best_at-best : {V K : Type 0} {key : V → K} {keys : K → K → Ordering} 
 best_at-best {key = key} {keys = keys} {values = values} o s k =
     best_at-rising o (best key keys values s) k (rising-best o s) ∙ at-best o s k
 
--- the best of the bests is the best of all
-pub best_of_bests : {V K : Type 0} {key : V → K} {keys : K → K → Ordering} {values : V → V → Ordering}
-    (o : Orders key keys values) (s t : List V)
-    → best key keys values (best key keys values s ++ best key keys values t) ≡ best key keys values (s ++ t)
-best_of_bests {key = key} {keys = keys} {values = values} o s t =
-    same_best_at o (best key keys values s ++ best key keys values t) (s ++ t) (λ k.
-    best_at-append o (best key keys values s) (best key keys values t) k
-    ∙ ap (λ x. either values x (best_at key keys values (best key keys values t) k)) (best_at-best o s k)
-    ∙ ap (λ x. either values (best_at key keys values s k) x) (best_at-best o t k)
-    ∙ sym (best_at-append o s t k))
-
 pub best_left : {V K : Type 0} {key : V → K} {keys : K → K → Ordering} {values : V → V → Ordering}
     (o : Orders key keys values) (s t : List V)
     → best key keys values (best key keys values s ++ t) ≡ best key keys values (s ++ t)
@@ -114,16 +103,3 @@ pub best_self : {V K : Type 0} {key : V → K} {keys : K → K → Ordering} {va
     → IsRising key keys m → best key keys values (m ++ m) ≡ m
 best_self {key = key} {keys = keys} {values = values} o m up = same_best_at o (m ++ m) m (λ k.
     best_at-append o m m k ∙ either_self o.values_total (best_at key keys values m k)) ∙ best_of_rising o m up
-
--- ---- one value more
-
-pub best_again : {V K : Type 0} {key : V → K} {keys : K → K → Ordering} {values : V → V → Ordering}
-    (o : Orders key keys values) (v : V) (s : List V)
-    → best key keys values (v ∷ best key keys values s) ≡ best key keys values (v ∷ s)
-best_again {key = key} {keys = keys} {values = values} o v s =
-    ap (λ m. put key keys values v m) (best_of_rising o (best key keys values s) (rising-best o s))
-
-pub best_push : {V K : Type 0} {key : V → K} {keys : K → K → Ordering} {values : V → V → Ordering}
-    (o : Orders key keys values) (v : V) (s : List V)
-    → best key keys values (v ∷ best key keys values s) ≡ best key keys values (s ++ v ∷ [])
-best_push o v s = best_again o v s ∙ best_comm o (v ∷ []) s

@@ -1,4 +1,4 @@
--- How many pairs of keys are compared where two lists that rise by key are joined by two positions.
+-- How many pairs of keys are compared where two lists that rise by key are joined.
 use Rattle.std.specs.Prelude.{ℕ, List, Bool, ◌++◌, ◌&&◌}
 use Rattle.std.specs.List.{list_any, count_by}
 use Rattle.std.specs.Ordering.{is_le}

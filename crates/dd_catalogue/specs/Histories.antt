@@ -9,10 +9,10 @@ use Rattle.dd_catalogue.specs.declared.history.History.TheOpen.{History-F}
 abbrev pub together : List (List Parts) → List Parts
 together sets = flat_map (λ s. s) sets
 
-abbrev pub taken_by : History-F (List Parts) → List Parts
-taken_by (History-F.Batch versions) = versions.items
-taken_by (History-F.Merge parts) = together parts.items
+abbrev pub taken_step : History-F (List Parts) → List Parts
+taken_step (History-F.Batch versions) = versions.items
+taken_step (History-F.Merge parts) = together parts.items
 
 -- the versions that were taken
 abbrev pub taken : History → List Parts
-taken history = fold-History (List Parts) taken_by history
+taken history = fold-History (List Parts) taken_step history

@@ -22,10 +22,6 @@ pub by_test : {G : Type 0} (b : Bool) → (b ≡ true → G) → (b ≡ false �
 by_test true holds fails = holds refl
 by_test false holds fails = fails refl
 
-pub by_option : {A G : Type 0} (r : Option A) → (r ≡ None → G) → ((a : A) → r ≡ Some a → G) → G
-by_option None absent present = absent refl
-by_option (Some a) absent present = present a refl
-
 -- ---- orders
 
 -- an order of keys and one of values, total both, in which only equal ones tie

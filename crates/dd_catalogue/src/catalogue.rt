@@ -154,9 +154,9 @@ impl Catalogue {
         Ok(told(taken))
     }
 
-    /// Takes copies of all versions of the other catalogue, in one walk through both by two positions.
-    /// Memory where a growth was refused; then nothing has changed. No memory is taken where the other
-    /// catalogue is empty.
+    /// Takes copies of all versions of the other catalogue, in one walk through both. Memory where a
+    /// growth was refused; then nothing has changed. No memory is taken where the other catalogue is
+    /// empty.
     pub fn merge(&mut self, other: &Catalogue) -> Result<(), Memory>
         ensures ok { OnOk result (self.new ≡ best_of (self.old ++ other.now)) }
         ensures err { OnErr result (self.new ≡ self.old) }

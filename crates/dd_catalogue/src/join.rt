@@ -10,8 +10,10 @@ use dd_keys::Version;
 /// A type whose values can be joined: what is joined, in whatever order and however often, gives the
 /// same.
 pub trait Join {
+    // is it one of the values that are joined?
     ghost is_value: { Self → Type 0 };
 
+    // what the two are joined to
     ghost joined: { Self → Self → Self };
 
     /// Joins the other value to this one. Memory where a growth was refused; then nothing has changed.

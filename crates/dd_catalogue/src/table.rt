@@ -137,8 +137,9 @@ impl<T: Keyed + Copied + Drop> Table<T> {
         Ok(weave(own, copied, &mut self.held))
     }
 
-    /// Takes the value, where no greater one with its key is there. It is handed back where a growth
-    /// was refused; then nothing has changed. No memory is taken where a value with the key is there.
+    /// Takes the value, where none with its key is there, or a smaller one. It is handed back where a
+    /// growth was refused; then nothing has changed. No memory is taken where a value with the key is
+    /// there.
     pub(crate) fn take(&mut self, value: T) -> Result<Taken<T>, T>
         ensures ok { OnOk result (self.new ≡ best T.key_of bytes_cmp T.order (value ∷ self.old)) }
         ensures took { IfOk result (λ took. took

@@ -1,4 +1,4 @@
-use Rattle.dd_catalogue.specs.BestLaws.{best_of_bests}
+use Rattle.dd_catalogue.proofs.BestOfBests.{best_of_bests}
 use Rattle.dd_catalogue.specs.Versions.{versions_ordered}
 use Rattle.dd_catalogue.proofs.laws.best_of_bests.Goals as goal
 
