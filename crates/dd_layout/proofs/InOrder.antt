@@ -14,7 +14,7 @@ use Rattle.dd_layout.specs.Levels.{levels}
 use Rattle.dd_layout.specs.Paths.{Path, path_cmp, is_before, prefixes}
 use Rattle.dd_layout.specs.Plans.{path_of}
 use Rattle.dd_layout.specs.WalkedRecords.{Standing, standing, standings, AreInOrder, record_here}
-use Rattle.dd_layout.specs.WalkedRecords.{record_of_level}
+use Rattle.dd_layout.proofs.RowRecords.{record_of_level}
 use Rattle.dd_layout.proofs.RowsByWalk.{path_total}
 use borrow.Rule.Slice.PartMut.{mid_of}
 

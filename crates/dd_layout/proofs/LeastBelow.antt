@@ -12,10 +12,10 @@ use Rattle.dd_catalogue.specs.Rising.{by_test}
 use Rattle.dd_keys.specs.declared.parts.Parts.{Parts}
 use Rattle.dd_layout.specs.Paths.{Path, prefixes, leads_to}
 use Rattle.dd_layout.specs.Plans.{path_of, least_below, tree}
-use Rattle.dd_layout.specs.Stages.{bare_at}
+use Rattle.dd_layout.specs.Stages.{bare, bare_at}
 use Rattle.dd_layout.specs.Tree.{tree_of}
 use Rattle.dd_layout.specs.Walk.{rows_from}
-use Rattle.dd_layout.specs.WalkedRecords.{Standing, standings, AreInOrder, bare, lesser, records_from}
+use Rattle.dd_layout.specs.WalkedRecords.{Standing, standings, AreInOrder, lesser, records_from}
 use Rattle.dd_layout.proofs.RowsByWalk.{paths_ordered, row_prefix}
 use Rattle.dd_layout.proofs.Blocks.{prefix_leads}
 use Rattle.dd_layout.proofs.Trees.{of_one, from_one}

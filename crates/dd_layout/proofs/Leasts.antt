@@ -12,12 +12,12 @@ use Rattle.dd_keys.specs.declared.parts.Parts.{Parts}
 use Rattle.dd_layout.specs.declared.label.Label.{Label}
 use Rattle.dd_layout.specs.declared.record.PlanRecord.{PlanRecord}
 use Rattle.dd_layout.specs.Layouts.{IsSound}
-use Rattle.dd_layout.specs.Levels.{HasLevel}
 use Rattle.dd_layout.specs.Paths.{Path, leads_to}
 use Rattle.dd_layout.specs.Plans.{path_of, tree, level_of, least_below, file_of, record_at, records_of}
 use Rattle.dd_layout.specs.Records.{IsFileOf}
 use Rattle.dd_layout.specs.Stages.{numbered_at}
 use Rattle.dd_layout.proofs.Blocks.{and_parts}
+use Rattle.dd_layout.proofs.HasLevel.{HasLevel}
 use Rattle.dd_layout.proofs.Trees.{tree_is_tree}
 
 -- ---- the versions below a path

@@ -3,8 +3,8 @@ use Rattle.std.proofs.Common.{◌≡◌, ℕ, zero, suc, ◌-◌, ◌<◌, ◌�
 use Rattle.std.proofs.Common.{slice_index_or, slice_set}
 use Rattle.dd_layout.specs.declared.links.Behind.{Behind}
 use Rattle.dd_layout.specs.declared.record.PlanRecord.{PlanRecord}
-use Rattle.dd_layout.specs.Linking.{none_behind, next_of, lower_of, behind_from, with_links, linked, linked_after}
-use Rattle.dd_layout.specs.Linking.{behind_after}
+use Rattle.dd_layout.specs.Linking.{next_of, lower_of, behind_from}
+use Rattle.dd_layout.proofs.LinkPass.{none_behind, with_links, linked, linked_after, behind_after}
 
 -- before the first turn
 pub rows_at_first : (rows : List PlanRecord) → rows ≡ linked_after (length rows) rows

@@ -7,14 +7,15 @@ use Rattle.dd_layout.specs.declared.label.Label.{Label}
 use Rattle.dd_layout.specs.declared.level.Level.TheVariants.{Study, Series, Image}
 use Rattle.dd_layout.specs.declared.links.Behind.{Behind}
 use Rattle.dd_layout.specs.declared.record.PlanRecord.{PlanRecord}
-use Rattle.dd_layout.specs.Levels.{HasLevel}
-use Rattle.dd_layout.specs.Linking.{found, found_behind, next_of, lower_of, behind_from, behind_of, with_links, linked}
+use Rattle.dd_layout.specs.Linking.{next_of, lower_of, behind_from}
 use Rattle.dd_layout.specs.Neighbours.{scan}
 use Rattle.dd_layout.specs.Paths.{Path}
 use Rattle.dd_layout.specs.Plans.{path_of, tree, level_of, at, at_or_none, record_at, records_of}
 use Rattle.dd_layout.specs.Stages.{placed_at}
 use Rattle.dd_layout.specs.Tree.{next_sibling}
+use Rattle.dd_layout.proofs.HasLevel.{HasLevel}
 use Rattle.dd_layout.proofs.Leasts.{all_have_levels, paths_have_parts}
+use Rattle.dd_layout.proofs.LinkPass.{found, found_behind, behind_of, with_links, linked}
 use Rattle.dd_layout.proofs.Neighbourhood.{rows_are_known}
 
 behind_is : (label : Label) (versions : List Parts) (rest : List Path) → AllByRecursion HasLevel rest

@@ -10,13 +10,13 @@ use Rattle.dd_layout.specs.declared.label.Label.{Label}
 use Rattle.dd_layout.specs.declared.record.PlanRecord.{PlanRecord}
 use Rattle.dd_layout.specs.Directory.{first_offset}
 use Rattle.dd_layout.specs.Paths.{Path}
-use Rattle.dd_layout.specs.Placing.{end_at, end_of, placed_to, weight}
 use Rattle.dd_layout.specs.Plans.{path_of, tree, record_size_at, at, size}
 use Rattle.dd_layout.specs.Records.{IsFileOf, record_entries}
 use Rattle.dd_layout.specs.Sizes.{record_size}
 use Rattle.dd_layout.specs.Stages.{numbered_at, placed_at}
 use Rattle.dd_layout.proofs.Leasts.{least_of_each, paths_have_parts}
 use Rattle.dd_layout.proofs.Neighbourhood.{rows_are_known}
+use Rattle.dd_layout.proofs.OffsetPass.{end_at, end_of, placed_to, weight}
 use Rattle.dd_layout.proofs.PlaceTurns.{end_at_last, end_at_most, row_now, weight_is}
 
 -- the size of a row is that of its record

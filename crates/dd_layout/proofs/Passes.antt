@@ -11,13 +11,13 @@ use Rattle.dd_keys.specs.declared.parts.Parts.{Parts}
 use Rattle.dd_layout.specs.declared.level.Level.{Level}
 use Rattle.dd_layout.specs.declared.ranks.Counters.{Counters}
 use Rattle.dd_layout.specs.Neighbours.{counted, counts_after}
-use Rattle.dd_layout.specs.Numbering.{after, count_of, counted_file, counters_of, file_if_ranks, is_rank, noted}
-use Rattle.dd_layout.specs.Numbering.{noted_from, topmost}
+use Rattle.dd_layout.specs.Numbering.{after, count_of, counted_file, counters_of, file_if_ranks, is_rank, topmost}
 use Rattle.dd_layout.specs.Paths.{Path, prefixes}
 use Rattle.dd_layout.specs.Plans.{level_of, file_of}
 use Rattle.dd_layout.specs.Records.{IsFileOf}
 use Rattle.dd_layout.specs.Stages.{bare_at}
 use Rattle.dd_layout.specs.Tree.{rank, ranks_along}
+use Rattle.dd_layout.proofs.NumberPass.{noted, noted_from}
 use Rattle.dd_layout.proofs.TreeRows.{AreRows, IsRow}
 
 -- ---- counts of a path as counters: those of no level are 0

@@ -6,9 +6,9 @@ use Rattle.std.proofs.lemmas.List.Sums.{sum_by-cons}
 use Rattle.std.proofs.lemmas.Option.{slice_get_read}
 use Rattle.dd_keys.specs.declared.parts.Parts.{Parts}
 use Rattle.dd_layout.specs.declared.record.PlanRecord.{PlanRecord}
-use Rattle.dd_layout.specs.Placing.{end_of, placed_to, weight, weight_by}
 use Rattle.dd_layout.specs.Records.{record_entries}
 use Rattle.dd_layout.specs.Sizes.{record_size}
+use Rattle.dd_layout.proofs.OffsetPass.{end_of, placed_to, weight, weight_by}
 
 -- the row of the turn
 row_turn : (size : PlanRecord → ℕ) (n at : ℕ) (rows : List PlanRecord) (d : PlanRecord)

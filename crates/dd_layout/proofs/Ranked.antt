@@ -11,7 +11,7 @@ use Rattle.dd_layout.specs.declared.level.Level.{Level}
 use Rattle.dd_layout.specs.declared.ranks.Counters.{Counters}
 use Rattle.dd_layout.specs.declared.record.PlanRecord.{PlanRecord}
 use Rattle.dd_layout.specs.Neighbours.{counts_after}
-use Rattle.dd_layout.specs.Numbering.{counted_file, counters_of, noted_from, numbered_from}
+use Rattle.dd_layout.specs.Numbering.{counted_file, counters_of}
 use Rattle.dd_layout.specs.Paths.{Path, prefixes}
 use Rattle.dd_layout.specs.Plans.{file_of, level_of, tree}
 use Rattle.dd_layout.specs.Records.{IsFileOf}
@@ -19,6 +19,7 @@ use Rattle.dd_layout.specs.Refusal.{crowded}
 use Rattle.dd_layout.specs.Stages.{bare_at, numbered_at}
 use Rattle.dd_layout.specs.Tree.{rank}
 use Rattle.dd_layout.proofs.Crowds.{noted_is_crowded}
+use Rattle.dd_layout.proofs.NumberPass.{noted_from, numbered_from}
 use Rattle.dd_layout.proofs.Passes.{IsNumbered, file_is_file, filled, none_noted, noted_rows, row_after, row_at}
 use Rattle.dd_layout.proofs.Passes.{row_file, walk_noted}
 use Rattle.dd_layout.proofs.TreeRows.{AreRows, tree_rows}

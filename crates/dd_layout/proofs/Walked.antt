@@ -16,9 +16,10 @@ use Rattle.dd_catalogue.proofs.BestMembers.{best_of_same}
 use Rattle.dd_catalogue.specs.Rising.{by_test, by_order, is_eq_Equal, above_trans, greater_turned}
 use Rattle.dd_layout.specs.declared.record.PlanRecord.{PlanRecord}
 use Rattle.dd_layout.specs.Paths.{Path, path_cmp, is_before, prefixes, leads_to}
+use Rattle.dd_layout.specs.Stages.{bare}
 use Rattle.dd_layout.specs.Tree.{tree_of}
 use Rattle.dd_layout.specs.Walk.{fresh, rows_from}
-use Rattle.dd_layout.specs.WalkedRecords.{Standing, AreInOrder, bare, least_run, lesser, record_here, records_from}
+use Rattle.dd_layout.specs.WalkedRecords.{Standing, AreInOrder, least_run, lesser, record_here, records_from}
 use Rattle.dd_layout.proofs.RowsByWalk.{path_total, path_apart, paths_ordered, Rises, Above, append_above, append_rises}
 use Rattle.dd_layout.proofs.RowsByWalk.{fresh_above, fresh_rises, fresh_up_to, fresh_member, rows_members}
 use Rattle.dd_layout.proofs.Blocks.{and_parts, between, prefix_leads}

@@ -4,6 +4,7 @@ use Rattle.std.specs.Prelude.{◌≡◌, ◌≤◌, ℕ, ◌%◌, List, [], ◌�
 use Rattle.std.specs.Prelude.{if◌then◌else◌, ◌==◌}
 use Rattle.byteorder.specs.Endian.{little_bytes}
 use Rattle.dd_elem.specs.FileId.{Ranks}
+use Rattle.dd_elem.specs.Key.{max_key_length}
 use Rattle.dd_keys.specs.declared.parts.Parts.{Parts}
 use Rattle.dd_set.specs.Elements.{Entry, Content, bytes, items}
 use Rattle.dd_layout.specs.declared.cell.Cell.{Cell}
@@ -48,9 +49,9 @@ abbrev pub cell_entries : Option Cell → List Entry
 cell_entries None = []
 cell_entries (Some cell) = cell_entry cell ∷ []
 
--- an element of an even length, with at most 1,024 bytes
+-- an element of an even length, with no more bytes than a key may have
 abbrev pub IsShort : List ℕ → Type 0
-IsShort v = (length v % 2 ≡ 0) × (length v ≤ 1024)
+IsShort v = (length v % 2 ≡ 0) × (length v ≤ max_key_length)
 
 abbrev pub IsShortContent : Content → Type 0
 IsShortContent (bytes v) = IsShort v

@@ -25,13 +25,17 @@ records_entry records = record { tag = tag 0x0004 0x1220; vr = Some SQ; content 
 abbrev pub directory_entries : List ℕ → ℕ → ℕ → List Part → List Entry
 directory_entries id first last records = front_entries id first last ++ (records_entry records ∷ [])
 
+-- the class of directories, Media Storage Directory Storage (PS3.4 annex I.4, PS3.6 annex A)
+abbrev pub directory_class : List ℕ
+directory_class = codes "1.2.840.10008.1.3.10"
+
+-- Explicit VR Little Endian, in which a directory is encoded (PS3.10 section 8.6)
+abbrev pub directory_syntax : List ℕ
+directory_syntax = codes "1.2.840.10008.1.2.1"
+
 -- what stands in group 0002 of a directory
 abbrev pub meta_of : Label → Meta
-meta_of label = record {
-  class = codes "1.2.840.10008.1.3.10";
-  instance = label.uid;
-  transfer = codes "1.2.840.10008.1.2.1";
-}
+meta_of label = record { class = directory_class; instance = label.uid; transfer = directory_syntax }
 
 -- the bytes before the first record
 abbrev pub first_offset : Label → ℕ

@@ -8,7 +8,6 @@ pub mod Linking
 pub mod Neighbours
 pub mod Numbering
 pub mod Paths
-pub mod Placing
 pub mod Plans
 pub mod Records
 pub mod Refusal

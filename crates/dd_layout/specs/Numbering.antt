@@ -1,12 +1,12 @@
 -- The ranks of records by one pass: four counters, of which each says how many records of its level have come below
 -- the parent now.
-use Rattle.std.specs.Prelude.{◌≤◌, ℕ, ◌+◌, ◌&&◌, Bool, List, [], ◌∷◌, Option, None, Some, nat_le, nat_lt}
+use Rattle.std.specs.Prelude.{ℕ, ◌+◌, ◌&&◌, Bool, Option, None, Some, nat_le}
 use Rattle.std.specs.Prelude.{if◌then◌else◌}
 use Rattle.dd_elem.specs.FileId.{Ranks, ranks_of}
 use Rattle.dd_layout.specs.declared.level.Level.{Level}
 use Rattle.dd_layout.specs.declared.level.Level.TheVariants.{Patient, Study, Series, Image}
 use Rattle.dd_layout.specs.declared.ranks.Counters.{Counters}
-use Rattle.dd_layout.specs.declared.record.PlanRecord.{PlanRecord}
+use Rattle.dd_layout.specs.Bounds.{max_rank}
 
 abbrev pub counters_of : (patient study series image : ℕ) → Counters
 counters_of patient study series image =
@@ -26,17 +26,10 @@ after Study counters = counters_of counters.patient (counters.study + 1) 0 0
 after Series counters = counters_of counters.patient counters.study (counters.series + 1) 0
 after Image counters = counters_of counters.patient counters.study counters.series (counters.image + 1)
 
--- none counts more than so many
-pub record AreWithin (most : ℕ) (counters : Counters) : Type 0 where
-  pub patient : counters.patient ≤ most
-  pub study : counters.study ≤ most
-  pub series : counters.series ≤ most
-  pub image : counters.image ≤ most
-
 -- ---- the File ID of a record that has just been counted
 
 abbrev pub is_rank : ℕ → Bool
-is_rank n = nat_le 1 n && nat_le n 999999
+is_rank n = nat_le 1 n && nat_le n max_rank
 
 abbrev pub are_ranks : Ranks → Bool
 are_ranks ranks = is_rank ranks.patient && (is_rank ranks.study && (is_rank ranks.series && is_rank ranks.image))
@@ -65,21 +58,3 @@ topmost Study (Some Series) = Study
 topmost Series (Some Series) = Series
 topmost Image (Some Series) = Series
 topmost level (Some Image) = level
-
--- what is noted after a record of this level and rank
-abbrev pub noted : ℕ → Level → ℕ → Option Level → Option Level
-noted most level rank before = if nat_lt most rank then Some (topmost level before) else before
-
--- ---- the pass, from these counters on
-
-abbrev pub numbered_from : Counters → List PlanRecord → List PlanRecord
-numbered_from counters [] = []
-numbered_from counters (row ∷ rows) =
-    record row { file = counted_file row.level (after row.level counters) }
-    ∷ numbered_from (after row.level counters) rows
-
-abbrev pub noted_from : ℕ → Counters → Option Level → List PlanRecord → Option Level
-noted_from most counters before [] = before
-noted_from most counters before (row ∷ rows) =
-    noted_from most (after row.level counters)
-    (noted most row.level (count_of row.level (after row.level counters)) before) rows

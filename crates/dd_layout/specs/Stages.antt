@@ -1,15 +1,18 @@
 -- The records of a plan before all of it is known: first each record's level and version, then its File ID, then its
 -- offset.
-use Rattle.std.specs.Prelude.{List, None}
+use Rattle.std.specs.Prelude.{ℕ, List, None}
 use Rattle.dd_keys.specs.declared.parts.Parts.{Parts}
 use Rattle.dd_layout.specs.declared.label.Label.{Label}
 use Rattle.dd_layout.specs.declared.record.PlanRecord.{PlanRecord}
 use Rattle.dd_layout.specs.Paths.{Path}
 use Rattle.dd_layout.specs.Plans.{tree, level_of, least_below, file_of, at}
 
+-- the record of a path, of the version at this place
+abbrev pub bare : Path → ℕ → PlanRecord
+bare x place = record { level = level_of x; at = 0; next = 0; lower = 0; file = None; of = place }
+
 abbrev pub bare_at : List Parts → Path → PlanRecord
-bare_at versions x =
-    record { level = level_of x; at = 0; next = 0; lower = 0; file = None; of = least_below versions x }
+bare_at versions x = bare x (least_below versions x)
 
 abbrev pub numbered_at : List Parts → Path → PlanRecord
 numbered_at versions x = record (bare_at versions x) { file = file_of (tree versions) x }

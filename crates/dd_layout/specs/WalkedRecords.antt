@@ -10,7 +10,8 @@ use Rattle.dd_layout.specs.declared.level.Level.TheVariants.{Patient, Study, Ser
 use Rattle.dd_layout.specs.declared.order.Placed.{Placed}
 use Rattle.dd_layout.specs.declared.record.PlanRecord.{PlanRecord}
 use Rattle.dd_layout.specs.Paths.{Path, is_before, leads_to}
-use Rattle.dd_layout.specs.Plans.{path_of, level_of}
+use Rattle.dd_layout.specs.Plans.{path_of}
+use Rattle.dd_layout.specs.Stages.{bare}
 use Rattle.dd_layout.specs.Walk.{fresh}
 
 -- ---- versions with their places
@@ -66,18 +67,9 @@ abbrev pub least_here : Path → List Standing → ℕ
 least_here x [] = 0
 least_here x (s ∷ run) = least_run x s.0 run
 
--- the record of a path, of the version at this place
-abbrev pub bare : Path → ℕ → PlanRecord
-bare x place = record { level = level_of x; at = 0; next = 0; lower = 0; file = None; of = place }
-
 abbrev pub record_here : List Standing → Path → PlanRecord
 record_here run x = bare x (least_here x run)
 
 abbrev pub records_from : Path → List Standing → List PlanRecord
 records_from before [] = []
 records_from before (s ∷ run) = map (record_here (s ∷ run)) (fresh before s.1) ++ records_from s.1 run
-
--- the record of this level that leads to the first version
-abbrev pub record_of_level : List Standing → Parts → Level → PlanRecord
-record_of_level run version level =
-    record { level = level; at = 0; next = 0; lower = 0; file = None; of = least_here (front_of level version) run }

@@ -1,6 +1,7 @@
 //! The limits of a directory.
 
 ghost use Rattle.std.specs.Prelude.{◌≤◌, SomeIff};
+ghost use Rattle.dd_layout.specs.Bounds.{max_rank};
 
 use dd_elem::FileId;
 use std::marker::Model;
@@ -14,13 +15,13 @@ pub struct Limits {
 
 impl Model for Limits {
     ghost use Rattle.std.specs.Prelude.{◌≤◌};
-    ghost use Rattle.dd_layout.specs.Bounds.{Bounds};
+    ghost use Rattle.dd_layout.specs.Bounds.{Bounds, max_rank};
 
     ghost Value = { Bounds };
 
     ghost view = { λ limits. record { bytes = limits.bytes; per_level = limits.per_level } };
 
-    ghost invariant = { λ limits. limits.per_level ≤ 999999 };
+    ghost invariant = { λ limits. limits.per_level ≤ max_rank };
 
     ghost inverse = { λ bounds. record { bytes = bounds.bytes; per_level = bounds.per_level } };
 }
@@ -29,7 +30,7 @@ impl Limits {
     /// Limits of these numbers: None where `per_level` is above 999,999, the highest rank that a
     /// File ID has room for.
     pub fn new(bytes: u32, per_level: u32) -> Option<Limits>
-        ensures { SomeIff result (per_level ≤ 999999) (record { bytes = bytes; per_level = per_level }) }
+        ensures { SomeIff result (per_level ≤ max_rank) (record { bytes = bytes; per_level = per_level }) }
     {
         if per_level > FileId::MAX_RANK {
             return None;

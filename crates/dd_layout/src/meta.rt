@@ -1,7 +1,7 @@
 //! What stands in group 0002 of a directory.
 
-ghost use Rattle.std.specs.Prelude.{◌≡◌, codes};
-ghost use Rattle.dd_layout.specs.Directory.{meta_of};
+ghost use Rattle.std.specs.Prelude.{◌≡◌};
+ghost use Rattle.dd_layout.specs.Directory.{directory_class, directory_syntax, meta_of};
 
 use crate::label::Label;
 use dd_elem::Uid;
@@ -26,14 +26,14 @@ pub fn directory_meta(label: &Label) -> Meta
 
 /// The class of directories.
 fn directory_class() -> Uid
-    ensures { result ≡ codes "1.2.840.10008.1.3.10" }
+    ensures { result ≡ directory_class }
 {
     Uid::new(DIRECTORY_CLASS).unwrap()
 }
 
 /// The transfer syntax of directories.
 fn directory_syntax() -> Uid
-    ensures { result ≡ codes "1.2.840.10008.1.2.1" }
+    ensures { result ≡ directory_syntax }
 {
     Uid::new(DIRECTORY_SYNTAX).unwrap()
 }

@@ -2,6 +2,7 @@
 
 ghost use Rattle.std.specs.Prelude.{◌≡◌, ◌+◌, ◌<◌, ◌≤◌, ◌^◌, All, List, None, Some, map};
 ghost use Rattle.dd_keys.specs.declared.parts.Parts.{Parts};
+ghost use Rattle.dd_layout.specs.Bounds.{max_rank};
 ghost use Rattle.dd_layout.specs.Numbering.{after, count_of, counted_file, topmost};
 ghost use Rattle.dd_layout.specs.Plans.{tree};
 ghost use Rattle.dd_layout.specs.Records.{IsFileOf};
@@ -102,7 +103,7 @@ fn topmost(level: Level, before: Option<Level>) -> Level
 /// Gives each image its File ID. Answers the topmost level of which more records than `most` stand below
 /// one parent, and None where there is no such level.
 pub(crate) fn number(records: &mut [PlanRecord], most: u32) -> Option<Level>
-    requires { most ≤ 999999 }
+    requires { most ≤ max_rank }
     ensures crowded { (versions : List Parts) → records.old ≡ map (bare_at versions) (tree versions)
         → result ≡ crowded most (tree versions) }
     ensures numbered { (versions : List Parts) → records.old ≡ map (bare_at versions) (tree versions)

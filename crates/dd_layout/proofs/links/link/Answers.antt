@@ -1,5 +1,5 @@
 use Rattle.std.proofs.Common.{ap, ◌∙◌}
-use Rattle.dd_layout.specs.Linking.{linked}
+use Rattle.dd_layout.proofs.LinkPass.{linked}
 use Rattle.dd_layout.proofs.LinkTurns.{rows_at_first, behind_at_first, rows_more, behind_more, rows_at_last}
 use Rattle.dd_layout.proofs.LinksAlong.{links_are_known}
 use Rattle.dd_layout.proofs.links.link.Goals as goal

@@ -1,5 +1,5 @@
 use Rattle.std.proofs.Common.{◌≡◌}
-use Rattle.dd_layout.specs.Linking.{behind_after, linked_after}
+use Rattle.dd_layout.proofs.LinkPass.{behind_after, linked_after}
 use Rattle.dd_layout.proofs.links.link.Given as goal
 
 -- the rows from here on have their links

@@ -1,5 +1,6 @@
 use Rattle.std.proofs.Common.{◌≡◌, ◌∷◌, ◌++◌, map, take}
-use Rattle.dd_layout.specs.WalkedRecords.{record_of_level, standing}
+use Rattle.dd_layout.specs.WalkedRecords.{standing}
+use Rattle.dd_layout.proofs.RowRecords.{record_of_level}
 use Rattle.dd_layout.proofs.nodes.push_rows.Given as goal
 
 -- the records of the levels that have come are behind

@@ -1,6 +1,6 @@
 use Rattle.std.proofs.Common.{◌≡◌, ◌≤◌}
 use Rattle.dd_layout.specs.Directory.{first_offset}
-use Rattle.dd_layout.specs.Placing.{end_of, placed_to, weight}
+use Rattle.dd_layout.proofs.OffsetPass.{end_of, placed_to, weight}
 use Rattle.dd_layout.proofs.places.place.Given as goal
 
 -- the rows up to here have their offsets, and all ends are within the limit

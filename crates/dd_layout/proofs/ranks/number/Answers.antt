@@ -1,8 +1,9 @@
 use Rattle.std.proofs.Common.{◌≡◌, None, arith, sym, ◌∙◌}
 use Rattle.std.proofs.lemmas.List.Elements.{All-same}
-use Rattle.dd_layout.specs.Numbering.{counters_of, noted_from, numbered_from}
+use Rattle.dd_layout.specs.Numbering.{counters_of}
 use Rattle.dd_layout.specs.Records.{IsFileOf}
 use Rattle.dd_layout.specs.declared.record.PlanRecord.{PlanRecord}
+use Rattle.dd_layout.proofs.NumberPass.{noted_from, numbered_from}
 use Rattle.dd_layout.proofs.Ranked.{noted_all, numbered_all, pass_crowded, pass_files, pass_numbered}
 use Rattle.dd_layout.proofs.ranks.number.Goals as goal
 

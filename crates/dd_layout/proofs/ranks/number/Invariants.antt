@@ -1,5 +1,6 @@
 use Rattle.std.proofs.Common.{◌≡◌, ◌++◌, take, drop, None}
-use Rattle.dd_layout.specs.Numbering.{AreWithin, counters_of, noted_from, numbered_from}
+use Rattle.dd_layout.specs.Numbering.{counters_of}
+use Rattle.dd_layout.proofs.NumberPass.{AreWithin, noted_from, numbered_from}
 use Rattle.dd_layout.proofs.ranks.number.Given as goal
 
 -- from here on the pass gives what it gives from the first record, and no counter is above the records that came

@@ -1,0 +1,54 @@
+-- The links of records by one pass from the back.
+use Rattle.std.specs.Prelude.{ℕ, zero, suc, List, [], ◌∷◌}
+use Rattle.dd_keys.specs.declared.parts.Parts.{Parts}
+use Rattle.dd_layout.specs.declared.label.Label.{Label}
+use Rattle.dd_layout.specs.declared.links.Behind.{Behind}
+use Rattle.dd_layout.specs.declared.record.PlanRecord.{PlanRecord}
+use Rattle.dd_layout.specs.Linking.{behind_from, lower_of, next_of}
+use Rattle.dd_layout.specs.Neighbours.{scan}
+use Rattle.dd_layout.specs.Paths.{Path}
+use Rattle.dd_layout.specs.Plans.{at_or_none}
+
+-- no record
+abbrev pub none_behind : Behind
+none_behind = record { patient = 0; study = 0; series = 0; image = 0 }
+
+-- what stands in these rows
+abbrev pub behind_of : List PlanRecord → Behind
+behind_of [] = none_behind
+behind_of (row ∷ rows) = behind_from row.level row.at (behind_of rows)
+
+-- the rows with their links
+abbrev pub with_links : PlanRecord → Behind → PlanRecord
+with_links row behind = record row { next = next_of row.level behind; lower = lower_of row.level behind }
+
+abbrev pub linked : List PlanRecord → List PlanRecord
+linked [] = []
+linked (row ∷ rows) = with_links row (behind_of rows) ∷ linked rows
+
+-- the same from the row with this place on
+abbrev pub linked_after : ℕ → List PlanRecord → List PlanRecord
+linked_after zero rows = linked rows
+linked_after (suc n) [] = []
+linked_after (suc n) (row ∷ rows) = row ∷ linked_after n rows
+
+-- what stands behind so many rows
+abbrev pub behind_after : ℕ → List PlanRecord → Behind
+behind_after zero rows = behind_of rows
+behind_after (suc n) [] = none_behind
+behind_after (suc n) (row ∷ rows) = behind_after n rows
+
+-- ---- the same by paths
+
+-- the offset of the first of these rows with so many parts, if none before it has fewer
+abbrev pub found : Label → List Parts → ℕ → List Path → ℕ
+found label versions n rest = at_or_none label versions (scan n rest)
+
+-- what stands in these rows of the tree
+abbrev pub found_behind : Label → List Parts → List Path → Behind
+found_behind label versions rest = record {
+  patient = found label versions 1 rest;
+  study = found label versions 2 rest;
+  series = found label versions 3 rest;
+  image = found label versions 4 rest;
+}
