@@ -11,7 +11,7 @@ use Rattle.dd_dir.specs.declared.fault.DirFault.{DirFault}
 use Rattle.dd_dir.specs.declared.fault.DirFault.TheVariants as faults
 use Rattle.dd_dir.specs.declared.forest.Forest.{Forest}
 use Rattle.dd_dir.specs.ForestViews.{walk_view}
-use Rattle.dd_dir.specs.ReadAnswers.{IsWantOfMemory, TellsContents}
+use Rattle.dd_dir.specs.ReadAnswers.{SaysMemory, TellsContents}
 use Rattle.dd_dir.specs.Reading.{Contents, contents_in, contents_of, is_directory_meta, IsDirectoryFile, IsWalkOf}
 use Rattle.dd_dir.specs.Reading.{IsWalk}
 use Rattle.dd_dir.specs.Reading.{RefusesOf, Refuses}
@@ -71,7 +71,7 @@ all_bytes file meta set at h =
 
 pub told_refused : (file : List ℕ) (meta : Meta) (set : Elements) (at : ℕ) (fault : DirFault) → IsFile file meta set at
     → is_directory_meta meta ≡ true → TellsContents (contents_in (take at file) set) (Err fault)
-    → IsWantOfMemory fault ⊎ Refuses file fault
+    → SaysMemory fault ⊎ Refuses file fault
 told_refused file meta set at (faults.File fault) is_file class told = absurd told
 told_refused file meta set at faults.NotDirectory is_file class told =
     inr (record { meta = meta; set = set; at = at; is_file = is_file; says = says file meta set at None class told })
@@ -130,7 +130,7 @@ refuses_by file contents (faults.TooDeep place) is refuses =
 
 pub refused_in : (file : List ℕ) (contents : Contents) (result : Result Forest DirFault) → IsDirectoryFile file contents
     → IfErr result (λ (fault : DirFault). (fault ≡ faults.Memory) ⊎ RefusesOf contents fault)
-    → IfErr result (λ (fault : DirFault). IsWantOfMemory fault ⊎ Refuses file fault)
+    → IfErr result (λ (fault : DirFault). SaysMemory fault ⊎ Refuses file fault)
 refused_in file contents (Ok f) is refused = tt
-refused_in file contents (Err fault) is (inl memory) = inl (subst (λ (e : DirFault). IsWantOfMemory e) (sym memory) tt)
+refused_in file contents (Err fault) is (inl memory) = inl (subst (λ (e : DirFault). SaysMemory e) (sym memory) tt)
 refused_in file contents (Err fault) is (inr refuses) = inr (refuses_by file contents fault is refuses)

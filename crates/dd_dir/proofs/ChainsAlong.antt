@@ -5,12 +5,12 @@ use Rattle.std.proofs.Common.{refl, ◌∙◌, ap, ap₂, arith}
 use Rattle.std.proofs.lemmas.List.{map-append}
 use Rattle.dd_set.specs.Elements.{Elements}
 use Rattle.dd_layout.specs.declared.level.Level.TheVariants.{Patient, Study, Series, Image}
-use Rattle.dd_layout.specs.Levels.{HasLevel}
 use Rattle.dd_layout.specs.Neighbours.{scan}
 use Rattle.dd_layout.specs.Paths.{Path, is_path, parent_of}
 use Rattle.dd_layout.specs.Plans.{level_of}
 use Rattle.dd_layout.specs.Records.{kind_of}
 use Rattle.dd_layout.proofs.Blocks.{AllTails}
+use Rattle.dd_layout.proofs.HasLevel.{HasLevel}
 use Rattle.dd_layout.proofs.LinksAlong.{no_fifth}
 use Rattle.dd_dir.specs.Saying.{Says, says_of}
 use Rattle.dd_dir.specs.Trees.{Node, Trees, last_root_or, no_trees, places}

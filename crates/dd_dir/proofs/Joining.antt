@@ -12,7 +12,7 @@ use Rattle.dd_dir.specs.Reading.{stands_in}
 use Rattle.dd_dir.specs.Saying.{Says, says_of}
 use Rattle.dd_dir.specs.Slots.{AreLeft, reached}
 use Rattle.dd_dir.specs.Trees.{Trees, no_trees, tree, places}
-use Rattle.dd_dir.specs.Walks.{max_levels, node_of, IsChain, Seen, with, with_all, AreApart, shape_at, found_at}
+use Rattle.dd_dir.specs.Walks.{max_record_levels, node_of, IsChain, Seen, with, with_all, AreApart, shape_at, found_at}
 use Rattle.dd_dir.specs.Walks.{step_at, here, down, along, StopsBy, Stops}
 use Rattle.dd_dir.proofs.WalkEnds.{step_stands}
 use Rattle.dd_dir.proofs.WalkLaws.{tree_apart, here_steps, at_is}
@@ -20,7 +20,7 @@ use Rattle.dd_dir.proofs.WalkLaws.{tree_apart, here_steps, at_is}
 -- ---- a step
 
 pub step_deep : (stands : ℕ → Option Elements) (p level : ℕ) (seen : Seen) (set : Elements) → stands p ≡ Some set
-    → seen p ≡ false → nat_le max_levels level ≡ true → step_at stands p level seen ≡ Err (TooDeep p)
+    → seen p ≡ false → nat_le max_record_levels level ≡ true → step_at stands p level seen ≡ Err (TooDeep p)
 unfolding step_at
 step_deep stands p level seen set found unseen deep =
     ap (λ (b : Bool). found_at p level b (stands p)) unseen
@@ -28,7 +28,7 @@ step_deep stands p level seen set found unseen deep =
     ∙ ap (λ (b : Bool). if b then Err (TooDeep p) else shape_at p set (says_of set)) deep
 
 pub step_by : (stands : ℕ → Option Elements) (p level : ℕ) (seen : Seen) (set : Elements) (says : Option Says)
-    → stands p ≡ Some set → seen p ≡ false → nat_le max_levels level ≡ false → says_of set ≡ says
+    → stands p ≡ Some set → seen p ≡ false → nat_le max_record_levels level ≡ false → says_of set ≡ says
     → step_at stands p level seen ≡ shape_at p set says
 unfolding step_at
 step_by stands p level seen set says found unseen shallow is =

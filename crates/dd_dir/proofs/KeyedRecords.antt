@@ -10,7 +10,7 @@ use Rattle.dd_layout.specs.declared.level.Level.{Level}
 use Rattle.dd_layout.specs.declared.level.Level.TheVariants.{Patient, Study, Series, Image}
 use Rattle.dd_layout.specs.declared.record.PlanRecord.{PlanRecord}
 use Rattle.dd_part10.proofs.HeadLaw.{clean_uid}
-use Rattle.dd_dir.specs.Keyed.{IsKeyed, IsKeyedBy, key_by}
+use Rattle.dd_dir.specs.Keyed.{IsKeyed, IsKeyedBy}
 use Rattle.dd_dir.specs.WellFormed.{IsWellFormed}
 
 -- the version that was found
@@ -20,7 +20,15 @@ keyed_is versions row found parts within is same formed =
     let there = slice_get-get_or versions row.of found within ∙ ap Some (sym (same ∙ is)) in
     subst (IsKeyedBy row) (sym there) formed
 
--- its keys have no padding
+-- the key by which a record of this level is known: Patient ID, Study Instance UID, Series Instance UID, SOP Instance
+-- UID
+abbrev pub key_by : Level → Parts → List ℕ
+key_by Patient parts = parts.patient.id
+key_by Study parts = parts.study.uid
+key_by Series parts = parts.series.uid
+key_by Image parts = parts.instance
+
+-- it has no padding
 pub clean_key : (level : Level) (v : Parts) → IsWellFormed v → clean_of (key_by level v) ≡ key_by level v
 clean_key Patient v formed = formed.patient.id.clean
 clean_key Study v formed = clean_uid v.study.uid formed.study.uid

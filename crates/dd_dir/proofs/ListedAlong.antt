@@ -3,10 +3,10 @@ use Rattle.std.specs.Prelude.{◌≡◌, ℕ, true, List, [], ◌∷◌, ◌++�
 use Rattle.std.specs.List.{AllByRecursion}
 use Rattle.std.proofs.Common.{refl, sym, ◌∙◌, ap, subst}
 use Rattle.dd_layout.specs.declared.level.Level.TheVariants.{Patient, Study, Series, Image}
-use Rattle.dd_layout.specs.Levels.{HasLevel}
 use Rattle.dd_layout.specs.Paths.{Path, leads_to, parent_of}
 use Rattle.dd_layout.specs.Plans.{level_of}
 use Rattle.dd_layout.proofs.Counts.{Linked}
+use Rattle.dd_layout.proofs.HasLevel.{HasLevel}
 use Rattle.dd_dir.specs.declared.own_fault.OwnFault.{OwnFault}
 use Rattle.dd_dir.specs.Own.{Listed, fault_at, followed, in_patient, in_series, in_study, listed_in, root, unless}
 use Rattle.dd_dir.specs.Trees.{Node, tree}

@@ -7,12 +7,13 @@ use Rattle.dd_keys.specs.declared.parts.Parts.{Parts}
 use Rattle.dd_set.specs.Elements.{elements_of}
 use Rattle.dd_layout.specs.declared.label.Label.{Label}
 use Rattle.dd_layout.specs.Entries.{tag}
-use Rattle.dd_layout.specs.Levels.{HasLevel}
 use Rattle.dd_layout.specs.Paths.{Path, leads_to}
 use Rattle.dd_layout.specs.Plans.{least_below, level_of, path_of, record_at}
+use Rattle.dd_layout.proofs.HasLevel.{HasLevel}
 use Rattle.dd_dir.specs.Directories.{entries_by}
-use Rattle.dd_dir.specs.Keyed.{key_by}
-use Rattle.dd_dir.specs.Visits.{key_of, node_at}
+use Rattle.dd_dir.specs.Saying.{key_of}
+use Rattle.dd_dir.specs.Visits.{node_at}
+use Rattle.dd_dir.proofs.KeyedRecords.{key_by}
 use Rattle.dd_dir.proofs.RecordsSay.{image_is, patient_is, series_is, study_is}
 use Rattle.dd_dir.proofs.VisitsAlong.{IsOwn, front_is}
 

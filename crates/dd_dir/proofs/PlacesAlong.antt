@@ -25,7 +25,6 @@ use Rattle.dd_layout.specs.Directory.{first_offset, meta_of}
 use Rattle.dd_layout.specs.Entries.{bytes_entry, padded, tag}
 use Rattle.dd_layout.specs.Layouts.{IsSound}
 use Rattle.dd_layout.specs.Paths.{Path, is_before}
-use Rattle.dd_layout.specs.Placing.{end_at}
 use Rattle.dd_layout.specs.Plans.{at, at_or_none, path_of, record_at, record_size_at, records_of, size, tree}
 use Rattle.dd_layout.specs.Records.{record_part}
 use Rattle.dd_layout.specs.Sizes.{record_size}
@@ -33,6 +32,7 @@ use Rattle.dd_layout.proofs.Leasts.{paths_have_parts}
 use Rattle.dd_layout.proofs.Lengths.{short_more}
 use Rattle.dd_layout.proofs.Neighbourhood.{rows_are_known}
 use Rattle.dd_layout.proofs.DirectoryElements.{directory_length}
+use Rattle.dd_layout.proofs.OffsetPass.{end_at}
 use Rattle.dd_dir.specs.Directories.{directory_set, entries_of, first_root, last_root}
 use Rattle.dd_dir.specs.Reading.{stands_in}
 use Rattle.dd_dir.specs.Saying.{sets_of}

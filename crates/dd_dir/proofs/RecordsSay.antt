@@ -12,8 +12,7 @@ use Rattle.dd_layout.specs.declared.level.Level.{Level}
 use Rattle.dd_layout.specs.declared.level.Level.TheVariants.{Patient, Study, Series, Image}
 use Rattle.dd_layout.specs.Entries.{tag, padded, text_entry, uid_entry}
 use Rattle.dd_layout.specs.Records.{kind_of, link_entries, record_entries}
-use Rattle.dd_dir.specs.Saying.{says_by, says_of}
-use Rattle.dd_dir.specs.Visits.{key_of}
+use Rattle.dd_dir.specs.Saying.{key_of, says_by, says_of}
 
 -- ---- links, flag and type
 

@@ -16,11 +16,11 @@ use Rattle.dd_layout.specs.declared.label.Label.{Label}
 use Rattle.dd_layout.specs.declared.level.Level.TheVariants.{Image}
 use Rattle.dd_layout.specs.declared.record.PlanRecord.{PlanRecord}
 use Rattle.dd_layout.specs.Layouts.{IsSound}
-use Rattle.dd_layout.specs.Levels.{HasLevel}
 use Rattle.dd_layout.specs.Paths.{Path, leads_to}
 use Rattle.dd_layout.specs.Plans.{file_of, level_of, path_of, record_at, records_of, tree}
 use Rattle.dd_layout.specs.Records.{record_entries}
 use Rattle.dd_layout.proofs.Blocks.{and_parts}
+use Rattle.dd_layout.proofs.HasLevel.{HasLevel}
 use Rattle.dd_layout.proofs.Trees.{tree_is_tree}
 use Rattle.dd_dir.specs.Directories.{entries_by}
 use Rattle.dd_dir.specs.Keyed.{IsKeyed, IsKeyedBy, IsSent}

@@ -15,7 +15,6 @@ use Rattle.dd_set.specs.Spelling.{elements_text}
 use Rattle.dd_layout.specs.declared.label.Label.{Label}
 use Rattle.dd_layout.specs.Directory.{meta_of}
 use Rattle.dd_layout.specs.Layouts.{IsSound}
-use Rattle.dd_layout.specs.Levels.{HasLevel}
 use Rattle.dd_layout.specs.Neighbours.{scan}
 use Rattle.dd_layout.specs.Paths.{Path, parent_of}
 use Rattle.dd_layout.specs.Plans.{at, at_or_none, level_of, path_of, record_at, records_of, size, tree}
@@ -23,6 +22,7 @@ use Rattle.dd_layout.specs.Records.{kind_of}
 use Rattle.dd_layout.specs.Tree.{children, first_child, in_order, next_sibling}
 use Rattle.dd_layout.proofs.Blocks.{AllTails}
 use Rattle.dd_layout.proofs.Counts.{Linked, walk_linked}
+use Rattle.dd_layout.proofs.HasLevel.{HasLevel}
 use Rattle.dd_layout.proofs.Leasts.{all_have_levels, least_in, paths_have_parts}
 use Rattle.dd_layout.proofs.Neighbourhood.{above_root, rises, rows_are_known, tree_is_walk}
 use Rattle.dd_dir.specs.Directories.{directory_of, directory_set, entries_by, entries_of, first_root}

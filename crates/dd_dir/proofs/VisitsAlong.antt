@@ -7,10 +7,10 @@ use Rattle.std.proofs.lemmas.Map.Lookups.{exact_bytes}
 use Rattle.dd_elem.specs.Ordered.{bytes_cmp}
 use Rattle.dd_catalogue.specs.Rising.{is_eq_Equal}
 use Rattle.dd_layout.specs.declared.level.Level.TheVariants.{Patient, Study, Series, Image}
-use Rattle.dd_layout.specs.Levels.{HasLevel}
 use Rattle.dd_layout.specs.Paths.{Path, leads_to, parent_of}
 use Rattle.dd_layout.proofs.Blocks.{and_parts}
 use Rattle.dd_layout.proofs.Counts.{Linked}
+use Rattle.dd_layout.proofs.HasLevel.{HasLevel}
 use Rattle.dd_dir.specs.Trees.{Node}
 use Rattle.dd_dir.specs.Visits.{Visit, own_key, or_root, visits_below}
 use Rattle.dd_dir.proofs.GrownTrees.{Grown, grown, grown_from}

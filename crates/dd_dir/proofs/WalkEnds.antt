@@ -9,8 +9,8 @@ use Rattle.dd_dir.specs.declared.fault.DirFault.{DirFault}
 use Rattle.dd_dir.specs.declared.fault.DirFault.TheVariants.{RecordShape, Dangling, Twice, TooDeep}
 use Rattle.dd_dir.specs.Saying.{Says, says_of}
 use Rattle.dd_dir.specs.Trees.{Trees, no_trees, tree, places}
-use Rattle.dd_dir.specs.Walks.{max_levels, node_of, Stands, IsChain, Seen, with, with_all, AreApart, shape_at, found_at}
-use Rattle.dd_dir.specs.Walks.{step_at, here, down, along, Stops}
+use Rattle.dd_dir.specs.Walks.{max_record_levels, node_of, Stands, IsChain, Seen, with, with_all, AreApart, shape_at}
+use Rattle.dd_dir.specs.Walks.{found_at, step_at, here, down, along, Stops}
 use Rattle.dd_dir.specs.Reading.{count_unseen, stands_in}
 use Rattle.dd_dir.proofs.WalkLaws.{goes_or_stops, one_step, tree_apart}
 
@@ -20,7 +20,7 @@ use Rattle.dd_dir.proofs.WalkLaws.{goes_or_stops, one_step, tree_apart}
 record Shown (p level : ℕ) (seen : Bool) (found : Option Elements) (x : Elements × Says) : Type 0 where
   unseen : seen ≡ false
   is : found ≡ Some x.0
-  room : level < max_levels
+  room : level < max_record_levels
   says_so : says_of x.0 ≡ Some x.1
 
 same_pair : (set : Elements) (says : Says) (x : Elements × Says)
@@ -51,11 +51,11 @@ found_shown : (p level : ℕ) (seen : Bool) (found : Option Elements) (x : Eleme
 found_shown p level seen None x e = stopped (Dangling p) x e
 found_shown p level true (Some set) x e = stopped (Twice p) x e
 found_shown p level false (Some set) x e =
-    let shown = deep_shown p set (nat_le max_levels level) x e in
+    let shown = deep_shown p set (nat_le max_record_levels level) x e in
     record {
       unseen = refl;
       is = ap (λ (s : Elements). Some s) shown.1;
-      room = leb-false max_levels level shown.0;
+      room = leb-false max_record_levels level shown.0;
       says_so = ap says_of (sym shown.1) ∙ shown.2;
     }
 

@@ -10,8 +10,8 @@ use Rattle.dd_dir.specs.declared.fault.DirFault.TheVariants.{RecordShape, Dangli
 use Rattle.dd_dir.specs.declared.fault.DirFault.TheVariants as faults
 use Rattle.dd_dir.specs.Saying.{Says, says_of}
 use Rattle.dd_dir.specs.Trees.{Node, Trees, no_trees, tree, places}
-use Rattle.dd_dir.specs.Walks.{max_levels, node_of, Stands, IsChain, Seen, with, with_all, AreApart, shape_at, found_at}
-use Rattle.dd_dir.specs.Walks.{step_at, Way, here, down, along, StopsBy, Stops}
+use Rattle.dd_dir.specs.Walks.{max_record_levels, node_of, Stands, IsChain, Seen, with, with_all, AreApart, shape_at}
+use Rattle.dd_dir.specs.Walks.{found_at, step_at, Way, here, down, along, StopsBy, Stops}
 
 -- ---- values and results
 
@@ -72,7 +72,7 @@ pub here_steps : (stands : ℕ → Option Elements) (p level : ℕ) (node : Node
     → Stands stands p level node says → seen p ≡ false → step_at stands p level seen ≡ Ok (node.set, says)
 unfolding step_at
 here_steps stands p level node says seen h unseen =
-    let shallow : nat_le max_levels level ≡ false = lt-leb max_levels level h.room in
+    let shallow : nat_le max_record_levels level ≡ false = lt-leb max_record_levels level h.room in
     ap (λ (b : Bool). found_at p level b (stands p)) unseen
     ∙ ap (λ (o : Option Elements). found_at p level false o) h.found
     ∙ ap (λ (b : Bool). if b then Err (TooDeep p) else shape_at p node.set (says_of node.set)) shallow
@@ -107,7 +107,7 @@ found_fault : (p level : ℕ) (seen : Bool) (found : Option Elements) (fault : D
     → found_at p level seen found ≡ Err fault → IsOfRecord fault
 found_fault p level seen None fault e = refused fault (Dangling p) e tt
 found_fault p level true (Some set) fault e = refused fault (Twice p) e tt
-found_fault p level false (Some set) fault e = deep_fault p set (nat_le max_levels level) fault e
+found_fault p level false (Some set) fault e = deep_fault p set (nat_le max_record_levels level) fault e
 
 pub step_fault : (stands : ℕ → Option Elements) (p level : ℕ) (seen : Seen) (fault : DirFault)
     → step_at stands p level seen ≡ Err fault → IsOfRecord fault

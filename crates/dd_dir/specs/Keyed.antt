@@ -1,22 +1,13 @@
 -- Records of versions whose parts are well formed, so that they are read back from them.
-use Rattle.std.specs.Prelude.{◌<◌, ◌^◌, ℕ, List, length, All, Option, Some, None, slice_get}
+use Rattle.std.specs.Prelude.{◌<◌, ◌^◌, List, length, All, Option, Some, None, slice_get}
 use Rattle.std.specs.List.{AllByRecursion}
 use Rattle.dd_keys.specs.declared.parts.Parts.{Parts}
 use Rattle.dd_layout.specs.declared.label.Label.{Label}
-use Rattle.dd_layout.specs.declared.level.Level.{Level}
-use Rattle.dd_layout.specs.declared.level.Level.TheVariants.{Patient, Study, Series, Image}
 use Rattle.dd_layout.specs.declared.record.PlanRecord.{PlanRecord}
 use Rattle.dd_layout.specs.Layouts.{IsSound}
 use Rattle.dd_layout.specs.Plans.{records_of, size}
 use Rattle.dd_dir.specs.Directories.{IsDirectory}
 use Rattle.dd_dir.specs.WellFormed.{IsWellFormed}
-
--- Patient ID, Study Instance UID, Series Instance UID, SOP Instance UID
-abbrev pub key_by : Level → Parts → List ℕ
-key_by Patient parts = parts.patient.id
-key_by Study parts = parts.study.uid
-key_by Series parts = parts.series.uid
-key_by Image parts = parts.instance
 
 -- the version that a record is of is well formed
 abbrev pub IsKeyedBy : PlanRecord → Option Parts → Type 0

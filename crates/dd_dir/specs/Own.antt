@@ -5,6 +5,7 @@ use Rattle.std.specs.Prelude.{Option, Some, None, is_some, option_and_then, opti
 use Rattle.std.specs.Prelude.{if◌then◌else◌}
 use Rattle.std.specs.Str.{bytes_eq}
 use Rattle.dd_elem.specs.FileIdForm.{is_file_id_form}
+use Rattle.dd_elem.specs.Key.{max_key_length}
 use Rattle.dd_elem.specs.Uid.{is_uid}
 use Rattle.dd_keys.specs.Classes.{is_image_class}
 use Rattle.dd_keys.specs.Fitting.{is_empty}
@@ -96,10 +97,10 @@ suits fields.SeriesNumber v = not (is_empty v)
 suits fields.Number v = not (is_empty v)
 suits field v = true
 
--- a value without its padding is no sequence, has at most 1,024 bytes, and suits the field
+-- a value without its padding is no sequence, has no more bytes than a key may, and suits the field
 abbrev pub is_sound : Field → Option (List ℕ) → Bool
 is_sound field None = false
-is_sound field (Some v) = nat_le (length v) 1024 && suits field v
+is_sound field (Some v) = nat_le (length v) max_key_length && suits field v
 
 -- the element of a row of the table is no such key
 abbrev pub is_bad : Elements → Row → Bool

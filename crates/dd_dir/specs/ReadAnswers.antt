@@ -1,8 +1,7 @@
 -- What the functions that read a directory answer, told by what its bytes say.
 use Rattle.std.specs.Prelude.{◌≡◌, ℕ, ◌+◌, ◌<◌, ◌⊎◌, false, List, Option, Some, None, Result, Ok, Err, Vec, length}
 use Rattle.std.specs.declared.alloc.Global.{Global}
-use Rattle.dd_part10.specs.declared.fault.FileFault.TheVariants as file_faults
-use Rattle.dd_set.specs.declared.fault.SetFault.TheVariants as set_faults
+use Rattle.dd_part10.specs.Faults as file_faults
 use Rattle.dd_set.specs.declared.set.DataSet.{DataSet}
 use Rattle.dd_set.specs.Elements.{Elements}
 use Rattle.dd_set.specs.Views.{set_view, items_view}
@@ -20,12 +19,11 @@ use Rattle.dd_dir.specs.Walks.{Stands, IsChain, AreApart, with, with_all, found_
 
 -- ---- want of memory
 
--- a growth was refused: here, while group 0002 was read, or while the data set was
-abbrev pub IsWantOfMemory : DirFault → Type 0
-IsWantOfMemory Memory = Unit {0}
-IsWantOfMemory (File (file_faults.Meta set_faults.Memory)) = Unit {0}
-IsWantOfMemory (File (file_faults.Set set_faults.Memory)) = Unit {0}
-IsWantOfMemory _ = ⊥
+-- the fault says that a growth was refused: here, or while the bytes were read as a file
+abbrev pub SaysMemory : DirFault → Type 0
+SaysMemory Memory = Unit {0}
+SaysMemory (File fault) = file_faults.SaysMemory fault
+SaysMemory _ = ⊥
 
 -- ---- what a directory says
 

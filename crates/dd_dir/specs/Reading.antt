@@ -1,6 +1,6 @@
 -- Reading a directory of any producer: the walk that its bytes have, or why they have none (PS3.3 section F.3.2,
 -- PS3.10 section 8.6).
-use Rattle.std.specs.Prelude.{◌≡◌, ◌≢◌, ◌+◌, ℕ, Bool, List, [], ◌∷◌, take, Option, Some, None, Err, codes}
+use Rattle.std.specs.Prelude.{◌≡◌, ◌≢◌, ◌+◌, ℕ, Bool, List, [], ◌∷◌, take, Option, Some, None, Err}
 use Rattle.std.specs.Prelude.{if◌then◌else◌, ◌&&◌, ◌==◌}
 use Rattle.std.specs.Str.{bytes_eq}
 use Rattle.dd_set.specs.Elements.{Elements}
@@ -8,6 +8,7 @@ use Rattle.dd_set.specs.Starts.{places_in}
 use Rattle.dd_part10.specs.declared.meta.Meta.{Meta}
 use Rattle.dd_part10.specs.File.{IsFile}
 use Rattle.dd_part10.specs.Reading.{file_in}
+use Rattle.dd_layout.specs.Directory.{directory_class, directory_syntax}
 use Rattle.dd_layout.specs.Entries.{tag}
 use Rattle.dd_dir.specs.declared.fault.DirFault.{DirFault}
 use Rattle.dd_dir.specs.declared.fault.DirFault.TheVariants as faults
@@ -28,8 +29,7 @@ pub record Contents : Type 0 where
 
 -- the class of directories and the transfer syntax that they are in
 abbrev pub is_directory_meta : Meta → Bool
-is_directory_meta meta =
-    bytes_eq meta.class (codes "1.2.840.10008.1.3.10") && bytes_eq meta.transfer (codes "1.2.840.10008.1.2.1")
+is_directory_meta meta = bytes_eq meta.class directory_class && bytes_eq meta.transfer directory_syntax
 
 abbrev pub contents_by : List ℕ → Option ℕ → Option ℕ → Option (List ℕ) → Option (List Elements) → Option Contents
 contents_by id None last starts sets = None

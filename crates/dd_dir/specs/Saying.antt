@@ -19,6 +19,10 @@ bytes_of (items form parts) = None
 abbrev pub value_of : Tag → Elements → Option (List ℕ)
 value_of wanted set = option_and_then (λ (e : Entry). bytes_of e.content) (find_in wanted set)
 
+-- the same without its padding, and nothing where there is none
+abbrev pub key_of : Tag → Elements → List ℕ
+key_of wanted set = clean_of (unwrap_or (value_of wanted set) [])
+
 -- the number that 4 bytes are, and whether 2 bytes are FFFFH
 abbrev pub number_of : List ℕ → Option ℕ
 number_of v = if length v == 4 then Some (from_le_bytes w32 v) else None
@@ -78,4 +82,4 @@ last_in set = option_and_then number_of (value_of (tag 0x0004 0x1202) set)
 
 -- the File-set ID without its padding, and nothing where there is none
 abbrev pub id_in : Elements → List ℕ
-id_in set = clean_of (unwrap_or (value_of (tag 0x0004 0x1130) set) [])
+id_in set = key_of (tag 0x0004 0x1130) set

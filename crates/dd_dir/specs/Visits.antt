@@ -1,8 +1,5 @@
 -- What following the offsets of a directory visits, told by the records in its bytes (PS3.3 sections F.4 and F.5).
 use Rattle.std.specs.Prelude.{◌≡◌, ℕ, true, List, [], ◌∷◌, ◌++◌, length, map, filter, Contains, Option, Some, None}
-use Rattle.std.specs.Prelude.{unwrap_or}
-use Rattle.dd_elem.specs.Clean.{clean_of}
-use Rattle.dd_elem.specs.declared.tag.Tag.{Tag}
 use Rattle.dd_keys.specs.declared.parts.Parts.{Parts}
 use Rattle.dd_catalogue.specs.Harmony.{harmonised}
 use Rattle.dd_set.specs.Elements.{Elements, elements_of}
@@ -13,15 +10,11 @@ use Rattle.dd_layout.specs.Plans.{at, at_or_none, level_of, path_of, record_at, 
 use Rattle.dd_layout.specs.Records.{kind_of}
 use Rattle.dd_dir.specs.Directories.{entries_of}
 use Rattle.dd_dir.specs.Reading.{IsWalk}
-use Rattle.dd_dir.specs.Saying.{value_of}
+use Rattle.dd_dir.specs.Saying.{key_of}
 use Rattle.dd_dir.specs.Trees as trees
 use Rattle.dd_dir.specs.Trees.{Node, Trees, Walk, no_trees}
 
 -- ---- what is visited
-
--- the value of a key without its padding, and nothing where there is none
-abbrev pub key_of : Tag → Elements → List ℕ
-key_of wanted set = clean_of (unwrap_or (value_of wanted set) [])
 
 -- the key by which a record is known that stands below so many others: Patient ID, Study Instance UID, Series Instance
 -- UID, Referenced SOP Instance UID in File

@@ -9,8 +9,8 @@ use Rattle.dd_dir.specs.Saying.{Says, says_of}
 use Rattle.dd_dir.specs.Trees.{Node, Trees, no_trees, tree, places}
 
 -- records are at most so many levels deep
-abbrev pub max_levels : ℕ
-max_levels = 32
+abbrev pub max_record_levels : ℕ
+max_record_levels = 32
 
 -- ---- trees
 
@@ -21,7 +21,7 @@ node_of p set says = record { at = p; kind = says.kind; in_use = says.in_use; se
 -- at this offset stands this record, at a level that records may have, and its elements say this
 pub record Stands (stands : ℕ → Option Elements) (p level : ℕ) (node : Node) (says : Says) : Type 0 where
   pub found : stands p ≡ Some node.set
-  pub room : level < max_levels
+  pub room : level < max_record_levels
   pub says_so : says_of node.set ≡ Some says
   pub is : node ≡ node_of p node.set says
 
@@ -65,7 +65,7 @@ abbrev pub found_at : ℕ → ℕ → Bool → Option Elements → Result (Eleme
 found_at p level seen None = Err (Dangling p)
 found_at p level true (Some set) = Err (Twice p)
 found_at p level false (Some set) =
-    if nat_le max_levels level then Err (TooDeep p) else shape_at p set (says_of set)
+    if nat_le max_record_levels level then Err (TooDeep p) else shape_at p set (says_of set)
 
 unfoldable pub step_at : (ℕ → Option Elements) → ℕ → ℕ → Seen → Result (Elements × Says) DirFault
 step_at stands p level seen = found_at p level (seen p) (stands p)

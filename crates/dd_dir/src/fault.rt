@@ -2,7 +2,7 @@
 
 ghost use Rattle.std.specs.Prelude.{◌≡◌, ◌↔◌, IsTrue};
 ghost use Rattle.dd_dir.specs.declared.fault.DirFault.TheVariants as faults;
-ghost use Rattle.dd_dir.specs.ReadAnswers.{IsWantOfMemory};
+ghost use Rattle.dd_dir.specs.ReadAnswers.{SaysMemory};
 
 use dd_elem;
 use dd_part10::FileFault;
@@ -43,7 +43,7 @@ pub enum DirFault {
 impl DirFault {
     /// Does the fault say that a growth was refused?
     pub fn is_want_of_memory(&self) -> bool
-        ensures { IsTrue result ↔ IsWantOfMemory self.now }
+        ensures { IsTrue result ↔ SaysMemory self.now }
     {
         match self {
             DirFault::Memory => true,

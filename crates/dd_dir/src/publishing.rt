@@ -17,7 +17,8 @@ use dd_layout::{Label, Limits, PlanFault, lay_out};
 use std::alloc::Global;
 
 /// The bytes of the directory of these versions, in harmony, under this label (PS3.10 section 8.6).
-/// Refused as `lay_out` refuses, and as Memory where the bytes find no room.
+/// Refused as `lay_out` refuses, and as Memory where the bytes find no room, or where the count of the
+/// sink's own calls is at its end.
 pub fn publish(
     alloc: Global,
     catalogue: &Catalogue,

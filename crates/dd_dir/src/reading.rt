@@ -7,7 +7,7 @@ ghost use Rattle.dd_set.specs.declared.fault.SetFault.TheVariants as set_faults;
 ghost use Rattle.dd_dir.specs.declared.fault.DirFault.{DirFault};
 ghost use Rattle.dd_dir.specs.declared.fault.DirFault.TheVariants.{File, Memory};
 ghost use Rattle.dd_dir.specs.ForestViews.{walk_view};
-ghost use Rattle.dd_dir.specs.ReadAnswers.{IsWantOfMemory, directory_view};
+ghost use Rattle.dd_dir.specs.ReadAnswers.{SaysMemory, directory_view};
 ghost use Rattle.dd_dir.specs.Reading.{Contents, IsDirectoryFile, IsWalk, IsWalkOf, Refuses, RefusesOf};
 ghost use Rattle.dd_dir.specs.Slots.{Rises};
 ghost use Rattle.dd_dir.specs.Trees.{Walk};
@@ -30,12 +30,12 @@ pub fn read_directory<'a>(alloc: Global, bytes: &'a [u8]) -> Result<Forest<'a>, 
     ensures walk { IfOk result (λ forest. IsWalk bytes.now (walk_view forest)) }
     // A walk is answered, unless memory runs out.
     ensures only { (walk : Walk) → IsWalk bytes.now walk
-        → MatchResult result (λ forest. walk_view forest ≡ walk) IsWantOfMemory }
+        → MatchResult result (λ forest. walk_view forest ≡ walk) SaysMemory }
     // A refusal for other than memory says why the bytes have no walk.
-    ensures refused { IfErr result (λ fault. IsWantOfMemory fault ⊎ Refuses bytes.now fault) }
+    ensures refused { IfErr result (λ fault. SaysMemory fault ⊎ Refuses bytes.now fault) }
     // Bytes that have none are refused so, unless memory runs out.
     ensures refuses { (fault : DirFault) → Refuses bytes.now fault
-        → IsErrAnd result (λ other. IsWantOfMemory other ⊎ (other ≡ fault)) }
+        → IsErrAnd result (λ other. SaysMemory other ⊎ (other ≡ fault)) }
     // Memory runs out only where it is wanted: while the bytes are read as a file, or for the records of a
     // directory that has some.
     ensures group { result ≡ Err (File (file_faults.Meta set_faults.Memory)) → GroupWants bytes.now }
@@ -49,7 +49,7 @@ pub fn read_directory<'a>(alloc: Global, bytes: &'a [u8]) -> Result<Forest<'a>, 
 /// The same, told of this answer alone: that no other is possible is for `read_directory` to say.
 fn read_forest<'a>(alloc: Global, bytes: &'a [u8]) -> Result<Forest<'a>, DirFault>
     ensures walk { IfOk result (λ forest. IsWalk bytes.now (walk_view forest)) }
-    ensures refused { IfErr result (λ fault. IsWantOfMemory fault ⊎ Refuses bytes.now fault) }
+    ensures refused { IfErr result (λ fault. SaysMemory fault ⊎ Refuses bytes.now fault) }
     ensures group { result ≡ Err (File (file_faults.Meta set_faults.Memory)) → GroupWants bytes.now }
     ensures set { result ≡ Err (File (file_faults.Set set_faults.Memory)) → SetWants bytes.now }
     ensures records { result ≡ Err Memory

@@ -7,7 +7,7 @@ ghost use Rattle.dd_dir.specs.ForestViews.{trees_view};
 ghost use Rattle.dd_dir.specs.ReadAnswers.{IsStep, IsTree, AreFollowed};
 ghost use Rattle.dd_dir.specs.Slots.{Rises, AreLeft, count_left, slots_view};
 ghost use Rattle.dd_dir.specs.Trees.{last_root_or};
-ghost use Rattle.dd_dir.specs.Walks.{max_levels};
+ghost use Rattle.dd_dir.specs.Walks.{max_record_levels};
 
 use crate::fault::DirFault;
 use crate::forest::Tree;
@@ -32,7 +32,7 @@ fn step<'a>(
     ensures exact { (sets : List Elements) → AreLeft sets (slots_view slots.old)
         → IsStep starts.now sets place level (slots_view slots.old) (slots_view slots.new) result }
     ensures fewer { IfOk result (λ _. count_left (slots_view slots.new) < count_left (slots_view slots.old)) }
-    ensures room { IfOk result (λ _. level < max_levels) }
+    ensures room { IfOk result (λ _. level < max_record_levels) }
     ensures memory { result ≢ Err Memory }
 {
     let set = lift(starts, slots, place)?;
