@@ -7,7 +7,7 @@ ghost use Rattle.dicomdir_host.specs.Directory.{IsDirectoryPath};
 use crate::counted::Counted;
 use crate::output::{self, Output};
 use dd_elem::Write;
-use dicomdir::{DIRECTORY, Files, NotDone, NotThere};
+use dd_files::{DIRECTORY, Files, NotDone, NotThere};
 use std::alloc::Global;
 use std::fs::{self, File, OpenFile};
 use std::io;

@@ -5,7 +5,7 @@ mod disc;
 
 use crate::HostFiles;
 use dd_elem::{Read, Write};
-use dicomdir::Files;
+use dd_files::Files;
 use disc::{Call, Disc, DiscFiles, Kind};
 use std::alloc::Global;
 use std::cell::RefCell;
