@@ -1,7 +1,7 @@
 //! What directories list, gathered.
 
 ghost use Rattle.std.specs.Prelude.{◌≡◌, ◌⊎◌, ◌++◌, List, [], ℕ, map, OnOk};
-ghost use Rattle.dd_dir.specs.ReadAnswers.{IsWantOfMemory};
+ghost use Rattle.dd_dir.specs.ReadAnswers.{SaysMemory};
 ghost use Rattle.dd_dir.specs.Own.{Listed};
 ghost use Rattle.dd_dir.specs.OwnVersions.{Tells, place_view};
 ghost use Rattle.dd_dir.specs.Reading.{Refuses};
@@ -99,7 +99,7 @@ fn own_set<'a>(alloc: Global, at: usize, set: &'a [u8]) -> Result<Own<'a>, Merge
 
 /// The fault of the set of this number, as a merge's.
 fn dir_fault(at: usize, fault: DirFault) -> MergeFault
-    ensures { (set : List ℕ) → IsWantOfMemory fault ⊎ Refuses set fault → FailsAt at set result }
+    ensures { (set : List ℕ) → SaysMemory fault ⊎ Refuses set fault → FailsAt at set result }
 {
     if fault.is_want_of_memory() {
         MergeFault::Memory

@@ -1,7 +1,6 @@
 //! The versions of all sources.
 ghost use Rattle.std.specs.Prelude.{◌≡◌, ◌↔◌, ◌<◌, ◌++◌, ◌∷◌, ℕ, List, [], length, IsOk, IfOk, IfErr, OnOk, IsTrue};
 ghost use Rattle.dd_elem.specs.Device.{IsLive};
-ghost use Rattle.dd_keys.specs.Faults.{SaysMemory};
 ghost use Rattle.dd_engine.specs.Indexing.{Answer};
 ghost use Rattle.dd_engine.specs.Supply.{AllStay, AreAnswers, EndsWith, Holds, IsAnswer, IsOfSource};
 
@@ -143,16 +142,5 @@ fn read_one<S: Supply>(
 fn is_of_source(fault: &KeyFault) -> bool
     ensures { IsTrue result ↔ IsOfSource fault.now }
 {
-    !matches!(fault, KeyFault::Read) && !is_want_of_memory(fault)
-}
-
-/// Does the fault say that a growth was refused?
-fn is_want_of_memory(fault: &KeyFault) -> bool
-    ensures { IsTrue result ↔ SaysMemory fault.now }
-{
-    match fault {
-        KeyFault::Memory => true,
-        KeyFault::File(fault) => fault.is_want_of_memory(),
-        _ => false,
-    }
+    !matches!(fault, KeyFault::Read) && !fault.is_want_of_memory()
 }

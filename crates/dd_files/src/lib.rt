@@ -2,7 +2,8 @@
 //! reading one to its end gives.
 //!
 //! Its promise: `copy_image`, `digest_of` and `read_whole` answer only of all that a reader gave; the first
-//! and the last say else whether the reader failed, the writer did, or there was more than the limit.
+//! and the last say else whether the reader failed or gave more than the limit, the first also whether the
+//! writer failed, and the last whether memory was refused.
 #![tactic(auto)]
 
 mod copy;

@@ -1,12 +1,12 @@
 -- What the fault of a parser's error says, and which ID and UID the words give.
 use Rattle.std.proofs.Common.{◌≡◌, IfErr, List, None, Ok, Option, Some, Err, Result, inl, inr, sym, ap, ap₂}
-use Rattle.std.proofs.Common.{option_map, string_bytes, ◌||◌, ◌∙◌}
+use Rattle.std.proofs.Common.{codes, option_map, string_bytes, ◌||◌, ◌∙◌}
 use Rattle.std.specs.Prelude.{IsErrAnd}
 use Rattle.clap.specs.Words.{AddsSubcommand, App, Row, Text, kind_of, with_subcommand}
 use Rattle.clap.specs.declared.builder.command.Command.{Command}
 use Rattle.clap.specs.declared.error.Error.{Error}
 use Rattle.clap.specs.declared.error.kind.ErrorKind.TheVariants.{OutOfMemory}
-use Rattle.dd_line.specs.Line.{AsksBadName, GivesId, GivesUid, HasApp, HasBadName, IsAsked, IsCheck, IsFaultOf}
+use Rattle.dd_line.specs.Line.{AsksBadName, GivesOption, HasApp, HasBadName, IsAsked, IsCheck, IsFaultOf}
 use Rattle.dd_line.specs.Line.{verb_name}
 use Rattle.dd_line.specs.declared.line.Asked.{Asked}
 use Rattle.dd_line.specs.declared.line.LineFault.{LineFault}
@@ -26,25 +26,25 @@ memory_alone (Err fault) e Taken is memory = λ taken. memory_of_kind e fault is
 
 -- what a line asks for has the UID that its words give
 pub asked_uid : (a : Asked) (found : Option (Text × List Row)) (uid : Text) → IsAsked a found
-    → option_map string_bytes a.uid ≡ Some uid → GivesUid found uid
+    → option_map string_bytes a.uid ≡ Some uid → GivesOption (codes "uid") found uid
 asked_uid a None uid h is = absurd h
 asked_uid a (Some (command, given)) uid h is = sym h.uid ∙ is
 
 -- and has it where they give one
 pub given_uid : (a : Asked) (found : Option (Text × List Row)) (uid : Text) → IsAsked a found
-    → GivesUid found uid → option_map string_bytes a.uid ≡ Some uid
+    → GivesOption (codes "uid") found uid → option_map string_bytes a.uid ≡ Some uid
 given_uid a None uid h gives = absurd h
 given_uid a (Some (command, given)) uid h gives = h.uid ∙ gives
 
 -- what a line asks for has the ID that its words give
 pub asked_id : (a : Asked) (found : Option (Text × List Row)) (id : Text) → IsAsked a found
-    → option_map string_bytes a.id ≡ Some id → GivesId found id
+    → option_map string_bytes a.id ≡ Some id → GivesOption (codes "id") found id
 asked_id a None id h is = absurd h
 asked_id a (Some (command, given)) id h is = sym h.id ∙ is
 
 -- and has it where they give one
 pub given_id : (a : Asked) (found : Option (Text × List Row)) (id : Text) → IsAsked a found
-    → GivesId found id → option_map string_bytes a.id ≡ Some id
+    → GivesOption (codes "id") found id → option_map string_bytes a.id ≡ Some id
 given_id a None id h gives = absurd h
 given_id a (Some (command, given)) id h gives = h.id ∙ gives
 

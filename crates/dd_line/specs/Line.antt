@@ -31,9 +31,13 @@ use Rattle.dd_line.specs.declared.line.Verb.TheVariants.{Index, Merge, Check, Li
 abbrev pub text_option : Text → Rule
 text_option name = record (new_rule name) { long = Some name; value_names = 1 }
 
+-- the greatest limit: the most bytes that a length of 32 bits tells
+abbrev pub most_bytes : ℕ
+most_bytes = 4294967295
+
 -- an option whose value is a number of 32 bits
 abbrev pub number_option : Text → Rule
-number_option name = record (text_option name) { parser = Some (Signed (pos 0) (pos 4294967295)) }
+number_option name = record (text_option name) { parser = Some (Signed (pos 0) (pos most_bytes)) }
 
 -- a path that has to be given
 abbrev pub one_path : Text → Rule
@@ -116,7 +120,7 @@ OnlyReads ListSet = Unit {0}
 
 -- the number that the text of `--max-bytes` spells in decimal, or the most that there is where it is not given
 abbrev pub IsLimit : Option Text → ℕ → Type 0
-IsLimit None limit = limit ≡ 4294967295
+IsLimit None limit = limit ≡ most_bytes
 IsLimit (Some text) limit =
     IsNumeral 10 (without_leading_sign text) × (signed_digits_value 10 text ≡ pos limit)
 
@@ -132,7 +136,7 @@ pub record Asks (a : Asked) (command : Text) (given : List Row) : Type 0 where
 pub record AsksForOneSet (a : Asked) : Type 0 where
   pub id : a.id ≡ None
   pub uid : a.uid ≡ None
-  pub max_bytes : a.max_bytes ≡ 4294967295
+  pub max_bytes : a.max_bytes ≡ most_bytes
   pub paths : length a.paths.items ≡ 1
 
 -- the command and the values are those of the command that the words name
@@ -144,7 +148,7 @@ IsAsked a (Some (command, given)) = Asks a command given
 abbrev pub HasLimit : List Row → Type 0
 HasLimit given = (text : Text) → first_of (codes "max-bytes") given ≡ Some text
     → (one_of (codes "max-bytes") given ≡ Some (without_minus text))
-    × IsSignedIn (pos 0) (pos 4294967295) text
+    × IsSignedIn (pos 0) (pos most_bytes) text
 
 -- the path of one file-set was given, and no option
 pub record GivesOneSet (given : List Row) : Type 0 where
@@ -163,20 +167,15 @@ abbrev pub IsCheck : Option (Text × List Row) → Type 0
 IsCheck None = ⊥
 IsCheck (Some (command, given)) = command ≡ verb_name Check
 
--- the words give the option `--id` this value
-abbrev pub GivesId : Option (Text × List Row) → Text → Type 0
-GivesId None id = ⊥
-GivesId (Some (command, given)) id = first_of (codes "id") given ≡ Some id
-
--- the words give the option `--uid` this value
-abbrev pub GivesUid : Option (Text × List Row) → Text → Type 0
-GivesUid None uid = ⊥
-GivesUid (Some (command, given)) uid = first_of (codes "uid") given ≡ Some uid
+-- the words give the option of this name this value
+abbrev pub GivesOption : Text → Option (Text × List Row) → Text → Type 0
+GivesOption name None value = ⊥
+GivesOption name (Some (command, given)) value = first_of name given ≡ Some value
 
 -- the words give an ID or a UID that is none
 abbrev pub HasBadName : Option (Text × List Row) → Type 0
-HasBadName found = ((id : Text) × GivesId found id × ¬ IsSetId id)
-    ⊎ ((uid : Text) × GivesUid found uid × ¬ IsUid uid)
+HasBadName found = ((id : Text) × GivesOption (codes "id") found id × ¬ IsSetId id)
+    ⊎ ((uid : Text) × GivesOption (codes "uid") found uid × ¬ IsUid uid)
 
 -- the same of what a line asks for
 abbrev pub AsksBadName : Asked → Type 0

@@ -28,15 +28,15 @@ abbrev pub IsSource : ℕ → Subject → Type 0
 IsSource at named = named ≡ subject.Source at
 
 -- it is a file in the folder of this number
-abbrev pub IsFileOf : ℕ → Subject → Type 0
-IsFileOf set subject.General = ⊥
-IsFileOf set (subject.Source at) = ⊥
-IsFileOf set (subject.SetDirectory at) = ⊥
-IsFileOf set (subject.SetFile at file) = at ≡ set
-IsFileOf set subject.Folder = ⊥
-IsFileOf set subject.Directory = ⊥
-IsFileOf set (subject.Image file) = ⊥
-IsFileOf set (subject.ImageFolder file) = ⊥
+abbrev pub IsSetFile : ℕ → Subject → Type 0
+IsSetFile set subject.General = ⊥
+IsSetFile set (subject.Source at) = ⊥
+IsSetFile set (subject.SetDirectory at) = ⊥
+IsSetFile set (subject.SetFile at file) = at ≡ set
+IsSetFile set subject.Folder = ⊥
+IsSetFile set subject.Directory = ⊥
+IsSetFile set (subject.Image file) = ⊥
+IsSetFile set (subject.ImageFolder file) = ⊥
 
 -- why a run with these paths is refused when the command line is not at fault
 pub record IsOfWork (paths : ℕ) (refusal : Refusal) : Type 0 where

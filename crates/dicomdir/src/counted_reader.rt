@@ -6,7 +6,7 @@ use std::io;
 
 /// A reader that counts its calls and its failures from when it was made.
 #[derive(Drop)]
-pub struct CountedReader<R: Read + Drop> {
+pub(crate) struct CountedReader<R: Read + Drop> {
     reader: R,
     counts: Counts,
 }

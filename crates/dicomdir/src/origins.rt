@@ -1,7 +1,7 @@
 //! What the images of a file-set are copied from.
 ghost use Rattle.std.specs.Prelude.{◌≡◌, ◌<◌, ℕ, List, [], All, IfOk, length, map, slice_index_or, string_bytes};
 ghost use Rattle.dd_files.specs.Paths.{IsPathIn, id_path};
-ghost use Rattle.dicomdir.specs.Refusal.{IsAmong, IsFileOf, IsSource};
+ghost use Rattle.dicomdir.specs.Refusal.{IsAmong, IsSetFile, IsSource};
 
 use crate::image_path::{IdPath, PathText};
 use crate::refusal::Subject;
@@ -84,7 +84,7 @@ impl<'a> Origins for SetFiles<'a> {
         → IsPathIn (slice_index_or (map (λ folder. string_bytes folder) s.folders.now) pick.set [])
         (id_path pick.file.now) path };
 
-    ghost is_subject = { λ _ pick subject. IsFileOf pick.set subject };
+    ghost is_subject = { λ _ pick subject. IsSetFile pick.set subject };
 
     ghost paths = { λ s. length s.folders.now };
 

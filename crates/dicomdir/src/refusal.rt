@@ -59,7 +59,7 @@ pub enum ProgramFault {
 
 /// What a fault concerns.
 #[derive(Clone, Copy)]
-pub enum Subject {
+pub(crate) enum Subject {
     /// No file and no folder.
     General,
     /// The path of this number: a source, or the folder of a file-set that is read.
@@ -80,16 +80,16 @@ pub enum Subject {
 
 /// A fault, and what it concerns.
 #[derive(Clone, Copy)]
-pub struct Refusal {
+pub(crate) struct Refusal {
     /// What it concerns.
-    pub subject: Subject,
+    pub(crate) subject: Subject,
     /// The fault.
-    pub fault: ProgramFault,
+    pub(crate) fault: ProgramFault,
 }
 
 impl Refusal {
     /// A fault that concerns no file.
-    pub fn general(fault: ProgramFault) -> Refusal
+    pub(crate) fn general(fault: ProgramFault) -> Refusal
         ensures { result ≡ record { subject = Subject.General; fault = fault } }
     {
         Refusal {
@@ -99,14 +99,14 @@ impl Refusal {
     }
 
     /// A fault that concerns this.
-    pub fn of(subject: Subject, fault: ProgramFault) -> Refusal
+    pub(crate) fn of(subject: Subject, fault: ProgramFault) -> Refusal
         ensures { result ≡ record { subject = subject; fault = fault } }
     {
         Refusal { subject, fault }
     }
 
     /// A growth was refused, which concerns no file.
-    pub fn memory() -> Refusal
+    pub(crate) fn memory() -> Refusal
         ensures { result ≡ record { subject = Subject.General; fault = ProgramFault.Memory } }
     {
         Refusal::general(ProgramFault::Memory)
@@ -127,7 +127,7 @@ pub(crate) type Words = InlineText<256>;
 /// Tells a refusal in a line, with no memory, and answers the status that the run ends with: 2 where the
 /// command line is at fault, and else 1. The line names the path that the refusal concerns: one of these
 /// sources, this folder, or what stands in one of them. A failure of the writer changes nothing.
-pub fn tell<W: Write>(refusal: &Refusal, folder: &str, sources: &[String], to: &mut W) -> u8
+pub(crate) fn tell<W: Write>(refusal: &Refusal, folder: &str, sources: &[String], to: &mut W) -> u8
     requires { IsAmong (length sources.now) refusal.now.subject }
     ensures line { result ≡ 2 ↔ IsBadLine refusal.now.fault }
     ensures status { (result ≡ 1) ⊎ (result ≡ 2) }

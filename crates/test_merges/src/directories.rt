@@ -1,7 +1,7 @@
 //! Directories that are merged.
 
 use dd_dir::publish;
-use dd_elem::{SetId, Uid};
+use dd_elem::{FileId, SetId, Uid};
 use dd_layout::{Label, Limits};
 use dd_samples::taken;
 use dd_vectors::{first_directory, put_words, v2, v3};
@@ -10,7 +10,7 @@ use std::test::Fail;
 
 /// The widest limits.
 pub(crate) fn widest() -> Result<Limits, Fail> {
-    Ok(Limits::new(u32::MAX, 999_999).ok_or("no limits")?)
+    Ok(Limits::new(u32::MAX, FileId::MAX_RANK).ok_or("no limits")?)
 }
 
 /// The label without an ID.

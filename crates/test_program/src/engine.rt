@@ -2,7 +2,7 @@
 ghost use Rattle.std.specs.Prelude.{None};
 ghost use Rattle.dicomdir.specs.FileSupply.{counts_at};
 
-use dd_elem::{ByteSource, Counts, Read, SetId, Uid};
+use dd_elem::{ByteSource, Counts, FileId, Read, SetId, Uid};
 use dd_layout::Limits;
 use dd_vectors::{answered, question, v1, v1_with};
 use dicomdir::{Choice, Indexed, NotThere, Supply, index_engine};
@@ -115,7 +115,7 @@ fn indexed_by(alloc: Global, limit: u64) -> Result<Indexed, Fail> {
     };
     let id = SetId::new(b"")?;
     let uid = Some(Uid::new(b"2.25.0")?);
-    let limits = Limits::new(u32::MAX, 999_999).ok_or("no limits")?;
+    let limits = Limits::new(u32::MAX, FileId::MAX_RANK).ok_or("no limits")?;
     Ok(index_engine(alloc, &mut pair, &Choice { id, uid }, limits, limit)?)
 }
 
