@@ -1,14 +1,12 @@
 -- Where a file is cut: a check of its first bytes says nothing of those behind them.
 use Rattle.std.proofs.Common.{◌≡◌, ◌≤◌, ◌<◌, ◌==◌, ℕ, Bool, true, false, if◌then◌else◌, nat_lt, List, [], ◌∷◌, ◌++◌}
-use Rattle.std.proofs.Common.{length, take, drop, Option, Some, None, option_map, Result, Ok, Err, refl, sym, ap, ◌∙◌}
+use Rattle.std.proofs.Common.{length, take, drop, Option, Some, None, option_map, Result, Ok, Err, refl, ap, ◌∙◌}
 use Rattle.std.proofs.Common.{arith, length-append}
 use Rattle.std.specs.Int.{w32, from_le_bytes}
 use Rattle.std.specs.Option.{ok_or}
 use Rattle.std.proofs.lemmas.Bool.{le-ltb, lt-ltb, ltb-false}
 use Rattle.std.proofs.lemmas.List.{drop-append-le, length-drop, nil_from_length}
 use Rattle.dd_elem.specs.declared.vr.Vr.TheVariants.{UL}
-use Rattle.dd_set.specs.Elements.{Elements, no_elements, element}
-use Rattle.dd_set.specs.Scan.{first_of}
 use Rattle.dd_set.specs.Spelling.{header_text}
 use Rattle.dd_set.proofs.Steps.{long_front}
 use Rattle.dd_part10.specs.declared.fault.FileFault.{FileFault}
@@ -16,7 +14,7 @@ use Rattle.dd_part10.specs.declared.fault.FileFault.TheVariants.{NotPart10, Grou
 use Rattle.dd_part10.specs.File.{prefix, max_group_length}
 use Rattle.dd_part10.specs.Matches.{Fails}
 use Rattle.dd_part10.specs.Meta.{group_length_tag}
-use Rattle.dd_part10.specs.Reading.{◌>>=◌, behind, behind_prefix, count_in, split_at, behind_length, starts_above}
+use Rattle.dd_part10.specs.Reading.{◌>>=◌, behind, behind_prefix, count_in, split_at, behind_length}
 use Rattle.dd_part10.proofs.Faults.{fails_along, bind_fails}
 use Rattle.dd_part10.proofs.Fronts.{behind-is}
 use Rattle.dd_part10.proofs.Steps.{bind_ok, onward, there, passes}

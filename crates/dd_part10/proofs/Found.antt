@@ -31,7 +31,7 @@ use Rattle.dd_part10.specs.declared.meta.Meta.{Meta}
 use Rattle.dd_part10.specs.File.{preamble_length, prefix, max_group_length, group_length_text, StartsAbove, IsFile}
 use Rattle.dd_part10.specs.Meta.{group_length_tag, class_tag, instance_tag, transfer_tag, HasUid, IsMeta}
 use Rattle.dd_part10.specs.Reading.{◌>>=◌, with_fault, FileParts, behind, behind_prefix, count_in, split_at}
-use Rattle.dd_part10.specs.Reading.{behind_length, syntax_in}
+use Rattle.dd_part10.specs.Reading.{behind_length}
 use Rattle.dd_part10.specs.Reading.{is_alone, uid_of, uid_at, uids_in, meta_in, starts_above, set_in, file_in}
 use Rattle.dd_part10.specs.Syntaxes.{syntax_of}
 use Rattle.dd_part10.proofs.Fronts.{behind-is}

@@ -1,5 +1,5 @@
 -- What is a file is read as one.
-use Rattle.std.proofs.Common.{◌≡◌, ℕ, ◌+◌, ◌^◌, ◌<◌, ◌≤◌, true, false, if◌then◌else◌, nat_lt, List, ◌++◌, length, drop}
+use Rattle.std.proofs.Common.{◌≡◌, ℕ, ◌+◌, ◌≤◌, true, false, if◌then◌else◌, nat_lt, List, ◌++◌, length, drop}
 use Rattle.std.proofs.Common.{Option, Some, Result, Ok, Err, refl, sym, ap, subst, ◌∙◌, arith, append_assoc}
 use Rattle.std.proofs.Common.{length-append}
 use Rattle.std.specs.Int.{w32, from_le_bytes}
@@ -29,12 +29,12 @@ use Rattle.dd_part10.specs.declared.meta.Meta.{Meta}
 use Rattle.dd_part10.specs.File.{preamble_length, prefix, max_group_length, group_length_text, StartsAbove, IsFile}
 use Rattle.dd_part10.specs.Meta.{group_length_tag, class_tag, instance_tag, transfer_tag, HasUid, IsMeta}
 use Rattle.dd_part10.specs.Reading.{◌>>=◌, with_fault, behind, behind_prefix, count_in, split_at, behind_length}
-use Rattle.dd_part10.specs.Reading.{is_alone, syntax_in}
+use Rattle.dd_part10.specs.Reading.{is_alone}
 use Rattle.dd_part10.specs.Reading.{uid_of, uid_at, uids_in, meta_in, starts_above, set_in, file_in}
 use Rattle.dd_part10.specs.Syntaxes.{syntax_of}
 use Rattle.dd_part10.proofs.Found.{length_parts, with_set, with_syntax, with_meta, with_parts, with_rest}
 use Rattle.dd_part10.proofs.Fronts.{behind-front}
-use Rattle.dd_part10.proofs.Steps.{onward, into, past}
+use Rattle.dd_part10.proofs.Steps.{onward, into}
 use Rattle.dd_part10.proofs.Tags.{found_in, alone_to}
 
 -- ---- the preamble, the prefix and the group length
