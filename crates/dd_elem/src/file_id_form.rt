@@ -7,6 +7,12 @@ ghost use Rattle.dd_elem.specs.FileIdForm.{IsFileId, is_file_id_component, is_fi
 
 use crate::set_id::is_id_character;
 
+/// The most components of a File ID (PS3.10 section 8.2).
+const MAX_COMPONENTS: usize = 8;
+
+/// The most characters of a component.
+const MAX_CHARACTERS: usize = 8;
+
 /// Are the bytes a File ID: 1 to 8 components joined by `\`, each of 1 to 8 characters of `A` to `Z`,
 /// `0` to `9` and `_` (PS3.10 sections 8.2 and 8.5)?
 #[tactic(auto, using(crate::proofs::FileIdForms::form_decides), unfolding(crate::specs::FileIdForm::is_file_id_form))]
@@ -14,7 +20,7 @@ pub fn is_file_id(bytes: &[u8]) -> bool
     ensures form { IsTrue result ↔ IsFileId bytes.now }
     ensures test { result ≡ is_file_id_form bytes.now }
 {
-    separators(bytes) < 8 && are_components(bytes)
+    separators(bytes) < MAX_COMPONENTS && are_components(bytes)
 }
 
 /// How many separators stand in the bytes?
@@ -35,7 +41,7 @@ fn are_components(bytes: &[u8]) -> bool
 fn is_component(bytes: &[u8]) -> bool
     ensures { result ≡ is_file_id_component bytes.now }
 {
-    (1..=8).contains(&bytes.len()) && are_id_characters(bytes)
+    (1..=MAX_CHARACTERS).contains(&bytes.len()) && are_id_characters(bytes)
 }
 
 /// May each of the bytes stand in a File ID?

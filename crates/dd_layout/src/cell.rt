@@ -8,6 +8,7 @@ ghost use Rattle.dd_layout.specs.Sizes.{entries_size};
 
 use byteorder::{ByteOrder, LittleEndian};
 use dd_elem::{Tag, Vr};
+use dd_set::{HEADER_SIZE, LONG_HEADER_SIZE};
 
 /// An element of a record in Explicit VR.
 #[derive(Clone, Copy, Debug)]
@@ -85,7 +86,12 @@ pub(crate) fn header_size(vr: Vr) -> u64
     ensures exact { result ≡ (if is_long_of vr then 12 else 8) }
     ensures few { result ≤ 12 }
 {
-    if vr.is_long() { 12 } else { 8 }
+    let size = if vr.is_long() {
+        LONG_HEADER_SIZE
+    } else {
+        HEADER_SIZE
+    };
+    size as u64
 }
 
 /// The value of a number of 32 bits.
