@@ -9,7 +9,7 @@ use Rattle.std.proofs.lemmas.List.Elements.{All-replicate, All-weaker}
 use Rattle.dd_elem.specs.Clean.{clean_of}
 use Rattle.dd_elem.specs.FileId.{AreRanks, IsRank, Ranks, six_digits, text_of}
 use Rattle.dd_elem.specs.FileIdForm.{IsFileId, IsFileIdComponent, is_file_id_form}
-use Rattle.dd_elem.specs.SetId.{IsIdCharacter}
+use Rattle.dd_elem.specs.Characters.{IsIdCharacter}
 use Rattle.dd_elem.proofs.Cleaning.{clean_of-unpadded}
 use Rattle.dd_elem.proofs.FileIdForms.{form_decides}
 use Rattle.dd_elem.proofs.SixDigits.{length-six_digits}

@@ -8,7 +8,8 @@ use borrow.Rule.Slice.PartMut.{put_mid}
 use Rattle.std.proofs.lemmas.List.{drop-replicate}
 use Rattle.std.proofs.Math.Seq.{take-append_seam}
 use Rattle.dd_elem.specs.InPlace.{IsFilled, filled}
-use Rattle.dd_elem.specs.Uid.{IsDigit, IsComponent, IsUid}
+use Rattle.dd_elem.specs.Characters.{IsDigit}
+use Rattle.dd_elem.specs.Uid.{IsComponent, IsUid}
 
 -- ---- a decimal number is a component
 

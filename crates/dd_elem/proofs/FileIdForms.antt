@@ -9,7 +9,7 @@ use Rattle.std.proofs.lemmas.Bool.Decides.{Decides-by_and}
 use Rattle.std.proofs.lemmas.List.Elements.{All-head, All-tail, All-weaker}
 use Rattle.std.proofs.lemmas.List.Splits.{slice_split_none, slice_split_at, join_with_byte-slice_split}
 use Rattle.std.proofs.lemmas.List.Splits.{length-slice_split}
-use Rattle.dd_elem.specs.SetId.{IsIdCharacter}
+use Rattle.dd_elem.specs.Characters.{IsIdCharacter}
 use Rattle.dd_elem.specs.FileIdForm.{IsFileIdComponent, IsFileId, is_file_id_component, is_file_id_form}
 use Rattle.dd_elem.proofs.SetIdForm.{characters_decide}
 

@@ -4,7 +4,8 @@ use Rattle.std.specs.Prelude.{All, Decides, nat_le}
 use Rattle.std.specs.List.{list_all}
 use Rattle.std.proofs.lemmas.Bool.{and_parts, and_from, and_left, leb-true, le-leb, lt-leb}
 use Rattle.std.proofs.lemmas.Bool.Decides.{Decides-by_and, Decides-or, Decides-eqb}
-use Rattle.dd_elem.specs.SetId.{IsIdCharacter, IsSetId, is_id_character, is_set_id}
+use Rattle.dd_elem.specs.Characters.{IsIdCharacter, is_id_character}
+use Rattle.dd_elem.specs.SetId.{IsSetId, is_set_id, max_set_id_length}
 
 -- a range of characters is tested
 within_decides : (low high byte : ℕ) → Decides (nat_le low byte && nat_le byte high) ((low ≤ byte) × (byte ≤ high))
@@ -26,7 +27,7 @@ characters_decide bytes = Decides-by_and is_id_character IsIdCharacter (list_all
 -- the test passes at each ID
 pub is_set_id_from_IsSetId : (bytes : List ℕ) → IsSetId bytes → is_set_id bytes ≡ true
 unfolding is_set_id
-is_set_id_from_IsSetId bytes h = and_from _ _ (le-leb (length bytes) 16 h.short)
+is_set_id_from_IsSetId bytes h = and_from _ _ (le-leb (length bytes) max_set_id_length h.short)
     ((characters_decide bytes).1 h.characters)
 
 -- what passes the test is an ID
@@ -34,7 +35,7 @@ pub IsSetId_from_is_set_id : (bytes : List ℕ) → is_set_id bytes ≡ true →
 unfolding is_set_id
 IsSetId_from_is_set_id bytes e =
     let p = and_parts _ _ e in
-    record { characters = (characters_decide bytes).0 p.1; short = leb-true (length bytes) 16 p.0 }
+    record { characters = (characters_decide bytes).0 p.1; short = leb-true (length bytes) max_set_id_length p.0 }
 
 -- the test decides
 pub is_set_id_decides : (bytes : List ℕ) → Decides (is_set_id bytes) (IsSetId bytes)
@@ -48,12 +49,14 @@ decides_from_is bytes result is = (
       ∙ is_set_id_from_IsSetId bytes h,
 )
 
--- no more than 16 characters, each being tested
-pub is_set_id-short : (bytes : List ℕ) → length bytes ≤ 16 → is_set_id bytes ≡ list_all is_id_character bytes
+-- no more characters than that, each being tested
+pub is_set_id-short : (bytes : List ℕ) → length bytes ≤ max_set_id_length
+    → is_set_id bytes ≡ list_all is_id_character bytes
 unfolding is_set_id
-is_set_id-short bytes short = ap (λ (b : Bool). b && list_all is_id_character bytes) (le-leb (length bytes) 16 short)
+is_set_id-short bytes short = ap (λ (b : Bool). b && list_all is_id_character bytes)
+    (le-leb (length bytes) max_set_id_length short)
 
--- more than 16 characters fail the test
-pub is_set_id-long : (bytes : List ℕ) → 16 < length bytes → is_set_id bytes ≡ false
+-- more characters than that fail the test
+pub is_set_id-long : (bytes : List ℕ) → max_set_id_length < length bytes → is_set_id bytes ≡ false
 unfolding is_set_id
-is_set_id-long bytes long = and_left _ _ (lt-leb (length bytes) 16 long)
+is_set_id-long bytes long = and_left _ _ (lt-leb (length bytes) max_set_id_length long)

@@ -8,7 +8,8 @@ use Rattle.std.proofs.lemmas.Bool.{not_from_false}
 use Rattle.std.proofs.lemmas.Bool.Decides.{Decides-by_and}
 use Rattle.std.proofs.lemmas.List.Elements.{All-nil, All-cons, All-head, All-tail, All-weaker}
 use Rattle.std.proofs.lemmas.List.Splits.{slice_split_none, slice_split_at, join_with_byte-slice_split}
-use Rattle.dd_elem.specs.Uid.{IsDigit, IsComponent, IsUid, is_digit, is_component, is_uid}
+use Rattle.dd_elem.specs.Characters.{IsDigit, is_digit}
+use Rattle.dd_elem.specs.Uid.{IsComponent, IsUid, is_component, is_uid, max_uid_length}
 
 -- a digit is tested
 is_digit_decides : (byte : ℕ) → Decides (is_digit byte) (IsDigit byte)
@@ -82,7 +83,7 @@ pub is_uid_from_IsUid : (bytes : List ℕ) → IsUid bytes → is_uid bytes ≡ 
 unfolding is_uid
 is_uid_from_IsUid bytes h =
     let parts = split_is_components bytes h.components h.each h.joined h.not_empty in
-    and_from _ _ (le-leb (length bytes) 64 h.short) (ap (list_all is_component) parts
+    and_from _ _ (le-leb (length bytes) max_uid_length h.short) (ap (list_all is_component) parts
     ∙ (components_decides h.components).1 h.each)
 
 -- what passes the test is not empty
@@ -101,20 +102,20 @@ IsUid_from_is_uid bytes e =
       each = (components_decides (slice_split (λ byte. eqb byte 46) bytes)).0 p.1;
       joined = sym (join_with_byte-slice_split 46 bytes);
       not_empty = not_empty_from_split bytes p.1;
-      short = leb-true (length bytes) 64 p.0;
+      short = leb-true (length bytes) max_uid_length p.0;
     }
 
--- no more than 64 characters, each part between dots being tested
-pub is_uid-short : (bytes : List ℕ) → length bytes ≤ 64 → is_uid bytes ≡ list_all is_component
+-- no more characters than that, each part between dots being tested
+pub is_uid-short : (bytes : List ℕ) → length bytes ≤ max_uid_length → is_uid bytes ≡ list_all is_component
     (slice_split (λ byte. eqb byte 46) bytes)
 unfolding is_uid
 is_uid-short bytes short = ap (λ (b : Bool). b && list_all is_component (slice_split (λ byte. eqb byte 46) bytes))
-    (le-leb (length bytes) 64 short)
+    (le-leb (length bytes) max_uid_length short)
 
--- more than 64 characters fail the test
-pub is_uid-long : (bytes : List ℕ) → 64 < length bytes → is_uid bytes ≡ false
+-- more characters than that fail the test
+pub is_uid-long : (bytes : List ℕ) → max_uid_length < length bytes → is_uid bytes ≡ false
 unfolding is_uid
-is_uid-long bytes long = and_left _ _ (lt-leb (length bytes) 64 long)
+is_uid-long bytes long = and_left _ _ (lt-leb (length bytes) max_uid_length long)
 
 -- the test decides
 pub is_uid_decides : (bytes : List ℕ) → Decides (is_uid bytes) (IsUid bytes)

@@ -6,7 +6,8 @@ use Rattle.std.specs.Str.{IsAscii, IsUtf8}
 use Rattle.std.proofs.lemmas.List.Elements.{All-nil, All-cons, All-head, All-tail, All-weaker}
 use Rattle.std.proofs.lemmas.Str.{IsAscii-append, IsUtf8-from_ascii}
 use Rattle.std.proofs.lemmas.Str.Ascii.{IsAscii-nil, IsAscii-from_all}
-use Rattle.dd_elem.specs.Uid.{IsDigit, IsComponent, IsUid}
+use Rattle.dd_elem.specs.Characters.{IsDigit}
+use Rattle.dd_elem.specs.Uid.{IsComponent, IsUid}
 
 component_ascii : (component : List ℕ) → IsComponent component → IsAscii component
 component_ascii component h = IsAscii-from_all component

@@ -2,9 +2,13 @@
 use Rattle.std.specs.Prelude.{◌≤◌, ◌-◌, ℕ, List, [], ◌∷◌, ◌++◌, length, replicate, codes, decimal}
 use Rattle.std.specs.List.{join_with_byte}
 
--- a rank among the children of one parent: 1 to 999,999
+-- the highest rank that six decimal digits have room for
+abbrev pub max_rank : ℕ
+max_rank = 999999
+
+-- a rank among the children of one parent
 abbrev pub IsRank : ℕ → Type 0
-IsRank rank = (1 ≤ rank) × (rank ≤ 999999)
+IsRank rank = (1 ≤ rank) × (rank ≤ max_rank)
 
 -- the ranks of an image and of what is above it
 pub record Ranks : Type 0 where

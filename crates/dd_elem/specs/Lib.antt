@@ -1,4 +1,5 @@
 pub mod ByteSource
+pub mod Characters
 pub mod Clean
 pub mod Counts
 pub mod Device

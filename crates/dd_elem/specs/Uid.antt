@@ -2,10 +2,11 @@
 use Rattle.std.specs.Prelude.{◌≡◌, ◌≤◌, ℕ, Bool, false, not, ◌&&◌, ◌==◌, nat_le, List, [], ◌∷◌, length, slice_index}
 use Rattle.std.specs.Prelude.{All}
 use Rattle.std.specs.List.{list_all, slice_split, join_with_byte}
+use Rattle.dd_elem.specs.Characters.{IsDigit, is_digit}
 
--- a digit, `0` to `9`
-abbrev pub IsDigit : ℕ → Type 0
-IsDigit byte = (48 ≤ byte) × (byte ≤ 57)
+-- the most characters of a UID
+abbrev pub max_uid_length : ℕ
+max_uid_length = 64
 
 -- a component: one or more digits, the first of which is a `0` (48) only where it stands alone
 pub record IsComponent (component : List ℕ) : Type 0 where
@@ -13,17 +14,13 @@ pub record IsComponent (component : List ℕ) : Type 0 where
   pub not_empty : 1 ≤ length component
   pub no_leading_zero : slice_index component 0 ≡ 48 → length component ≡ 1
 
--- a UID: components joined by `.` (46), of 1 to 64 characters in all
+-- a UID: components joined by `.` (46), at least one character and at most so many in all
 pub record IsUid (bytes : List ℕ) : Type 0 where
   pub components : List (List ℕ)
   pub each : All IsComponent components
   pub joined : bytes ≡ join_with_byte 46 components
   pub not_empty : 1 ≤ length bytes
-  pub short : length bytes ≤ 64
-
--- is it a digit?
-abbrev pub is_digit : ℕ → Bool
-is_digit byte = nat_le 48 byte && nat_le byte 57
+  pub short : length bytes ≤ max_uid_length
 
 -- is it a component?
 abbrev pub is_component : List ℕ → Bool
@@ -33,4 +30,4 @@ is_component (first ∷ next ∷ more) = not (first == 48) && list_all is_digit 
 
 -- is it a UID? (`IsUid` as a test)
 unfoldable pub is_uid : List ℕ → Bool
-is_uid bytes = nat_le (length bytes) 64 && list_all is_component (slice_split (λ byte. byte == 46) bytes)
+is_uid bytes = nat_le (length bytes) max_uid_length && list_all is_component (slice_split (λ byte. byte == 46) bytes)

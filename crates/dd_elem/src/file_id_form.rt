@@ -2,10 +2,9 @@
 
 ghost use Rattle.std.specs.Prelude.{◌≡◌, ◌==◌, ◌↔◌, IsTrue, count_by};
 ghost use Rattle.std.specs.List.{list_all, slice_split};
-ghost use Rattle.dd_elem.specs.SetId.{is_id_character};
 ghost use Rattle.dd_elem.specs.FileIdForm.{IsFileId, is_file_id_component, is_file_id_form};
 
-use crate::set_id::is_id_character;
+use crate::characters::are_id_characters;
 
 /// The most components of a File ID (PS3.10 section 8.2).
 const MAX_COMPONENTS: usize = 8;
@@ -42,11 +41,4 @@ fn is_component(bytes: &[u8]) -> bool
     ensures { result ≡ is_file_id_component bytes.now }
 {
     (1..=MAX_CHARACTERS).contains(&bytes.len()) && are_id_characters(bytes)
-}
-
-/// May each of the bytes stand in a File ID?
-fn are_id_characters(bytes: &[u8]) -> bool
-    ensures { result ≡ list_all is_id_character bytes.now }
-{
-    bytes.iter().all(|byte| is_id_character(*byte))
 }

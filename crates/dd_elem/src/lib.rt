@@ -7,6 +7,7 @@
 #![tactic(auto)]
 
 mod byte_source;
+mod characters;
 mod counts;
 mod device;
 mod file_id;

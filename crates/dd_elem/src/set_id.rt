@@ -2,17 +2,21 @@
 
 ghost use Rattle.std.specs.Prelude.{◌≡◌, ◌↔◌, List, ℕ, length, take, IsOk, IfOk, IsTrue};
 ghost use Rattle.dd_elem.specs.InPlace.{filled, IsFilled, fields_back};
-ghost use Rattle.dd_elem.specs.SetId.{IsSetId, is_set_id, is_id_character};
+ghost use Rattle.dd_elem.specs.SetId.{IsSetId, is_set_id, max_set_id_length};
 
+use crate::characters::are_id_characters;
 use crate::in_place::fill;
 use std::marker::Model;
 use thiserror::Error;
+
+/// The most characters of an ID.
+const MAX_LENGTH: usize = 16;
 
 /// The ID of a file-set: 0 to 16 characters of `A` to `Z`, `0` to `9` and `_` (PS3.3 section
 /// F.3.2.1; the characters of CS in PS3.5 section 6.2, without the space).
 #[derive(Clone, Copy, Debug, PartialEq, Eq)]
 pub struct SetId {
-    bytes: [u8; 16],
+    bytes: [u8; MAX_LENGTH],
     len: usize,
 }
 
@@ -21,11 +25,11 @@ impl Model for SetId {
 
     ghost view = { λ id. take id.len id.bytes };
 
-    ghost invariant = { λ id. IsFilled 16 id.bytes id.len × IsTrue (is_set_id (take id.len id.bytes)) };
+    ghost invariant = { λ id. IsFilled max_set_id_length id.bytes id.len × IsTrue (is_set_id (take id.len id.bytes)) };
 
-    ghost inverse = { λ bytes. record { bytes = filled 16 bytes; len = length bytes } };
+    ghost inverse = { λ bytes. record { bytes = filled max_set_id_length bytes; len = length bytes } };
 
-    ghost inverse_ok = { λ id valid. fields_back 16 id.bytes id.len (λ bytes len. record {
+    ghost inverse_ok = { λ id valid. fields_back max_set_id_length id.bytes id.len (λ bytes len. record {
       bytes = bytes;
       len = len;
     }) valid.0 };
@@ -69,12 +73,5 @@ fn has_form(bytes: &[u8]) -> bool
     ensures test { result ≡ is_set_id bytes.now }
     ensures form { IsTrue result ↔ IsSetId bytes.now }
 {
-    bytes.len() <= 16 && bytes.iter().all(|byte| is_id_character(*byte))
-}
-
-/// May the character stand in the ID of a file-set, or in a File ID?
-pub(crate) fn is_id_character(byte: u8) -> bool
-    ensures { result ≡ is_id_character byte }
-{
-    matches!(byte, b'A'..=b'Z' | b'0'..=b'9' | b'_')
+    bytes.len() <= MAX_LENGTH && are_id_characters(bytes)
 }

@@ -2,7 +2,8 @@
 
 ghost use Rattle.std.specs.Prelude.{◌≡◌, ◌≤◌, ◌↔◌, ◌++◌, List, ℕ, codes, length, take, IsOk, IfOk, IsTrue};
 ghost use Rattle.dd_elem.specs.Digests.{uid_of_digest, uuid_of, uuid_octets};
-ghost use Rattle.dd_elem.specs.Uid.{IsUid, is_uid, is_component, is_digit};
+ghost use Rattle.dd_elem.specs.Characters.{is_digit};
+ghost use Rattle.dd_elem.specs.Uid.{IsUid, is_uid, is_component, max_uid_length};
 ghost use Rattle.std.specs.List.{list_all};
 ghost use Rattle.dd_elem.specs.InPlace.{filled, IsFilled, fields_back};
 
@@ -11,11 +12,14 @@ use itoa::Buffer;
 use std::marker::Model;
 use thiserror::Error;
 
+/// The most characters of a UID.
+const MAX_LENGTH: usize = 64;
+
 /// A unique identifier: 1 to 64 characters, which are components of digits joined by `.` (PS3.5
 /// section 9.1).
 #[derive(Clone, Copy, Debug, PartialEq, Eq)]
 pub struct Uid {
-    bytes: [u8; 64],
+    bytes: [u8; MAX_LENGTH],
     len: u8,
 }
 
@@ -24,11 +28,11 @@ impl Model for Uid {
 
     ghost view = { λ uid. take uid.len uid.bytes };
 
-    ghost invariant = { λ uid. IsFilled 64 uid.bytes uid.len × IsTrue (is_uid (take uid.len uid.bytes)) };
+    ghost invariant = { λ uid. IsFilled max_uid_length uid.bytes uid.len × IsTrue (is_uid (take uid.len uid.bytes)) };
 
-    ghost inverse = { λ bytes. record { bytes = filled 64 bytes; len = length bytes } };
+    ghost inverse = { λ bytes. record { bytes = filled max_uid_length bytes; len = length bytes } };
 
-    ghost inverse_ok = { λ uid valid. fields_back 64 uid.bytes uid.len (λ bytes len. record {
+    ghost inverse_ok = { λ uid valid. fields_back max_uid_length uid.bytes uid.len (λ bytes len. record {
       bytes = bytes;
       len = len;
     }) valid.0 };
@@ -104,9 +108,9 @@ fn uuid_octets(digest: &[u8; 32]) -> [u8; 16]
 }
 
 /// `2.25.` and a number, and zeros after them.
-fn numbered(number: &[u8]) -> [u8; 64]
+fn numbered(number: &[u8]) -> [u8; MAX_LENGTH]
     requires { length number.now ≤ 59 }
-    ensures { result ≡ filled 64 (codes "2.25." ++ number.now) }
+    ensures { result ≡ filled max_uid_length (codes "2.25." ++ number.now) }
 {
     let mut bytes = fill(PREFIX);
     bytes[PREFIX.len()..PREFIX.len() + number.len()].copy_from_slice(number);
@@ -118,7 +122,7 @@ fn has_form(bytes: &[u8]) -> bool
     ensures test { result ≡ is_uid bytes.now }
     ensures form { IsTrue result ↔ IsUid bytes.now }
 {
-    bytes.len() <= 64 && bytes.split(|byte| *byte == b'.').all(is_component)
+    bytes.len() <= MAX_LENGTH && bytes.split(|byte| *byte == b'.').all(is_component)
 }
 
 /// Are the bytes one component of a UID?

@@ -7,7 +7,7 @@ use Rattle.std.specs.List.{join_with_byte}
 use Rattle.std.proofs.lemmas.List.{map-append, take_all, take_more}
 use Rattle.std.proofs.lemmas.List.Elements.{All-append, All-cons, All-head, All-tail, All-weaker}
 use Rattle.dd_elem.specs.FileIdForm.{IsFileId, IsFileIdComponent}
-use Rattle.dd_elem.specs.SetId.{IsIdCharacter}
+use Rattle.dd_elem.specs.Characters.{IsIdCharacter}
 use Rattle.dd_files.specs.Paths.{IsPathIn, id_path, slashed}
 
 -- ---- a name behind a folder

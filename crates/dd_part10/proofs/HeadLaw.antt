@@ -5,7 +5,8 @@ use Rattle.std.proofs.Common.{append_assoc, lit<, lit≤}
 use Rattle.std.specs.List.{join_with_byte}
 use Rattle.std.proofs.lemmas.List.Elements.{All-nil, All-cons, All-head, All-tail, All-weaker, All-append}
 use Rattle.dd_elem.specs.Clean.{clean_of, is_padding, keep}
-use Rattle.dd_elem.specs.Uid.{IsUid, IsComponent, IsDigit}
+use Rattle.dd_elem.specs.Characters.{IsDigit}
+use Rattle.dd_elem.specs.Uid.{IsUid, IsComponent}
 use Rattle.dd_elem.specs.declared.vr.Vr.TheVariants.{OB, UI}
 use Rattle.dd_elem.proofs.Cleaning.{clean_of-append_padding, IsCleanOf_from_is}
 use Rattle.dd_elem.specs.declared.tag.Tag.{Tag}

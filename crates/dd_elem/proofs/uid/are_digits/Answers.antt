@@ -2,7 +2,7 @@ use Rattle.std.proofs.Common.{rules}
 use borrow.Author.Tests.{tests}
 use Rattle.std.proofs.lemmas.Iterator.{YieldsList-from_slice}
 use Rattle.std.proofs.lemmas.Iterator.Search.{all_from_yields_List}
-use Rattle.dd_elem.specs.Uid.{is_digit}
+use Rattle.dd_elem.specs.Characters.{is_digit}
 use Rattle.dd_elem.proofs.uid.are_digits.Goals as goal
 
 pub returns : goal.returns
