@@ -7,15 +7,15 @@ use Rattle.std.proofs.lemmas.Bool.{eqb-true, eqb-false}
 use Rattle.byteorder.specs.Endian.{little_bytes}
 use Rattle.dd_elem.specs.declared.tag.Tag.{Tag}
 use Rattle.dd_elem.specs.declared.vr.Vr.{Vr}
-use Rattle.dd_elem.specs.declared.vr.Vr.TheVariants.{UI, UL}
+use Rattle.dd_elem.specs.declared.vr.Vr.TheVariants.{OB, UI, UL}
 use Rattle.dd_elem.specs.Vr.{is_long_of}
-use Rattle.dd_set.specs.Elements.{Elements, no_elements, bytes}
+use Rattle.dd_set.specs.Elements.{Elements, no_elements, element, bytes}
 use Rattle.dd_set.specs.Sends.{header_limit}
 use Rattle.dd_set.specs.Spelling.{elements_text, tag_text, shape_text, header_text, content_text}
 use Rattle.dd_part10.specs.declared.meta.Meta.{Meta}
 use Rattle.dd_part10.specs.File.{prefix, group_length_text}
 use Rattle.dd_part10.specs.Meta.{group_length_tag, class_tag, instance_tag, transfer_tag}
-use Rattle.dd_part10.specs.Head.{head_text, group_text, uids_text, uid_text, uid_element, version_text, padded}
+use Rattle.dd_part10.specs.Head.{head_text, group_text, uids_text, uid_text, uid_element, version_tag, padded}
 use Rattle.dd_part10.specs.Head.{padding_of, implementation_tag, implementation_uid}
 
 -- ---- padding
@@ -86,6 +86,10 @@ count_text value count n is same =
     (is ∙ ap (λ (m : ℕ). little_bytes 4 m) same)
 
 -- ---- the group
+
+-- the version
+abbrev pub version_text : List ℕ
+version_text = elements_text (element version_tag (Some OB) (bytes (0x00 ∷ 0x01 ∷ [])) no_elements)
 
 -- it is the version and then the UIDs
 pub group_parts : (meta : Meta) → group_text meta ≡ version_text ++ uids_text meta

@@ -51,10 +51,6 @@ head_text meta =
 
 -- ---- parts of it
 
--- the version
-abbrev pub version_text : List ℕ
-version_text = elements_text (element version_tag (Some OB) (bytes (0x00 ∷ 0x01 ∷ [])) no_elements)
-
 -- an element with a UID
 abbrev pub uid_text : Tag → List ℕ → List ℕ
 uid_text tag uid = tag_text tag ++ content_text (Some UI) (bytes (padded uid))

@@ -14,7 +14,8 @@ use Rattle.dd_set.specs.declared.syntax.Length.TheVariants.{Defined, Undefined}
 use Rattle.dd_set.specs.declared.syntax.Syntax.{Syntax}
 use Rattle.dd_set.specs.Elements.{Elements, no_elements, element, Content, bytes, items, Items, no_items, item, Entry}
 use Rattle.dd_set.specs.Elements.{Part}
-use Rattle.dd_set.specs.Spelling.{undefined_length, delimiter_group, tag_text, item_tag_text, item_end_text}
+use Rattle.dd_set.specs.Spelling.{undefined_length, delimiter_group, tag_text, item_tag_text, item_end_tag}
+use Rattle.dd_set.specs.Spelling.{item_end_text}
 use Rattle.dd_set.specs.Spelling.{sequence_end_text, length_of, closed, elements_text, content_text, items_text}
 use Rattle.dd_set.specs.Spelling.{item_syntax, max_levels}
 use Rattle.dd_set.specs.Spelling.{AreElements, IsContent, AreItems}
@@ -127,8 +128,10 @@ module _ (d : ℕ) (sequence : SequenceReader) (law : SequenceAgain d sequence) 
   ends_not : (form : Length) (tag : Tag) (rest : List ℕ) → tag.group < 2 ^ 16 → tag.element < 2 ^ 16
       → tag.group ≢ delimiter_group → ends_set form (tag_text tag ++ rest) ≡ false
   ends_not Defined tag rest g n ne = refl
-  ends_not Undefined tag rest g n ne = ap (λ (t : Tag). (t.group == 0xfffe) && (t.element == 0xe00d))
-      (tag_again tag rest g n) ∙ and_left (tag.group == 0xfffe) (tag.element == 0xe00d) (ne_eqb tag.group 0xfffe ne)
+  ends_not Undefined tag rest g n ne =
+      ap (λ (t : Tag). (t.group == item_end_tag.group) && (t.element == item_end_tag.element)) (tag_again tag rest g n)
+      ∙ and_left (tag.group == item_end_tag.group) (tag.element == item_end_tag.element)
+      (ne_eqb tag.group item_end_tag.group ne)
 
   -- the parts of an element's text: its first eight bytes, and the rest
   entry_split : (syntax : Syntax) (e : Entry) (s : ShapeAgain syntax e.tag e.vr (content_length e.content))

@@ -1,5 +1,5 @@
 -- The same of items, and of the whole: a refusal other than an early end stands whatever follows the front.
-use Rattle.std.proofs.Common.{◌≡◌, ◌≢◌, ℕ, zero, suc, ◌+◌, ◌%◌, ◌≤◌, Bool, true, false, ◌==◌, if◌then◌else◌}
+use Rattle.std.proofs.Common.{◌≡◌, ◌≢◌, ℕ, zero, suc, ◌%◌, ◌≤◌, Bool, true, false, ◌==◌, if◌then◌else◌}
 use Rattle.std.proofs.Common.{List, ◌++◌, length, Option, Some, None, Result, Ok, Err, refl, sym}
 use Rattle.std.proofs.Common.{subst, ◌∙◌, arith}
 use Rattle.std.proofs.lemmas.List.{length-append}
@@ -8,7 +8,7 @@ use Rattle.dd_set.specs.declared.fault.SetFault.TheVariants.{Truncated, Unexpect
 use Rattle.dd_set.specs.declared.syntax.Length.{Length}
 use Rattle.dd_set.specs.declared.syntax.Length.TheVariants.{Defined, Undefined}
 use Rattle.dd_set.specs.declared.syntax.Syntax.{Syntax}
-use Rattle.dd_set.specs.Elements.{bytes, Items, item, Part}
+use Rattle.dd_set.specs.Elements.{Items, item, Part}
 use Rattle.dd_set.specs.Spelling.{undefined_length, max_levels}
 use Rattle.dd_set.specs.Reading.{◌>>=◌, At, Reads, leaves_fewer, take_at, long_of, is_item}
 use Rattle.dd_set.specs.Reading.{is_over}

@@ -14,7 +14,8 @@ use Rattle.dd_set.specs.declared.fault.SetFault.TheVariants.{Reserved}
 use Rattle.dd_set.specs.declared.syntax.Syntax.{Syntax}
 use Rattle.dd_set.specs.declared.syntax.Syntax.TheVariants.{Explicit, Implicit}
 use Rattle.dd_set.specs.Bytes.{AreBytes}
-use Rattle.dd_set.specs.Spelling.{tag_text, shape_text, undefined_length, length_limit}
+use Rattle.dd_elem.specs.declared.tag.Tag.{Tag}
+use Rattle.dd_set.specs.Spelling.{tag_text, shape_text, header_text, undefined_length, length_limit}
 use Rattle.dd_set.specs.Reading.{At, take_at, tag_of, long_of, short_of, is_tag, Shape, long_length_at, long_at}
 use Rattle.dd_set.specs.Reading.{explicit_at}
 use Rattle.dd_set.specs.Reading.{shape_at}
@@ -46,13 +47,13 @@ pub head_short : (head : List ℕ) → length head ≡ 8 → AreBytes head → l
 head_short head len fits = short_text (drop 6 head) (omega (arith, length-drop 6 head)) (AreBytes-drop 6 head fits)
 
 -- the whole of them, by its tag and what follows
-pub head_is : (head : List ℕ) (group number : ℕ) → length head ≡ 8 → AreBytes head → is_tag group number head ≡ true
-    → head ≡ (little_bytes 2 group ++ little_bytes 2 number) ++ little_bytes 4 (long_of head)
-head_is head group number len fits is =
-    let both = and_parts ((tag_of head).group == group) ((tag_of head).element == number) is in
-    let g : (tag_of head).group ≡ group = eqb-true _ _ both.0 in
-    let n : (tag_of head).element ≡ number = eqb-true _ _ both.1 in
-    let front : take 4 head ≡ little_bytes 2 group ++ little_bytes 2 number = sym (head_tag head len fits)
+pub head_is : (head : List ℕ) (tag : Tag) → length head ≡ 8 → AreBytes head → is_tag tag head ≡ true
+    → head ≡ header_text tag None (long_of head)
+head_is head tag len fits is =
+    let both = and_parts ((tag_of head).group == tag.group) ((tag_of head).element == tag.element) is in
+    let g : (tag_of head).group ≡ tag.group = eqb-true _ _ both.0 in
+    let n : (tag_of head).element ≡ tag.element = eqb-true _ _ both.1 in
+    let front : take 4 head ≡ tag_text tag = sym (head_tag head len fits)
     ∙ ap₂ (λ (x y : ℕ). little_bytes 2 x ++ little_bytes 2 y) g n in
     sym (take-append-drop 4 head) ∙ ap₂ (λ (x y : List ℕ). x ++ y) front (sym (head_long head len fits))
 

@@ -16,8 +16,9 @@ use Rattle.dd_set.specs.declared.syntax.Syntax.TheVariants.{Explicit, Implicit}
 use Rattle.dd_set.specs.Bytes.{AreBytes}
 use Rattle.dd_set.specs.Elements.{Elements, no_elements, element, Content, bytes, items, Items, item, Entry}
 use Rattle.dd_set.specs.Elements.{Part}
-use Rattle.dd_set.specs.Spelling.{undefined_length, delimiter_group, tag_text, shape_text, item_tag_text, item_end_text}
-use Rattle.dd_set.specs.Spelling.{sequence_end_text, length_of, closed, elements_text, content_text, items_text}
+use Rattle.dd_set.specs.Spelling.{undefined_length, delimiter_group, tag_text, shape_text, header_text, item_tag_text}
+use Rattle.dd_set.specs.Spelling.{item_end_tag, item_end_text, sequence_end_tag, sequence_end_text, length_of, closed}
+use Rattle.dd_set.specs.Spelling.{elements_text, content_text, items_text}
 use Rattle.dd_set.specs.Spelling.{FitsLong, length_limit, explicit_item_syntax, item_syntax, HoldsBytes}
 use Rattle.dd_set.specs.Spelling.{AreElements, IsContent, AreItems}
 use Rattle.dd_set.specs.Reading.{◌>>=◌, At, Reads, leaves_fewer, take_at, tag_of, long_of}
@@ -118,8 +119,7 @@ set_mark : (form : Length) (head : List ℕ) → length head ≡ 8 → AreBytes 
     → (long_of head == 0) ≡ true → (head ≡ closed form item_end_text []) × (form ≡ Undefined)
 set_mark Defined head len fits is none = absurd cc
 set_mark Undefined head len fits is none = (
-  head_is head 0xfffe 0xe00d len fits is
-      ∙ ap (λ (n : ℕ). (little_bytes 2 0xfffe ++ little_bytes 2 0xe00d) ++ little_bytes 4 n) (eqb-true _ _ none),
+  head_is head item_end_tag len fits is ∙ ap (λ (n : ℕ). header_text item_end_tag None n) (eqb-true _ _ none),
   refl,
 )
 
@@ -128,8 +128,8 @@ pub sequence_mark : (form : Length) (head : List ℕ) → length head ≡ 8 → 
     → (long_of head == 0) ≡ true → (head ≡ closed form sequence_end_text []) × (form ≡ Undefined)
 sequence_mark Defined head len fits is none = absurd cc
 sequence_mark Undefined head len fits is none = (
-  head_is head 0xfffe 0xe0dd len fits is
-      ∙ ap (λ (n : ℕ). (little_bytes 2 0xfffe ++ little_bytes 2 0xe0dd) ++ little_bytes 4 n) (eqb-true _ _ none),
+  head_is head sequence_end_tag len fits is
+      ∙ ap (λ (n : ℕ). header_text sequence_end_tag None n) (eqb-true _ _ none),
   refl,
 )
 

@@ -1,5 +1,5 @@
 -- The same of items, of sets at any level, and of the whole: what is read is spelled so.
-use Rattle.std.proofs.Common.{◌≡◌, ℕ, zero, suc, ◌+◌, ◌%◌, ◌<◌, true, ◌==◌, if◌then◌else◌}
+use Rattle.std.proofs.Common.{◌≡◌, ℕ, zero, suc, ◌%◌, ◌<◌, true, ◌==◌, if◌then◌else◌}
 use Rattle.std.proofs.Common.{List, [], ◌++◌, length, drop, Option, Some, None, Ok, Err, sym, ap}
 use Rattle.std.proofs.Common.{subst, ◌∙◌, append_assoc, append-nil, arith, inl, inr}
 use Rattle.std.proofs.lemmas.Bool.{eqb-true, eqb-false}
@@ -10,9 +10,9 @@ use Rattle.dd_set.specs.declared.syntax.Length.{Length}
 use Rattle.dd_set.specs.declared.syntax.Length.TheVariants.{Defined, Undefined}
 use Rattle.dd_set.specs.declared.syntax.Syntax.{Syntax}
 use Rattle.dd_set.specs.Bytes.{AreBytes}
-use Rattle.dd_set.specs.Elements.{Elements, bytes, Items, no_items, item}
+use Rattle.dd_set.specs.Elements.{Elements, Items, no_items, item}
 use Rattle.dd_set.specs.Elements.{Part}
-use Rattle.dd_set.specs.Spelling.{undefined_length, item_tag_text}
+use Rattle.dd_set.specs.Spelling.{undefined_length, header_text, item_tag, item_tag_text}
 use Rattle.dd_set.specs.Spelling.{sequence_end_text, closed, elements_text, items_text}
 use Rattle.dd_set.specs.Spelling.{max_levels}
 use Rattle.dd_set.specs.Spelling.{AreElements, AreItems}
@@ -69,7 +69,7 @@ module _ (d : ℕ) (part : ItemReader) (law : PartLaw d part) where
                   let l = law syntax (long_of head) behind b.0 t.0.fits
                   (long_below (drop 4 head) (AreBytes-drop 4 head t.2)) b.1 in
                   let front : head ≡ item_tag_text ++ little_bytes 4 (part_length p) =
-                  head_is head 0xfffe 0xe000 t.1 t.2 is.0 ∙ ap (λ (n : ℕ). item_tag_text ++ little_bytes 4 n) l.1 in
+                  head_is head item_tag t.1 t.2 is.0 ∙ ap (λ (n : ℕ). header_text item_tag None n) l.1 in
                   let both : Takes at (head ++ part_body p) b.0.1 =
                   Takes-then at behind b.0.1 head (part_body p) t.0 l.0 in
                   let whole : head ++ part_body p ≡ part_text p = ap (λ (y : List ℕ). y ++ part_body p) front

@@ -18,6 +18,7 @@ use Rattle.dd_set.specs.declared.syntax.Syntax.TheVariants.{Explicit, Implicit}
 use Rattle.dd_set.specs.Elements.{Elements, no_elements, element, Content, bytes, items, Items, no_items, item}
 use Rattle.dd_set.specs.Elements.{Entry, Part}
 use Rattle.dd_set.specs.Spelling.{undefined_length, delimiter_group, item_syntax, max_levels}
+use Rattle.dd_set.specs.Spelling.{item_tag, item_end_tag, sequence_end_tag}
 
 -- where reading stands: how many bytes the nearest enclosing length leaves, where there is one, and the bytes to come
 pub record At : Type 0 where
@@ -62,18 +63,18 @@ long_of head = from_le_bytes w32 (drop 4 head)
 abbrev pub short_of : List ℕ → ℕ
 short_of head = from_le_bytes w16 (drop 6 head)
 
--- the tags of an item and of the two delimiters
-abbrev pub is_tag : ℕ → ℕ → List ℕ → Bool
-is_tag group number head = ((tag_of head).group == group) && ((tag_of head).element == number)
+-- they begin with this tag: that of an item, or of one of the two ends
+abbrev pub is_tag : Tag → List ℕ → Bool
+is_tag tag head = ((tag_of head).group == tag.group) && ((tag_of head).element == tag.element)
 
 abbrev pub is_item : List ℕ → Bool
-is_item head = is_tag 0xfffe 0xe000 head
+is_item head = is_tag item_tag head
 
 abbrev pub is_item_end : List ℕ → Bool
-is_item_end head = is_tag 0xfffe 0xe00d head
+is_item_end head = is_tag item_end_tag head
 
 abbrev pub is_sequence_end : List ℕ → Bool
-is_sequence_end head = is_tag 0xfffe 0xe0dd head
+is_sequence_end head = is_tag sequence_end_tag head
 
 -- no byte is left: of the nearest enclosing length, or of the whole where there is none
 abbrev pub no_byte_left : Option ℕ → List ℕ → Bool

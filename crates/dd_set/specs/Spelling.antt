@@ -37,15 +37,25 @@ shape_text (Some vr) n = letters_of vr ++ (if is_long_of vr then 0 ∷ 0 ∷ lit
 abbrev pub header_text : Tag → Option Vr → ℕ → List ℕ
 header_text t vr n = tag_text t ++ shape_text vr n
 
--- the tag of an item (FFFE,E000), the end of an item (FFFE,E00D) and that of a sequence (FFFE,E0DD), both of length 0
+-- the tags of an item, of its end and of the end of a sequence
+abbrev pub item_tag : Tag
+item_tag = record { group = delimiter_group; element = 0xe000 }
+
+abbrev pub item_end_tag : Tag
+item_end_tag = record { group = delimiter_group; element = 0xe00d }
+
+abbrev pub sequence_end_tag : Tag
+sequence_end_tag = record { group = delimiter_group; element = 0xe0dd }
+
+-- what an item begins with, and both ends, whose length is 0
 abbrev pub item_tag_text : List ℕ
-item_tag_text = 0xfe ∷ 0xff ∷ 0x00 ∷ 0xe0 ∷ []
+item_tag_text = tag_text item_tag
 
 abbrev pub item_end_text : List ℕ
-item_end_text = 0xfe ∷ 0xff ∷ 0x0d ∷ 0xe0 ∷ 0 ∷ 0 ∷ 0 ∷ 0 ∷ []
+item_end_text = header_text item_end_tag None 0
 
 abbrev pub sequence_end_text : List ℕ
-sequence_end_text = 0xfe ∷ 0xff ∷ 0xdd ∷ 0xe0 ∷ 0 ∷ 0 ∷ 0 ∷ 0 ∷ []
+sequence_end_text = header_text sequence_end_tag None 0
 
 -- the length that a header gives to these contents, and the contents with the mark that ends them where they want one
 abbrev pub length_of : Length → List ℕ → ℕ

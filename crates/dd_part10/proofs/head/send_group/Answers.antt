@@ -1,8 +1,8 @@
 use Rattle.std.proofs.Common.{◌++◌, sym}
 use Rattle.std.proofs.lemmas.Result.{err_from_is_err_and}
 use Rattle.dd_set.proofs.Going.{first_fails, then_sends, sends_same}
-use Rattle.dd_part10.specs.Head.{uids_text, version_text}
-use Rattle.dd_part10.proofs.Heads.{group_parts}
+use Rattle.dd_part10.specs.Head.{uids_text}
+use Rattle.dd_part10.proofs.Heads.{group_parts, version_text}
 use Rattle.dd_part10.proofs.head.send_group.Goals as goal
 
 pub returns-in_err-sent : goal.returns-in_err-sent
