@@ -16,8 +16,9 @@ use Rattle.dd_layout.specs.declared.record.PlanRecord.{PlanRecord}
 use Rattle.dd_layout.specs.Directory.{meta_of}
 use Rattle.dd_layout.specs.Layouts.{IsSound}
 use Rattle.dd_layout.specs.Plans.{records_of, size, tree}
+use Rattle.dd_layout.specs.Records.{IsRecord}
 use Rattle.dd_layout.proofs.DirectoryElements.{elements_are_valid}
-use Rattle.dd_dir.specs.Directories.{IsDirectory, IsRecord, directory_set, entries_of, first_root, last_root}
+use Rattle.dd_dir.specs.Directories.{IsDirectory, directory_set, entries_of, first_root, last_root}
 use Rattle.dd_dir.proofs.DirectoryTexts.{directory_length, sizes_sum}
 
 class_valid : IsUid (codes "1.2.840.10008.1.3.10")

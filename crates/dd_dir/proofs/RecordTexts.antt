@@ -11,9 +11,9 @@ use Rattle.dd_set.specs.Single.{part_text}
 use Rattle.dd_set.specs.Spelling.{item_tag_text, items_text}
 use Rattle.dd_set.proofs.Counting.{part_first}
 use Rattle.dd_layout.specs.declared.record.PlanRecord.{PlanRecord}
-use Rattle.dd_layout.specs.Records.{record_entries, record_part}
+use Rattle.dd_layout.specs.Records.{IsRecord, record_entries, record_part}
 use Rattle.dd_layout.specs.Sizes.{record_size}
-use Rattle.dd_dir.specs.Directories.{IsRecord, entries_by, entries_of}
+use Rattle.dd_dir.specs.Directories.{entries_by, entries_of}
 use Rattle.dd_dir.proofs.RowTexts.{text_of}
 
 -- the elements of a record have the keys of the version that was found

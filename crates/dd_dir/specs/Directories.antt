@@ -7,8 +7,7 @@ use Rattle.dd_keys.specs.declared.parts.Parts.{Parts}
 use Rattle.dd_part10.specs.File.{IsFile}
 use Rattle.dd_part10.specs.Head.{head_text}
 use Rattle.dd_set.specs.Elements.{Elements, Entry, elements_of}
-use Rattle.dd_set.specs.Spelling.{AreElements, elements_text}
-use Rattle.dd_set.specs.declared.syntax.Syntax.TheVariants.{Explicit}
+use Rattle.dd_set.specs.Spelling.{elements_text}
 use Rattle.dd_layout.specs.declared.label.Label.{Label}
 use Rattle.dd_layout.specs.declared.record.PlanRecord.{PlanRecord}
 use Rattle.dd_layout.specs.Directory.{directory_entries, meta_of}
@@ -32,10 +31,6 @@ entries_by row (Some version) = record_entries row.level row.next row.lower row.
 
 abbrev pub entries_of : List Parts → PlanRecord → List Entry
 entries_of versions row = entries_by row (slice_get versions row.of)
-
--- they are the elements of a data set, as an item of a sequence at the root may hold
-abbrev pub IsRecord : List Entry → Type 0
-IsRecord entries = AreElements Explicit 31 0 (elements_of entries)
 
 -- the elements of the directory of these versions, which are in harmony
 abbrev pub directory_set : Label → List Parts → Elements

@@ -1,6 +1,5 @@
 -- What a directory that is written here says of the images that it lists: their versions, and where their files are.
 use Rattle.std.specs.Prelude.{◌≡◌, ◌≢◌, ℕ, List, [], map, unwrap_or, Result, Ok, Err}
-use Rattle.dd_keys.specs.Values.{value_at}
 use Rattle.dd_keys.specs.declared.keys.PatientKeys.{PatientKeys}
 use Rattle.dd_keys.specs.declared.keys.SeriesKeys.{SeriesKeys}
 use Rattle.dd_keys.specs.declared.keys.StudyKeys.{StudyKeys}
@@ -13,10 +12,11 @@ use Rattle.dd_dir.specs.declared.own.Place.{Place}
 use Rattle.dd_dir.specs.declared.own_fault.OwnFault.{OwnFault}
 use Rattle.dd_dir.specs.declared.own_fault.OwnFault.TheVariants.{Memory}
 use Rattle.dd_dir.specs.Own.{Listed, digest_in}
+use Rattle.dd_dir.specs.Saying.{key_of}
 
 -- the value of the element of a row without its padding, and nothing where there is none
 abbrev pub held : Row → Elements → List ℕ
-held at set = unwrap_or (value_at at.tag set) []
+held at set = key_of at.tag set
 
 abbrev pub digest_of : Elements → List ℕ
 digest_of set = unwrap_or (digest_in set) []

@@ -4,6 +4,7 @@ use Rattle.std.specs.Prelude.{if◌then◌else◌}
 use Rattle.std.specs.Int.{w16, w32, from_le_bytes}
 use Rattle.dd_elem.specs.Clean.{clean_of}
 use Rattle.dd_elem.specs.declared.tag.Tag.{Tag}
+use Rattle.dd_keys.specs.Values.{value_at}
 use Rattle.dd_set.specs.Elements.{Elements, Content, bytes, items, Entry, Items, no_items, item}
 use Rattle.dd_set.specs.Find.{find_in}
 use Rattle.dd_layout.specs.Entries.{tag}
@@ -19,9 +20,9 @@ bytes_of (items form parts) = None
 abbrev pub value_of : Tag → Elements → Option (List ℕ)
 value_of wanted set = option_and_then (λ (e : Entry). bytes_of e.content) (find_in wanted set)
 
--- the same without its padding, and nothing where there is none
+-- its bytes without their padding, and nothing where there are none
 abbrev pub key_of : Tag → Elements → List ℕ
-key_of wanted set = clean_of (unwrap_or (value_of wanted set) [])
+key_of wanted set = unwrap_or (value_at wanted set) []
 
 -- the number that 4 bytes are, and whether 2 bytes are FFFFH
 abbrev pub number_of : List ℕ → Option ℕ

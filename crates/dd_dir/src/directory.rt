@@ -10,8 +10,8 @@ ghost use Rattle.dd_dir.specs.Saying.{id_in};
 
 use crate::fault::DirFault;
 use crate::slots::items_of;
-use crate::values::{number_at, value_of};
-use dd_elem::clean;
+use crate::values::number_at;
+use dd_keys::value_at;
 use dd_layout::{DIRECTORY_CLASS, DIRECTORY_SYNTAX, FIRST_ROOT, LAST_ROOT, RECORDS, SET_ID};
 use dd_part10::Meta;
 use dd_set::{DataSet, Item, Syntax};
@@ -73,7 +73,7 @@ pub(crate) fn directory_of<'a>(
 fn id_of<'a>(set: &DataSet<'a>) -> &'a [u8]
     ensures { result.now ≡ id_in (set_view set.now) }
 {
-    clean(value_of(set, SET_ID).unwrap_or(&[]))
+    value_at(set, SET_ID).unwrap_or(&[])
 }
 
 /// Moves these places by so many bytes.

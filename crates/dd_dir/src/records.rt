@@ -3,12 +3,12 @@
 ghost use Rattle.std.specs.Prelude.{◌+◌, ◌<◌, ◌^◌, All, IsOk, length, map};
 ghost use Rattle.std.specs.List.{AllByRecursion};
 ghost use Rattle.dd_layout.specs.Layouts.{IsSound};
-ghost use Rattle.dd_layout.specs.Records.{record_part};
+ghost use Rattle.dd_layout.specs.Records.{IsRecord, record_part};
 ghost use Rattle.dd_set.specs.Elements.{items_of};
 ghost use Rattle.dd_set.specs.Sends.{SendsTo};
 ghost use Rattle.dd_set.specs.Single.{part_text};
 ghost use Rattle.dd_set.specs.Spelling.{items_text};
-ghost use Rattle.dd_dir.specs.Directories.{IsRecord, entries_of};
+ghost use Rattle.dd_dir.specs.Directories.{entries_of};
 ghost use Rattle.dd_dir.specs.Keyed.{IsKeyed};
 
 use crate::cells::send_rows;

@@ -9,7 +9,7 @@ use dd_layout::FLAG_IN_USE;
 use dd_set::{DataSet, Value};
 
 /// The value of the element with this tag, where it is there and holds bytes.
-pub(crate) fn value_of<'a>(set: &DataSet<'a>, tag: Tag) -> Option<&'a [u8]>
+fn value_of<'a>(set: &DataSet<'a>, tag: Tag) -> Option<&'a [u8]>
     ensures { option_map (λ value. value.now) result ≡ value_of tag (set_view set.now) }
 {
     match set.find(tag)?.value {

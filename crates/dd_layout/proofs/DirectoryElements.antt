@@ -14,7 +14,7 @@ use Rattle.dd_set.proofs.Even.{length-element, length-items, length-item}
 use Rattle.dd_layout.specs.declared.label.Label.{Label}
 use Rattle.dd_layout.specs.Directory.{directory_entries, first_offset, meta_of, records_entry}
 use Rattle.dd_layout.specs.Entries.{tag, padded, long_entry, short_entry}
-use Rattle.dd_layout.specs.Records.{record_part}
+use Rattle.dd_layout.specs.Records.{IsRecord, record_part}
 use Rattle.dd_layout.specs.Sizes.{entries_size, record_size}
 use Rattle.dd_layout.proofs.Lengths.{length-padded, short_more}
 use Rattle.dd_layout.proofs.Valid.{one_valid, short_number}
@@ -58,8 +58,7 @@ length_is_of_records label first last records =
 
 -- ---- elements of a set
 
-items_valid : (records : List (List Entry))
-    → AllByRecursion (λ es. AreElements Explicit 31 0 (elements_of es)) records
+items_valid : (records : List (List Entry)) → AllByRecursion IsRecord records
     → sum_by record_size records < undefined_length
     → AreItems Explicit 32 (items_of (map record_part records))
 items_valid [] valid below = tt
@@ -91,10 +90,9 @@ directory_valid id first last parts few valid below =
     (omega arith, omega arith) d
 
 pub elements_are_valid : (id : List ℕ) (first last : ℕ) (records : List (List Entry)) → length id ≤ 16
-    → All (λ es. AreElements Explicit 31 0 (elements_of es)) records → sum_by record_size records < undefined_length
+    → All IsRecord records → sum_by record_size records < undefined_length
     → AreElements Explicit max_levels 0 (elements_of (directory_entries id first last (map record_part records)))
 elements_are_valid id first last records few valid below =
     let a = items_length records in
     directory_valid id first last (map record_part records) few
-    (items_valid records (recursion_from_All (λ es. AreElements Explicit 31 0 (elements_of es)) records valid)
-    below) (omega arith)
+    (items_valid records (recursion_from_All IsRecord records valid) below) (omega arith)

@@ -6,7 +6,7 @@ use Rattle.std.proofs.lemmas.Bool.{and_from, le-leb, ltb-false}
 use Rattle.std.proofs.lemmas.List.{length-map}
 use Rattle.dd_catalogue.proofs.Members.{Member}
 use Rattle.dd_catalogue.specs.Rising.{by_test}
-use Rattle.dd_elem.specs.FileId.{Ranks, AreRanks, IsRank, ranks_of}
+use Rattle.dd_elem.specs.FileId.{Ranks, AreRanks, IsRank, max_rank, ranks_of}
 use Rattle.dd_keys.specs.declared.parts.Parts.{Parts}
 use Rattle.dd_layout.specs.declared.level.Level.{Level}
 use Rattle.dd_layout.specs.declared.ranks.Counters.{Counters}
@@ -131,13 +131,13 @@ none_noted most rows before (x ∷ rest) e =
 
 -- the ranks of a row and of what is above it can stand in a File ID
 abbrev pub IsNumbered : List Path → Path → Type 0
-IsNumbered rows x = AllByRecursion (λ q. rank rows q ≤ 999999) (prefixes x)
+IsNumbered rows x = AllByRecursion (λ q. rank rows q ≤ max_rank) (prefixes x)
 
-rank_ok : (rows : List Path) (q : Path) → rank rows q ≤ 999999 → IsRank (rank rows q)
+rank_ok : (rows : List Path) (q : Path) → rank rows q ≤ max_rank → IsRank (rank rows q)
 rank_ok rows q h = (omega arith, h)
 
 rank_test : (n : ℕ) → IsRank n → is_rank n ≡ true
-rank_test n h = and_from _ _ (le-leb 1 n h.0) (le-leb n 999999 h.1)
+rank_test n h = and_from _ _ (le-leb 1 n h.0) (le-leb n max_rank h.1)
 
 file_given : (ranks : Ranks) → AreRanks ranks → file_if_ranks ranks ≡ Some ranks
 file_given ranks are =

@@ -5,7 +5,7 @@ use Rattle.std.proofs.Common.{refl, sym, ◌∙◌, ap, ap₂, subst, inl, inr, 
 use Rattle.std.proofs.lemmas.List.{append-nil, drop_all, take_all}
 use Rattle.std.proofs.lemmas.List.Elements.{All-from_recursion, All-map, All-same}
 use Rattle.dd_catalogue.proofs.Members.{Member}
-use Rattle.dd_elem.specs.FileId.{Ranks}
+use Rattle.dd_elem.specs.FileId.{Ranks, max_rank}
 use Rattle.dd_keys.specs.declared.parts.Parts.{Parts}
 use Rattle.dd_layout.specs.declared.level.Level.{Level}
 use Rattle.dd_layout.specs.declared.ranks.Counters.{Counters}
@@ -48,14 +48,14 @@ pass_crowded most versions records is =
 
 -- ---- where no level is crowded, each rank can stand in a File ID
 
-all_numbered : (most : ℕ) (versions : List Parts) (records : List PlanRecord) → most ≤ 999999
+all_numbered : (most : ℕ) (versions : List Parts) (records : List PlanRecord) → most ≤ max_rank
     → records ≡ map (bare_at versions) (tree versions)
     → noted_from most (counters_of 0 0 0 0) None records ≡ None
     → (x : Path) → Member x (tree versions) → IsNumbered (tree versions) x
 all_numbered most versions records few is none x i =
     let each = (none_noted most (tree versions) None (tree versions)
     (sym (noted_at most versions records is) ∙ none)).1 in
-    all_from (λ q. rank (tree versions) q ≤ 999999) (prefixes x) (λ q j.
+    all_from (λ q. rank (tree versions) q ≤ max_rank) (prefixes x) (λ q j.
     let at : rank (tree versions) q ≤ most =
     all_at (λ y. rank (tree versions) y ≤ most) (tree versions) q each ((tree_rows versions).above x i q j) in
     omega (arith, at, few))
@@ -76,7 +76,7 @@ walk_numbered versions front (x ∷ rest) are each is =
     ∙ ap (λ (l : List PlanRecord). numbered_at versions x ∷ l)
     (walk_numbered versions (front ++ x ∷ []) rest are each (is ∙ sym (append_assoc front (x ∷ []) rest)))
 
-pub pass_numbered : (most : ℕ) (versions : List Parts) (records : List PlanRecord) → most ≤ 999999
+pub pass_numbered : (most : ℕ) (versions : List Parts) (records : List PlanRecord) → most ≤ max_rank
     → records ≡ map (bare_at versions) (tree versions)
     → noted_from most (counters_of 0 0 0 0) None records ≡ None
     → numbered_from (counters_of 0 0 0 0) records ≡ map (numbered_at versions) (tree versions)
@@ -85,7 +85,7 @@ pass_numbered most versions records few is none =
     ∙ walk_numbered versions [] (tree versions) (tree_rows versions)
     (all_numbered most versions records few is none) refl
 
-pub pass_files : (most : ℕ) (versions : List Parts) (records : List PlanRecord) → most ≤ 999999
+pub pass_files : (most : ℕ) (versions : List Parts) (records : List PlanRecord) → most ≤ max_rank
     → records ≡ map (bare_at versions) (tree versions)
     → noted_from most (counters_of 0 0 0 0) None records ≡ None
     → All (λ row. IsFileOf row.level row.file) (numbered_from (counters_of 0 0 0 0) records)

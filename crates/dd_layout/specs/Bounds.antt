@@ -1,10 +1,6 @@
 -- The limits of a directory.
 use Rattle.std.specs.Prelude.{ℕ}
 
--- the highest rank, which six digits can say
-abbrev pub max_rank : ℕ
-max_rank = 999999
-
 -- the most bytes of the file, and the most records below one parent
 pub record Bounds : Type 0 where
   pub bytes : ℕ

@@ -2,11 +2,10 @@
 -- the parent now.
 use Rattle.std.specs.Prelude.{ℕ, ◌+◌, ◌&&◌, Bool, Option, None, Some, nat_le}
 use Rattle.std.specs.Prelude.{if◌then◌else◌}
-use Rattle.dd_elem.specs.FileId.{Ranks, ranks_of}
+use Rattle.dd_elem.specs.FileId.{Ranks, max_rank, ranks_of}
 use Rattle.dd_layout.specs.declared.level.Level.{Level}
 use Rattle.dd_layout.specs.declared.level.Level.TheVariants.{Patient, Study, Series, Image}
 use Rattle.dd_layout.specs.declared.ranks.Counters.{Counters}
-use Rattle.dd_layout.specs.Bounds.{max_rank}
 
 abbrev pub counters_of : (patient study series image : ℕ) → Counters
 counters_of patient study series image =

@@ -8,7 +8,9 @@ use Rattle.dd_keys.specs.declared.keys.PatientKeys.{PatientKeys}
 use Rattle.dd_keys.specs.declared.keys.SeriesKeys.{SeriesKeys}
 use Rattle.dd_keys.specs.declared.keys.StudyKeys.{StudyKeys}
 use Rattle.dd_set.specs.declared.syntax.Length.TheVariants.{Defined}
+use Rattle.dd_set.specs.declared.syntax.Syntax.TheVariants.{Explicit}
 use Rattle.dd_set.specs.Elements.{Entry, Part, elements_of}
+use Rattle.dd_set.specs.Spelling.{AreElements}
 use Rattle.dd_layout.specs.declared.level.Level.{Level}
 use Rattle.dd_layout.specs.declared.level.Level.TheVariants.{Patient, Study, Series, Image}
 use Rattle.dd_layout.specs.Entries.{tag, bytes_entry, text_entry, uid_entry, long_entry, short_entry}
@@ -91,3 +93,8 @@ record_entries level next lower file parts = link_entries next lower (kind_of le
 
 abbrev pub record_part : List Entry → Part
 record_part entries = record { length = Defined; set = elements_of entries }
+
+-- they are the elements of a data set, as an item of a sequence at the root may hold: below it items nest in at most 31
+-- levels, one fewer than below the data set of a file
+abbrev pub IsRecord : List Entry → Type 0
+IsRecord entries = AreElements Explicit 31 0 (elements_of entries)

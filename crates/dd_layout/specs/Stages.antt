@@ -3,13 +3,18 @@
 use Rattle.std.specs.Prelude.{ℕ, List, None}
 use Rattle.dd_keys.specs.declared.parts.Parts.{Parts}
 use Rattle.dd_layout.specs.declared.label.Label.{Label}
+use Rattle.dd_layout.specs.declared.level.Level.{Level}
 use Rattle.dd_layout.specs.declared.record.PlanRecord.{PlanRecord}
 use Rattle.dd_layout.specs.Paths.{Path}
 use Rattle.dd_layout.specs.Plans.{tree, level_of, least_below, file_of, at}
 
+-- a record of this level, of the version at this place
+abbrev pub bare_of : Level → ℕ → PlanRecord
+bare_of level place = record { level = level; at = 0; next = 0; lower = 0; file = None; of = place }
+
 -- the record of a path, of the version at this place
 abbrev pub bare : Path → ℕ → PlanRecord
-bare x place = record { level = level_of x; at = 0; next = 0; lower = 0; file = None; of = place }
+bare x place = bare_of (level_of x) place
 
 abbrev pub bare_at : List Parts → Path → PlanRecord
 bare_at versions x = bare x (least_below versions x)

@@ -7,7 +7,7 @@ ghost use Rattle.dd_set.specs.Spelling.{AreElements, max_levels, undefined_lengt
 ghost use Rattle.dd_set.specs.declared.syntax.Syntax.TheVariants.{Explicit};
 ghost use Rattle.dd_layout.specs.declared.label.Label.{Label};
 ghost use Rattle.dd_layout.specs.Directory.{directory_entries, first_offset, meta_of};
-ghost use Rattle.dd_layout.specs.Records.{record_part};
+ghost use Rattle.dd_layout.specs.Records.{IsRecord, record_part};
 ghost use Rattle.dd_layout.specs.Sizes.{entries_size, record_size};
 
 /// A directory has as many bytes as stand before its first record and its records take together,
@@ -23,6 +23,6 @@ pub fn directory_is_as_long_as_its_records()
 /// take fewer bytes than the mark of an undefined length. This states a law, and does nothing.
 pub fn directory_is_a_data_set()
     ensures { (id : List ℕ) (first last : ℕ) (records : List (List Entry)) → length id ≤ 16
-        → All (λ es. AreElements Explicit 31 0 (elements_of es)) records → sum_by record_size records < undefined_length
+        → All IsRecord records → sum_by record_size records < undefined_length
         → AreElements Explicit max_levels 0 (elements_of (directory_entries id first last (map record_part records))) }
 {}

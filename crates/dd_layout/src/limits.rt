@@ -1,7 +1,7 @@
 //! The limits of a directory.
 
 ghost use Rattle.std.specs.Prelude.{◌≤◌, SomeIff};
-ghost use Rattle.dd_layout.specs.Bounds.{max_rank};
+ghost use Rattle.dd_elem.specs.FileId.{max_rank};
 
 use dd_elem::FileId;
 use std::marker::Model;
@@ -15,7 +15,8 @@ pub struct Limits {
 
 impl Model for Limits {
     ghost use Rattle.std.specs.Prelude.{◌≤◌};
-    ghost use Rattle.dd_layout.specs.Bounds.{Bounds, max_rank};
+    ghost use Rattle.dd_elem.specs.FileId.{max_rank};
+    ghost use Rattle.dd_layout.specs.Bounds.{Bounds};
 
     ghost Value = { Bounds };
 

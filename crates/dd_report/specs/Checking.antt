@@ -16,7 +16,7 @@ use Rattle.dd_report.specs.declared.findings.Finding.{Finding}
 use Rattle.dd_report.specs.declared.findings.Finding.TheVariants.{BadId, Differs, Missing, Unreadable}
 use Rattle.dd_files.specs.Files.{Held}
 use Rattle.dd_report.specs.Finding.{NamesFile, compared, file_in}
-use Rattle.dd_report.specs.Listing.{count_in}
+use Rattle.dd_report.specs.Listing.{record_count}
 use Rattle.dd_files.specs.Paths.{IsPathIn, id_path}
 use Rattle.dd_report.specs.Telling.{GoesOn, Way, shown_line}
 
@@ -75,7 +75,7 @@ TellsBranch held folder branch text = (here : List ℕ) × (lower : List ℕ) ×
 -- behind the findings how many items no offset reaches, where there are some, and else that all is right, where
 -- nothing is found
 abbrev pub right_line : Walk → List ℕ
-right_line walk = shown_line (codes "OK " ∷ decimal (count_in walk.trees) ∷ codes " records" ∷ [])
+right_line walk = shown_line (codes "OK " ∷ decimal (record_count walk.trees) ∷ codes " records" ∷ [])
 
 abbrev pub unreached_line : ℕ → List ℕ
 unreached_line unreached = shown_line (codes "UNREACHED " ∷ decimal unreached ∷ [])

@@ -1,6 +1,6 @@
 -- What a check of a record finds of the file that it names (PS3.3 section F.3.2.2, Referenced File ID).
 use Rattle.std.proofs.Common.{inl, inr}
-use Rattle.std.specs.Prelude.{◌≡◌, ◌≢◌, ◌⊎◌, ℕ, ◌+◌, ◌≤◌, List, [], Option, None, Some, true, unwrap_or}
+use Rattle.std.specs.Prelude.{◌≡◌, ◌≢◌, ◌⊎◌, ℕ, ◌+◌, ◌≤◌, List, [], Option, None, Some, true}
 use Rattle.std.specs.Prelude.{if◌then◌else◌}
 use Rattle.std.specs.Borrow.{MutBor}
 use Rattle.std.specs.Io.KnownBytes.{Consumes}
@@ -10,17 +10,17 @@ use Rattle.dd_elem.specs.Device.{Gives}
 use Rattle.dd_elem.specs.FileIdForm.{IsFileId}
 use Rattle.dd_set.specs.Streams.{Ends}
 use Rattle.dd_set.specs.declared.end.End.TheVariants.{Ended}
-use Rattle.dd_keys.specs.Values.{value_at}
 use Rattle.dd_layout.specs.Entries.{tag}
 use Rattle.dd_dir.specs.Trees.{Node}
 use Rattle.dd_dir.specs.Own.{digest_in}
+use Rattle.dd_dir.specs.Saying.{key_of}
 use Rattle.dd_files.specs.ReadToEnd.{ReadAmiss}
 use Rattle.dd_report.specs.declared.findings.Finding.{Finding}
 use Rattle.dd_report.specs.declared.findings.Finding.TheVariants.{Differs, Missing, Unreadable}
 
 -- the File ID of a record, without its padding: no bytes where it has none
 abbrev pub file_in : Node → List ℕ
-file_in node = unwrap_or (value_at (tag 0x0004 0x1500) node.set) []
+file_in node = key_of (tag 0x0004 0x1500) node.set
 
 -- it is in use, and names a file
 abbrev pub NamesFile : Node → Type 0

@@ -60,12 +60,12 @@ abbrev pub branch_lines : ℕ → Branch → List ℕ
 branch_lines level branch = record_line level branch.node ++ lines_of (counted level) branch.below
 
 -- how many records there are, as a count
-abbrev pub count_in : Trees → ℕ
-count_in trees = min (length (places trees)) last_count
+abbrev pub record_count : Trees → ℕ
+record_count trees = min (length (places trees)) last_count
 
 abbrev pub totals_line : Walk → List ℕ
 totals_line walk = shown_line (
-    decimal (count_in walk.trees) ∷ codes " records, " ∷ decimal walk.unreached ∷ codes " unreached" ∷ [])
+    decimal (record_count walk.trees) ∷ codes " records, " ∷ decimal walk.unreached ∷ codes " unreached" ∷ [])
 
 abbrev pub listing_text : Walk → List ℕ
 listing_text walk = lines_of 0 walk.trees ++ totals_line walk

@@ -10,7 +10,7 @@ ghost use Rattle.dd_report.specs.Text.{TakesAll};
 
 use crate::findings::{Finding, file_in, finding_of, id_of, unopened};
 use crate::line_buffer::LineBuffer;
-use crate::listing::count_in;
+use crate::listing::record_count;
 use dd_dir::{Forest, Tree};
 use dd_elem::{Memory, Write};
 use dd_files::{Files, SOURCE_LIMIT, digest_text, file_path};
@@ -99,7 +99,7 @@ fn tell_end<W: Write>(
     if found {
         return Ok(());
     }
-    let records = number.format(count_in(&forest.trees)).as_bytes();
+    let records = number.format(record_count(&forest.trees)).as_bytes();
     lines.add_line(&[b"OK ", records, b" records"], to)
 }
 

@@ -2,8 +2,8 @@
 ghost use Rattle.std.specs.Prelude.{◌≡◌, OnErr, OnOk};
 ghost use Rattle.dd_dir.specs.ForestViews.{tree_view, trees_view, walk_view};
 ghost use Rattle.dd_elem.specs.Device.{counted};
-ghost use Rattle.dd_report.specs.Listing.{branch_lines, count_in, flag_of, label_of, label_tag, lines_of, listing_text};
-ghost use Rattle.dd_report.specs.Listing.{record_line, spaced, totals_line};
+ghost use Rattle.dd_report.specs.Listing.{branch_lines, flag_of, label_of, label_tag, lines_of, listing_text};
+ghost use Rattle.dd_report.specs.Listing.{record_count, record_line, spaced, totals_line};
 ghost use Rattle.dd_report.specs.Telling.{Tells, shown_line, way};
 ghost use Rattle.dd_report.specs.Text.{FailsAmid, TakesAll};
 
@@ -136,15 +136,15 @@ fn list_totals<W: Write>(forest: &Forest<'_>, lines: &mut LineBuffer, to: &mut W
         (way lines.new (W.contents to.new) (W.failures to.new)) }
 {
     let (mut count, mut unreached) = (Buffer::new(), Buffer::new());
-    let count = count.format(count_in(&forest.trees)).as_bytes();
+    let count = count.format(record_count(&forest.trees)).as_bytes();
     let unreached = unreached.format(forest.unreached).as_bytes();
     lines.add_line(&[count, b" records, ", unreached, b" unreached"], to)
 }
 
 /// How many records there are in these trees, as a count.
 #[cycle(counts)]
-pub(crate) fn count_in(trees: &[Tree<'_>]) -> u64
-    ensures { result ≡ count_in (trees_view trees.now) }
+pub(crate) fn record_count(trees: &[Tree<'_>]) -> u64
+    ensures { result ≡ record_count (trees_view trees.now) }
 {
     let mut count: u64 = 0;
     for tree in trees {
@@ -156,7 +156,7 @@ pub(crate) fn count_in(trees: &[Tree<'_>]) -> u64
 /// How many records there are in this tree, as a count.
 #[cycle(counts)]
 fn count_of(tree: &Tree<'_>) -> u64
-    ensures { result ≡ counted (count_in (tree_view tree.now).below) }
+    ensures { result ≡ counted (record_count (tree_view tree.now).below) }
 {
-    count_in(&tree.below).saturating_add(1)
+    record_count(&tree.below).saturating_add(1)
 }

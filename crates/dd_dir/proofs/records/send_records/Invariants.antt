@@ -1,7 +1,8 @@
 use Rattle.std.proofs.Common.{drop, map}
 use Rattle.std.specs.List.{AllByRecursion}
 use Rattle.dd_set.proofs.Going.{GoesOn}
-use Rattle.dd_dir.specs.Directories.{IsRecord, entries_of}
+use Rattle.dd_layout.specs.Records.{IsRecord}
+use Rattle.dd_dir.specs.Directories.{entries_of}
 use Rattle.dd_dir.specs.Keyed.{IsKeyed}
 use Rattle.dd_dir.proofs.RecordTexts.{records_text}
 use Rattle.dd_dir.proofs.records.send_records.Given as goal
