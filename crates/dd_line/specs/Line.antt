@@ -49,11 +49,15 @@ some_paths name = record (one_path name) {
   range = Some (record { start_inclusive = 1; end_inclusive = 18446744073709551615 });
 }
 
--- a command that writes a directory: `[--id ID] [--uid UID] [--max-bytes N] OUT`
-abbrev pub writing_app : Text → App
-writing_app name = with_rule (with_rule (with_rule (with_rule (new_app name)
+-- a command that labels a directory: `[--id ID] [--uid UID]`
+abbrev pub labelled_app : Text → App
+labelled_app name = with_rule (with_rule (new_app name)
     (text_option (codes "id")))
-    (text_option (codes "uid")))
+    (text_option (codes "uid"))
+
+-- one that writes it: `[--id ID] [--uid UID] [--max-bytes N] OUT`
+abbrev pub writing_app : Text → App
+writing_app name = with_rule (with_rule (labelled_app name)
     (number_option (codes "max-bytes")))
     (one_path (codes "out"))
 

@@ -4,14 +4,28 @@ ghost use Rattle.std.specs.Prelude.{IfErr, IfOk, IsOk, MatchResult, codes, lengt
 ghost use Rattle.clap.specs.Words.{fault_of, first_of, found_of, rows_of, takes};
 ghost use Rattle.clap.specs.Words.{subcommand_of, subcommand_rows_of};
 ghost use Rattle.dd_line.specs.Line.{Asks, HasApp, HasLimit, HasRule, IsAsked, IsLimit, IsRefusedFor, NamesCommand};
-ghost use Rattle.dd_line.specs.Line.{dicomdir_app, given_for, given_paths, index_app, least_paths, number_option};
-ghost use Rattle.dd_line.specs.Line.{one_path, some_paths, text_option, verb_name, words_of, writing_app};
-ghost use Rattle.dd_line.specs.Line.{AsksForOneSet, GivesOneSet, OnlyReads, merge_app, reading_app};
+ghost use Rattle.dd_line.specs.Line.{dicomdir_app, given_for, given_paths, index_app, labelled_app, least_paths};
+ghost use Rattle.dd_line.specs.Line.{number_option, one_path, some_paths, text_option, verb_name, words_of};
+ghost use Rattle.dd_line.specs.Line.{AsksForOneSet, GivesOneSet, OnlyReads, merge_app, reading_app, writing_app};
 
 use clap::error::ErrorKind;
 use clap::{Arg, ArgMatches, Command, value_parser};
 use std::alloc::{AllocError, Global};
 use thiserror::Error;
+
+// The names of the options.
+const ID: &str = "id";
+
+const UID: &str = "uid";
+
+const MAX_BYTES: &str = "max-bytes";
+
+// The names of the paths.
+const OUT: &str = "out";
+
+const SOURCE: &str = "source";
+
+const SET: &str = "set";
 
 /// A command of the program.
 #[derive(Clone, Copy, Debug, PartialEq, Eq)]
@@ -111,33 +125,40 @@ fn paths<'a>(alloc: Global, name: &'a str, value_name: &'a str, help: &'a str) -
     path(alloc, name, value_name, help).num_args(1..)
 }
 
-/// A command that writes a directory, with its options and the folder that it writes to.
-fn writing<'a>(alloc: Global, name: &'a str, about: &'a str) -> Result<Command<'a>, AllocError>
-    ensures { IfOk result (HasApp (writing_app name.entry.now)) }
+/// A command that labels a directory, with the options for that.
+fn labelled<'a>(alloc: Global, name: &'a str, about: &'a str) -> Result<Command<'a>, AllocError>
+    ensures { IfOk result (HasApp (labelled_app name.entry.now)) }
 {
     Command::new(alloc, name)
         .about(about)
         .arg(option(
             alloc,
-            "id",
+            ID,
             "ID",
             "ID of the file-set, such as DISC1; by default empty",
         ))?
         .arg(option(
             alloc,
-            "uid",
+            UID,
             "UID",
             "UID of the file-set; by default made from its content",
-        ))?
+        ))
+}
+
+/// A command that writes a directory, with its options and the folder that it writes to.
+fn writing<'a>(alloc: Global, name: &'a str, about: &'a str) -> Result<Command<'a>, AllocError>
+    ensures { IfOk result (HasApp (writing_app name.entry.now)) }
+{
+    labelled(alloc, name, about)?
         .arg(number(
             alloc,
-            "max-bytes",
+            MAX_BYTES,
             "N",
             "Most bytes of DICOMDIR; by default 4294967295",
         ))?
         .arg(path(
             alloc,
-            "out",
+            OUT,
             "OUT",
             "New folder, or one with no DICOMDIR; no file there is overwritten",
         ))
@@ -150,7 +171,7 @@ fn index_command<'a>(alloc: Global) -> Result<Command<'a>, AllocError>
     let about = "Makes a file-set of image files: copies them, writes its DICOMDIR";
     writing(alloc, "index", about)?.arg(paths(
         alloc,
-        "source",
+        SOURCE,
         "SRC",
         "DICOM files; one that is no image, or lacks a key, is skipped",
     ))
@@ -163,7 +184,7 @@ fn merge_command<'a>(alloc: Global) -> Result<Command<'a>, AllocError>
     let about = "Makes a file-set of others: copies their images, writes its DICOMDIR";
     writing(alloc, "merge", about)?.arg(paths(
         alloc,
-        "set",
+        SET,
         "SET",
         "Folders with a DICOMDIR of this program each; they are only read",
     ))
@@ -175,7 +196,7 @@ fn reading<'a>(alloc: Global, name: &'a str, about: &'a str) -> Result<Command<'
 {
     Command::new(alloc, name).about(about).arg(path(
         alloc,
-        "set",
+        SET,
         "SET",
         "Folder of the file-set; nothing in it is changed",
     ))
@@ -232,7 +253,7 @@ fn limit_of(given: &ArgMatches<'_>) -> u32
     requires { HasLimit (rows_of (found_of given.now)) }
     ensures { IsLimit (first_of (codes "max-bytes") (rows_of (found_of given.now))) result }
 {
-    given.get_one::<u32>("max-bytes").unwrap_or(u32::MAX)
+    given.get_one::<u32>(MAX_BYTES).unwrap_or(u32::MAX)
 }
 
 /// Appends the values of an argument.
@@ -257,9 +278,9 @@ fn paths_of(alloc: Global, given: &ArgMatches<'_>) -> Result<Vec<String>, AllocE
     ensures { IfOk result (λ paths. words_of paths.items ≡ given_paths (rows_of (found_of given.now))) }
 {
     let mut paths = Vec::new(alloc);
-    append_values(alloc, given, "out", &mut paths)?;
-    append_values(alloc, given, "source", &mut paths)?;
-    append_values(alloc, given, "set", &mut paths)?;
+    append_values(alloc, given, OUT, &mut paths)?;
+    append_values(alloc, given, SOURCE, &mut paths)?;
+    append_values(alloc, given, SET, &mut paths)?;
     Ok(paths)
 }
 
@@ -274,8 +295,8 @@ fn asked_by(alloc: Global, verb: Verb, given: &ArgMatches<'_>) -> Result<Asked, 
 {
     Ok(Asked {
         verb,
-        id: value_of(alloc, given, "id")?,
-        uid: value_of(alloc, given, "uid")?,
+        id: value_of(alloc, given, ID)?,
+        uid: value_of(alloc, given, UID)?,
         max_bytes: limit_of(given),
         paths: paths_of(alloc, given)?,
     })
