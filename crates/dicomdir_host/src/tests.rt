@@ -142,25 +142,51 @@ fn read(
     }
 }
 
+// Makes a call or prepares the disc for one, and adds what that came to.
+fn tell(
+    alloc: Global,
+    disc: &RefCell<Disc>,
+    files: &mut HostFiles<'_, DiscFiles<'_>>,
+    call: &str,
+    said: &mut String,
+) -> Result<(), Fail> {
+    let (verb, what) = call.split_once(' ').unwrap_or((call, ""));
+    if verb == "read" {
+        return read(alloc, files, what, said);
+    }
+    let sign = if prepare(disc, verb, what)? {
+        '.'
+    } else if is_done(files, verb, what) {
+        '+'
+    } else {
+        '-'
+    };
+    Ok(said.push(sign)?)
+}
+
+// The same of all these calls, with a space between two.
+fn tell_all(
+    alloc: Global,
+    disc: &RefCell<Disc>,
+    files: &mut HostFiles<'_, DiscFiles<'_>>,
+    calls: &str,
+    said: &mut String,
+) -> Result<(), Fail> {
+    for call in calls.split(", ") {
+        if !said.is_empty() {
+            said.push(' ')?;
+        }
+        tell(alloc, disc, files, call, said)?;
+    }
+    Ok(())
+}
+
 // What the calls came to.
 fn told(alloc: Global, disc: &RefCell<Disc>, calls: &str) -> Result<String, Fail> {
     let rt = DiscFiles(disc);
     let mut files = HostFiles::new(alloc, &rt);
     let mut said = String::new(alloc);
-    for call in calls.split(", ") {
-        let (verb, what) = call.split_once(' ').unwrap_or((call, ""));
-        if !said.is_empty() {
-            said.push(' ')?;
-        }
-        if verb == "read" {
-            read(alloc, &mut files, what, &mut said)?;
-        } else if prepare(disc, verb, what)? {
-            said.push('.')?;
-        } else {
-            let is_done = is_done(&mut files, verb, what);
-            said.push(if is_done { '+' } else { '-' })?;
-        }
-    }
+    tell_all(alloc, disc, &mut files, calls, &mut said)?;
     Ok(said)
 }
 
@@ -208,24 +234,37 @@ fn sample(alloc: Global) -> Result<Vec<u8>, Fail> {
     Ok(bytes)
 }
 
+// Writes the bytes in pieces to a new file, and ends it.
+fn is_written(files: &mut HostFiles<'_, DiscFiles<'_>>, bytes: &[u8]) -> bool {
+    if files.create("a").is_err() {
+        return false;
+    }
+    for piece in bytes.chunks(777) {
+        if !write_all(files, piece) {
+            return false;
+        }
+    }
+    files.finish().is_ok()
+}
+
+// Does that file give these bytes?
+fn gives(
+    alloc: Global,
+    files: &mut HostFiles<'_, DiscFiles<'_>>,
+    bytes: &[u8],
+) -> Result<bool, Fail> {
+    let Ok(mut reader) = files.source("a") else {
+        return Err("not there".into());
+    };
+    let found = all_of(alloc, &mut reader)?.ok_or("not read")?;
+    Ok(found.as_slice() == bytes)
+}
+
 fn comes_back(alloc: Global, bytes: &[u8]) -> Result<bool, Fail> {
     let disc = RefCell::new(Disc::new(alloc));
     let rt = DiscFiles(&disc);
     let mut files = HostFiles::new(alloc, &rt);
-    if files.create("a").is_err() {
-        return Ok(false);
-    }
-    for piece in bytes.chunks(777) {
-        if !write_all(&mut files, piece) {
-            return Ok(false);
-        }
-    }
-    if files.finish().is_err() {
-        return Ok(false);
-    }
-    let mut reader = files.source("a").map_err(|_| "not there")?;
-    let found = all_of(alloc, &mut reader)?.ok_or("not read")?;
-    Ok(found.as_slice() == bytes)
+    Ok(is_written(&mut files, bytes) && gives(alloc, &mut files, bytes)?)
 }
 
 #[test]

@@ -1,7 +1,7 @@
 //! Which versions and which catalogues are equal, and which catalogues are empty.
 
+use crate::cases::{Ask, ask_all};
 use dd_samples::{image, taken};
-use dd_vectors::{answered, question};
 use std::alloc::Global;
 use std::test::Fail;
 
@@ -23,33 +23,28 @@ const CATALOGUES: &str = "\
 a=b > false false
 A=B > false false";
 
-fn versions(alloc: Global, case: &str) -> Result<String, Fail> {
-    let mut letters = question(case).chars();
+pub(crate) fn versions(alloc: Global, question: &str) -> Result<String, Fail> {
+    let mut letters = question.chars();
     let left = image(alloc, letters.next().ok_or("no letter")?)?;
     let right = image(alloc, letters.next_back().ok_or("no letter")?)?;
-    Ok(answered(alloc, case, &(left == right))?)
+    let are_equal = left == right;
+    Ok(format!(in alloc; "{are_equal}")?)
 }
 
 #[test]
 fn versions_of_the_same_parts_are_equal(rt: HostRuntime) -> Result<(), Fail> {
-    for case in VERSIONS.split('\n') {
-        assert_eq!(rt; versions(rt.alloc(), case)?.as_str(), case);
-    }
-    Ok(())
+    ask_all(&rt, rt.alloc(), Ask::Versions, VERSIONS)
 }
 
-fn catalogues(alloc: Global, case: &str) -> Result<String, Fail> {
-    let (left, right) = question(case).split_once('=').ok_or("one catalogue")?;
+pub(crate) fn catalogues(alloc: Global, question: &str) -> Result<String, Fail> {
+    let (left, right) = question.split_once('=').ok_or("one catalogue")?;
     let first = taken(alloc, left)?;
     let are_equal = first == taken(alloc, right)?;
     let is_empty = first.is_empty();
-    Ok(answered(alloc, case, &format_args!("{are_equal} {is_empty}"))?)
+    Ok(format!(in alloc; "{are_equal} {is_empty}")?)
 }
 
 #[test]
 fn catalogues_of_the_same_versions_are_equal(rt: HostRuntime) -> Result<(), Fail> {
-    for case in CATALOGUES.split('\n') {
-        assert_eq!(rt; catalogues(rt.alloc(), case)?.as_str(), case);
-    }
-    Ok(())
+    ask_all(&rt, rt.alloc(), Ask::Catalogues, CATALOGUES)
 }

@@ -1,12 +1,13 @@
 //! Joins of versions, of catalogues and of histories.
 
+use crate::cases::{Ask, Claim, ask_all, claim_all};
 use dd_catalogue::{
     Catalogue, History, best_is_best, best_is_one, best_of_bests, build, build_order_is_free,
     equal_is_same, gather, gather_order_is_free, join_is_lawful, join_order_is_free,
 };
 use dd_keys::Version;
 use dd_samples::{images, taken};
-use dd_vectors::{answered, question, text_of};
+use dd_vectors::text_of;
 use std::alloc::Global;
 use std::test::Fail;
 
@@ -70,48 +71,45 @@ fn holds_four(alloc: Global, catalogue: &Catalogue) -> Result<bool, Fail> {
     Ok(*catalogue == four && catalogue.copy()? == four)
 }
 
+pub(crate) fn merge_to_four(alloc: Global, groups: &str) -> Result<bool, Fail> {
+    holds_four(alloc, &merged(alloc, groups)?)
+}
+
 #[test]
 fn merges_have_no_order(rt: HostRuntime) -> Result<(), Fail> {
-    for groups in FOUR.split(' ') {
-        let found = merged(rt.alloc(), groups)?;
-        assert!(rt; holds_four(rt.alloc(), &found)?, "of {groups}");
-    }
-    Ok(())
+    claim_all(&rt, rt.alloc(), Claim::MergeToFour, (FOUR, ' '))
+}
+
+pub(crate) fn gather_to_four(alloc: Global, groups: &str) -> Result<bool, Fail> {
+    holds_four(alloc, &gathered(alloc, groups)?)
 }
 
 #[test]
 fn joins_have_no_order(rt: HostRuntime) -> Result<(), Fail> {
-    for groups in FOUR.split(' ') {
-        let found = gathered(rt.alloc(), groups)?;
-        assert!(rt; holds_four(rt.alloc(), &found)?, "of {groups}");
-    }
-    Ok(())
+    claim_all(&rt, rt.alloc(), Claim::GatherToFour, (FOUR, ' '))
+}
+
+pub(crate) fn build_to_four(alloc: Global, groups: &str) -> Result<bool, Fail> {
+    holds_four(alloc, &built(alloc, groups)?)
 }
 
 #[test]
 fn histories_give_the_best_that_they_took(rt: HostRuntime) -> Result<(), Fail> {
-    for groups in FOUR.split(' ') {
-        let found = built(rt.alloc(), groups)?;
-        assert!(rt; holds_four(rt.alloc(), &found)?, "of {groups}");
-    }
-    Ok(())
+    claim_all(&rt, rt.alloc(), Claim::BuildToFour, (FOUR, ' '))
 }
 
 /// The description of the first version, joined with the others.
-fn described(alloc: Global, case: &str) -> Result<String, Fail> {
-    let mut versions = images(alloc, question(case))?;
+pub(crate) fn described(alloc: Global, question: &str) -> Result<String, Fail> {
+    let mut versions = images(alloc, question)?;
     let (first, rest) = versions.split_first_mut().ok_or("there is none")?;
     gather(first, rest)?;
     let description = text_of(alloc, first.parts().study.description.as_bytes())?;
-    Ok(answered(alloc, case, &description)?)
+    Ok(format!(in alloc; "{description}")?)
 }
 
 #[test]
 fn the_join_of_versions_is_the_greater_one(rt: HostRuntime) -> Result<(), Fail> {
-    for case in DESCRIBED.split('\n') {
-        assert_eq!(rt; described(rt.alloc(), case)?.as_str(), case);
-    }
-    Ok(())
+    ask_all(&rt, rt.alloc(), Ask::Described, DESCRIBED)
 }
 
 /// The laws are proved; they hold of the types that are joined.

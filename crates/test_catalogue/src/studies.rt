@@ -1,9 +1,10 @@
 //! Conflicts between the versions of a catalogue, and the keys on which they agree in harmony.
 
+use crate::cases::{Ask, ask_all};
 use dd_catalogue::Catalogue;
 use dd_keys::Parts;
 use dd_samples::taken;
-use dd_vectors::{answered, question, text_of};
+use dd_vectors::text_of;
 use std::alloc::Global;
 use std::test::Fail;
 
@@ -23,20 +24,17 @@ AC > 1.2.3.4.5 101500 'B, 1.2.3.4.6 101500 'B
 ZL > 1.2.3.4.5 101600 'A, 1.2.3.4.6 101600 'A
 Z4 > 1.2.3.4.5 101500 'Z, 1.2.9.1.1 101500 '";
 
-fn conflict(alloc: Global, case: &str) -> Result<String, Fail> {
-    let catalogue = taken(alloc, question(case))?;
+pub(crate) fn conflict(alloc: Global, question: &str) -> Result<String, Fail> {
+    let catalogue = taken(alloc, question)?;
     match catalogue.conflict()? {
-        Some((first, second)) => Ok(answered(alloc, case, &format_args!("{first} {second}"))?),
-        None => Ok(answered(alloc, case, &"none")?),
+        Some((first, second)) => Ok(format!(in alloc; "{first} {second}")?),
+        None => Ok(String::from_str(alloc, "none")?),
     }
 }
 
 #[test]
 fn the_least_instances_that_conflict(rt: HostRuntime) -> Result<(), Fail> {
-    for case in CONFLICTS.split('\n') {
-        assert_eq!(rt; conflict(rt.alloc(), case)?.as_str(), case);
-    }
-    Ok(())
+    ask_all(&rt, rt.alloc(), Ask::Conflict, CONFLICTS)
 }
 
 /// Puts the instance, and the time and the description of its study, behind the text.
@@ -61,16 +59,13 @@ fn studies(alloc: Global, catalogue: &Catalogue) -> Result<String, Fail> {
     Ok(text)
 }
 
-fn harmony(alloc: Global, case: &str) -> Result<String, Fail> {
-    let catalogue = taken(alloc, question(case))?;
+pub(crate) fn harmony(alloc: Global, question: &str) -> Result<String, Fail> {
+    let catalogue = taken(alloc, question)?;
     let harmonised = catalogue.harmonise()?;
-    Ok(answered(alloc, case, &studies(alloc, &harmonised)?)?)
+    studies(alloc, &harmonised)
 }
 
 #[test]
 fn harmonised_versions_agree(rt: HostRuntime) -> Result<(), Fail> {
-    for case in HARMONIES.split('\n') {
-        assert_eq!(rt; harmony(rt.alloc(), case)?.as_str(), case);
-    }
-    Ok(())
+    ask_all(&rt, rt.alloc(), Ask::Harmony, HARMONIES)
 }

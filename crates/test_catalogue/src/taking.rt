@@ -1,10 +1,10 @@
 //! What a catalogue takes, hands back and keeps.
 
+use crate::cases::{Ask, ask_all};
 use dd_catalogue::{Catalogue, Refused, Took};
 use dd_elem::Uid;
 use dd_keys::Version;
 use dd_samples::{image, taken, told};
-use dd_vectors::{answered, question};
 use std::alloc::Global;
 use std::test::Fail;
 
@@ -51,39 +51,33 @@ fn push_held(alloc: Global, text: &mut String, catalogue: &Catalogue) -> Result<
     Ok(())
 }
 
-fn takes(alloc: Global, case: &str) -> Result<String, Fail> {
+pub(crate) fn takes(alloc: Global, question: &str) -> Result<String, Fail> {
     let mut catalogue = Catalogue::new(alloc);
     let mut text = String::new(alloc);
-    for letter in question(case).chars() {
+    for letter in question.chars() {
         text.push_str(take(alloc, &mut catalogue, image(alloc, letter)?)?.as_str())?;
         text.push_str("; ")?;
     }
     push_held(alloc, &mut text, &catalogue)?;
-    Ok(answered(alloc, case, &text)?)
+    Ok(format!(in alloc; "{text}")?)
 }
 
 #[test]
 fn the_greatest_version_of_each_instance_stays(rt: HostRuntime) -> Result<(), Fail> {
-    for case in TAKES.split('\n') {
-        assert_eq!(rt; takes(rt.alloc(), case)?.as_str(), case);
-    }
-    Ok(())
+    ask_all(&rt, rt.alloc(), Ask::Takes, TAKES)
 }
 
-fn got(alloc: Global, case: &str) -> Result<String, Fail> {
+pub(crate) fn got(alloc: Global, question: &str) -> Result<String, Fail> {
     let catalogue = taken(alloc, "12")?;
-    match catalogue.get(&Uid::new(question(case).as_bytes())?) {
-        Some(version) => Ok(answered(alloc, case, &told(alloc, version)?)?),
-        None => Ok(answered(alloc, case, &"none")?),
+    match catalogue.get(&Uid::new(question.as_bytes())?) {
+        Some(version) => told(alloc, version),
+        None => Ok(String::from_str(alloc, "none")?),
     }
 }
 
 #[test]
 fn versions_are_got_by_their_instances(rt: HostRuntime) -> Result<(), Fail> {
-    for case in GOT.split('\n') {
-        assert_eq!(rt; got(rt.alloc(), case)?.as_str(), case);
-    }
-    Ok(())
+    ask_all(&rt, rt.alloc(), Ask::Got, GOT)
 }
 
 /// How many instances the catalogue of these letters holds.

@@ -1,12 +1,12 @@
 //! UIDs of file-sets that follow from what they hold.
 
+use crate::cases::{Ask, ask_all};
 use crate::publishing::limits_of;
 use crate::sending::first_catalogue;
 use dd_catalogue::Catalogue;
 use dd_dir::derived_uid;
 use dd_elem::SetId;
 use dd_samples::taken;
-use dd_vectors::{answered, question};
 use std::alloc::Global;
 use std::test::Fail;
 
@@ -33,21 +33,18 @@ fn catalogue(alloc: Global, letters: &str) -> Result<Catalogue, Fail> {
     }
 }
 
-fn derived(alloc: Global, case: &str) -> Result<String, Fail> {
-    let mut words = question(case).split(' ');
+pub(crate) fn derived(alloc: Global, question: &str) -> Result<String, Fail> {
+    let mut words = question.split(' ');
     let catalogue = catalogue(alloc, words.next().ok_or("no images")?)?;
     let id = SetId::new(words.next().ok_or("no ID")?.as_bytes())?;
     let limits = limits_of(words.next().ok_or("no limit")?)?;
     match derived_uid(alloc, &catalogue, &id, limits) {
-        Ok(uid) => Ok(answered(alloc, case, &uid)?),
-        Err(fault) => Ok(answered(alloc, case, &fault)?),
+        Ok(uid) => Ok(format!(in alloc; "{uid}")?),
+        Err(fault) => Ok(format!(in alloc; "{fault}")?),
     }
 }
 
 #[test]
 fn file_sets_are_named_by_what_they_hold(rt: HostRuntime) -> Result<(), Fail> {
-    for case in DERIVED.split('\n') {
-        assert_eq!(rt; derived(rt.alloc(), case)?.as_str(), case);
-    }
-    Ok(())
+    ask_all(&rt, rt.alloc(), Ask::Derived, DERIVED)
 }

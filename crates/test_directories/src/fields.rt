@@ -1,5 +1,6 @@
 //! The elements of records, as they are read back.
 
+use crate::cases::{Claim, claim_all};
 use crate::publishing::published;
 use dd_dir::{Forest, Tree, catalogue_of, read_directory};
 use dd_elem::Sink;
@@ -79,19 +80,21 @@ fn has(alloc: Global, forest: &Forest<'_>, place: &str, elements: &str) -> Resul
     Ok(sink.bytes() == bytes_of(alloc, elements)?.as_slice())
 }
 
+/// Has the record of a case its elements in the directory of four images?
+pub(crate) fn has_elements(alloc: Global, case: &str) -> Result<bool, Fail> {
+    let (place, elements) = case.split_once(" > ").ok_or("no elements")?;
+    let bytes = published(alloc, "1234")?;
+    let forest = read_directory(alloc, &bytes)?;
+    has(alloc, &forest, place, elements)
+}
+
 #[test]
 fn elements_of_records(rt: HostRuntime) -> Result<(), Fail> {
-    let bytes = published(rt.alloc(), "1234")?;
-    let forest = read_directory(rt.alloc(), &bytes)?;
-    for case in ELEMENTS.split('\n') {
-        let (place, elements) = case.split_once(" > ").ok_or("no elements")?;
-        assert!(rt; has(rt.alloc(), &forest, place, elements)?, "of {place}");
-    }
-    Ok(())
+    claim_all(&rt, rt.alloc(), Claim::HasElements, (ELEMENTS, '\n'))
 }
 
 /// Is the catalogue of these images, in harmony, what their directory says of itself?
-fn says_itself(alloc: Global, letters: &str) -> Result<bool, Fail> {
+pub(crate) fn says_itself(alloc: Global, letters: &str) -> Result<bool, Fail> {
     let bytes = published(alloc, letters)?;
     let forest = read_directory(alloc, &bytes)?;
     Ok(catalogue_of(alloc, &forest)? == taken(alloc, letters)?.harmonise()?)
@@ -99,8 +102,10 @@ fn says_itself(alloc: Global, letters: &str) -> Result<bool, Fail> {
 
 #[test]
 fn directories_say_their_versions(rt: HostRuntime) -> Result<(), Fail> {
-    for letters in "1 1234 AC ZL pqr".split(' ') {
-        assert!(rt; says_itself(rt.alloc(), letters)?, "of {letters}");
-    }
-    Ok(())
+    claim_all(
+        &rt,
+        rt.alloc(),
+        Claim::SaysItself,
+        ("1 1234 AC ZL pqr", ' '),
+    )
 }

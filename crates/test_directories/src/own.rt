@@ -1,10 +1,10 @@
 //! Directories that are written here, read back: their catalogues, where their files are, and what they list.
 
+use crate::cases::{Ask, ask_all};
 use crate::walks::changed;
 use dd_catalogue::Catalogue;
 use dd_dir::{Own, Place, catalogue_of, own_of, places_of, read_directory};
 use dd_samples::told;
-use dd_vectors::{answered, question};
 use std::alloc::{AllocError, Global};
 use std::test::Fail;
 
@@ -67,21 +67,18 @@ fn instances(alloc: Global, catalogue: &Catalogue) -> Result<String, AllocError>
     Ok(text)
 }
 
-fn catalogue(alloc: Global, case: &str) -> Result<String, Fail> {
-    let bytes = changed(alloc, question(case))?;
+pub(crate) fn catalogue(alloc: Global, question: &str) -> Result<String, Fail> {
+    let bytes = changed(alloc, question)?;
     let forest = read_directory(alloc, &bytes)?;
     match catalogue_of(alloc, &forest) {
-        Ok(catalogue) => Ok(answered(alloc, case, &instances(alloc, &catalogue)?)?),
-        Err(fault) => Ok(answered(alloc, case, &fault)?),
+        Ok(catalogue) => Ok(instances(alloc, &catalogue)?),
+        Err(fault) => Ok(format!(in alloc; "{fault}")?),
     }
 }
 
 #[test]
 fn catalogues_of_directories(rt: HostRuntime) -> Result<(), Fail> {
-    for case in CATALOGUES.split('\n') {
-        assert_eq!(rt; catalogue(rt.alloc(), case)?.as_str(), case);
-    }
-    Ok(())
+    ask_all(&rt, rt.alloc(), Ask::Catalogue, CATALOGUES)
 }
 
 /// How many images there are, and the instance and the File ID of each.
@@ -95,21 +92,18 @@ fn files(alloc: Global, places: &[Place<'_>]) -> Result<String, Fail> {
     Ok(text)
 }
 
-fn places(alloc: Global, case: &str) -> Result<String, Fail> {
-    let bytes = changed(alloc, question(case))?;
+pub(crate) fn places(alloc: Global, question: &str) -> Result<String, Fail> {
+    let bytes = changed(alloc, question)?;
     let forest = read_directory(alloc, &bytes)?;
     match places_of(alloc, &forest) {
-        Ok(places) => Ok(answered(alloc, case, &files(alloc, &places)?)?),
-        Err(fault) => Ok(answered(alloc, case, &fault)?),
+        Ok(places) => files(alloc, &places),
+        Err(fault) => Ok(format!(in alloc; "{fault}")?),
     }
 }
 
 #[test]
 fn files_of_directories(rt: HostRuntime) -> Result<(), Fail> {
-    for case in PLACES.split('\n') {
-        assert_eq!(rt; places(rt.alloc(), case)?.as_str(), case);
-    }
-    Ok(())
+    ask_all(&rt, rt.alloc(), Ask::Places, PLACES)
 }
 
 /// How many images there are, and what is told of the version of each, with its File ID.
@@ -123,19 +117,16 @@ fn images(alloc: Global, own: &Own<'_>) -> Result<String, Fail> {
     Ok(text)
 }
 
-fn own(alloc: Global, case: &str) -> Result<String, Fail> {
-    let bytes = changed(alloc, question(case))?;
+pub(crate) fn own(alloc: Global, question: &str) -> Result<String, Fail> {
+    let bytes = changed(alloc, question)?;
     let forest = read_directory(alloc, &bytes)?;
     match own_of(alloc, &forest) {
-        Ok(own) => Ok(answered(alloc, case, &images(alloc, &own)?)?),
-        Err(fault) => Ok(answered(alloc, case, &fault)?),
+        Ok(own) => images(alloc, &own),
+        Err(fault) => Ok(format!(in alloc; "{fault}")?),
     }
 }
 
 #[test]
 fn images_of_directories(rt: HostRuntime) -> Result<(), Fail> {
-    for case in IMAGES.split('\n') {
-        assert_eq!(rt; own(rt.alloc(), case)?.as_str(), case);
-    }
-    Ok(())
+    ask_all(&rt, rt.alloc(), Ask::Own, IMAGES)
 }

@@ -1,12 +1,13 @@
 //! Directories of catalogues and of histories.
 
+use crate::cases::{Ask, Claim, ask_all, claim_all};
 use crate::sending::first_catalogue;
 use dd_catalogue::History;
 use dd_dir::{assemble, publish};
 use dd_elem::{SetId, Uid};
 use dd_layout::{Label, Limits};
 use dd_samples::{images, taken};
-use dd_vectors::{answered, bytes_of, first_directory, question, v2};
+use dd_vectors::{bytes_of, first_directory, v2};
 use std::alloc::Global;
 use std::test::Fail;
 
@@ -98,40 +99,30 @@ fn number(bytes: &[u8], place: usize) -> Result<u32, Fail> {
     Ok(u32::from_le_bytes(four.try_into()?))
 }
 
-fn front(alloc: Global, case: &str) -> Result<String, Fail> {
-    let bytes = published(alloc, question(case))?;
+pub(crate) fn front(alloc: Global, question: &str) -> Result<String, Fail> {
+    let bytes = published(alloc, question)?;
     let (first, last) = (number(&bytes, 282)?, number(&bytes, 294)?);
     let (size, length) = (bytes.len(), number(&bytes, 316)?);
-    Ok(answered(
-        alloc,
-        case,
-        &format_args!("{size}: {first} {last} {length}"),
-    )?)
+    Ok(format!(in alloc; "{size}: {first} {last} {length}")?)
 }
 
 #[test]
 fn roots_and_lengths(rt: HostRuntime) -> Result<(), Fail> {
-    for case in FRONTS.split('\n') {
-        assert_eq!(rt; front(rt.alloc(), case)?.as_str(), case);
-    }
-    Ok(())
+    ask_all(&rt, rt.alloc(), Ask::Front, FRONTS)
 }
 
-fn record(alloc: Global, case: &str) -> Result<String, Fail> {
-    let (letters, place) = question(case).split_once(' ').ok_or("no place")?;
+pub(crate) fn record(alloc: Global, question: &str) -> Result<String, Fail> {
+    let (letters, place) = question.split_once(' ').ok_or("no place")?;
     let (bytes, place) = (published(alloc, letters)?, place.parse::<usize>()?);
     let item = bytes.get(place..).ok_or("no record there")?;
     let (length, next) = (number(item, 4)?, number(item, 16)?);
     let lower = number(item, 38)?;
-    Ok(answered(alloc, case, &format_args!("{length}: {next} {lower}"))?)
+    Ok(format!(in alloc; "{length}: {next} {lower}")?)
 }
 
 #[test]
 fn lengths_and_links_of_records(rt: HostRuntime) -> Result<(), Fail> {
-    for case in RECORDS.split('\n') {
-        assert_eq!(rt; record(rt.alloc(), case)?.as_str(), case);
-    }
-    Ok(())
+    ask_all(&rt, rt.alloc(), Ask::Record, RECORDS)
 }
 
 /// Does the study of two images that tell different descriptions have the greater one?
@@ -146,20 +137,20 @@ fn a_study_has_one_description(rt: HostRuntime) -> Result<(), Fail> {
     Ok(())
 }
 
-fn limited(alloc: Global, case: &str) -> Result<String, Fail> {
-    let limits = limits_of(question(case))?;
+pub(crate) fn limited(alloc: Global, question: &str) -> Result<String, Fail> {
+    let limits = limits_of(question)?;
     match publish(alloc, &taken(alloc, "1")?, &label_of("")?, limits) {
-        Ok(bytes) => Ok(answered(alloc, case, &bytes.len())?),
-        Err(fault) => Ok(answered(alloc, case, &fault)?),
+        Ok(bytes) => {
+            let size = bytes.len();
+            Ok(format!(in alloc; "{size}")?)
+        }
+        Err(fault) => Ok(format!(in alloc; "{fault}")?),
     }
 }
 
 #[test]
 fn directories_keep_to_their_limits(rt: HostRuntime) -> Result<(), Fail> {
-    for case in LIMITS.split('\n') {
-        assert_eq!(rt; limited(rt.alloc(), case)?.as_str(), case);
-    }
-    Ok(())
+    ask_all(&rt, rt.alloc(), Ask::Limited, LIMITS)
 }
 
 /// The join of the batches with these letters.
@@ -172,7 +163,7 @@ fn history(alloc: Global, groups: &str) -> Result<History, Fail> {
 }
 
 /// Do these batches have the directory of the four images?
-fn have_four(alloc: Global, groups: &str) -> Result<bool, Fail> {
+pub(crate) fn have_four(alloc: Global, groups: &str) -> Result<bool, Fail> {
     let history = history(alloc, groups)?;
     let assembled = assemble(alloc, &history, &label_of("")?, limits_of("")?)?;
     Ok(assembled == published(alloc, "1234")?)
@@ -180,8 +171,5 @@ fn have_four(alloc: Global, groups: &str) -> Result<bool, Fail> {
 
 #[test]
 fn histories_have_no_order(rt: HostRuntime) -> Result<(), Fail> {
-    for groups in FOUR.split(' ') {
-        assert!(rt; have_four(rt.alloc(), groups)?, "of {groups}");
-    }
-    Ok(())
+    claim_all(&rt, rt.alloc(), Claim::HaveFour, (FOUR, ' '))
 }

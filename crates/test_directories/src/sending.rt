@@ -1,12 +1,13 @@
 //! Directories sent to a writer.
 
+use crate::cases::{Ask, ask_all};
 use crate::publishing::{label_of, limits_of};
 use dd_catalogue::Catalogue;
 use dd_dir::write_directory;
 use dd_elem::Sink;
 use dd_layout::{Plan, lay_out};
 use dd_samples::v1_version;
-use dd_vectors::{answered, first_directory, question};
+use dd_vectors::first_directory;
 use std::alloc::Global;
 use std::test::Fail;
 
@@ -54,18 +55,15 @@ fn held(alloc: Global, sink: &Sink) -> Result<usize, Fail> {
     }
 }
 
-fn directory(alloc: Global, case: &str) -> Result<String, Fail> {
-    let mut sink = Sink::new(alloc, Some(question(case).parse()?));
+pub(crate) fn directory(alloc: Global, question: &str) -> Result<String, Fail> {
+    let mut sink = Sink::new(alloc, Some(question.parse()?));
     sink.reserve(876)?;
     let answer = sent(alloc, &mut sink)?;
     let held = held(alloc, &sink)?;
-    Ok(answered(alloc, case, &format_args!("{answer} [{held}]"))?)
+    Ok(format!(in alloc; "{answer} [{held}]")?)
 }
 
 #[test]
 fn the_directory_of_v1(rt: HostRuntime) -> Result<(), Fail> {
-    for case in SENT.split('\n') {
-        assert_eq!(rt; directory(rt.alloc(), case)?.as_str(), case);
-    }
-    Ok(())
+    ask_all(&rt, rt.alloc(), Ask::Directory, SENT)
 }

@@ -1,8 +1,9 @@
 //! Directories of any producer, read.
 
+use crate::cases::{Ask, ask_all};
 use crate::publishing::{named, published};
 use dd_dir::{Forest, Tree, read_directory};
-use dd_vectors::{answered, deep, first_directory, put_words, question, v1, v2, v3};
+use dd_vectors::{deep, first_directory, put_words, v1, v2, v3};
 use std::alloc::Global;
 use std::test::Fail;
 
@@ -89,23 +90,20 @@ fn records(alloc: Global, forest: &Forest<'_>) -> Result<String, Fail> {
     Ok(text)
 }
 
-fn read(alloc: Global, case: &str) -> Result<String, Fail> {
-    let bytes = changed(alloc, question(case))?;
+pub(crate) fn read(alloc: Global, question: &str) -> Result<String, Fail> {
+    let bytes = changed(alloc, question)?;
     match read_directory(alloc, &bytes) {
         Ok(forest) => {
             let (records, unreached) = (records(alloc, &forest)?, forest.unreached);
-            Ok(answered(alloc, case, &format_args!("{records}{unreached}"))?)
+            Ok(format!(in alloc; "{records}{unreached}")?)
         }
-        Err(fault) => Ok(answered(alloc, case, &fault)?),
+        Err(fault) => Ok(format!(in alloc; "{fault}")?),
     }
 }
 
 #[test]
 fn walks_of_directories(rt: HostRuntime) -> Result<(), Fail> {
-    for case in CHANGED.split('\n') {
-        assert_eq!(rt; read(rt.alloc(), case)?.as_str(), case);
-    }
-    Ok(())
+    ask_all(&rt, rt.alloc(), Ask::Read, CHANGED)
 }
 
 /// How many levels a record and those below it have.
@@ -117,21 +115,19 @@ fn levels(tree: &Tree<'_>) -> u32 {
     most.saturating_add(1)
 }
 
-fn read_deep(alloc: Global, case: &str) -> Result<String, Fail> {
-    let bytes = deep(alloc, question(case).parse()?)?;
+pub(crate) fn read_deep(alloc: Global, question: &str) -> Result<String, Fail> {
+    let bytes = deep(alloc, question.parse()?)?;
     match read_directory(alloc, &bytes) {
         Ok(forest) => {
             let root = forest.trees.first().ok_or("no record")?;
-            Ok(answered(alloc, case, &levels(root))?)
+            let levels = levels(root);
+            Ok(format!(in alloc; "{levels}")?)
         }
-        Err(fault) => Ok(answered(alloc, case, &fault)?),
+        Err(fault) => Ok(format!(in alloc; "{fault}")?),
     }
 }
 
 #[test]
 fn levels_of_directories(rt: HostRuntime) -> Result<(), Fail> {
-    for case in DEEP.split('\n') {
-        assert_eq!(rt; read_deep(rt.alloc(), case)?.as_str(), case);
-    }
-    Ok(())
+    ask_all(&rt, rt.alloc(), Ask::ReadDeep, DEEP)
 }

@@ -1,9 +1,9 @@
 //! Heads of files, which are what stands before their data sets.
 
+use crate::cases::{Ask, ask_all};
 use crate::vectors::{file_named, meta_of};
 use dd_elem::Sink;
 use dd_part10::{Meta, head_size, write_head};
-use dd_vectors::{answered, question};
 use std::alloc::Global;
 use std::test::Fail;
 
@@ -36,32 +36,26 @@ fn sent(alloc: Global, meta: &Meta, bytes: &[u8], mut sink: Sink) -> Result<Stri
     Ok(format!(in alloc; "{size}, {answer} [{held}]")?)
 }
 
-fn head(alloc: Global, case: &str) -> Result<String, Fail> {
-    let bytes = file_named(alloc, question(case))?;
+pub(crate) fn head(alloc: Global, question: &str) -> Result<String, Fail> {
+    let bytes = file_named(alloc, question)?;
     let meta = meta_of(alloc, &bytes)?;
     let sink = Sink::new(alloc, None);
-    Ok(answered(alloc, case, &sent(alloc, &meta, &bytes, sink)?)?)
+    sent(alloc, &meta, &bytes, sink)
 }
 
 #[test]
 fn heads_of_files(rt: HostRuntime) -> Result<(), Fail> {
-    for case in HEADS.split('\n') {
-        assert_eq!(rt; head(rt.alloc(), case)?.as_str(), case);
-    }
-    Ok(())
+    ask_all(&rt, rt.alloc(), Ask::Head, HEADS)
 }
 
-fn cut(alloc: Global, case: &str) -> Result<String, Fail> {
+pub(crate) fn cut(alloc: Global, question: &str) -> Result<String, Fail> {
     let bytes = file_named(alloc, "v2")?;
     let meta = meta_of(alloc, &bytes)?;
-    let sink = Sink::new(alloc, Some(question(case).parse()?));
-    Ok(answered(alloc, case, &sent(alloc, &meta, &bytes, sink)?)?)
+    let sink = Sink::new(alloc, Some(question.parse()?));
+    sent(alloc, &meta, &bytes, sink)
 }
 
 #[test]
 fn a_writer_that_fails_within_the_head(rt: HostRuntime) -> Result<(), Fail> {
-    for case in FAILING.split('\n') {
-        assert_eq!(rt; cut(rt.alloc(), case)?.as_str(), case);
-    }
-    Ok(())
+    ask_all(&rt, rt.alloc(), Ask::HeadCut, FAILING)
 }

@@ -1,10 +1,11 @@
 //! Files read from bytes.
 
+use crate::cases::{Ask, ask_all};
 use crate::vectors::file_named;
 use dd_elem::Uid;
 use dd_part10::{Meta, parse_file};
 use dd_set::{Element, Value};
-use dd_vectors::{SOURCE_ROWS, answered, question, text_of, v1};
+use dd_vectors::{SOURCE_ROWS, text_of, v1};
 use std::alloc::Global;
 use std::test::Fail;
 
@@ -32,17 +33,14 @@ fn numbers(alloc: Global, bytes: &[u8]) -> Result<String, Fail> {
     Ok(format!(in alloc; "{size} {place} {class} {instance} {transfer} {count}")?)
 }
 
-fn described(alloc: Global, case: &str) -> Result<String, Fail> {
-    let bytes = file_named(alloc, question(case))?;
-    Ok(answered(alloc, case, &numbers(alloc, &bytes)?)?)
+pub(crate) fn described(alloc: Global, question: &str) -> Result<String, Fail> {
+    let bytes = file_named(alloc, question)?;
+    numbers(alloc, &bytes)
 }
 
 #[test]
 fn files_have_a_head_and_a_set(rt: HostRuntime) -> Result<(), Fail> {
-    for case in FILES.split('\n') {
-        assert_eq!(rt; described(rt.alloc(), case)?.as_str(), case);
-    }
-    Ok(())
+    ask_all(&rt, rt.alloc(), Ask::Described, FILES)
 }
 
 /// An element as a row of V1 has it, without its place.
@@ -80,20 +78,17 @@ fn a_file_without_elements(rt: HostRuntime) -> Result<(), Fail> {
     Ok(())
 }
 
-fn syntax(alloc: Global, case: &str) -> Result<String, Fail> {
+pub(crate) fn syntax(alloc: Global, question: &str) -> Result<String, Fail> {
     let meta = Meta {
         class: Uid::new(b"1.2.840.10008.5.1.4.1.1.2")?,
         instance: Uid::new(b"1.2.3.4.5")?,
-        transfer: Uid::new(question(case).as_bytes())?,
+        transfer: Uid::new(question.as_bytes())?,
     };
     let found = meta.syntax();
-    Ok(answered(alloc, case, &format_args!("{found:?}"))?)
+    Ok(format!(in alloc; "{found:?}")?)
 }
 
 #[test]
 fn transfer_syntaxes_that_are_read(rt: HostRuntime) -> Result<(), Fail> {
-    for case in SYNTAXES.split('\n') {
-        assert_eq!(rt; syntax(rt.alloc(), case)?.as_str(), case);
-    }
-    Ok(())
+    ask_all(&rt, rt.alloc(), Ask::Syntax, SYNTAXES)
 }

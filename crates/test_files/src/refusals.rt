@@ -1,10 +1,11 @@
 //! Bytes that are no file, each with the first check that they fail.
 
+use crate::cases::{Ask, ask_all};
 use crate::vectors::{v1_changed, v1_with_private};
 use dd_elem::ByteSource;
 use dd_part10::{FileFault, StreamFault, parse_file, read_file};
 use dd_set::SetFault;
-use dd_vectors::{answered, question, v1, v1_with};
+use dd_vectors::{v1, v1_with};
 use std::alloc::Global;
 use std::test::Fail;
 
@@ -75,35 +76,29 @@ fn answer(alloc: Global, bytes: &[u8]) -> Result<String, Fail> {
     }
 }
 
-fn cut(alloc: Global, case: &str) -> Result<String, Fail> {
+pub(crate) fn cut(alloc: Global, question: &str) -> Result<String, Fail> {
     let bytes = v1(alloc)?;
     let front = bytes
-        .get(..question(case).parse::<usize>()?)
+        .get(..question.parse::<usize>()?)
         .ok_or("fewer bytes")?;
-    Ok(answered(alloc, case, &answer(alloc, front)?)?)
+    answer(alloc, front)
 }
 
 #[test]
 fn a_file_cut_short(rt: HostRuntime) -> Result<(), Fail> {
-    for case in CUT.split('\n') {
-        assert_eq!(rt; cut(rt.alloc(), case)?.as_str(), case);
-    }
-    Ok(())
+    ask_all(&rt, rt.alloc(), Ask::Cut, CUT)
 }
 
-fn cut_long(alloc: Global, case: &str) -> Result<String, Fail> {
-    let (count, lengths) = question(case).split_once(' ').ok_or("no lengths")?;
+pub(crate) fn cut_long(alloc: Global, question: &str) -> Result<String, Fail> {
+    let (count, lengths) = question.split_once(' ').ok_or("no lengths")?;
     let bytes = v1_with_private(alloc, lengths)?;
     let front = bytes.get(..count.parse::<usize>()?).ok_or("fewer bytes")?;
-    Ok(answered(alloc, case, &answer(alloc, front)?)?)
+    answer(alloc, front)
 }
 
 #[test]
 fn a_long_group_cut_short(rt: HostRuntime) -> Result<(), Fail> {
-    for case in CUT_LONG.split('\n') {
-        assert_eq!(rt; cut_long(rt.alloc(), case)?.as_str(), case);
-    }
-    Ok(())
+    ask_all(&rt, rt.alloc(), Ask::CutLong, CUT_LONG)
 }
 
 /// The fault of the first n bytes of V1.
@@ -137,31 +132,25 @@ fn a_file_cut_anywhere(rt: HostRuntime) -> Result<(), Fail> {
     Ok(())
 }
 
-fn changed(alloc: Global, case: &str) -> Result<String, Fail> {
-    let (place, change) = question(case).split_once(' ').ok_or("no change")?;
+pub(crate) fn changed(alloc: Global, question: &str) -> Result<String, Fail> {
+    let (place, change) = question.split_once(' ').ok_or("no change")?;
     let bytes = v1_changed(alloc, place, change)?;
-    Ok(answered(alloc, case, &answer(alloc, &bytes)?)?)
+    answer(alloc, &bytes)
 }
 
 #[test]
 fn a_file_with_changed_bytes(rt: HostRuntime) -> Result<(), Fail> {
-    for case in CHANGED.split('\n') {
-        assert_eq!(rt; changed(rt.alloc(), case)?.as_str(), case);
-    }
-    Ok(())
+    ask_all(&rt, rt.alloc(), Ask::Changed, CHANGED)
 }
 
-fn other(alloc: Global, case: &str) -> Result<String, Fail> {
-    let bytes = v1_with(alloc, question(case))?;
-    Ok(answered(alloc, case, &answer(alloc, &bytes)?)?)
+pub(crate) fn other(alloc: Global, question: &str) -> Result<String, Fail> {
+    let bytes = v1_with(alloc, question)?;
+    answer(alloc, &bytes)
 }
 
 #[test]
 fn a_file_with_other_elements(rt: HostRuntime) -> Result<(), Fail> {
-    for case in OTHER.split('\n') {
-        assert_eq!(rt; other(rt.alloc(), case)?.as_str(), case);
-    }
-    Ok(())
+    ask_all(&rt, rt.alloc(), Ask::Other, OTHER)
 }
 
 #[test]

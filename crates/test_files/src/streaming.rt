@@ -1,10 +1,11 @@
 //! Files read from a reader.
 
+use crate::cases::{Ask, ask_all};
 use crate::vectors::{file_named, meta_of, v1_changed, v1_with_private};
 use dd_elem::{ByteSource, Tag};
 use dd_part10::{Meta, Scanned, StreamFault, parse_file, read_file};
 use dd_set::{Found, FoundValue};
-use dd_vectors::{answered, failing, question, tag_of, text_of, v1};
+use dd_vectors::{failing, tag_of, text_of, v1};
 use std::alloc::Global;
 use std::test::Fail;
 
@@ -83,33 +84,49 @@ fn told(
     Ok(text)
 }
 
-fn read(alloc: Global, parsed: &Meta, case: &str) -> Result<String, Fail> {
-    let mut words = question(case).split(' ');
-    let place = words.next().ok_or("no place")?;
-    let bytes = v1_changed(alloc, place, words.next().ok_or("no bytes")?)?;
-    let piece = words.next().ok_or("no piece")?.parse()?;
-    let limit = words.next().ok_or("no limit")?.parse()?;
-    let fails = failing(words.next().ok_or("no failure")?)?;
-    let mut wanted = Vec::new(alloc);
-    for word in words {
-        wanted.push(tag_of(word)?)?;
+/// The tags that these words name, none where the text is empty.
+fn tags_of(alloc: Global, words: &str) -> Result<Vec<Tag>, Fail> {
+    let mut tags = Vec::new(alloc);
+    for word in words.split_terminator(' ') {
+        tags.push(tag_of(word)?)?;
     }
-    let mut reader = ByteSource::new(&bytes, piece, fails);
+    Ok(tags)
+}
+
+/// The file that a question names, and the rest of the question.
+fn file_of(alloc: Global, question: &str) -> Result<(Vec<u8>, &str), Fail> {
+    let (place, rest) = question.split_once(' ').ok_or("no place")?;
+    let (change, rest) = rest.split_once(' ').ok_or("no bytes")?;
+    Ok((v1_changed(alloc, place, change)?, rest))
+}
+
+/// A reader of the file, with the limit and the words of the wanted tags.
+fn reader_of<'a, 'b>(
+    file: &'a [u8],
+    question: &'b str,
+) -> Result<(ByteSource<'a>, u64, &'b str), Fail> {
+    let (piece, rest) = question.split_once(' ').ok_or("no piece")?;
+    let (limit, rest) = rest.split_once(' ').ok_or("no limit")?;
+    let (fails, words) = rest.split_once(' ').unwrap_or((rest, ""));
+    let reader = ByteSource::new(file, piece.parse()?, failing(fails)?);
+    Ok((reader, limit.parse()?, words))
+}
+
+pub(crate) fn read(alloc: Global, question: &str) -> Result<String, Fail> {
+    let (file, rest) = file_of(alloc, question)?;
+    let (mut reader, limit, words) = reader_of(&file, rest)?;
+    let wanted = tags_of(alloc, words)?;
     let answer = read_file(alloc, &mut reader, &wanted, limit);
-    Ok(answered(alloc, case, &told(alloc, answer, parsed)?)?)
+    told(alloc, answer, &meta_of(alloc, &v1(alloc)?)?)
 }
 
 #[test]
 fn one_file_read_in_many_ways(rt: HostRuntime) -> Result<(), Fail> {
-    let parsed = meta_of(rt.alloc(), &v1(rt.alloc())?)?;
-    for case in READS.split('\n') {
-        assert_eq!(rt; read(rt.alloc(), &parsed, case)?.as_str(), case);
-    }
-    Ok(())
+    ask_all(&rt, rt.alloc(), Ask::Read, READS)
 }
 
-fn read_whole(alloc: Global, piece: u64, case: &str) -> Result<String, Fail> {
-    let bytes = file_named(alloc, question(case))?;
+pub(crate) fn read_whole(alloc: Global, piece: u64, question: &str) -> Result<String, Fail> {
+    let bytes = file_named(alloc, question)?;
     let parsed = meta_of(alloc, &bytes)?;
     let mut reader = ByteSource::new(&bytes, piece, None);
     let wanted: [Tag; 3] = [
@@ -118,35 +135,28 @@ fn read_whole(alloc: Global, piece: u64, case: &str) -> Result<String, Fail> {
         tag_of("0004,1220")?,
     ];
     let answer = read_file(alloc, &mut reader, &wanted, 4096);
-    Ok(answered(alloc, case, &told(alloc, answer, &parsed)?)?)
+    told(alloc, answer, &parsed)
 }
 
 #[test]
 fn files_read_for_some_elements(rt: HostRuntime) -> Result<(), Fail> {
-    for piece in [1, 7, 4096] {
-        for case in FILES.split('\n') {
-            assert_eq!(rt; read_whole(rt.alloc(), piece, case)?.as_str(), case);
-        }
-    }
-    Ok(())
+    ask_all(&rt, rt.alloc(), Ask::ReadWhole(1), FILES)?;
+    ask_all(&rt, rt.alloc(), Ask::ReadWhole(7), FILES)?;
+    ask_all(&rt, rt.alloc(), Ask::ReadWhole(4096), FILES)
 }
 
-fn read_long(alloc: Global, piece: u64, case: &str) -> Result<String, Fail> {
-    let bytes = v1_with_private(alloc, question(case))?;
+pub(crate) fn read_long(alloc: Global, piece: u64, question: &str) -> Result<String, Fail> {
+    let bytes = v1_with_private(alloc, question)?;
     let file = parse_file(alloc, &bytes)?;
     let mut reader = ByteSource::new(&bytes, piece, None);
     let answer = read_file(alloc, &mut reader, &[tag_of("0010,0020")?], 65_858);
     let told = told(alloc, answer, &file.meta)?;
     let (size, place) = (bytes.len(), file.set_at);
-    Ok(answered(alloc, case, &format_args!("{size} {place} {told}"))?)
+    Ok(format!(in alloc; "{size} {place} {told}")?)
 }
 
 #[test]
 fn a_long_group_read_as_parsed(rt: HostRuntime) -> Result<(), Fail> {
-    for piece in [44, 4096] {
-        for case in LONG_GROUPS.split('\n') {
-            assert_eq!(rt; read_long(rt.alloc(), piece, case)?.as_str(), case);
-        }
-    }
-    Ok(())
+    ask_all(&rt, rt.alloc(), Ask::ReadLong(44), LONG_GROUPS)?;
+    ask_all(&rt, rt.alloc(), Ask::ReadLong(4096), LONG_GROUPS)
 }

@@ -1,12 +1,12 @@
 //! The keys that images have after a merge of catalogues, and after one of their directories.
 
+use crate::cases::{Ask, ask_all};
 use crate::directories::{directories, label, slices, widest};
 use dd_dir::write_directory;
 use dd_elem::Sink;
 use dd_keys::Version;
 use dd_layout::{Label, lay_out};
 use dd_samples::{taken, told};
-use dd_vectors::{answered, question};
 use dicomdir::{Choice, merge_engine};
 use std::alloc::Global;
 use std::test::Fail;
@@ -46,17 +46,14 @@ fn joined(alloc: Global, one: &str, other: &str) -> Result<String, Fail> {
     all_told(alloc, plan.versions())
 }
 
-fn catalogues(alloc: Global, case: &str) -> Result<String, Fail> {
-    let (one, other) = question(case).split_once(' ').ok_or("no other")?;
-    Ok(answered(alloc, case, &joined(alloc, one, other)?)?)
+pub(crate) fn catalogues(alloc: Global, question: &str) -> Result<String, Fail> {
+    let (one, other) = question.split_once(' ').ok_or("no other")?;
+    joined(alloc, one, other)
 }
 
 #[test]
 fn catalogues_are_joined_before_studies_agree(rt: HostRuntime) -> Result<(), Fail> {
-    for case in CATALOGUES.split('\n') {
-        assert_eq!(rt; catalogues(rt.alloc(), case)?.as_str(), case);
-    }
-    Ok(())
+    ask_all(&rt, rt.alloc(), Ask::Catalogues, CATALOGUES)
 }
 
 /// The images of a merge of these directories.
@@ -68,17 +65,14 @@ fn merged(alloc: Global, sets: &[Vec<u8>]) -> Result<String, Fail> {
     all_told(alloc, merged.plan.versions())
 }
 
-fn read_back(alloc: Global, case: &str) -> Result<String, Fail> {
-    let sets = directories(alloc, question(case))?;
-    Ok(answered(alloc, case, &merged(alloc, &sets)?)?)
+pub(crate) fn read_back(alloc: Global, question: &str) -> Result<String, Fail> {
+    let sets = directories(alloc, question)?;
+    merged(alloc, &sets)
 }
 
 #[test]
 fn directories_are_merged_as_they_are_written(rt: HostRuntime) -> Result<(), Fail> {
-    for case in DIRECTORIES.split('\n') {
-        assert_eq!(rt; read_back(rt.alloc(), case)?.as_str(), case);
-    }
-    Ok(())
+    ask_all(&rt, rt.alloc(), Ask::ReadBack, DIRECTORIES)
 }
 
 /// Directories.

@@ -1,8 +1,8 @@
 //! Which files a merge picks, and why there is none.
 
+use crate::cases::{Ask, ask_all};
 use crate::directories::{directories, label, slices};
 use dd_layout::{Label, Limits};
-use dd_vectors::{answered, question};
 use dicomdir::{Choice, MergeFault, Merged, merge_engine};
 use std::alloc::Global;
 use std::test::Fail;
@@ -63,18 +63,15 @@ fn merged(alloc: Global, limits: Limits, sets: &[Vec<u8>]) -> Result<String, Fai
     }
 }
 
-fn picked(alloc: Global, case: &str) -> Result<String, Fail> {
-    let (bytes, rest) = question(case).split_once(' ').ok_or("no bytes")?;
+pub(crate) fn picked(alloc: Global, question: &str) -> Result<String, Fail> {
+    let (bytes, rest) = question.split_once(' ').ok_or("no bytes")?;
     let (per_level, words) = rest.split_once(' ').ok_or("no count")?;
     let limits = Limits::new(bytes.parse()?, per_level.parse()?).ok_or("no limits")?;
     let sets = directories(alloc, words)?;
-    Ok(answered(alloc, case, &merged(alloc, limits, &sets)?)?)
+    merged(alloc, limits, &sets)
 }
 
 #[test]
 fn files_are_picked_or_sets_refused(rt: HostRuntime) -> Result<(), Fail> {
-    for case in PICKS.split('\n') {
-        assert_eq!(rt; picked(rt.alloc(), case)?.as_str(), case);
-    }
-    Ok(())
+    ask_all(&rt, rt.alloc(), Ask::Picked, PICKS)
 }

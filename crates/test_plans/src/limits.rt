@@ -1,8 +1,8 @@
 //! Which plans there are within limits, and how many bytes the directories have.
 
+use crate::cases::{Ask, ask_all};
 use crate::plans::planned;
 use dd_layout::{Level, Limits, PlanFault};
-use dd_vectors::{answered, question};
 use std::alloc::Global;
 use std::test::Fail;
 
@@ -51,27 +51,24 @@ fn size(
     }
 }
 
-fn limited(alloc: Global, case: &str) -> Result<String, Fail> {
-    let mut words = question(case).split(' ');
+pub(crate) fn limited(alloc: Global, question: &str) -> Result<String, Fail> {
+    let mut words = question.split(' ');
     let bytes = words.next().ok_or("no bytes")?.parse()?;
     let per_level = words.next().ok_or("no count")?.parse()?;
     let letters = words.next().ok_or("no images")?;
     let id = words.next().unwrap_or("");
     let Some(limits) = Limits::new(bytes, per_level) else {
-        return Ok(answered(alloc, case, &"no limits")?);
+        return Ok(String::from_str(alloc, "no limits")?);
     };
     match size(alloc, limits, letters, id)? {
-        Ok(size) => Ok(answered(alloc, case, &size)?),
-        Err(fault) => Ok(answered(alloc, case, &fault)?),
+        Ok(size) => Ok(format!(in alloc; "{size}")?),
+        Err(fault) => Ok(format!(in alloc; "{fault}")?),
     }
 }
 
 #[test]
 fn a_plan_keeps_to_its_limits(rt: HostRuntime) -> Result<(), Fail> {
-    for case in LIMITS.split('\n') {
-        assert_eq!(rt; limited(rt.alloc(), case)?.as_str(), case);
-    }
-    Ok(())
+    ask_all(&rt, rt.alloc(), Ask::Limited, LIMITS)
 }
 
 /// The level with this name.
@@ -85,17 +82,15 @@ fn level_of(name: &str) -> Option<Level> {
     }
 }
 
-fn too_many(alloc: Global, case: &str) -> Result<String, Fail> {
-    let level = level_of(question(case)).ok_or("no level")?;
-    Ok(answered(alloc, case, &PlanFault::TooMany(level))?)
+pub(crate) fn too_many(alloc: Global, question: &str) -> Result<String, Fail> {
+    let level = level_of(question).ok_or("no level")?;
+    let fault = PlanFault::TooMany(level);
+    Ok(format!(in alloc; "{fault}")?)
 }
 
 #[test]
 fn levels_have_names(rt: HostRuntime) -> Result<(), Fail> {
-    for case in LEVELS.split('\n') {
-        assert_eq!(rt; too_many(rt.alloc(), case)?.as_str(), case);
-    }
-    Ok(())
+    ask_all(&rt, rt.alloc(), Ask::TooMany, LEVELS)
 }
 
 #[test]

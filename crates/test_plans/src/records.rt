@@ -1,9 +1,10 @@
 //! Where the records of plans stand, what they name, and the versions that they are of.
 
+use crate::cases::{Ask, ask_all};
 use crate::plans::plan;
 use dd_keys::Version;
 use dd_layout::PlanRecord;
-use dd_vectors::{answered, question, text_of};
+use dd_vectors::text_of;
 use std::alloc::Global;
 use std::test::Fail;
 
@@ -132,19 +133,16 @@ fn push_version(alloc: Global, text: &mut String, version: &Version) -> Result<(
     Ok(())
 }
 
-fn versions(alloc: Global, case: &str) -> Result<String, Fail> {
-    let plan = plan(alloc, question(case))?;
+pub(crate) fn versions(alloc: Global, question: &str) -> Result<String, Fail> {
+    let plan = plan(alloc, question)?;
     let mut text = String::new(alloc);
     for version in plan.versions() {
         push_version(alloc, &mut text, version)?;
     }
-    Ok(answered(alloc, case, &text.as_str())?)
+    Ok(text)
 }
 
 #[test]
 fn versions_are_in_harmony(rt: HostRuntime) -> Result<(), Fail> {
-    for case in VERSIONS.split('\n') {
-        assert_eq!(rt; versions(rt.alloc(), case)?.as_str(), case);
-    }
-    Ok(())
+    ask_all(&rt, rt.alloc(), Ask::Versions, VERSIONS)
 }

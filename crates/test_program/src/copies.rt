@@ -1,7 +1,8 @@
 //! Images that are copied from one device to another.
 
+use crate::cases::{Ask, ask_all};
 use dd_elem::{ByteSource, Sink};
-use dd_vectors::{answered, bytes_of, failing, question, v1};
+use dd_vectors::{bytes_of, failing, v1};
 use dicomdir::copy_image;
 use std::alloc::Global;
 use std::test::Fail;
@@ -33,8 +34,8 @@ const LONG_COPIES: &str = "\
 1000000 100000 - 131073 > 93 Unread 100000
 1000000 - 70000 131073 > 96 Unsent 70000";
 
-fn copied(alloc: Global, image: &[u8], wanted: &str, case: &str) -> Result<String, Fail> {
-    let (piece, rest) = question(case).split_once(' ').ok_or("no piece")?;
+fn copied(alloc: Global, image: &[u8], wanted: &str, question: &str) -> Result<String, Fail> {
+    let (piece, rest) = question.split_once(' ').ok_or("no piece")?;
     let (reader, rest) = rest.split_once(' ').ok_or("no reader")?;
     let (writer, limit) = rest.split_once(' ').ok_or("no writer")?;
     let mut source = ByteSource::new(image, piece.parse()?, failing(reader)?);
@@ -44,7 +45,7 @@ fn copied(alloc: Global, image: &[u8], wanted: &str, case: &str) -> Result<Strin
         Err(fault) => format!(in alloc; "{fault}")?,
     };
     let sent = sent_of(image, sink.bytes())?;
-    Ok(answered(alloc, case, &format_args!("{said} {sent}"))?)
+    Ok(format!(in alloc; "{said} {sent}")?)
 }
 
 fn digest_words(alloc: Global, digest: &[u8; 32], wanted: &str) -> Result<String, Fail> {
@@ -61,26 +62,24 @@ fn sent_of(image: &[u8], sent: &[u8]) -> Result<usize, Fail> {
     Ok(sent.len())
 }
 
+pub(crate) fn copied_v1(alloc: Global, question: &str) -> Result<String, Fail> {
+    copied(alloc, &v1(alloc)?, DIGEST, question)
+}
+
 #[test]
 fn images_are_copied_or_refused(rt: HostRuntime) -> Result<(), Fail> {
-    let image = v1(rt.alloc())?;
-    for case in COPIES.split('\n') {
-        assert_eq!(rt; copied(rt.alloc(), &image, DIGEST, case)?.as_str(), case);
+    ask_all(&rt, rt.alloc(), Ask::CopiedV1, COPIES)
+}
+
+pub(crate) fn copied_long(alloc: Global, question: &str) -> Result<String, Fail> {
+    let mut image = Vec::new(alloc);
+    for _ in 0..131_073u32 {
+        image.push(0u8)?;
     }
-    Ok(())
+    copied(alloc, &image, LONG_DIGEST, question)
 }
 
 #[test]
 fn long_images_are_copied_or_refused(rt: HostRuntime) -> Result<(), Fail> {
-    let mut image = Vec::new(rt.alloc());
-    for _ in 0..131_073u32 {
-        image.push(0u8)?;
-    }
-    for case in LONG_COPIES.split('\n') {
-        assert_eq!(rt;
-            copied(rt.alloc(), &image, LONG_DIGEST, case)?.as_str(),
-            case
-        );
-    }
-    Ok(())
+    ask_all(&rt, rt.alloc(), Ask::CopiedLong, LONG_COPIES)
 }

@@ -2,9 +2,10 @@
 ghost use Rattle.std.specs.Prelude.{None};
 ghost use Rattle.dicomdir.specs.FileSupply.{counts_at};
 
+use crate::cases::{Ask, ask_all};
 use dd_elem::{ByteSource, Counts, FileId, Read, SetId, Uid};
 use dd_layout::Limits;
-use dd_vectors::{answered, question, v1, v1_with};
+use dd_vectors::{v1, v1_with};
 use dicomdir::{Choice, Indexed, NotThere, Supply, index_engine};
 use std::alloc::Global;
 use std::io;
@@ -133,15 +134,12 @@ fn told(alloc: Global, indexed: &Indexed) -> Result<String, Fail> {
     Ok(format!(in alloc; "{text}{size} bytes")?)
 }
 
-fn indexed(alloc: Global, case: &str) -> Result<String, Fail> {
-    let indexed = indexed_by(alloc, question(case).parse()?)?;
-    Ok(answered(alloc, case, &told(alloc, &indexed)?)?)
+pub(crate) fn indexed(alloc: Global, question: &str) -> Result<String, Fail> {
+    let indexed = indexed_by(alloc, question.parse()?)?;
+    told(alloc, &indexed)
 }
 
 #[test]
 fn sources_are_skipped_or_picked(rt: HostRuntime) -> Result<(), Fail> {
-    for case in INDEXES.split('\n') {
-        assert_eq!(rt; indexed(rt.alloc(), case)?.as_str(), case);
-    }
-    Ok(())
+    ask_all(&rt, rt.alloc(), Ask::Indexed, INDEXES)
 }

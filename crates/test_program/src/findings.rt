@@ -1,9 +1,10 @@
 //! What is found of the files that records name.
 
+use crate::cases::{Ask, ask_all};
 use dd_dir::Tree;
 use dd_elem::ByteSource;
 use dd_set::{Syntax, parse};
-use dd_vectors::{answered, bytes_of, failing, question, v1};
+use dd_vectors::{bytes_of, failing, v1};
 use dicomdir::{Finding, finding_of};
 use std::alloc::Global;
 use std::test::Fail;
@@ -87,8 +88,8 @@ fn words(alloc: Global, found: Option<Finding>) -> Result<&'static str, Fail> {
     })
 }
 
-fn found(alloc: Global, case: &str) -> Result<String, Fail> {
-    let (in_use, rest) = question(case).split_once(' ').ok_or("no flag")?;
+pub(crate) fn found(alloc: Global, question: &str) -> Result<String, Fail> {
+    let (in_use, rest) = question.split_once(' ').ok_or("no flag")?;
     let (name, rest) = rest.split_once(' ').ok_or("no record")?;
     let (piece, rest) = rest.split_once(' ').ok_or("no piece")?;
     let (fails, limit) = rest.split_once(' ').ok_or("no limit")?;
@@ -107,13 +108,10 @@ fn found(alloc: Global, case: &str) -> Result<String, Fail> {
         let mut file = ByteSource::new(&image, piece, failing(fails)?);
         finding_of(&tree, Some(&mut file), limit)
     };
-    Ok(answered(alloc, case, &words(alloc, found)?)?)
+    Ok(String::from_str(alloc, words(alloc, found)?)?)
 }
 
 #[test]
 fn files_of_records_are_found_as_they_are(rt: HostRuntime) -> Result<(), Fail> {
-    for case in FINDINGS.split('\n') {
-        assert_eq!(rt; found(rt.alloc(), case)?.as_str(), case);
-    }
-    Ok(())
+    ask_all(&rt, rt.alloc(), Ask::Found, FINDINGS)
 }

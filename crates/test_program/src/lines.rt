@@ -1,6 +1,7 @@
 //! What lines are taken, and the status and output of those that are not.
 
-use dd_vectors::{answered, question, words_of};
+use crate::cases::{Ask, ask_all};
+use dd_vectors::words_of;
 use dicomdir::{Asked, LineFault, read_words};
 use std::alloc::Global;
 use std::test::Fail;
@@ -106,20 +107,17 @@ fn refused(alloc: Global, fault: &LineFault) -> Result<String, Fail> {
     Ok(format!(in alloc; "{status} {is_mistake}")?)
 }
 
-fn line(alloc: Global, case: &str) -> Result<String, Fail> {
-    let words = words_of(alloc, question(case))?;
+pub(crate) fn line(alloc: Global, question: &str) -> Result<String, Fail> {
+    let words = words_of(alloc, question)?;
     match read_words(alloc, words.as_slice()) {
-        Ok(asked) => Ok(answered(alloc, case, &told(alloc, &asked)?)?),
-        Err(fault) => Ok(answered(alloc, case, &refused(alloc, &fault)?)?),
+        Ok(asked) => told(alloc, &asked),
+        Err(fault) => refused(alloc, &fault),
     }
 }
 
 #[test]
 fn lines_are_taken_or_refused(rt: HostRuntime) -> Result<(), Fail> {
-    for case in LINES.split('\n') {
-        assert_eq!(rt; line(rt.alloc(), case)?.as_str(), case);
-    }
-    Ok(())
+    ask_all(&rt, rt.alloc(), Ask::Line, LINES)
 }
 
 #[test]

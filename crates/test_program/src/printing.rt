@@ -1,7 +1,8 @@
 //! What is printed to a device.
 
+use crate::cases::{Ask, ask_all};
 use dd_elem::Sink;
-use dd_vectors::{answered, push_lines, question};
+use dd_vectors::push_lines;
 use dicomdir::{print_line, send_text};
 use std::alloc::{AllocError, Global};
 use std::test::Fail;
@@ -16,21 +17,18 @@ const PRINTED: &str = "\
 7 > false false [91 Memo]
 0 > false false []";
 
-fn printed(alloc: Global, case: &str) -> Result<String, Fail> {
-    let mut sink = Sink::new(alloc, Some(question(case).parse()?));
+pub(crate) fn printed(alloc: Global, question: &str) -> Result<String, Fail> {
+    let mut sink = Sink::new(alloc, Some(question.parse()?));
     let first = print_line(&["91 ", "Memory"], &mut sink).is_ok();
     let more = print_line(&["more"], &mut sink).is_ok();
     let mut held = String::new(alloc);
     push_lines(&mut held, sink.bytes())?;
-    Ok(answered(alloc, case, &format_args!("{first} {more} [{held}]"))?)
+    Ok(format!(in alloc; "{first} {more} [{held}]")?)
 }
 
 #[test]
 fn lines_are_printed_as_far_as_they_go(rt: HostRuntime) -> Result<(), Fail> {
-    for case in PRINTED.split('\n') {
-        assert_eq!(rt; printed(rt.alloc(), case)?.as_str(), case);
-    }
-    Ok(())
+    ask_all(&rt, rt.alloc(), Ask::Printed, PRINTED)
 }
 
 /// After how many bytes a device fails to which a line of 5,000, 5,000 and 9,000 characters is printed, whether it
@@ -53,8 +51,8 @@ fn repeated(alloc: Global, character: char, count: u32) -> Result<String, AllocE
     Ok(text)
 }
 
-fn printed_long(alloc: Global, case: &str) -> Result<String, Fail> {
-    let mut sink = Sink::new(alloc, Some(question(case).parse()?));
+pub(crate) fn printed_long(alloc: Global, question: &str) -> Result<String, Fail> {
+    let mut sink = Sink::new(alloc, Some(question.parse()?));
     let first = repeated(alloc, 'a', 5000)?;
     let second = repeated(alloc, 'b', 5000)?;
     let third = repeated(alloc, 'c', 9000)?;
@@ -64,15 +62,12 @@ fn printed_long(alloc: Global, case: &str) -> Result<String, Fail> {
         return Err("other bytes were printed".into());
     }
     let held = sink.bytes().len();
-    Ok(answered(alloc, case, &format_args!("{is_printed} {held}"))?)
+    Ok(format!(in alloc; "{is_printed} {held}")?)
 }
 
 #[test]
 fn long_lines_are_printed_as_far_as_they_go(rt: HostRuntime) -> Result<(), Fail> {
-    for case in LONG.split('\n') {
-        assert_eq!(rt; printed_long(rt.alloc(), case)?.as_str(), case);
-    }
-    Ok(())
+    ask_all(&rt, rt.alloc(), Ask::PrintedLong, LONG)
 }
 
 #[test]

@@ -1,6 +1,6 @@
 //! File-sets that are checked against their directories.
 
-use crate::scripts::ran;
+use crate::cases::{Ask, ask_all};
 use std::test::Fail;
 
 /// What is on the disc beside the rest, the line, its status, what both outputs hold, and whether some file has
@@ -52,8 +52,5 @@ d/DICOMDIR=first: - 0 dicomdir check d > 3 [MISSING PT000001\\ST000001\\SE000001
 
 #[test]
 fn sets_are_checked(rt: HostRuntime) -> Result<(), Fail> {
-    for case in CHECKS.split('\n') {
-        assert_eq!(rt; ran(rt.alloc(), case)?.as_str(), case);
-    }
-    Ok(())
+    ask_all(&rt, rt.alloc(), Ask::Ran, CHECKS)
 }

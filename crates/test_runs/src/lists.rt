@@ -1,6 +1,6 @@
 //! Listings of directories.
 
-use crate::scripts::ran;
+use crate::cases::{Ask, ask_all};
 use std::test::Fail;
 
 /// What is on the disc beside the rest, the line, its status, what both outputs hold, and whether some file has
@@ -45,8 +45,5 @@ d/DICOMDIR=empty: - 0 dicomdir list d > 0 [0 records, 0 unreached|] [] kept";
 
 #[test]
 fn records_are_listed(rt: HostRuntime) -> Result<(), Fail> {
-    for case in LISTS.split('\n') {
-        assert_eq!(rt; ran(rt.alloc(), case)?.as_str(), case);
-    }
-    Ok(())
+    ask_all(&rt, rt.alloc(), Ask::Ran, LISTS)
 }

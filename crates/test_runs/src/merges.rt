@@ -1,6 +1,6 @@
 //! File-sets that are merged.
 
-use crate::scripts::{are_same, ran};
+use crate::cases::{Ask, Claim, ask_all, claim_all};
 use std::test::Fail;
 
 /// What is on the disc beside the rest, the line, its status, what both outputs hold, and whether some file is new
@@ -47,10 +47,7 @@ d1=set: - 0 dicomdir merge o d1 --uid 2.25.0 --max-bytes 0 > 1 [] [] kept";
 
 #[test]
 fn merges_say_how_they_ended(rt: HostRuntime) -> Result<(), Fail> {
-    for case in MERGES.split('\n') {
-        assert_eq!(rt; ran(rt.alloc(), case)?.as_str(), case);
-    }
-    Ok(())
+    ask_all(&rt, rt.alloc(), Ask::Ran, MERGES)
 }
 
 /// Steps, a line, and a step that leaves the same files: sets in any order and number, and their sources; the
@@ -79,8 +76,5 @@ o/PT000001/ST000001/SE000001/IM000001=c.dcm";
 
 #[test]
 fn merges_leave_the_same_files(rt: HostRuntime) -> Result<(), Fail> {
-    for case in SAME.split('\n') {
-        assert!(rt; are_same(rt.alloc(), case)?, "of {case}");
-    }
-    Ok(())
+    claim_all(&rt, rt.alloc(), Claim::LeaveTheSame, (SAME, '\n'))
 }

@@ -1,8 +1,9 @@
 //! Runs over files in memory, each with its status, what it prints, and what becomes of the files.
 
+use crate::cases::{Ask, Claim, ask_all, claim_all};
 use crate::disc::{FIRST_IMAGE, are_equal, disc, disc_with};
 use dd_elem::Sink;
-use dd_vectors::{answered, failing, push_lines, question, words_of};
+use dd_vectors::{failing, push_lines, words_of};
 use dicomdir::{MemFiles, run};
 use std::alloc::Global;
 use std::test::Fail;
@@ -102,18 +103,15 @@ fn ended(alloc: Global, line: &str) -> Result<(String, bool), Fail> {
     Ok((end, are_equal(alloc, &files, &disc(alloc)?)?))
 }
 
-fn ran(alloc: Global, case: &str) -> Result<String, Fail> {
-    let (end, are_kept) = ended(alloc, question(case))?;
+pub(crate) fn end(alloc: Global, question: &str) -> Result<String, Fail> {
+    let (end, are_kept) = ended(alloc, question)?;
     let files = if are_kept { "kept" } else { "changed" };
-    Ok(answered(alloc, case, &format_args!("{end} {files}"))?)
+    Ok(format!(in alloc; "{end} {files}")?)
 }
 
 #[test]
 fn runs_say_how_they_ended(rt: HostRuntime) -> Result<(), Fail> {
-    for case in RUNS.split('\n') {
-        assert_eq!(rt; ran(rt.alloc(), case)?.as_str(), case);
-    }
-    Ok(())
+    ask_all(&rt, rt.alloc(), Ask::Ended, RUNS)
 }
 
 /// Which of the outputs of an end are not empty.
@@ -126,23 +124,20 @@ fn place_of(outputs: &str) -> &'static str {
     }
 }
 
-fn text(alloc: Global, case: &str) -> Result<String, Fail> {
-    let (end, are_kept) = ended(alloc, question(case))?;
+pub(crate) fn text(alloc: Global, question: &str) -> Result<String, Fail> {
+    let (end, are_kept) = ended(alloc, question)?;
     let (status, outputs) = end.as_str().split_once(" [").ok_or("no output")?;
     let place = if are_kept {
         place_of(outputs)
     } else {
         "a file"
     };
-    Ok(answered(alloc, case, &format_args!("{status} to {place}"))?)
+    Ok(format!(in alloc; "{status} to {place}")?)
 }
 
 #[test]
 fn texts_of_the_parser_go_to_one_output(rt: HostRuntime) -> Result<(), Fail> {
-    for case in TEXTS.split('\n') {
-        assert_eq!(rt; text(rt.alloc(), case)?.as_str(), case);
-    }
-    Ok(())
+    ask_all(&rt, rt.alloc(), Ask::Text, TEXTS)
 }
 
 /// Runs, and which files are new then, each as a copy of which.
@@ -160,18 +155,15 @@ fn files_after(alloc: Global, line: &str) -> Result<MemFiles, Fail> {
     Ok(files)
 }
 
-fn makes(alloc: Global, line: &str, words: &str) -> Result<bool, Fail> {
+pub(crate) fn makes(alloc: Global, case: &str) -> Result<bool, Fail> {
+    let (line, words) = case.split_once(" > ").ok_or("no files")?;
     let files = files_after(alloc, line)?;
     are_equal(alloc, &files, &disc_with(alloc, words)?)
 }
 
 #[test]
 fn a_run_adds_the_directory_and_its_images_alone(rt: HostRuntime) -> Result<(), Fail> {
-    for case in FILES.split('\n') {
-        let (line, words) = case.split_once(" > ").ok_or("no files")?;
-        assert!(rt; makes(rt.alloc(), line, words)?, "of {line}");
-    }
-    Ok(())
+    claim_all(&rt, rt.alloc(), Claim::Makes, (FILES, '\n'))
 }
 
 /// Sources, and others of which the same files are made.
@@ -183,7 +175,8 @@ a.dcm c.dcm > c.dcm a.dcm
 a.dcm c.dcm > c.dcm
 a.dcm c.dcm e.dcm d.dcm > d.dcm e.dcm c.dcm";
 
-fn are_same(alloc: Global, one: &str, other: &str) -> Result<bool, Fail> {
+pub(crate) fn are_same(alloc: Global, case: &str) -> Result<bool, Fail> {
+    let (one, other) = case.split_once(" > ").ok_or("no others")?;
     let one = format!(in alloc; "index out {one}")?;
     let other = format!(in alloc; "index out {other}")?;
     let files = files_after(alloc, one.as_str())?;
@@ -192,11 +185,7 @@ fn are_same(alloc: Global, one: &str, other: &str) -> Result<bool, Fail> {
 
 #[test]
 fn neither_order_nor_repeats_change_the_files(rt: HostRuntime) -> Result<(), Fail> {
-    for case in SAME.split('\n') {
-        let (one, other) = case.split_once(" > ").ok_or("no others")?;
-        assert!(rt; are_same(rt.alloc(), one, other)?, "of {case}");
-    }
-    Ok(())
+    claim_all(&rt, rt.alloc(), Claim::AreSame, (SAME, '\n'))
 }
 
 /// Versions of one instance, and which is copied.
@@ -208,7 +197,8 @@ e.dcm a.dcm > a.dcm
 a.dcm e.dcm > a.dcm
 e.dcm c.dcm a.dcm > c.dcm";
 
-fn is_kept(alloc: Global, sources: &str, kept: &str) -> Result<bool, Fail> {
+pub(crate) fn is_kept(alloc: Global, case: &str) -> Result<bool, Fail> {
+    let (sources, kept) = case.split_once(" > ").ok_or("no version")?;
     let line = format!(in alloc; "index out {sources}")?;
     let files = files_after(alloc, line.as_str())?;
     let image = files.bytes(FIRST_IMAGE).ok_or("no image")?;
@@ -217,11 +207,7 @@ fn is_kept(alloc: Global, sources: &str, kept: &str) -> Result<bool, Fail> {
 
 #[test]
 fn the_greater_version_is_copied(rt: HostRuntime) -> Result<(), Fail> {
-    for case in KEPT.split('\n') {
-        let (sources, kept) = case.split_once(" > ").ok_or("no version")?;
-        assert!(rt; is_kept(rt.alloc(), sources, kept)?, "of {case}");
-    }
-    Ok(())
+    claim_all(&rt, rt.alloc(), Claim::IsKept, (KEPT, '\n'))
 }
 
 /// Sources that change at their second opening to what another has, how a run over them ends, and which
@@ -254,12 +240,13 @@ fn changed(alloc: Global, question: &str, end: &str, words: &str) -> Result<bool
     Ok(is_end && are_equal(alloc, &files, &disc_with(alloc, words.as_str())?)?)
 }
 
+pub(crate) fn change_is_told(alloc: Global, case: &str) -> Result<bool, Fail> {
+    let (question, rest) = case.split_once(" > ").ok_or("no end")?;
+    let (end, words) = rest.split_once(" > ").ok_or("no files")?;
+    changed(alloc, question, end, words)
+}
+
 #[test]
 fn sources_that_change_are_refused(rt: HostRuntime) -> Result<(), Fail> {
-    for case in CHANGED.split('\n') {
-        let (question, rest) = case.split_once(" > ").ok_or("no end")?;
-        let (end, words) = rest.split_once(" > ").ok_or("no files")?;
-        assert!(rt; changed(rt.alloc(), question, end, words)?, "of {case}");
-    }
-    Ok(())
+    claim_all(&rt, rt.alloc(), Claim::ChangeIsTold, (CHANGED, '\n'))
 }

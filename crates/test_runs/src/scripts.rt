@@ -2,7 +2,6 @@
 
 use crate::disc::{are_equal, disc, put_files};
 use crate::runs::end_of;
-use dd_vectors::{answered, question};
 use dicomdir::MemFiles;
 use std::alloc::Global;
 use std::test::Fail;
@@ -33,15 +32,15 @@ fn end_by(alloc: Global, line: &str, files: &mut MemFiles) -> Result<String, Fai
     end_of(alloc, line.as_str(), files)
 }
 
-/// The case `steps: line` with how the line ends: the status, what both outputs hold, and whether some file is
-/// new or has changed.
-pub(crate) fn ran(alloc: Global, case: &str) -> Result<String, Fail> {
-    let (steps, line) = question(case).split_once(": ").ok_or("no steps")?;
+/// How the line of `steps: line` ends: the status, what both outputs hold, and whether some file is new or has
+/// changed.
+pub(crate) fn ran(alloc: Global, question: &str) -> Result<String, Fail> {
+    let (steps, line) = question.split_once(": ").ok_or("no steps")?;
     let mut files = disc_after(alloc, steps)?;
     let end = end_of(alloc, line, &mut files)?;
     let are_kept = are_equal(alloc, &files, &disc_after(alloc, steps)?)?;
     let kept = if are_kept { "kept" } else { "changed" };
-    Ok(answered(alloc, case, &format_args!("{end} {kept}"))?)
+    Ok(format!(in alloc; "{end} {kept}")?)
 }
 
 /// After the steps of a case `steps: line > step`, does the line, however it ends, leave the files that the last

@@ -1,10 +1,11 @@
 //! Data sets read from bytes.
 
+use crate::cases::{Ask, ask_all};
 use crate::outlines::outline;
 use crate::spellings::{IMAGES, PATIENT_ID, set_of, spelled};
 use dd_elem::Tag;
 use dd_set::{DataSet, Element, Syntax, Value};
-use dd_vectors::{answered, question, tag_of, text_of};
+use dd_vectors::{tag_of, text_of};
 use std::alloc::Global;
 use std::test::Fail;
 
@@ -53,18 +54,15 @@ const FOUND: &str = "\
 0008,0060 > CS 'CT
 0008,0061 > none";
 
-fn held(alloc: Global, case: &str) -> Result<String, Fail> {
-    let (syntax, bytes) = spelled(alloc, question(case))?;
+pub(crate) fn held(alloc: Global, question: &str) -> Result<String, Fail> {
+    let (syntax, bytes) = spelled(alloc, question)?;
     let set = set_of(alloc, syntax, &bytes)?;
-    Ok(answered(alloc, case, &outline(alloc, &set)?)?)
+    outline(alloc, &set)
 }
 
 #[test]
 fn sets_hold_what_their_bytes_spell(rt: HostRuntime) -> Result<(), Fail> {
-    for case in SETS.split('\n') {
-        assert_eq!(rt; held(rt.alloc(), case)?.as_str(), case);
-    }
-    Ok(())
+    ask_all(&rt, rt.alloc(), Ask::Held, SETS)
 }
 
 /// Both sizes, and where the items start.
@@ -75,18 +73,15 @@ fn numbers(alloc: Global, syntax: Syntax, set: &DataSet<'_>) -> Result<String, F
     Ok(format!(in alloc; "{explicit:?} {implicit:?}, {starts:?}")?)
 }
 
-fn measured(alloc: Global, case: &str) -> Result<String, Fail> {
-    let (syntax, bytes) = spelled(alloc, question(case))?;
+pub(crate) fn measured(alloc: Global, question: &str) -> Result<String, Fail> {
+    let (syntax, bytes) = spelled(alloc, question)?;
     let set = set_of(alloc, syntax, &bytes)?;
-    Ok(answered(alloc, case, &numbers(alloc, syntax, &set)?)?)
+    numbers(alloc, syntax, &set)
 }
 
 #[test]
 fn sets_have_the_size_of_their_bytes(rt: HostRuntime) -> Result<(), Fail> {
-    for case in SIZES.split('\n') {
-        assert_eq!(rt; measured(rt.alloc(), case)?.as_str(), case);
-    }
-    Ok(())
+    ask_all(&rt, rt.alloc(), Ask::Measured, SIZES)
 }
 
 /// Has the set no items of this tag in this syntax?
@@ -119,18 +114,15 @@ fn told(alloc: Global, element: Option<&Element<'_>>) -> Result<String, Fail> {
     Ok(format!(in alloc; "{vr:?} {value}")?)
 }
 
-fn found(alloc: Global, case: &str) -> Result<String, Fail> {
+pub(crate) fn found(alloc: Global, question: &str) -> Result<String, Fail> {
     let line = "explicit 08006000 4353 0200 4354 10002000 4c4f 0200 5031";
     let (syntax, bytes) = spelled(alloc, line)?;
     let set = set_of(alloc, syntax, &bytes)?;
-    let element = set.find(tag_of(question(case))?);
-    Ok(answered(alloc, case, &told(alloc, element)?)?)
+    let element = set.find(tag_of(question)?);
+    told(alloc, element)
 }
 
 #[test]
 fn elements_are_found_by_their_tags(rt: HostRuntime) -> Result<(), Fail> {
-    for case in FOUND.split('\n') {
-        assert_eq!(rt; found(rt.alloc(), case)?.as_str(), case);
-    }
-    Ok(())
+    ask_all(&rt, rt.alloc(), Ask::Found, FOUND)
 }

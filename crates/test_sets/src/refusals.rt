@@ -1,8 +1,8 @@
 //! Bytes that spell no data set, each with the first check that they fail.
 
+use crate::cases::{Ask, ask_all};
 use crate::spellings::{nested, set_of, spelled};
 use dd_set::{SetFault, Syntax};
-use dd_vectors::{answered, question};
 use std::alloc::Global;
 use std::test::Fail;
 
@@ -43,22 +43,23 @@ fn answer(alloc: Global, syntax: Syntax, bytes: &[u8]) -> Result<String, Fail> {
     }
 }
 
-fn refused(alloc: Global, case: &str) -> Result<String, Fail> {
-    let (syntax, bytes) = spelled(alloc, question(case))?;
-    Ok(answered(alloc, case, &answer(alloc, syntax, &bytes)?)?)
+pub(crate) fn refused(alloc: Global, question: &str) -> Result<String, Fail> {
+    let (syntax, bytes) = spelled(alloc, question)?;
+    answer(alloc, syntax, &bytes)
 }
 
 #[test]
 fn the_first_check_that_fails(rt: HostRuntime) -> Result<(), Fail> {
-    for case in REFUSED.split('\n') {
-        assert_eq!(rt; refused(rt.alloc(), case)?.as_str(), case);
-    }
-    Ok(())
+    ask_all(&rt, rt.alloc(), Ask::Refused, REFUSED)
 }
 
-/// How many bytes spell sequences nested so deep, and what becomes of them.
-fn deep(alloc: Global, levels: usize) -> Result<String, Fail> {
-    let bytes = nested(alloc, levels)?;
+/// Sequences nested so deep: how many bytes spell them, and what becomes of them.
+const DEEP: &str = "\
+32 > 1152 taken
+33 > 1188 10 TooDeep";
+
+pub(crate) fn deep(alloc: Global, question: &str) -> Result<String, Fail> {
+    let bytes = nested(alloc, question.parse()?)?;
     let size = bytes.len();
     let answer = answer(alloc, Syntax::Explicit, &bytes)?;
     Ok(format!(in alloc; "{size} {answer}")?)
@@ -66,9 +67,7 @@ fn deep(alloc: Global, levels: usize) -> Result<String, Fail> {
 
 #[test]
 fn items_nest_32_levels_deep(rt: HostRuntime) -> Result<(), Fail> {
-    assert_eq!(rt; deep(rt.alloc(), 32)?.as_str(), "1152 taken");
-    assert_eq!(rt; deep(rt.alloc(), 33)?.as_str(), "1188 10 TooDeep");
-    Ok(())
+    ask_all(&rt, rt.alloc(), Ask::Deep, DEEP)
 }
 
 #[test]

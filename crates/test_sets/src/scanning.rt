@@ -1,9 +1,10 @@
 //! Data sets scanned from a reader.
 
+use crate::cases::{Ask, ask_all};
 use crate::spellings::{IMAGES, PATIENT_ID, spelled};
 use dd_elem::{ByteSource, Tag};
 use dd_set::{FoundValue, Scan, ScanFault, SetFault, Syntax, scan};
-use dd_vectors::{answered, bytes_of, failing, question, tag_of, text_of, v1};
+use dd_vectors::{bytes_of, failing, tag_of, text_of, v1};
 use std::alloc::Global;
 use std::test::Fail;
 
@@ -95,56 +96,68 @@ fn told(alloc: Global, answer: Result<Scan, ScanFault>) -> Result<String, Fail> 
     Ok(text)
 }
 
-fn scanned(alloc: Global, set: &[u8], case: &str) -> Result<String, Fail> {
-    let mut words = question(case).split(' ');
-    let piece = words.next().ok_or("no piece")?.parse()?;
-    let limit = words.next().ok_or("no limit")?.parse()?;
-    let fails = failing(words.next().ok_or("no failure")?)?;
-    let mut wanted = Vec::new(alloc);
-    for word in words {
-        wanted.push(tag_of(word)?)?;
+/// The tags that these words name, none where the text is empty.
+fn tags_of(alloc: Global, words: &str) -> Result<Vec<Tag>, Fail> {
+    let mut tags = Vec::new(alloc);
+    for word in words.split_terminator(' ') {
+        tags.push(tag_of(word)?)?;
     }
-    let mut reader = ByteSource::new(set, piece, fails);
+    Ok(tags)
+}
+
+/// A reader of the set, with the limit and the words of the wanted tags.
+fn reader_of<'a, 'b>(
+    set: &'a [u8],
+    question: &'b str,
+) -> Result<(ByteSource<'a>, u64, &'b str), Fail> {
+    let (piece, rest) = question.split_once(' ').ok_or("no piece")?;
+    let (limit, rest) = rest.split_once(' ').ok_or("no limit")?;
+    let (fails, words) = rest.split_once(' ').unwrap_or((rest, ""));
+    let reader = ByteSource::new(set, piece.parse()?, failing(fails)?);
+    Ok((reader, limit.parse()?, words))
+}
+
+fn scanned(alloc: Global, set: &[u8], question: &str) -> Result<String, Fail> {
+    let (mut reader, limit, words) = reader_of(set, question)?;
+    let wanted = tags_of(alloc, words)?;
     let answer = scan(alloc, Syntax::Explicit, &mut reader, &wanted, limit);
-    Ok(answered(alloc, case, &told(alloc, answer)?)?)
+    told(alloc, answer)
+}
+
+pub(crate) fn scanned_v1(alloc: Global, question: &str) -> Result<String, Fail> {
+    let file = v1(alloc)?;
+    scanned(alloc, file.get(276..).ok_or("no data set")?, question)
 }
 
 #[test]
 fn scans_of_one_set(rt: HostRuntime) -> Result<(), Fail> {
-    let file = v1(rt.alloc())?;
-    let set = file.get(276..).ok_or("no data set")?;
-    for case in SCANS.split('\n') {
-        assert_eq!(rt; scanned(rt.alloc(), set, case)?.as_str(), case);
-    }
-    Ok(())
+    ask_all(&rt, rt.alloc(), Ask::ScannedV1, SCANS)
 }
 
-fn scanned_set(alloc: Global, piece: u64, case: &str) -> Result<String, Fail> {
-    let (syntax, bytes) = spelled(alloc, question(case))?;
+/// Scans where a read gives at most so many bytes.
+pub(crate) fn scanned_set(alloc: Global, piece: u64, question: &str) -> Result<String, Fail> {
+    let (syntax, bytes) = spelled(alloc, question)?;
     let mut reader = ByteSource::new(&bytes, piece, None);
     let wanted: [Tag; 2] = [PATIENT_ID, IMAGES];
     let answer = scan(alloc, syntax, &mut reader, &wanted, 4096);
-    Ok(answered(alloc, case, &told(alloc, answer)?)?)
+    told(alloc, answer)
 }
 
 #[test]
 fn scans_of_many_sets(rt: HostRuntime) -> Result<(), Fail> {
-    for piece in [1, 7, 4096] {
-        for case in SETS.split('\n') {
-            assert_eq!(rt; scanned_set(rt.alloc(), piece, case)?.as_str(), case);
-        }
-    }
-    Ok(())
+    ask_all(&rt, rt.alloc(), Ask::ScannedSet(1), SETS)?;
+    ask_all(&rt, rt.alloc(), Ask::ScannedSet(7), SETS)?;
+    ask_all(&rt, rt.alloc(), Ask::ScannedSet(4096), SETS)
+}
+
+pub(crate) fn scanned_faulty(alloc: Global, question: &str) -> Result<String, Fail> {
+    let set = bytes_of(alloc, "10002000 4c4f 0200 5031 10002000 4c4f 0200 5031")?;
+    scanned(alloc, &set, question)
 }
 
 #[test]
 fn scans_of_a_set_with_a_fault(rt: HostRuntime) -> Result<(), Fail> {
-    let words = "10002000 4c4f 0200 5031 10002000 4c4f 0200 5031";
-    let set = bytes_of(rt.alloc(), words)?;
-    for case in FAULTY.split('\n') {
-        assert_eq!(rt; scanned(rt.alloc(), &set, case)?.as_str(), case);
-    }
-    Ok(())
+    ask_all(&rt, rt.alloc(), Ask::ScannedFaulty, FAULTY)
 }
 
 /// Is this one of the places where an element ends?
@@ -210,15 +223,12 @@ fn lengths(alloc: Global, set: &[u8]) -> Result<String, Fail> {
     Ok(format!(in alloc; "{kept} {last} {length}")?)
 }
 
-fn long(alloc: Global, case: &str) -> Result<String, Fail> {
-    let set = padded_within(alloc, question(case))?;
-    Ok(answered(alloc, case, &lengths(alloc, &set)?)?)
+pub(crate) fn long(alloc: Global, question: &str) -> Result<String, Fail> {
+    let set = padded_within(alloc, question)?;
+    lengths(alloc, &set)
 }
 
 #[test]
 fn the_front_of_a_long_value(rt: HostRuntime) -> Result<(), Fail> {
-    for case in LONG.split('\n') {
-        assert_eq!(rt; long(rt.alloc(), case)?.as_str(), case);
-    }
-    Ok(())
+    ask_all(&rt, rt.alloc(), Ask::Long, LONG)
 }

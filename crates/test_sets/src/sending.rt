@@ -1,9 +1,10 @@
 //! Data sets, headers and pieces sent to a writer.
 
+use crate::cases::{Ask, ask_all};
 use crate::spellings::{PATIENT_ID, nested, set_of, spelled};
 use dd_elem::{Sink, Vr};
 use dd_set::{DataSet, Element, Syntax, Value, WriteFault, send, send_header, write_set};
-use dd_vectors::{answered, bytes_of, question, tag_of};
+use dd_vectors::{bytes_of, tag_of};
 use std::alloc::Global;
 use std::test::Fail;
 
@@ -47,16 +48,11 @@ fn told(alloc: Global, answer: Result<u64, WriteFault>) -> Result<String, Fail> 
     }
 }
 
-/// The case with this answer, and what the writer holds.
-fn answered_by(
-    alloc: Global,
-    case: &str,
-    answer: Result<u64, WriteFault>,
-    sink: &Sink,
-) -> Result<String, Fail> {
+/// This answer, and what the writer holds.
+fn told_with(alloc: Global, answer: Result<u64, WriteFault>, sink: &Sink) -> Result<String, Fail> {
     let answer = told(alloc, answer)?;
     let held = hex::encode(alloc, sink.bytes())?;
-    Ok(answered(alloc, case, &format_args!("{answer} [{held}]"))?)
+    Ok(format!(in alloc; "{answer} [{held}]")?)
 }
 
 /// What comes of sending the set that these bytes spell to this writer: how many bytes went or the words
@@ -72,36 +68,26 @@ fn sent_again(alloc: Global, syntax: Syntax, bytes: &[u8], mut sink: Sink) -> Re
     Ok(format!(in alloc; "{answer} [{held}]")?)
 }
 
-fn sent(alloc: Global, case: &str) -> Result<String, Fail> {
-    let (syntax, bytes) = spelled(alloc, question(case))?;
+pub(crate) fn sent(alloc: Global, question: &str) -> Result<String, Fail> {
+    let (syntax, bytes) = spelled(alloc, question)?;
     let sink = Sink::new(alloc, None);
-    Ok(answered(alloc, case, &sent_again(alloc, syntax, &bytes, sink)?)?)
+    sent_again(alloc, syntax, &bytes, sink)
 }
 
 #[test]
 fn sets_give_their_bytes_back(rt: HostRuntime) -> Result<(), Fail> {
-    for case in SENT.split('\n') {
-        assert_eq!(rt; sent(rt.alloc(), case)?.as_str(), case);
-    }
-    Ok(())
+    ask_all(&rt, rt.alloc(), Ask::Sent, SENT)
 }
 
-fn cut(alloc: Global, case: &str) -> Result<String, Fail> {
+pub(crate) fn cut(alloc: Global, question: &str) -> Result<String, Fail> {
     let bytes = nested(alloc, 32)?;
-    let sink = Sink::new(alloc, Some(question(case).parse()?));
-    Ok(answered(
-        alloc,
-        case,
-        &sent_again(alloc, Syntax::Explicit, &bytes, sink)?,
-    )?)
+    let sink = Sink::new(alloc, Some(question.parse()?));
+    sent_again(alloc, Syntax::Explicit, &bytes, sink)
 }
 
 #[test]
 fn a_writer_that_fails_keeps_what_it_took(rt: HostRuntime) -> Result<(), Fail> {
-    for case in FAILING.split('\n') {
-        assert_eq!(rt; cut(rt.alloc(), case)?.as_str(), case);
-    }
-    Ok(())
+    ask_all(&rt, rt.alloc(), Ask::Cut, FAILING)
 }
 
 /// The data set of a Patient ID with this value.
@@ -139,33 +125,27 @@ fn header_sent(header: &str, sink: &mut Sink) -> Result<Result<u64, WriteFault>,
     }
 }
 
-fn header(alloc: Global, case: &str) -> Result<String, Fail> {
+pub(crate) fn header(alloc: Global, question: &str) -> Result<String, Fail> {
     let mut sink = Sink::new(alloc, None);
     sink.reserve(12)?;
-    let answer = header_sent(question(case), &mut sink)?;
-    answered_by(alloc, case, answer, &sink)
+    let answer = header_sent(question, &mut sink)?;
+    told_with(alloc, answer, &sink)
 }
 
 #[test]
 fn headers_are_sent_where_the_length_has_room(rt: HostRuntime) -> Result<(), Fail> {
-    for case in HEADERS.split('\n') {
-        assert_eq!(rt; header(rt.alloc(), case)?.as_str(), case);
-    }
-    Ok(())
+    ask_all(&rt, rt.alloc(), Ask::Header, HEADERS)
 }
 
-fn piece(alloc: Global, case: &str) -> Result<String, Fail> {
+pub(crate) fn piece(alloc: Global, question: &str) -> Result<String, Fail> {
     let bytes = bytes_of(alloc, "10002000 4c4f 0200 5031")?;
-    let mut sink = Sink::new(alloc, Some(question(case).parse()?));
+    let mut sink = Sink::new(alloc, Some(question.parse()?));
     sink.reserve(10)?;
     let answer = send(&bytes, &mut sink, 100);
-    answered_by(alloc, case, answer, &sink)
+    told_with(alloc, answer, &sink)
 }
 
 #[test]
 fn a_piece_is_sent_behind_others(rt: HostRuntime) -> Result<(), Fail> {
-    for case in PIECES.split('\n') {
-        assert_eq!(rt; piece(rt.alloc(), case)?.as_str(), case);
-    }
-    Ok(())
+    ask_all(&rt, rt.alloc(), Ask::Piece, PIECES)
 }

@@ -1,7 +1,8 @@
 //! Readers and writers over memory.
 
+use crate::cases::{Ask, ask_all};
 use dd_elem::{ByteSource, Read, Sink, Write};
-use dd_vectors::{answered, failing, question};
+use dd_vectors::failing;
 use std::alloc::Global;
 use std::test::Fail;
 
@@ -38,22 +39,19 @@ fn push_read(text: &mut String, source: &mut ByteSource<'_>) -> Result<(), Fail>
     Ok(())
 }
 
-fn reads(alloc: Global, case: &str) -> Result<String, Fail> {
-    let (piece, fails) = question(case).split_once(' ').ok_or("no reader")?;
+pub(crate) fn reads(alloc: Global, question: &str) -> Result<String, Fail> {
+    let (piece, fails) = question.split_once(' ').ok_or("no reader")?;
     let mut source = ByteSource::new(b"ABCDE", piece.parse()?, failing(fails)?);
     let mut text = String::new(alloc);
     for _ in 0..4 {
         push_read(&mut text, &mut source)?;
     }
-    Ok(answered(alloc, case, &text)?)
+    Ok(text)
 }
 
 #[test]
 fn sources_give_pieces_and_fail_for_good(rt: HostRuntime) -> Result<(), Fail> {
-    for case in READERS.split('\n') {
-        assert_eq!(rt; reads(rt.alloc(), case)?.as_str(), case);
-    }
-    Ok(())
+    ask_all(&rt, rt.alloc(), Ask::Reads, READERS)
 }
 
 /// How many bytes a write took, and a space.
@@ -67,23 +65,26 @@ fn push_write(text: &mut String, sink: &mut Sink) -> Result<(), Fail> {
     Ok(())
 }
 
-fn writes(alloc: Global, case: &str) -> Result<String, Fail> {
-    let mut sink = Sink::new(alloc, failing(question(case))?);
+/// What the writer holds, and what it hands out.
+fn push_held(text: &mut String, sink: Sink) -> Result<(), Fail> {
+    text.push_str(str::from_utf8(sink.bytes())?)?;
+    text.push_str(" then ")?;
+    text.push_str(str::from_utf8(&sink.into_bytes())?)?;
+    Ok(())
+}
+
+pub(crate) fn writes(alloc: Global, question: &str) -> Result<String, Fail> {
+    let mut sink = Sink::new(alloc, failing(question)?);
     sink.reserve(9)?;
     let mut text = String::new(alloc);
     for _ in 0..3 {
         push_write(&mut text, &mut sink)?;
     }
-    text.push_str(str::from_utf8(sink.bytes())?)?;
-    text.push_str(" then ")?;
-    text.push_str(str::from_utf8(&sink.into_bytes())?)?;
-    Ok(answered(alloc, case, &text)?)
+    push_held(&mut text, sink)?;
+    Ok(text)
 }
 
 #[test]
 fn sinks_hold_what_they_took(rt: HostRuntime) -> Result<(), Fail> {
-    for case in WRITERS.split('\n') {
-        assert_eq!(rt; writes(rt.alloc(), case)?.as_str(), case);
-    }
-    Ok(())
+    ask_all(&rt, rt.alloc(), Ask::Writes, WRITERS)
 }

@@ -1,7 +1,8 @@
 //! UIDs, IDs of file-sets and File IDs.
 
+use crate::cases::{Ask, ask_all};
 use dd_elem::{FileId, SetId, Uid, is_file_id};
-use dd_vectors::{answered, bytes_of, question, text_of};
+use dd_vectors::{bytes_of, text_of};
 use std::alloc::Global;
 use std::test::Fail;
 
@@ -69,86 +70,71 @@ const FILE_IDS: &str = "\
 'IMAGES/IM1 > false
 'IM1_ > false";
 
-fn uid(alloc: Global, case: &str) -> Result<String, Fail> {
-    let bytes = bytes_of(alloc, question(case))?;
+pub(crate) fn uid(alloc: Global, question: &str) -> Result<String, Fail> {
+    let bytes = bytes_of(alloc, question)?;
     match Uid::new(&bytes) {
-        Ok(uid) => Ok(answered(alloc, case, &text_of(alloc, uid.as_bytes())?)?),
-        Err(bad) => Ok(answered(alloc, case, &bad)?),
+        Ok(uid) => Ok(text_of(alloc, uid.as_bytes())?),
+        Err(bad) => Ok(format!(in alloc; "{bad}")?),
     }
 }
 
-fn digest_uid(alloc: Global, case: &str) -> Result<String, Fail> {
-    let uid = Uid::from_digest(&[question(case).parse()?; 32]);
-    Ok(answered(alloc, case, &uid)?)
+pub(crate) fn digest_uid(alloc: Global, question: &str) -> Result<String, Fail> {
+    let uid = Uid::from_digest(&[question.parse()?; 32]);
+    Ok(format!(in alloc; "{uid}")?)
 }
 
-fn set_id(alloc: Global, case: &str) -> Result<String, Fail> {
-    let bytes = bytes_of(alloc, question(case))?;
+pub(crate) fn set_id(alloc: Global, question: &str) -> Result<String, Fail> {
+    let bytes = bytes_of(alloc, question)?;
     match SetId::new(&bytes) {
-        Ok(id) => Ok(answered(alloc, case, &text_of(alloc, id.as_bytes())?)?),
-        Err(bad) => Ok(answered(alloc, case, &bad)?),
+        Ok(id) => Ok(text_of(alloc, id.as_bytes())?),
+        Err(bad) => Ok(format!(in alloc; "{bad}")?),
     }
 }
 
 /// The File ID of these ranks.
 fn ranked(ranks: &str) -> Result<Option<FileId>, Fail> {
-    let mut ranks = ranks.split(' ');
-    let patient = ranks.next().ok_or("no rank")?.parse()?;
-    let study = ranks.next().ok_or("no rank")?.parse()?;
-    let series = ranks.next().ok_or("no rank")?.parse()?;
-    let image = ranks.next().ok_or("no rank")?.parse()?;
+    let mut numbers = [0; 4];
+    for (number, rank) in numbers.iter_mut().zip(ranks.split(' ')) {
+        *number = rank.parse()?;
+    }
+    let [patient, study, series, image] = numbers;
     Ok(FileId::ranked(patient, study, series, image))
 }
 
-fn file_id(alloc: Global, case: &str) -> Result<String, Fail> {
-    match ranked(question(case))? {
-        Some(id) => Ok(answered(alloc, case, &str::from_utf8(&id.text())?)?),
-        None => Ok(answered(alloc, case, &"none")?),
+pub(crate) fn file_id(alloc: Global, question: &str) -> Result<String, Fail> {
+    match ranked(question)? {
+        Some(id) => Ok(String::from_str(alloc, str::from_utf8(&id.text())?)?),
+        None => Ok(String::from_str(alloc, "none")?),
     }
 }
 
-fn is_taken(alloc: Global, case: &str) -> Result<String, Fail> {
-    let bytes = bytes_of(alloc, question(case))?;
-    Ok(answered(alloc, case, &is_file_id(&bytes))?)
+pub(crate) fn is_taken(alloc: Global, question: &str) -> Result<String, Fail> {
+    let is_taken = is_file_id(&bytes_of(alloc, question)?);
+    Ok(format!(in alloc; "{is_taken}")?)
 }
 
 #[test]
 fn uids_have_components_of_digits(rt: HostRuntime) -> Result<(), Fail> {
-    for case in UIDS.split('\n') {
-        assert_eq!(rt; uid(rt.alloc(), case)?.as_str(), case);
-    }
-    Ok(())
+    ask_all(&rt, rt.alloc(), Ask::Uid, UIDS)
 }
 
 #[test]
 fn digests_have_uids(rt: HostRuntime) -> Result<(), Fail> {
-    for case in DIGESTS.split('\n') {
-        assert_eq!(rt; digest_uid(rt.alloc(), case)?.as_str(), case);
-    }
-    Ok(())
+    ask_all(&rt, rt.alloc(), Ask::DigestUid, DIGESTS)
 }
 
 #[test]
 fn set_ids_have_16_characters(rt: HostRuntime) -> Result<(), Fail> {
-    for case in SET_IDS.split('\n') {
-        assert_eq!(rt; set_id(rt.alloc(), case)?.as_str(), case);
-    }
-    assert_eq!(rt; SetId::new(b"_")?.as_bytes(), b"_".as_slice());
-    Ok(())
+    assert!(rt; SetId::new(b"_")?.as_bytes() == b"_".as_slice());
+    ask_all(&rt, rt.alloc(), Ask::SetId, SET_IDS)
 }
 
 #[test]
 fn ranks_have_six_digits(rt: HostRuntime) -> Result<(), Fail> {
-    for case in RANKS.split('\n') {
-        assert_eq!(rt; file_id(rt.alloc(), case)?.as_str(), case);
-    }
-    Ok(())
+    ask_all(&rt, rt.alloc(), Ask::FileId, RANKS)
 }
 
 #[test]
 fn file_ids_have_components_of_8_characters(rt: HostRuntime) -> Result<(), Fail> {
-    for case in FILE_IDS.split('\n') {
-        assert_eq!(rt; is_taken(rt.alloc(), case)?.as_str(), case);
-    }
-    Ok(())
+    ask_all(&rt, rt.alloc(), Ask::IsTaken, FILE_IDS)
 }

@@ -1,9 +1,11 @@
 //! Padding, keys, and the order of keys and UIDs.
 
+use crate::cases::{Ask, ask_all};
 use dd_elem::{Key, KeyRefused, Memory, Ordered, Uid, clean};
-use dd_vectors::{answered, bytes_of, question, text_of};
+use dd_vectors::{bytes_of, text_of};
 use std::alloc::Global;
 use std::cmp::Ordering;
+use std::process::Abort;
 use std::test::Fail;
 
 /// Values, and what is left of them without padding. Two are of 22 and 23 bytes.
@@ -24,27 +26,29 @@ const KEYS: &str = "' '1 '10 '9 'A 'AB 'ABCDEFGHIJKLMNOPQRSTUV 'ABCDEFGHIJKLMNOP
 /// UIDs, each smaller than the next.
 const UIDS: &str = "1.10 1.2 1.2.3 1.2.840.10008.1.2 2.25.0";
 
-fn cleaned(alloc: Global, case: &str) -> Result<String, Fail> {
-    let bytes = bytes_of(alloc, question(case))?;
-    Ok(answered(alloc, case, &text_of(alloc, clean(&bytes))?)?)
+pub(crate) fn cleaned(alloc: Global, question: &str) -> Result<String, Fail> {
+    let bytes = bytes_of(alloc, question)?;
+    Ok(text_of(alloc, clean(&bytes))?)
 }
 
-/// The case with what the key of these bytes holds, or an error where its copy is another key.
-fn kept(alloc: Global, case: &str) -> Result<String, Fail> {
-    let key = Key::copy_of(alloc, &bytes_of(alloc, question(case))?)?;
+/// The key of the bytes that a word names.
+fn key_of(alloc: Global, word: &str) -> Result<Key, Fail> {
+    Ok(Key::copy_of(alloc, &bytes_of(alloc, word)?)?)
+}
+
+/// What the key of these bytes holds, or an error where its copy is another key.
+pub(crate) fn kept(alloc: Global, question: &str) -> Result<String, Fail> {
+    let key = key_of(alloc, question)?;
     if key.copy()? != key {
         return Err("the copy is another key".into());
     }
-    Ok(answered(alloc, case, &text_of(alloc, key.as_bytes())?)?)
+    Ok(text_of(alloc, key.as_bytes())?)
 }
 
 #[test]
 fn keys_have_no_padding(rt: HostRuntime) -> Result<(), Fail> {
-    for case in CLEAN.split('\n') {
-        assert_eq!(rt; cleaned(rt.alloc(), case)?.as_str(), case);
-        assert_eq!(rt; kept(rt.alloc(), case)?.as_str(), case);
-    }
-    Ok(())
+    ask_all(&rt, rt.alloc(), Ask::Cleaned, CLEAN)?;
+    ask_all(&rt, rt.alloc(), Ask::Kept, CLEAN)
 }
 
 #[test]
@@ -71,8 +75,8 @@ fn want_of_memory_in_words(rt: HostRuntime) -> Result<(), Fail> {
 
 /// How two keys stand, and how they stand the other way round.
 fn order_of_keys(alloc: Global, left: &str, right: &str) -> Result<(Ordering, Ordering), Fail> {
-    let left = Key::copy_of(alloc, &bytes_of(alloc, left)?)?;
-    let right = Key::copy_of(alloc, &bytes_of(alloc, right)?)?;
+    let left = key_of(alloc, left)?;
+    let right = key_of(alloc, right)?;
     Ok((left.compare(&right), right.compare(&left)))
 }
 
@@ -83,16 +87,31 @@ fn order_of_uids(left: &str, right: &str) -> Result<(Ordering, Ordering), Fail> 
     Ok((left.compare(&right), right.compare(&left)))
 }
 
+/// What stands in an order.
+#[derive(Clone, Copy)]
+enum Kind {
+    Key,
+    Uid,
+}
+
+/// How two of a kind stand, and how they stand the other way round.
+fn order(alloc: Global, kind: Kind, left: &str, right: &str) -> Result<(Ordering, Ordering), Fail> {
+    match kind {
+        Kind::Key => order_of_keys(alloc, left, right),
+        Kind::Uid => order_of_uids(left, right),
+    }
+}
+
 /// How the values at these places stand, and the other way round, where they rise with their places.
 fn wanted(left: usize, right: usize) -> (Ordering, Ordering) {
     (left.cmp(&right), right.cmp(&left))
 }
 
-#[test]
-fn keys_stand_in_dictionary_order(rt: HostRuntime) -> Result<(), Fail> {
-    for (place, left) in KEYS.split(' ').enumerate() {
-        for (other, right) in KEYS.split(' ').enumerate() {
-            let found = order_of_keys(rt.alloc(), left, right)?;
+/// Compares each of these with each. They have to rise with their places.
+fn compare_all(rt: &impl Abort, alloc: Global, kind: Kind, words: &str) -> Result<(), Fail> {
+    for (place, left) in words.split(' ').enumerate() {
+        for (other, right) in words.split(' ').enumerate() {
+            let found = order(alloc, kind, left, right)?;
             assert_eq!(rt; found, wanted(place, other), "of {left} and {right}");
         }
     }
@@ -100,12 +119,11 @@ fn keys_stand_in_dictionary_order(rt: HostRuntime) -> Result<(), Fail> {
 }
 
 #[test]
+fn keys_stand_in_dictionary_order(rt: HostRuntime) -> Result<(), Fail> {
+    compare_all(&rt, rt.alloc(), Kind::Key, KEYS)
+}
+
+#[test]
 fn uids_stand_in_dictionary_order(rt: HostRuntime) -> Result<(), Fail> {
-    for (place, left) in UIDS.split(' ').enumerate() {
-        for (other, right) in UIDS.split(' ').enumerate() {
-            let found = order_of_uids(left, right)?;
-            assert_eq!(rt; found, wanted(place, other), "of {left} and {right}");
-        }
-    }
-    Ok(())
+    compare_all(&rt, rt.alloc(), Kind::Uid, UIDS)
 }

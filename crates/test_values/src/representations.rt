@@ -1,7 +1,8 @@
 //! Tags and value representations.
 
+use crate::cases::{Ask, ask_all};
 use dd_elem::{Tag, Vr};
-use dd_vectors::{answered, question, tag_of};
+use dd_vectors::{question, tag_of};
 use std::alloc::Global;
 use std::test::Fail;
 
@@ -18,23 +19,31 @@ const LONG: &str = "OB OD OF OL OV OW SQ SV UC UN UR UT UV";
 
 const SHORT: &str = "AE AS AT CS DA DS DT FD FL IS LO LT PN SH SL SS ST TM UI UL US";
 
-fn in_words(alloc: Global, case: &str) -> Result<String, Fail> {
-    Ok(answered(alloc, case, &tag_of(question(case))?)?)
+pub(crate) fn in_words(alloc: Global, question: &str) -> Result<String, Fail> {
+    let tag = tag_of(question)?;
+    Ok(format!(in alloc; "{tag}")?)
 }
 
-#[test]
-fn tags_in_words_and_in_order(rt: HostRuntime) -> Result<(), Fail> {
+/// The first case whose tag is not greater than the one before.
+fn first_out_of_order(cases: &str) -> Result<Option<&str>, Fail> {
     let mut low = Tag {
         group: 0,
         element: 0,
     };
-    for case in TAGS.split('\n') {
-        assert_eq!(rt; in_words(rt.alloc(), case)?.as_str(), case);
+    for case in cases.split('\n') {
         let tag = tag_of(question(case))?;
-        assert!(rt; low < tag, "at {case}");
+        if tag <= low {
+            return Ok(Some(case));
+        }
         low = tag;
     }
-    Ok(())
+    Ok(None)
+}
+
+#[test]
+fn tags_in_words_and_in_order(rt: HostRuntime) -> Result<(), Fail> {
+    assert_eq!(rt; first_out_of_order(TAGS)?, None);
+    ask_all(&rt, rt.alloc(), Ask::InWords, TAGS)
 }
 
 /// Do these letters name the representation with this name and these letters?

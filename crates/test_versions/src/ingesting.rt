@@ -1,10 +1,11 @@
 //! Versions of files that a reader gives.
 
+use crate::cases::{Ask, ask_all};
 use crate::reading::text_of_keys;
 use crate::refusals::with_patient_id;
 use dd_elem::{ByteSource, Ordered};
 use dd_keys::{Version, ingest, version_of};
-use dd_vectors::{answered, push_bytes, question, v1, v1_with};
+use dd_vectors::{push_bytes, v1, v1_with};
 use std::alloc::Global;
 use std::test::Fail;
 
@@ -59,6 +60,11 @@ efcd87e22343fd137453c1ffbda35b482032867d71027bbfdc706b672e5a5d5b \
 '1.2.840.10008.5.1.4.1.1.2 '1.2.840.10008.1.2.1 '1.2.3.4.5
 4096 1000465 > 39 FileTooLong";
 
+/// V1 with a Patient ID of so many letters and this padding: how many bytes are kept, or the refusal.
+const LONG: &str = "\
+1024 ____ > 1024 bytes
+1025 _ > 35 KeyTooLong (0010,0020)";
+
 /// The file of this name.
 fn file_of(alloc: Global, name: &str) -> Result<Vec<u8>, Fail> {
     if name == "whole" {
@@ -90,7 +96,7 @@ fn outcome(
 }
 
 /// What becomes of such a file where such a reader gives it.
-fn ingested(alloc: Global, question: &str) -> Result<String, Fail> {
+pub(crate) fn ingested(alloc: Global, question: &str) -> Result<String, Fail> {
     let (piece, rest) = question.split_once(' ').ok_or("no piece")?;
     let (fails, rest) = rest.split_once(' ').ok_or("no failure")?;
     let (limit, name) = rest.split_once(' ').ok_or("no file")?;
@@ -99,17 +105,9 @@ fn ingested(alloc: Global, question: &str) -> Result<String, Fail> {
     outcome(alloc, &bytes, &mut source, limit.parse()?)
 }
 
-fn read(alloc: Global, case: &str) -> Result<String, Fail> {
-    let answer = ingested(alloc, question(case))?;
-    Ok(answered(alloc, case, &answer)?)
-}
-
 #[test]
 fn a_reader_gives_the_version_of_its_bytes(rt: HostRuntime) -> Result<(), Fail> {
-    for case in READ.split('\n') {
-        assert_eq!(rt; read(rt.alloc(), case)?.as_str(), case);
-    }
-    Ok(())
+    ask_all(&rt, rt.alloc(), Ask::Ingested, READ)
 }
 
 /// V1 with the large element behind it: 1,000,466 bytes.
@@ -130,7 +128,7 @@ fn text_of_version(alloc: Global, version: &Version) -> Result<String, Fail> {
 }
 
 /// What becomes of the large file where a reader gives it so.
-fn large(alloc: Global, question: &str) -> Result<String, Fail> {
+pub(crate) fn large(alloc: Global, question: &str) -> Result<String, Fail> {
     let (piece, limit) = question.split_once(' ').ok_or("no piece")?;
     let bytes = large_file(alloc)?;
     let mut source = ByteSource::new(&bytes, piece.parse()?, None);
@@ -140,23 +138,15 @@ fn large(alloc: Global, question: &str) -> Result<String, Fail> {
     }
 }
 
-fn read_large(alloc: Global, case: &str) -> Result<String, Fail> {
-    let answer = large(alloc, question(case))?;
-    Ok(answered(alloc, case, &answer)?)
-}
-
 #[test]
 fn the_digest_covers_what_stands_behind_the_keys(rt: HostRuntime) -> Result<(), Fail> {
-    for case in LARGE.split('\n') {
-        assert_eq!(rt; read_large(rt.alloc(), case)?.as_str(), case);
-    }
-    Ok(())
+    ask_all(&rt, rt.alloc(), Ask::Large, LARGE)
 }
 
-/// What becomes of V1 with a Patient ID of so many letters and this padding, in pieces of so many bytes.
-fn long(alloc: Global, piece: u64, letters: usize, padding: &str) -> Result<String, Fail> {
-    let bytes = with_patient_id(alloc, letters, padding)?;
-    let mut source = ByteSource::new(&bytes, piece, None);
+/// What becomes of V1 with such a Patient ID, in pieces of 7 bytes.
+pub(crate) fn long(alloc: Global, question: &str) -> Result<String, Fail> {
+    let bytes = with_patient_id(alloc, question)?;
+    let mut source = ByteSource::new(&bytes, 7, None);
     match ingest(alloc, &mut source, 2000) {
         Ok(version) => {
             let kept = version.parts().patient.id.as_bytes().len();
@@ -168,10 +158,5 @@ fn long(alloc: Global, piece: u64, letters: usize, padding: &str) -> Result<Stri
 
 #[test]
 fn keys_of_a_reader_have_1024_bytes(rt: HostRuntime) -> Result<(), Fail> {
-    assert_eq!(rt; long(rt.alloc(), 7, 1024, "____")?.as_str(), "1024 bytes");
-    assert_eq!(rt;
-        long(rt.alloc(), 7, 1025, "_")?.as_str(),
-        "35 KeyTooLong (0010,0020)"
-    );
-    Ok(())
+    ask_all(&rt, rt.alloc(), Ask::IngestedLong, LONG)
 }

@@ -1,8 +1,9 @@
 //! Versions made of parts, and their order.
 
+use crate::cases::{Ask, ask_all};
 use dd_elem::{Key, Ordered, Uid};
 use dd_keys::{Parts, Version, version_of};
-use dd_vectors::{answered, bytes_of, question, v1};
+use dd_vectors::{bytes_of, v1};
 use std::alloc::Global;
 use std::cmp::Ordering;
 use std::test::Fail;
@@ -103,19 +104,16 @@ fn parts_with(alloc: Global, changes: &str) -> Result<Parts, Fail> {
     Ok(parts)
 }
 
-fn misfit(alloc: Global, case: &str) -> Result<String, Fail> {
-    match Version::of(parts_with(alloc, question(case))?) {
-        Ok(_) => Ok(answered(alloc, case, &"fits")?),
-        Err(misfit) => Ok(answered(alloc, case, &misfit)?),
+pub(crate) fn misfit(alloc: Global, question: &str) -> Result<String, Fail> {
+    match Version::of(parts_with(alloc, question)?) {
+        Ok(_) => Ok(String::from_str(alloc, "fits")?),
+        Err(misfit) => Ok(format!(in alloc; "{misfit}")?),
     }
 }
 
 #[test]
 fn the_least_tag_that_does_not_fit(rt: HostRuntime) -> Result<(), Fail> {
-    for case in MISFITS.split('\n') {
-        assert_eq!(rt; misfit(rt.alloc(), case)?.as_str(), case);
-    }
-    Ok(())
+    ask_all(&rt, rt.alloc(), Ask::Misfit, MISFITS)
 }
 
 /// The version of this line.

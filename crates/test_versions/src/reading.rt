@@ -1,7 +1,8 @@
 //! Versions read from the bytes of their files.
 
+use crate::cases::{Ask, ask_all};
 use dd_keys::{Parts, version_of};
-use dd_vectors::{answered, question, text_of, v1, v1_implicit, v1_with};
+use dd_vectors::{text_of, v1, v1_implicit, v1_with};
 use std::alloc::Global;
 use std::test::Fail;
 
@@ -36,19 +37,15 @@ fn file_of(alloc: Global, name: &str) -> Result<Vec<u8>, Fail> {
     }
 }
 
-fn digest(alloc: Global, case: &str) -> Result<String, Fail> {
-    let bytes = file_of(alloc, question(case))?;
+pub(crate) fn digest(alloc: Global, question: &str) -> Result<String, Fail> {
+    let bytes = file_of(alloc, question)?;
     let version = version_of(alloc, &bytes)?;
-    let digits = hex::encode(alloc, version.parts().digest)?;
-    Ok(answered(alloc, case, &digits)?)
+    Ok(hex::encode(alloc, version.parts().digest)?)
 }
 
 #[test]
 fn the_digest_is_that_of_the_file(rt: HostRuntime) -> Result<(), Fail> {
-    for case in DIGESTS.split('\n') {
-        assert_eq!(rt; digest(rt.alloc(), case)?.as_str(), case);
-    }
-    Ok(())
+    ask_all(&rt, rt.alloc(), Ask::Digest, DIGESTS)
 }
 
 /// The keys of the patient and the study.
@@ -100,16 +97,13 @@ pub(crate) fn text_of_keys(alloc: Global, parts: &Parts) -> Result<String, Fail>
     Ok(text)
 }
 
-fn keys(alloc: Global, case: &str) -> Result<String, Fail> {
-    let bytes = file_of(alloc, question(case))?;
+pub(crate) fn keys(alloc: Global, question: &str) -> Result<String, Fail> {
+    let bytes = file_of(alloc, question)?;
     let version = version_of(alloc, &bytes)?;
-    Ok(answered(alloc, case, &text_of_keys(alloc, version.parts())?)?)
+    text_of_keys(alloc, version.parts())
 }
 
 #[test]
 fn the_keys_are_those_of_the_data_set(rt: HostRuntime) -> Result<(), Fail> {
-    for case in KEYS.split('\n') {
-        assert_eq!(rt; keys(rt.alloc(), case)?.as_str(), case);
-    }
-    Ok(())
+    ask_all(&rt, rt.alloc(), Ask::Keys, KEYS)
 }

@@ -1,9 +1,10 @@
 //! Bytes that are no file of a version, each with the first check that they fail.
 
+use crate::cases::{Ask, ask_all};
 use dd_keys::{KeyFault, version_of};
 use dd_part10::FileFault;
 use dd_set::SetFault;
-use dd_vectors::{answered, question, v1, v1_with};
+use dd_vectors::{v1, v1_with};
 use std::alloc::Global;
 use std::test::Fail;
 
@@ -51,36 +52,35 @@ fn answer(alloc: Global, bytes: &[u8]) -> Result<String, Fail> {
     }
 }
 
-fn cut(alloc: Global, case: &str) -> Result<String, Fail> {
+pub(crate) fn cut(alloc: Global, question: &str) -> Result<String, Fail> {
     let bytes = v1(alloc)?;
-    let size: usize = question(case).parse()?;
+    let size: usize = question.parse()?;
     let front = bytes.get(..size).ok_or("fewer bytes")?;
-    Ok(answered(alloc, case, &answer(alloc, front)?)?)
+    answer(alloc, front)
 }
 
 #[test]
 fn no_version_of_a_file_cut_short(rt: HostRuntime) -> Result<(), Fail> {
-    for case in CUT.split('\n') {
-        assert_eq!(rt; cut(rt.alloc(), case)?.as_str(), case);
-    }
-    Ok(())
+    ask_all(&rt, rt.alloc(), Ask::Cut, CUT)
 }
 
-fn other(alloc: Global, case: &str) -> Result<String, Fail> {
-    let bytes = v1_with(alloc, question(case))?;
-    Ok(answered(alloc, case, &answer(alloc, &bytes)?)?)
+pub(crate) fn other(alloc: Global, question: &str) -> Result<String, Fail> {
+    let bytes = v1_with(alloc, question)?;
+    answer(alloc, &bytes)
 }
 
 #[test]
 fn the_first_check_of_a_key_that_fails(rt: HostRuntime) -> Result<(), Fail> {
-    for case in OTHER.split('\n') {
-        assert_eq!(rt; other(rt.alloc(), case)?.as_str(), case);
-    }
-    Ok(())
+    ask_all(&rt, rt.alloc(), Ask::Other, OTHER)
 }
 
+/// V1 with a Patient ID of so many letters and this padding: how many bytes are kept, or the refusal.
+const LONG: &str = "\
+1024 __ > 1024 bytes
+1025 _ > 35 KeyTooLong (0010,0020)";
+
 /// A Patient ID of so many letters and this padding.
-fn patient_id(alloc: Global, letters: usize, padding: &str) -> Result<String, Fail> {
+fn patient_id(alloc: Global, letters: u32, padding: &str) -> Result<String, Fail> {
     let mut change = String::from_str(alloc, "0010,0020 LO '")?;
     for _ in 0..letters {
         change.push('A')?;
@@ -89,18 +89,18 @@ fn patient_id(alloc: Global, letters: usize, padding: &str) -> Result<String, Fa
     Ok(change)
 }
 
-/// V1 with such a Patient ID.
-pub(crate) fn with_patient_id(
-    alloc: Global,
-    letters: usize,
-    padding: &str,
-) -> Result<Vec<u8>, Fail> {
-    v1_with(alloc, patient_id(alloc, letters, padding)?.as_str())
+/// V1 with such a Patient ID: the words are how many letters and the padding.
+pub(crate) fn with_patient_id(alloc: Global, words: &str) -> Result<Vec<u8>, Fail> {
+    let (letters, padding) = words.split_once(' ').ok_or("no padding")?;
+    v1_with(
+        alloc,
+        patient_id(alloc, letters.parse()?, padding)?.as_str(),
+    )
 }
 
 /// What becomes of it.
-fn long(alloc: Global, letters: usize, padding: &str) -> Result<String, Fail> {
-    match version_of(alloc, &with_patient_id(alloc, letters, padding)?) {
+pub(crate) fn long(alloc: Global, question: &str) -> Result<String, Fail> {
+    match version_of(alloc, &with_patient_id(alloc, question)?) {
         Ok(version) => {
             let kept = version.parts().patient.id.as_bytes().len();
             Ok(format!(in alloc; "{kept} bytes")?)
@@ -111,12 +111,7 @@ fn long(alloc: Global, letters: usize, padding: &str) -> Result<String, Fail> {
 
 #[test]
 fn keys_have_1024_bytes(rt: HostRuntime) -> Result<(), Fail> {
-    assert_eq!(rt; long(rt.alloc(), 1024, "__")?.as_str(), "1024 bytes");
-    assert_eq!(rt;
-        long(rt.alloc(), 1025, "_")?.as_str(),
-        "35 KeyTooLong (0010,0020)"
-    );
-    Ok(())
+    ask_all(&rt, rt.alloc(), Ask::Long, LONG)
 }
 
 #[test]

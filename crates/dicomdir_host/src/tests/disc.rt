@@ -28,22 +28,42 @@ pub(super) enum Call {
     Store,
 }
 
-#[derive(Drop)]
 struct Entry {
     path: String,
     kind: Kind,
     bytes: Vec<u8>,
 }
 
+impl Drop for Entry {
+    fn drop(self) {
+        let Entry {
+            path: _path,
+            kind: _,
+            bytes: _bytes,
+        } = self;
+    }
+}
+
 /// The disc: what stands there, in the order in which it was made, the next call that fails, and which
 /// files and folders were to be made and which files were stored, in this order.
-#[derive(Drop)]
 pub(super) struct Disc {
     alloc: Global,
     entries: Vec<Entry>,
     failing: Option<Call>,
     kind: ErrorKind,
     log: String,
+}
+
+impl Drop for Disc {
+    fn drop(self) {
+        let Disc {
+            alloc: _,
+            entries: _entries,
+            failing: _,
+            kind: _,
+            log: _log,
+        } = self;
+    }
 }
 
 impl Disc {

@@ -1,0 +1,38 @@
+//! Cases: what each asks, and that the answer is right.
+
+use crate::{limits, records};
+use dd_vectors::{answered, question};
+use std::alloc::Global;
+use std::process::Abort;
+use std::test::Fail;
+
+/// What is asked: each has a function that answers.
+#[derive(Clone, Copy)]
+pub(crate) enum Ask {
+    Limited,
+    TooMany,
+    Versions,
+}
+
+/// The answer to a question.
+fn answer(alloc: Global, ask: Ask, question: &str) -> Result<String, Fail> {
+    match ask {
+        Ask::Limited => limits::limited(alloc, question),
+        Ask::TooMany => limits::too_many(alloc, question),
+        Ask::Versions => records::versions(alloc, question),
+    }
+}
+
+/// The case with the answer that is found.
+fn found(alloc: Global, ask: Ask, case: &str) -> Result<String, Fail> {
+    let answer = answer(alloc, ask, question(case))?;
+    Ok(answered(alloc, case, &answer)?)
+}
+
+/// Asks the question of each case. What is found has to be the case.
+pub(crate) fn ask_all(rt: &impl Abort, alloc: Global, ask: Ask, cases: &str) -> Result<(), Fail> {
+    for case in cases.split('\n') {
+        assert_eq!(rt; found(alloc, ask, case)?.as_str(), case);
+    }
+    Ok(())
+}

@@ -1,0 +1,50 @@
+//! Cases: what each asks, and that the answer is right.
+
+use crate::{ingesting, making, reading, refusals};
+use dd_vectors::{answered, question};
+use std::alloc::Global;
+use std::process::Abort;
+use std::test::Fail;
+
+/// What is asked: each has a function that answers.
+#[derive(Clone, Copy)]
+pub(crate) enum Ask {
+    Ingested,
+    Large,
+    IngestedLong,
+    Misfit,
+    Digest,
+    Keys,
+    Cut,
+    Other,
+    Long,
+}
+
+/// The answer to a question.
+fn answer(alloc: Global, ask: Ask, question: &str) -> Result<String, Fail> {
+    match ask {
+        Ask::Ingested => ingesting::ingested(alloc, question),
+        Ask::Large => ingesting::large(alloc, question),
+        Ask::IngestedLong => ingesting::long(alloc, question),
+        Ask::Misfit => making::misfit(alloc, question),
+        Ask::Digest => reading::digest(alloc, question),
+        Ask::Keys => reading::keys(alloc, question),
+        Ask::Cut => refusals::cut(alloc, question),
+        Ask::Other => refusals::other(alloc, question),
+        Ask::Long => refusals::long(alloc, question),
+    }
+}
+
+/// The case with the answer that is found.
+fn found(alloc: Global, ask: Ask, case: &str) -> Result<String, Fail> {
+    let answer = answer(alloc, ask, question(case))?;
+    Ok(answered(alloc, case, &answer)?)
+}
+
+/// Asks the question of each case. What is found has to be the case.
+pub(crate) fn ask_all(rt: &impl Abort, alloc: Global, ask: Ask, cases: &str) -> Result<(), Fail> {
+    for case in cases.split('\n') {
+        assert_eq!(rt; found(alloc, ask, case)?.as_str(), case);
+    }
+    Ok(())
+}
