@@ -3,6 +3,7 @@ use Rattle.std.proofs.Common.{◌≡◌, ℕ, ◌≤◌, ◌<◌, ◌^◌, List,
 use Rattle.std.specs.Prelude.{codes}
 use Rattle.std.specs.List.{All, AllByRecursion}
 use Rattle.std.proofs.lemmas.List.Elements.{All-from_recursion, recursion_from_All}
+use Rattle.dd_elem.specs.SetId.{max_set_id_length}
 use Rattle.dd_elem.specs.Uid.{IsUid, is_uid}
 use Rattle.dd_elem.proofs.UidForm.{IsUid_from_is_uid}
 use Rattle.dd_keys.specs.declared.parts.Parts.{Parts}
@@ -35,7 +36,7 @@ second_below xs ys n is below = omega (arith, length-append xs ys, is, below)
 
 -- its elements are those of a data set
 set_spelled : (label : Label) (versions : List Parts) → All (IsSound (length versions)) (records_of label versions)
-    → size label versions < 2 ^ 32 → length label.id ≤ 16
+    → size label versions < 2 ^ 32 → length label.id ≤ max_set_id_length
     → AllByRecursion IsRecord (map (entries_of versions) (records_of label versions))
     → Spells Explicit (directory_set label versions) (elements_text (directory_set label versions))
 set_spelled label versions sound below few valid =
@@ -53,12 +54,12 @@ set_spelled label versions sound below few valid =
 
 pub directory_is_file : (label : Label) (versions : List Parts) (seen : Label) (rows : List PlanRecord)
     (bytes wide : ℕ) → seen ≡ label → rows ≡ records_of label versions → All (IsSound (length versions)) rows
-    → bytes ≡ size label versions → wide ≡ bytes → wide < 2 ^ 32 → length seen.id ≤ 16 → IsUid seen.uid
+    → bytes ≡ size label versions → wide ≡ bytes → wide < 2 ^ 32 → length seen.id ≤ max_set_id_length → IsUid seen.uid
     → AllByRecursion IsRecord (map (entries_of versions) rows) → IsDirectory label versions
 directory_is_file label versions seen rows bytes wide same is sound bytes_is wide_is below few uid valid =
     let fits : size label versions < 2 ^ 32 = omega (arith, bytes_is, wide_is, below) in
     let spelled = set_spelled label versions (subst (All (IsSound (length versions))) is sound) fits
-    (subst (λ (l : Label). length l.id ≤ 16) same few)
+    (subst (λ (l : Label). length l.id ≤ max_set_id_length) same few)
     (subst (λ (rs : List PlanRecord). AllByRecursion IsRecord (map (entries_of versions) rs)) is valid) in
     head_is_file (meta_of label) Explicit (directory_set label versions) (elements_text (directory_set label versions))
     class_valid (subst (λ (l : Label). IsUid l.uid) same uid) syntax_valid refl spelled (omega arith)

@@ -49,14 +49,14 @@ decides_from_is bytes result is = (
       ∙ is_set_id_from_IsSetId bytes h,
 )
 
--- no more characters than that, each being tested
+-- no more than `max_set_id_length` characters, each being tested
 pub is_set_id-short : (bytes : List ℕ) → length bytes ≤ max_set_id_length
     → is_set_id bytes ≡ list_all is_id_character bytes
 unfolding is_set_id
 is_set_id-short bytes short = ap (λ (b : Bool). b && list_all is_id_character bytes)
     (le-leb (length bytes) max_set_id_length short)
 
--- more characters than that fail the test
+-- more than `max_set_id_length` characters fail the test
 pub is_set_id-long : (bytes : List ℕ) → max_set_id_length < length bytes → is_set_id bytes ≡ false
 unfolding is_set_id
 is_set_id-long bytes long = and_left _ _ (lt-leb (length bytes) max_set_id_length long)

@@ -105,14 +105,14 @@ IsUid_from_is_uid bytes e =
       short = leb-true (length bytes) max_uid_length p.0;
     }
 
--- no more characters than that, each part between dots being tested
+-- no more than `max_uid_length` characters, each part between dots being tested
 pub is_uid-short : (bytes : List ℕ) → length bytes ≤ max_uid_length → is_uid bytes ≡ list_all is_component
     (slice_split (λ byte. eqb byte 46) bytes)
 unfolding is_uid
 is_uid-short bytes short = ap (λ (b : Bool). b && list_all is_component (slice_split (λ byte. eqb byte 46) bytes))
     (le-leb (length bytes) max_uid_length short)
 
--- more characters than that fail the test
+-- more than `max_uid_length` characters fail the test
 pub is_uid-long : (bytes : List ℕ) → max_uid_length < length bytes → is_uid bytes ≡ false
 unfolding is_uid
 is_uid-long bytes long = and_left _ _ (lt-leb (length bytes) max_uid_length long)

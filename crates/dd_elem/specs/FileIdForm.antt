@@ -11,13 +11,13 @@ max_components = 8
 abbrev pub max_component_length : ℕ
 max_component_length = 8
 
--- a component: characters of IDs, at least one and at most so many
+-- a component: 1 to `max_component_length` characters of IDs
 pub record IsFileIdComponent (component : List ℕ) : Type 0 where
   pub characters : All IsIdCharacter component
   pub not_empty : 1 ≤ length component
   pub short : length component ≤ max_component_length
 
--- a File ID: components joined by `\` (92), at least one and at most so many
+-- a File ID: 1 to `max_components` components joined by `\` (92)
 pub record IsFileId (bytes : List ℕ) : Type 0 where
   pub components : List (List ℕ)
   pub each : All IsFileIdComponent components

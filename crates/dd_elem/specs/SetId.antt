@@ -7,7 +7,7 @@ use Rattle.dd_elem.specs.Characters.{IsIdCharacter, is_id_character}
 abbrev pub max_set_id_length : ℕ
 max_set_id_length = 16
 
--- the ID of a file-set: at most so many characters of IDs
+-- the ID of a file-set: at most `max_set_id_length` characters of IDs
 pub record IsSetId (bytes : List ℕ) : Type 0 where
   pub characters : All IsIdCharacter bytes
   pub short : length bytes ≤ max_set_id_length

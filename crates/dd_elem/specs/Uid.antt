@@ -14,7 +14,7 @@ pub record IsComponent (component : List ℕ) : Type 0 where
   pub not_empty : 1 ≤ length component
   pub no_leading_zero : slice_index component 0 ≡ 48 → length component ≡ 1
 
--- a UID: components joined by `.` (46), at least one character and at most so many in all
+-- a UID: components joined by `.` (46), of 1 to `max_uid_length` characters in all
 pub record IsUid (bytes : List ℕ) : Type 0 where
   pub components : List (List ℕ)
   pub each : All IsComponent components

@@ -10,7 +10,7 @@ use crate::characters::are_id_characters;
 const MAX_COMPONENTS: usize = 8;
 
 /// The most characters of a component.
-const MAX_CHARACTERS: usize = 8;
+const MAX_COMPONENT_LENGTH: usize = 8;
 
 /// Are the bytes a File ID: 1 to 8 components joined by `\`, each of 1 to 8 characters of `A` to `Z`,
 /// `0` to `9` and `_` (PS3.10 sections 8.2 and 8.5)?
@@ -40,5 +40,5 @@ fn are_components(bytes: &[u8]) -> bool
 fn is_component(bytes: &[u8]) -> bool
     ensures { result ≡ is_file_id_component bytes.now }
 {
-    (1..=MAX_CHARACTERS).contains(&bytes.len()) && are_id_characters(bytes)
+    (1..=MAX_COMPONENT_LENGTH).contains(&bytes.len()) && are_id_characters(bytes)
 }

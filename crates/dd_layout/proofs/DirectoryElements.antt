@@ -4,6 +4,7 @@ use Rattle.std.specs.List.{All, AllByRecursion}
 use Rattle.std.proofs.lemmas.List.Elements.{recursion_from_All}
 use Rattle.std.proofs.lemmas.List.Sums.{sum_by-cons}
 use Rattle.byteorder.specs.Endian.{little_bytes}
+use Rattle.dd_elem.specs.SetId.{max_set_id_length}
 use Rattle.dd_elem.specs.declared.vr.Vr.TheVariants.{CS, SQ, UL, US}
 use Rattle.dd_part10.specs.Head.{head_text}
 use Rattle.dd_set.specs.Elements.{Entry, Part, bytes, items, no_elements, elements_of, items_of}
@@ -60,36 +61,36 @@ length_is_of_records label first last records =
 
 items_valid : (records : List (List Entry)) → AllByRecursion IsRecord records
     → sum_by record_size records < undefined_length
-    → AreItems Explicit 32 (items_of (map record_part records))
+    → AreItems Explicit max_levels (items_of (map record_part records))
 items_valid [] valid below = tt
 items_valid (es ∷ more) valid below =
     let a = sum_by-cons record_size es more in
     (valid.0, omega arith, items_valid more valid.1 (omega arith))
 
-directory_valid : (id : List ℕ) (first last : ℕ) (parts : List Part) → length id ≤ 16
-    → AreItems Explicit 32 (items_of parts) → length (items_text (items_of parts)) < undefined_length
-    → AreElements Explicit 32 0 (elements_of (directory_entries id first last parts))
+directory_valid : (id : List ℕ) (first last : ℕ) (parts : List Part) → length id ≤ max_set_id_length
+    → AreItems Explicit max_levels (items_of parts) → length (items_text (items_of parts)) < undefined_length
+    → AreElements Explicit max_levels 0 (elements_of (directory_entries id first last parts))
 directory_valid id first last parts few valid below =
     let records : List Entry = records_entry parts ∷ [] in
     let flag : List Entry = short_entry (tag 0x0004 0x1212) 0x0000 ∷ records in
     let lasts : List Entry = long_entry (tag 0x0004 0x1202) last ∷ flag in
     let firsts : List Entry = long_entry (tag 0x0004 0x1200) first ∷ lasts in
     let e = length-padded 0x20 id in
-    let a : AreElements Explicit 32 0x00041213 (elements_of records) =
+    let a : AreElements Explicit max_levels 0x00041213 (elements_of records) =
     (omega arith, omega arith, omega arith, (λ e. omega arith), (valid, below), tt) in
-    let b : AreElements Explicit 32 0x00041203 (elements_of flag) =
-    one_valid 32 0x00041203 (tag 0x0004 0x1212) (Some US) (bytes (little_bytes 2 0x0000)) (elements_of records) tt
-    tt (refl, omega arith) a in
-    let c : AreElements Explicit 32 0x00041201 (elements_of lasts) =
-    one_valid 32 0x00041201 (tag 0x0004 0x1202) (Some UL) (bytes (little_bytes 4 last)) (elements_of flag) tt tt
+    let b : AreElements Explicit max_levels 0x00041203 (elements_of flag) =
+    one_valid max_levels 0x00041203 (tag 0x0004 0x1212) (Some US) (bytes (little_bytes 2 0x0000))
+    (elements_of records) tt tt (refl, omega arith) a in
+    let c : AreElements Explicit max_levels 0x00041201 (elements_of lasts) =
+    one_valid max_levels 0x00041201 (tag 0x0004 0x1202) (Some UL) (bytes (little_bytes 4 last)) (elements_of flag) tt tt
     (short_number last) b in
-    let d : AreElements Explicit 32 0x00041131 (elements_of firsts) =
-    one_valid 32 0x00041131 (tag 0x0004 0x1200) (Some UL) (bytes (little_bytes 4 first)) (elements_of lasts) tt tt
-    (short_number first) c in
-    one_valid 32 0 (tag 0x0004 0x1130) (Some CS) (bytes (padded 0x20 id)) (elements_of firsts) tt tt
+    let d : AreElements Explicit max_levels 0x00041131 (elements_of firsts) =
+    one_valid max_levels 0x00041131 (tag 0x0004 0x1200) (Some UL) (bytes (little_bytes 4 first)) (elements_of lasts) tt
+    tt (short_number first) c in
+    one_valid max_levels 0 (tag 0x0004 0x1130) (Some CS) (bytes (padded 0x20 id)) (elements_of firsts) tt tt
     (omega arith, omega arith) d
 
-pub elements_are_valid : (id : List ℕ) (first last : ℕ) (records : List (List Entry)) → length id ≤ 16
+pub elements_are_valid : (id : List ℕ) (first last : ℕ) (records : List (List Entry)) → length id ≤ max_set_id_length
     → All IsRecord records → sum_by record_size records < undefined_length
     → AreElements Explicit max_levels 0 (elements_of (directory_entries id first last (map record_part records)))
 elements_are_valid id first last records few valid below =

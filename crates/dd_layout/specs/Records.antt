@@ -1,6 +1,6 @@
 -- The records of a directory: the elements of each, level by level (PS3.3 section F.3.2.2 and annex F.5).
 use Rattle.std.specs.Prelude.{◌≡◌, IsSomeAnd, ℕ, List, [], ◌∷◌, ◌++◌, length, Option, Some, None, codes}
-use Rattle.std.specs.Prelude.{if◌then◌else◌, ◌==◌}
+use Rattle.std.specs.Prelude.{if◌then◌else◌, ◌==◌, ◌-◌}
 use Rattle.dd_elem.specs.FileId.{Ranks, AreRanks, text_of}
 use Rattle.dd_elem.specs.declared.vr.Vr.TheVariants.{CS, DA, IS, LO, OB, PN, SH, TM}
 use Rattle.dd_keys.specs.declared.parts.Parts.{Parts}
@@ -10,7 +10,7 @@ use Rattle.dd_keys.specs.declared.keys.StudyKeys.{StudyKeys}
 use Rattle.dd_set.specs.declared.syntax.Length.TheVariants.{Defined}
 use Rattle.dd_set.specs.declared.syntax.Syntax.TheVariants.{Explicit}
 use Rattle.dd_set.specs.Elements.{Entry, Part, elements_of}
-use Rattle.dd_set.specs.Spelling.{AreElements}
+use Rattle.dd_set.specs.Spelling.{AreElements, max_levels}
 use Rattle.dd_layout.specs.declared.level.Level.{Level}
 use Rattle.dd_layout.specs.declared.level.Level.TheVariants.{Patient, Study, Series, Image}
 use Rattle.dd_layout.specs.Entries.{tag, bytes_entry, text_entry, uid_entry, long_entry, short_entry}
@@ -94,7 +94,7 @@ record_entries level next lower file parts = link_entries next lower (kind_of le
 abbrev pub record_part : List Entry → Part
 record_part entries = record { length = Defined; set = elements_of entries }
 
--- they are the elements of a data set, as an item of a sequence at the root may hold: below it items nest in at most 31
--- levels, one fewer than below the data set of a file
+-- they are the elements of a data set, as an item of a sequence at the root may hold: below it items nest one level
+-- fewer than below the data set of a file
 abbrev pub IsRecord : List Entry → Type 0
-IsRecord entries = AreElements Explicit 31 0 (elements_of entries)
+IsRecord entries = AreElements Explicit (max_levels - 1) 0 (elements_of entries)

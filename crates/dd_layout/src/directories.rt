@@ -1,6 +1,7 @@
 //! What holds of every directory.
 
 ghost use Rattle.std.specs.Prelude.{◌≡◌, ◌+◌, ◌<◌, ◌≤◌, ℕ, List, All, length, map, sum_by};
+ghost use Rattle.dd_elem.specs.SetId.{max_set_id_length};
 ghost use Rattle.dd_part10.specs.Head.{head_text};
 ghost use Rattle.dd_set.specs.Elements.{Entry, elements_of};
 ghost use Rattle.dd_set.specs.Spelling.{AreElements, max_levels, undefined_length};
@@ -22,7 +23,8 @@ pub fn directory_is_as_long_as_its_records()
 /// The elements of a directory are those of a data set, where those of each record are and the records
 /// take fewer bytes than the mark of an undefined length. This states a law, and does nothing.
 pub fn directory_is_a_data_set()
-    ensures { (id : List ℕ) (first last : ℕ) (records : List (List Entry)) → length id ≤ 16
+    ensures { (id : List ℕ) (first last : ℕ) (records : List (List Entry))
+        → length id ≤ max_set_id_length
         → All IsRecord records → sum_by record_size records < undefined_length
         → AreElements Explicit max_levels 0 (elements_of (directory_entries id first last (map record_part records))) }
 {}

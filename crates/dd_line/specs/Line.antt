@@ -27,6 +27,33 @@ use Rattle.dd_line.specs.declared.line.Verb.TheVariants.{Index, Merge, Check, Li
 
 -- ---- the arguments and commands
 
+-- the names of the options
+abbrev pub id_name : Text
+id_name = codes "id"
+
+abbrev pub uid_name : Text
+uid_name = codes "uid"
+
+abbrev pub max_bytes_name : Text
+max_bytes_name = codes "max-bytes"
+
+-- the names of the paths
+abbrev pub out_name : Text
+out_name = codes "out"
+
+abbrev pub source_name : Text
+source_name = codes "source"
+
+abbrev pub set_name : Text
+set_name = codes "set"
+
+-- the command's name in the line
+abbrev pub verb_name : Verb → Text
+verb_name Index = codes "index"
+verb_name Merge = codes "merge"
+verb_name Check = codes "check"
+verb_name ListSet = codes "list"
+
 -- an option `--NAME VALUE` that may be left out
 abbrev pub text_option : Text → Rule
 text_option name = record (new_rule name) { long = Some name; value_names = 1 }
@@ -52,26 +79,26 @@ some_paths name = record (one_path name) {
 -- a command that labels a directory: `[--id ID] [--uid UID]`
 abbrev pub labelled_app : Text → App
 labelled_app name = with_rule (with_rule (new_app name)
-    (text_option (codes "id")))
-    (text_option (codes "uid"))
+    (text_option id_name))
+    (text_option uid_name)
 
 -- one that writes it: `[--id ID] [--uid UID] [--max-bytes N] OUT`
 abbrev pub writing_app : Text → App
 writing_app name = with_rule (with_rule (labelled_app name)
-    (number_option (codes "max-bytes")))
-    (one_path (codes "out"))
+    (number_option max_bytes_name))
+    (one_path out_name)
 
 -- `index [--id ID] [--uid UID] [--max-bytes N] OUT SRC...`
 abbrev pub index_app : App
-index_app = with_rule (writing_app (codes "index")) (some_paths (codes "source"))
+index_app = with_rule (writing_app (verb_name Index)) (some_paths source_name)
 
 -- `merge [--id ID] [--uid UID] [--max-bytes N] OUT SET...`
 abbrev pub merge_app : App
-merge_app = with_rule (writing_app (codes "merge")) (some_paths (codes "set"))
+merge_app = with_rule (writing_app (verb_name Merge)) (some_paths set_name)
 
 -- a command that reads one file-set: its name, and then SET
 abbrev pub reading_app : Text → App
-reading_app name = with_rule (new_app name) (one_path (codes "set"))
+reading_app name = with_rule (new_app name) (one_path set_name)
 
 -- a command line has to name one of the app's commands
 abbrev pub with_command_required : App → App
@@ -83,8 +110,8 @@ dicomdir_app = with_subcommand (with_subcommand (with_subcommand (with_subcomman
     (with_command_required (new_app (codes "dicomdir")))
     index_app.top)
     merge_app.top)
-    (reading_app (codes "check")).top)
-    (reading_app (codes "list")).top
+    (reading_app (verb_name Check)).top)
+    (reading_app (verb_name ListSet)).top
 
 -- ---- what a line asks for
 
@@ -92,21 +119,14 @@ dicomdir_app = with_subcommand (with_subcommand (with_subcommand (with_subcomman
 abbrev pub words_of : {Z : Type 0} → List (String Z) → List Text
 words_of words = map (λ word. string_bytes word) words
 
--- the command's name in the line
-abbrev pub verb_name : Verb → Text
-verb_name Index = codes "index"
-verb_name Merge = codes "merge"
-verb_name Check = codes "check"
-verb_name ListSet = codes "list"
-
 -- the values that an argument was given
 abbrev pub given_for : Text → List Row → List Text
 given_for name given = unwrap_or (all_of name given) []
 
 -- the paths that a command was given: the folder that it writes to, and then those that it reads
 abbrev pub given_paths : List Row → List Text
-given_paths given = given_for (codes "out") given
-    ++ (given_for (codes "source") given ++ given_for (codes "set") given)
+given_paths given = given_for out_name given
+    ++ (given_for source_name given ++ given_for set_name given)
 
 -- a command of this kind is given at least so many paths
 abbrev pub least_paths : Verb → ℕ
@@ -131,9 +151,9 @@ IsLimit (Some text) limit =
 -- the values are those that the named command's arguments were given
 pub record Asks (a : Asked) (command : Text) (given : List Row) : Type 0 where
   pub verb : verb_name a.verb ≡ command
-  pub id : option_map string_bytes a.id ≡ first_of (codes "id") given
-  pub uid : option_map string_bytes a.uid ≡ first_of (codes "uid") given
-  pub max_bytes : IsLimit (first_of (codes "max-bytes") given) a.max_bytes
+  pub id : option_map string_bytes a.id ≡ first_of id_name given
+  pub uid : option_map string_bytes a.uid ≡ first_of uid_name given
+  pub max_bytes : IsLimit (first_of max_bytes_name given) a.max_bytes
   pub paths : words_of a.paths.items ≡ given_paths given
 
 -- the path of one file-set, no ID, no UID, and the limit that stands where none is given
@@ -150,15 +170,15 @@ IsAsked a (Some (command, given)) = Asks a command given
 
 -- the text that `--max-bytes` was given, if any, is a number of 32 bits
 abbrev pub HasLimit : List Row → Type 0
-HasLimit given = (text : Text) → first_of (codes "max-bytes") given ≡ Some text
-    → (one_of (codes "max-bytes") given ≡ Some (without_minus text))
+HasLimit given = (text : Text) → first_of max_bytes_name given ≡ Some text
+    → (one_of max_bytes_name given ≡ Some (without_minus text))
     × IsSignedIn (pos 0) (pos most_bytes) text
 
 -- the path of one file-set was given, and no option
 pub record GivesOneSet (given : List Row) : Type 0 where
-  pub id : first_of (codes "id") given ≡ None
-  pub uid : first_of (codes "uid") given ≡ None
-  pub max_bytes : first_of (codes "max-bytes") given ≡ None
+  pub id : first_of id_name given ≡ None
+  pub uid : first_of uid_name given ≡ None
+  pub max_bytes : first_of max_bytes_name given ≡ None
   pub paths : length (given_paths given) ≡ 1
 
 -- the words name a command, and give it what it needs
@@ -178,8 +198,8 @@ GivesOption name (Some (command, given)) value = first_of name given ≡ Some va
 
 -- the words give an ID or a UID that is none
 abbrev pub HasBadName : Option (Text × List Row) → Type 0
-HasBadName found = ((id : Text) × GivesOption (codes "id") found id × ¬ IsSetId id)
-    ⊎ ((uid : Text) × GivesOption (codes "uid") found uid × ¬ IsUid uid)
+HasBadName found = ((id : Text) × GivesOption id_name found id × ¬ IsSetId id)
+    ⊎ ((uid : Text) × GivesOption uid_name found uid × ¬ IsUid uid)
 
 -- the same of what a line asks for
 abbrev pub AsksBadName : Asked → Type 0

@@ -6,7 +6,8 @@ ghost use Rattle.clap.specs.Words.{subcommand_of, subcommand_rows_of};
 ghost use Rattle.dd_line.specs.Line.{Asks, HasApp, HasLimit, HasRule, IsAsked, IsLimit, IsRefusedFor, NamesCommand};
 ghost use Rattle.dd_line.specs.Line.{dicomdir_app, given_for, given_paths, index_app, labelled_app, least_paths};
 ghost use Rattle.dd_line.specs.Line.{number_option, one_path, some_paths, text_option, verb_name, words_of};
-ghost use Rattle.dd_line.specs.Line.{AsksForOneSet, GivesOneSet, OnlyReads, merge_app, reading_app, writing_app};
+ghost use Rattle.dd_line.specs.Line.{AsksForOneSet, GivesOneSet, OnlyReads, merge_app, reading_app};
+ghost use Rattle.dd_line.specs.Line.{max_bytes_name, writing_app};
 
 use clap::error::ErrorKind;
 use clap::{Arg, ArgMatches, Command, value_parser};
@@ -204,7 +205,7 @@ fn reading<'a>(alloc: Global, name: &'a str, about: &'a str) -> Result<Command<'
 
 /// The command `check`.
 fn check_command<'a>(alloc: Global) -> Result<Command<'a>, AllocError>
-    ensures { IfOk result (HasApp (reading_app (codes "check"))) }
+    ensures { IfOk result (HasApp (reading_app (verb_name Verb.Check))) }
 {
     reading(
         alloc,
@@ -215,7 +216,7 @@ fn check_command<'a>(alloc: Global) -> Result<Command<'a>, AllocError>
 
 /// The command `list`.
 fn list_command<'a>(alloc: Global) -> Result<Command<'a>, AllocError>
-    ensures { IfOk result (HasApp (reading_app (codes "list"))) }
+    ensures { IfOk result (HasApp (reading_app (verb_name Verb.List))) }
 {
     reading(
         alloc,
@@ -251,7 +252,7 @@ fn value_of(alloc: Global, given: &ArgMatches<'_>, name: &str) -> Result<Option<
 /// The number of `--max-bytes`, or the most that there is where it is not given.
 fn limit_of(given: &ArgMatches<'_>) -> u32
     requires { HasLimit (rows_of (found_of given.now)) }
-    ensures { IsLimit (first_of (codes "max-bytes") (rows_of (found_of given.now))) result }
+    ensures { IsLimit (first_of max_bytes_name (rows_of (found_of given.now))) result }
 {
     given.get_one::<u32>(MAX_BYTES).unwrap_or(u32::MAX)
 }

@@ -6,7 +6,7 @@ use Rattle.std.specs.List.{join_with_byte}
 use Rattle.std.proofs.lemmas.List.Elements.{All-nil, All-cons, All-head, All-tail, All-weaker, All-append}
 use Rattle.dd_elem.specs.Clean.{clean_of, is_padding, keep}
 use Rattle.dd_elem.specs.Characters.{IsDigit}
-use Rattle.dd_elem.specs.Uid.{IsUid, IsComponent}
+use Rattle.dd_elem.specs.Uid.{IsUid, IsComponent, max_uid_length}
 use Rattle.dd_elem.specs.declared.vr.Vr.TheVariants.{OB, UI}
 use Rattle.dd_elem.proofs.Cleaning.{clean_of-append_padding, IsCleanOf_from_is}
 use Rattle.dd_elem.specs.declared.tag.Tag.{Tag}
@@ -82,7 +82,8 @@ clean_padded uid h = clean_of-append_padding uid (padding_of (length uid)) (padd
 -- ---- group 0002
 
 -- the value of a UID is one that its element may have
-padded_fits : (uid : List ℕ) → length uid ≤ 64 → IsContent Explicit max_levels (Some UI) (bytes (padded uid))
+padded_fits : (uid : List ℕ) → length uid ≤ max_uid_length
+    → IsContent Explicit max_levels (Some UI) (bytes (padded uid))
 padded_fits uid short =
     let len : length (padded uid) ≡ length uid + length uid % 2 = length_padded uid in
     let even : length (padded uid) % 2 ≡ 0 = even_sum (length uid) (length (padded uid)) len in
@@ -97,7 +98,7 @@ version_fits = (λ e. absurd cc, refl, lit< tt)
 
 -- an element with a UID, before others
 uid_valid : (low number : ℕ) (uid : List ℕ) (rest : Elements) → low ≤ 65536 * 2 + number → number < 2 ^ 16
-    → length uid ≤ 64
+    → length uid ≤ max_uid_length
     → AreElements Explicit max_levels (65536 * 2 + number + 1) rest
     → AreElements Explicit max_levels low (uid_element (record { group = 2; element = number }) uid rest)
 uid_valid low number uid rest above room short others =

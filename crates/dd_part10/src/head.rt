@@ -1,7 +1,7 @@
 //! The head of a file: all that stands before its data set.
 
 ghost use Rattle.std.specs.Prelude.{◌≡◌, ℕ, ◌+◌, ◌++◌, ◌<◌, ◌≤◌, ◌^◌, List, length, IfOk, Some};
-ghost use Rattle.dd_elem.specs.Uid.{IsUid};
+ghost use Rattle.dd_elem.specs.Uid.{IsUid, max_uid_length};
 ghost use Rattle.dd_set.specs.declared.syntax.Syntax.{Syntax};
 ghost use Rattle.dd_set.specs.Elements.{Elements, bytes};
 ghost use Rattle.dd_set.specs.Sends.{SendsTo};
@@ -85,7 +85,7 @@ fn group_size(meta: &Meta) -> u32
 
 /// How many bytes an element with a UID has.
 fn uid_size(uid: &[u8]) -> u32
-    requires { length uid.now ≤ 64 }
+    requires { length uid.now ≤ max_uid_length }
     ensures exact { result ≡ 8 + length (padded uid.now) }
     ensures few { result ≤ 72 }
 {
@@ -132,7 +132,7 @@ fn send_uids<W: Write>(meta: &Meta, writer: &mut W, sent: u64) -> Result<u64, Wr
 
 /// Sends an element with a UID.
 fn send_uid<W: Write>(tag: Tag, uid: &[u8], writer: &mut W, sent: u64) -> Result<u64, WriteFault>
-    requires short { length uid.now ≤ 64 }
+    requires short { length uid.now ≤ max_uid_length }
     requires fits { sent ≤ 2 ^ 32 }
     ensures sends { SendsTo W.contents W.rest W.failures (uid_text tag uid.now) sent result writer.old writer.new }
     ensures few { IfOk result (λ n. n ≤ sent + 73) }

@@ -1,8 +1,9 @@
-use Rattle.std.proofs.Common.{ap, sym, subst, ◌∙◌, arith}
+use Rattle.std.proofs.Common.{ap, sym, subst, ◌-◌, ◌∙◌, arith}
 use Rattle.std.proofs.lemmas.Result.{err_from_is_err_and}
 use Rattle.dd_layout.specs.Records.{record_part}
 use Rattle.dd_layout.specs.Sizes.{record_size}
 use Rattle.dd_set.specs.Single.{part_text}
+use Rattle.dd_set.specs.Spelling.{max_levels}
 use Rattle.dd_set.proofs.Going.{first_fails, then_sends, sends_same}
 use Rattle.dd_dir.specs.Directories.{entries_of}
 use Rattle.dd_dir.specs.WellFormed.{IsWellFormed}
@@ -65,7 +66,7 @@ returns-clause-valid g c = λ ok.
     let planned = c.args.planned.now in
     let are = entries_are c.args.versions.now planned c.index-versions-planned.result c.parts_of-parts.result.now
     c.requires.sound.0 c.index-versions-planned.is c.parts_of-parts.ensures.value in
-    rw are (c.record_size.ensures.valid 31 planned.next planned.lower planned.file c.requires.sound.1)
+    rw are (c.record_size.ensures.valid (max_levels - 1) planned.next planned.lower planned.file c.requires.sound.1)
 
 pub returns-in_err-sent-clause-keyed : goal.returns-in_err-sent-clause-keyed
 returns-in_err-sent-clause-keyed g c =
