@@ -103,8 +103,7 @@ pub(crate) fn described(alloc: Global, question: &str) -> Result<String, Fail> {
     let mut versions = images(alloc, question)?;
     let (first, rest) = versions.split_first_mut().ok_or("there is none")?;
     gather(first, rest)?;
-    let description = text_of(alloc, first.parts().study.description.as_bytes())?;
-    Ok(format!(in alloc; "{description}")?)
+    Ok(text_of(alloc, first.parts().study.description.as_bytes())?)
 }
 
 #[test]

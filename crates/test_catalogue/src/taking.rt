@@ -59,7 +59,7 @@ pub(crate) fn takes(alloc: Global, question: &str) -> Result<String, Fail> {
         text.push_str("; ")?;
     }
     push_held(alloc, &mut text, &catalogue)?;
-    Ok(format!(in alloc; "{text}")?)
+    Ok(text)
 }
 
 #[test]

@@ -54,7 +54,7 @@ fn is_right(alloc: Global, claim: Claim, case: &str) -> Result<bool, Fail> {
         Claim::AreSame => runs::are_same(alloc, case),
         Claim::IsKept => runs::is_kept(alloc, case),
         Claim::ChangeIsTold => runs::change_is_told(alloc, case),
-        Claim::LeaveTheSame => scripts::are_same(alloc, case),
+        Claim::LeaveTheSame => scripts::leave_the_same(alloc, case),
     }
 }
 

@@ -45,7 +45,7 @@ pub(crate) fn ran(alloc: Global, question: &str) -> Result<String, Fail> {
 
 /// After the steps of a case `steps: line > step`, does the line, however it ends, leave the files that the last
 /// step does?
-pub(crate) fn are_same(alloc: Global, case: &str) -> Result<bool, Fail> {
+pub(crate) fn leave_the_same(alloc: Global, case: &str) -> Result<bool, Fail> {
     let (question, step) = case.split_once(" > ").ok_or("no other step")?;
     let (steps, line) = question.split_once(": ").ok_or("no steps")?;
     let mut files = disc_after(alloc, steps)?;

@@ -93,9 +93,10 @@ pub(crate) fn set_id(alloc: Global, question: &str) -> Result<String, Fail> {
 
 /// The File ID of these ranks.
 fn ranked(ranks: &str) -> Result<Option<FileId>, Fail> {
+    let mut ranks = ranks.split(' ');
     let mut numbers = [0; 4];
-    for (number, rank) in numbers.iter_mut().zip(ranks.split(' ')) {
-        *number = rank.parse()?;
+    for number in numbers.iter_mut() {
+        *number = ranks.next().ok_or("no rank")?.parse()?;
     }
     let [patient, study, series, image] = numbers;
     Ok(FileId::ranked(patient, study, series, image))
@@ -125,7 +126,7 @@ fn digests_have_uids(rt: HostRuntime) -> Result<(), Fail> {
 
 #[test]
 fn set_ids_have_16_characters(rt: HostRuntime) -> Result<(), Fail> {
-    assert!(rt; SetId::new(b"_")?.as_bytes() == b"_".as_slice());
+    assert_eq!(rt; SetId::new(b"_")?.as_bytes(), b"_".as_slice());
     ask_all(&rt, rt.alloc(), Ask::SetId, SET_IDS)
 }
 

@@ -34,6 +34,7 @@ struct Entry {
     bytes: Vec<u8>,
 }
 
+// By hand, so that letting go of it is one call.
 impl Drop for Entry {
     fn drop(self) {
         let Entry {
@@ -54,6 +55,7 @@ pub(super) struct Disc {
     log: String,
 }
 
+// By hand, so that letting go of a disc is one call.
 impl Drop for Disc {
     fn drop(self) {
         let Disc {
