@@ -4,9 +4,6 @@ use dd_dir::{DirFault, OwnFault};
 use dd_elem::{BadSetId, BadUid};
 use dd_layout::PlanFault;
 use dicomdir::{CopyFault, EngineFault, MergeFault, ProgramFault};
-use std::alloc::{AllocError, Global};
-use std::fmt::Display;
-use std::process::Abort;
 use std::test::Fail;
 
 /// Faults of the program, in words.
@@ -70,56 +67,38 @@ fn copy_fault_of(words: &str) -> Option<CopyFault> {
     }
 }
 
-/// What has faults.
-#[derive(Clone, Copy)]
-enum Part {
-    Program,
-    Index,
-    Merge,
-    Copy,
-}
-
-/// The words of the fault of this part that has these words, or `none`.
-fn words_of(alloc: Global, part: Part, words: &str) -> Result<String, AllocError> {
-    match part {
-        Part::Program => displayed(alloc, fault_of(words)),
-        Part::Index => displayed(alloc, engine_fault_of(words)),
-        Part::Merge => displayed(alloc, merge_fault_of(words)),
-        Part::Copy => displayed(alloc, copy_fault_of(words)),
-    }
-}
-
-fn displayed<T: Display + Drop>(alloc: Global, fault: Option<T>) -> Result<String, AllocError> {
-    match fault {
-        Some(fault) => format!(in alloc; "{fault}"),
-        None => String::from_str(alloc, "none"),
-    }
-}
-
-/// Compares the words of each fault of this part with these.
-fn compare_all(rt: &impl Abort, alloc: Global, part: Part, faults: &str) -> Result<(), Fail> {
-    for words in faults.split(", ") {
-        assert_eq!(rt; words_of(alloc, part, words)?.as_str(), words);
+#[test]
+fn faults_of_the_program_in_words(rt: HostRuntime) -> Result<(), Fail> {
+    for words in PROGRAM.split(", ") {
+        let fault = fault_of(words).ok_or("no fault")?;
+        assert_eq!(rt; format!(in rt.alloc(); "{fault}")?.as_str(), words);
     }
     Ok(())
 }
 
 #[test]
-fn faults_of_the_program_in_words(rt: HostRuntime) -> Result<(), Fail> {
-    compare_all(&rt, rt.alloc(), Part::Program, PROGRAM)
-}
-
-#[test]
 fn faults_of_an_index_in_words(rt: HostRuntime) -> Result<(), Fail> {
-    compare_all(&rt, rt.alloc(), Part::Index, ENGINE)
+    for words in ENGINE.split(", ") {
+        let fault = engine_fault_of(words).ok_or("no fault")?;
+        assert_eq!(rt; format!(in rt.alloc(); "{fault}")?.as_str(), words);
+    }
+    Ok(())
 }
 
 #[test]
 fn faults_of_a_merge_in_words(rt: HostRuntime) -> Result<(), Fail> {
-    compare_all(&rt, rt.alloc(), Part::Merge, MERGE)
+    for words in MERGE.split(", ") {
+        let fault = merge_fault_of(words).ok_or("no fault")?;
+        assert_eq!(rt; format!(in rt.alloc(); "{fault}")?.as_str(), words);
+    }
+    Ok(())
 }
 
 #[test]
 fn faults_of_a_copy_in_words(rt: HostRuntime) -> Result<(), Fail> {
-    compare_all(&rt, rt.alloc(), Part::Copy, COPY)
+    for words in COPY.split(", ") {
+        let fault = copy_fault_of(words).ok_or("no fault")?;
+        assert_eq!(rt; format!(in rt.alloc(); "{fault}")?.as_str(), words);
+    }
+    Ok(())
 }
