@@ -66,12 +66,7 @@ impl Write for Digester {
     ghost rest = { λ _. tt };
 
     fn write(&mut self, bytes: &[u8]) -> io::Result<usize> {
-        let is_live = self.counts.is_live();
-        self.counts.call();
-        if !is_live {
-            self.counts.fail();
-            return Err(io::Error::other("a count is at its last value"));
-        }
+        self.counts.begin()?;
         self.hasher.update(bytes);
         self.message.add(bytes);
         Ok(bytes.len())

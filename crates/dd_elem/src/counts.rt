@@ -1,6 +1,9 @@
 //! The two counts of a device.
-ghost use Rattle.std.specs.Prelude.{◌≡◌, ◌↔◌, IsTrue};
+ghost use Rattle.std.specs.Prelude.{◌≡◌, ◌↔◌, IsTrue, IsOk, is_ok};
+ghost use Rattle.dd_elem.specs.Counts.{counts_after};
 ghost use Rattle.dd_elem.specs.Device.{counted, IsLive};
+
+use std::io;
 
 /// How often a device was called, and how many of its calls failed. Each count stays at its last
 /// value, `u64::MAX`.
@@ -33,6 +36,20 @@ impl Counts {
         ensures { self.new ≡ record self.old { calls = counted self.old.calls } }
     {
         self.calls = self.calls.saturating_add(1);
+    }
+
+    /// Counts a call, which fails where a count is at its last value: its failure is then counted, too.
+    pub fn begin(&mut self) -> io::Result<()>
+        ensures live { IsOk result ↔ IsLive self.old.calls self.old.failures }
+        ensures counts { self.new ≡ counts_after self.old (is_ok result) }
+    {
+        let is_live = self.is_live();
+        self.call();
+        if !is_live {
+            self.fail();
+            return Err(io::Error::other("a device was called or failed too often"));
+        }
+        Ok(())
     }
 
     /// Counts a failure.

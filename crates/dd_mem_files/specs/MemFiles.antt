@@ -5,7 +5,7 @@ use Rattle.std.specs.BTreeMap.{BTreeMap}
 use Rattle.std.specs.Map.{lookup}
 use Rattle.std.specs.declared.alloc.Global.{Global}
 use Rattle.dd_elem.specs.declared.counts.Counts.{Counts}
-use Rattle.dd_mem_files.specs.declared.mem_files.Later.{Later}
+use Rattle.dd_mem_files.specs.declared.later.Later.{Later}
 use Rattle.dd_mem_files.specs.MemReader.{Opened}
 use Rattle.dd_files.specs.Files.{Held, with_written, written}
 

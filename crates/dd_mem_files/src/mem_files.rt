@@ -7,9 +7,10 @@ ghost use Rattle.dd_elem.specs.Counts.{counts_after};
 ghost use Rattle.dd_elem.specs.Device.{counted, last_count, HasWorked, IsLive};
 ghost use Rattle.dd_mem_files.specs.MemFiles.{Stored, Unwritten, listed, bytes_at, change_of, told_of, unread};
 ghost use Rattle.dd_mem_files.specs.MemFiles.{unwritten, written_of, SetsFile, GrowsFile, GrowsWritten};
-ghost use Rattle.dd_mem_files.specs.MemFiles.{KeepsFiles, Gets, Opens, due, opened};
+ghost use Rattle.dd_mem_files.specs.MemFiles.{KeepsFiles, Gets, Opens, due};
 ghost use Rattle.dd_mem_files.specs.MemLaws.{held_grows, refusals_stay, told_contents};
 
+use crate::later::{Later, count_opening, due_bytes};
 use crate::mem_reader::MemReader;
 use dd_elem::{Counts, Memory, Write};
 use dd_files::{Files, NotDone, NotThere};
@@ -18,28 +19,9 @@ use std::collections::BTreeMap;
 use std::io;
 use std::marker::Model;
 
-// A change of a file at its second opening.
-#[derive(Debug)]
-struct Later {
-    path: String,
-    bytes: Vec<u8>,
-    is_opened: bool,
-}
-
-// By hand, so that letting go of it is one call.
-impl Drop for Later {
-    fn drop(self) {
-        let Later {
-            path: _path,
-            bytes: _bytes,
-            is_opened: _,
-        } = self;
-    }
-}
-
 /// Files in memory, by their paths. Folders are not kept. Where one is to change later, they do not tell
 /// what they hold.
-#[derive(Debug, Drop)]
+#[derive(Debug)]
 pub struct MemFiles {
     alloc: Global,
     files: BTreeMap<String, Vec<u8>>,
@@ -47,6 +29,20 @@ pub struct MemFiles {
     counts: Counts,
     refusals: u64,
     later: Option<Later>,
+}
+
+// By hand, so that letting go of it is one call.
+impl Drop for MemFiles {
+    fn drop(self) {
+        let MemFiles {
+            alloc: _,
+            files: _files,
+            current: _current,
+            counts: _,
+            refusals: _,
+            later: _later,
+        } = self;
+    }
 }
 
 impl Model for MemFiles {
@@ -59,27 +55,6 @@ impl Model for MemFiles {
       refusals = s.refusals;
       later = option_map change_of s.later;
     } };
-}
-
-// The bytes that the path gets at its next opening, where it changes then.
-fn due_bytes<'a>(later: &'a Option<Later>, path: &str) -> Option<&'a [u8]>
-    ensures { option_copied result ≡ due (option_map change_of later.now) path.now }
-{
-    match later {
-        Some(later) if later.is_opened && later.path.as_str() == path => Some(&later.bytes),
-        _ => None,
-    }
-}
-
-// Counts an opening of the path.
-fn count_opening(later: &mut Option<Later>, path: &str)
-    ensures { option_map change_of later.new ≡ opened path.now (option_map change_of later.old) }
-{
-    if let Some(later) = later {
-        if later.path.as_str() == path {
-            later.is_opened = true;
-        }
-    }
 }
 
 // Gives the path these bytes. Memory where a growth is refused, and then nothing has changed.
@@ -283,12 +258,7 @@ impl Write for MemFiles {
         ensures err { OnErr result (KeepsFiles self.old.files self.new.files) }
         ensures same { self.new ≡ record self.old { files = self.new.files; counts = self.new.counts } }
     {
-        let is_live = self.counts.is_live();
-        self.counts.call();
-        if !is_live {
-            self.counts.fail();
-            return Err(io::Error::other("the files were written or failed too often"));
-        }
+        self.counts.begin()?;
         match self.append(bytes) {
             Ok(()) => Ok(bytes.len()),
             Err(_) => {

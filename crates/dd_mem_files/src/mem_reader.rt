@@ -71,12 +71,7 @@ impl Read for MemReader {
         ensures len { IfOk result (λ n. n ≡ min (length buf.old) (length self.old.left)) }
         ensures after { self.new ≡ after_read self.old result }
     {
-        let is_live = self.counts.is_live();
-        self.counts.call();
-        if !is_live {
-            self.counts.fail();
-            return Err(io::Error::other("the reader was called or failed too often"));
-        }
+        self.counts.begin()?;
         let n = buf.len().min(self.bytes.len() - self.at);
         buf[..n].copy_from_slice(&self.bytes[self.at..self.at + n]);
         self.at += n;

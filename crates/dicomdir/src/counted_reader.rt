@@ -41,12 +41,7 @@ impl<R: Read + Drop> Read for CountedReader<R> {
 
     /// Reads as the reader does. It fails, too, where a count is at its last value.
     fn read(&mut self, buf: &mut [u8]) -> io::Result<usize> {
-        let is_live = self.counts.is_live();
-        self.counts.call();
-        if !is_live {
-            self.counts.fail();
-            return Err(io::Error::other("the reader was called or failed too often"));
-        }
+        self.counts.begin()?;
         match self.reader.read(buf) {
             Ok(n) => Ok(n),
             Err(error) => {

@@ -35,12 +35,7 @@ impl<T: io::Read + Drop> Read for Counted<T> {
     ghost has_given = { λ _ _. Unit {0} };
 
     fn read(&mut self, buf: &mut [u8]) -> io::Result<usize> {
-        let is_live = self.counts.is_live();
-        self.counts.call();
-        if !is_live {
-            self.counts.fail();
-            return Err(io::Error::other("the reader was called or failed too often"));
-        }
+        self.counts.begin()?;
         match read_again(&mut self.device, buf) {
             Ok(n) => Ok(n),
             Err(error) => {
@@ -63,12 +58,7 @@ impl<T: io::Write + Drop> Write for Counted<T> {
     ghost rest = { λ _. tt };
 
     fn write(&mut self, bytes: &[u8]) -> io::Result<usize> {
-        let is_live = self.counts.is_live();
-        self.counts.call();
-        if !is_live {
-            self.counts.fail();
-            return Err(io::Error::other("the writer was called or failed too often"));
-        }
+        self.counts.begin()?;
         match write_again(&mut self.device, bytes) {
             Ok(0) if !bytes.is_empty() => {
                 self.counts.fail();

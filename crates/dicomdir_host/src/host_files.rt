@@ -20,7 +20,6 @@ use std::io;
 ///
 /// A source is a file or a folder, also behind links: a pipe, a socket or a device is taken for not
 /// there, since to open it could wait. A folder opens, and its read fails.
-#[derive(Drop)]
 pub struct HostFiles<'a, R: fs::Files> {
     rt: &'a R,
     alloc: Global,
@@ -32,6 +31,21 @@ pub struct HostFiles<'a, R: fs::Files> {
     // The folder that was made last.
     folder: String,
     refusals: u64,
+}
+
+// By hand, so that letting go of it is one call.
+impl<R: fs::Files> Drop for HostFiles<'_, R> {
+    fn drop(self) {
+        let HostFiles {
+            rt: _,
+            alloc: _,
+            output: _output,
+            image: _image,
+            ended: _ended,
+            folder: _folder,
+            refusals: _,
+        } = self;
+    }
 }
 
 /// Is it the path of a directory: does its last name say DICOMDIR (PS3.10 section 8.6)?

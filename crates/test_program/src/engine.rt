@@ -40,12 +40,7 @@ impl Read for Reader<'_> {
     ghost has_given = { λ _ _. Unit {0} };
 
     fn read(&mut self, buf: &mut [u8]) -> io::Result<usize> {
-        let is_live = self.counts.is_live();
-        self.counts.call();
-        if !is_live {
-            self.counts.fail();
-            return Err(io::Error::other("the reader was called or failed too often"));
-        }
+        self.counts.begin()?;
         match self.bytes.read(buf) {
             Ok(n) => Ok(n),
             Err(error) => {
