@@ -12,12 +12,22 @@ pub struct Scan {
 }
 
 /// A wanted element.
-#[derive(Debug, Drop, PartialEq)]
+#[derive(Debug, PartialEq)]
 pub struct Found {
     /// Its tag.
     pub tag: Tag,
     /// What is known of its value.
     pub value: FoundValue,
+}
+
+// By hand, so that letting go of it is one call.
+impl Drop for Found {
+    fn drop(self) {
+        let Found {
+            tag: _,
+            value: _value,
+        } = self;
+    }
 }
 
 /// What is kept of the value of a wanted element.

@@ -5,7 +5,8 @@ ghost use Rattle.byteorder.specs.Endian.{little_bytes};
 ghost use Rattle.dd_elem.specs.Tag.{number_of};
 ghost use Rattle.dd_elem.specs.Vr.{is_long_of};
 ghost use Rattle.dd_set.specs.Reading.{tag_of, long_of, short_of, ends_set, ends_sequence, is_item};
-ghost use Rattle.dd_set.specs.Spelling.{item_syntax, length_limit, HoldsBytes, shape_text, header_text, item_tag_text};
+ghost use Rattle.dd_set.specs.Spelling.{item_syntax, length_limit, HoldsBytes, tag_text, shape_text, header_text};
+ghost use Rattle.dd_set.specs.Spelling.{item_tag_text};
 
 use crate::syntax::{Length, Syntax};
 use byteorder::{ByteOrder, LittleEndian};
@@ -18,7 +19,7 @@ pub const UNDEFINED_LENGTH: u32 = 0xffff_ffff;
 pub const DELIMITER_GROUP: u16 = 0xfffe;
 
 /// How many bytes a tag has.
-pub const TAG_SIZE: u64 = 4;
+pub const TAG_SIZE: usize = 4;
 
 /// How many bytes each header begins with. All but the long ones have no more.
 pub const HEADER_SIZE: usize = 8;
@@ -101,9 +102,19 @@ pub fn shape_size(vr: Option<Vr>) -> u64
     ensures few { result ≤ 8 }
 {
     match vr {
-        Some(vr) if vr.is_long() => LONG_HEADER_SIZE as u64 - TAG_SIZE,
-        _ => HEADER_SIZE as u64 - TAG_SIZE,
+        Some(vr) if vr.is_long() => (LONG_HEADER_SIZE - TAG_SIZE) as u64,
+        _ => (HEADER_SIZE - TAG_SIZE) as u64,
     }
+}
+
+/// The bytes of a tag.
+fn tag_bytes(tag: Tag) -> [u8; TAG_SIZE]
+    ensures { result ≡ tag_text tag }
+{
+    let mut bytes = [0; TAG_SIZE];
+    LittleEndian::write_u16(&mut bytes, tag.group);
+    LittleEndian::write_u16(&mut bytes[2..], tag.element);
+    bytes
 }
 
 /// A tag and a length of 32 bits: a header in Implicit VR, and that of an item or a delimiter.
@@ -111,8 +122,7 @@ pub fn plain_header(tag: Tag, value_length: u32) -> [u8; HEADER_SIZE]
     ensures { result ≡ header_text tag None value_length }
 {
     let mut header = [0; HEADER_SIZE];
-    LittleEndian::write_u16(&mut header, tag.group);
-    LittleEndian::write_u16(&mut header[2..], tag.element);
+    header[..TAG_SIZE].copy_from_slice(&tag_bytes(tag));
     LittleEndian::write_u32(&mut header[4..], value_length);
     header
 }
@@ -130,8 +140,7 @@ pub fn short_header(tag: Tag, vr: Vr, value_length: u16) -> [u8; HEADER_SIZE]
     ensures { result ≡ header_text tag (Some vr) value_length }
 {
     let mut header = [0; HEADER_SIZE];
-    LittleEndian::write_u16(&mut header, tag.group);
-    LittleEndian::write_u16(&mut header[2..], tag.element);
+    header[..TAG_SIZE].copy_from_slice(&tag_bytes(tag));
     header[4..6].copy_from_slice(&vr.letters());
     LittleEndian::write_u16(&mut header[6..], value_length);
     header
@@ -143,8 +152,7 @@ pub fn long_header(tag: Tag, vr: Vr, value_length: u32) -> [u8; LONG_HEADER_SIZE
     ensures { result ≡ header_text tag (Some vr) value_length }
 {
     let mut header = [0; LONG_HEADER_SIZE];
-    LittleEndian::write_u16(&mut header, tag.group);
-    LittleEndian::write_u16(&mut header[2..], tag.element);
+    header[..TAG_SIZE].copy_from_slice(&tag_bytes(tag));
     header[4..6].copy_from_slice(&vr.letters());
     LittleEndian::write_u32(&mut header[8..], value_length);
     header

@@ -62,7 +62,7 @@ pub fn element_size(element: &Element<'_>, syntax: Syntax, levels: u32, low: u64
         return None;
     }
     let size = value_size(&element.value, element.vr, syntax, levels)?;
-    size.checked_add(TAG_SIZE)
+    size.checked_add(TAG_SIZE as u64)
 }
 
 /// The size of a value with what its header has behind the tag.

@@ -72,7 +72,7 @@ fn starts_of(
         Value::Bytes(_) => Ok(None),
         Value::Items { length, items } => match item_syntax(syntax, element.vr, *length) {
             Some(inner) => {
-                let first = at + TAG_SIZE + shape_size(element.vr);
+                let first = at + TAG_SIZE as u64 + shape_size(element.vr);
                 Ok(Some(items_starts(alloc, items, inner, first)?))
             }
             None => unreachable!(),
