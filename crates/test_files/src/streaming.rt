@@ -5,7 +5,7 @@ use crate::vectors::{file_named, meta_of, v1_changed, v1_with_private};
 use dd_elem::{ByteSource, Tag};
 use dd_part10::{Meta, Scanned, StreamFault, parse_file, read_file};
 use dd_set::{Found, FoundValue};
-use dd_vectors::{failing, tag_of, text_of, v1};
+use dd_vectors::{reader_of, tag_of, tags_of, text_of, v1};
 use std::alloc::Global;
 use std::test::Fail;
 
@@ -84,32 +84,11 @@ fn told(
     Ok(text)
 }
 
-/// The tags that these words name, none where the text is empty.
-fn tags_of(alloc: Global, words: &str) -> Result<Vec<Tag>, Fail> {
-    let mut tags = Vec::new(alloc);
-    for word in words.split_terminator(' ') {
-        tags.push(tag_of(word)?)?;
-    }
-    Ok(tags)
-}
-
 /// The file that a question names, and the rest of the question.
 fn file_of(alloc: Global, question: &str) -> Result<(Vec<u8>, &str), Fail> {
     let (place, rest) = question.split_once(' ').ok_or("no place")?;
     let (change, rest) = rest.split_once(' ').ok_or("no bytes")?;
     Ok((v1_changed(alloc, place, change)?, rest))
-}
-
-/// A reader of the file, with the limit and the words of the wanted tags.
-fn reader_of<'a, 'b>(
-    file: &'a [u8],
-    question: &'b str,
-) -> Result<(ByteSource<'a>, u64, &'b str), Fail> {
-    let (piece, rest) = question.split_once(' ').ok_or("no piece")?;
-    let (limit, rest) = rest.split_once(' ').ok_or("no limit")?;
-    let (fails, words) = rest.split_once(' ').unwrap_or((rest, ""));
-    let reader = ByteSource::new(file, piece.parse()?, failing(fails)?);
-    Ok((reader, limit.parse()?, words))
 }
 
 pub(crate) fn read(alloc: Global, question: &str) -> Result<String, Fail> {

@@ -4,7 +4,7 @@ use crate::cases::{Ask, ask_all};
 use crate::spellings::{IMAGES, PATIENT_ID, spelled};
 use dd_elem::{ByteSource, Tag};
 use dd_set::{FoundValue, Scan, ScanFault, SetFault, Syntax, scan};
-use dd_vectors::{bytes_of, failing, tag_of, text_of, v1};
+use dd_vectors::{bytes_of, reader_of, tags_of, text_of, v1};
 use std::alloc::Global;
 use std::test::Fail;
 
@@ -94,27 +94,6 @@ fn told(alloc: Global, answer: Result<Scan, ScanFault>) -> Result<String, Fail> 
         }
     }
     Ok(text)
-}
-
-/// The tags that these words name, none where the text is empty.
-fn tags_of(alloc: Global, words: &str) -> Result<Vec<Tag>, Fail> {
-    let mut tags = Vec::new(alloc);
-    for word in words.split_terminator(' ') {
-        tags.push(tag_of(word)?)?;
-    }
-    Ok(tags)
-}
-
-/// A reader of the set, with the limit and the words of the wanted tags.
-fn reader_of<'a, 'b>(
-    set: &'a [u8],
-    question: &'b str,
-) -> Result<(ByteSource<'a>, u64, &'b str), Fail> {
-    let (piece, rest) = question.split_once(' ').ok_or("no piece")?;
-    let (limit, rest) = rest.split_once(' ').ok_or("no limit")?;
-    let (fails, words) = rest.split_once(' ').unwrap_or((rest, ""));
-    let reader = ByteSource::new(set, piece.parse()?, failing(fails)?);
-    Ok((reader, limit.parse()?, words))
 }
 
 fn scanned(alloc: Global, set: &[u8], question: &str) -> Result<String, Fail> {

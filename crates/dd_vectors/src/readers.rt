@@ -1,0 +1,29 @@
+//! Readers and tags as a question names them.
+
+use crate::cases::failing;
+use crate::texts::tag_of;
+use dd_elem::{ByteSource, Tag};
+use std::alloc::Global;
+use std::test::Fail;
+
+/// A reader of these bytes, with the limit and the words of the wanted tags. The question has the most bytes
+/// of a read, the limit, after how many bytes the reader fails, and these words.
+pub fn reader_of<'a, 'b>(
+    bytes: &'a [u8],
+    question: &'b str,
+) -> Result<(ByteSource<'a>, u64, &'b str), Fail> {
+    let (piece, rest) = question.split_once(' ').ok_or("no piece")?;
+    let (limit, rest) = rest.split_once(' ').ok_or("no limit")?;
+    let (fails, words) = rest.split_once(' ').unwrap_or((rest, ""));
+    let reader = ByteSource::new(bytes, piece.parse()?, failing(fails)?);
+    Ok((reader, limit.parse()?, words))
+}
+
+/// The tags that the words name, none where the text is empty.
+pub fn tags_of(alloc: Global, words: &str) -> Result<Vec<Tag>, Fail> {
+    let mut tags = Vec::new(alloc);
+    for word in words.split_terminator(' ') {
+        tags.push(tag_of(word)?)?;
+    }
+    Ok(tags)
+}
