@@ -4,7 +4,7 @@ use crate::cases::{Ask, Claim, ask_all, claim_all};
 use crate::sending::first_catalogue;
 use dd_catalogue::History;
 use dd_dir::{assemble, publish};
-use dd_elem::{SetId, Uid};
+use dd_elem::{FileId, SetId, Uid};
 use dd_layout::{Label, Limits};
 use dd_samples::{images, taken};
 use dd_vectors::{bytes_of, first_directory, v2};
@@ -60,7 +60,7 @@ pub(crate) fn limits_of(bytes: &str) -> Result<Limits, Fail> {
     } else {
         bytes.parse()?
     };
-    Ok(Limits::new(bytes, 999_999).ok_or("no limits")?)
+    Ok(Limits::new(bytes, FileId::MAX_RANK).ok_or("no limits")?)
 }
 
 /// The directory of the images with these letters, under this File-set ID.

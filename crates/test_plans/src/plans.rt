@@ -1,6 +1,6 @@
 //! Plans of catalogues.
 
-use dd_elem::{SetId, Uid};
+use dd_elem::{FileId, SetId, Uid};
 use dd_layout::{Label, Limits, Plan, PlanFault, lay_out};
 use dd_samples::taken;
 use std::alloc::Global;
@@ -28,13 +28,13 @@ pub(crate) fn planned(
 
 /// The plan of the catalogue of the images with these letters, under the label without an ID.
 pub(crate) fn plan(alloc: Global, letters: &str) -> Result<Plan, Fail> {
-    let limits = Limits::new(u32::MAX, 999_999).ok_or("no limits")?;
+    let limits = Limits::new(u32::MAX, FileId::MAX_RANK).ok_or("no limits")?;
     Ok(planned(alloc, letters, "", limits)??)
 }
 
 #[test]
 fn a_plan_keeps_its_label(rt: HostRuntime) -> Result<(), Fail> {
-    let limits = Limits::new(u32::MAX, 999_999).ok_or("no limits")?;
+    let limits = Limits::new(u32::MAX, FileId::MAX_RANK).ok_or("no limits")?;
     let plan = planned(rt.alloc(), "1", "DISC1", limits)??;
     assert!(rt; *plan.label() == label_of("DISC1")?);
     Ok(())
