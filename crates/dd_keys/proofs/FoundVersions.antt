@@ -190,7 +190,8 @@ refusal_is_memory file version fault h refused =
     ⊎_elim (λ memory. memory) (λ is. absurd (cc)) refused
 
 -- a refusal that is the first check that fails, or want of memory, answers
-pub refusal_answers : (file : List ℕ) (fault : KeyFault) → IsWantOfMemory SetWants file fault ⊎ (first_fault file ≡ Some fault)
+pub refusal_answers : (file : List ℕ) (fault : KeyFault)
+    → IsWantOfMemory SetWants file fault ⊎ (first_fault file ≡ Some fault)
     → Answers file (Err fault)
 refusal_answers file fault h =
     record { found = tt; only = λ version is. refusal_is_memory file version fault is h; fault = h }

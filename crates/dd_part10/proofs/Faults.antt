@@ -76,7 +76,8 @@ fails_is (faults.Set TooDeep) r h = h
 fails_is (faults.Set Memory) r h = tt
 
 -- a file that is refused, with what is known of it where memory is wanted
-pub refused : (wanted : List Tag) (e : FileFault) (file : List ℕ) → Fails e (file_in file) → (e ≡ faults.Meta Memory → GroupWants file)
+pub refused : (wanted : List Tag) (e : FileFault) (file : List ℕ) → Fails e (file_in file)
+    → (e ≡ faults.Meta Memory → GroupWants file)
     → (e ≡ faults.Set Memory → ScanWants wanted file) → IsRefused wanted e file
 refused wanted NotPart10 file h group set = h
 refused wanted GroupLength file h group set = h
