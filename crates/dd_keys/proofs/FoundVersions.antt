@@ -177,26 +177,27 @@ first_fault_none file version h =
 -- a refusal of the parse is the first check that fails, or want of memory
 pub file_refused : (file : List ℕ) (e : FileFault) → Fails e (file_in file)
     → (e ≡ faults.Meta Memory → GroupWants file) → (e ≡ faults.Set Memory → SetWants file)
-    → IsWantOfMemory file (File e) ⊎ (first_fault file ≡ Some (File e))
+    → IsWantOfMemory SetWants file (File e) ⊎ (first_fault file ≡ Some (File e))
 file_refused file (faults.Meta Memory) is group set = inl (group refl)
 file_refused file (faults.Set Memory) is group set = inl (set refl)
 file_refused file fault is group set = inr (ap fault_of is)
 
 -- so a refusal of it is want of memory
 refusal_is_memory : (file : List ℕ) (version : Parts) (fault : KeyFault) → IsVersion file version
-    → IsWantOfMemory file fault ⊎ (first_fault file ≡ Some fault) → IsWantOfMemory file fault
+    → IsWantOfMemory SetWants file fault ⊎ (first_fault file ≡ Some fault) → IsWantOfMemory SetWants file fault
 refusal_is_memory file version fault h refused =
     let none = first_fault_none file version h in
     ⊎_elim (λ memory. memory) (λ is. absurd (cc)) refused
 
 -- a refusal that is the first check that fails, or want of memory, answers
-pub refusal_answers : (file : List ℕ) (fault : KeyFault) → IsWantOfMemory file fault ⊎ (first_fault file ≡ Some fault)
+pub refusal_answers : (file : List ℕ) (fault : KeyFault)
+    → IsWantOfMemory SetWants file fault ⊎ (first_fault file ≡ Some fault)
     → Answers file (Err fault)
 refusal_answers file fault h =
     record { found = tt; only = λ version is. refusal_is_memory file version fault is h; fault = h }
 
 pub refused_answers : (file : List ℕ) (answer : Result Parts KeyFault) → IsErr answer
-    → IfErr answer (λ fault. IsWantOfMemory file fault ⊎ (first_fault file ≡ Some fault)) → Answers file answer
+    → IfErr answer (λ fault. IsWantOfMemory SetWants file fault ⊎ (first_fault file ≡ Some fault)) → Answers file answer
 refused_answers file (Ok parts) refused h = absurd (cc)
 refused_answers file (Err fault) refused h = refusal_answers file fault h
 

@@ -1,5 +1,5 @@
 -- What a reader gave to its end is answered as the bytes of a file are.
-use Rattle.std.proofs.Common.{◌≡◌, ◌⊎◌, inl, inr, ℕ, Bool, true, false, List, [], ◌∷◌, length, map}
+use Rattle.std.proofs.Common.{◌≡◌, inr, ℕ, Bool, true, false, List, [], ◌∷◌, length, map}
 use Rattle.std.proofs.Common.{Option, Some, None, Result, Ok, Err, if◌then◌else◌, nat_lt}
 use Rattle.std.proofs.Common.{refl, sym, ap, subst, ⊎_elim, ◌∙◌}
 use Rattle.std.specs.Prelude.{IfSome}
@@ -8,7 +8,7 @@ use Rattle.dd_elem.specs.declared.tag.Tag.{Tag}
 use Rattle.dd_set.specs.Streams.{Ends}
 use Rattle.dd_set.specs.declared.end.End.TheVariants.{Ended}
 use Rattle.dd_set.specs.declared.fault.SetFault.TheVariants as parsing
-use Rattle.dd_part10.specs.Memory.{IsRefused}
+use Rattle.dd_part10.specs.Memory.{ScanWants, IsRefused}
 use Rattle.dd_part10.specs.Reading.{FileParts, file_in}
 use Rattle.dd_part10.specs.Streaming.{IsFileAnswer}
 use Rattle.dd_part10.specs.declared.stream_fault.StreamFault.{StreamFault}
@@ -21,8 +21,9 @@ use Rattle.dd_keys.specs.declared.fault.KeyFault.{KeyFault}
 use Rattle.dd_keys.specs.declared.fault.KeyFault.TheVariants.{File, Read, FileTooLong, MetaMismatch, Memory}
 use Rattle.dd_keys.specs.declared.parts.Parts.{Parts}
 use Rattle.dd_keys.specs.Faults.{key_fault_of, wanted_uid, mismatch_of, uid_fault_of, row_fault, table_fault, first}
-use Rattle.dd_keys.specs.Faults.{fault_of, first_fault, IsWantInStream, IsWantOfMemory, SaysMemory}
-use Rattle.dd_keys.specs.Table.{Row, key, uid, rows}
+use Rattle.dd_keys.specs.Faults.{fault_of, IsWantOfMemory, SaysMemory}
+use Rattle.dd_keys.specs.Table.{Row, key, uid, rows, wanted_tags}
+use Rattle.dd_keys.specs.Told.{IsJudged}
 use Rattle.dd_keys.specs.Values.{value_at}
 use Rattle.dd_keys.proofs.FoundVersions.{refusal_answers}
 
@@ -77,30 +78,16 @@ table_check file = rows_check file rows
 file_check : (file : FileParts) → IfSome (fault_of (Ok file)) IsOfKeys
 file_check file = either (is_image_class file.meta.class) (table_fault file) _ (table_check file) tt
 
--- so the answer for such a file is one of these, or want of memory
-refusal_of_file : (file : List ℕ) (f : FileParts) (fault : KeyFault) → file_in file ≡ Ok f
-    → IsWantOfMemory file fault ⊎ (first_fault file ≡ Some fault) → IsWantOfMemory file fault ⊎ IsOfKeys fault
-refusal_of_file file f fault read (inl want) = inl want
-refusal_of_file file f fault read (inr is) =
-    inr (subst (λ (first : Option KeyFault). IfSome first IsOfKeys) (sym (ap fault_of read) ∙ is) (file_check f))
-
 -- it is no fault of a reader
 abbrev IsOfFile : KeyFault → Type 0
 IsOfFile Read = ⊥
 IsOfFile FileTooLong = ⊥
 IsOfFile fault = Unit {0}
 
-no_reader : (file : List ℕ) (fault : KeyFault) → IsWantOfMemory file fault ⊎ IsOfKeys fault → IsOfFile fault
-no_reader file Read h = ⊎_elim (λ want. want) (λ check. check) h
-no_reader file FileTooLong h = ⊎_elim (λ want. want) (λ check. check) h
-no_reader file fault h = tt
-
--- where reading all bytes at once wants memory, a stream of them does
-want_in_stream : (file : List ℕ) (fault : KeyFault) → IsWantOfMemory file fault → IsWantInStream file fault
-want_in_stream file Memory want = want
-want_in_stream file (File (Meta parsing.Memory)) want = want
-want_in_stream file (File (Set parsing.Memory)) want = want.head
-want_in_stream file fault want = want
+no_reader : (fault : KeyFault) → IsOfKeys fault → IsOfFile fault
+no_reader Read check = check
+no_reader FileTooLong check = check
+no_reader fault check = tt
 
 no_want : (fault : KeyFault) → IsOfKeys fault → SaysMemory fault → ⊥
 no_want Memory check says = check
@@ -110,7 +97,8 @@ no_want fault check says = says
 -- ---- the answer
 
 wanting_reader : (limit : ℕ) (given : List ℕ) (left : Option (List ℕ)) (old new : ℕ) (e : FileFault)
-    → Ends Ended limit given left old new → SaysMemory (File e) → IsWantInStream given (File e)
+    → Ends Ended limit given left old new → SaysMemory (File e)
+    → IsWantOfMemory (ScanWants wanted_tags) given (File e)
     → AnswersReader limit given left old new (Err (File e))
 wanting_reader limit given left old new e read says want = record {
   read = λ e. absurd (cc);
@@ -120,27 +108,32 @@ wanting_reader limit given left old new e read says want = record {
   memory = λ _. want;
 }
 
--- a file was read, and this is the answer for it
+-- a file was read, and this is the answer for it, by its first check that fails
 pub answers_reader : (limit : ℕ) (given : List ℕ) (left : Option (List ℕ)) (old new : ℕ) (f : FileParts)
-    (answer : Result Parts KeyFault) → Ends Ended limit given left old new → file_in given ≡ Ok f
-    → Answers given answer → AnswersReader limit given left old new answer
-answers_reader limit given left old new f (Ok parts) whole read h = record {
+    (check : Option KeyFault) (parts : Parts) (answer : Result Parts KeyFault)
+    → Ends Ended limit given left old new → file_in given ≡ Ok f → check ≡ fault_of (Ok f)
+    → IsJudged check parts answer → Answers given answer → AnswersReader limit given left old new answer
+answers_reader limit given left old new f check parts (Ok version) whole read same judged h = record {
   read = λ e. absurd (cc);
   long = λ e. absurd (cc);
   ended = λ _ _. whole;
   whole = λ _ _ _. h;
   memory = tt;
 }
-answers_reader limit given left old new f (Err fault) whole read h =
-    let refused = refusal_of_file given f fault read h.fault in
-    let of_file = no_reader given fault refused in
+answers_reader limit given left old new f check parts (Err fault) whole read same judged h =
+    let of_keys : check ≡ Some fault → IsOfKeys fault =
+    λ fails. subst (λ (first : Option KeyFault). IfSome first IsOfKeys) (sym same ∙ fails) (file_check f) in
+    let of_file : IsOfFile fault =
+    ⊎_elim (λ memory. subst IsOfFile (sym memory.1) tt) (λ fails. no_reader fault (of_keys fails)) judged in
     record {
       read = λ e. let same : fault ≡ Read = cc in absurd (subst IsOfFile same of_file);
       long = λ e. let same : fault ≡ FileTooLong = cc in absurd (subst IsOfFile same of_file);
       ended = λ _ _. whole;
       whole = λ _ _ _. h;
-      memory = λ says.
-          ⊎_elim (λ want. want_in_stream given fault want) (λ check. absurd (no_want fault check says)) refused;
+      memory = λ says. ⊎_elim
+          (λ memory. subst (IsWantOfMemory (ScanWants wanted_tags) given) (sym memory.1)
+          (ap fault_of read ∙ sym same ∙ memory.0))
+          (λ fails. absurd (no_want fault (of_keys fails) says)) judged;
     }
 
 -- the bytes are no file
@@ -157,7 +150,8 @@ failing_reader limit given left old new e whole read silent = record {
 
 -- the bytes are no file, or memory ran out
 file_refused : (limit : ℕ) (given : List ℕ) (left : Option (List ℕ)) (old new : ℕ) (e : FileFault)
-    → Ends Ended limit given left old new → IsRefused e given → AnswersReader limit given left old new (Err (File e))
+    → Ends Ended limit given left old new → IsRefused wanted_tags e given
+    → AnswersReader limit given left old new (Err (File e))
 file_refused limit given left old new (Meta parsing.Memory) whole h =
     wanting_reader limit given left old new (Meta parsing.Memory) whole tt h
 file_refused limit given left old new (Set parsing.Memory) whole h =
@@ -165,22 +159,22 @@ file_refused limit given left old new (Set parsing.Memory) whole h =
 file_refused limit given left old new e whole h = failing_reader limit given left old new e whole h (λ says. says)
 
 -- a refusal of the file that a reader gives
-pub refused_reader : (wanted : List Tag) (limit : ℕ) (given : List ℕ) (left : Option (List ℕ)) (old new : ℕ)
-    (e : StreamFault) → IsFileAnswer (Err e) wanted limit given left old new
+pub refused_reader : (limit : ℕ) (given : List ℕ) (left : Option (List ℕ)) (old new : ℕ)
+    (e : StreamFault) → IsFileAnswer (Err e) wanted_tags limit given left old new
     → AnswersReader limit given left old new (Err (refusal_of e))
-refused_reader wanted limit given left old new faults.Read h = record {
+refused_reader limit given left old new faults.Read h = record {
   read = λ e. h;
   long = λ e. absurd (cc);
   ended = λ no _. absurd (no refl);
   whole = λ no _ _. absurd (no refl);
   memory = λ says. absurd says;
 }
-refused_reader wanted limit given left old new faults.TooLong h = record {
+refused_reader limit given left old new faults.TooLong h = record {
   read = λ e. absurd (cc);
   long = λ e. h;
   ended = λ _ no. absurd (no refl);
   whole = λ _ no _. absurd (no refl);
   memory = λ says. absurd says;
 }
-refused_reader wanted limit given left old new (faults.File e) h =
+refused_reader limit given left old new (faults.File e) h =
     file_refused limit given left old new e h.0 h.1

@@ -9,7 +9,7 @@ use Rattle.std.proofs.lemmas.List.{take_all, length-take-le}
 use Rattle.sha2.specs.Sha256.{sha256}
 use Rattle.dd_elem.specs.declared.tag.Tag.{Tag}
 use Rattle.dd_elem.proofs.UidForm.{is_uid-long}
-use Rattle.dd_set.specs.Scan.{Told, is_wanted}
+use Rattle.dd_set.specs.Scan.{Told, told_value, is_wanted}
 use Rattle.dd_part10.specs.File.{IsFile}
 use Rattle.dd_part10.specs.Reading.{FileParts, file_in}
 use Rattle.dd_part10.specs.Syntaxes.{syntax_of}
@@ -22,12 +22,14 @@ use Rattle.dd_keys.specs.Answers.{Answers}
 use Rattle.dd_keys.specs.Classes.{is_image_class}
 use Rattle.dd_keys.specs.Faults.{first, key_fault_of, uid_fault_of, wanted_uid, key_fault, uid_fault, row_fault}
 use Rattle.dd_keys.specs.Faults.{table_fault, fault_of, IsWantOfMemory}
+use Rattle.dd_part10.specs.Memory.{SetWants}
 use Rattle.dd_keys.specs.Fitting.{Fits}
 use Rattle.dd_keys.specs.Table.{KeyRow, UidRow, Row, key, uid, rows, charset_row, study_date_row, study_time_row}
 use Rattle.dd_keys.specs.Table.{accession_row, modality_row, description_row, patient_name_row, patient_id_row}
 use Rattle.dd_keys.specs.Table.{study_row, series_row, study_id_row, series_number_row, instance_number_row}
-use Rattle.dd_keys.specs.Told.{told_value, front_of, told_key_fault, told_row_fault}
-use Rattle.dd_keys.proofs.Tells.{tag_of, wanted_tags, TellsSet}
+use Rattle.dd_keys.specs.Told.{front_of, told_key_fault, told_row_fault}
+use Rattle.dd_keys.proofs.Tells.{TellsSet}
+use Rattle.dd_keys.specs.Table.{tag_of, wanted_tags}
 use Rattle.dd_keys.specs.Told.{told_table_fault, told_fault, told_key, told_uid, told_parts, IsJudged}
 use Rattle.dd_keys.specs.Values.{value_at, or_other}
 use Rattle.dd_keys.proofs.SetValues.{key_in, uid_in, parts_in}
@@ -198,7 +200,7 @@ judged file f check parts (Ok version) read is same parts_are h =
 judged file f check parts (Err fault) read is same parts_are h =
     let refused = ap fault_of read ∙ sym same in
     refusal_answers file fault
-    (⊎_elim (λ memory. inl (subst (IsWantOfMemory file) (sym memory.1) (refused ∙ memory.0)))
+    (⊎_elim (λ memory. inl (subst (IsWantOfMemory SetWants file) (sym memory.1) (refused ∙ memory.0)))
     (λ fails. inr (refused ∙ fails)) h)
 
 -- the answer by what is told of a file is that for the file

@@ -8,11 +8,12 @@ use Rattle.dd_elem.specs.Key.{IsKey}
 use Rattle.dd_elem.specs.declared.tag.Tag.{Tag}
 use Rattle.dd_set.specs.Elements.{Elements, Content, bytes, items, Entry}
 use Rattle.dd_set.specs.Find.{same_tag, entries_of}
-use Rattle.dd_set.specs.Scan.{Told, cleaned, told_of, Hit, hit_of, is_wanted, hits_of, found_hit}
+use Rattle.dd_set.specs.Scan.{Told, cleaned, told_value, told_of, Hit, hit_of, is_wanted, hits_of, found_hit}
 use Rattle.dd_set.specs.declared.found.Found.{Found}
 use Rattle.dd_part10.proofs.Tags.{same_tag-is}
-use Rattle.dd_keys.specs.Told.{told_value, told_at, found_told, told_found, IsFront, AreFronts}
-use Rattle.dd_keys.proofs.Tells.{wanted_tags, TellsSet}
+use Rattle.dd_keys.specs.Told.{told_at, found_told, told_found, IsFront, AreFronts}
+use Rattle.dd_keys.proofs.Tells.{TellsSet}
+use Rattle.dd_keys.specs.Table.{wanted_tags}
 use Rattle.dd_keys.specs.Values.{content_value, entry_value, value_at}
 use Rattle.dd_keys.proofs.Held.{content_value-clean, value_at-clean}
 

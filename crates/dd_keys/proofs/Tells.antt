@@ -1,18 +1,10 @@
 -- What is told of the values of a data set at the tags of the table.
-use Rattle.std.specs.Prelude.{◌≡◌, true, List, map}
+use Rattle.std.specs.Prelude.{◌≡◌, true}
 use Rattle.dd_elem.specs.declared.tag.Tag.{Tag}
 use Rattle.dd_set.specs.Elements.{Elements}
 use Rattle.dd_set.specs.Scan.{Told, is_wanted}
-use Rattle.dd_keys.specs.Table.{Row, key, uid, rows}
+use Rattle.dd_keys.specs.Table.{wanted_tags}
 use Rattle.dd_keys.specs.Told.{told_at}
-
--- the tag of a row, and those of the table
-abbrev pub tag_of : Row → Tag
-tag_of (key row) = row.tag
-tag_of (uid row) = row.tag
-
-abbrev pub wanted_tags : List Tag
-wanted_tags = map tag_of rows
 
 -- at each tag of the table they tell the value of the data set
 abbrev pub TellsSet : (Tag → Told) → Elements → Type 0

@@ -12,7 +12,7 @@ use Rattle.dd_part10.specs.declared.fault.FileFault.{FileFault}
 use Rattle.dd_part10.specs.declared.fault.FileFault.TheVariants.{Meta as MetaFault, Set}
 use Rattle.dd_part10.specs.declared.meta.Meta.{Meta}
 use Rattle.dd_part10.specs.Faults as file_faults
-use Rattle.dd_part10.specs.Memory.{GroupWants, HasHead, SetWants}
+use Rattle.dd_part10.specs.Memory.{GroupWants}
 use Rattle.dd_part10.specs.Reading.{FileParts, file_in}
 use Rattle.dd_keys.specs.declared.fault.KeyFault.{KeyFault}
 use Rattle.dd_keys.specs.declared.fault.KeyFault.TheVariants.{File, NotImage, MissingKey, BadKeyUid, KeyTooLong}
@@ -85,17 +85,10 @@ SaysMemory Memory = Unit {0}
 SaysMemory (File fault) = file_faults.SaysMemory fault
 SaysMemory fault = ⊥
 
--- it says so where memory is wanted
-abbrev pub IsWantOfMemory : List ℕ → KeyFault → Type 0
-IsWantOfMemory file Memory = first_fault file ≡ None
-IsWantOfMemory file (File (MetaFault parsing.Memory)) = GroupWants file
-IsWantOfMemory file (File (Set parsing.Memory)) = SetWants file
-IsWantOfMemory file fault = ⊥
-
--- The same of a file that is read as a stream, of which little is kept: for group 0002 (PS3.10 section 7.1) where
--- reading it wants some, for the data set where all before it is right, and behind all checks.
-abbrev pub IsWantInStream : List ℕ → KeyFault → Type 0
-IsWantInStream file Memory = first_fault file ≡ None
-IsWantInStream file (File (MetaFault parsing.Memory)) = GroupWants file
-IsWantInStream file (File (Set parsing.Memory)) = HasHead file
-IsWantInStream file fault = ⊥
+-- It says so where memory is wanted: for group 0002 (PS3.10 section 7.1) where reading it wants some, for the data set
+-- where `set_wants` says so, and behind all checks.
+abbrev pub IsWantOfMemory : (List ℕ → Type 0) → List ℕ → KeyFault → Type 0
+IsWantOfMemory set_wants file Memory = first_fault file ≡ None
+IsWantOfMemory set_wants file (File (MetaFault parsing.Memory)) = GroupWants file
+IsWantOfMemory set_wants file (File (Set parsing.Memory)) = set_wants file
+IsWantOfMemory set_wants file fault = ⊥

@@ -1,6 +1,7 @@
 pub mod Answers
 pub mod Carried
 pub mod Classes
+pub mod Copies
 pub mod Faults
 pub mod Fitting
 pub mod Orders

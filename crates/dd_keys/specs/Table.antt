@@ -1,7 +1,7 @@
 -- The table of the elements that give a version its keys and UIDs: where a value stands, and what stands for an empty
 -- one. The keys that records of a directory must have are replaced where they are empty (PS3.3 section F.5); a UID is
 -- not.
-use Rattle.std.specs.Prelude.{ℕ, List, [], ◌∷◌, Option, Some, None, codes}
+use Rattle.std.specs.Prelude.{ℕ, List, [], ◌∷◌, map, Option, Some, None, codes}
 use Rattle.dd_elem.specs.declared.tag.Tag.{Tag}
 use Rattle.dd_keys.specs.declared.rows.MetaUid.{MetaUid}
 use Rattle.dd_keys.specs.declared.rows.MetaUid.TheVariants.{Class, Instance}
@@ -92,3 +92,12 @@ rows =
     key charset_row ∷ uid class_row ∷ uid instance_row ∷ key study_date_row ∷ key study_time_row ∷
     key accession_row ∷ key modality_row ∷ key description_row ∷ key patient_name_row ∷ key patient_id_row ∷
     uid study_row ∷ uid series_row ∷ key study_id_row ∷ key series_number_row ∷ key instance_number_row ∷ []
+
+-- the tag of a row
+abbrev pub tag_of : Row → Tag
+tag_of (key row) = row.tag
+tag_of (uid row) = row.tag
+
+-- the tags of the table
+abbrev pub wanted_tags : List Tag
+wanted_tags = map tag_of rows

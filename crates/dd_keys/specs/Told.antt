@@ -1,12 +1,12 @@
 -- The checks of the table and the keys of a file, by what is told of the values of its data set: that a value is a
 -- sequence, or else its first 1,024 bytes and how many it has.
-use Rattle.std.specs.Prelude.{◌≡◌, ◌≤◌, ◌⊎◌, ℕ, List, [], Option, Some, None, Result, Ok, Err, length, map, find}
-use Rattle.std.specs.Prelude.{take, nat_lt, if◌then◌else◌}
+use Rattle.std.specs.Prelude.{◌≡◌, ◌≤◌, ◌⊎◌, ℕ, List, [], Option, Some, None, Result, Ok, Err, map, find}
+use Rattle.std.specs.Prelude.{nat_lt, if◌then◌else◌}
 use Rattle.dd_elem.specs.Key.{IsKey, max_key_length}
 use Rattle.dd_elem.specs.declared.tag.Tag.{Tag}
 use Rattle.dd_set.specs.Elements.{Elements}
 use Rattle.dd_set.specs.Find.{same_tag}
-use Rattle.dd_set.specs.Scan.{Told, sequence, cleaned, most_told, value_told}
+use Rattle.dd_set.specs.Scan.{Told, sequence, cleaned, told_value, value_told}
 use Rattle.dd_set.specs.declared.found.Found.{Found}
 use Rattle.dd_part10.specs.declared.meta.Meta.{Meta}
 use Rattle.dd_keys.specs.declared.fault.KeyFault.{KeyFault}
@@ -23,11 +23,6 @@ use Rattle.dd_keys.specs.Table.{KeyRow, UidRow, Row, key, uid, rows}
 use Rattle.dd_keys.specs.Values.{value_at, key_by, uid_by, patient_by, study_by, series_by, parts_by}
 
 -- ---- what is told
-
--- what is told of a value
-abbrev pub told_value : Option (List ℕ) → Told
-told_value None = sequence
-told_value (Some value) = cleaned (take most_told value) (length value)
 
 -- what is told of the value that a data set has at a tag
 abbrev pub told_at : Tag → Elements → Told

@@ -1,6 +1,7 @@
 //! The keys of patients, studies and series.
 
-ghost use Rattle.std.specs.Prelude.{◌≡◌, IfOk};
+ghost use Rattle.std.specs.Prelude.{◌≡◌, IfOk, IsErr};
+ghost use Rattle.dd_keys.specs.Copies.{PatientIsLong, StudyIsLong, SeriesIsLong};
 ghost use Rattle.dd_keys.specs.Orders.{patient_cmp, patient_total, patient_apart, study_cmp, study_total, study_apart};
 ghost use Rattle.dd_keys.specs.Orders.{series_cmp, series_total, series_apart};
 
@@ -87,7 +88,8 @@ impl Drop for SeriesKeys {
 impl PatientKeys {
     /// Equal keys. Memory where no more copies can share a key of more than 22 bytes.
     pub fn copy(&self) -> Result<PatientKeys, Memory>
-        ensures { IfOk result (λ keys. keys ≡ self.now) }
+        ensures value { IfOk result (λ keys. keys ≡ self.now) }
+        ensures memory { IsErr result → PatientIsLong self.now }
     {
         Ok(PatientKeys {
             id: self.id.copy()?,
@@ -100,7 +102,8 @@ impl PatientKeys {
 impl StudyKeys {
     /// Equal keys. Memory where no more copies can share a key of more than 22 bytes.
     pub fn copy(&self) -> Result<StudyKeys, Memory>
-        ensures { IfOk result (λ keys. keys ≡ self.now) }
+        ensures value { IfOk result (λ keys. keys ≡ self.now) }
+        ensures memory { IsErr result → StudyIsLong self.now }
     {
         Ok(StudyKeys {
             uid: self.uid,
@@ -117,7 +120,8 @@ impl StudyKeys {
 impl SeriesKeys {
     /// Equal keys. Memory where no more copies can share a key of more than 22 bytes.
     pub fn copy(&self) -> Result<SeriesKeys, Memory>
-        ensures { IfOk result (λ keys. keys ≡ self.now) }
+        ensures value { IfOk result (λ keys. keys ≡ self.now) }
+        ensures memory { IsErr result → SeriesIsLong self.now }
     {
         Ok(SeriesKeys {
             uid: self.uid,

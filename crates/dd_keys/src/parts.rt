@@ -1,6 +1,7 @@
 //! What a version is made of.
 
-ghost use Rattle.std.specs.Prelude.{◌≡◌, IfOk};
+ghost use Rattle.std.specs.Prelude.{◌≡◌, IfOk, IsErr};
+ghost use Rattle.dd_keys.specs.Copies.{PartsAreLong};
 ghost use Rattle.dd_keys.specs.Orders.{parts_cmp, parts_total, parts_apart};
 
 use crate::keys::{PatientKeys, SeriesKeys, StudyKeys};
@@ -47,7 +48,8 @@ impl Drop for Parts {
 impl Parts {
     /// Equal parts. Memory where no more copies can share a key of more than 22 bytes.
     pub fn copy(&self) -> Result<Parts, Memory>
-        ensures { IfOk result (λ parts. parts ≡ self.now) }
+        ensures value { IfOk result (λ parts. parts ≡ self.now) }
+        ensures memory { IsErr result → PartsAreLong self.now }
     {
         Ok(Parts {
             digest: self.digest,

@@ -42,8 +42,8 @@ pub fn version_of(alloc: Global, bytes: &[u8]) -> Result<Version, KeyFault>
 ///
 /// `Read` where the reader fails and `FileTooLong` where it gives `limit` bytes and one more; both come
 /// before every check. Else it has read to the end, and the answer is that of `version_of` for the bytes
-/// that the reader gave. Or want of memory: `File` with that of group 0002 or of the data set, where all
-/// before it is right, and `Memory` behind all checks. It makes at most `limit` + 1 reads.
+/// that the reader gave. Or want of memory: `File` with that of group 0002, or of the data set where an
+/// element of the table is there, and `Memory` behind all checks. It makes at most `limit` + 1 reads.
 pub fn ingest<R: Read>(alloc: Global, reader: &mut R, limit: u64) -> Result<Version, KeyFault>
     ensures gave { (given : List ℕ) × Gives R.has_given reader.old reader.new given
         × Consumes (R.remaining reader.old) (R.remaining reader.new) given

@@ -1,6 +1,7 @@
 //! Versions of image instances.
 
-ghost use Rattle.std.specs.Prelude.{◌≡◌, ◌↔◌, IsOk, IfOk, IfErr, is_some};
+ghost use Rattle.std.specs.Prelude.{◌≡◌, ◌↔◌, IsOk, IsErr, IfOk, IfErr, is_some};
+ghost use Rattle.dd_keys.specs.Copies.{PartsAreLong};
 ghost use Rattle.dd_keys.specs.Fitting.{Fits, IsLeastMisfit, is_empty, least_misfit};
 ghost use Rattle.dd_part10.specs.Syntaxes.{syntax_of};
 
@@ -87,7 +88,8 @@ impl Version {
 
     /// An equal version. Memory where no more copies can share a key of more than 22 bytes.
     pub fn copy(&self) -> Result<Version, Memory>
-        ensures { IfOk result (λ version. version ≡ self.now) }
+        ensures value { IfOk result (λ version. version ≡ self.now) }
+        ensures memory { IsErr result → PartsAreLong self.now }
     {
         let parts = self.parts.copy()?;
         Ok(Version { parts })

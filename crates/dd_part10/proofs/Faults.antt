@@ -1,5 +1,6 @@
 -- A fault that was handed on.
-use Rattle.std.proofs.Common.{◌≡◌, ℕ, List, Result, Err, refl, ap}
+use Rattle.std.proofs.Common.{◌≡◌, ℕ, List, Result, Err, refl}
+use Rattle.dd_elem.specs.declared.tag.Tag.{Tag}
 use Rattle.dd_set.specs.declared.fault.SetFault.{SetFault}
 use Rattle.dd_set.specs.declared.fault.SetFault.TheVariants.{Truncated, Order, BadVr, Reserved, OddLength}
 use Rattle.dd_set.specs.declared.fault.SetFault.TheVariants.{UndefinedLength, UnexpectedTag, BadDelimiter, Overrun}
@@ -10,7 +11,7 @@ use Rattle.dd_part10.specs.declared.fault.FileFault.TheVariants.{NotPart10, Grou
 use Rattle.dd_part10.specs.declared.fault.FileFault.TheVariants.{OtherSyntax}
 use Rattle.dd_part10.specs.declared.fault.FileFault.TheVariants as faults
 use Rattle.dd_part10.specs.Matches.{Fails}
-use Rattle.dd_part10.specs.Memory.{GroupWants, HasHead, WantsNone, IsRefused}
+use Rattle.dd_part10.specs.Memory.{GroupWants, ScanWants, IsRefused}
 use Rattle.dd_part10.specs.Reading.{◌>>=◌, with_fault, file_in}
 
 -- a reading that fails as another does
@@ -75,41 +76,36 @@ fails_is (faults.Set TooDeep) r h = h
 fails_is (faults.Set Memory) r h = tt
 
 -- a file that is refused, with what is known of it where memory is wanted
-pub refused : (e : FileFault) (file : List ℕ) → Fails e (file_in file) → (e ≡ faults.Meta Memory → GroupWants file)
-    → (e ≡ faults.Set Memory → HasHead file) → IsRefused e file
-refused NotPart10 file h group set = h
-refused GroupLength file h group set = h
-refused (MetaMissing tag) file h group set = h
-refused (MetaUid tag) file h group set = h
-refused (OtherSyntax uid) file h group set = h
-refused (faults.Meta Truncated) file h group set = h
-refused (faults.Meta Order) file h group set = h
-refused (faults.Meta BadVr) file h group set = h
-refused (faults.Meta Reserved) file h group set = h
-refused (faults.Meta OddLength) file h group set = h
-refused (faults.Meta UndefinedLength) file h group set = h
-refused (faults.Meta UnexpectedTag) file h group set = h
-refused (faults.Meta BadDelimiter) file h group set = h
-refused (faults.Meta Overrun) file h group set = h
-refused (faults.Meta TooDeep) file h group set = h
-refused (faults.Meta Memory) file h group set = group refl
-refused (faults.Set Truncated) file h group set = h
-refused (faults.Set Order) file h group set = h
-refused (faults.Set BadVr) file h group set = h
-refused (faults.Set Reserved) file h group set = h
-refused (faults.Set OddLength) file h group set = h
-refused (faults.Set UndefinedLength) file h group set = h
-refused (faults.Set UnexpectedTag) file h group set = h
-refused (faults.Set BadDelimiter) file h group set = h
-refused (faults.Set Overrun) file h group set = h
-refused (faults.Set TooDeep) file h group set = h
-refused (faults.Set Memory) file h group set = set refl
-
--- one that a step refused which wants no memory
-pub refused_so : {X : Type 0} (e : FileFault) (file : List ℕ) → WantsNone {X = X} (Err e) → Fails e (file_in file)
-    → IsRefused e file
-refused_so e file none h =
-    refused e file h (λ is. absurd (none.0 (ap (λ f. Err f) is))) (λ is. absurd (none.1 (ap (λ f. Err f) is)))
+pub refused : (wanted : List Tag) (e : FileFault) (file : List ℕ) → Fails e (file_in file)
+    → (e ≡ faults.Meta Memory → GroupWants file)
+    → (e ≡ faults.Set Memory → ScanWants wanted file) → IsRefused wanted e file
+refused wanted NotPart10 file h group set = h
+refused wanted GroupLength file h group set = h
+refused wanted (MetaMissing tag) file h group set = h
+refused wanted (MetaUid tag) file h group set = h
+refused wanted (OtherSyntax uid) file h group set = h
+refused wanted (faults.Meta Truncated) file h group set = h
+refused wanted (faults.Meta Order) file h group set = h
+refused wanted (faults.Meta BadVr) file h group set = h
+refused wanted (faults.Meta Reserved) file h group set = h
+refused wanted (faults.Meta OddLength) file h group set = h
+refused wanted (faults.Meta UndefinedLength) file h group set = h
+refused wanted (faults.Meta UnexpectedTag) file h group set = h
+refused wanted (faults.Meta BadDelimiter) file h group set = h
+refused wanted (faults.Meta Overrun) file h group set = h
+refused wanted (faults.Meta TooDeep) file h group set = h
+refused wanted (faults.Meta Memory) file h group set = group refl
+refused wanted (faults.Set Truncated) file h group set = h
+refused wanted (faults.Set Order) file h group set = h
+refused wanted (faults.Set BadVr) file h group set = h
+refused wanted (faults.Set Reserved) file h group set = h
+refused wanted (faults.Set OddLength) file h group set = h
+refused wanted (faults.Set UndefinedLength) file h group set = h
+refused wanted (faults.Set UnexpectedTag) file h group set = h
+refused wanted (faults.Set BadDelimiter) file h group set = h
+refused wanted (faults.Set Overrun) file h group set = h
+refused wanted (faults.Set TooDeep) file h group set = h
+refused wanted (faults.Set Memory) file h group set = set refl
 
 -- a data set that is refused
 pub set_fails : {A B : Type 0} (e : SetFault) (r : Result A SetFault) (f : A → Result B FileFault) → sets.Fails e r

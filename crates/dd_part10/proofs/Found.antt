@@ -29,7 +29,7 @@ use Rattle.dd_part10.specs.declared.fault.FileFault.TheVariants.{OtherSyntax}
 use Rattle.dd_part10.specs.declared.fault.FileFault.TheVariants as faults
 use Rattle.dd_part10.specs.declared.meta.Meta.{Meta}
 use Rattle.dd_part10.specs.File.{preamble_length, prefix, max_group_length, group_length_text, StartsAbove, IsFile}
-use Rattle.dd_part10.specs.Meta.{group_length_tag, class_tag, instance_tag, transfer_tag, HasUid, IsMeta}
+use Rattle.dd_part10.specs.Meta.{group_length_tag, class_tag, instance_tag, transfer_tag, HasMetaUid, IsMeta}
 use Rattle.dd_part10.specs.Reading.{◌>>=◌, with_fault, FileParts, behind, behind_prefix, count_in, split_at}
 use Rattle.dd_part10.specs.Reading.{behind_length}
 use Rattle.dd_part10.specs.Reading.{is_alone, uid_of, uid_at, uids_in, meta_in, starts_above, set_in, file_in}
@@ -157,7 +157,7 @@ length_takes bs x fits e =
 -- a value that is a UID
 content_holds : (group : Elements) (tag : Tag) (vr : Option Vr) (content : Content) (uid : List ℕ)
     → Contains (entries_of group) (record { tag = tag; vr = vr; content = content }) → uid_of tag content ≡ Ok uid
-    → HasUid group tag uid
+    → HasMetaUid group tag uid
 content_holds group tag vr (items form parts) uid holds e = absurd cc
 content_holds group tag vr (bytes v) uid holds e =
     let a = allowed (is_uid (clean_of v)) (MetaUid tag) (Ok (clean_of v)) uid e in
@@ -171,7 +171,7 @@ content_holds group tag vr (bytes v) uid holds e =
     }
 
 -- a UID that was read
-uid_takes : (tag : Tag) (group : Elements) (uid : List ℕ) → uid_at tag group ≡ Ok uid → HasUid group tag uid
+uid_takes : (tag : Tag) (group : Elements) (uid : List ℕ) → uid_at tag group ≡ Ok uid → HasMetaUid group tag uid
 unfolding uid_at
 uid_takes tag group uid e =
     let a = bind_ok (ok_or (find_in tag group) (MetaMissing tag)) (λ (x : Entry). uid_of tag x.content) uid e in

@@ -19,7 +19,7 @@ use Rattle.dd_part10.specs.declared.meta.Meta.{Meta}
 use Rattle.dd_part10.specs.File.{prefix, group_length_text, StartsAbove, IsFile}
 use Rattle.dd_part10.specs.Head.{head_text, group_text, group_of, uid_element, padded, padding_of, version_tag}
 use Rattle.dd_part10.specs.Head.{implementation_tag, implementation_uid}
-use Rattle.dd_part10.specs.Meta.{class_tag, instance_tag, transfer_tag, HasUid, IsMeta}
+use Rattle.dd_part10.specs.Meta.{class_tag, instance_tag, transfer_tag, HasMetaUid, IsMeta}
 use Rattle.dd_part10.specs.Syntaxes.{syntax_of}
 use Rattle.dd_part10.proofs.Heads.{length_padded, length_group, length_head}
 use Rattle.dd_part10.proofs.Tags.{neq_eqb, alone_from, contains_first, contains_later}
@@ -125,7 +125,7 @@ group_valid meta class instance transfer =
 -- a UID is in a group that contains its element
 has_uid : (group : Elements) (tag : Tag) (uid : List ℕ) → IsUid uid
     → Contains (entries_of group) (record { tag = tag; vr = Some UI; content = bytes (padded uid) })
-    → HasUid group tag uid
+    → HasMetaUid group tag uid
 has_uid group tag uid valid holds = record {
   vr = Some UI;
   value = padded uid;

@@ -27,7 +27,7 @@ use Rattle.dd_part10.specs.declared.fault.FileFault.TheVariants.{OtherSyntax}
 use Rattle.dd_part10.specs.declared.fault.FileFault.TheVariants as faults
 use Rattle.dd_part10.specs.declared.meta.Meta.{Meta}
 use Rattle.dd_part10.specs.File.{preamble_length, prefix, max_group_length, group_length_text, StartsAbove, IsFile}
-use Rattle.dd_part10.specs.Meta.{group_length_tag, class_tag, instance_tag, transfer_tag, HasUid, IsMeta}
+use Rattle.dd_part10.specs.Meta.{group_length_tag, class_tag, instance_tag, transfer_tag, HasMetaUid, IsMeta}
 use Rattle.dd_part10.specs.Reading.{◌>>=◌, with_fault, behind, behind_prefix, count_in, split_at, behind_length}
 use Rattle.dd_part10.specs.Reading.{is_alone}
 use Rattle.dd_part10.specs.Reading.{uid_of, uid_at, uids_in, meta_in, starts_above, set_in, file_in}
@@ -96,7 +96,7 @@ length_again group set short =
 
 -- a UID that is there
 uid_again : (tag : Tag) (group : Elements) (uid : List ℕ) → AreElements Explicit max_levels 0 group
-    → HasUid group tag uid → uid_at tag group ≡ Ok uid
+    → HasMetaUid group tag uid → uid_at tag group ≡ Ok uid
 unfolding uid_at
 uid_again tag group uid valid h =
     let e : Entry = record { tag = tag; vr = h.vr; content = bytes h.value } in

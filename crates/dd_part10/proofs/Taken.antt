@@ -24,13 +24,13 @@ use Rattle.dd_part10.specs.declared.meta.Meta.{Meta}
 use Rattle.dd_part10.specs.declared.scanned.Scanned.{Scanned}
 use Rattle.dd_part10.specs.File.{prefix}
 use Rattle.dd_part10.specs.Matches.{Fails, Matches}
-use Rattle.dd_part10.specs.Memory.{WantsNone, IsRefused}
+use Rattle.dd_part10.specs.Memory.{WantsNone}
 use Rattle.dd_part10.specs.Reading.{◌>>=◌, behind, behind_prefix, behind_length, meta_in, starts_above, set_in}
 use Rattle.dd_part10.specs.Reading.{file_in}
 use Rattle.dd_part10.specs.Reading.{count_in, split_at, syntax_in, may_follow}
 use Rattle.dd_part10.specs.Taking.{whole_with, CountTaken, MetaTaken, HeadTaken, SetTaken, FileTaken}
 use Rattle.dd_part10.proofs.Cuts.{prefix_cut, length_is, count_cut, count_long}
-use Rattle.dd_part10.proofs.Faults.{fails_along, refused, refused_so, set_fails, bind_fails}
+use Rattle.dd_part10.proofs.Faults.{fails_along, refused, set_fails, bind_fails}
 use Rattle.dd_part10.proofs.Found.{with_syntax, with_meta, with_parts, with_rest}
 use Rattle.dd_part10.proofs.Fronts.{behind-is}
 use Rattle.dd_part10.proofs.Steps.{onward, there}
@@ -127,27 +127,28 @@ meta_taken (Err e) bytes group rest n h size given wants =
 
 -- ---- all before the data set
 
-pub head_without_prefix : {X : Type 0} (e : FileFault) (bytes : List ℕ) → WantsNone {X = X} (Err e)
-    → Fails e (behind_prefix bytes) → IsRefused e bytes
+pub head_without_prefix : {X : Type 0} (e : FileFault) (bytes rest : List ℕ) → WantsNone {X = X} (Err e)
+    → Fails e (behind_prefix bytes) → HeadTaken (Err e) bytes rest
 unfolding file_in
-head_without_prefix e bytes none h =
-    refused_so e bytes none (fails_along e (behind_prefix bytes) (behind_prefix bytes >>= with_rest) h
-    (λ f k. bind_fails (behind_prefix bytes) with_rest f k))
+head_without_prefix e bytes rest none h = (
+  fails_along e (behind_prefix bytes) (behind_prefix bytes >>= with_rest) h
+      (λ f k. bind_fails (behind_prefix bytes) with_rest f k),
+  λ is. absurd (none.0 (ap (λ f. Err f) is)),
+)
 
 parts_fail : (r : Result (List ℕ × List ℕ) FileFault) (f : FileFault) → (r >>= λ parts. meta_in parts.0) ≡ Err f
     → (r >>= with_parts) ≡ Err f
 parts_fail (Ok parts) f h = bind_fails (meta_in parts.0) (with_meta parts) f h
 parts_fail (Err e) f h = cc
 
-pub head_without_meta : (e : FileFault) (bytes mid rest : List ℕ) → e ≢ faults.Set Memory → behind_prefix bytes ≡ Ok mid
-    → MetaTaken (Err e) mid rest → IsRefused e bytes
+pub head_without_meta : (e : FileFault) (bytes mid rest : List ℕ) → behind_prefix bytes ≡ Ok mid
+    → MetaTaken (Err e) mid rest → HeadTaken (Err e) bytes rest
 unfolding file_in
-head_without_meta e bytes mid rest none front h =
-    refused e bytes
-    (fails_along e (behind_length mid >>= λ parts. meta_in parts.0) (behind_prefix bytes >>= with_rest) h.0 (λ f k.
-    onward (behind_prefix bytes) mid with_rest front ∙ parts_fail (behind_length mid) f k))
-    (λ is. let w = h.1 is in group_wants bytes mid w.group w.set front w.parts w.wants)
-    (λ is. absurd (none is))
+head_without_meta e bytes mid rest front h = (
+  fails_along e (behind_length mid >>= λ parts. meta_in parts.0) (behind_prefix bytes >>= with_rest) h.0
+      (λ f k. onward (behind_prefix bytes) mid with_rest front ∙ parts_fail (behind_length mid) f k),
+  λ is. let w = h.1 is in group_wants bytes mid w.group w.set front w.parts w.wants,
+)
 
 behind_meta : (bytes mid group rest : List ℕ) (meta : Meta) → behind_prefix bytes ≡ Ok mid
     → behind_length mid ≡ Ok (group, rest) → meta_in group ≡ Ok meta → file_in bytes ≡ with_meta (group, rest) meta
@@ -159,19 +160,23 @@ behind_meta bytes mid group rest meta front parts holds =
 
 pub head_without_syntax : {X : Type 0} (e : FileFault) (bytes mid rest : List ℕ) (meta : Meta)
     → WantsNone {X = X} (Err e) → behind_prefix bytes ≡ Ok mid → MetaTaken (Ok meta) mid rest → Fails e (syntax_in meta)
-    → IsRefused e bytes
-head_without_syntax e bytes mid rest meta none front taken h =
-    refused_so e bytes none (fails_along e (syntax_in meta) (file_in bytes) h (λ f k.
-    behind_meta bytes mid taken.0 rest meta front taken.1 taken.2
-    ∙ bind_fails (syntax_in meta) (with_syntax (taken.0, rest) meta) f k))
+    → HeadTaken (Err e) bytes rest
+head_without_syntax e bytes mid rest meta none front taken h = (
+  fails_along e (syntax_in meta) (file_in bytes) h (λ f k. behind_meta bytes mid taken.0 rest meta front taken.1 taken.2
+      ∙ bind_fails (syntax_in meta) (with_syntax (taken.0, rest) meta) f k),
+  λ is. absurd (none.0 (ap (λ f. Err f) is)),
+)
 
 pub head_taken : (bytes mid rest : List ℕ) (meta : Meta) (syntax : Syntax) → behind_prefix bytes ≡ Ok mid
     → MetaTaken (Ok meta) mid rest → syntax_in meta ≡ Ok syntax → HeadTaken (Ok (meta, syntax)) bytes rest
+unfolding has_head
 head_taken bytes mid rest meta syntax front taken known = (
   144 + length taken.0,
   behind_meta bytes mid taken.0 rest meta front taken.1 taken.2
       ∙ onward (syntax_in meta) syntax (with_syntax (taken.0, rest) meta) known,
   has_head bytes mid taken.0 rest meta syntax front taken.1 taken.2 known,
+  refl,
+  refl,
 )
 
 -- ---- the data set
@@ -190,7 +195,7 @@ set_read syntax bytes set h = rw h refl
 
 -- one whose first tag may not follow
 pub set_below : (wanted : List Tag) (scan : Scan) (syntax : Syntax) (bytes : List ℕ)
-    → ScanGives wanted (Ok scan) (read_all syntax bytes) → may_follow scan.first ≡ false
+    → ScanGives syntax wanted (Ok scan) bytes → may_follow scan.first ≡ false
     → set_in syntax bytes ≡ Err GroupLength
 set_below wanted scan syntax bytes h below =
     let first : may_follow (first_of h.0) ≡ false = ap may_follow (sym h.2.first) ∙ below in
@@ -198,8 +203,8 @@ set_below wanted scan syntax bytes h below =
 
 -- one whose first tag may
 pub set_taken : (wanted : List Tag) (scan : Scan) (syntax : Syntax) (bytes : List ℕ)
-    → ScanGives wanted (Ok scan) (read_all syntax bytes) → may_follow scan.first ≡ true
-    → SetTaken wanted (Ok scan) (set_in syntax bytes)
+    → ScanGives syntax wanted (Ok scan) bytes → may_follow scan.first ≡ true
+    → SetTaken syntax wanted (Ok scan) bytes
 set_taken wanted scan syntax bytes h above =
     let first : may_follow (first_of h.0) ≡ true = ap may_follow (sym h.2.first) ∙ above in
     (h.0, set_read syntax bytes h.0 h.1 ∙ rw first refl, h.2)
@@ -208,11 +213,11 @@ set_taken wanted scan syntax bytes h above =
 pub mapped_fails : (wanted : List Tag) (r : Result Scan SetFault) (s : Result Scan FileFault) (e : FileFault)
     (syntax : Syntax) (bytes : List ℕ)
     → MatchResult r (λ x. s ≡ Ok x) (λ f. IsErrAnd s (λ y. y ≡ faults.Set f)) → s ≡ Err e
-    → ScanGives wanted r (read_all syntax bytes) → Fails e (set_in syntax bytes)
+    → ScanGives syntax wanted r bytes → SetTaken syntax wanted (Err e) bytes
 mapped_fails wanted (Ok x) s e syntax bytes cases is h = absurd cc
 mapped_fails wanted (Err f) s e syntax bytes cases is h =
     let same : e ≡ faults.Set f = rw is at cases in
-    rw same (set_refused f syntax bytes h)
+    rw same (set_refused f syntax bytes h.0, λ memory. h.1 (let both : faults.Set f ≡ faults.Set Memory = memory in cc))
 
 pub mapped_gives : (r : Result Scan SetFault) (s : Result Scan FileFault) (scan : Scan)
     → MatchResult r (λ x. s ≡ Ok x) (λ f. IsErrAnd s (λ y. y ≡ faults.Set f)) → s ≡ Ok scan → r ≡ Ok scan
@@ -221,17 +226,22 @@ mapped_gives (Err f) s scan cases is = absurd (rw is at cases)
 
 -- ---- the whole
 
-pub file_without_set : (e : FileFault) (bytes rest : List ℕ) (meta : Meta) (syntax : Syntax) → e ≢ faults.Meta Memory
-    → HeadTaken (Ok (meta, syntax)) bytes rest → Fails e (set_in syntax rest) → IsRefused e bytes
-file_without_set e bytes rest meta syntax none head h =
-    refused e bytes (fails_along e (set_in syntax rest) (file_in bytes) h
+pub file_without_head : (wanted : List Tag) (e : FileFault) (bytes rest : List ℕ) → e ≢ faults.Set Memory
+    → HeadTaken (Err e) bytes rest → FileTaken wanted (Err e) bytes
+file_without_head wanted e bytes rest none h = refused wanted e bytes h.0 h.1 (λ is. absurd (none is))
+
+pub file_without_set : (wanted : List Tag) (e : FileFault) (bytes rest : List ℕ) (meta : Meta) (syntax : Syntax)
+    → e ≢ faults.Meta Memory → HeadTaken (Ok (meta, syntax)) bytes rest → SetTaken syntax wanted (Err e) rest
+    → FileTaken wanted (Err e) bytes
+file_without_set wanted e bytes rest meta syntax none head h =
+    refused wanted e bytes (fails_along e (set_in syntax rest) (file_in bytes) h.0
     (λ f k. head.1 ∙ ap (whole_with meta head.0) k))
     (λ is. absurd (none is))
-    (λ is. head.2)
+    (λ is. record { head = head.2; wants = rw (head.3, head.4) (h.1 is) })
 
 pub file_taken : (wanted : List Tag) (scanned : Scanned) (scan : Scan) (bytes rest : List ℕ) (syntax : Syntax)
     → scanned.found ≡ scan.found → HeadTaken (Ok (scanned.meta, syntax)) bytes rest
-    → SetTaken wanted (Ok scan) (set_in syntax rest) → FileTaken wanted (Ok scanned) bytes
+    → SetTaken syntax wanted (Ok scan) rest → FileTaken wanted (Ok scanned) bytes
 file_taken wanted scanned scan bytes rest syntax same head h = (
   record { meta = scanned.meta; set = h.0; set_at = head.0 },
   head.1 ∙ ap (whole_with scanned.meta head.0) h.1,

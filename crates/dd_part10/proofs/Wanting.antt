@@ -27,7 +27,7 @@ group_wants file rest group set front split wants =
       wants = wants;
     }
 
-pub has_head : (file rest group set : List ℕ) (meta : Meta) (syntax : Syntax) → behind_prefix file ≡ Ok rest
+unfoldable pub has_head : (file rest group set : List ℕ) (meta : Meta) (syntax : Syntax) → behind_prefix file ≡ Ok rest
     → behind_length rest ≡ Ok (group, set) → meta_in group ≡ Ok meta → syntax_in meta ≡ Ok syntax
     → HasHead file
 has_head file rest group set meta syntax front split holds named =

@@ -1,10 +1,12 @@
 -- Where reading a file wants memory: for group 0002, once all that stands before it is right, and for the data set,
 -- once all of group 0002 is. And why a file is refused that is read from a reader.
 use Rattle.std.specs.Prelude.{◌≡◌, ◌≢◌, List, ℕ, Some, Result, Ok, Err}
+use Rattle.dd_elem.specs.declared.tag.Tag.{Tag}
 use Rattle.dd_set.specs.declared.fault.SetFault.TheVariants.{Memory}
 use Rattle.dd_set.specs.declared.syntax.Syntax.{Syntax}
 use Rattle.dd_set.specs.declared.syntax.Syntax.TheVariants.{Explicit}
 use Rattle.dd_set.specs.Memory.{WantsMemory}
+use Rattle.dd_set.specs.Scan.{HasWanted}
 use Rattle.dd_part10.specs.declared.fault.FileFault.{FileFault}
 use Rattle.dd_part10.specs.declared.fault.FileFault.TheVariants as faults
 use Rattle.dd_part10.specs.declared.meta.Meta.{Meta}
@@ -33,12 +35,17 @@ pub record SetWants (file : List ℕ) : Type 0 where
   pub head : HasHead file
   pub wants : WantsMemory head.syntax head.set
 
--- Why a file of which little is kept is refused: by the first check that it fails; or by want of memory, for group 0002
--- where reading it wants some, and for the data set where all before it is right.
-abbrev pub IsRefused : FileFault → List ℕ → Type 0
-IsRefused (faults.Meta Memory) file = GroupWants file
-IsRefused (faults.Set Memory) file = HasHead file
-IsRefused fault file = file_in file ≡ Err fault
+-- all before the data set is right, and a wanted element of the data set is there
+pub record ScanWants (wanted : List Tag) (file : List ℕ) : Type 0 where
+  pub head : HasHead file
+  pub wants : HasWanted head.syntax wanted head.set
+
+-- Why a file is refused of which only wanted elements are kept: by the first check that it fails; or by want of memory,
+-- for group 0002 where reading it wants some, and for the data set where a wanted element is there.
+abbrev pub IsRefused : List Tag → FileFault → List ℕ → Type 0
+IsRefused wanted (faults.Meta Memory) file = GroupWants file
+IsRefused wanted (faults.Set Memory) file = ScanWants wanted file
+IsRefused wanted fault file = file_in file ≡ Err fault
 
 -- a step that wants no memory
 abbrev pub WantsNone : {X : Type 0} → Result X FileFault → Type 0

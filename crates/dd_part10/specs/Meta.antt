@@ -26,7 +26,7 @@ abbrev pub transfer_tag : Tag
 transfer_tag = record { group = meta_group; element = 0x0010 }
 
 -- an element with this tag holds bytes, which are this UID and padding
-pub record HasUid (group : Elements) (tag : Tag) (uid : List ℕ) : Type 0 where
+pub record HasMetaUid (group : Elements) (tag : Tag) (uid : List ℕ) : Type 0 where
   pub vr : Option Vr
   pub value : List ℕ
   pub holds : Contains (entries_of group) (record { tag = tag; vr = vr; content = bytes value })
@@ -37,6 +37,6 @@ pub record HasUid (group : Elements) (tag : Tag) (uid : List ℕ) : Type 0 where
 -- information
 pub record IsMeta (group : Elements) (meta : Meta) : Type 0 where
   pub alone : All (λ e. (e.tag.group ≡ meta_group) × (e.tag.element ≢ 0x0000)) (entries_of group)
-  pub class : HasUid group class_tag meta.class
-  pub instance : HasUid group instance_tag meta.instance
-  pub transfer : HasUid group transfer_tag meta.transfer
+  pub class : HasMetaUid group class_tag meta.class
+  pub instance : HasMetaUid group instance_tag meta.instance
+  pub transfer : HasMetaUid group transfer_tag meta.transfer

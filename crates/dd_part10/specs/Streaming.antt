@@ -27,4 +27,4 @@ IsFileAnswer (Ok scanned) wanted limit given left old new = Ends Ended limit giv
 IsFileAnswer (Err faults.Read) wanted limit given left old new = Ends Failed limit given left old new
 IsFileAnswer (Err faults.TooLong) wanted limit given left old new = Ends TooLong limit given left old new
 IsFileAnswer (Err (faults.File e)) wanted limit given left old new = Ends Ended limit given left old new
-    × IsRefused e given
+    × IsRefused wanted e given

@@ -8,13 +8,13 @@ use Rattle.dd_set.specs.declared.syntax.Syntax.{Syntax}
 use Rattle.dd_set.specs.declared.syntax.Syntax.TheVariants.{Explicit}
 use Rattle.dd_set.specs.Elements.{Elements}
 use Rattle.dd_set.specs.Memory.{WantsMemory}
-use Rattle.dd_set.specs.Scan.{IsScan, found_hit, hits_of}
+use Rattle.dd_set.specs.Scan.{IsScan, HasWanted, found_hit, hits_of}
 use Rattle.dd_part10.specs.declared.fault.FileFault.{FileFault}
 use Rattle.dd_part10.specs.declared.fault.FileFault.TheVariants as faults
 use Rattle.dd_part10.specs.declared.meta.Meta.{Meta}
 use Rattle.dd_part10.specs.declared.scanned.Scanned.{Scanned}
 use Rattle.dd_part10.specs.Matches.{Fails}
-use Rattle.dd_part10.specs.Memory.{HasHead, IsRefused}
+use Rattle.dd_part10.specs.Memory.{GroupWants, HasHead, IsRefused}
 use Rattle.dd_part10.specs.Reading.{◌>>=◌, FileParts, behind_prefix, split_at, behind_length, meta_in, set_in, file_in}
 
 -- ---- what was taken
@@ -54,13 +54,14 @@ whole_with meta set_at set = set >>= λ s. Ok (record { meta = meta; set = s; se
 abbrev pub HeadTaken : Result (Meta × Syntax) FileFault → List ℕ → List ℕ → Type 0
 HeadTaken (Ok (meta, syntax)) bytes rest =
     (set_at : ℕ) × (file_in bytes ≡ whole_with meta set_at (set_in syntax rest))
-    × HasHead bytes
-HeadTaken (Err e) bytes rest = IsRefused e bytes
+    × (head : HasHead bytes) × (head.syntax ≡ syntax) × (head.set ≡ rest)
+HeadTaken (Err e) bytes rest = Fails e (file_in bytes) × (e ≡ faults.Meta Memory → GroupWants bytes)
 
--- the data set that reading gives
-abbrev pub SetTaken : List Tag → Result Scan FileFault → Result Elements FileFault → Type 0
-SetTaken wanted (Ok scan) read = (set : Elements) × (read ≡ Ok set) × IsScan wanted scan set
-SetTaken wanted (Err e) read = Fails e read
+-- the data set that reading gives, or want of memory where a wanted element is there
+abbrev pub SetTaken : Syntax → List Tag → Result Scan FileFault → List ℕ → Type 0
+SetTaken syntax wanted (Ok scan) bytes = (set : Elements) × (set_in syntax bytes ≡ Ok set) × IsScan wanted scan set
+SetTaken syntax wanted (Err e) bytes = Fails e (set_in syntax bytes)
+    × (e ≡ faults.Set Memory → HasWanted syntax wanted bytes)
 
 -- ---- a file
 
@@ -72,4 +73,4 @@ pub record IsScanned (wanted : List Tag) (scanned : Scanned) (file : FileParts) 
 -- a returned scan tells the file that reading the bytes gives
 abbrev pub FileTaken : List Tag → Result Scanned FileFault → List ℕ → Type 0
 FileTaken wanted (Ok scanned) bytes = (file : FileParts) × (file_in bytes ≡ Ok file) × IsScanned wanted scanned file
-FileTaken wanted (Err e) bytes = IsRefused e bytes
+FileTaken wanted (Err e) bytes = IsRefused wanted e bytes

@@ -1,11 +1,8 @@
 //! A file read from a reader.
 
-ghost use Rattle.std.specs.Prelude.{◌≡◌, ◌≢◌, ◌≤◌, ◌<◌, ◌+◌, ◌^◌, ℕ, List, [], None, Err};
+ghost use Rattle.std.specs.Prelude.{◌≡◌, ◌≤◌, ◌<◌, ◌+◌, ◌^◌, ℕ, List, [], None};
 ghost use Rattle.std.specs.Io.KnownBytes.{Consumes};
 ghost use Rattle.dd_elem.specs.Device.{Gives};
-ghost use Rattle.dd_set.specs.declared.fault.SetFault.TheVariants.{Memory};
-ghost use Rattle.dd_part10.specs.declared.fault.FileFault.TheVariants as files;
-ghost use Rattle.dd_part10.specs.declared.stream_fault.StreamFault.TheVariants as faults;
 ghost use Rattle.dd_part10.specs.Streaming.{IsFileAnswer};
 
 use crate::scanned::Scanned;
@@ -22,8 +19,8 @@ use std::alloc::Global;
 ///
 /// 14 Read exactly where the reader fails, and 15 TooLong exactly where it gives `limit` bytes and one
 /// more. Else the refusals are those of `parse_file` on what the reader gave, or want of memory: for
-/// group 0002 where `parse_file` may want some, and for the data set where all before it is right and
-/// some element is wanted. It makes at most `limit` + 1 reads, and reads on to the end before it answers.
+/// group 0002 where `parse_file` may want some, and for the data set where all before it is right and a
+/// wanted element is there. It makes at most `limit` + 1 reads, and reads on to the end before it answers.
 pub fn read_file<R: Read>(
     alloc: Global,
     reader: &mut R,
@@ -35,8 +32,6 @@ pub fn read_file<R: Read>(
         × IsFileAnswer result wanted.now limit given (R.remaining reader.new)
         (R.failures reader.old) (R.failures reader.new) }
     ensures calls { R.calls reader.new ≤ R.calls reader.old + limit + 1 }
-    // The data set wants memory only where something is wanted.
-    ensures memory { result ≡ Err (faults.File (files.Set Memory)) → wanted.now ≢ [] }
 {
     let mut stream = Stream::new(reader, limit);
     read_stream(alloc, &mut stream, wanted)
@@ -57,7 +52,6 @@ fn read_stream<R: Read>(
         × IsFileAnswer result wanted.now stream.old.left given (R.remaining stream.new.reader.now)
         (R.failures stream.old.reader.now) (R.failures stream.new.reader.now) }
     ensures calls { R.calls stream.new.reader.now ≤ R.calls stream.old.reader.now + stream.old.left + 1 }
-    ensures memory { result ≡ Err (faults.File (files.Set Memory)) → wanted.now ≢ [] }
 {
     let answer = take_file(alloc, stream, wanted);
     match finish(stream) {

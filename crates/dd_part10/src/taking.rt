@@ -1,12 +1,11 @@
 //! A file taken from a feed.
 
-ghost use Rattle.std.specs.Prelude.{◌≡◌, ◌≢◌, ◌≤◌, [], length, IfOk, Err};
+ghost use Rattle.std.specs.Prelude.{◌≢◌, ◌≤◌, length, IfOk, Err};
 ghost use Rattle.dd_set.specs.declared.fault.SetFault.TheVariants.{Memory};
 ghost use Rattle.dd_set.specs.Feeds.{Scans};
 ghost use Rattle.dd_part10.specs.declared.fault.FileFault.TheVariants as faults;
 ghost use Rattle.dd_part10.specs.File.{max_group_length};
 ghost use Rattle.dd_part10.specs.Memory.{WantsNone};
-ghost use Rattle.dd_part10.specs.Reading.{set_in};
 ghost use Rattle.dd_part10.specs.Taking.{PrefixTaken, CountTaken, GroupTaken, MetaTaken, HeadTaken, SetTaken};
 ghost use Rattle.dd_part10.specs.Taking.{FileTaken};
 
@@ -30,8 +29,6 @@ pub fn take_file<F: Feed>(alloc: Global, feed: &mut F, wanted: &[Tag]) -> Result
     // Whatever was still to come, this is what is told of it, or why it is refused.
     ensures found { Scans F.moves F.tells feed.old feed.new
         (λ bytes rest. FileTaken wanted.now result bytes) }
-    // The data set wants memory only where something is wanted.
-    ensures memory { result ≡ Err (faults.Set Memory) → wanted.now ≢ [] }
 {
     let (meta, syntax) = take_head(alloc, feed)?;
     let scan = take_data_set(alloc, feed, syntax, wanted)?;
@@ -109,9 +106,8 @@ fn take_data_set<F: Feed>(
     wanted: &[Tag],
 ) -> Result<Scan, FileFault>
     ensures found { Scans F.moves F.tells feed.old feed.new
-        (λ bytes rest. SetTaken wanted.now result (set_in syntax bytes)) }
+        (λ bytes rest. SetTaken syntax wanted.now result bytes) }
     ensures memory { result ≢ Err (faults.Meta Memory) }
-    ensures set { result ≡ Err (faults.Set Memory) → wanted.now ≢ [] }
 {
     let scan = take_set(alloc, feed, syntax, wanted).map_err(FileFault::Set)?;
     if !may_follow(scan.first) {

@@ -1,7 +1,9 @@
 -- What is told of a set, element by element.
 use Rattle.std.proofs.Common.{◌≡◌, ◌<◌, ◌≤◌, ℕ, suc, ◌+◌, ◌-◌, Bool, true, false, if◌then◌else◌, List, [], ◌∷◌, ◌++◌}
 use Rattle.std.proofs.Common.{length, map, filter, Option, Some, None, option_map, unwrap_or, Result, Ok, Err, refl}
-use Rattle.std.proofs.Common.{sym, ap, arith}
+use Rattle.std.proofs.Common.{zero, IsTrue, ◌∙◌, sym, ap, subst, arith, append_assoc}
+use Rattle.std.specs.List.{list_any}
+use Rattle.std.proofs.lemmas.List.Folds.{list_any-append}
 use Rattle.dd_elem.specs.declared.tag.Tag.{Tag}
 use Rattle.dd_elem.specs.Tag.{number_of}
 use Rattle.dd_set.specs.declared.checks.Sort.{Sort}
@@ -16,8 +18,8 @@ use Rattle.dd_set.specs.Gives.{Fails}
 use Rattle.dd_set.specs.Reading.{Header, front_at, At, Reads, ◌>>=◌, SequenceReader, ItemReader, content_at, element_at}
 use Rattle.dd_set.specs.Reading.{elements_at, sequence_with, set_with, within}
 use Rattle.dd_set.specs.Scan.{Told, sequence, Hit, hit_of, is_wanted, hits_of, first_tag, first_of, told_of, value_told}
-use Rattle.dd_set.specs.Scan.{told_where, noted, whole_with}
-use Rattle.dd_set.specs.Skips.{TellsValue}
+use Rattle.dd_set.specs.Scan.{told_where, noted, whole_elements}
+use Rattle.dd_set.specs.Skips.{TellsValue, IsThere}
 use Rattle.dd_set.proofs.Entries.{entries_of-elements_of}
 use Rattle.dd_set.proofs.Feeding.{bind_fails}
 use Rattle.dd_set.proofs.Loops.{with_elements, fails_along, elements_more, elements_done, elements_fail}
@@ -32,7 +34,10 @@ pub tells_bytes : (r : Result (FoundValue × Option ℕ) SetFault) (read : Reads
     → TellsValue value_told (λ v. told_of (bytes v)) r read rest
     → TellsValue value_told told_of r (read >>= λ x. Ok (bytes x.0, x.1)) rest
 tells_bytes (Ok x) read rest h = (bytes h.0, h.1, rw h.2 refl)
-tells_bytes (Err e) read rest h = fails_along e _ _ h (λ f k. bind_fails read _ f k)
+tells_bytes (Err e) read rest h = (
+  fails_along e _ _ h.0 (λ f k. bind_fails read _ f k),
+  λ is. let there = h.1 is in (bytes there.0, there.1, rw there.2 refl),
+)
 
 -- a value that is not bytes is a sequence
 pub items_told : (read : SequenceReader) (sort : Sort) (at end : At) (y : Content)
@@ -109,6 +114,55 @@ value_steps reader syntax low left header value keeps all behind now mid rest h 
   shorter = omega (arith, (front_shortens syntax Defined low (record { left = left; bytes = all })).left header _ h);
 }
 
+-- an element with this tag was read whole
+pub record ElementThere (reader : SequenceReader) (syntax : Syntax) (low : ℕ) (left : Option ℕ) (tag : Tag)
+    (all rest : List ℕ) : Type 0 where
+  pub entry : Entry
+  pub tagged : entry.tag ≡ tag
+  pub now : Option ℕ
+  pub read : element_at reader syntax Defined low (record { left = left; bytes = all }) ≡ Ok
+      (Some entry, record { left = now; bytes = rest })
+
+pub element_there : (reader : SequenceReader) (syntax : Syntax) (low : ℕ) (left : Option ℕ) (header : Header)
+    (all : List ℕ) (behind : Option ℕ) (mid rest : List ℕ)
+    → front_at syntax Defined low (record { left = left; bytes = all }) ≡ Ok
+    (Some header, record { left = behind; bytes = mid })
+    → IsThere (content_at reader syntax header.shape (record { left = behind; bytes = mid })) rest
+    → ElementThere reader syntax low left header.tag all rest
+element_there reader syntax low left header all behind mid rest h k = record {
+  entry = record { tag = header.tag; vr = header.shape.vr; content = k.0 };
+  tagged = refl;
+  now = k.1;
+  read = element_found reader syntax Defined low (record { left = left; bytes = all }) header
+      (record { left = behind; bytes = mid }) (record { left = k.1; bytes = rest }) k.0 h k.2;
+}
+
+-- those that were read whole, and one more
+whole_more : (reader : SequenceReader) (syntax : Syntax) (n most low : ℕ) (front : List Entry) (at end : At) (e : Entry)
+    (total : List Entry) → n < most → element_at reader syntax Defined low at ≡ Ok (Some e, end)
+    → front ++ whole_elements reader syntax most low at ≡ total
+    → (front ++ e ∷ []) ++ whole_elements reader syntax (most - 1) (number_of e.tag + 1) end ≡ total
+unfolding whole_elements
+whole_more reader syntax n zero low front at end e total lt h so_far = absurd (omega arith)
+whole_more reader syntax n (suc most) low front at end e total lt h so_far =
+    let k : suc most - 1 ≡ most = omega arith in
+    let others : List Entry = whole_elements reader syntax most (number_of e.tag + 1) end in
+    let one : front ++ whole_elements reader syntax (suc most) low at ≡ front ++ (e ∷ others) = rw h refl in
+    rw k (append_assoc front (e ∷ []) others ∙ sym one ∙ so_far)
+
+any_among : (test : Entry → Bool) (front rest : List Entry) (e : Entry) → IsTrue (test e)
+    → IsTrue (list_any test (front ++ e ∷ rest))
+any_among test front rest e h = rw (list_any-append test front (e ∷ rest)) (grind (arith, h))
+
+-- a wanted one is among them
+wanted_among : (wanted : List Tag) (front rest : List Entry) (e : Entry) (tag : Tag) → e.tag ≡ tag
+    → IsTrue (is_wanted wanted tag)
+    → IsTrue (list_any (λ (q : Entry). is_wanted wanted q.tag) ((front ++ e ∷ []) ++ rest))
+wanted_among wanted front rest e tag same h =
+    subst (λ (es : List Entry). IsTrue (list_any (λ (q : Entry). is_wanted wanted q.tag) es))
+    (sym (append_assoc front (e ∷ []) rest))
+    (any_among (λ q. is_wanted wanted q.tag) front rest e (rw same h))
+
 -- some elements were read, this is told of them, and those that reading gives from here are the others
 pub record ScanGo (wanted : List Tag) (part : ItemReader) (syntax : Syntax) (all : List ℕ) (low : ℕ) (left : Option ℕ)
     (first : Option Tag) (hits : List Hit) (rest : List ℕ) : Type 0 where
@@ -119,6 +173,8 @@ pub record ScanGo (wanted : List Tag) (part : ItemReader) (syntax : Syntax) (all
       (record { left = left; bytes = rest })) ≡ set_with part syntax Defined (record { left = None; bytes = all })
   pub first_is : first ≡ first_of (elements_of front)
   pub hits_are : hits ≡ hits_of wanted (elements_of front)
+  pub whole : front ++ whole_elements (sequence_with part) syntax most low (record { left = left; bytes = rest })
+      ≡ whole_elements (sequence_with part) syntax (suc (length all)) 0 (record { left = None; bytes = all })
 
 module _ (wanted : List Tag) (part : ItemReader) (syntax : Syntax) where
   pub scan_start : (all : List ℕ) → ScanGo wanted part syntax all 0 None None [] all
@@ -130,6 +186,7 @@ module _ (wanted : List Tag) (part : ItemReader) (syntax : Syntax) where
         with_no_elements _;
     first_is = refl;
     hits_are = refl;
+    whole = refl;
   }
 
   module _ (all : List ℕ) (left : Option ℕ) (first : Option Tag) (hits : List Hit) (mid : List ℕ) (low : ℕ) where
@@ -149,11 +206,15 @@ module _ (wanted : List Tag) (part : ItemReader) (syntax : Syntax) where
               go.so_far;
           first_is = rw go.first_is (sym (first_of-push go.front e));
           hits_are = rw (go.hits_are, step.tells) (sym (hits_of-push wanted go.front e));
+          whole = whole_more (sequence_with part) syntax (length mid) go.most low go.front
+              (record { left = left; bytes = mid }) (record { left = now; bytes = rest }) e _ go.enough step.read
+              go.whole;
         }
 
     pub scan_end : (end : At) → (go : ScanGo wanted part syntax all low left first hits mid)
         → element_at (sequence_with part) syntax Defined low (record { left = left; bytes = mid }) ≡ Ok (None, end)
-        → whole_with part syntax all ≡ Ok (elements_of go.front)
+        → (set_with part syntax Defined (record { left = None; bytes = all }) >>= λ x. Ok x.0)
+        ≡ Ok (elements_of go.front)
     scan_end end go h =
         let done = elements_done (sequence_with part) syntax Defined (length mid) go.most low go.front
         (record { left = left; bytes = mid }) end _ go.enough h go.so_far in
@@ -161,8 +222,19 @@ module _ (wanted : List Tag) (part : ItemReader) (syntax : Syntax) where
 
     pub scan_stop : (e : SetFault) → ScanGo wanted part syntax all low left first hits mid
         → Fails e (element_at (sequence_with part) syntax Defined low (record { left = left; bytes = mid }))
-        → Fails e (whole_with part syntax all)
+        → Fails e (set_with part syntax Defined (record { left = None; bytes = all }) >>= λ x. Ok x.0)
     scan_stop e go h =
         let failed = elements_fail (sequence_with part) syntax Defined (length mid) go.most low go.front
         (record { left = left; bytes = mid }) _ e go.enough h go.so_far in
         fails_along e _ _ failed (λ f k. bind_fails _ _ f k)
+
+    pub scan_wants : (tag : Tag) (rest : List ℕ) → ScanGo wanted part syntax all low left first hits mid
+        → ElementThere (sequence_with part) syntax low left tag mid rest → IsTrue (is_wanted wanted tag)
+        → IsTrue (list_any (λ (e : Entry). is_wanted wanted e.tag) (whole_elements (sequence_with part) syntax
+        (suc (length all)) 0 (record { left = None; bytes = all })))
+    scan_wants tag rest go step h =
+        let more = whole_more (sequence_with part) syntax (length mid) go.most low go.front
+        (record { left = left; bytes = mid }) (record { left = step.now; bytes = rest }) step.entry _ go.enough
+        step.read go.whole in
+        subst (λ (es : List Entry). IsTrue (list_any (λ (e : Entry). is_wanted wanted e.tag) es)) more
+        (wanted_among wanted go.front _ step.entry tag step.tagged h)

@@ -1,12 +1,14 @@
 -- What a scan tells of a data set: its first tag, and of each wanted element of the set itself what its value is (PS3.5
 -- sections 6.2 and 7.1).
-use Rattle.std.specs.Prelude.{◌≡◌, ℕ, Bool, true, false, List, [], ◌∷◌, length, take, map, filter, Option, Some, None}
-use Rattle.std.specs.Prelude.{Result, Ok, Err}
+use Rattle.std.specs.Prelude.{◌≡◌, ℕ, zero, suc, ◌+◌, Bool, true, false, IsTrue, List, [], ◌∷◌, length, take, map}
+use Rattle.std.specs.Prelude.{filter, Option, Some, None, Result, Ok, Err}
 use Rattle.std.specs.List.{list_any}
 use Rattle.dd_elem.specs.Clean.{clean_of}
 use Rattle.dd_elem.specs.Key.{max_key_length}
+use Rattle.dd_elem.specs.Tag.{number_of}
 use Rattle.dd_elem.specs.declared.tag.Tag.{Tag}
 use Rattle.dd_set.specs.declared.fault.SetFault.{SetFault}
+use Rattle.dd_set.specs.declared.fault.SetFault.TheVariants.{Memory}
 use Rattle.dd_set.specs.declared.found.Scan.{Scan}
 use Rattle.dd_set.specs.declared.found.Found.{Found}
 use Rattle.dd_set.specs.declared.found.FoundValue.{FoundValue}
@@ -16,20 +18,26 @@ use Rattle.dd_set.specs.Find.{same_tag, entries_of}
 use Rattle.dd_set.specs.declared.syntax.Length.TheVariants.{Defined}
 use Rattle.dd_set.specs.declared.syntax.Syntax.{Syntax}
 use Rattle.dd_set.specs.Gives.{Fails}
-use Rattle.dd_set.specs.Reading.{◌>>=◌, ItemReader, set_with}
+use Rattle.dd_set.specs.Reading.{At, Reads, SequenceReader, element_at, sequence_with, item_reader, read_all}
+use Rattle.dd_set.specs.Spelling.{max_levels}
 
 -- how many bytes of a value are told: as many as a key may have
 abbrev pub most_told : ℕ
 most_told = max_key_length
 
--- what is told of a value: that it is a sequence; or the front of its bytes without the padding, and how many they are
+-- what is told of a value: that it is a sequence; or the front of its bytes, and how many they are
 pub data Told : Type 0 where
   sequence : Told
   cleaned : List ℕ → ℕ → Told
 
+abbrev pub told_value : Option (List ℕ) → Told
+told_value None = sequence
+told_value (Some value) = cleaned (take most_told value) (length value)
+
+-- the same of what an element holds, whose value is its bytes without the padding
 abbrev pub told_of : Content → Told
-told_of (bytes v) = cleaned (take most_told (clean_of v)) (length (clean_of v))
-told_of (items form parts) = sequence
+told_of (bytes v) = told_value (Some (clean_of v))
+told_of (items form parts) = told_value None
 
 -- what is told of an element
 pub record Hit : Type 0 where
@@ -54,6 +62,26 @@ first_tag (e ∷ es) = Some e.tag
 abbrev pub first_of : Elements → Option Tag
 first_of set = first_tag (entries_of set)
 
+-- ---- where a wanted element is there
+
+-- one more element, and the others
+abbrev pub and_others : (ℕ → At → List Entry) → Reads (Option Entry) → List Entry
+and_others others (Ok (Some e, at)) = e ∷ others (number_of e.tag + 1) at
+and_others others (Ok (None, at)) = []
+and_others others (Err fault) = []
+
+-- the elements that are read whole, up to the end or to the first check that fails
+unfoldable pub whole_elements : SequenceReader → Syntax → ℕ → ℕ → At → List Entry
+whole_elements reader syntax zero low at = []
+whole_elements reader syntax (suc most) low at =
+    and_others (whole_elements reader syntax most) (element_at reader syntax Defined low at)
+
+-- a wanted element of the set itself is read whole
+abbrev pub HasWanted : Syntax → List Tag → List ℕ → Type 0
+HasWanted syntax wanted given =
+    IsTrue (list_any (λ e. is_wanted wanted e.tag) (whole_elements (sequence_with (item_reader max_levels)) syntax
+    (suc (length given)) 0 (record { left = None; bytes = given })))
+
 -- ---- what a scan returned
 
 abbrev pub value_told : FoundValue → Told
@@ -68,10 +96,10 @@ pub record IsScan (wanted : List Tag) (scan : Scan) (set : Elements) : Type 0 wh
   pub first : scan.first ≡ first_of set
   pub found : map found_hit scan.found.items ≡ hits_of wanted set
 
--- a returned scan tells the set that reading gives
-abbrev pub ScanGives : List Tag → Result Scan SetFault → Result Elements SetFault → Type 0
-ScanGives wanted (Ok scan) read = (set : Elements) × (read ≡ Ok set) × IsScan wanted scan set
-ScanGives wanted (Err e) read = Fails e read
+-- a returned scan tells the set that reading the bytes gives; want of memory comes only where a wanted element is there
+abbrev pub ScanGives : Syntax → List Tag → Result Scan SetFault → List ℕ → Type 0
+ScanGives syntax wanted (Ok scan) given = (set : Elements) × (read_all syntax given ≡ Ok set) × IsScan wanted scan set
+ScanGives syntax wanted (Err e) given = Fails e (read_all syntax given) × (e ≡ Memory → HasWanted syntax wanted given)
 
 -- what is told of a value where it is wanted
 abbrev pub told_where : Bool → Content → Option Told
@@ -82,7 +110,3 @@ told_where false c = None
 abbrev pub noted : Tag → Option Told → List Hit
 noted tag None = []
 noted tag (Some told) = record { tag = tag; told = told } ∷ []
-
--- all of the bytes as one set, with items read so
-abbrev pub whole_with : ItemReader → Syntax → List ℕ → Result Elements SetFault
-whole_with part syntax bs = set_with part syntax Defined (record { left = None; bytes = bs }) >>= λ x. Ok x.0

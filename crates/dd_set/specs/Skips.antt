@@ -2,6 +2,7 @@
 -- the nearest enclosing length leaves is returned, and `rest` is still to come.
 use Rattle.std.specs.Prelude.{◌≡◌, ℕ, List, Option, Result, Ok, Err}
 use Rattle.dd_set.specs.declared.fault.SetFault.{SetFault}
+use Rattle.dd_set.specs.declared.fault.SetFault.TheVariants.{Memory}
 use Rattle.dd_set.specs.Gives.{Fails}
 use Rattle.dd_set.specs.Reading.{Reads}
 
@@ -20,9 +21,13 @@ abbrev pub Skips : {Y : Type 0} → Result (Option ℕ) SetFault → Reads Y →
 Skips {Y} (Ok left) read rest = (y : Y) × (read ≡ Ok (y, record { left = left; bytes = rest }))
 Skips (Err e) read rest = Fails e read
 
--- reading gives some value, and what is returned tells it
+-- reading gives some value
+abbrev pub IsThere : {Y : Type 0} → Reads Y → List ℕ → Type 0
+IsThere {Y} read rest = (y : Y) × (left : Option ℕ) × (read ≡ Ok (y, record { left = left; bytes = rest }))
+
+-- reading gives some value, and what is returned tells it; want of memory comes only where reading gives one
 abbrev pub TellsValue : {X Y Z : Type 0} → (X → Z) → (Y → Z) → Result (X × Option ℕ) SetFault → Reads Y → List ℕ
     → Type 0
 TellsValue {X} {Y} view told (Ok x) read rest =
     (y : Y) × (view x.0 ≡ told y) × (read ≡ Ok (y, record { left = x.1; bytes = rest }))
-TellsValue view told (Err e) read rest = Fails e read
+TellsValue view told (Err e) read rest = Fails e read × (e ≡ Memory → IsThere read rest)

@@ -4,7 +4,8 @@
 //! Its one promise: what is read is the one set that the bytes spell, what is refused spells none and
 //! is refused by the first check that it fails, and what is written is the spelling. Only where a
 //! growth is refused, behind the first item or element, is the answer want of memory instead. `scan`
-//! makes the same checks on the bytes of a reader, and holds nothing of them but what was asked for.
+//! makes the same checks on the bytes of a reader, and holds nothing of them but what was asked for;
+//! it wants memory only where an element that was asked for is there.
 #![tactic(auto)]
 
 mod checks;

@@ -1,10 +1,8 @@
 //! A data set scanned from a reader.
 
-ghost use Rattle.std.specs.Prelude.{◌≡◌, ◌≢◌, ◌≤◌, ◌<◌, ◌+◌, ◌^◌, ℕ, List, [], Some, None, Err};
+ghost use Rattle.std.specs.Prelude.{◌≡◌, ◌≤◌, ◌<◌, ◌+◌, ◌^◌, ℕ, List, [], Some, None};
 ghost use Rattle.std.specs.Io.KnownBytes.{Consumes};
 ghost use Rattle.dd_elem.specs.Device.{Gives};
-ghost use Rattle.dd_set.specs.declared.fault.SetFault.TheVariants.{Memory};
-ghost use Rattle.dd_set.specs.declared.scan_fault.ScanFault.TheVariants as faults;
 ghost use Rattle.dd_set.specs.Scanning.{IsScanAnswer};
 ghost use Rattle.dd_set.specs.Streams.{Moves};
 
@@ -24,8 +22,9 @@ use std::alloc::Global;
 /// nothing.
 ///
 /// 14 Read exactly where the reader fails, and 15 TooLong exactly where it gives `limit` bytes and one
-/// more. Else the refusals are those of `parse` on what the reader gave, or want of memory, where some
-/// element is wanted. It makes at most `limit` + 1 reads, and reads on to the end before it answers.
+/// more. Else the refusals are those of `parse` on what the reader gave, or want of memory, where the
+/// reader gave a wanted element of the set itself, whole and behind no check that fails. It makes at most
+/// `limit` + 1 reads, and reads on to the end before it answers.
 pub fn scan<R: Read>(
     alloc: Global,
     syntax: Syntax,
@@ -38,8 +37,6 @@ pub fn scan<R: Read>(
         × IsScanAnswer result syntax wanted.now limit given (R.remaining reader.new)
         (R.failures reader.old) (R.failures reader.new) }
     ensures calls { R.calls reader.new ≤ R.calls reader.old + limit + 1 }
-    // Memory runs out only where something is wanted.
-    ensures memory { result ≡ Err (faults.Set Memory) → wanted.now ≢ [] }
 {
     let mut stream = Stream::new(reader, limit);
     scan_stream(alloc, syntax, &mut stream, wanted)
@@ -61,7 +58,6 @@ fn scan_stream<R: Read>(
         × IsScanAnswer result syntax wanted.now stream.old.left given (R.remaining stream.new.reader.now)
         (R.failures stream.old.reader.now) (R.failures stream.new.reader.now) }
     ensures calls { R.calls stream.new.reader.now ≤ R.calls stream.old.reader.now + stream.old.left + 1 }
-    ensures memory { result ≡ Err (faults.Set Memory) → wanted.now ≢ [] }
 {
     let answer = take_set(alloc, stream, syntax, wanted);
     match finish(stream) {

@@ -1,13 +1,12 @@
 //! A data set of a feed, of which only what is told of wanted elements is kept.
 
-ghost use Rattle.std.specs.Prelude.{◌≡◌, ◌≢◌, ◌≤◌, ◌++◌, [], Some, None, IsSome, IsTrue, Err, IfOk, IfErr};
+ghost use Rattle.std.specs.Prelude.{◌≡◌, ◌≤◌, ◌++◌, [], Some, None, IsSome, IsTrue, Err, IfOk, IfErr};
 ghost use Rattle.std.specs.Prelude.{map, option_map, unwrap_or};
 ghost use Rattle.dd_set.specs.declared.fault.SetFault.TheVariants.{Memory};
 ghost use Rattle.dd_set.specs.Feeds.{Scans};
 ghost use Rattle.dd_set.specs.Places.{shape_view};
-ghost use Rattle.dd_set.specs.Reading.{item_reader, sequence_with, content_at, read_all};
+ghost use Rattle.dd_set.specs.Reading.{item_reader, sequence_with, content_at};
 ghost use Rattle.dd_set.specs.Scan.{ScanGives, is_wanted, found_hit, value_told, told_of, told_where, noted};
-ghost use Rattle.dd_set.specs.Scan.{whole_with};
 ghost use Rattle.dd_set.specs.Skips.{TellsValue};
 
 use crate::checks::{Shape, Sort, sort_of};
@@ -24,37 +23,19 @@ use std::alloc::Global;
 
 /// Takes the data set that the bytes of a feed spell, all that are still to come, with every check of
 /// `parse` in its order. Keeps its first tag, and of each wanted element of the set itself whether it
-/// is a sequence, or else the front of its value without the padding. Wants memory only where some
-/// element is wanted.
-#[tactic(auto, unfolding(crate::specs::Reading::read_all))]
+/// is a sequence, or else the front of its value without the padding. Wants memory only behind a wanted
+/// element that was read whole.
 pub fn take_set<F: Feed>(
     alloc: Global,
     feed: &mut F,
     syntax: Syntax,
     wanted: &[Tag],
 ) -> Result<Scan, SetFault>
-    // Whatever was still to come, this is what is told of it, or its first check that fails.
+    // Whatever was still to come, this is what is told of it, or its first check that fails; or memory ran
+    // out where a wanted element was read.
     ensures found { Scans F.moves F.tells feed.old feed.new
-        (λ bytes rest. ScanGives wanted.now result (read_all syntax bytes)) }
+        (λ bytes rest. ScanGives syntax wanted.now result bytes) }
     ensures fewer { F.most feed.new ≤ F.most feed.old }
-    // Memory runs out only where something is wanted.
-    ensures memory { result ≡ Err Memory → wanted.now ≢ [] }
-{
-    take_elements(alloc, feed, MAX_LEVELS, syntax, wanted)
-}
-
-/// Takes the elements of a set to the end of the feed, below which so many levels may nest.
-fn take_elements<F: Feed>(
-    alloc: Global,
-    feed: &mut F,
-    levels: u32,
-    syntax: Syntax,
-    wanted: &[Tag],
-) -> Result<Scan, SetFault>
-    ensures found { Scans F.moves F.tells feed.old feed.new
-        (λ bytes rest. ScanGives wanted.now result (whole_with (item_reader levels) syntax bytes)) }
-    ensures fewer { F.most feed.new ≤ F.most feed.old }
-    ensures memory { result ≡ Err Memory → wanted.now ≢ [] }
 {
     let mut scan = Scan {
         first: None,
@@ -70,7 +51,15 @@ fn take_elements<F: Feed>(
         let tag = header.tag;
         low = low_behind(tag);
         let keeps = is_wanted(wanted, tag);
-        let (value, behind) = take_value(alloc, feed, levels, syntax, header.shape, behind, keeps)?;
+        let (value, behind) = take_value(
+            alloc,
+            feed,
+            MAX_LEVELS,
+            syntax,
+            header.shape,
+            behind,
+            keeps,
+        )?;
         left = behind;
         note(&mut scan, tag, value)?;
     }

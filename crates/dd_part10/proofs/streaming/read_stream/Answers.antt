@@ -83,7 +83,7 @@ returns-in-Err-clause-gave g c =
     let s = c.in-Err.ensures.found in
     let m = c.finish.ensures.moved in
     let w = read_whole g.R.Read.remaining g.R.Read.failures g.R.Read.calls g.R.Read.has_given _ _ _ _ _ _ s.taken m.0
-    Ended (λ whole. IsRefused c.in-Err.fault whole) s.moved.1 m.1 (λ rest t. s.gives rest t)
+    Ended (λ whole. IsRefused c.args.wanted.now c.in-Err.fault whole) s.moved.1 m.1 (λ rest t. s.gives rest t)
     c.requires.empty c.requires.open c.finish.ensures.empty (c.finish.ensures.ended ∙ ap (λ e. Some e) c.in-Ended.is) in
     (w.given, w.gave, w.known, (w.ends, w.answered))
 
@@ -92,6 +92,6 @@ returns-in-Err-clause-calls g c =
     let s = c.in-Err.ensures.found in
     let m = c.finish.ensures.moved in
     let w = read_whole g.R.Read.remaining g.R.Read.failures g.R.Read.calls g.R.Read.has_given _ _ _ _ _ _ s.taken m.0
-    Ended (λ whole. IsRefused c.in-Err.fault whole) s.moved.1 m.1 (λ rest t. s.gives rest t)
+    Ended (λ whole. IsRefused c.args.wanted.now c.in-Err.fault whole) s.moved.1 m.1 (λ rest t. s.gives rest t)
     c.requires.empty c.requires.open c.finish.ensures.empty (c.finish.ensures.ended ∙ ap (λ e. Some e) c.in-Ended.is) in
     w.few

@@ -17,8 +17,10 @@ returns-then-not-may_follow-clause-found g c =
     let read : c.take_set.result ≡ Ok scan = mapped_gives c.take_set.result c.map_err.result scan
     c.map_err.ensures.cases c.in_ok-scan.was in
     scans_same _ _ _ _ _ _ c.take_set.ensures.found
-    (λ bytes rest t few h. set_below c.args.wanted.now scan c.args.syntax bytes (rw read at h)
-    (sym c.if-not-may_follow.ensures))
+    (λ bytes rest t few h. (
+      set_below c.args.wanted.now scan c.args.syntax bytes (rw read at h) (sym c.if-not-may_follow.ensures),
+      λ is. absurd (cc),
+    ))
 
 pub returns-clause-found : goal.returns-clause-found
 returns-clause-found g c =

@@ -26,7 +26,8 @@ pub returns-then-leaves_fewer-clause-found : goal.returns-then-leaves_fewer-clau
 returns-then-leaves_fewer-clause-found g c =
     let fewer : leaves_fewer c.args.left c.args.n ≡ true = rw c.from-n.ensures at
     (sym c.leaves_fewer.ensures ∙ c.if-leaves_fewer.true) in
-    scans_none _ _ _ _ (g.met.F.Feed.stays _) (λ rest t. take_overruns c.args.n c.args.left rest fewer)
+    scans_none _ _ _ _ (g.met.F.Feed.stays _)
+    (λ rest t. (take_overruns c.args.n c.args.left rest fewer, λ is. absurd (cc)))
 
 pub returns-then-fill-first-clause-found : goal.returns-then-fill-first-clause-found
 returns-then-fill-first-clause-found g c =
@@ -40,8 +41,10 @@ returns-then-fill-first-clause-found g c =
     record {
       taken = taken;
       moved = c.fill.ensures.moved;
-      gives = λ rest t. take_ends c.args.n c.args.left (taken ++ rest) enough
-          (omega (arith, over_length _ _ taken rest over t));
+      gives = λ rest t. (
+        take_ends c.args.n c.args.left (taken ++ rest) enough (omega (arith, over_length _ _ taken rest over t)),
+        λ is. absurd (cc),
+      );
     }
 
 pub returns-in_default-clause-found : goal.returns-in_default-clause-found
@@ -58,8 +61,11 @@ returns-in_default-clause-found g c =
       taken = room ++ m.0;
       moved = g.met.F.Feed.goes _ _ _ _ _ (subst (g.F.Feed.moves c.args.feed.now c.fill.new.feed) all
           c.fill.ensures.moved) m.1;
-      gives = λ rest t. take_ends c.args.n c.args.left ((room ++ m.0) ++ rest) enough
-          (omega (arith, length-append room m.0, over_length _ _ (room ++ m.0) rest over t));
+      gives = λ rest t. (
+        take_ends c.args.n c.args.left ((room ++ m.0) ++ rest) enough
+            (omega (arith, length-append room m.0, over_length _ _ (room ++ m.0) rest over t)),
+        λ is. absurd (cc),
+      );
     }
 
 pub slice_bounds-to_vec-end : goal.slice_bounds-to_vec-end
@@ -76,11 +82,25 @@ slice_bounds-to_vec-end g c =
 pub returns-in_err-front-clause-found : goal.returns-in_err-front-clause-found
 returns-in_err-front-clause-found g c =
     let p = err_from_is_err_and c.from_residual.result c.from_residual.ensures.1 in
+    let enough : leaves_fewer c.args.left c.args.n ≡ false =
+    rw c.from-n.ensures at (sym c.leaves_fewer.ensures ∙ c.if-leaves_fewer.false) in
+    let room = c.fill.new.room in
+    let size : length room ≡ c.min-first.result = room_is room c.min-first.result (omega arith) c.fill.auto.room in
+    let all : take c.fill.result room ≡ room = take_all c.fill.result room (omega arith) in
     let m = c.in-Some.ensures.moved in
+    let whole : length (room ++ m.0) ≡ c.args.n = omega (arith, length-append room m.0, m.4.0) in
     rw (p.1, p.2) (record {
-      taken = _;
-      moved = g.met.F.Feed.goes _ _ _ _ _ c.fill.ensures.moved m.1;
-      gives = λ rest t. tt;
+      taken = room ++ m.0;
+      moved = g.met.F.Feed.goes _ _ _ _ _ (subst (g.F.Feed.moves c.args.feed.now c.fill.new.feed) all
+          c.fill.ensures.moved) m.1;
+      gives = λ rest t. (
+        tt,
+        λ is. (
+          room ++ m.0,
+          less c.args.left c.args.n,
+          take_whole c.args.n c.args.left (room ++ m.0) rest enough whole,
+        ),
+      );
     })
 
 pub returns-clause-found : goal.returns-clause-found

@@ -1,8 +1,6 @@
 -- What was taken of the stream is what its reader gave, and the stream says how it ended.
-use Rattle.std.proofs.Common.{◌∙◌, Ok, Some, ap, arith}
+use Rattle.std.proofs.Common.{◌∙◌, Ok, Err, Some, ap, arith}
 use Rattle.dd_set.specs.declared.end.End.TheVariants.{Ended, Failed, TooLong}
-use Rattle.dd_set.specs.Gives.{Fails}
-use Rattle.dd_set.specs.Reading.{read_all}
 use Rattle.dd_set.specs.Scan.{ScanGives}
 use Rattle.dd_set.proofs.Laws.{read_is_spelled}
 use Rattle.dd_set.proofs.StreamEnds.{read_whole}
@@ -58,7 +56,7 @@ returns-in-Ok-clause-gave g c =
     let m = c.finish.ensures.moved in
     let w = read_whole g.R.Read.remaining g.R.Read.failures g.R.Read.calls g.R.Read.has_given _ _ _ _ _ _ s.taken m.0
     Ended
-    (λ whole. ScanGives c.args.wanted.now (Ok c.in-Ok.scan) (read_all c.args.syntax whole)) s.moved.1 m.1
+    (λ whole. ScanGives c.args.syntax c.args.wanted.now (Ok c.in-Ok.scan) whole) s.moved.1 m.1
     (λ rest t. s.gives rest t)
     c.requires.empty c.requires.open c.finish.ensures.empty
     (c.finish.ensures.ended ∙ ap (λ e. Some e) c.in-Ended.is) in (
@@ -82,7 +80,7 @@ returns-in-Ok-clause-calls g c =
     let m = c.finish.ensures.moved in
     let w = read_whole g.R.Read.remaining g.R.Read.failures g.R.Read.calls g.R.Read.has_given _ _ _ _ _ _ s.taken m.0
     Ended
-    (λ whole. ScanGives c.args.wanted.now (Ok c.in-Ok.scan) (read_all c.args.syntax whole)) s.moved.1 m.1
+    (λ whole. ScanGives c.args.syntax c.args.wanted.now (Ok c.in-Ok.scan) whole) s.moved.1 m.1
     (λ rest t. s.gives rest t)
     c.requires.empty c.requires.open c.finish.ensures.empty (c.finish.ensures.ended ∙ ap (λ e. Some e) c.in-Ended.is) in
     w.few
@@ -93,9 +91,10 @@ returns-in-Err-clause-gave g c =
     let m = c.finish.ensures.moved in
     let w = read_whole g.R.Read.remaining g.R.Read.failures g.R.Read.calls g.R.Read.has_given _ _ _ _ _ _ s.taken m.0
     Ended
-    (λ whole. Fails c.in-Err.fault (read_all c.args.syntax whole)) s.moved.1 m.1 (λ rest t. s.gives rest t)
+    (λ whole. ScanGives c.args.syntax c.args.wanted.now (Err c.in-Err.fault) whole)
+    s.moved.1 m.1 (λ rest t. s.gives rest t)
     c.requires.empty c.requires.open c.finish.ensures.empty (c.finish.ensures.ended ∙ ap (λ e. Some e) c.in-Ended.is) in
-    (w.given, w.gave, w.known, (w.ends, w.answered))
+    (w.given, w.gave, w.known, (w.ends, w.answered.0, w.answered.1))
 
 pub returns-in-Err-clause-calls : goal.returns-in-Err-clause-calls
 returns-in-Err-clause-calls g c =
@@ -103,6 +102,7 @@ returns-in-Err-clause-calls g c =
     let m = c.finish.ensures.moved in
     let w = read_whole g.R.Read.remaining g.R.Read.failures g.R.Read.calls g.R.Read.has_given _ _ _ _ _ _ s.taken m.0
     Ended
-    (λ whole. Fails c.in-Err.fault (read_all c.args.syntax whole)) s.moved.1 m.1 (λ rest t. s.gives rest t)
+    (λ whole. ScanGives c.args.syntax c.args.wanted.now (Err c.in-Err.fault) whole)
+    s.moved.1 m.1 (λ rest t. s.gives rest t)
     c.requires.empty c.requires.open c.finish.ensures.empty (c.finish.ensures.ended ∙ ap (λ e. Some e) c.in-Ended.is) in
     w.few

@@ -1,7 +1,8 @@
-use Rattle.std.proofs.Common.{◌∙◌, sym}
+use Rattle.std.proofs.Common.{◌∙◌, Err, ap, sym}
 use Rattle.std.proofs.lemmas.Result.{err_from_is_err_and}
 use Rattle.dd_set.specs.Reading.{At, item_reader, sequence_with}
-use Rattle.dd_set.proofs.Along.{scans_same}
+use Rattle.dd_set.proofs.Along.{scans_none, scans_same}
+use Rattle.dd_set.proofs.Feeding.{fails_is}
 use Rattle.dd_set.proofs.Scanned.{tells_bytes, items_told}
 use Rattle.dd_set.proofs.top_set.take_wanted.Goals as goal
 
@@ -15,7 +16,8 @@ returns-in-Bytes-clause-found g c =
 pub returns-in_err-left-clause-found : goal.returns-in_err-left-clause-found
 returns-in_err-left-clause-found g c =
     let p = err_from_is_err_and c.from_residual-in_err-left.result c.from_residual-in_err-left.ensures.1 in
-    rw (p.1, p.2) (scans_same _ _ _ _ _ _ c.in_err-left.ensures.found (λ all rest t few h. h))
+    rw (p.1, p.2) (scans_same _ _ _ _ _ _ c.in_err-left.ensures.found
+    (λ all rest t few h. (h, λ is. absurd (c.in_err-left.ensures.memory (ap (λ e. Err e) is)))))
 
 pub returns-clause-found : goal.returns-clause-found
 returns-clause-found g c =
@@ -27,3 +29,12 @@ returns-clause-found g c =
           (sym (c.in_ok-n.ensures.exact reader all) ∙ h.1),
       h.1,
     ))
+
+pub returns-in_err-n-clause-found : goal.returns-in_err-n-clause-found
+returns-in_err-n-clause-found g c =
+    let p = err_from_is_err_and c.from_residual.result c.from_residual.ensures.1 in
+    let reader = sequence_with (item_reader c.args.levels) in
+    rw (p.1, p.2) (scans_none _ _ _ _ (g.met.F.Feed.stays _) (λ rest t. (
+      fails_is c.in_err-n.field-0.0 _ (c.in_err-n.ensures.exact reader rest),
+      λ is. absurd (c.in_err-n.ensures.memory (ap (λ e. Err e) is)),
+    )))
