@@ -1,9 +1,9 @@
 -- Values that are joined to a first one, in turn.
-use Rattle.std.specs.Prelude.{◌≡◌, ◌≢◌, ◌<◌, ◌≤◌, ◌+◌, ℕ, List, [], ◌∷◌, length, get_or, take}
+use Rattle.std.specs.Prelude.{◌≡◌, ◌≢◌, ◌<◌, ◌≤◌, ◌+◌, ℕ, List, [], ◌∷◌, length, get_or, take, Contains}
 use Rattle.std.specs.List.{All, fold}
 use Rattle.std.proofs.Common.{refl, sym, ◌∙◌, ap, subst, arith, zero, suc}
 use Rattle.std.proofs.lemmas.List.{take_all}
-use Rattle.std.proofs.lemmas.List.Elements.{All-cons}
+use Rattle.std.proofs.lemmas.List.Elements.{All-cons, Contains-get_or}
 use Rattle.std.proofs.lemmas.List.Sums.{fold_more}
 use Rattle.dd_catalogue.specs.Joins.{AreJoined}
 
@@ -29,3 +29,7 @@ all_values IsValue a xs i whole rest first = λ ne.
     let some = some_length xs ne in
     let below : 0 < i = omega arith in
     All-cons IsValue a xs (first below) (subst (λ s. All IsValue s) (take_all i xs whole) rest)
+
+-- the value of a turn is one of the list
+pub item_there : {V : Type 0} (xs : List V) (i : ℕ) (x : V) → i < length xs → x ≡ get_or xs i x → Contains xs x
+item_there xs i x below read = subst (λ y. Contains xs y) (sym read) (Contains-get_or xs i x below)

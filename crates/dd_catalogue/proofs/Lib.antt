@@ -5,6 +5,7 @@ pub mod BestMembers
 pub mod BestOfBests
 pub mod Cases
 pub mod Clashes
+pub mod Counted
 pub mod Gathering
 pub mod Harmonies
 pub mod Harmonised
@@ -15,5 +16,6 @@ pub mod Places
 pub mod References
 pub mod Retold
 pub mod SameVersions
+pub mod TakenParts
 pub mod TwoOwners
 pub mod Woven

@@ -1,5 +1,5 @@
 -- The join of catalogues: the best of both.
-use Rattle.std.specs.Prelude.{List, ◌++◌}
+use Rattle.std.specs.Prelude.{◌≢◌, List, [], ◌++◌}
 use Rattle.dd_keys.specs.declared.parts.Parts.{Parts}
 use Rattle.dd_catalogue.specs.BestLaws.{rising-best, best_comm, best_assoc, best_self}
 use Rattle.dd_catalogue.specs.Joins.{JoinLaws}
@@ -8,6 +8,10 @@ use Rattle.dd_catalogue.specs.Versions.{IsCatalogue, best_of, versions_ordered}
 -- the best of both catalogues' versions
 abbrev pub both : List Parts → List Parts → List Parts
 both m n = best_of (m ++ n)
+
+-- the second one has a version
+abbrev pub BringsVersions : List Parts → List Parts → Type 0
+BringsVersions m n = n ≢ []
 
 pub catalogue_laws : JoinLaws IsCatalogue both
 catalogue_laws = record {

@@ -1,6 +1,6 @@
 //! Catalogues of versions.
 
-ghost use Rattle.std.specs.Prelude.{◌≡◌, ◌≢◌, ◌==◌, [], ◌∷◌, ◌++◌, length, map, option_copied};
+ghost use Rattle.std.specs.Prelude.{◌≡◌, ◌≢◌, ◌==◌, ◌+◌, ◌≤◌, [], ◌∷◌, ◌++◌, length, map, option_copied};
 ghost use Rattle.std.specs.Prelude.{IsOk, IfOk, IfErr, OnOk, OnErr, IsSome};
 ghost use Rattle.dd_catalogue.specs.Clash.{IsClash, clash};
 ghost use Rattle.dd_catalogue.specs.Harmony.{IsHarmonised, harmonised};
@@ -168,10 +168,11 @@ impl Catalogue {
     }
 
     /// The same as `merge`. Answers how many pairs of SOP Instance UIDs were compared: one for each UID
-    /// of either catalogue that is at most the greatest of each.
+    /// of either catalogue that is at most the greatest of each, so no more than both hold together.
     pub fn merge_counted(&mut self, other: &Catalogue) -> Result<u64, Memory>
         ensures ok { OnOk result (self.new ≡ best_of (self.old ++ other.now)) }
         ensures count { IfOk result (λ count. count ≡ compared_of self.old other.now) }
+        ensures few { IfOk result (λ count. count ≤ length self.old + length other.now) }
         ensures err { OnErr result (self.new ≡ self.old) }
         ensures empty { other.now ≡ [] → IsOk result }
         ensures catalogues { IsCatalogue self.old × IsCatalogue other.now }
@@ -205,10 +206,14 @@ impl Catalogue {
         })
     }
 
-    /// An equal catalogue. Memory where a growth was refused.
+    /// An equal catalogue. Memory where a growth was refused, and never where the catalogue is empty.
     pub fn copy(&self) -> Result<Catalogue, Memory>
-        ensures { IfOk result (λ catalogue. catalogue ≡ self.now) }
+        ensures same { IfOk result (λ catalogue. catalogue ≡ self.now) }
+        ensures some { OnErr result (self.now ≢ []) }
     {
+        if self.is_empty() {
+            return Ok(Catalogue::new(self.table.allocator()));
+        }
         Ok(Catalogue {
             table: self.table.copy()?,
         })
@@ -243,14 +248,16 @@ impl PartialEq for Catalogue {
     }
 }
 
-/// The join of two catalogues is the best of both.
+/// The join of two catalogues is the best of both. It takes memory where the other is not empty.
 impl Join for Catalogue {
     ghost use Rattle.dd_catalogue.specs.Versions.{IsCatalogue};
-    ghost use Rattle.dd_catalogue.specs.CatalogueJoin.{both, catalogue_laws};
+    ghost use Rattle.dd_catalogue.specs.CatalogueJoin.{BringsVersions, both, catalogue_laws};
 
     ghost is_value = { IsCatalogue };
 
     ghost joined = { both };
+
+    ghost takes_memory = { BringsVersions };
 
     fn join(&mut self, other: &Catalogue) -> Result<(), Memory> {
         self.merge(other)

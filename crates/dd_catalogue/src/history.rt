@@ -1,6 +1,6 @@
 //! What a catalogue has taken, and the catalogue that this gives.
 
-ghost use Rattle.std.specs.Prelude.{◌≡◌, ◌++◌, map, IfOk, OnOk};
+ghost use Rattle.std.specs.Prelude.{◌≡◌, ◌≢◌, [], ◌++◌, map, IfOk, OnOk, OnErr};
 ghost use Rattle.dd_catalogue.specs.Best.{SameMembers};
 ghost use Rattle.dd_catalogue.specs.Histories.{taken};
 ghost use Rattle.dd_catalogue.specs.Versions.{best_of};
@@ -22,19 +22,25 @@ pub enum History {
 
 /// The catalogue that a history gives: the best of all versions that were taken in it. They are sorted
 /// once, however the history nests, and each that is kept is copied once. Memory where a growth was
-/// refused.
+/// refused, and never where no version was taken.
 pub fn build(alloc: Global, history: &History) -> Result<Catalogue, Memory>
-    ensures { IfOk result (λ catalogue. catalogue ≡ best_of (taken history.now)) }
+    ensures best { IfOk result (λ catalogue. catalogue ≡ best_of (taken history.now)) }
+    ensures some { OnErr result (taken history.now ≢ []) }
 {
     let mut versions = Vec::new(alloc);
     collect(history, &mut versions)?;
+    if versions.is_empty() {
+        return Ok(Catalogue::new(alloc));
+    }
     Catalogue::of(alloc, versions)
 }
 
-/// Adds a reference to each version that was taken.
+/// Adds a reference to each version that was taken. Memory where a growth was refused, and never where no
+/// version was taken.
 fn collect<'a>(history: &'a History, versions: &mut Vec<&'a Version>) -> Result<(), Memory>
-    ensures { OnOk result (map (λ version. version.now) versions.new.items
+    ensures all { OnOk result (map (λ version. version.now) versions.new.items
         ≡ map (λ version. version.now) versions.old.items ++ taken history.now) }
+    ensures some { OnErr result (taken history.now ≢ []) }
 {
     match history {
         History::Batch(batch) => {

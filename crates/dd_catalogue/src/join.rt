@@ -1,6 +1,6 @@
 //! Values that can be joined.
 
-ghost use Rattle.std.specs.Prelude.{◌≡◌, ◌<◌, ℕ, length, take, OnOk, OnErr};
+ghost use Rattle.std.specs.Prelude.{◌≡◌, ◌<◌, ℕ, length, take, Contains, OnOk, OnErr};
 ghost use Rattle.std.specs.List.{fold};
 ghost use Rattle.dd_catalogue.specs.Joins.{AreJoined, GatherIsFree, JoinLaws, OrderIsFree};
 
@@ -16,23 +16,28 @@ pub trait Join {
     // what the two are joined to
     ghost joined: { Self → Self → Self };
 
-    /// Joins the other value to this one. Memory where a growth was refused; then nothing has changed.
-    /// Both are values, over which the laws hold.
+    // does joining the second to the first take memory?
+    ghost takes_memory: { Self → Self → Type 0 };
+
+    /// Joins the other value to this one. Memory where a growth was refused, and only where the join takes
+    /// memory; then nothing has changed. Both are values, over which the laws hold.
     fn join(&mut self, other: &Self) -> Result<(), Memory>
         ensures ok { OnOk result (self.new ≡ joined self.old other.now) }
         ensures err { OnErr result (self.new ≡ self.old) }
+        ensures memory { OnErr result (takes_memory self.old other.now) }
         ensures values { is_value self.old × is_value other.now };
 
     ghost laws: { JoinLaws is_value joined };
 }
 
 /// Joins each of `rest` to `first`, in turn. Memory where a growth was refused; then `first` holds its
-/// join with those before. What was joined are values, so that two answers over the same members are
-/// equal (`gather_order_is_free`).
+/// join with those before, and joining one of `rest` to that takes memory. What was joined are values, so
+/// that two answers over the same members are equal (`gather_order_is_free`).
 pub fn gather<J: Join>(first: &mut J, rest: &[J]) -> Result<(), Memory>
     ensures ok { OnOk result (first.new ≡ fold J.joined first.old rest.now) }
     ensures err { OnErr result ((n : ℕ) × (n < length rest.now)
         × (first.new ≡ fold J.joined first.old (take n rest.now))) }
+    ensures memory { OnErr result ((value : J) × Contains rest.now value × J.takes_memory first.new value) }
     ensures values { OnOk result (AreJoined J.is_value first.old rest.now) }
 {
     for value in rest {
@@ -56,16 +61,18 @@ pub fn gather_order_is_free<J: Join>()
     ensures { GatherIsFree J.is_value J.joined }
 {}
 
-/// The join of two versions is the greater one.
+/// The join of two versions is the greater one. It takes memory where the other is greater.
 impl Join for Version {
     ghost use Rattle.dd_keys.specs.Fitting.{Fits};
     ghost use Rattle.dd_keys.specs.Orders.{parts_cmp};
     ghost use Rattle.dd_catalogue.specs.Best.{greater};
-    ghost use Rattle.dd_catalogue.specs.VersionJoin.{version_laws};
+    ghost use Rattle.dd_catalogue.specs.VersionJoin.{IsLess, version_laws};
 
     ghost is_value = { Fits };
 
     ghost joined = { greater parts_cmp };
+
+    ghost takes_memory = { IsLess };
 
     fn join(&mut self, other: &Version) -> Result<(), Memory> {
         if self.parts().compare(other.parts()).is_lt() {

@@ -1,6 +1,6 @@
 //! What holds of every set of versions, whatever the order in which they arrive.
 
-ghost use Rattle.std.specs.Prelude.{◌≡◌, ◌++◌, ℕ, List, Option, Decides, true};
+ghost use Rattle.std.specs.Prelude.{◌≡◌, ◌↔◌, ◌++◌, ℕ, List, Option, Decides, true};
 ghost use Rattle.dd_keys.specs.declared.parts.Parts.{Parts};
 ghost use Rattle.dd_catalogue.specs.Best.{SameMembers};
 ghost use Rattle.dd_catalogue.specs.Clash.{Conflict, IsClash, clash, conflicts};
@@ -50,7 +50,7 @@ pub fn harmonised_is_one()
     ensures { (m one other : List Parts) → IsHarmonised m one → IsHarmonised m other → one ≡ other }
 {}
 
-/// Catalogues that are equal by `==` are the same.
+/// Catalogues are equal by `==` exactly where they are the same.
 pub fn equal_is_same()
-    ensures { (m n : List Parts) → is_same m n ≡ true → m ≡ n }
+    ensures { (m n : List Parts) → (is_same m n ≡ true) ↔ (m ≡ n) }
 {}

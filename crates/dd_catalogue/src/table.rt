@@ -1,6 +1,6 @@
 //! Tables: of each key the greatest value.
 
-ghost use Rattle.std.specs.Prelude.{◌≡◌, ◌<◌, ◌≤◌, [], ◌∷◌, List, length, option_copied, map, ◌++◌, IsOk, IfOk, IfErr};
+ghost use Rattle.std.specs.Prelude.{◌≡◌, ◌<◌, ◌≤◌, ◌+◌, [], ◌∷◌, List, length, option_copied, map, ◌++◌, IsOk, IfOk, IfErr};
 ghost use Rattle.std.specs.Prelude.{OnOk, OnErr, IsSome};
 ghost use Rattle.std.specs.List.{HoldsAt, AllWithin};
 ghost use Rattle.std.specs.declared.cmp.Ordering.TheVariants.{Less, Equal, Greater};
@@ -114,11 +114,12 @@ impl<T: Keyed + Copied + Drop> Table<T> {
         })
     }
 
-    /// Takes copies of the other table's values. Answers how many pairs of keys were compared. Memory
-    /// where a growth was refused; then nothing has changed.
+    /// Takes copies of the other table's values. Answers how many pairs of keys were compared: no more
+    /// than both tables have values. Memory where a growth was refused; then nothing has changed.
     pub(crate) fn merge(&mut self, other: &Table<T>) -> Result<u64, Memory>
         ensures ok { OnOk result (self.new ≡ best T.key_of bytes_cmp T.order (self.old ++ other.now)) }
         ensures count { IfOk result (λ count. count ≡ compared T.key_of bytes_cmp T.order self.old other.now) }
+        ensures few { IfOk result (λ count. count ≤ length self.old + length other.now) }
         ensures err { OnErr result (self.new ≡ self.old) }
         ensures empty { other.now ≡ [] → IsOk result }
         ensures rising { IsRising T.key_of bytes_cmp self.old × IsRising T.key_of bytes_cmp other.now }

@@ -14,6 +14,7 @@ pub mod Neighbourhood
 pub mod NumberPass
 pub mod OffsetPass
 pub mod OffsetsAlong
+pub mod OffsetsWithin
 pub mod Passes
 pub mod PlaceTurns
 pub mod Ranked
@@ -21,6 +22,7 @@ pub mod RecordSizes
 pub mod Records
 pub mod RowRecords
 pub mod RowsByWalk
+pub mod SamePaths
 pub mod Splits
 pub mod TreeRows
 pub mod Trees

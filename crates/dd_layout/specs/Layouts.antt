@@ -15,6 +15,12 @@ pub record Layout : Type 0 where
 abbrev pub IsSound : ℕ → PlanRecord → Type 0
 IsSound count row = (row.of < count) × IsFileOf row.level row.file
 
+-- its offset is smaller than this size of a directory, and so are those that it names, of which 0 names no record
+pub record StandsWithin (bytes : ℕ) (row : PlanRecord) : Type 0 where
+  pub at : row.at < bytes
+  pub next : row.next < bytes
+  pub lower : row.lower < bytes
+
 -- the records and the size are those that the versions have under the label
 pub record IsLaidOut (label : Label) (versions : List Parts) (rows : List PlanRecord) (bytes : ℕ) : Type 0 where
   pub records : rows ≡ records_of label versions

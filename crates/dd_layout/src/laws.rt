@@ -1,10 +1,17 @@
 //! What holds of every tree, and a worked example of a plan.
 
-ghost use Rattle.std.specs.Prelude.{◌≡◌, ◌≢◌, ◌∷◌, ◌++◌, List, [], Contains};
+ghost use Rattle.std.specs.Prelude.{◌≡◌, ◌≢◌, ◌<◌, ◌∷◌, ◌++◌, List, [], All, Contains, Option, IfSome};
 ghost use Rattle.dd_catalogue.specs.Best.{IsRising};
+ghost use Rattle.dd_catalogue.specs.Clash.{clash};
+ghost use Rattle.dd_catalogue.specs.Harmony.{harmonised};
+ghost use Rattle.dd_keys.specs.declared.parts.Parts.{Parts};
+ghost use Rattle.dd_layout.specs.declared.label.Label.{Label};
+ghost use Rattle.dd_layout.specs.Bounds.{Bounds};
+ghost use Rattle.dd_layout.specs.Layouts.{StandsWithin};
 ghost use Rattle.dd_layout.specs.Neighbours.{IsKnown};
 ghost use Rattle.dd_layout.specs.Paths.{Path, path_cmp};
-ghost use Rattle.dd_layout.specs.Plans.{records_of, size};
+ghost use Rattle.dd_layout.specs.Plans.{at_or_none, records_of, size, tree};
+ghost use Rattle.dd_layout.specs.Refusal.{conflict_or, crowded, crowding_or, oversize, refusal};
 ghost use Rattle.dd_layout.specs.Tree.{IsTree, tree_of};
 ghost use Rattle.dd_layout.specs.Walk.{rows_from};
 ghost use Rattle.dd_layout.specs.Worked.{eleven_records, four_images, unnamed};
@@ -30,6 +37,25 @@ pub fn rows_are_known()
     ensures { (paths : List Path) → ((path : Path) → Contains paths path → path ≢ [])
         → (front : List Path) (x : Path) (rest : List Path) → tree_of paths ≡ front ++ x ∷ rest
         → IsKnown (tree_of paths) front x rest }
+{}
+
+/// The offset of each record of a directory is smaller than its size, and so is what stands for a record that may be
+/// there, as the next one, the first one below, and the first and the last root: its offset, or 0. This states a law,
+/// and does nothing.
+pub fn offsets_are_within()
+    ensures named { (label : Label) (versions : List Parts) (x : Option Path)
+        → IfSome x (λ path. Contains (tree versions) path) → at_or_none label versions x < size label versions }
+    ensures records { (label : Label) (versions : List Parts)
+        → All (StandsWithin (size label versions)) (records_of label versions) }
+{}
+
+/// The tree of a catalogue in harmony is the tree of the catalogue. So whether records have too many children may be
+/// asked of the catalogue itself, and only the size needs its harmony. This states a law, and does nothing.
+pub fn harmony_keeps_the_tree()
+    ensures tree { (m : List Parts) → tree (harmonised m) ≡ tree m }
+    ensures refusal { (label : Label) (limits : Bounds) (m : List Parts) → refusal label limits m
+        ≡ conflict_or (clash m) (crowding_or (crowded limits.per_level (tree m))
+        (oversize limits.bytes (size label (harmonised m)))) }
 {}
 
 /// The plan of four images of two patients: where its eleven records stand and what they name, and its size.

@@ -29,7 +29,8 @@ pub use field::{FLAG_IN_USE, Field, PRIVATE_CREATOR};
 pub use front::{FIRST_ROOT, LAST_ROOT, RECORDS, SET_ID, first_offset, front_cells};
 pub use label::Label;
 pub use laws::{
-    four_images_are_planned, rows_are_known, tree_is_one, tree_is_tree, walk_gives_the_tree,
+    four_images_are_planned, harmony_keeps_the_tree, offsets_are_within, rows_are_known,
+    tree_is_one, tree_is_tree, walk_gives_the_tree,
 };
 pub use layout::lay_out;
 pub use level::Level;

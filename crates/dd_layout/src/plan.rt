@@ -1,7 +1,7 @@
 //! The plan of a directory.
 
 ghost use Rattle.std.specs.Prelude.{◌≡◌, All, length};
-ghost use Rattle.dd_layout.specs.Layouts.{IsLaidOut, IsSound};
+ghost use Rattle.dd_layout.specs.Layouts.{IsLaidOut, IsSound, StandsWithin};
 ghost use Rattle.dd_layout.specs.Plans.{records_of, size};
 
 use crate::label::Label;
@@ -82,10 +82,11 @@ impl Plan {
     }
 
     /// The records, in the order of their bytes: each, then all below it, then its next sibling (PS3.3
-    /// section F.4).
+    /// section F.4). Each offset in them is smaller than the size of the file.
     pub fn records(&self) -> &[PlanRecord]
         ensures all { result.now ≡ records_of self.now.label self.now.versions }
         ensures sound { All (IsSound (length self.now.versions)) result.now }
+        ensures within { All (StandsWithin (size self.now.label self.now.versions)) result.now }
     {
         &self.records
     }
