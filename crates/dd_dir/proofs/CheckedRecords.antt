@@ -25,8 +25,9 @@ use Rattle.dd_dir.specs.Own.{Above, root, in_patient, in_study, in_series, in_im
 use Rattle.dd_dir.specs.Own.{followed, is_bad, is_key, is_sound, key_fault, level_in, listed_at, listed_in, suits}
 use Rattle.dd_dir.specs.Own.{unless}
 use Rattle.dd_dir.specs.Own.{lacks_digest}
-use Rattle.dd_dir.specs.OwnVersions.{held, version_of}
+use Rattle.dd_dir.specs.OwnVersions.{version_of}
 use Rattle.dd_dir.specs.OwnViews.{IsListed, Passes}
+use Rattle.dd_dir.specs.Saying.{key_of}
 use Rattle.dd_dir.specs.Trees.{Node, Trees, no_trees, tree}
 
 -- ---- the rows of a table
@@ -58,8 +59,8 @@ clean_entry (Some entry) = clean_content entry.content
 
 -- the value of a row is a key
 pub record IsHeld (set : Elements) (r : Row) : Type 0 where
-  pub key : IsKey (held r set)
-  pub suits : suits r.field (held r set) ≡ true
+  pub key : IsKey (key_of r.tag set)
+  pub suits : suits r.field (key_of r.tag set) ≡ true
 
 sound_held : (field : Field) (v : Option (List ℕ)) → is_sound field v ≡ true
     → (length (unwrap_or v []) ≤ 1024) × (suits field (unwrap_or v []) ≡ true)
@@ -155,10 +156,10 @@ image_held set e =
 
 -- ---- the UIDs of an image
 
-pub class_is_uid : (set : Elements) → IsHeld set row.CLASS → is_uid (held row.CLASS set) ≡ true
+pub class_is_uid : (set : Elements) → IsHeld set row.CLASS → is_uid (key_of row.CLASS.tag set) ≡ true
 class_is_uid set h = (and_parts _ _ h.suits).0
 
-pub transfer_is_uid : (set : Elements) → IsHeld set row.TRANSFER → is_uid (held row.TRANSFER set) ≡ true
+pub transfer_is_uid : (set : Elements) → IsHeld set row.TRANSFER → is_uid (key_of row.TRANSFER.tag set) ≡ true
 transfer_is_uid set h = (and_parts _ _ h.suits).0
 
 -- ---- the version of an image fits
@@ -175,14 +176,14 @@ version_fits image is =
     let own = image_held image.own is.own in
     record {
       transfer = (and_parts _ _ own.transfer.suits).1;
-      class = (is_image_class_decides (held row.CLASS image.own)).0 (and_parts _ _ own.class.suits).1;
-      study_date = some_bytes (held row.STUDY_DATE image.study) study.date.suits;
-      study_time = some_bytes (held row.STUDY_TIME image.study) study.time.suits;
-      modality = some_bytes (held row.MODALITY image.series) series.modality.suits;
-      patient_id = some_bytes (held row.PATIENT_ID image.patient) patient.id.suits;
-      study_id = some_bytes (held row.STUDY_ID image.study) study.id.suits;
-      series_number = some_bytes (held row.SERIES_NUMBER image.series) series.number.suits;
-      instance_number = some_bytes (held row.NUMBER image.own) own.number.suits;
+      class = (is_image_class_decides (key_of row.CLASS.tag image.own)).0 (and_parts _ _ own.class.suits).1;
+      study_date = some_bytes (key_of row.STUDY_DATE.tag image.study) study.date.suits;
+      study_time = some_bytes (key_of row.STUDY_TIME.tag image.study) study.time.suits;
+      modality = some_bytes (key_of row.MODALITY.tag image.series) series.modality.suits;
+      patient_id = some_bytes (key_of row.PATIENT_ID.tag image.patient) patient.id.suits;
+      study_id = some_bytes (key_of row.STUDY_ID.tag image.study) study.id.suits;
+      series_number = some_bytes (key_of row.SERIES_NUMBER.tag image.series) series.number.suits;
+      instance_number = some_bytes (key_of row.NUMBER.tag image.own) own.number.suits;
     }
 
 -- ---- the images of trees pass
@@ -229,24 +230,24 @@ below_sound (in_series patient study series) node e h =
     (tt, All-cons IsListed image [] is (All-nil IsListed))
 below_sound in_image node e h = absurd (cc)
 
-record AreFollowed (x y : Result (List Listed) OwnFault) (all : List Listed) : Type 0 where
-  first : List Listed
-  then_come : List Listed
-  is_first : x ≡ Ok first
-  is_then : y ≡ Ok then_come
-  both : first ++ then_come ≡ all
+pub record AreFollowed (x y : Result (List Listed) OwnFault) (all : List Listed) : Type 0 where
+  pub first : List Listed
+  pub then_come : List Listed
+  pub is_first : x ≡ Ok first
+  pub is_then : y ≡ Ok then_come
+  pub both : first ++ then_come ≡ all
 
-are_followed : (x y : Result (List Listed) OwnFault) (all : List Listed) → followed x y ≡ Ok all → AreFollowed x y all
+pub are_followed : (x y : Result (List Listed) OwnFault) (all : List Listed) → followed x y ≡ Ok all → AreFollowed x y all
 are_followed (Err e) y all same = absurd (cc)
 are_followed (Ok xs) (Err e) all same = absurd (cc)
 are_followed (Ok xs) (Ok ys) all same =
     record { first = xs; then_come = ys; is_first = refl; is_then = refl; both = cc }
 
-no_fault : (f : Option OwnFault) (images all : List Listed) → unless f images ≡ Ok all → (f ≡ None) × (images ≡ all)
+pub no_fault : (f : Option OwnFault) (images all : List Listed) → unless f images ≡ Ok all → (f ≡ None) × (images ≡ all)
 no_fault None images all e = (refl, cc)
 no_fault (Some f) images all e = absurd (cc)
 
-nothing_listed : (images : List Listed) → ◌≡◌ {A = Result (List Listed) OwnFault} (Ok []) (Ok images) → [] ≡ images
+pub nothing_listed : (images : List Listed) → ◌≡◌ {A = Result (List Listed) OwnFault} (Ok []) (Ok images) → [] ≡ images
 nothing_listed images e = cc
 
 sound_from : (above : Above) (trees : Trees) (images : List Listed) → AreSound above → listed_in above trees ≡ Ok images

@@ -1,16 +1,21 @@
 -- Records of versions whose parts are well formed, one after the other.
-use Rattle.std.proofs.Common.{◌≡◌, ℕ, ◌+◌, ◌<◌, List, ◌∷◌, length, drop, get_or, Some}
+use Rattle.std.proofs.Common.{◌≡◌, ℕ, ◌+◌, ◌<◌, ◌^◌, List, ◌∷◌, length, drop, get_or, Some}
 use Rattle.std.proofs.Common.{sym, ap, subst, ◌∙◌}
-use Rattle.std.specs.List.{AllByRecursion}
+use Rattle.std.specs.List.{All, AllByRecursion}
 use Rattle.std.proofs.lemmas.List.{at_drop_more}
 use Rattle.std.proofs.lemmas.Option.{slice_get-get_or}
 use Rattle.dd_elem.specs.Clean.{clean_of}
+use Rattle.dd_elem.specs.SetId.{IsSetId}
 use Rattle.dd_keys.specs.declared.parts.Parts.{Parts}
+use Rattle.dd_layout.specs.declared.label.Label.{Label}
 use Rattle.dd_layout.specs.declared.level.Level.{Level}
 use Rattle.dd_layout.specs.declared.level.Level.TheVariants.{Patient, Study, Series, Image}
 use Rattle.dd_layout.specs.declared.record.PlanRecord.{PlanRecord}
+use Rattle.dd_layout.specs.Layouts.{IsSound}
+use Rattle.dd_layout.specs.Plans.{records_of, size}
 use Rattle.dd_part10.proofs.HeadLaw.{clean_uid}
-use Rattle.dd_dir.specs.Keyed.{IsKeyed, IsKeyedBy}
+use Rattle.dd_dir.specs.Directories.{IsDirectory}
+use Rattle.dd_dir.specs.Keyed.{IsKeyed, IsKeyedBy, IsSent}
 use Rattle.dd_dir.specs.WellFormed.{IsWellFormed}
 
 -- the version that was found
@@ -42,3 +47,16 @@ row_more P rows i row within is holds rest =
     let left : drop i rows ≡ row ∷ drop (i + 1) rows =
     at_drop_more (λ rs. rs) rows i row within ∙ ap (λ (r : PlanRecord). r ∷ drop (i + 1) rows) (sym is) in
     subst (λ (rs : List PlanRecord). AllByRecursion P rs) (sym left) (holds, rest)
+
+-- what is known once all of them were sent
+pub whole_sent : (label : Label) (versions : List Parts) (seen : Label) (rows : List PlanRecord) (bytes : ℕ)
+    → seen ≡ label → rows ≡ records_of label versions → bytes ≡ size label versions → bytes < 2 ^ 32
+    → IsDirectory label versions → IsSetId seen.id → All (IsSound (length versions)) rows
+    → AllByRecursion (IsKeyed versions) rows → IsSent label versions
+whole_sent label versions seen rows bytes same is bytes_is below file id sound keyed = record {
+  file = file;
+  id = subst (λ (l : Label). IsSetId l.id) same id;
+  small = subst (λ (n : ℕ). n < 2 ^ 32) bytes_is below;
+  sound = subst (All (IsSound (length versions))) is sound;
+  keyed = subst (AllByRecursion (IsKeyed versions)) is keyed;
+}

@@ -14,6 +14,7 @@ pub mod Joining
 pub mod KeyedRecords
 pub mod Lifting
 pub mod ListedAlong
+pub mod ListedFirst
 pub mod ListedImages
 pub mod Moved
 pub mod OwnDirectories
@@ -29,6 +30,7 @@ pub mod RowTexts
 pub mod RowsSay
 pub mod SameTuples
 pub mod Sequences
+pub mod SetIds
 pub mod TreeWalks
 pub mod VisitsAlong
 pub mod WalkEnds

@@ -2,14 +2,18 @@
 use Rattle.std.specs.Prelude.{◌≡◌, List, [], ◌∷◌, map}
 use Rattle.std.proofs.Common.{refl, sym, ◌∙◌, ap, subst}
 use Rattle.dd_catalogue.specs.Harmony.{harmonised}
+use Rattle.dd_catalogue.specs.Versions.{IsCatalogue}
 use Rattle.dd_keys.specs.declared.parts.Parts.{Parts}
 use Rattle.dd_layout.specs.declared.label.Label.{Label}
 use Rattle.dd_layout.specs.Paths.{Path}
 use Rattle.dd_layout.specs.Plans.{tree}
-use Rattle.dd_dir.specs.Directories.{directory}
+use Rattle.dd_dir.specs.Directories.{directory, directory_of}
 use Rattle.dd_dir.specs.Keyed.{IsSent}
+use Rattle.dd_dir.specs.SaysItself.{SaysItself}
 use Rattle.dd_dir.specs.Visits.{Realises, Visit, VisitsEachOnce, visit_at, visits_of}
 use Rattle.dd_dir.proofs.EachOnce.{tree_once}
+use Rattle.dd_dir.proofs.OwnDirectories.{directory_says}
+use Rattle.dd_dir.proofs.SetIds.{id_said}
 use Rattle.dd_dir.proofs.TreeWalks.{tree_is_walked, tree_visits, tree_walk}
 use Rattle.dd_dir.proofs.WalkFiles.{one_walk}
 
@@ -19,9 +23,9 @@ visited_paths : (label : Label) (versions : List Parts) (rows : List Path)
 visited_paths label versions [] = refl
 visited_paths label versions (x ∷ rows) = ap (λ (l : List Path). x ∷ l) (visited_paths label versions rows)
 
-pub tree_realised : (label : Label) (m : List Parts) → IsSent label (harmonised m)
+tree_realised : (label : Label) (m : List Parts) → IsCatalogue m → IsSent label (harmonised m)
     → Realises label m (directory label m)
-tree_realised label m sent =
+tree_realised label m up sent =
     let versions = harmonised m in
     let walk = tree_walk label versions in
     let is = tree_is_walked label versions sent in
@@ -29,10 +33,26 @@ tree_realised label m sent =
     let paths : map (λ visit. visit.path) (visits_of walk) ≡ tree versions =
     ap (λ (l : List Visit). map (λ visit. visit.path) l) visits ∙ visited_paths label versions (tree versions) in
     record {
+      catalogue = up;
       walk = walk;
       is_walk = is;
       only = λ other so. one_walk (directory label m) walk other is so;
+      id = id_said label versions sent.id;
       visits = visits;
       reached = refl;
       each = subst (VisitsEachOnce m) (sym paths) (tree_once m);
     }
+
+-- ---- versions that are those of a catalogue in harmony
+
+pub realises : (label : Label) (versions m : List Parts) → IsSent label versions → IsCatalogue m
+    → versions ≡ harmonised m → Realises label m (directory_of label versions)
+realises label versions m sent up is =
+    subst (λ (vs : List Parts). IsSent label vs → Realises label m (directory_of label vs)) (sym is)
+    (tree_realised label m up) sent
+
+pub says_itself : (label : Label) (versions m : List Parts) → IsSent label versions → IsCatalogue m
+    → versions ≡ harmonised m → SaysItself m (directory_of label versions)
+says_itself label versions m sent up is =
+    subst (λ (vs : List Parts). IsSent label vs → SaysItself m (directory_of label vs)) (sym is)
+    (directory_says label m up) sent

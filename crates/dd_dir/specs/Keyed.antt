@@ -1,6 +1,7 @@
 -- Records of versions whose parts are well formed, so that they are read back from them.
 use Rattle.std.specs.Prelude.{◌<◌, ◌^◌, List, length, All, Option, Some, None, slice_get}
 use Rattle.std.specs.List.{AllByRecursion}
+use Rattle.dd_elem.specs.SetId.{IsSetId}
 use Rattle.dd_keys.specs.declared.parts.Parts.{Parts}
 use Rattle.dd_layout.specs.declared.label.Label.{Label}
 use Rattle.dd_layout.specs.declared.record.PlanRecord.{PlanRecord}
@@ -20,6 +21,7 @@ IsKeyed versions row = IsKeyedBy row (slice_get versions row.of)
 -- what is known of a directory that was sent whole
 pub record IsSent (label : Label) (versions : List Parts) : Type 0 where
   pub file : IsDirectory label versions
+  pub id : IsSetId label.id
   pub small : size label versions < 2 ^ 32
   pub sound : All (IsSound (length versions)) (records_of label versions)
   pub keyed : AllByRecursion (IsKeyed versions) (records_of label versions)

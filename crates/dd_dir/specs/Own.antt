@@ -1,6 +1,6 @@
 -- Which images a directory lists whose records are those that are written here (PS3.3 sections F.3 to F.5): the IMAGE
 -- records, each with those above it; or the first check that a record fails, depth first.
-use Rattle.std.specs.Prelude.{ℕ, Bool, true, false, not, ◌&&◌, ◌==◌, nat_le, List, [], ◌∷◌, ◌++◌, length, find}
+use Rattle.std.specs.Prelude.{◌≡◌, ◌≢◌, ◌⊎◌, ℕ, Bool, true, false, not, ◌&&◌, ◌==◌, nat_le, List, [], ◌∷◌, ◌++◌, length, find}
 use Rattle.std.specs.Prelude.{Option, Some, None, is_some, option_and_then, option_map, Result, Ok, Err}
 use Rattle.std.specs.Prelude.{if◌then◌else◌}
 use Rattle.std.specs.Str.{bytes_eq}
@@ -15,7 +15,7 @@ use Rattle.dd_layout.specs.declared.field.Field.TheVariants as fields
 use Rattle.dd_layout.specs.declared.level.Level.{Level}
 use Rattle.dd_layout.specs.declared.level.Level.TheVariants.{Patient, Study, Series, Image}
 use Rattle.dd_layout.specs.declared.table.Row.{Row}
-use Rattle.dd_layout.specs.declared.table.TheConstants.{CREATOR, DIGEST}
+use Rattle.dd_layout.specs.Entries.{tag}
 use Rattle.dd_layout.specs.Records.{kind_of, private_creator}
 use Rattle.dd_layout.specs.Tables.{table_of}
 use Rattle.dd_part10.specs.Syntaxes.{syntax_of}
@@ -65,7 +65,8 @@ is_creator (Some v) = bytes_eq v private_creator
 -- the digest of the file of a record, in the block of private elements of that creator (PS3.5 section 7.8.1)
 abbrev pub digest_in : Elements → Option (List ℕ)
 digest_in set =
-    if is_creator (value_at CREATOR.tag set) then option_and_then sized (value_of DIGEST.tag set) else None
+    if is_creator (value_at (tag 0x0009 0x0010) set) then option_and_then sized (value_of (tag 0x0009 0x1001) set)
+    else None
 
 -- ---- its keys
 
@@ -152,13 +153,30 @@ abbrev pub unless : Option OwnFault → List Listed → Result (List Listed) Own
 unless None images = Ok images
 unless (Some fault) images = Err fault
 
+-- the images that a record lists which stands there: its own, then those below it
+abbrev pub listed_with : Above → Node → Result (List Listed) OwnFault → Result (List Listed) OwnFault
+listed_with above node lower = followed (unless (fault_at (level_in above) node) (listed_at above node.set)) lower
+
 -- the images of these trees, which stand there: of each record its own and those below it, then those after it
 abbrev pub listed_in : Above → Trees → Result (List Listed) OwnFault
 listed_in above no_trees = Ok []
 listed_in above (tree node lower after) =
-    followed (followed (unless (fault_at (level_in above) node) (listed_at above node.set))
-    (listed_in (below above node.set) lower)) (listed_in above after)
+    followed (listed_with above node (listed_in (below above node.set) lower)) (listed_in above after)
 
 -- the images that following the offsets of a directory gives
 abbrev pub own : Walk → Result (List Listed) OwnFault
 own walk = listed_in root walk.trees
+
+-- ---- before the first fault
+
+-- a record that stands there passes its checks, and lists an image, or those below it do
+abbrev pub ListsWith : Above → Node → Type 0 → Type 0
+ListsWith above node lower = (fault_at (level_in above) node ≡ None) × ((listed_at above node.set ≢ []) ⊎ lower)
+
+-- An image is listed before any record fails: by the first record or below it; or, where none of these fails, after it.
+abbrev pub ListsFirst : Above → Trees → Type 0
+ListsFirst above no_trees = ⊥
+ListsFirst above (tree node lower after) =
+    ListsWith above node (ListsFirst (below above node.set) lower)
+    ⊎ ((images : List Listed) × (listed_with above node (listed_in (below above node.set) lower) ≡ Ok images)
+    × ListsFirst above after)

@@ -1,22 +1,18 @@
 -- What a directory that is written here says of the images that it lists: their versions, and where their files are.
-use Rattle.std.specs.Prelude.{◌≡◌, ◌≢◌, ℕ, List, [], map, unwrap_or, Result, Ok, Err}
+use Rattle.std.specs.Prelude.{◌≡◌, ℕ, List, [], map, unwrap_or, Result, Ok, Err}
 use Rattle.dd_keys.specs.declared.keys.PatientKeys.{PatientKeys}
 use Rattle.dd_keys.specs.declared.keys.SeriesKeys.{SeriesKeys}
 use Rattle.dd_keys.specs.declared.keys.StudyKeys.{StudyKeys}
 use Rattle.dd_keys.specs.declared.parts.Parts.{Parts}
-use Rattle.dd_layout.specs.declared.table.Row.{Row}
-use Rattle.dd_layout.specs.declared.table.TheConstants as row
+use Rattle.dd_layout.specs.Entries.{tag}
 use Rattle.dd_set.specs.Elements.{Elements}
 use Rattle.dd_dir.specs.declared.own.Own.{Own}
 use Rattle.dd_dir.specs.declared.own.Place.{Place}
 use Rattle.dd_dir.specs.declared.own_fault.OwnFault.{OwnFault}
 use Rattle.dd_dir.specs.declared.own_fault.OwnFault.TheVariants.{Memory}
-use Rattle.dd_dir.specs.Own.{Listed, digest_in}
+use Rattle.dd_dir.specs.Own.{Listed, ListsFirst, digest_in, own, root}
 use Rattle.dd_dir.specs.Saying.{key_of}
-
--- the value of the element of a row without its padding, and nothing where there is none
-abbrev pub held : Row → Elements → List ℕ
-held at set = key_of at.tag set
+use Rattle.dd_dir.specs.Trees.{Walk}
 
 abbrev pub digest_of : Elements → List ℕ
 digest_of set = unwrap_or (digest_in set) []
@@ -25,27 +21,27 @@ digest_of set = unwrap_or (digest_in set) []
 
 abbrev pub patient_in : Elements → PatientKeys
 patient_in set = record {
-  id = held row.PATIENT_ID set;
-  name = held row.PATIENT_NAME set;
-  charset = held row.CHARSET set;
+  id = key_of (tag 0x0010 0x0020) set;
+  name = key_of (tag 0x0010 0x0010) set;
+  charset = key_of (tag 0x0008 0x0005) set;
 }
 
 abbrev pub study_in : Elements → StudyKeys
 study_in set = record {
-  uid = held row.STUDY_UID set;
-  date = held row.STUDY_DATE set;
-  time = held row.STUDY_TIME set;
-  accession = held row.ACCESSION set;
-  description = held row.DESCRIPTION set;
-  id = held row.STUDY_ID set;
-  charset = held row.CHARSET set;
+  uid = key_of (tag 0x0020 0x000d) set;
+  date = key_of (tag 0x0008 0x0020) set;
+  time = key_of (tag 0x0008 0x0030) set;
+  accession = key_of (tag 0x0008 0x0050) set;
+  description = key_of (tag 0x0008 0x1030) set;
+  id = key_of (tag 0x0020 0x0010) set;
+  charset = key_of (tag 0x0008 0x0005) set;
 }
 
 abbrev pub series_in : Elements → SeriesKeys
 series_in set = record {
-  uid = held row.SERIES_UID set;
-  modality = held row.MODALITY set;
-  number = held row.SERIES_NUMBER set;
+  uid = key_of (tag 0x0020 0x000e) set;
+  modality = key_of (tag 0x0008 0x0060) set;
+  number = key_of (tag 0x0020 0x0011) set;
 }
 
 -- the version of an image
@@ -55,10 +51,10 @@ version_of image = record {
   patient = patient_in image.patient;
   study = study_in image.study;
   series = series_in image.series;
-  number = held row.NUMBER image.own;
-  class = held row.CLASS image.own;
-  transfer = held row.TRANSFER image.own;
-  instance = held row.INSTANCE image.own;
+  number = key_of (tag 0x0020 0x0013) image.own;
+  class = key_of (tag 0x0004 0x1510) image.own;
+  transfer = key_of (tag 0x0004 0x1512) image.own;
+  instance = key_of (tag 0x0004 0x1511) image.own;
 }
 
 -- ---- places
@@ -71,9 +67,9 @@ pub record Located : Type 0 where
 
 abbrev pub place_of : Listed → Located
 place_of image = record {
-  uid = held row.INSTANCE image.own;
+  uid = key_of (tag 0x0004 0x1511) image.own;
   digest = digest_of image.own;
-  file = held row.FILE image.own;
+  file = key_of (tag 0x0004 0x1500) image.own;
 }
 
 abbrev pub place_view : Place → Located
@@ -86,10 +82,14 @@ pub record Tells (images : List Listed) (told : Own) : Type 0 where
   pub versions : told.versions.items ≡ map version_of images
   pub places : map place_view told.places.items ≡ map place_of images
 
--- The answer where the records list these images, or fail by this fault: what the images give, or the fault. Memory is
--- wanted only where there is an image, or a fault.
-abbrev pub Answers : {B : Type 0} → Result (List Listed) OwnFault → (List Listed → B → Type 0)
+-- The answer where the records list these images, or fail by this fault: what the images give, or the fault. Memory
+-- runs out only where it is wanted.
+abbrev pub Answers : {B : Type 0} → Result (List Listed) OwnFault → Type 0 → (List Listed → B → Type 0)
     → Result B OwnFault → Type 0
-Answers all IsAnswer (Ok value) = (images : List Listed) × (all ≡ Ok images) × IsAnswer images value
-Answers all IsAnswer (Err Memory) = all ≢ Ok []
-Answers all IsAnswer (Err fault) = all ≡ Err fault
+Answers all IsWanted IsAnswer (Ok value) = (images : List Listed) × (all ≡ Ok images) × IsAnswer images value
+Answers all IsWanted IsAnswer (Err Memory) = IsWanted
+Answers all IsWanted IsAnswer (Err fault) = all ≡ Err fault
+
+-- The answer to a walk. Memory is wanted only where an image is listed before any record fails.
+abbrev pub AnswersWalk : {B : Type 0} → Walk → (List Listed → B → Type 0) → Result B OwnFault → Type 0
+AnswersWalk walk IsAnswer result = Answers (own walk) (ListsFirst root walk.trees) IsAnswer result

@@ -10,8 +10,8 @@ use Rattle.dd_dir.specs.declared.listing.Above.TheVariants as values
 use Rattle.dd_dir.specs.declared.listing.Listed.{Listed as ListedValue}
 use Rattle.dd_dir.specs.declared.own_fault.OwnFault.{OwnFault}
 use Rattle.dd_dir.specs.ForestViews.{Branch}
-use Rattle.dd_dir.specs.Own.{Above, root, in_patient, in_study, in_series, in_image, Listed, below, fault_at, followed}
-use Rattle.dd_dir.specs.Own.{digest_in, is_bad, level_in, listed_at, listed_in, unless}
+use Rattle.dd_dir.specs.Own.{Above, root, in_patient, in_study, in_series, in_image, Listed, ListsFirst, ListsWith}
+use Rattle.dd_dir.specs.Own.{below, digest_in, is_bad, listed_in, listed_with}
 use Rattle.dd_dir.specs.OwnVersions.{Answers}
 
 abbrev pub above_view : AboveValue → Above
@@ -36,14 +36,18 @@ listed_values (Some listed) = listed_view listed ∷ []
 
 -- the images of one tree, which stands there
 abbrev pub listed_of : Above → Branch → Result (List Listed) OwnFault
-listed_of above branch = followed
-    (unless (fault_at (level_in above) branch.node) (listed_at above branch.node.set))
-    (listed_in (below above branch.node.set) branch.below)
+listed_of above branch = listed_with above branch.node (listed_in (below above branch.node.set) branch.below)
 
--- the answer of a pass that adds images to a list, where these are to come: all were added, or it is their fault
-abbrev pub Adds : {F : Type 0} → List Listed → List Listed → Result (List Listed) OwnFault → Result F OwnFault
-    → Type 0
-Adds {F} old new to_come result = Answers to_come (λ images (done : F). new ≡ old ++ images) result
+-- one is listed before any record of it fails
+abbrev pub ListsOneFirst : Above → Branch → Type 0
+ListsOneFirst above branch =
+    ListsWith above branch.node (ListsFirst (below above branch.node.set) branch.below)
+
+-- The answer of a pass that adds images to a list, where these are to come: all were added, or it is their fault.
+-- Memory runs out only where it is wanted.
+abbrev pub Adds : {F : Type 0} → List Listed → List Listed → Result (List Listed) OwnFault → Type 0
+    → Result F OwnFault → Type 0
+Adds {F} old new to_come IsWanted result = Answers to_come IsWanted (λ images (done : F). new ≡ old ++ images) result
 
 -- ---- records that were checked
 

@@ -3,8 +3,8 @@
 ghost use Rattle.std.specs.Prelude.{◌≡◌, map};
 ghost use Rattle.dd_set.specs.Views.{set_view};
 ghost use Rattle.dd_dir.specs.ForestViews.{tree_view, trees_view};
-ghost use Rattle.dd_dir.specs.Own.{below, level_in, listed_at, listed_in};
-ghost use Rattle.dd_dir.specs.OwnViews.{Adds, above_view, listed_of, listed_values, listed_view};
+ghost use Rattle.dd_dir.specs.Own.{ListsFirst, below, level_in, listed_at, listed_in};
+ghost use Rattle.dd_dir.specs.OwnViews.{Adds, ListsOneFirst, above_view, listed_of, listed_values, listed_view};
 
 use crate::forest::Tree;
 use crate::own_checks::fault_at;
@@ -88,7 +88,8 @@ pub(crate) fn list<'f, 'a>(
     images: &mut Vec<Listed<'f, 'a>>,
 ) -> Result<(), OwnFault>
     ensures { Adds (map listed_view images.old.items) (map listed_view images.new.items)
-        (listed_in (above_view above.entry) (trees_view trees.now)) result }
+        (listed_in (above_view above.entry) (trees_view trees.now))
+        (ListsFirst (above_view above.entry) (trees_view trees.now)) result }
 {
     for tree in trees {
         list_one(tree, above, images)?;
@@ -104,7 +105,8 @@ fn list_one<'f, 'a>(
     images: &mut Vec<Listed<'f, 'a>>,
 ) -> Result<(), OwnFault>
     ensures { Adds (map listed_view images.old.items) (map listed_view images.new.items)
-        (listed_of (above_view above.entry) (tree_view tree.now)) result }
+        (listed_of (above_view above.entry) (tree_view tree.now))
+        (ListsOneFirst (above_view above.entry) (tree_view tree.now)) result }
 {
     if let Some(fault) = fault_at(level_in(above), tree) {
         return Err(fault);

@@ -3,8 +3,7 @@
 ghost use Rattle.std.specs.Prelude.{◌≡◌, ◌≢◌, [], map, All, IfOk, OnErr};
 ghost use Rattle.dd_catalogue.specs.Versions.{best_of};
 ghost use Rattle.dd_dir.specs.ForestViews.{walk_view};
-ghost use Rattle.dd_dir.specs.Own.{own};
-ghost use Rattle.dd_dir.specs.OwnVersions.{Answers, Tells, place_of, place_view, version_of};
+ghost use Rattle.dd_dir.specs.OwnVersions.{AnswersWalk, Tells, place_of, place_view, version_of};
 ghost use Rattle.dd_dir.specs.OwnViews.{IsListed, listed_view};
 
 use crate::forest::Forest;
@@ -51,7 +50,7 @@ impl Drop for Own<'_> {
 /// What a directory says whose records are those that are written here; its records are gone over once.
 /// Refused as `catalogue_of` refuses.
 pub fn own_of<'a>(alloc: Global, forest: &Forest<'a>) -> Result<Own<'a>, OwnFault>
-    ensures { Answers (own (walk_view forest.now)) Tells result }
+    ensures { AnswersWalk (walk_view forest.now) Tells result }
 {
     let images = listed(alloc, forest)?;
     Ok(told(alloc, &images)?)
@@ -60,10 +59,10 @@ pub fn own_of<'a>(alloc: Global, forest: &Forest<'a>) -> Result<Own<'a>, OwnFaul
 /// The best of the versions of the images that a directory lists whose records are those that are
 /// written here. Otherwise the first check that a record fails, depth first: it is not in use or its type
 /// is not the one of its level, it is of an image without a digest, or the first of its elements in the
-/// order of tags is not what it must be. Memory where a growth was refused: never where all
-/// records are right and none is of an image.
+/// order of tags is not what it must be. Memory where a growth was refused, which wants an image
+/// before the first such record.
 pub fn catalogue_of(alloc: Global, forest: &Forest<'_>) -> Result<Catalogue, OwnFault>
-    ensures { Answers (own (walk_view forest.now))
+    ensures { AnswersWalk (walk_view forest.now)
         (λ images catalogue. catalogue ≡ best_of (map version_of images)) result }
 {
     let images = listed(alloc, forest)?;
@@ -74,7 +73,7 @@ pub fn catalogue_of(alloc: Global, forest: &Forest<'_>) -> Result<Catalogue, Own
 /// Where the files of those images are, in the order of their records, depth first. Refused as
 /// `catalogue_of` refuses.
 pub fn places_of<'a>(alloc: Global, forest: &Forest<'a>) -> Result<Vec<Place<'a>>, OwnFault>
-    ensures { Answers (own (walk_view forest.now))
+    ensures { AnswersWalk (walk_view forest.now)
         (λ images places. map place_view places.items ≡ map place_of images) result }
 {
     let images = listed(alloc, forest)?;
@@ -83,7 +82,7 @@ pub fn places_of<'a>(alloc: Global, forest: &Forest<'a>) -> Result<Vec<Place<'a>
 
 /// The images of a directory, depth first.
 fn listed<'f, 'a>(alloc: Global, forest: &'f Forest<'a>) -> Result<Vec<Listed<'f, 'a>>, OwnFault>
-    ensures { Answers (own (walk_view forest.now))
+    ensures { AnswersWalk (walk_view forest.now)
         (λ images found. map listed_view found.items ≡ images) result }
 {
     let mut images = Vec::new(alloc);

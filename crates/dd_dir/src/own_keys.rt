@@ -6,8 +6,9 @@ ghost use Rattle.dd_elem.specs.Uid.{is_uid};
 ghost use Rattle.dd_layout.specs.declared.level.Level.TheVariants.{Patient, Study, Series};
 ghost use Rattle.dd_set.specs.Views.{set_view};
 ghost use Rattle.dd_dir.specs.Own.{digest_in};
-ghost use Rattle.dd_dir.specs.OwnVersions.{digest_of, held, patient_in, series_in, study_in, version_of};
+ghost use Rattle.dd_dir.specs.OwnVersions.{digest_of, patient_in, series_in, study_in, version_of};
 ghost use Rattle.dd_dir.specs.OwnViews.{IsListed, Passes, listed_view};
+ghost use Rattle.dd_dir.specs.Saying.{key_of};
 
 use crate::listing::Listed;
 use crate::own_checks::digest_in;
@@ -23,15 +24,15 @@ use std::alloc::Global;
 
 /// The value of the element of a row without its padding, and nothing where there is none.
 pub(crate) fn held<'a>(row: &Row, set: &DataSet<'a>) -> &'a [u8]
-    ensures { result.now ≡ held row.now (set_view set.now) }
+    ensures { result.now ≡ key_of row.now.tag (set_view set.now) }
 {
     value_at(set, row.tag).unwrap_or(&[])
 }
 
 /// The key of a row.
 fn key(alloc: Global, row: &Row, set: &DataSet<'_>) -> Result<Key, Memory>
-    requires { IsKey (held row.now (set_view set.now)) }
-    ensures { IfOk result (λ key. key ≡ held row.now (set_view set.now)) }
+    requires { IsKey (key_of row.now.tag (set_view set.now)) }
+    ensures { IfOk result (λ key. key ≡ key_of row.now.tag (set_view set.now)) }
 {
     match Key::copy_of(alloc, held(row, set)) {
         Ok(key) => Ok(key),
@@ -42,8 +43,8 @@ fn key(alloc: Global, row: &Row, set: &DataSet<'_>) -> Result<Key, Memory>
 
 /// The UID of a row.
 pub(crate) fn uid(row: &Row, set: &DataSet<'_>) -> Uid
-    requires { is_uid (held row.now (set_view set.now)) ≡ true }
-    ensures { result ≡ held row.now (set_view set.now) }
+    requires { is_uid (key_of row.now.tag (set_view set.now)) ≡ true }
+    ensures { result ≡ key_of row.now.tag (set_view set.now) }
 {
     Uid::new(held(row, set)).unwrap()
 }

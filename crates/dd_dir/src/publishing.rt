@@ -10,7 +10,7 @@ ghost use Rattle.dd_dir.specs.SaysItself.{SaysItself};
 ghost use Rattle.dd_dir.specs.Visits.{Realises};
 
 use crate::well_formed::versions_rise;
-use crate::writing::write_keyed;
+use crate::writing::write_directory;
 use dd_catalogue::{Catalogue, History, build};
 use dd_elem::Sink;
 use dd_layout::{Label, Limits, PlanFault, lay_out};
@@ -37,7 +37,7 @@ pub fn publish(
     let plan = lay_out(alloc, catalogue, label, limits)?;
     let mut sink = Sink::new(alloc, None);
     sink.reserve(plan.size() as usize)?;
-    match write_keyed(&plan, &mut sink) {
+    match write_directory(&plan, &mut sink) {
         Ok(_) => Ok(sink.into_bytes()),
         Err(_) => Err(PlanFault::Memory),
     }

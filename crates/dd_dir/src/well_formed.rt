@@ -3,12 +3,13 @@
 ghost use Rattle.std.specs.Prelude.{◌≡◌, length};
 ghost use Rattle.dd_catalogue.specs.Versions.{IsCatalogue};
 ghost use Rattle.dd_elem.specs.Key.{IsKey};
+ghost use Rattle.dd_elem.specs.SetId.{IsSetId};
 ghost use Rattle.dd_elem.specs.Uid.{IsUid};
 ghost use Rattle.dd_dir.specs.WellFormed.{IsWellFormed, IsWellFormedImage, IsWellFormedPatient};
 ghost use Rattle.dd_dir.specs.WellFormed.{IsWellFormedSeries, IsWellFormedStudy};
 
 use dd_catalogue::Catalogue;
-use dd_elem::{Key, Uid};
+use dd_elem::{Key, SetId, Uid};
 use dd_keys::{Parts, PatientKeys, SeriesKeys, StudyKeys, Version};
 
 /// What a version is made of, which is well formed.
@@ -29,6 +30,13 @@ pub(crate) fn versions_rise(catalogue: &Catalogue)
     ensures { IsCatalogue catalogue.now }
 {
     catalogue.versions();
+}
+
+/// The ID of a file-set is one. This states a law, and does nothing.
+pub(crate) fn set_id_is_valid(id: &SetId)
+    ensures { IsSetId id.now }
+{
+    id.as_bytes();
 }
 
 /// The keys of a patient are keys. This states a law, and does nothing.

@@ -1,14 +1,19 @@
 //! Directories sent to a writer.
 
-ghost use Rattle.std.specs.Prelude.{◌≡◌, IfOk, IsOk};
+ghost use Rattle.std.specs.Prelude.{◌≡◌, List, IfOk, IsOk};
+ghost use Rattle.dd_catalogue.specs.Harmony.{harmonised};
+ghost use Rattle.dd_catalogue.specs.Versions.{IsCatalogue};
+ghost use Rattle.dd_keys.specs.declared.parts.Parts.{Parts};
 ghost use Rattle.dd_layout.specs.Plans.{size};
 ghost use Rattle.dd_set.specs.Sends.{SendsTo};
 ghost use Rattle.dd_dir.specs.Directories.{IsDirectory, directory_of};
-ghost use Rattle.dd_dir.specs.Keyed.{IsSent};
+ghost use Rattle.dd_dir.specs.SaysItself.{SaysItself};
+ghost use Rattle.dd_dir.specs.Visits.{Realises};
 
 use crate::cells::send_cells;
 use crate::records::send_records;
 use crate::roots::{first_root, last_root};
+use crate::well_formed::set_id_is_valid;
 use dd_elem::{Vr, Write};
 use dd_layout::{Plan, RECORDS, directory_meta, first_offset, front_cells};
 use dd_part10::write_head;
@@ -23,21 +28,15 @@ pub fn write_directory<W: Write>(plan: &Plan, writer: &mut W) -> Result<u64, Wri
     // Where the bytes were sent whole, they are as many as the plan says, and a file of the class of directories.
     ensures size { IfOk result (λ n. n ≡ size plan.now.label plan.now.versions) }
     ensures file { IsOk result → IsDirectory plan.now.label plan.now.versions }
-{
-    write_keyed(plan, writer)
-}
 
-/// The same, which says too that each record has the keys of a version.
-pub(crate) fn write_keyed<W: Write>(plan: &Plan, writer: &mut W) -> Result<u64, WriteFault>
-    ensures sends { let text = directory_of plan.now.label plan.now.versions
-        in SendsTo W.contents W.rest W.failures text 0 result writer.old writer.new }
-
-    // Where the bytes were sent whole, they are as many as the plan says, and a file of the class of directories.
-    ensures size { IfOk result (λ n. n ≡ size plan.now.label plan.now.versions) }
-    ensures file { IsOk result → IsDirectory plan.now.label plan.now.versions }
-    ensures sent { IsOk result → IsSent plan.now.label plan.now.versions }
+    // Where they are those of a catalogue in harmony, they realise its tree, and say its versions.
+    ensures realised { IsOk result → (m : List Parts) → IsCatalogue m → plan.now.versions ≡ harmonised m
+        → Realises plan.now.label m (directory_of plan.now.label plan.now.versions) }
+    ensures own { IsOk result → (m : List Parts) → IsCatalogue m → plan.now.versions ≡ harmonised m
+        → SaysItself m (directory_of plan.now.label plan.now.versions) }
 {
     let label = plan.label();
+    set_id_is_valid(&label.id);
     let records = plan.records();
     let front = front_cells(label, first_root(records), last_root(records));
     let count = u64::from(plan.size()) - first_offset(label);

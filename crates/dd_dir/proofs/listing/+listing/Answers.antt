@@ -1,11 +1,22 @@
-use Rattle.std.proofs.Common.{◌≡◌, ◌++◌, map, arith, Err, refl}
+use Rattle.std.proofs.Common.{◌≡◌, ◌++◌, map, arith, Err, refl, sym, ap, ◌∙◌}
 use Rattle.std.proofs.lemmas.Grind.{common_steps}
 use Rattle.std.proofs.lemmas.List.{append-nil, map-append}
 use Rattle.std.proofs.lemmas.Result.{err_from_is_err_and}
-use Rattle.dd_dir.specs.OwnViews.{above_view, listed_values, listed_view}
-use Rattle.dd_dir.proofs.ListedImages.{adding_fails, one_listed}
+use Rattle.dd_dir.specs.declared.forest.Tree.{Tree}
+use Rattle.dd_dir.specs.ForestViews.{tree_view}
+use Rattle.dd_dir.specs.OwnViews.{above_view, listed_of, listed_values, listed_view}
+use Rattle.dd_dir.proofs.ListedImages.{adding_fails, adding_goes_on, one_fails, one_listed}
 use Rattle.dd_dir.proofs.listing.+listing.Goals as goal
 use Rattle.dd_dir.proofs.listing.+listing.Goals.{list_one-in-Some-listed_at+in_ok-push, list_one-in_default-listed_at}
+
+pub list-loop-tree-preserved : goal.list-loop-tree-preserved
+list-loop-tree-preserved t c =
+    let above = above_view c.args.above in
+    let done = c.in_ok-list_one.ensures in
+    adding_goes_on above c.args.trees.now c.loop-tree.tree-index c.tree-item.result
+    (map listed_view c.args.images.now.items) (map listed_view c.loop-tree.images.items)
+    (map listed_view c.list_one.new.images.items) done.0 c.loop-tree-test.true c.loop-tree.invariant
+    (ap (λ (x : Tree). listed_of above (tree_view x)) (sym c.tree-item.is) ∙ done.1) done.2
 
 pub list-returns-in_err-list_one : goal.list-returns-in_err-list_one
 list-returns-in_err-list_one t c =
@@ -15,6 +26,12 @@ list-returns-in_err-list_one t c =
     (map listed_view c.args.images.now.items) (map listed_view c.loop-tree.images.items)
     (map listed_view c.list_one.new.images.items) c.in_err-list_one.field-0.0 c.list_one.result c.from_residual.result
     c.loop-tree-test.true c.tree-item.is c.loop-tree.invariant c.in_err-list_one.was fails c.list_one.ensures
+
+pub list_one-returns-in-Some : goal.list_one-returns-in-Some
+list_one-returns-in-Some t c =
+    let images = map listed_view c.args.images.now.items in
+    one_fails (Unit {0}) (above_view c.args.above) c.args.tree.now c.level_in.result c.fault_at.result c.in-Some.fault images
+    images c.level_in.ensures c.fault_at.ensures c.in-Some.is
 
 pub list_one-returns : goal.list_one-returns
 list_one-returns t c =

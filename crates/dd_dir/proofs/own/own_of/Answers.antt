@@ -1,9 +1,11 @@
 use Rattle.std.proofs.Common.{◌≡◌, List, map, ap, sym, ◌∙◌, subst}
 use Rattle.std.specs.Prelude.{All}
+use Rattle.std.proofs.lemmas.Result.{err_from_is_err_and}
 use Rattle.dd_dir.specs.ForestViews.{walk_view}
 use Rattle.dd_dir.specs.Own.{Listed}
 use Rattle.dd_dir.specs.OwnViews.{IsListed, listed_view}
 use Rattle.dd_dir.proofs.CheckedRecords.{listed_sound}
+use Rattle.dd_dir.proofs.ListedFirst.{walk_lists}
 use Rattle.dd_dir.proofs.ListedImages.{each_listed}
 use Rattle.dd_dir.proofs.own.own_of.Goals as goal
 
@@ -13,3 +15,11 @@ told-requires c =
     let seen : map listed_view c.deref.result.now ≡ e.0 = ap (λ s. map listed_view s) c.deref.ensures.value ∙ e.2 in
     each_listed c.deref.result.now
     (subst (λ (s : List Listed). All IsListed s) (sym seen) (listed_sound (walk_view c.args.forest.now).trees e.0 e.1))
+
+pub returns-in_err-told : goal.returns-in_err-told
+returns-in_err-told c =
+    let e = c.in_ok-images.ensures in
+    let seen : map listed_view c.deref.result.now ≡ e.0 = ap (λ s. map listed_view s) c.deref.ensures.value ∙ e.2 in
+    let p = err_from_is_err_and c.from_residual-in_err-told.result c.from_residual-in_err-told.ensures.1 in
+    rw (p.1, p.2) (walk_lists (walk_view c.args.forest.now) e.0 c.deref.result.now e.1 seen
+    c.in_err-told.ensures.some)

@@ -2,11 +2,8 @@ use Rattle.std.proofs.Common.{◌≡◌, ◌++◌, ℕ, List, [], refl, sym, ap,
 use Rattle.dd_elem.specs.Sink.{Store}
 use Rattle.dd_layout.specs.Layouts.{Layout}
 use Rattle.dd_dir.specs.Directories.{IsDirectory, directory_of}
-use Rattle.dd_dir.specs.Keyed.{IsSent}
 use Rattle.dd_dir.specs.SaysItself.{SaysItself}
 use Rattle.dd_dir.specs.Visits.{Realises}
-use Rattle.dd_dir.proofs.OwnDirectories.{directory_says}
-use Rattle.dd_dir.proofs.Realised.{tree_realised}
 use Rattle.dd_dir.proofs.publishing.publish.Goals as goal
 
 pub returns-in-Ok-clause-bytes : goal.returns-in-Ok-clause-bytes
@@ -26,15 +23,15 @@ pub returns-in-Ok-clause-realised : goal.returns-in-Ok-clause-realised
 returns-in-Ok-clause-realised c =
     let label = c.args.label.now in
     let m = c.args.catalogue.now in
-    let sent = subst (λ (plan : Layout). IsSent plan.label plan.versions) c.in_ok-plan.ensures.planned
-    (c.in-Ok.ensures.sent refl) in
-    subst (λ (bytes : List ℕ). Realises label m bytes) (sym (returns-in-Ok-clause-bytes c)) (tree_realised label m sent)
+    let planned = c.in_ok-plan.ensures.planned in
+    let whole = subst (λ (plan : Layout). Realises plan.label m (directory_of plan.label plan.versions)) planned
+    (c.in-Ok.ensures.realised refl m c.versions_rise.ensures (ap (λ (plan : Layout). plan.versions) planned)) in
+    subst (λ (bytes : List ℕ). Realises label m bytes) (sym (returns-in-Ok-clause-bytes c)) whole
 
 pub returns-in-Ok-clause-own : goal.returns-in-Ok-clause-own
 returns-in-Ok-clause-own c =
-    let label = c.args.label.now in
     let m = c.args.catalogue.now in
-    let sent = subst (λ (plan : Layout). IsSent plan.label plan.versions) c.in_ok-plan.ensures.planned
-    (c.in-Ok.ensures.sent refl) in
-    subst (λ (bytes : List ℕ). SaysItself m bytes) (sym (returns-in-Ok-clause-bytes c))
-    (directory_says label m c.versions_rise.ensures sent)
+    let planned = c.in_ok-plan.ensures.planned in
+    let whole = subst (λ (plan : Layout). SaysItself m (directory_of plan.label plan.versions)) planned
+    (c.in-Ok.ensures.own refl m c.versions_rise.ensures (ap (λ (plan : Layout). plan.versions) planned)) in
+    subst (λ (bytes : List ℕ). SaysItself m bytes) (sym (returns-in-Ok-clause-bytes c)) whole

@@ -1,13 +1,14 @@
 use Rattle.std.proofs.Common.{ℕ, ◌-◌, ◌<◌, ◌^◌, length, map, subst, ◌∙◌, rules}
-use Rattle.std.specs.List.{All, AllByRecursion}
+use Rattle.std.specs.List.{All}
 use Rattle.std.proofs.lemmas.Result.{err_from_is_err_and}
 use Rattle.dd_layout.specs.Cells.{cell_entry}
 use Rattle.dd_layout.specs.Layouts.{IsSound}
 use Rattle.dd_set.proofs.Going.{first_fails, then_sends, sends_same}
-use Rattle.dd_dir.specs.Keyed.{IsKeyed}
 use Rattle.dd_dir.proofs.DirectoryFiles.{directory_is_file}
+use Rattle.dd_dir.proofs.KeyedRecords.{whole_sent}
+use Rattle.dd_dir.proofs.Realised.{realises, says_itself}
 use Rattle.dd_dir.proofs.DirectoryTexts.{directory_length, directory_parts, records_fit, size_told}
-use Rattle.dd_dir.proofs.writing.write_keyed.Goals as goal
+use Rattle.dd_dir.proofs.writing.write_directory.Goals as goal
 
 pub returns-in_err-sent-clause-sends : goal.returns-in_err-sent-clause-sends
 returns-in_err-sent-clause-sends g c =
@@ -107,15 +108,22 @@ returns-clause-file g c = λ ok.
     c.from.ensures below c.first_offset.ensures.id c.first_offset.ensures.uid
     (rw c.versions.ensures at c.send_records.ensures.valid ok)
 
-pub returns-clause-sent : goal.returns-clause-sent
-returns-clause-sent g c = λ ok.
+pub returns-clause-realised : goal.returns-clause-realised
+returns-clause-realised g c = λ ok m up is.
     let plan = c.args.plan.now in
     let below : c.from.result < 2 ^ 32 = search rules in
-    record {
-      file = returns-clause-file g c ok;
-      small = subst (λ (n : ℕ). n < 2 ^ 32) (c.from.ensures ∙ c.size.ensures) below;
-      sound = subst (All (IsSound (length plan.versions))) c.records-records.ensures.all
-          c.records-records.ensures.sound;
-      keyed = subst (AllByRecursion (IsKeyed plan.versions)) c.records-records.ensures.all
-          (rw c.versions.ensures at c.send_records.ensures.keyed ok);
-    }
+    let sent = whole_sent plan.label plan.versions c.label-label.result.now c.records-records.result.now c.from.result
+    c.label-label.ensures c.records-records.ensures.all (c.from.ensures ∙ c.size.ensures) below
+    (returns-clause-file g c ok) c.set_id_is_valid.ensures c.records-records.ensures.sound
+    (rw c.versions.ensures at c.send_records.ensures.keyed ok) in
+    realises plan.label plan.versions m sent up is
+
+pub returns-clause-own : goal.returns-clause-own
+returns-clause-own g c = λ ok m up is.
+    let plan = c.args.plan.now in
+    let below : c.from.result < 2 ^ 32 = search rules in
+    let sent = whole_sent plan.label plan.versions c.label-label.result.now c.records-records.result.now c.from.result
+    c.label-label.ensures c.records-records.ensures.all (c.from.ensures ∙ c.size.ensures) below
+    (returns-clause-file g c ok) c.set_id_is_valid.ensures c.records-records.ensures.sound
+    (rw c.versions.ensures at c.send_records.ensures.keyed ok) in
+    says_itself plan.label plan.versions m sent up is
