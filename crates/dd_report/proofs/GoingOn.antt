@@ -9,14 +9,10 @@ use Rattle.std.proofs.lemmas.Grind.{flat_map-append}
 use Rattle.std.specs.Prelude.{IsErr, OnErr, OnOk}
 use Rattle.std.specs.Borrow.{Bor}
 use Rattle.std.specs.List.{concat, flat_map, repeat}
-use Rattle.dd_report.specs.Telling.{GoesOn, Tells, Way, parts_of, shown, shown_byte, shown_line}
+use Rattle.dd_report.specs.Telling.{Fails, GoesOn, Tells, Way, parts_of, shown, shown_byte, shown_line}
 use Rattle.dd_report.specs.Text.{FailsAmid, Sent, TakesAll}
 use Rattle.dd_report.proofs.TextLemmas.{fails_before, fails_more, sent_last, rest_fails}
 use Rattle.dd_elem.proofs.Known.{appends_none}
-
--- the writer failed in what waited and in this text
-abbrev pub Fails : List ℕ → Way → Way → Type 0
-Fails text old new = FailsAmid old.holds new.holds old.failures new.failures (old.waits ++ text)
 
 -- ---- two texts
 
@@ -106,7 +102,7 @@ one_more t xs i d within =
     ∙ flat_map-append t (take i xs) (get_or xs i d ∷ [])
     ∙ ap (λ (ys : List _). flat_map t (take i xs) ++ ys) (append-nil (t (get_or xs i d)))
 
-parted : {A : Type 0} (t : A → List ℕ) (xs : List A) (i : ℕ) (d : A) → i < length xs
+pub parted : {A B : Type 0} (t : A → List B) (xs : List A) (i : ℕ) (d : A) → i < length xs
     → flat_map t xs ≡ (flat_map t (take i xs) ++ t (get_or xs i d)) ++ flat_map t (drop (i + 1) xs)
 parted t xs i d within =
     ap (λ (ys : List _). flat_map t ys) (sym (take-append-drop i xs))

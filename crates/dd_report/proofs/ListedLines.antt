@@ -11,10 +11,10 @@ use Rattle.dd_dir.specs.ForestViews.{tree_view, trees_view, walk_view}
 use Rattle.dd_dir.specs.Trees.{places}
 use Rattle.dd_report.specs.Listing.{branch_lines, flag_of, label_of, lines_of, listing_text, record_line, spaced}
 use Rattle.dd_report.specs.Listing.{totals_line}
-use Rattle.dd_report.specs.Telling.{GoesOn, Tells, Way, shown_line, way}
+use Rattle.dd_report.specs.Telling.{Fails, GoesOn, Tells, Way, shown_line, way}
 use Rattle.dd_report.specs.Text.{FailsAmid, TakesAll}
 use Rattle.dd_report.proofs.TextLemmas.{on_err}
-use Rattle.dd_report.proofs.GoingOn.{Fails, all_goes, fails_behind, fails_front, fails_of_none, goes_then, none_goes}
+use Rattle.dd_report.proofs.GoingOn.{all_goes, fails_behind, fails_front, fails_of_none, goes_then, none_goes}
 use Rattle.dd_report.proofs.GoingOn.{one_more, tells_err, tells_then}
 
 -- ---- lines

@@ -1,32 +1,35 @@
--- What a check tells of trees, one behind the other.
+-- What a check tells of records, one after the other, and of trees of them.
 use Rattle.std.proofs.Common.{◌≡◌, ◌∙◌, ℕ, zero, suc, Bool, true, false, List, [], ◌∷◌, ◌++◌, ◌+◌, ◌<◌, ◌≤◌}
 use Rattle.std.proofs.Common.{Option, None, Some}
-use Rattle.std.proofs.Common.{Result, Ok, Err, length, take, get_or, refl, sym, ap}
+use Rattle.std.proofs.Common.{Result, Ok, Err, length, take, drop, get_or, refl, sym, ap}
 use Rattle.std.proofs.Common.{subst, append_assoc, append-nil, arith, rules}
 use Rattle.std.proofs.Common.{inl, inr}
-use Rattle.std.specs.Prelude.{◌⊎◌, ◌&&◌, ◌||◌, ◌==◌, not, nat_lt, All, IfSome, IsSome}
-use Rattle.std.specs.Io.KnownBytes.{Consumes, IsAtEnd}
-use Rattle.std.proofs.lemmas.List.{take_all, take_more}
-use Rattle.dd_elem.specs.Device.{HasFailed}
+use Rattle.std.specs.Prelude.{◌≢◌, ◌&&◌, ◌||◌, ◌==◌, not, nat_lt, All, IfOk, IfSome, IsSome}
+use Rattle.std.specs.Io.KnownBytes.{Consumes}
+use Rattle.std.specs.List.{concat, flat_map}
+use Rattle.std.proofs.lemmas.List.{take_all}
+use Rattle.dd_elem.specs.Device.{Gives}
+use Rattle.dd_elem.specs.FileIdForm.{IsFileId}
 use Rattle.dd_keys.specs.Fitting.{is_empty}
 use Rattle.dd_dir.specs.declared.forest.Tree.{Tree, out-Tree, the_lemmas}
 use Rattle.dd_dir.specs.ForestViews.{tree_view, trees_view, walk_view}
-use Rattle.dd_dir.specs.Trees.{Node, Walk}
+use Rattle.dd_dir.specs.Own.{digest_in}
+use Rattle.dd_dir.specs.Trees.{Node, Trees, Walk}
 use Rattle.dd_dir.specs.declared.forest.Forest.{Forest}
-use Rattle.dd_report.specs.Checking.{Checks, ChecksAll, FindsWhole, TellsBranch, TellsRecord, TellsTrees}
-use Rattle.dd_report.specs.Checking.{end_line, is_right}
+use Rattle.dd_files.specs.Files.{Held}
+use Rattle.dd_files.specs.Paths.{IsPathIn, id_path}
+use Rattle.dd_files.proofs.FilePaths.{id_ascii}
+use Rattle.dd_report.specs.Checking.{Checks, ChecksAll, FindsFile, FindsRead, TellsAll, TellsFirst}
+use Rattle.dd_report.specs.Checking.{TellsSome, TellsWalk, end_line, finding_line, finding_parts, is_right}
+use Rattle.dd_report.specs.Checking.{most_read, nodes_of}
 use Rattle.dd_report.specs.declared.checking.CheckFault.{CheckFault}
 use Rattle.dd_report.specs.declared.checking.CheckFault.TheVariants.{Memory, Unsent}
 use Rattle.dd_report.specs.declared.findings.Finding.{Finding}
-use Rattle.dd_report.specs.declared.findings.Finding.TheVariants.{Missing, Unreadable}
-use Rattle.dd_files.specs.Files.{Held}
 use Rattle.dd_report.specs.Finding.{IsFound, file_in}
-use Rattle.dd_files.specs.Paths.{IsPathIn, id_path}
-use Rattle.dd_files.proofs.FilePaths.{id_ascii}
-use Rattle.dd_dir.specs.Own.{digest_in}
-use Rattle.dd_elem.specs.FileIdForm.{IsFileId}
-use Rattle.dd_report.specs.Telling.{GoesOn, Way}
-use Rattle.dd_report.proofs.GoingOn.{goes_none, goes_then}
+use Rattle.dd_report.specs.Telling.{Fails, GoesOn, Way, shown}
+use Rattle.dd_report.specs.Text.{FailsAmid, TakesAll}
+use Rattle.dd_report.proofs.GoingOn.{all_goes, fails_behind, fails_of_none, goes_none, goes_then, none_goes}
+use Rattle.dd_report.proofs.GoingOn.{one_more, parted}
 
 -- ---- nothing is told only where nothing is found
 
@@ -34,154 +37,17 @@ either : (one two : List ℕ) → not (is_empty (one ++ two)) ≡ (not (is_empty
 either [] two = refl
 either (byte ∷ one) two = refl
 
-pub found_in_both : (one two : List ℕ) (here below found : Bool) → here ≡ not (is_empty one)
+found_in_both : (one two : List ℕ) (here below found : Bool) → here ≡ not (is_empty one)
     → below ≡ not (is_empty two) → found ≡ (here || below) → found ≡ not (is_empty (one ++ two))
 found_in_both one two here below found first second both =
     both ∙ ap (λ (b : Bool). b || below) first ∙ ap (λ (b : Bool). not (is_empty one) || b) second
     ∙ sym (either one two)
 
-or_comm : (a b : Bool) → (a || b) ≡ (b || a)
+pub or_comm : (a b : Bool) → (a || b) ≡ (b || a)
 or_comm true true = refl
 or_comm true false = refl
 or_comm false true = refl
 or_comm false false = refl
-
--- ---- the file of a record
-
--- a reader that gave all that it told and came to the end
-gave_all : (old new : Option (List ℕ)) (given : List ℕ) → Consumes old new given → IsAtEnd new → IsSome old
-    → old ≡ Some given
-gave_all None new given known ended some = absurd (cc)
-gave_all (Some xs) None given known ended some = absurd known
-gave_all (Some xs) (Some ys) given known ended some =
-    ap (λ (zs : List ℕ). Some zs) (known ∙ ap (λ (zs : List ℕ). given ++ zs) ended ∙ append-nil given)
-
-stored_given : (held : Option Held) (path given : List ℕ) (old new : Option (List ℕ))
-    → IfSome held (λ files. IsSome (files.bytes_at path) × (old ≡ files.bytes_at path))
-    → Consumes old new given → IsAtEnd new → IfSome held (λ files. files.bytes_at path ≡ Some given)
-stored_given None path given old new left known ended = tt
-stored_given (Some files) path given old new left known ended =
-    sym left.1 ∙ gave_all old new given known ended (subst (λ (o : Option (List ℕ)). IsSome o) (sym left.1) left.0)
-
-pub read_found : (held : Option Held) (folder opened path file given : List ℕ) (node : Node) (finding : Option Finding)
-    (limit : ℕ) (old new : Option (List ℕ)) (failures after : ℕ) → file ≡ file_in node
-    → IsFileId (file_in node) → opened ≡ path
-    → (All (λ (byte : ℕ). byte < 128) file → IsPathIn folder (id_path file) path)
-    → IfSome held (λ files. IsSome (files.bytes_at opened) × (old ≡ files.bytes_at opened)) → Consumes old new given
-    → IsFound finding (digest_in node.set) limit given new failures after
-    → (finding ≡ Some Missing) ⊎ ((finding ≡ Some Unreadable) ⊎ FindsWhole held folder node finding)
-read_found held folder opened path file given node finding limit old new failures after is id at place left known
-    (inl read) =
-    inr (inr (record {
-      path = path;
-      place = subst (λ (name : List ℕ). IsPathIn folder (id_path name) path) is
-          (place (subst (λ (name : List ℕ). All (λ (byte : ℕ). byte < 128) name) (sym is)
-          (id_ascii (file_in node) id)));
-      bytes = given;
-      stored = subst (λ (xs : List ℕ). IfSome held (λ files. files.bytes_at xs ≡ Some given)) at
-          (stored_given held opened given old new left known read.1.1);
-      found = read.0;
-    }))
-read_found held folder opened path file given node finding limit old new failures after is id at place left known
-    (inr amiss) =
-    inr (inl amiss.0)
-
--- ---- trees
-
-below_is : (t : Tree) → (tree_view t).below ≡ trees_view (out-Tree t).below.items
-below_is t = search (rules, the_lemmas)
-
--- one tree more
-tells_more : (held : Option Held) (folder : List ℕ) (trees : List Tree) (t : Tree) (one two : List ℕ)
-    → TellsTrees held folder (trees_view trees) one → TellsBranch held folder (tree_view t) two
-    → TellsTrees held folder (trees_view (trees ++ t ∷ [])) (one ++ two)
-tells_more held folder [] t one two tells branch = (
-  branch.0,
-  branch.1,
-  [],
-  ap (λ (xs : List ℕ). xs ++ two) tells ∙ branch.2 ∙ sym (append-nil (branch.0 ++ branch.1)),
-  branch.3,
-  branch.4,
-  refl,
-)
-tells_more held folder (s ∷ trees) t one two tells branch = (
-  tells.0,
-  tells.1,
-  tells.2 ++ two,
-  ap (λ (xs : List ℕ). xs ++ two) tells.3 ∙ append_assoc (tells.0 ++ tells.1) tells.2 two,
-  tells.4,
-  tells.5,
-  tells_more held folder trees t tells.2 two tells.6 branch,
-)
-
-pub none_told : (held : Option Held) (folder : List ℕ) (w : Way)
-    → Checks (TellsTrees held folder (trees_view [])) (Ok false) w w
-none_told held folder w = ([], refl, refl, goes_none w)
-
-pub more_told : (held mid : Option Held) (folder : List ℕ) (trees : List Tree) (i : ℕ) (t : Tree)
-    (one found new : Bool) (a b c : Way) → i < length trees → t ≡ get_or trees i t → mid ≡ held
-    → new ≡ (one || found) → Checks (TellsTrees held folder (trees_view (take i trees))) (Ok found) a b
-    → Checks (TellsBranch mid folder (tree_view t)) (Ok one) b c
-    → Checks (TellsTrees held folder (trees_view (take (i + 1) trees))) (Ok new) a c
-more_told held mid folder trees i t one found new a b c within is same both so_far next =
-    let text = so_far.0 ++ next.0 in
-    let branch : TellsBranch held folder (tree_view t) next.0 =
-    subst (λ (h : Option Held). TellsBranch h folder (tree_view t) next.0) same next.1 in
-    let all : take (i + 1) trees ≡ take i trees ++ t ∷ [] =
-    take_more trees i t within ∙ ap (λ (x : Tree). take i trees ++ x ∷ []) (sym is) in (
-      text,
-      subst (λ (ts : List Tree). TellsTrees held folder (trees_view ts) text) (sym all)
-          (tells_more held folder (take i trees) t so_far.0 next.0 so_far.1 branch),
-      found_in_both so_far.0 next.0 found one new so_far.2 next.2 (both ∙ or_comm one found),
-      goes_then so_far.0 next.0 a b c so_far.3 next.3,
-    )
-
-pub all_told : (held : Option Held) (folder : List ℕ) (trees : List Tree) (i : ℕ) (found : Bool) (a b : Way)
-    → length trees ≤ i → Checks (TellsTrees held folder (trees_view (take i trees))) (Ok found) a b
-    → Checks (TellsTrees held folder (trees_view trees)) (Ok found) a b
-all_told held folder trees i found a b past so_far =
-    subst (λ (ts : List Tree). Checks (TellsTrees held folder (trees_view ts)) (Ok found) a b) (take_all i trees past)
-    so_far
-
--- a record, and those below it
-pub branch_told : (held mid : Option Held) (folder : List ℕ) (t : Tree) (trees : List Tree) (here below found : Bool)
-    (a b c : Way) → mid ≡ held → trees ≡ (out-Tree t).below.items → found ≡ (here || below)
-    → Checks (TellsRecord held folder (tree_view t).node) (Ok here) a b
-    → Checks (TellsTrees mid folder (trees_view trees)) (Ok below) b c
-    → Checks (TellsBranch held folder (tree_view t)) (Ok found) a c
-branch_told held mid folder t trees here below found a b c same is both first rest =
-    let lower : TellsTrees held folder (tree_view t).below rest.0 =
-    subst (λ (h : Option Held). TellsTrees h folder (tree_view t).below rest.0) same
-    (subst (λ ts. TellsTrees mid folder ts rest.0) (ap trees_view is ∙ sym (below_is t)) rest.1) in (
-      first.0 ++ rest.0,
-      (first.0, rest.0, refl, first.1, lower),
-      found_in_both first.0 rest.0 here below found first.2 rest.2 both,
-      goes_then first.0 rest.0 a b c first.3 rest.3,
-    )
-
--- ---- answers that end a check
-
--- the same fault, where the writer had not failed before
-pub ends_told : (Told One : List ℕ → Type 0) (r one : Result Bool CheckFault) (fault : CheckFault) (text : List ℕ)
-    (a b c : Way) → r ≡ Err fault → one ≡ Err fault → GoesOn text a b → Checks One one b c → Checks Told r a c
-ends_told Told One r one Memory text a b c is was goes checks =
-    let rest : (more : List ℕ) × GoesOn more b c =
-    subst (λ (x : Result Bool CheckFault). Checks One x b c) was checks in
-    rw is (text ++ rest.0, goes_then text rest.0 a b c goes rest.1)
-ends_told Told One r one Unsent text a b c is was goes checks =
-    let failed : HasFailed b.failures c.failures =
-    subst (λ (x : Result Bool CheckFault). Checks One x b c) was checks in
-    rw is (subst (λ (n : ℕ). HasFailed n c.failures) goes.took.0 failed)
-
--- ---- a directory
-
--- a fault in its trees is one of all
-pub all_end : (Told : List ℕ → Type 0) (walk : Walk) (r one : Result Bool CheckFault) (fault : CheckFault) (a b : Way)
-    → r ≡ Err fault → one ≡ Err fault → Checks Told one a b → ChecksAll Told walk r a b
-all_end Told walk r one Memory a b is was checks =
-    rw is (subst (λ (x : Result Bool CheckFault). Checks Told x a b) was checks)
-all_end Told walk r one Unsent a b is was checks =
-    rw is (subst (λ (x : Result Bool CheckFault). Checks Told x a b) was checks)
 
 both_not : (a b : Bool) → (not a || not b) ≡ not (a && b)
 both_not true b = refl
@@ -197,17 +63,371 @@ pub some_unreached : (n : ℕ) → nat_lt 0 n ≡ not (n == 0)
 some_unreached zero = refl
 some_unreached (suc n) = search (arith)
 
--- behind the findings the end
-pub all_checked : (held : Option Held) (folder : List ℕ) (forest : Forest) (trees : List Tree) (found some all : Bool)
-    (a b c : Way) → trees ≡ forest.trees.items
-    → Checks (TellsTrees held folder (trees_view trees)) (Ok found) a b
-    → ((findings : List ℕ) → found ≡ not (is_empty findings) → GoesOn (end_line findings (walk_view forest)) b c)
-    → some ≡ not (forest.unreached == 0) → all ≡ (found || some)
-    → ChecksAll (TellsTrees held folder (walk_view forest).trees) (walk_view forest) (Ok all) a c
-all_checked held folder forest trees found some all a b c is checked ends two both =
-    let walk = walk_view forest in (
-      checked.0,
-      subst (λ (ts : List Tree). TellsTrees held folder (trees_view ts) checked.0) is checked.1,
-      right checked.0 walk found some all checked.2 two both,
-      goes_then checked.0 (end_line checked.0 walk) a b c checked.3 (ends checked.0 checked.2),
-    )
+-- a line of a finding is not empty
+not_empty : (text : List ℕ) → true ≡ not (is_empty (text ++ 10 ∷ []))
+not_empty [] = refl
+not_empty (byte ∷ text) = refl
+
+some_line : (node : Node) (finding : Finding) → true ≡ not (is_empty (finding_line node (Some finding)))
+some_line node finding = not_empty (shown (concat (finding_parts node finding)))
+
+-- ---- the records of trees
+
+below_is : (t : Tree) → (tree_view t).below ≡ trees_view (out-Tree t).below.items
+below_is t = search (rules, the_lemmas)
+
+abbrev pub tree_nodes : Tree → List Node
+tree_nodes t = (tree_view t).node ∷ nodes_of (tree_view t).below
+
+nodes_each : (trees : List Tree) → nodes_of (trees_view trees) ≡ flat_map tree_nodes trees
+nodes_each [] = refl
+nodes_each (t ∷ trees) = ap (λ (xs : List Node). tree_nodes t ++ xs) (nodes_each trees)
+
+-- those of the first trees and of one more
+one_tree_more : (trees : List Tree) (i : ℕ) (t : Tree) → i < length trees → t ≡ get_or trees i t
+    → nodes_of (trees_view (take (i + 1) trees)) ≡ nodes_of (trees_view (take i trees)) ++ tree_nodes t
+one_tree_more trees i t within is =
+    nodes_each (take (i + 1) trees) ∙ one_more tree_nodes trees i t within
+    ∙ ap (λ (xs : List Node). xs ++ tree_nodes (get_or trees i t)) (sym (nodes_each (take i trees)))
+    ∙ ap (λ (x : Tree). nodes_of (trees_view (take i trees)) ++ tree_nodes x) (sym is)
+
+-- and of those behind
+trees_parted : (trees : List Tree) (i : ℕ) (t : Tree) → i < length trees → t ≡ get_or trees i t
+    → nodes_of (trees_view trees)
+    ≡ (nodes_of (trees_view (take i trees)) ++ tree_nodes t) ++ flat_map tree_nodes (drop (i + 1) trees)
+trees_parted trees i t within is =
+    let later = flat_map tree_nodes (drop (i + 1) trees) in
+    nodes_each trees ∙ parted tree_nodes trees i t within
+    ∙ ap (λ (xs : List Node). (xs ++ tree_nodes (get_or trees i t)) ++ later) (sym (nodes_each (take i trees)))
+    ∙ ap (λ (x : Tree). (nodes_of (trees_view (take i trees)) ++ tree_nodes x) ++ later) (sym is)
+
+-- ---- the file of a record
+
+-- what a reader gave and what it has left are the bytes that it came with
+stored_given : (held : Option Held) (path given : List ℕ) (old new : Option (List ℕ))
+    → IfSome held (λ files. IsSome (files.bytes_at path) × (old ≡ files.bytes_at path)) → Consumes old new given
+    → IfSome held (λ files. IsSome (files.bytes_at path) × Consumes (files.bytes_at path) new given)
+stored_given None path given old new there known = tt
+stored_given (Some files) path given old new there known =
+    (there.0, subst (λ (o : Option (List ℕ)). Consumes o new given) there.1 known)
+
+module _ {R : Type 0} (has_given : R → List ℕ → Type 0) (remaining : R → Option (List ℕ)) (failures : R → ℕ)
+    (held : Option Held) (folder : List ℕ) where
+  pub read_found : (opened path file given : List ℕ) (node : Node) (finding : Option Finding) (fresh left : R)
+      → file ≡ file_in node → IsFileId (file_in node) → opened ≡ path
+      → (All (λ (byte : ℕ). byte < 128) file → IsPathIn folder (id_path file) path)
+      → IfSome held (λ files. IsSome (files.bytes_at opened) × (remaining fresh ≡ files.bytes_at opened))
+      → has_given fresh [] → failures fresh ≡ 0 → Gives has_given fresh left given
+      → Consumes (remaining fresh) (remaining left) given
+      → IsFound finding (digest_in node.set) most_read given (remaining left) (failures fresh) (failures left)
+      → FindsRead has_given remaining failures held folder node finding
+  read_found opened path file given node finding fresh left is id at place there new none gives known found = record {
+    path = path;
+    place = subst (λ (name : List ℕ). IsPathIn folder (id_path name) path) is
+        (place (subst (λ (name : List ℕ). All (λ (byte : ℕ). byte < 128) name) (sym is)
+        (id_ascii (file_in node) id)));
+    reader = left;
+    given = given;
+    gave = gives.then [] new;
+    stored = subst (λ (xs : List ℕ). IfSome held (λ files.
+        IsSome (files.bytes_at xs) × Consumes (files.bytes_at xs) (remaining left) given)) at
+        (stored_given held opened given (remaining fresh) (remaining left) there known);
+    found = subst (λ (n : ℕ). IsFound finding (digest_in node.set) most_read given (remaining left) n
+        (failures left)) none found;
+  }
+
+  -- ---- records
+
+  abbrev Told : List Node → ℕ → ℕ → List ℕ → Type 0
+  Told = TellsAll has_given remaining failures held folder
+
+  abbrev First : List Node → ℕ → ℕ → List ℕ → Type 0
+  First = TellsFirst has_given remaining failures held folder
+
+  abbrev Checked : List Node → Result Bool CheckFault → ℕ → ℕ → Way → Way → Type 0
+  Checked = Checks has_given remaining failures held folder
+
+  -- those of both lists
+  both_told : (xs ys : List Node) (f g h : ℕ) (one two : List ℕ) → Told xs f g one → Told ys g h two
+      → Told (xs ++ ys) f h (one ++ two)
+  both_told [] ys f g h one two first second =
+      subst (λ (n : ℕ). Told ys n h (one ++ two)) first.0
+      (subst (λ (text : List ℕ). Told ys g h (text ++ two)) (sym first.1) second)
+  both_told (x ∷ xs) ys f g h one two first second = (
+    first.0,
+    first.1 ++ two,
+    first.2,
+    ap (λ (text : List ℕ). text ++ two) first.3 ∙ append_assoc first.0 first.1 two,
+    first.4,
+    both_told xs ys first.2 g h first.1 two first.5 second,
+  )
+
+  -- the first of both lists
+  first_behind : (xs ys : List Node) (f g h : ℕ) (one two : List ℕ) → Told xs f g one → First ys g h two
+      → First (xs ++ ys) f h (one ++ two)
+  first_behind xs ys f g h one two told first = record {
+    first = xs ++ first.first;
+    others = first.others;
+    parts = ap (λ (zs : List Node). xs ++ zs) first.parts ∙ sym (append_assoc xs first.first first.others);
+    told = both_told xs first.first f g h one two told first.told;
+  }
+
+  first_front : (xs ys : List Node) (f g : ℕ) (text : List ℕ) → First xs f g text → First (xs ++ ys) f g text
+  first_front xs ys f g text first = record {
+    first = first.first;
+    others = first.others ++ ys;
+    parts = ap (λ (zs : List Node). zs ++ ys) first.parts ∙ append_assoc first.first first.others ys;
+    told = first.told;
+  }
+
+  pub none_told : (n : ℕ) (w : Way) → Checked [] (Ok false) n n w w
+  none_told n w = ([], (refl, refl), refl, goes_none w)
+
+  -- a record whose file is not asked for yet
+  pub record_cut : (node : Node) (f g : ℕ) (a : Way) → g ≡ f → Checked (node ∷ []) (Err Memory) f g a a
+  record_cut node f g a same =
+      ([], record { first = []; others = node ∷ []; parts = refl; told = (same, refl) }, goes_none a)
+
+  one_told : (node : Node) (f g : ℕ) (finding : Option Finding)
+      → FindsFile has_given remaining failures held folder node f g finding
+      → Told (node ∷ []) f g (finding_line node finding)
+  one_told node f g finding finds = (
+    finding_line node finding,
+    [],
+    g,
+    sym (append-nil (finding_line node finding)),
+    record { finding = finding; finds = finds; line = refl },
+    (refl, refl),
+  )
+
+  pub record_quiet : (node : Node) (f g : ℕ) (finding : Option Finding) (w : Way) → finding ≡ None
+      → FindsFile has_given remaining failures held folder node f g finding → Checked (node ∷ []) (Ok false) f g w w
+  record_quiet node f g finding w is finds = (
+    [],
+    subst (λ (text : List ℕ). Told (node ∷ []) f g text) (ap (finding_line node) is) (one_told node f g finding finds),
+    refl,
+    goes_none w,
+  )
+
+  pub record_told : (node : Node) (f g : ℕ) (finding : Finding) (found : Option Finding) (a b : Way)
+      → found ≡ Some finding → FindsFile has_given remaining failures held folder node f g found
+      → GoesOn (finding_line node (Some finding)) a b → Checked (node ∷ []) (Ok true) f g a b
+  record_told node f g finding found a b is finds goes = (
+    finding_line node (Some finding),
+    subst (λ (o : Option Finding). Told (node ∷ []) f g (finding_line node o)) is (one_told node f g found finds),
+    some_line node finding,
+    goes,
+  )
+
+  pub record_unsent : (node : Node) (f g : ℕ) (finding : Finding) (found : Option Finding) (a b : Way)
+      → found ≡ Some finding → FindsFile has_given remaining failures held folder node f g found
+      → Fails (finding_line node (Some finding)) a b → Checked (node ∷ []) (Err Unsent) f g a b
+  record_unsent node f g finding found a b is finds failed = (
+    finding_line node (Some finding),
+    record {
+      first = node ∷ [];
+      others = [];
+      parts = refl;
+      told = subst (λ (o : Option Finding). Told (node ∷ []) f g (finding_line node o)) is
+          (one_told node f g found finds);
+    },
+    failed,
+  )
+
+  -- what is told of more records
+  then_told : (xs ys : List Node) (one two found : Bool) (f g h : ℕ) (a b c : Way) → found ≡ (one || two)
+      → Checked xs (Ok one) f g a b → Checked ys (Ok two) g h b c → Checked (xs ++ ys) (Ok found) f h a c
+  then_told xs ys one two found f g h a b c both first second = (
+    first.0 ++ second.0,
+    both_told xs ys f g h first.0 second.0 first.1 second.1,
+    found_in_both first.0 second.0 one two found first.2 second.2 both,
+    goes_then first.0 second.0 a b c first.3 second.3,
+  )
+
+  -- a fault in the next of them ends the check
+  ends_told : (xs ys zs nodes : List Node) (fault : CheckFault) (found : Bool) (f g h : ℕ) (a b c : Way)
+      → nodes ≡ (xs ++ ys) ++ zs → Checked xs (Ok found) f g a b → Checked ys (Err fault) g h b c
+      → Checked nodes (Err fault) f h a c
+  ends_told xs ys zs nodes Memory found f g h a b c are first next =
+      let all : First ((xs ++ ys) ++ zs) f h (first.0 ++ next.0) =
+      first_front (xs ++ ys) zs f h (first.0 ++ next.0)
+      (first_behind xs ys f g h first.0 next.0 first.1 next.1) in (
+        first.0 ++ next.0,
+        subst (λ (ns : List Node). First ns f h (first.0 ++ next.0)) (sym are) all,
+        goes_then first.0 next.0 a b c first.3 next.2,
+      )
+  ends_told xs ys zs nodes Unsent found f g h a b c are first next =
+      let all : First ((xs ++ ys) ++ zs) f h (first.0 ++ next.0) =
+      first_front (xs ++ ys) zs f h (first.0 ++ next.0)
+      (first_behind xs ys f g h first.0 next.0 first.1 next.1) in (
+        first.0 ++ next.0,
+        subst (λ (ns : List Node). First ns f h (first.0 ++ next.0)) (sym are) all,
+        fails_behind first.0 next.0 a b c first.3 next.2,
+      )
+
+  -- files that hold the same
+  over : (mid : Option Held) (nodes : List Node) (r : Result Bool CheckFault) (f g : ℕ) (a b : Way) → mid ≡ held
+      → Checks has_given remaining failures mid folder nodes r f g a b → Checked nodes r f g a b
+  over mid nodes r f g a b same checks =
+      subst (λ (h : Option Held). Checks has_given remaining failures h folder nodes r f g a b) same checks
+
+  -- ---- trees
+
+  pub more_told : (mid : Option Held) (trees : List Tree) (i : ℕ) (t : Tree) (one found new : Bool) (f g h : ℕ)
+      (a b c : Way) → i < length trees → t ≡ get_or trees i t → mid ≡ held → new ≡ (one || found)
+      → Checked (nodes_of (trees_view (take i trees))) (Ok found) f g a b
+      → Checks has_given remaining failures mid folder (tree_nodes t) (Ok one) g h b c
+      → Checked (nodes_of (trees_view (take (i + 1) trees))) (Ok new) f h a c
+  more_told mid trees i t one found new f g h a b c within is same both so_far next =
+      subst (λ (ns : List Node). Checked ns (Ok new) f h a c) (sym (one_tree_more trees i t within is))
+      (then_told (nodes_of (trees_view (take i trees))) (tree_nodes t) found one new f g h a b c
+      (both ∙ or_comm one found) so_far (over mid (tree_nodes t) (Ok one) g h b c same next))
+
+  pub all_told : (trees : List Tree) (i : ℕ) (found : Bool) (f g : ℕ) (a b : Way) → length trees ≤ i
+      → Checked (nodes_of (trees_view (take i trees))) (Ok found) f g a b
+      → Checked (nodes_of (trees_view trees)) (Ok found) f g a b
+  all_told trees i found f g a b past so_far =
+      subst (λ (ts : List Tree). Checked (nodes_of (trees_view ts)) (Ok found) f g a b) (take_all i trees past) so_far
+
+  pub trees_end : (mid : Option Held) (trees : List Tree) (i : ℕ) (t : Tree) (r one : Result Bool CheckFault)
+      (fault : CheckFault) (found : Bool) (f g h : ℕ) (a b c : Way) → i < length trees → t ≡ get_or trees i t
+      → mid ≡ held → r ≡ Err fault → one ≡ Err fault
+      → Checked (nodes_of (trees_view (take i trees))) (Ok found) f g a b
+      → Checks has_given remaining failures mid folder (tree_nodes t) one g h b c
+      → Checked (nodes_of (trees_view trees)) r f h a c
+  trees_end mid trees i t r one fault found f g h a b c within is same ends was so_far next =
+      rw ends (ends_told (nodes_of (trees_view (take i trees))) (tree_nodes t)
+      (flat_map tree_nodes (drop (i + 1) trees)) (nodes_of (trees_view trees)) fault found f g h a b c
+      (trees_parted trees i t within is) so_far
+      (subst (λ (x : Result Bool CheckFault). Checked (tree_nodes t) x g h b c) was
+      (over mid (tree_nodes t) one g h b c same next)))
+
+  -- a record, and those below it
+  pub branch_told : (mid : Option Held) (t : Tree) (trees : List Tree) (here below found : Bool) (f g h : ℕ)
+      (a b c : Way) → mid ≡ held → trees ≡ (out-Tree t).below.items → found ≡ (here || below)
+      → Checked ((tree_view t).node ∷ []) (Ok here) f g a b
+      → Checks has_given remaining failures mid folder (nodes_of (trees_view trees)) (Ok below) g h b c
+      → Checked (tree_nodes t) (Ok found) f h a c
+  branch_told mid t trees here below found f g h a b c same is both first rest =
+      then_told ((tree_view t).node ∷ []) (nodes_of (tree_view t).below) here below found f g h a b c both first
+      (subst (λ (ts : Trees). Checked (nodes_of ts) (Ok below) g h b c) (ap trees_view is ∙ sym (below_is t))
+      (over mid (nodes_of (trees_view trees)) (Ok below) g h b c same rest))
+
+  pub branch_ends : (mid : Option Held) (t : Tree) (trees : List Tree) (r one : Result Bool CheckFault)
+      (fault : CheckFault) (here : Bool) (f g h : ℕ) (a b c : Way) → mid ≡ held → trees ≡ (out-Tree t).below.items
+      → r ≡ Err fault → one ≡ Err fault → Checked ((tree_view t).node ∷ []) (Ok here) f g a b
+      → Checks has_given remaining failures mid folder (nodes_of (trees_view trees)) one g h b c
+      → Checked (tree_nodes t) r f h a c
+  branch_ends mid t trees r one fault here f g h a b c same is ends was first rest =
+      rw ends (ends_told ((tree_view t).node ∷ []) (nodes_of (tree_view t).below) [] (tree_nodes t) fault here f g h
+      a b c (sym (append-nil (tree_nodes t))) first
+      (subst (λ (ts : Trees). Checked (nodes_of ts) (Err fault) g h b c) (ap trees_view is ∙ sym (below_is t))
+      (subst (λ (x : Result Bool CheckFault). Checked (nodes_of (trees_view trees)) x g h b c) was
+      (over mid (nodes_of (trees_view trees)) one g h b c same rest))))
+
+  pub record_ends : (t : Tree) (r one : Result Bool CheckFault) (fault : CheckFault) (f g : ℕ) (a b : Way)
+      → r ≡ Err fault → one ≡ Err fault → Checked ((tree_view t).node ∷ []) one f g a b
+      → Checked (tree_nodes t) r f g a b
+  record_ends t r one fault f g a b ends was first =
+      rw ends (ends_told [] ((tree_view t).node ∷ []) (nodes_of (tree_view t).below) (tree_nodes t) fault false f f g
+      a a b refl (none_told f a)
+      (subst (λ (x : Result Bool CheckFault). Checked ((tree_view t).node ∷ []) x f g a b) was first))
+
+  -- ---- a directory
+
+  abbrev CheckedAll : Walk → Result Bool CheckFault → ℕ → ℕ → Way → Way → Type 0
+  CheckedAll = ChecksAll has_given remaining failures held folder
+
+  -- a fault in its trees is one of all
+  pub walk_ends : (forest : Forest) (trees : List Tree) (r one : Result Bool CheckFault) (fault : CheckFault) (f g : ℕ)
+      (a b : Way) → trees ≡ forest.trees.items → r ≡ Err fault → one ≡ Err fault
+      → Checked (nodes_of (trees_view trees)) one f g a b → CheckedAll (walk_view forest) r f g a b
+  walk_ends forest trees r one Memory f g a b is ends was checks =
+      let same : Checked (nodes_of (trees_view forest.trees.items)) (Err Memory) f g a b =
+      subst (λ (ts : List Tree). Checked (nodes_of (trees_view ts)) (Err Memory) f g a b) is
+      (subst (λ (x : Result Bool CheckFault). Checked (nodes_of (trees_view trees)) x f g a b) was checks) in
+      rw ends same
+  walk_ends forest trees r one Unsent f g a b is ends was checks =
+      let same : Checked (nodes_of (trees_view forest.trees.items)) (Err Unsent) f g a b =
+      subst (λ (ts : List Tree). Checked (nodes_of (trees_view ts)) (Err Unsent) f g a b) is
+      (subst (λ (x : Result Bool CheckFault). Checked (nodes_of (trees_view trees)) x f g a b) was checks) in
+      rw ends (same.0, inl same.1, same.2)
+
+  abbrev Walked : Forest → Bool → ℕ → ℕ → List ℕ → Type 0
+  Walked forest = TellsWalk has_given remaining failures held folder (walk_view forest)
+
+  walk_told : (forest : Forest) (trees : List Tree) (found some all : Bool) (f g : ℕ) (text : List ℕ)
+      → trees ≡ forest.trees.items → Told (nodes_of (trees_view trees)) f g text → found ≡ not (is_empty text)
+      → some ≡ not (forest.unreached == 0) → all ≡ (found || some)
+      → Walked forest all f g (text ++ end_line text (walk_view forest))
+  walk_told forest trees found some all f g text is told one two both = (
+    text,
+    subst (λ (ts : List Tree). Told (nodes_of (trees_view ts)) f g text) is told,
+    right text (walk_view forest) found some all one two both,
+    refl,
+  )
+
+  -- behind the findings the end
+  pub all_checked : (forest : Forest) (trees : List Tree) (found some all : Bool) (f g : ℕ) (a b c : Way)
+      → trees ≡ forest.trees.items → Checked (nodes_of (trees_view trees)) (Ok found) f g a b
+      → ((findings : List ℕ) → found ≡ not (is_empty findings) → GoesOn (end_line findings (walk_view forest)) b c)
+      → some ≡ not (forest.unreached == 0) → all ≡ (found || some)
+      → CheckedAll (walk_view forest) (Ok all) f g a c
+  all_checked forest trees found some all f g a b c is checked ends two both =
+      let end = end_line checked.0 (walk_view forest) in (
+        checked.0 ++ end,
+        walk_told forest trees found some all f g checked.0 is checked.1 checked.2 two both,
+        goes_then checked.0 end a b c checked.3 (ends checked.0 checked.2),
+      )
+
+  -- the writer failed there
+  pub end_unsent : (forest : Forest) (trees : List Tree) (found : Bool) (f g : ℕ) (a b c : Way)
+      → trees ≡ forest.trees.items → Checked (nodes_of (trees_view trees)) (Ok found) f g a b
+      → ((findings : List ℕ) → found ≡ not (is_empty findings) → Fails (end_line findings (walk_view forest)) b c)
+      → CheckedAll (walk_view forest) (Err Unsent) f g a c
+  end_unsent forest trees found f g a b c is checked failed =
+      let some = not (forest.unreached == 0) in
+      let all = found || some in
+      let end = end_line checked.0 (walk_view forest) in (
+        checked.0 ++ end,
+        inr (all, walk_told forest trees found some all f g checked.0 is checked.1 checked.2 refl refl),
+        fails_behind checked.0 end a b c checked.3 (failed checked.0 checked.2),
+      )
+
+  -- ---- all that waits then goes, or the writer fails in it
+
+  pub walk_went : (walk : Walk) (r : Result Bool CheckFault) (f g : ℕ) (a b : Way) (c : Option (List ℕ)) (h : ℕ)
+      → a.waits ≡ [] → CheckedAll walk r f g a b → TakesAll b.holds c b.failures h b.waits
+      → IfOk r (λ found. (text : List ℕ) × TellsWalk has_given remaining failures held folder walk found f g text
+      × TakesAll a.holds c a.failures h text)
+  walk_went walk (Ok found) f g a b c h none checks took =
+      (checks.0, checks.1, all_goes checks.0 a b c h none checks.2 took)
+  walk_went walk (Err fault) f g a b c h none checks took = tt
+
+  pub walk_cut : (walk : Walk) (r : Result Bool CheckFault) (f g : ℕ) (a b : Way) (c : Option (List ℕ)) (h : ℕ)
+      → a.waits ≡ [] → CheckedAll walk r f g a b → TakesAll b.holds c b.failures h b.waits → r ≡ Err Memory
+      → (text : List ℕ) × First (nodes_of walk.trees) f g text × TakesAll a.holds c a.failures h text
+  walk_cut walk r f g a b c h none checks took is =
+      let cut : CheckedAll walk (Err Memory) f g a b =
+      subst (λ (x : Result Bool CheckFault). CheckedAll walk x f g a b) is checks in
+      (cut.0, cut.1, all_goes cut.0 a b c h none cut.2 took)
+
+  abbrev SomeTold : Walk → ℕ → ℕ → List ℕ → Type 0
+  SomeTold = TellsSome has_given remaining failures held folder
+
+  pub walk_unsent : (walk : Walk) (r : Result Bool CheckFault) (f g : ℕ) (a b : Way) → a.waits ≡ [] → r ≡ Err Unsent
+      → CheckedAll walk r f g a b
+      → (text : List ℕ) × SomeTold walk f g text × FailsAmid a.holds b.holds a.failures b.failures text
+  walk_unsent walk r f g a b none is checks =
+      let cut : CheckedAll walk (Err Unsent) f g a b =
+      subst (λ (x : Result Bool CheckFault). CheckedAll walk x f g a b) is checks in
+      (cut.0, cut.1, fails_of_none cut.0 a b none cut.2)
+
+  pub rest_unsent : (walk : Walk) (r : Result Bool CheckFault) (f g : ℕ) (a b : Way) (c : Option (List ℕ)) (h : ℕ)
+      → a.waits ≡ [] → r ≢ Err Unsent → CheckedAll walk r f g a b → FailsAmid b.holds c b.failures h b.waits
+      → (text : List ℕ) × SomeTold walk f g text × FailsAmid a.holds c a.failures h text
+  rest_unsent walk (Ok found) f g a b c h none not checks failed =
+      (checks.0, inr (found, checks.1), none_goes checks.0 a b c h none checks.2 failed)
+  rest_unsent walk (Err Memory) f g a b c h none not checks failed =
+      (checks.0, inl checks.1, none_goes checks.0 a b c h none checks.2 failed)
+  rest_unsent walk (Err Unsent) f g a b c h none not checks failed = absurd (not refl)

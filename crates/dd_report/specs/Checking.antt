@@ -1,13 +1,12 @@
 -- What a check of a file-set finds of the files that its records name, and the lines that tell it.
 use Rattle.std.specs.Prelude.{◌≡◌, ◌⊎◌, ℕ, Bool, not, ◌&&◌, ◌==◌, List, [], ◌∷◌, ◌++◌, Option, None, Some, IfSome}
-use Rattle.std.specs.Prelude.{Result, Ok, Err, codes, if◌then◌else◌}
+use Rattle.std.specs.Prelude.{IsSome, Result, Ok, Err, codes, if◌then◌else◌}
 use Rattle.std.specs.Fmt.{decimal}
+use Rattle.std.specs.Io.KnownBytes.{Consumes}
 use Rattle.hex.specs.Hex.{encode_lower}
-use Rattle.sha2.specs.Sha256.{sha256}
-use Rattle.dd_elem.specs.Device.{HasFailed}
+use Rattle.dd_elem.specs.Device.{HasWorked, counted}
 use Rattle.dd_elem.specs.FileIdForm.{IsFileId}
 use Rattle.dd_keys.specs.Fitting.{is_empty}
-use Rattle.dd_dir.specs.ForestViews.{Branch}
 use Rattle.dd_dir.specs.Own.{digest_in}
 use Rattle.dd_dir.specs.Trees.{Node, Trees, Walk, no_trees, tree}
 use Rattle.dd_report.specs.declared.checking.CheckFault.{CheckFault}
@@ -15,27 +14,12 @@ use Rattle.dd_report.specs.declared.checking.CheckFault.TheVariants.{Memory, Uns
 use Rattle.dd_report.specs.declared.findings.Finding.{Finding}
 use Rattle.dd_report.specs.declared.findings.Finding.TheVariants.{BadId, Differs, Missing, Unreadable}
 use Rattle.dd_files.specs.Files.{Held}
-use Rattle.dd_report.specs.Finding.{NamesFile, compared, file_in}
+use Rattle.dd_report.specs.Finding.{IsFound, NamesFile, file_in}
 use Rattle.dd_report.specs.Listing.{record_count}
 use Rattle.dd_files.specs.Paths.{IsPathIn, id_path}
-use Rattle.dd_report.specs.Telling.{GoesOn, Way, shown_line}
+use Rattle.dd_report.specs.Telling.{Fails, GoesOn, Way, shown_line}
 
--- ---- a record
-
--- the file that it names in this folder was read whole, and this is found of it
-pub record FindsWhole (held : Option Held) (folder : List ℕ) (node : Node) (finding : Option Finding) : Type 0 where
-  pub path : List ℕ
-  pub place : IsPathIn folder (id_path (file_in node)) path
-  pub bytes : List ℕ
-  pub stored : IfSome held (λ files. files.bytes_at path ≡ Some bytes)
-  pub found : finding ≡ compared (digest_in node.set) (sha256 bytes)
-
--- what is found of the file that it names in this folder
-pub record FindsFile (held : Option Held) (folder : List ℕ) (node : Node) (finding : Option Finding) : Type 0 where
-  pub unnamed : ¬ NamesFile node → finding ≡ None
-  pub misnamed : NamesFile node → ¬ IsFileId (file_in node) → finding ≡ Some BadId
-  pub named : NamesFile node → IsFileId (file_in node)
-      → (finding ≡ Some Missing) ⊎ ((finding ≡ Some Unreadable) ⊎ FindsWhole held folder node finding)
+-- ---- lines
 
 abbrev pub differs_parts : List ℕ → List ℕ → List ℕ → List (List ℕ)
 differs_parts file recorded found =
@@ -52,26 +36,6 @@ abbrev pub finding_line : Node → Option Finding → List ℕ
 finding_line node None = []
 finding_line node (Some finding) = shown_line (finding_parts node finding)
 
--- what is told of a record
-pub record TellsRecord (held : Option Held) (folder : List ℕ) (node : Node) (text : List ℕ) : Type 0 where
-  pub finding : Option Finding
-  pub finds : FindsFile held folder node finding
-  pub line : text ≡ finding_line node finding
-
--- ---- all records
-
--- what is told of trees, depth first: of each record, of those below it, and of those after it
-abbrev pub TellsTrees : Option Held → List ℕ → Trees → List ℕ → Type 0
-TellsTrees held folder no_trees text = text ≡ []
-TellsTrees held folder (tree node below after) text = (here : List ℕ) × (lower : List ℕ) × (later : List ℕ)
-    × (text ≡ (here ++ lower) ++ later) × TellsRecord held folder node here × TellsTrees held folder below lower
-    × TellsTrees held folder after later
-
--- of a record and of those below it
-abbrev pub TellsBranch : Option Held → List ℕ → Branch → List ℕ → Type 0
-TellsBranch held folder branch text = (here : List ℕ) × (lower : List ℕ) × (text ≡ here ++ lower)
-    × TellsRecord held folder branch.node here × TellsTrees held folder branch.below lower
-
 -- behind the findings how many items no offset reaches, where there are some, and else that all is right, where
 -- nothing is found
 abbrev pub right_line : Walk → List ℕ
@@ -87,19 +51,83 @@ end_line findings walk =
 abbrev pub is_right : List ℕ → Walk → Bool
 is_right findings walk = is_empty findings && (walk.unreached == 0)
 
--- ---- the answers of a check
+-- the records of trees, depth first
+abbrev pub nodes_of : Trees → List Node
+nodes_of no_trees = []
+nodes_of (tree node below after) = node ∷ (nodes_of below ++ nodes_of after)
 
--- This is told, and some of it may wait; the answer says whether something was found. Where that is the fault the
--- writer failed, and else not.
-abbrev pub Checks : (List ℕ → Type 0) → Result Bool CheckFault → Way → Way → Type 0
-Checks Told (Ok found) old new =
-    (text : List ℕ) × Told text × (found ≡ not (is_empty text)) × GoesOn text old new
-Checks Told (Err Memory) old new = (text : List ℕ) × GoesOn text old new
-Checks Told (Err Unsent) old new = HasFailed old.failures new.failures
+-- the most bytes of a file that is read: 4 GiB less one
+abbrev pub most_read : ℕ
+most_read = 4294967295
 
--- the same of all records of a directory
-abbrev pub ChecksAll : (List ℕ → Type 0) → Walk → Result Bool CheckFault → Way → Way → Type 0
-ChecksAll Told walk (Ok found) old new = (findings : List ℕ) × Told findings
-    × (found ≡ not (is_right findings walk)) × GoesOn (findings ++ end_line findings walk) old new
-ChecksAll Told walk (Err Memory) old new = (text : List ℕ) × GoesOn text old new
-ChecksAll Told walk (Err Unsent) old new = HasFailed old.failures new.failures
+-- ---- what is found in files that hold this, in a folder; their readers say what they gave, what they have left, and
+-- how many of their reads failed
+
+module _ {R : Type 0} (has_given : R → List ℕ → Type 0) (remaining : R → Option (List ℕ)) (failures : R → ℕ)
+    (held : Option Held) (folder : List ℕ) where
+  -- The file that a record names was opened for a reader, and this is found by reading it. What the reader gave and
+  -- what it has left are the bytes at the file's path, where these are known.
+  pub record FindsRead (node : Node) (finding : Option Finding) : Type 0 where
+    pub path : List ℕ
+    pub place : IsPathIn folder (id_path (file_in node)) path
+    pub reader : R
+    pub given : List ℕ
+    pub gave : has_given reader given
+    pub stored : IfSome held (λ files.
+        IsSome (files.bytes_at path) × Consumes (files.bytes_at path) (remaining reader) given)
+    pub found : IsFound finding (digest_in node.set) most_read given (remaining reader) 0 (failures reader)
+
+  -- What is found of the file that a record names. The files had refused `old` calls before, and have refused `new`.
+  pub record FindsFile (node : Node) (old new : ℕ) (finding : Option Finding) : Type 0 where
+    pub unnamed : ¬ NamesFile node → (finding ≡ None) × (new ≡ old)
+    pub misnamed : NamesFile node → ¬ IsFileId (file_in node) → (finding ≡ Some BadId) × (new ≡ old)
+    -- it is missing where it was not opened, which is a refusal that counts, and else it is read
+    pub named : NamesFile node → IsFileId (file_in node)
+        → ((finding ≡ Some Missing) × (new ≡ counted old)) ⊎ (HasWorked old new × FindsRead node finding)
+
+  -- what is told of a record
+  pub record TellsRecord (node : Node) (old new : ℕ) (text : List ℕ) : Type 0 where
+    pub finding : Option Finding
+    pub finds : FindsFile node old new finding
+    pub line : text ≡ finding_line node finding
+
+  -- what is told of records, one after the other
+  abbrev pub TellsAll : List Node → ℕ → ℕ → List ℕ → Type 0
+  TellsAll [] old new text = (new ≡ old) × (text ≡ [])
+  TellsAll (node ∷ nodes) old new text = (here : List ℕ) × (later : List ℕ) × (mid : ℕ)
+      × (text ≡ here ++ later) × TellsRecord node old mid here × TellsAll nodes mid new later
+
+  -- what is told of the first of these records, and nothing of the others
+  pub record TellsFirst (nodes : List Node) (old new : ℕ) (text : List ℕ) : Type 0 where
+    pub first : List Node
+    pub others : List Node
+    pub parts : nodes ≡ first ++ others
+    pub told : TellsAll first old new text
+
+  -- what is told of all of a directory, and whether something is found
+  abbrev pub TellsWalk : Walk → Bool → ℕ → ℕ → List ℕ → Type 0
+  TellsWalk walk found old new text = (findings : List ℕ) × TellsAll (nodes_of walk.trees) old new findings
+      × (found ≡ not (is_right findings walk)) × (text ≡ findings ++ end_line findings walk)
+
+  -- what is told of a directory up to some place: of its first records, or of all of it
+  abbrev pub TellsSome : Walk → ℕ → ℕ → List ℕ → Type 0
+  TellsSome walk old new text =
+      TellsFirst (nodes_of walk.trees) old new text ⊎ ((found : Bool) × TellsWalk walk found old new text)
+
+  -- ---- the answers of a check
+
+  -- What is told went on its way, and the answer says whether something was found. Where memory ran out it is told of
+  -- the first records; where the writer failed, it did so in what is told of them.
+  abbrev pub Checks : List Node → Result Bool CheckFault → ℕ → ℕ → Way → Way → Type 0
+  Checks nodes (Ok found) old new from to =
+      (text : List ℕ) × TellsAll nodes old new text × (found ≡ not (is_empty text)) × GoesOn text from to
+  Checks nodes (Err Memory) old new from to = (text : List ℕ) × TellsFirst nodes old new text × GoesOn text from to
+  Checks nodes (Err Unsent) old new from to = (text : List ℕ) × TellsFirst nodes old new text × Fails text from to
+
+  -- the same of a directory
+  abbrev pub ChecksAll : Walk → Result Bool CheckFault → ℕ → ℕ → Way → Way → Type 0
+  ChecksAll walk (Ok found) old new from to =
+      (text : List ℕ) × TellsWalk walk found old new text × GoesOn text from to
+  ChecksAll walk (Err Memory) old new from to =
+      (text : List ℕ) × TellsFirst (nodes_of walk.trees) old new text × GoesOn text from to
+  ChecksAll walk (Err Unsent) old new from to = (text : List ℕ) × TellsSome walk old new text × Fails text from to

@@ -18,10 +18,14 @@ way waits holds failures = record { waits = waits; holds = holds; failures = fai
 abbrev pub GoesOn : List ℕ → Way → Way → Type 0
 GoesOn text old new = Sent (old.waits ++ text) new.waits old.holds new.holds old.failures new.failures
 
--- the answer of a call that sends a text on its way: it went, or the writer failed in what waited and in it
+-- the writer failed in what waited and in this text
+abbrev pub Fails : List ℕ → Way → Way → Type 0
+Fails text old new = FailsAmid old.holds new.holds old.failures new.failures (old.waits ++ text)
+
+-- the answer of a call that sends a text on its way: it went, or the writer failed in it
 abbrev pub Tells : {T E : Type 0} → Result T E → List ℕ → Way → Way → Type 0
 Tells (Ok done) text old new = GoesOn text old new
-Tells (Err fault) text old new = FailsAmid old.holds new.holds old.failures new.failures (old.waits ++ text)
+Tells (Err fault) text old new = Fails text old new
 
 -- ---- lines
 

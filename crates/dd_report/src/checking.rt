@@ -1,12 +1,11 @@
 //! The files of a file-set, compared with its directory.
-ghost use Rattle.std.specs.Prelude.{◌≡◌, ◌++◌, List, ℕ, IfOk, not};
+ghost use Rattle.std.specs.Prelude.{◌≡◌, ◌↔◌, ◌∷◌, List, [], ℕ, IfOk, IsErr, IsTrue, not};
 ghost use Rattle.dd_dir.specs.ForestViews.{tree_view, trees_view, walk_view};
-ghost use Rattle.dd_elem.specs.Device.{HasFailed};
 ghost use Rattle.dd_keys.specs.Fitting.{is_empty};
-ghost use Rattle.dd_report.specs.Checking.{Checks, ChecksAll, FindsFile, TellsBranch, TellsRecord, TellsTrees};
-ghost use Rattle.dd_report.specs.Checking.{differs_parts, end_line, finding_line, is_right};
+ghost use Rattle.dd_report.specs.Checking.{Checks, ChecksAll, FindsFile, TellsFirst, TellsSome, TellsWalk};
+ghost use Rattle.dd_report.specs.Checking.{differs_parts, end_line, finding_line, nodes_of};
 ghost use Rattle.dd_report.specs.Telling.{Tells, shown_line, way};
-ghost use Rattle.dd_report.specs.Text.{TakesAll};
+ghost use Rattle.dd_report.specs.Text.{FailsAmid, TakesAll};
 
 use crate::findings::{Finding, file_in, finding_of, id_of, unopened};
 use crate::line_buffer::LineBuffer;
@@ -29,7 +28,7 @@ pub enum CheckFault {
 
 /// Checks the files that the records of a directory name, in this folder, and tells what is found, depth
 /// first. Answers whether something is found. Memory where a growth is refused; Unsent where the output
-/// fails.
+/// fails. What is found of the records before that is told.
 pub fn check_records<F: Files, W: Write>(
     alloc: Global,
     folder: &str,
@@ -37,23 +36,40 @@ pub fn check_records<F: Files, W: Write>(
     files: &mut F,
     to: &mut W,
 ) -> Result<bool, CheckFault>
-    ensures told { IfOk result (λ found. (findings : List ℕ)
-        × TellsTrees (F.held files.old) folder.now (walk_view forest.now).trees findings
-        × (found ≡ not (is_right findings (walk_view forest.now)))
-        × TakesAll (W.contents to.old) (W.contents to.new) (W.failures to.old) (W.failures to.new)
-        (findings ++ end_line findings (walk_view forest.now))) }
-    ensures unsent { result ≡ Err CheckFault.Unsent → HasFailed (W.failures to.old) (W.failures to.new) }
+    ensures told { IfOk result (λ found. (text : List ℕ)
+        × TellsWalk F.In.has_given F.In.remaining F.In.failures (F.held files.old) folder.now
+        (walk_view forest.now) found (F.refusals files.old) (F.refusals files.new) text
+        × TakesAll (W.contents to.old) (W.contents to.new) (W.failures to.old) (W.failures to.new) text) }
+
+    // Where memory ran out, all is told of the first records; where the output failed, a front of what is told.
+    ensures cut { result ≡ Err CheckFault.Memory → (text : List ℕ)
+        × TellsFirst F.In.has_given F.In.remaining F.In.failures (F.held files.old) folder.now
+        (nodes_of (walk_view forest.now).trees) (F.refusals files.old) (F.refusals files.new) text
+        × TakesAll (W.contents to.old) (W.contents to.new) (W.failures to.old) (W.failures to.new) text }
+    ensures unsent { result ≡ Err CheckFault.Unsent → (text : List ℕ)
+        × TellsSome F.In.has_given F.In.remaining F.In.failures (F.held files.old) folder.now
+        (walk_view forest.now) (F.refusals files.old) (F.refusals files.new) text
+        × FailsAmid (W.contents to.old) (W.contents to.new) (W.failures to.old) (W.failures to.new) text }
+
+    // What stays.
     ensures kept { F.held files.new ≡ F.held files.old }
 {
     let mut lines = LineBuffer::new();
     let checked = check_forest(alloc, folder, forest, files, &mut lines, to);
-    if let Err(CheckFault::Unsent) = checked {
+    if is_unsent(&checked) {
         return Err(CheckFault::Unsent);
     }
     match lines.flush(to) {
         Ok(()) => checked,
         Err(_) => Err(CheckFault::Unsent),
     }
+}
+
+/// Did the output fail?
+fn is_unsent(checked: &Result<bool, CheckFault>) -> bool
+    ensures { IsTrue result ↔ (checked.now ≡ Err CheckFault.Unsent) }
+{
+    matches!(checked, Err(CheckFault::Unsent))
 }
 
 /// Checks all records, and tells then what is said of all together.
@@ -65,8 +81,8 @@ fn check_forest<F: Files, W: Write>(
     lines: &mut LineBuffer,
     to: &mut W,
 ) -> Result<bool, CheckFault>
-    ensures checks { ChecksAll (TellsTrees (F.held files.old) folder.now (walk_view forest.now).trees)
-        (walk_view forest.now) result
+    ensures checks { ChecksAll F.In.has_given F.In.remaining F.In.failures (F.held files.old) folder.now
+        (walk_view forest.now) result (F.refusals files.old) (F.refusals files.new)
         (way lines.old (W.contents to.old) (W.failures to.old))
         (way lines.new (W.contents to.new) (W.failures to.new)) }
     ensures kept { F.held files.new ≡ F.held files.old }
@@ -113,7 +129,8 @@ fn check_trees<F: Files, W: Write>(
     lines: &mut LineBuffer,
     to: &mut W,
 ) -> Result<bool, CheckFault>
-    ensures checks { Checks (TellsTrees (F.held files.old) folder.now (trees_view trees.now)) result
+    ensures checks { Checks F.In.has_given F.In.remaining F.In.failures (F.held files.old) folder.now
+        (nodes_of (trees_view trees.now)) result (F.refusals files.old) (F.refusals files.new)
         (way lines.old (W.contents to.old) (W.failures to.old))
         (way lines.new (W.contents to.new) (W.failures to.new)) }
     ensures kept { F.held files.new ≡ F.held files.old }
@@ -135,7 +152,9 @@ fn check_tree<F: Files, W: Write>(
     lines: &mut LineBuffer,
     to: &mut W,
 ) -> Result<bool, CheckFault>
-    ensures checks { Checks (TellsBranch (F.held files.old) folder.now (tree_view tree.now)) result
+    ensures checks { Checks F.In.has_given F.In.remaining F.In.failures (F.held files.old) folder.now
+        ((tree_view tree.now).node ∷ nodes_of (tree_view tree.now).below) result
+        (F.refusals files.old) (F.refusals files.new)
         (way lines.old (W.contents to.old) (W.failures to.old))
         (way lines.new (W.contents to.new) (W.failures to.new)) }
     ensures kept { F.held files.new ≡ F.held files.old }
@@ -154,7 +173,8 @@ fn check_record<F: Files, W: Write>(
     lines: &mut LineBuffer,
     to: &mut W,
 ) -> Result<bool, CheckFault>
-    ensures checks { Checks (TellsRecord (F.held files.old) folder.now (tree_view tree.now).node) result
+    ensures checks { Checks F.In.has_given F.In.remaining F.In.failures (F.held files.old) folder.now
+        ((tree_view tree.now).node ∷ []) result (F.refusals files.old) (F.refusals files.new)
         (way lines.old (W.contents to.old) (W.failures to.old))
         (way lines.new (W.contents to.new) (W.failures to.new)) }
     ensures kept { F.held files.new ≡ F.held files.old }
@@ -179,7 +199,11 @@ fn finding_in<F: Files>(
     tree: &Tree<'_>,
     files: &mut F,
 ) -> Result<Option<Finding>, Memory>
-    ensures found { IfOk result (FindsFile (F.held files.old) folder.now (tree_view tree.now).node) }
+    ensures found { IfOk result (FindsFile F.In.has_given F.In.remaining F.In.failures (F.held files.old) folder.now
+        (tree_view tree.now).node (F.refusals files.old) (F.refusals files.new)) }
+
+    // Where memory ran out no file was asked for.
+    ensures unasked { IsErr result → F.refusals files.new ≡ F.refusals files.old }
     ensures kept { F.held files.new ≡ F.held files.old }
 {
     let Some(file) = id_of(tree) else {
