@@ -1,10 +1,9 @@
 //! The files of the system.
 ghost use Rattle.std.specs.Prelude.{◌≡◌, ◌↔◌, ◌<◌, ◌++◌, ◌∷◌, ℕ, [], None, Some, length, map, option_map, refl};
-ghost use Rattle.std.specs.Prelude.{IfSome, IsErr, IsOk, IsSome, IsTrue, String, string_bytes};
-ghost use Rattle.std.specs.declared.alloc.Global.{Global};
+ghost use Rattle.std.specs.Prelude.{IfSome, IsErr, IsOk, IsSome, IsTrue, string_bytes};
 ghost use Rattle.dd_elem.specs.Device.{HasWorked, counted, last_count};
 ghost use Rattle.dicomdir_host.specs.Directory.{IsDirectoryPath};
-ghost use Rattle.dicomdir_host.specs.Storing.{IsStored};
+ghost use Rattle.dicomdir_host.specs.Storing.{IsStored, Names};
 
 use crate::counted::Counted;
 use crate::output::{self, Output};
@@ -207,10 +206,10 @@ impl<'a, R: fs::Files> HostFiles<'a, R> {
     fn start(&mut self, path: &str) -> io::Result<()>
         // Before a directory all is stored, so that no name but its own waits.
         ensures directory { IsOk result → IsDirectoryPath path.now
-            → (self.new.unstored.files.items ≡ []) × (length self.new.unstored.folders.items ≡ 1)
-            × (self.new.unstored.lost ≡ None) }
-        ensures image { IsOk result → ¬ IsDirectoryPath path.now → (folder : String Global)
-            × (self.new.unstored.folders.items ≡ self.old.unstored.folders.items ++ folder ∷ []) }
+            → (self.new.unstored.files.items ≡ []) × (self.new.unstored.lost ≡ None)
+            × Names path.now [] self.new.unstored.folders.items }
+        ensures image { IsOk result → ¬ IsDirectoryPath path.now
+            → Names path.now self.old.unstored.folders.items self.new.unstored.folders.items }
         ensures path { IsOk result → option_map (λ path. string_bytes path) self.new.path ≡ Some path.now }
         ensures kept { IsErr result → (self.new.path ≡ self.old.path) × (self.new.output ≡ self.old.output) }
         ensures counts { self.new.output.counts ≡ self.old.output.counts }
