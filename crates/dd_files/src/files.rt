@@ -15,7 +15,7 @@ pub const SOURCE_LIMIT: u64 = u32::MAX as u64;
 #[error("not there")]
 pub struct NotThere;
 
-/// The folder or the file was not made, or the file was not ended.
+/// The folder or the file was not made, or the file was not ended, or what was made is not stored.
 #[derive(Clone, Copy, Debug, PartialEq, Eq, Error)]
 #[error("not done")]
 pub struct NotDone;
@@ -84,6 +84,23 @@ pub trait Files: Write {
         ensures counts { (Self.calls self.new ≡ Self.calls self.old)
             × (Self.failures self.new ≡ Self.failures self.old) }
         ensures kept { IsErr result → held self.new ≡ held self.old };
+
+    /// Has stored what was made: the bytes of the files that have ended, and the name of each new file and
+    /// folder. Behind the end of a file that is no directory, a call may put this off to the next one.
+    fn store(&mut self) -> Result<(), NotDone>
+        ensures worked { IsOk result → HasWorked (refusals self.old) (refusals self.new) }
+        ensures refused { IsErr result → refusals self.new ≡ counted (refusals self.old) }
+
+        // What stays.
+        ensures bytes { Self.contents self.new ≡ Self.contents self.old }
+        ensures rest { IsOk result → Self.rest self.new ≡ Self.rest self.old }
+        ensures counts { (Self.calls self.new ≡ Self.calls self.old)
+            × (Self.failures self.new ≡ Self.failures self.old) }
+        ensures kept { held self.new ≡ held self.old };
+
+    /// Names what a refused `store` could not store: a file that has ended, or a folder in which something was
+    /// made. The current folder is `.`.
+    fn unstored(&self) -> &str;
 
     // No write counts as a refusal.
     ghost same_refusals: { (old new : Self) → Self.rest new ≡ Self.rest old

@@ -1,6 +1,6 @@
 //! Files in memory.
 ghost use Rattle.std.specs.Prelude.{◌≡◌, IsSome, is_ok, IfSome, ◌↔◌, [], length, None, Some, IsOk, IsErr, false};
-ghost use Rattle.std.specs.Prelude.{IsTrue, ◌<◌, IfOk, OnOk, OnErr, option_map, option_copied, string_bytes};
+ghost use Rattle.std.specs.Prelude.{IsTrue, ◌<◌, codes, IfOk, OnOk, OnErr, option_map, option_copied, string_bytes};
 ghost use Rattle.std.specs.Io.{WritesAtMost};
 ghost use Rattle.std.specs.Io.KnownBytes.{WriteAppends};
 ghost use Rattle.dd_elem.specs.Counts.{counts_after};
@@ -355,6 +355,27 @@ impl Files for MemFiles {
         }
         self.current = None;
         Ok(())
+    }
+
+    /// All is stored as soon as it is made. NotDone only where the refusals are at their last value.
+    fn store(&mut self) -> Result<(), NotDone>
+        ensures worked { IsOk result → HasWorked self.old.refusals self.new.refusals }
+        ensures refused { IsErr result → self.new.refusals ≡ counted self.old.refusals }
+        ensures done { IsOk result ↔ (self.old.refusals < last_count) }
+        ensures same { self.new ≡ self.old }
+    {
+        if self.refusals < u64::MAX {
+            Ok(())
+        } else {
+            Err(NotDone)
+        }
+    }
+
+    /// The current folder: all is stored.
+    fn unstored(&self) -> &str
+        ensures { result.now ≡ codes "." }
+    {
+        "."
     }
 
     ghost same_refusals = { refusals_stay };

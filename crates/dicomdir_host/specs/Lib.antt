@@ -1,1 +1,3 @@
 pub mod Directory
+pub mod Folders
+pub mod Storing

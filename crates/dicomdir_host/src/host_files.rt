@@ -1,22 +1,36 @@
 //! The files of the system.
-ghost use Rattle.std.specs.Prelude.{◌≡◌, ◌↔◌, ◌<◌, ◌++◌, ◌∷◌, ℕ, [], None, Some, refl, option_map, string_bytes};
-ghost use Rattle.std.specs.Prelude.{IfSome, IsErr, IsOk, IsTrue};
+ghost use Rattle.std.specs.Prelude.{◌≡◌, ◌↔◌, ◌<◌, ◌++◌, ◌∷◌, ℕ, [], None, Some, length, map, option_map, refl};
+ghost use Rattle.std.specs.Prelude.{IfSome, IsErr, IsOk, IsSome, IsTrue, string_bytes};
 ghost use Rattle.dd_elem.specs.Device.{HasWorked, counted, last_count};
 ghost use Rattle.dicomdir_host.specs.Directory.{IsDirectoryPath};
+ghost use Rattle.dicomdir_host.specs.Storing.{IsStored, Names};
 
 use crate::counted::Counted;
 use crate::output::{self, Output};
+use crate::paths::{before_slash, folder_of};
+use crate::storing::{self, Unstored};
 use dd_elem::Write;
 use dd_files::{DIRECTORY, Files, NotDone, NotThere};
 use std::alloc::Global;
-use std::fs::{self, File, OpenFile};
-use std::io;
+use std::{fs, io};
+
+// So many files that have ended wait to be stored at most.
+const BATCH: usize = 100;
+
+// What the system says where a process, and where the system, has no more descriptors.
+const NO_MORE: [i32; 2] = [24, 23];
 
 /// The files of the system. What is written is gathered in a buffer. A new file never takes the place
 /// of one that is there, and takes nothing more once a write to it has failed.
 ///
-/// The system stores a directory, which is a file named DICOMDIR, as it ends. All other files that have
-/// ended are stored before a directory is made, in one pass: it is refused where one of them is not.
+/// A file that has ended stays open until it is stored. The call of `store` behind the end of a file puts
+/// that off while fewer than 100 wait, and stores these files where they don't; any other call stores all:
+/// these files, and the names of all files and folders that were made. Before a directory is started, which
+/// is a file named DICOMDIR, all is stored, too. What was not stored stays lost: each later `store` is
+/// refused, and each start of a directory.
+///
+/// Where the system gives no more descriptors, the files that wait are stored and closed, and the call is
+/// made again.
 ///
 /// A source is a file or a folder, also behind links: a pipe, a socket or a device is taken for not
 /// there, since to open it could wait. A folder opens, and its read fails.
@@ -24,10 +38,11 @@ pub struct HostFiles<'a, R: fs::Files> {
     rt: &'a R,
     alloc: Global,
     output: Counted<Output<R::File>>,
-    // The path of the file that is being written, unless it is a directory.
-    image: Option<String>,
-    // The files that have ended and are not stored yet.
-    ended: Vec<String>,
+    // The path of the file that is being written.
+    path: Option<String>,
+    unstored: Unstored<R::File>,
+    // Is all to be stored at the next call?
+    is_due: bool,
     // The folder that was made last.
     folder: String,
     refusals: u64,
@@ -40,8 +55,9 @@ impl<R: fs::Files> Drop for HostFiles<'_, R> {
             rt: _,
             alloc: _,
             output: _output,
-            image: _image,
-            ended: _ended,
+            path: _path,
+            unstored: _unstored,
+            is_due: _,
             folder: _folder,
             refusals: _,
         } = self;
@@ -58,6 +74,22 @@ fn is_directory(path: &str) -> bool
     }
 }
 
+// Does a folder stand at the path?
+fn is_folder<R: fs::Files>(rt: &R, path: &str) -> bool {
+    match fs::metadata(rt, path) {
+        Ok(found) => found.is_dir(),
+        Err(_) => false,
+    }
+}
+
+// Did the system give no descriptor?
+fn has_no_more(error: &io::Error) -> bool {
+    match error.raw_os_error() {
+        Some(code) => NO_MORE.contains(&code),
+        None => false,
+    }
+}
+
 impl<'a, R: fs::Files> HostFiles<'a, R> {
     /// The files, with none being written.
     pub fn new(alloc: Global, rt: &'a R) -> Self
@@ -67,8 +99,9 @@ impl<'a, R: fs::Files> HostFiles<'a, R> {
             rt,
             alloc,
             output: Counted::new(Output::new()),
-            image: None,
-            ended: Vec::new(alloc),
+            path: None,
+            unstored: Unstored::new(alloc),
+            is_due: true,
             folder: String::new(alloc),
             refusals: 0,
         }
@@ -88,80 +121,153 @@ impl<'a, R: fs::Files> HostFiles<'a, R> {
         Err(NotDone)
     }
 
-    // The file or the folder at the path, opened for reading.
-    fn open(&self, path: &str) -> io::Result<R::File> {
-        let found = fs::metadata(self.rt, path)?;
-        if !found.is_file() && !found.is_dir() {
-            return Err(io::Error::other("no file and no folder"));
+    // Is a call to be made again, that had this answer? Where it got no descriptor, the files that wait are
+    // stored and closed.
+    fn makes_room<T>(&mut self, answer: &io::Result<T>) -> bool
+        ensures none { self.old.unstored.files.items ≡ [] → self.new.unstored ≡ self.old.unstored }
+        ensures folders { self.new.unstored.folders ≡ self.old.unstored.folders }
+        ensures same { self.new ≡ record self.old { unstored = self.new.unstored } }
+    {
+        match answer {
+            Err(error) if has_no_more(error) && self.unstored.files_len() > 0 => {
+                let _ = self.unstored.store_files();
+                true
+            }
+            _ => false,
         }
-        File::open(self.rt, path)
     }
 
-    // Makes a folder, unless it was made last.
-    fn make(&mut self, path: &str) -> io::Result<()>
-        ensures same { self.new ≡ record self.old { folder = self.new.folder } }
+    // The file or the folder at the path, opened for reading.
+    fn open(&mut self, path: &str) -> io::Result<R::File>
+        ensures same { self.new ≡ record self.old { unstored = self.new.unstored } }
     {
-        if self.folder.as_str() == path {
+        let answer = storing::open(self.rt, path);
+        if self.makes_room(&answer) {
+            return storing::open(self.rt, path);
+        }
+        answer
+    }
+
+    // A new file at the path.
+    fn open_new(&mut self, path: &str) -> io::Result<Output<R::File>>
+        ensures none { self.old.unstored.files.items ≡ [] → self.new.unstored ≡ self.old.unstored }
+        ensures folders { self.new.unstored.folders ≡ self.old.unstored.folders }
+        ensures same { self.new ≡ record self.old { unstored = self.new.unstored } }
+    {
+        let answer = output::start(self.alloc, self.rt, path);
+        if self.makes_room(&answer) {
+            return output::start(self.alloc, self.rt, path);
+        }
+        answer
+    }
+
+    // Makes a folder, unless it is there.
+    fn make_one(&mut self, path: &str) -> io::Result<()>
+        ensures same { self.new ≡ record self.old { unstored = self.new.unstored } }
+    {
+        let folder = self.unstored.room(folder_of(path))?;
+        match fs::create_dir(self.rt, path) {
+            Ok(()) => Ok(self.unstored.name(folder)?),
+            Err(_) if is_folder(self.rt, path) => Ok(()),
+            Err(error) => Err(error),
+        }
+    }
+
+    // Makes the folders above one, unless they are there.
+    fn make_above(&mut self, path: &str) -> io::Result<()>
+        ensures same { self.new ≡ record self.old { unstored = self.new.unstored } }
+    {
+        for at in 1..path.len() {
+            if let Some(folder) = before_slash(path, at) {
+                self.make_one(folder)?;
+            }
+        }
+        Ok(())
+    }
+
+    // Makes a folder with its parents, unless it was made last. The empty path is the current folder.
+    fn make(&mut self, path: &str) -> io::Result<()>
+        ensures same { self.new ≡ record self.old {
+          folder = self.new.folder;
+          unstored = self.new.unstored;
+        } }
+    {
+        if path.is_empty() || self.folder.as_str() == path {
             return Ok(());
         }
         let made = String::from_str(self.alloc, path)?;
-        fs::create_dir_all(self.rt, path)?;
+        self.make_above(path)?;
+        self.make_one(path)?;
         self.folder = made;
         Ok(())
     }
 
-    // Has the system store the files that have ended.
-    fn store(&mut self) -> io::Result<()>
-        ensures stored { IsOk result → self.new.ended.items ≡ [] }
-        ensures kept { IsErr result → self.new.ended ≡ self.old.ended }
-        ensures same { self.new ≡ record self.old { ended = self.new.ended } }
-    {
-        for path in &self.ended {
-            self.open(path.as_str())?.sync_all()?;
-        }
-        self.ended.clear();
-        Ok(())
-    }
-
-    // Starts a file. There is room to remember its path then.
+    // Starts a file, whose name is to be stored.
     fn start(&mut self, path: &str) -> io::Result<()>
+        // Before a directory all is stored, so that no name but its own waits.
         ensures directory { IsOk result → IsDirectoryPath path.now
-            → (self.new.image ≡ None) × (self.new.ended.items ≡ []) }
+            → (self.new.unstored.files.items ≡ []) × (self.new.unstored.lost ≡ None)
+            × Names path.now [] self.new.unstored.folders.items }
         ensures image { IsOk result → ¬ IsDirectoryPath path.now
-            → (option_map (λ image. string_bytes image) self.new.image ≡ Some path.now)
-            × (self.new.ended.items ≡ self.old.ended.items) }
-        ensures kept { IsErr result → (self.new.image ≡ self.old.image) × (self.new.output ≡ self.old.output) }
+            → Names path.now self.old.unstored.folders.items self.new.unstored.folders.items }
+        ensures path { IsOk result → option_map (λ path. string_bytes path) self.new.path ≡ Some path.now }
+        ensures kept { IsErr result → (self.new.path ≡ self.old.path) × (self.new.output ≡ self.old.output) }
         ensures counts { self.new.output.counts ≡ self.old.output.counts }
         ensures refusals { self.new.refusals ≡ self.old.refusals }
     {
-        let image = if is_directory(path) {
-            self.store()?;
-            None
-        } else {
-            self.ended.reserve(1)?;
-            Some(String::from_str(self.alloc, path)?)
-        };
-        self.output.device = output::start(self.alloc, self.rt, path)?;
-        self.image = image;
+        if is_directory(path) {
+            self.unstored.store(self.rt)?;
+        }
+        let folder = self.unstored.room(folder_of(path))?;
+        let name = String::from_str(self.alloc, path)?;
+        let device = self.open_new(path)?;
+        self.unstored.name(folder)?;
+        self.output.device = device;
+        self.path = Some(name);
         Ok(())
     }
 
-    // Ends the file that is being written. A directory is stored, and the path of any other is remembered.
+    // Ends the file that is being written, and keeps it open until it is stored.
     fn end(&mut self) -> io::Result<()>
-        ensures ended { self.new.image ≡ None }
-        ensures remembered { IsOk result → IfSome self.old.image
-            (λ path. self.new.ended.items ≡ self.old.ended.items ++ path ∷ []) }
+        ensures ended { self.new.path ≡ None }
+        ensures none { self.old.path ≡ None → IsErr result }
+        ensures remembered { IsOk result → IfSome self.old.path (λ path.
+            map (λ ended. ended.path) self.new.unstored.files.items
+            ≡ map (λ ended. ended.path) self.old.unstored.files.items ++ path ∷ []) }
+        ensures due { IsOk result → IfSome self.old.path (λ path.
+            IsTrue self.new.is_due ↔ IsDirectoryPath (string_bytes path)) }
         ensures counts { self.new.output.counts ≡ self.old.output.counts }
         ensures refusals { self.new.refusals ≡ self.old.refusals }
     {
-        match self.image.take() {
-            Some(path) => {
-                self.output.device.close()?;
-                self.ended.push(path)?;
-            }
-            None => self.output.device.store()?,
-        }
+        let Some(path) = self.path.take() else {
+            return Err(io::Error::other("no file is being written"));
+        };
+        let file = self.output.device.take()?;
+        self.is_due = is_directory(path.as_str());
+        self.unstored.keep(path, file)?;
         Ok(())
+    }
+
+    // Stores all, or puts that off to the next call.
+    fn store_due(&mut self) -> io::Result<()>
+        ensures stored { IsOk result → IsTrue self.old.is_due
+            → IsStored self.new.unstored.files.items self.new.unstored.folders.items self.new.unstored.lost }
+        ensures batch { IsOk result → length self.new.unstored.files.items < BATCH }
+        ensures lost { IsErr result ↔ IsSome self.new.unstored.lost }
+        ensures next { IsTrue self.new.is_due }
+        ensures same { self.new ≡ record self.old {
+          unstored = self.new.unstored;
+          is_due = self.new.is_due;
+        } }
+    {
+        if self.is_due {
+            return self.unstored.store(self.rt);
+        }
+        self.is_due = true;
+        if self.unstored.files_len() >= BATCH {
+            return self.unstored.store_files();
+        }
+        self.unstored.answer()
     }
 }
 
@@ -214,6 +320,16 @@ impl<R: fs::Files> Files for HostFiles<'_, R> {
         let is_ended = self.end().is_ok();
         let is_done = self.refusals < u64::MAX && is_ended;
         self.answer(is_done)
+    }
+
+    fn store(&mut self) -> Result<(), NotDone> {
+        let is_stored = self.store_due().is_ok();
+        let is_done = self.refusals < u64::MAX && is_stored;
+        self.answer(is_done)
+    }
+
+    fn unstored(&self) -> &str {
+        self.unstored.lost()
     }
 
     ghost same_refusals = { λ _ _ same. same };

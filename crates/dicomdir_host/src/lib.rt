@@ -7,6 +7,8 @@
 mod counted;
 mod host_files;
 mod output;
+mod paths;
+mod storing;
 #[cfg(test)]
 mod tests;
 

@@ -6,7 +6,7 @@ ghost use Rattle.dd_elem.specs.Device.{TakesNone};
 
 use crate::counted::write_again;
 use std::alloc::Global;
-use std::fs::{self, OpenFile, OpenOptions};
+use std::fs::{self, OpenOptions};
 use std::io::{self, BufWriter};
 
 // The bytes that are gathered before they are written.
@@ -66,8 +66,9 @@ impl<F: io::Write + Drop> Output<F> {
         Output { writer: None }
     }
 
-    // The file, once what is left in the buffer is written. It is being written no more.
-    fn take(&mut self) -> io::Result<F>
+    /// Gives the file, once what is left in the buffer is written. It is being written no more. Refused
+    /// where no file is being written, or a write to it has failed.
+    pub(crate) fn take(&mut self) -> io::Result<F>
         ensures lets_go { self.new.writer ≡ None }
         ensures none { self.old.writer ≡ None → IsErr result }
     {
@@ -81,26 +82,6 @@ impl<F: io::Write + Drop> Output<F> {
             Some(file) => Ok(file),
             None => Err(io::Error::other("a write to the file has failed")),
         }
-    }
-
-    /// Writes what is left in the buffer, and lets the file go. Refused where no file is being written,
-    /// or a write to it has failed.
-    pub(crate) fn close(&mut self) -> io::Result<()>
-        ensures lets_go { self.new.writer ≡ None }
-        ensures none { self.old.writer ≡ None → IsErr result }
-    {
-        self.take()?;
-        Ok(())
-    }
-
-    /// Ends the file as `close` does, and has the system store it.
-    pub(crate) fn store(&mut self) -> io::Result<()>
-    where
-        F: OpenFile,
-        ensures lets_go { self.new.writer ≡ None }
-        ensures none { self.old.writer ≡ None → IsErr result }
-    {
-        self.take()?.sync_all()
     }
 }
 

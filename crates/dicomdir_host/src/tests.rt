@@ -1,12 +1,15 @@
 //! The files of the system over a disc in memory: what comes back of what was written, and that each
 //! call that fails is told.
 
+mod cuts;
 mod disc;
+mod power_cut;
 
 use crate::HostFiles;
 use dd_elem::{Read, Write};
 use dd_files::Files;
-use disc::{Call, Disc, DiscFiles, Kind};
+use disc::{Call, Disc, DiscFiles};
+use power_cut::Kind;
 use std::alloc::Global;
 use std::cell::RefCell;
 use std::io::ErrorKind;
@@ -29,28 +32,38 @@ fail folder, folder d, folder d > . - + > none
 fail create, create a, create a > . - + >
 file a, fail read, read a, read a > . . ! old > old
 create a, write xyz, pause write, finish, pause read, read a > + + . + . xyz > xyz
-create a, write xyz, fail store, finish, finish > + + . + - > xyz
-create DICOMDIR, write xyz, fail store, finish, finish, read DICOMDIR > + + . - - xyz > none
+create a, write xyz, fail store, finish, store, store, unstored > + + . + + - a > xyz
+create a, write xyz, fail store, finish, store, store, store, create b > + + . + + - - + > xyz
+create a, write xyz, fail store, finish, store, store, create DICOMDIR, unstored > + + . + + - - a > xyz
+create DICOMDIR, write xyz, fail store, finish, store, unstored, read DICOMDIR > + + . + - DICOMDIR xyz > none
+folder d, fail store, store, unstored, finish > + . - . - > none
+folder d/e, fail open, store, unstored > + . - . > none
+folder d/e, bar open, store > + . + > none
+folder d/e, spoil store, store > + . + > none
 create a, write xyz, fail write, finish, finish > + + . - - >
 create a, fail write, fill, write xyz, fill, finish > + . - - - - >";
 
 // In each line calls, then what they came to, then what the disc made and stored, in this order.
 const ORDERS: &str = "\
 create a, finish, create b, finish > + + + + > make a, make b
-create DICOMDIR, finish > + + > make DICOMDIR, store DICOMDIR
-create a, finish, create b, finish, create d/DICOMDIR, finish > + + + + + + \
-> make a, make b, store a, store b, make d/DICOMDIR, store d/DICOMDIR
-create a, finish, create DICOMDIR, finish, create b, finish, create d/DICOMDIR > + + + + + + + \
-> make a, store a, make DICOMDIR, store DICOMDIR, make b, store b, make d/DICOMDIR
-create aDICOMDIR, finish, create DICOMDIR/a, finish, create DICOMDIR > + + + + + \
-> make aDICOMDIR, make DICOMDIR/a, store aDICOMDIR, store DICOMDIR/a, make DICOMDIR
-create a, create b, finish, create DICOMDIR > + + + + > make a, make b, store b, make DICOMDIR
-create a, fail write, fill, finish, create DICOMDIR > + . - - + > make a, make DICOMDIR
-create a, finish, fail store, create DICOMDIR, finish, create DICOMDIR > + + . - - + \
-> make a, store a, make DICOMDIR
-create a, finish, fail open, create DICOMDIR > + + . - > make a
-file DICOMDIR, create a, finish, create DICOMDIR > . + + - > make a, store a
+create DICOMDIR, finish > + + > make DICOMDIR
+create DICOMDIR, finish, store > + + + > make DICOMDIR, store DICOMDIR, store .
+create a, finish, store > + + + > make a
+create a, finish, store, store, store > + + + + + > make a, store a, store .
+create a, finish, store, create b, finish, store, store > + + + + + + + > make a, make b, store a, store b, store .
+folder d, create a, finish, create d/b, finish, create d/DICOMDIR, finish, store > + + + + + + + + \
+> folder d, make a, make d/b, store a, store d/b, store ., store d, make d/DICOMDIR, store d/DICOMDIR, store d
+create a, finish, create DICOMDIR, finish, store, create b, finish, create DICOMDIR/DICOMDIR > + + + + + + + + \
+> make a, store a, store ., make DICOMDIR, store DICOMDIR, store ., make b, store b, store ., make DICOMDIR/DICOMDIR
+create aDICOMDIR, finish, folder D, create D/a, finish, create DICOMDIR > + + + + + + \
+> make aDICOMDIR, folder D, make D/a, store aDICOMDIR, store D/a, store ., store D, make DICOMDIR
+create a, create b, finish, create DICOMDIR > + + + + > make a, make b, store b, store ., make DICOMDIR
+create a, fail write, fill, finish, create DICOMDIR > + . - - + > make a, store ., make DICOMDIR
+create a, finish, fail store, create DICOMDIR, finish, create DICOMDIR > + + . - - - > make a
+create a, finish, fail open, create DICOMDIR > + + . - > make a, store a
+file DICOMDIR, create a, finish, create DICOMDIR > . + + - > make a, store a, store .
 folder d, folder d, folder e, folder d, folder d > + + + + + > folder d, folder e, folder d
+folder d/e, folder d/f, store > + + + > folder d, folder d/e, folder d, folder d/f, store ., store d
 fail folder, folder d, folder d, folder d > . - + + > folder d";
 
 fn call_of(name: &str) -> Option<Call> {
@@ -78,8 +91,15 @@ fn prepare(disc: &RefCell<Disc>, verb: &str, what: &str) -> Result<bool, Fail> {
         "pipe" => {
             disc.put(what, Kind::Pipe)?;
         }
+        "dir" => {
+            disc.put(what, Kind::Folder)?;
+        }
+        "spill" => disc.spill(what)?,
+        "limit" => disc.open_at_most(what.parse().map_err(|_| "no number")?),
         "fail" => disc.fail(call_of(what).ok_or("no call")?, ErrorKind::Other),
         "pause" => disc.fail(call_of(what).ok_or("no call")?, ErrorKind::Interrupted),
+        "bar" => disc.fail(call_of(what).ok_or("no call")?, ErrorKind::PermissionDenied),
+        "spoil" => disc.fail(call_of(what).ok_or("no call")?, ErrorKind::InvalidInput),
         _ => return Ok(false),
     }
     Ok(true)
@@ -106,6 +126,7 @@ fn is_done(files: &mut HostFiles<'_, DiscFiles<'_>>, verb: &str, what: &str) -> 
         "create" => files.create(what).is_ok(),
         "folder" => files.folder(what).is_ok(),
         "write" => write_all(files, what.as_bytes()),
+        "store" => files.store().is_ok(),
         // More than the buffer takes.
         "fill" => write_all(files, &[b'x'; 70_000]),
         _ => files.finish().is_ok(),
@@ -151,8 +172,10 @@ fn tell(
     said: &mut String,
 ) -> Result<(), Fail> {
     let (verb, what) = call.split_once(' ').unwrap_or((call, ""));
-    if verb == "read" {
-        return read(alloc, files, what, said);
+    match verb {
+        "read" => return read(alloc, files, what, said),
+        "unstored" => return Ok(said.push_str(files.unstored())?),
+        _ => {}
     }
     let sign = if prepare(disc, verb, what)? {
         '.'
@@ -193,7 +216,7 @@ fn told(alloc: Global, disc: &RefCell<Disc>, calls: &str) -> Result<String, Fail
 fn is_right(alloc: Global, case: &str) -> Result<bool, Fail> {
     let (calls, wanted) = case.split_once(" > ").ok_or("no answers")?;
     let (answers, left) = wanted.split_once(" >").ok_or("no bytes")?;
-    let disc = RefCell::new(Disc::new(alloc));
+    let disc = RefCell::new(Disc::new(alloc)?);
     let said = told(alloc, &disc, calls)?;
     let disc = disc.into_inner();
     let found = disc.bytes("a").unwrap_or(b"none");
@@ -203,7 +226,7 @@ fn is_right(alloc: Global, case: &str) -> Result<bool, Fail> {
 fn is_in_order(alloc: Global, case: &str) -> Result<bool, Fail> {
     let (calls, wanted) = case.split_once(" > ").ok_or("no answers")?;
     let (answers, log) = wanted.split_once(" > ").ok_or("no log")?;
-    let disc = RefCell::new(Disc::new(alloc));
+    let disc = RefCell::new(Disc::new(alloc)?);
     let said = told(alloc, &disc, calls)?;
     let disc = disc.into_inner();
     Ok(said.as_str() == answers && disc.log() == log)
@@ -261,7 +284,7 @@ fn gives(
 }
 
 fn comes_back(alloc: Global, bytes: &[u8]) -> Result<bool, Fail> {
-    let disc = RefCell::new(Disc::new(alloc));
+    let disc = RefCell::new(Disc::new(alloc)?);
     let rt = DiscFiles(&disc);
     let mut files = HostFiles::new(alloc, &rt);
     Ok(is_written(&mut files, bytes) && gives(alloc, &mut files, bytes)?)

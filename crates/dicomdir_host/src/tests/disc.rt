@@ -1,6 +1,7 @@
 //! A disc in memory that stands in for the files of the system. One call of it can be made to fail.
 ghost use Rattle.std.specs.Io.{ReadsAtMost};
 
+use super::power_cut::{Entry, Kind, all_last, may_break, parent};
 use std::alloc::{Allocator, Global};
 use std::cell::RefCell;
 use std::fs::{Files, Metadata, OpenFile, OpenOptions};
@@ -8,14 +9,6 @@ use std::io::{self, Empty, ErrorKind, Read, Seek, SeekFrom, Write};
 
 // The most bytes that a read gives or a write takes.
 const STEP: usize = 1000;
-
-/// What stands at a path.
-#[derive(Clone, Copy, PartialEq)]
-pub(super) enum Kind {
-    File,
-    Folder,
-    Pipe,
-}
 
 /// What can fail.
 #[derive(Clone, Copy, PartialEq)]
@@ -28,31 +21,18 @@ pub(super) enum Call {
     Store,
 }
 
-struct Entry {
-    path: String,
-    kind: Kind,
-    bytes: Vec<u8>,
-}
-
-// By hand, so that letting go of it is one call.
-impl Drop for Entry {
-    fn drop(self) {
-        let Entry {
-            path: _path,
-            kind: _,
-            bytes: _bytes,
-        } = self;
-    }
-}
-
-/// The disc: what stands there, in the order in which it was made, the next call that fails, and which
-/// files and folders were to be made and which files were stored, in this order.
+/// The disc: what stands there, in the order in which it was made, the next call that fails, which files and
+/// folders were to be made and which were stored, in this order, how many files are open and may be, and
+/// after how many calls a power cut would have left a whole directory without its images.
 pub(super) struct Disc {
     alloc: Global,
     entries: Vec<Entry>,
     failing: Option<Call>,
     kind: ErrorKind,
     log: String,
+    open: usize,
+    most_open: usize,
+    broken: usize,
 }
 
 // By hand, so that letting go of a disc is one call.
@@ -64,19 +44,43 @@ impl Drop for Disc {
             failing: _,
             kind: _,
             log: _log,
+            open: _,
+            most_open: _,
+            broken: _,
         } = self;
     }
 }
 
 impl Disc {
-    pub(super) fn new(alloc: Global) -> Self {
-        Disc {
+    /// A disc with the current folder, that takes any number of open files.
+    pub(super) fn new(alloc: Global) -> io::Result<Self> {
+        let mut disc = Disc {
             alloc,
             entries: Vec::new(alloc),
             failing: None,
             kind: ErrorKind::Other,
             log: String::new(alloc),
-        }
+            open: 0,
+            most_open: usize::MAX,
+            broken: 0,
+        };
+        disc.put(".", Kind::Folder)?;
+        Ok(disc)
+    }
+
+    /// No more files than these can be open from now on.
+    pub(super) fn open_at_most(&mut self, most: usize) {
+        self.most_open = most;
+    }
+
+    /// After how many calls would a power cut have left a whole directory without its images?
+    pub(super) fn broken(&self) -> usize {
+        self.broken
+    }
+
+    /// Does all last that is there?
+    pub(super) fn lasts(&self) -> bool {
+        all_last(&self.entries)
     }
 
     /// What was made and stored, in order.
@@ -94,13 +98,35 @@ impl Disc {
         Ok(())
     }
 
+    // Looks at what a power cut would leave now.
+    fn look(&mut self) {
+        if may_break(&self.entries) {
+            self.broken = self.broken.saturating_add(1);
+        }
+    }
+
+    // What stands at the place lasts, and the names in it.
+    fn keep(&mut self, place: usize, path: &str) {
+        for (at, entry) in self.entries.iter_mut().enumerate() {
+            if at == place {
+                entry.lasting = entry.bytes.len();
+            }
+            if parent(entry.path.as_str()) == path {
+                entry.is_named = true;
+            }
+        }
+    }
+
     fn store(&mut self, place: usize) -> io::Result<()> {
         self.pass(Call::Store)?;
         let Some(entry) = self.entries.get(place) else {
             return Err(io::Error::from(ErrorKind::NotFound));
         };
         let path = String::from_str(self.alloc, entry.path.as_str())?;
-        self.note("store", path.as_str())
+        self.note("store", path.as_str())?;
+        self.keep(place, path.as_str());
+        self.look();
+        Ok(())
     }
 
     /// The next such call fails, and those after it do not.
@@ -109,23 +135,39 @@ impl Disc {
         self.kind = kind;
     }
 
-    /// Puts what is empty at a path, and answers its place.
-    pub(super) fn put(&mut self, path: &str, kind: Kind) -> io::Result<usize> {
+    // Adds an empty entry, and answers its place.
+    fn make(&mut self, path: &str, kind: Kind, is_named: bool) -> io::Result<usize> {
         let place = self.entries.len();
         self.entries.push(Entry {
             path: String::from_str(self.alloc, path)?,
             kind,
             bytes: Vec::new(self.alloc),
+            lasting: 0,
+            is_named,
         })?;
+        self.look();
         Ok(place)
+    }
+
+    /// Puts what is empty at a path, where it stands from before, and answers its place.
+    pub(super) fn put(&mut self, path: &str, kind: Kind) -> io::Result<usize> {
+        self.make(path, kind, true)
+    }
+
+    /// Makes a file with all its bytes, which are not stored.
+    pub(super) fn spill(&mut self, path: &str) -> io::Result<()> {
+        let place = self.make(path, Kind::File, false)?;
+        self.add(place, b"xyz")
     }
 
     /// Puts the bytes behind those at a place.
     pub(super) fn add(&mut self, place: usize, bytes: &[u8]) -> io::Result<()> {
         match self.entries.get_mut(place) {
-            Some(entry) => Ok(entry.bytes.extend_from_slice(bytes)?),
-            None => Err(io::Error::from(ErrorKind::NotFound)),
+            Some(entry) => entry.bytes.extend_from_slice(bytes)?,
+            None => return Err(io::Error::from(ErrorKind::NotFound)),
         }
+        self.look();
+        Ok(())
     }
 
     /// The bytes at a path.
@@ -163,7 +205,7 @@ impl Disc {
             }
             None if how.asks_create_new() || how.asks_create() => {
                 self.note("make", path)?;
-                self.put(path, Kind::File)
+                self.make(path, Kind::File, false)
             }
             None => Err(io::Error::from(ErrorKind::NotFound)),
         }
@@ -226,7 +268,11 @@ impl<'a> Files for DiscFiles<'a> {
         } else {
             Call::Open
         })?;
+        if disc.open >= disc.most_open {
+            return Err(io::Error::from_raw_os_error(24));
+        }
         let place = disc.open(how, path)?;
+        disc.open = disc.open.saturating_add(1);
         Ok(DiscFile {
             disc: self.0,
             place,
@@ -250,7 +296,7 @@ impl<'a> Files for DiscFiles<'a> {
         disc.pass(Call::Folder)?;
         disc.note("folder", path)?;
         disc.has_room_for(path)?;
-        disc.put(path, Kind::Folder)?;
+        disc.make(path, Kind::Folder, false)?;
         Ok(())
     }
 
@@ -284,11 +330,23 @@ impl<'a> Files for DiscFiles<'a> {
 }
 
 /// An open file of a disc. Writes go to its end.
-#[derive(Drop)]
 pub(super) struct DiscFile<'a> {
     disc: &'a RefCell<Disc>,
     place: usize,
     from: usize,
+}
+
+impl Drop for DiscFile<'_> {
+    fn drop(self) {
+        let DiscFile {
+            disc,
+            place: _,
+            from: _,
+        } = self;
+        if let Ok(mut disc) = disc.try_borrow_mut() {
+            disc.open = disc.open.saturating_sub(1);
+        }
+    }
 }
 
 impl Read for DiscFile<'_> {

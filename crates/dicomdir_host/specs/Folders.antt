@@ -1,0 +1,26 @@
+-- The folder that a path stands in.
+use Rattle.std.specs.Prelude.{◌≡◌, ◌≢◌, ◌<◌, ◌≤◌, ◌-◌, ℕ, List, codes, length, slice_index, take}
+
+-- from one place to another stand slashes alone
+abbrev pub AreSlashes : List ℕ → ℕ → ℕ → Type 0
+AreSlashes path from to = (at : ℕ) → from ≤ at → at < to → slice_index path at ≡ 47
+
+-- from one place to another stands no slash
+abbrev pub HasNoSlash : List ℕ → ℕ → ℕ → Type 0
+HasNoSlash path from to = (at : ℕ) → from ≤ at → at < to → slice_index path at ≢ 47
+
+-- The folder in which the last name of a path stands. The name begins at `start`; slashes stand behind it, from `end`
+-- on, and before it, from `base` on; and before these, the folder: `/` where that is nothing, and `.` where nothing
+-- stands before the name.
+pub record IsFolderOf (path folder : List ℕ) : Type 0 where
+  pub base : ℕ
+  pub start : ℕ
+  pub end : ℕ
+  pub behind : AreSlashes path end (length path)
+  pub name : HasNoSlash path start end
+  pub whole_name : 0 < start → slice_index path (start - 1) ≡ 47
+  pub between : AreSlashes path base start
+  pub whole_between : 0 < base → slice_index path (base - 1) ≢ 47
+  pub current : start ≡ 0 → folder ≡ codes "."
+  pub root : 0 < start → base ≡ 0 → folder ≡ codes "/"
+  pub below : 0 < base → folder ≡ take base path

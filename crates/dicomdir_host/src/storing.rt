@@ -1,0 +1,191 @@
+//! What was made and is not stored yet.
+ghost use Rattle.std.specs.Prelude.{◌≡◌, ◌↔◌, ◌++◌, ◌∷◌, [], None, Some, length, string_bytes};
+ghost use Rattle.std.specs.Prelude.{IfOk, IfSome, IsErr, IsOk, IsSome};
+ghost use Rattle.dicomdir_host.specs.Storing.{IsStored};
+
+use std::alloc::{AllocError, Global};
+use std::fs::{self, File, OpenFile};
+use std::io::{self, ErrorKind};
+use std::mem;
+
+/// A file that has ended, still open.
+#[derive(Drop)]
+pub(crate) struct Ended<F: Drop> {
+    path: String,
+    file: F,
+}
+
+/// What was made and is not stored yet: files that have ended, which stay open until then, and the names in
+/// folders. What could once not be stored is lost, and nothing takes that back.
+pub(crate) struct Unstored<F: Drop> {
+    alloc: Global,
+    files: Vec<Ended<F>>,
+    // The folders that the names stand in.
+    folders: Vec<String>,
+    // The first file or folder that was not stored.
+    lost: Option<String>,
+}
+
+// By hand, so that letting go of it is one call.
+impl<F: Drop> Drop for Unstored<F> {
+    fn drop(self) {
+        let Unstored {
+            alloc: _,
+            files: _files,
+            folders: _folders,
+            lost: _lost,
+        } = self;
+    }
+}
+
+impl<F: OpenFile + Drop> Unstored<F> {
+    /// Nothing was made.
+    pub(crate) fn new(alloc: Global) -> Self
+        ensures { IsStored result.files.items result.folders.items result.lost }
+    {
+        Unstored {
+            alloc,
+            files: Vec::new(alloc),
+            folders: Vec::new(alloc),
+            lost: None,
+        }
+    }
+
+    /// How many files wait.
+    pub(crate) fn files_len(&self) -> usize
+        ensures { result ≡ length self.now.files.items }
+    {
+        self.files.len()
+    }
+
+    /// The path of what was lost, and else of the current folder.
+    pub(crate) fn lost(&self) -> &str
+        ensures { IfSome self.now.lost (λ path. result.now ≡ string_bytes path) }
+    {
+        match &self.lost {
+            Some(path) => path.as_str(),
+            None => ".",
+        }
+    }
+
+    /// Makes room for one more file and one more folder, of which it gives the path.
+    pub(crate) fn room(&mut self, folder: &str) -> Result<String, AllocError>
+        ensures copied { IfOk result (λ path. string_bytes path ≡ folder.now) }
+        ensures files { self.new.files.items ≡ self.old.files.items }
+        ensures folders { self.new.folders.items ≡ self.old.folders.items }
+        ensures lost { self.new.lost ≡ self.old.lost }
+    {
+        self.files.reserve(1)?;
+        self.folders.reserve(1)?;
+        String::from_str(self.alloc, folder)
+    }
+
+    /// Remembers a folder in which something was made.
+    pub(crate) fn name(&mut self, folder: String) -> Result<(), AllocError>
+        ensures named { IsOk result → self.new.folders.items ≡ self.old.folders.items ++ folder ∷ [] }
+        ensures same { self.new ≡ record self.old { folders = self.new.folders } }
+    {
+        self.folders.push(folder)?;
+        Ok(())
+    }
+
+    /// Remembers a file that has ended.
+    pub(crate) fn keep(&mut self, path: String, file: F) -> Result<(), AllocError>
+        ensures kept { IsOk result
+            → self.new.files.items ≡ self.old.files.items ++ record { path = path; file = file } ∷ [] }
+        ensures same { self.new ≡ record self.old { files = self.new.files } }
+    {
+        self.files.push(Ended { path, file })?;
+        Ok(())
+    }
+
+    // Remembers what was not stored, where nothing was so far.
+    fn lose(&mut self, path: String)
+        ensures first { self.old.lost ≡ None → self.new.lost ≡ Some path }
+        ensures stays { IsSome self.old.lost → self.new.lost ≡ self.old.lost }
+        ensures same { self.new ≡ record self.old { lost = self.new.lost } }
+    {
+        if self.lost.is_none() {
+            self.lost = Some(path);
+        }
+    }
+
+    /// Refuses where something is lost.
+    pub(crate) fn answer(&self) -> io::Result<()>
+        ensures { IsOk result ↔ (self.now.lost ≡ None) }
+    {
+        match &self.lost {
+            Some(_) => Err(io::Error::other("not stored")),
+            None => Ok(()),
+        }
+    }
+
+    /// Has the system store the files, and closes them. Refused where something is lost.
+    pub(crate) fn store_files(&mut self) -> io::Result<()>
+        ensures closed { self.new.files.items ≡ [] }
+        ensures done { IsOk result ↔ (self.new.lost ≡ None) }
+        ensures stays { IsSome self.old.lost → self.new.lost ≡ self.old.lost }
+        ensures folders { self.new.folders ≡ self.old.folders }
+    {
+        let files = mem::replace(&mut self.files, Vec::new(self.alloc));
+        for ended in files {
+            let Ended { path, file } = ended;
+            if file.sync_all().is_err() {
+                self.lose(path);
+            }
+        }
+        self.answer()
+    }
+
+    // Has the system store the names, each folder once.
+    fn store_folders<R: fs::Files>(&mut self, rt: &R) -> io::Result<()>
+        ensures none { self.new.folders.items ≡ [] }
+        ensures done { IsOk result ↔ (self.new.lost ≡ None) }
+        ensures stays { IsSome self.old.lost → self.new.lost ≡ self.old.lost }
+        ensures files { self.new.files ≡ self.old.files }
+    {
+        self.folders.sort_unstable();
+        self.folders.dedup();
+        let folders = mem::replace(&mut self.folders, Vec::new(self.alloc));
+        for folder in folders {
+            if store_folder(rt, folder.as_str()).is_err() {
+                self.lose(folder);
+            }
+        }
+        self.answer()
+    }
+
+    /// Has the system store all. Refused where something is lost.
+    pub(crate) fn store<R: fs::Files>(&mut self, rt: &R) -> io::Result<()>
+        ensures stored { IsOk result → IsStored self.new.files.items self.new.folders.items self.new.lost }
+        ensures lost { IsErr result → IsSome self.new.lost }
+        ensures stays { IsSome self.old.lost → self.new.lost ≡ self.old.lost }
+    {
+        self.store_files()?;
+        self.store_folders(rt)
+    }
+}
+
+/// The file or the folder at the path, opened for reading. Anything else is refused, since to open it could
+/// wait.
+pub(crate) fn open<R: fs::Files>(rt: &R, path: &str) -> io::Result<R::File> {
+    let found = fs::metadata(rt, path)?;
+    if !found.is_file() && !found.is_dir() {
+        return Err(io::Error::other("no file and no folder"));
+    }
+    File::open(rt, path)
+}
+
+// Has the system store the names in a folder. A folder that may not be opened is passed over, and one that
+// its system can't store.
+fn store_folder<R: fs::Files>(rt: &R, path: &str) -> io::Result<()> {
+    let folder = match open(rt, path) {
+        Ok(folder) => folder,
+        Err(error) if error.kind() == ErrorKind::PermissionDenied => return Ok(()),
+        Err(error) => return Err(error),
+    };
+    match folder.sync_all() {
+        Err(error) if error.kind() == ErrorKind::InvalidInput => Ok(()),
+        answer => answer,
+    }
+}

@@ -1,0 +1,145 @@
+//! What a disc holds after a power cut, where it promises what POSIX does and no more: the bytes of a file last
+//! once it was stored, and a name once its folder was. All else may be there or not.
+
+/// What stands at a path.
+#[derive(Clone, Copy, PartialEq)]
+pub(super) enum Kind {
+    File,
+    Folder,
+    Pipe,
+}
+
+/// What was made, and how much of it lasts.
+pub(super) struct Entry {
+    pub(super) path: String,
+    pub(super) kind: Kind,
+    pub(super) bytes: Vec<u8>,
+    /// How many bytes last, and whether the name does.
+    pub(super) lasting: usize,
+    pub(super) is_named: bool,
+}
+
+// By hand, so that letting go of it is one call.
+impl Drop for Entry {
+    fn drop(self) {
+        let Entry {
+            path: _path,
+            kind: _,
+            bytes: _bytes,
+            lasting: _,
+            is_named: _,
+        } = self;
+    }
+}
+
+/// The bytes of each file of a run whose power may be cut.
+const WHOLE: usize = 3;
+
+/// What may be there after a power cut.
+#[derive(Clone, Copy, PartialEq)]
+enum State {
+    /// What lasts alone.
+    Least,
+    /// That, each directory, and the folders above it.
+    Worst,
+    /// All.
+    All,
+}
+
+/// The folder of a path of the disc.
+pub(super) fn parent(path: &str) -> &str {
+    match path.rsplit_once('/') {
+        Some((folder, _)) => folder,
+        None => ".",
+    }
+}
+
+/// Does the path stand below the folder?
+fn is_below(path: &str, folder: &str) -> bool {
+    match path.strip_prefix(folder) {
+        Some(rest) => rest.starts_with('/'),
+        None => false,
+    }
+}
+
+fn is_directory(entry: &Entry) -> bool {
+    match entry.path.as_str().rsplit_once('/') {
+        Some((_, name)) => name == "DICOMDIR",
+        None => entry.path.as_str() == "DICOMDIR",
+    }
+}
+
+/// Is it the other, or a folder above that?
+fn leads_to(entry: &Entry, other: &Entry) -> bool {
+    let (path, end) = (entry.path.as_str(), other.path.as_str());
+    path == end || is_below(end, path)
+}
+
+/// Is the name there in this state?
+fn is_there(entry: &Entry, entries: &[Entry], state: State) -> bool {
+    match state {
+        State::Least => entry.is_named,
+        State::Worst => entry.is_named || leads_to_directory(entry, entries),
+        State::All => true,
+    }
+}
+
+fn leads_to_directory(entry: &Entry, entries: &[Entry]) -> bool {
+    for other in entries {
+        if is_directory(other) && leads_to(entry, other) {
+            return true;
+        }
+    }
+    false
+}
+
+/// How many bytes the file has in this state.
+fn length(file: &Entry, state: State) -> usize {
+    match state {
+        State::Least => file.lasting,
+        State::Worst if !is_directory(file) => file.lasting,
+        _ => file.bytes.len(),
+    }
+}
+
+/// Is the file there in this state with all its bytes, and is each folder above it?
+fn is_whole(file: &Entry, entries: &[Entry], state: State) -> bool {
+    for entry in entries {
+        if leads_to(entry, file) && !is_there(entry, entries, state) {
+            return false;
+        }
+    }
+    length(file, state) == WHOLE
+}
+
+/// Is a directory whole in this state, while a file is not?
+fn is_broken(entries: &[Entry], state: State) -> bool {
+    let mut has_directory = false;
+    let mut has_loss = false;
+    for entry in entries {
+        if entry.kind == Kind::File {
+            let is_whole = is_whole(entry, entries, state);
+            has_directory = has_directory || is_whole && is_directory(entry);
+            has_loss = has_loss || !is_whole;
+        }
+    }
+    has_directory && has_loss
+}
+
+/// May a power cut now leave a whole directory without its images?
+pub(super) fn may_break(entries: &[Entry]) -> bool {
+    entries.iter().any(is_directory)
+        && (is_broken(entries, State::Least)
+            || is_broken(entries, State::Worst)
+            || is_broken(entries, State::All))
+}
+
+/// Does all last that is there?
+pub(super) fn all_last(entries: &[Entry]) -> bool {
+    for entry in entries {
+        if !entry.is_named || entry.lasting != entry.bytes.len() {
+            return false;
+        }
+    }
+    true
+}
