@@ -1,6 +1,7 @@
 //! The levels of records.
 
-ghost use Rattle.std.specs.Prelude.{◌≡◌, ◌≤◌, length};
+ghost use Rattle.std.specs.Prelude.{◌≡◌, ◌≤◌, length, Some};
+ghost use Rattle.dd_layout.specs.Levels.{name_of};
 ghost use Rattle.dd_layout.specs.Records.{kind_of};
 
 use std::fmt;
@@ -35,6 +36,8 @@ impl Level {
 
 /// Prints the name of the level.
 impl fmt::Display for Level {
+    ghost output = { λ level. Some (name_of level) };
+
     fn fmt<W: fmt::Write>(&self, f: &mut fmt::Formatter<W>) -> fmt::Result {
         match self {
             Level::Patient => write!(f, "Patient"),
