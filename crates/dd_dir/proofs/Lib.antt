@@ -17,6 +17,7 @@ pub mod ListedAlong
 pub mod ListedFirst
 pub mod ListedImages
 pub mod Moved
+pub mod OffsetsWithin
 pub mod OwnDirectories
 pub mod OwnKeys
 pub mod PlacesAlong

@@ -1,5 +1,5 @@
 -- The ID of a file-set is read back from its directory as it was written.
-use Rattle.std.specs.Prelude.{◌≡◌, ◌≢◌, ◌<◌, ℕ, List, [], ◌∷◌, ◌++◌, length, All, get_or}
+use Rattle.std.specs.Prelude.{◌≡◌, ◌≢◌, ◌<◌, ℕ, List, length, All, get_or}
 use Rattle.std.proofs.Common.{refl, ◌∙◌, ap, subst, arith, inl, inr}
 use Rattle.std.proofs.lemmas.List.{get_or_push, length_push}
 use Rattle.dd_elem.specs.Characters.{IsIdCharacter}

@@ -1,5 +1,5 @@
 -- The bytes of a directory (PS3.3 section F.3.2, PS3.10 section 8.6).
-use Rattle.std.specs.Prelude.{ℕ, List, [], ◌++◌, length, map, Option, None, Some, slice_get, codes}
+use Rattle.std.specs.Prelude.{◌<◌, ℕ, List, [], ◌++◌, All, length, map, Option, None, Some, slice_get, codes}
 use Rattle.std.specs.List.{last_or}
 use Rattle.dd_catalogue.specs.Harmony.{harmonised}
 use Rattle.dd_elem.specs.Digests.{uid_of_digest}
@@ -11,6 +11,7 @@ use Rattle.dd_set.specs.Spelling.{elements_text}
 use Rattle.dd_layout.specs.declared.label.Label.{Label}
 use Rattle.dd_layout.specs.declared.record.PlanRecord.{PlanRecord}
 use Rattle.dd_layout.specs.Directory.{directory_entries, meta_of}
+use Rattle.dd_layout.specs.Layouts.{StandsWithin}
 use Rattle.dd_layout.specs.Plans.{at_or_none, records_of, tree}
 use Rattle.dd_layout.specs.Records.{record_entries, record_part}
 use Rattle.dd_layout.specs.Tree.{children, first_child}
@@ -23,6 +24,13 @@ first_root label versions = at_or_none label versions (first_child (tree version
 
 abbrev pub last_root : Label → List Parts → ℕ
 last_root label versions = at_or_none label versions (last_or None (children (tree versions) []))
+
+-- All offsets in a directory of these versions are smaller than this number of bytes: those of the first and of the last
+-- root record, and of each record its own, that of the next one and that of the first one below, where none is 0.
+pub record OffsetsWithin (bytes : ℕ) (label : Label) (versions : List Parts) : Type 0 where
+  pub first : first_root label versions < bytes
+  pub last : last_root label versions < bytes
+  pub records : All (StandsWithin bytes) (records_of label versions)
 
 -- the elements of a record, with the keys of the version that it is of
 abbrev pub entries_by : PlanRecord → Option Parts → List Entry

@@ -1,11 +1,11 @@
 //! From a catalogue, or from what was taken, to the bytes of a directory.
 
-ghost use Rattle.std.specs.Prelude.{◌≡◌, ◌⊎◌, None, Some, IfErr, IfOk, IsOk};
+ghost use Rattle.std.specs.Prelude.{◌≡◌, ◌⊎◌, None, Some, IfErr, IfOk, IsOk, length};
 ghost use Rattle.dd_catalogue.specs.Harmony.{harmonised};
 ghost use Rattle.dd_catalogue.specs.Histories.{taken};
 ghost use Rattle.dd_catalogue.specs.Versions.{best_of};
 ghost use Rattle.dd_layout.specs.Refusal.{refusal};
-ghost use Rattle.dd_dir.specs.Directories.{IsDirectory, directory};
+ghost use Rattle.dd_dir.specs.Directories.{IsDirectory, OffsetsWithin, directory};
 ghost use Rattle.dd_dir.specs.SaysItself.{SaysItself};
 ghost use Rattle.dd_dir.specs.Visits.{Realises};
 
@@ -27,6 +27,7 @@ pub fn publish(
 ) -> Result<Vec<u8>, PlanFault>
     ensures bytes { IfOk result (λ bytes. bytes.items ≡ directory label.now catalogue.now) }
     ensures file { IsOk result → IsDirectory label.now (harmonised catalogue.now) }
+    ensures within { IfOk result (λ bytes. OffsetsWithin (length bytes.items) label.now (harmonised catalogue.now)) }
     ensures realised { IfOk result (λ bytes. Realises label.now catalogue.now bytes.items) }
     ensures own { IfOk result (λ bytes. SaysItself catalogue.now bytes.items) }
     ensures allowed { IsOk result → refusal label.now limits catalogue.now ≡ None }
@@ -53,6 +54,8 @@ pub fn assemble(
 ) -> Result<Vec<u8>, PlanFault>
     ensures bytes { IfOk result (λ bytes. bytes.items ≡ directory label.now (best_of (taken history.now))) }
     ensures file { IsOk result → IsDirectory label.now (harmonised (best_of (taken history.now))) }
+    ensures within { IfOk result (λ bytes. OffsetsWithin (length bytes.items) label.now
+        (harmonised (best_of (taken history.now)))) }
     ensures realised { IfOk result (λ bytes. Realises label.now (best_of (taken history.now)) bytes.items) }
     ensures own { IfOk result (λ bytes. SaysItself (best_of (taken history.now)) bytes.items) }
     ensures allowed { IsOk result → refusal label.now limits (best_of (taken history.now)) ≡ None }

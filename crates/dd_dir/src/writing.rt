@@ -6,7 +6,7 @@ ghost use Rattle.dd_catalogue.specs.Versions.{IsCatalogue};
 ghost use Rattle.dd_keys.specs.declared.parts.Parts.{Parts};
 ghost use Rattle.dd_layout.specs.Plans.{size};
 ghost use Rattle.dd_set.specs.Sends.{SendsTo};
-ghost use Rattle.dd_dir.specs.Directories.{IsDirectory, directory_of};
+ghost use Rattle.dd_dir.specs.Directories.{IsDirectory, OffsetsWithin, directory_of};
 ghost use Rattle.dd_dir.specs.SaysItself.{SaysItself};
 ghost use Rattle.dd_dir.specs.Visits.{Realises};
 
@@ -25,9 +25,11 @@ pub fn write_directory<W: Write>(plan: &Plan, writer: &mut W) -> Result<u64, Wri
     ensures sends { let text = directory_of plan.now.label plan.now.versions
         in SendsTo W.contents W.rest W.failures text 0 result writer.old writer.new }
 
-    // Where the bytes were sent whole, they are as many as the plan says, and a file of the class of directories.
+    // Where the bytes were sent whole, they are as many as the plan says, and a file of the class of directories. All
+    // offsets in them are smaller than their number.
     ensures size { IfOk result (λ n. n ≡ size plan.now.label plan.now.versions) }
     ensures file { IsOk result → IsDirectory plan.now.label plan.now.versions }
+    ensures within { IfOk result (λ n. OffsetsWithin n plan.now.label plan.now.versions) }
 
     // Where they are those of a catalogue in harmony, they realise its tree, and say its versions.
     ensures realised { IsOk result → (m : List Parts) → IsCatalogue m → plan.now.versions ≡ harmonised m

@@ -1,7 +1,8 @@
-use Rattle.std.proofs.Common.{◌≡◌, ◌++◌, ℕ, List, [], refl, sym, ap, subst, ◌∙◌}
+use Rattle.std.proofs.Common.{◌≡◌, ◌+◌, ◌++◌, ℕ, List, [], length, refl, sym, ap, subst, ◌∙◌, arith}
+use Rattle.dd_catalogue.specs.Harmony.{harmonised}
 use Rattle.dd_elem.specs.Sink.{Store}
 use Rattle.dd_layout.specs.Layouts.{Layout}
-use Rattle.dd_dir.specs.Directories.{IsDirectory, directory_of}
+use Rattle.dd_dir.specs.Directories.{IsDirectory, OffsetsWithin, directory_of}
 use Rattle.dd_dir.specs.SaysItself.{SaysItself}
 use Rattle.dd_dir.specs.Visits.{Realises}
 use Rattle.dd_dir.proofs.publishing.publish.Goals as goal
@@ -18,6 +19,19 @@ pub returns-in-Ok-clause-file : goal.returns-in-Ok-clause-file
 returns-in-Ok-clause-file c = λ ok.
     subst (λ (plan : Layout). IsDirectory plan.label plan.versions) c.in_ok-plan.ensures.planned
     (c.in-Ok.ensures.file refl)
+
+pub returns-in-Ok-clause-within : goal.returns-in-Ok-clause-within
+returns-in-Ok-clause-within c =
+    let plan = c.in_ok-plan.plan in
+    let text = directory_of plan.label plan.versions in
+    let long : 0 + length text ≡ length text = omega arith in
+    let whole = subst (λ (n : ℕ). OffsetsWithin n plan.label plan.versions) (c.in-Ok.ensures.sends.ok.0 ∙ long)
+    c.in-Ok.ensures.within in
+    let planned = subst (λ (p : Layout). OffsetsWithin (length (directory_of p.label p.versions)) p.label p.versions)
+    c.in_ok-plan.ensures.planned whole in
+    let m = harmonised c.args.catalogue.now in
+    subst (λ (bytes : List ℕ). OffsetsWithin (length bytes) c.args.label.now m) (sym (returns-in-Ok-clause-bytes c))
+    planned
 
 pub returns-in-Ok-clause-realised : goal.returns-in-Ok-clause-realised
 returns-in-Ok-clause-realised c =

@@ -6,6 +6,7 @@ use Rattle.dd_layout.specs.Layouts.{IsSound}
 use Rattle.dd_set.proofs.Going.{first_fails, then_sends, sends_same}
 use Rattle.dd_dir.proofs.DirectoryFiles.{directory_is_file}
 use Rattle.dd_dir.proofs.KeyedRecords.{whole_sent}
+use Rattle.dd_dir.proofs.OffsetsWithin.{within_size}
 use Rattle.dd_dir.proofs.Realised.{realises, says_itself}
 use Rattle.dd_dir.proofs.DirectoryTexts.{directory_length, directory_parts, records_fit, size_told}
 use Rattle.dd_dir.proofs.writing.write_directory.Goals as goal
@@ -107,6 +108,10 @@ returns-clause-file g c = λ ok.
     c.from.result c.label-label.ensures c.records-records.ensures.all c.records-records.ensures.sound c.size.ensures
     c.from.ensures below c.first_offset.ensures.id c.first_offset.ensures.uid
     (rw c.versions.ensures at c.send_records.ensures.valid ok)
+
+pub returns-clause-within : goal.returns-clause-within
+returns-clause-within g c =
+    within_size c.args.plan.now.label c.args.plan.now.versions _ (returns-clause-size g c)
 
 pub returns-clause-realised : goal.returns-clause-realised
 returns-clause-realised g c = λ ok m up is.
