@@ -1,7 +1,6 @@
 -- Readers that are lent and taken back, and how often they read.
-use Rattle.std.proofs.Common.{◌≡◌, ◌≢◌, ◌<◌, ◌≤◌, ◌+◌, ◌-◌, ℕ, refl, sym, subst, inl, inr, ◌∙◌, arith}
+use Rattle.std.proofs.Common.{◌≡◌, ◌<◌, ◌≤◌, ◌+◌, ◌-◌, ℕ, sym, subst, inl, inr, ◌∙◌, arith}
 use Rattle.std.proofs.lemmas.Bool.{cases_eq}
-use Rattle.dd_elem.specs.Device.{last_count}
 use Rattle.dd_engine.specs.Supply.{AllStay, EachGrows, IsUsed, OthersStay, added}
 
 -- ---- a reader of one source, which was lent, is taken back

@@ -2,7 +2,7 @@
 use Rattle.std.proofs.Common.{◌≡◌, ◌<◌, ◌≤◌, ℕ, zero, suc, List, [], ◌∷◌, length, Option, Some, None, Result, Ok, Err}
 use Rattle.std.proofs.Common.{refl, sym, ap, subst, inl, inr, ◌∙◌, arith}
 use Rattle.std.proofs.lemmas.Option.{slice_get_cases, slice_get_within}
-use Rattle.std.specs.Prelude.{◌↔◌, Contains, IfErr, IfSome, IsSome, MatchResult, slice_get}
+use Rattle.std.specs.Prelude.{◌↔◌, Contains, IfErr, IfSome, IsSome, slice_get}
 use Rattle.dd_catalogue.specs.Best.{SameMembers}
 use Rattle.dd_catalogue.specs.Versions.{versions_ordered}
 use Rattle.dd_catalogue.proofs.BestMembers.{best_is_best, same_best}
@@ -12,7 +12,7 @@ use Rattle.dd_keys.specs.Answers.{Answers}
 use Rattle.dd_keys.specs.Faults.{IsWantOfMemory, SaysMemory}
 use Rattle.dd_keys.specs.Versions.{IsVersion}
 use Rattle.dd_keys.specs.declared.fault.KeyFault.{KeyFault}
-use Rattle.dd_keys.specs.declared.fault.KeyFault.TheVariants.{File, FileTooLong, Memory}
+use Rattle.dd_keys.specs.declared.fault.KeyFault.TheVariants.{File, Memory}
 use Rattle.dd_keys.specs.declared.parts.Parts.{Parts}
 use Rattle.dd_part10.specs.declared.fault.FileFault.TheVariants.{Meta, Set}
 use Rattle.dd_set.specs.declared.fault.SetFault.TheVariants as parsing
@@ -84,7 +84,6 @@ there_of limit at sources told version (Some file) is some within right =
 
 module _ (limit sources : ℕ) (told : ℕ → Option (List ℕ)) (answers : List Answer) (many : length answers ≡ sources)
     (right : AreAnswers limit told answers) where
-
   answer_at : (at : ℕ) (answer : Answer) → slice_get answers at ≡ Some answer → IsAnswer limit (told at) answer
   answer_at at answer is =
       subst (λ (o : Option Answer). IfSome o (IsAnswer limit (told at))) is (right.each at)
@@ -144,7 +143,6 @@ one_best limit sources others told other one two many few right right_too all ea
     (best_is_best versions_ordered (versions_of (accepted two)))
 
 module _ (choice : Choice) (limits : Bounds) where
-
   plans_agree : (one two : List Answer) (first second : Indexed)
       → best_of_sources (accepted one) ≡ best_of_sources (accepted two) → IsIndexed choice limits one first
       → IsIndexed choice limits two second → AreSamePlans first.plan second.plan

@@ -1,5 +1,5 @@
 -- When sources have the same versions, whatever their order and however often one comes.
-use Rattle.std.specs.Prelude.{◌≡◌, ◌↔◌, ◌<◌, ◌≤◌, ℕ, List, length, Option, Some, IsSome}
+use Rattle.std.specs.Prelude.{◌≡◌, ◌<◌, ◌≤◌, ℕ, List, length, Option, Some, IsSome}
 use Rattle.std.specs.Prelude.{Result, Ok, Err}
 use Rattle.dd_dir.specs.Directories.{directory_of}
 use Rattle.dd_keys.specs.Versions.{IsVersion}
