@@ -2,8 +2,10 @@ mod Answering
 pub mod FaultsNamed
 mod FirstMarks
 mod ImagePicks
+mod Lending
 mod MergePlans
 mod MergedMaps
+mod OneOfVersions
 mod PicksWithin
 mod PlacePicks
 mod Planning

@@ -5,4 +5,5 @@ pub mod MergeSteps
 pub mod Merging
 pub mod Picking
 pub mod Published
+pub mod SameVersions
 pub mod Supply

@@ -29,6 +29,16 @@ pub record OthersStay (at : ℕ) (old new : ℕ → ℕ) : Type 0 where
 pub record StayBelow (at : ℕ) (old new : ℕ → ℕ) : Type 0 where
   pub stays : (before : ℕ) → before < at → new before ≡ old before
 
+-- each count grew by at most `most`
+pub record EachGrows (most : ℕ) (old new : ℕ → ℕ) : Type 0 where
+  pub grows : (at : ℕ) → new at ≤ old at + most
+
+-- Of each source as many readers are lent as before. One was read at most `most` times more, and no other.
+pub record IsUsed (at most : ℕ) (lent back reads read : ℕ → ℕ) : Type 0 where
+  pub ended : AllStay lent back
+  pub few : read at ≤ reads at + most
+  pub others : OthersStay at reads read
+
 -- Reading `sources` sources ended with a fault; the refusals were `refusals` and are `refused`, the failures of their
 -- readers were `unread` and are `failed`. A source that is named failed in this, and none before it did; where memory
 -- ran out none failed.

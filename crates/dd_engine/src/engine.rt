@@ -1,9 +1,9 @@
 //! From sources to the plan of their directory.
 
-ghost use Rattle.std.specs.Prelude.{◌≡◌, List, IfErr, IfOk, IsOk, length};
+ghost use Rattle.std.specs.Prelude.{◌≡◌, ◌+◌, List, IfErr, IfOk, IsOk, length};
 ghost use Rattle.dd_engine.specs.Indexed.{AnswersSupply, FailsBy, Indexes, IsNamed, IsWithin};
 ghost use Rattle.dd_engine.specs.Indexing.{Answer};
-ghost use Rattle.dd_engine.specs.Supply.{AllStay, Holds};
+ghost use Rattle.dd_engine.specs.Supply.{AllStay, EachGrows, Holds};
 
 use crate::choice::{Choice, plan_for};
 use crate::engine_fault::EngineFault;
@@ -59,6 +59,10 @@ pub fn index_engine<S: Supply>(
         (S.refusals supply.old) (S.refusals supply.new) (S.unread supply.old) (S.unread supply.new)) }
     ensures worked { IsOk result → AllStay (S.refusals supply.old) (S.refusals supply.new)
         × AllStay (S.unread supply.old) (S.unread supply.new) }
+
+    // Each reader is ended, and of each source there are at most `file_limit` + 1 reads.
+    ensures ended { AllStay (S.lent supply.old) (S.lent supply.new) }
+    ensures reads { EachGrows (file_limit + 1) (S.reads supply.old) (S.reads supply.new) }
 
     // What stays.
     ensures kept { (S.sources supply.new ≡ S.sources supply.old) × (S.told supply.new ≡ S.told supply.old)

@@ -1,8 +1,10 @@
 //! The versions of all sources.
-ghost use Rattle.std.specs.Prelude.{◌≡◌, ◌↔◌, ◌<◌, ◌++◌, ◌∷◌, ℕ, List, [], length, IsOk, IfOk, IfErr, OnOk, IsTrue};
+ghost use Rattle.std.specs.Prelude.{◌≡◌, ◌↔◌, ◌+◌, ◌<◌, ◌++◌, ◌∷◌, ℕ, List, [], length};
+ghost use Rattle.std.specs.Prelude.{IsOk, IfOk, IfErr, OnOk, IsTrue};
 ghost use Rattle.dd_elem.specs.Device.{IsLive};
 ghost use Rattle.dd_engine.specs.Indexing.{Answer};
-ghost use Rattle.dd_engine.specs.Supply.{AllStay, AreAnswers, EndsWith, Holds, IsAnswer, IsOfSource};
+ghost use Rattle.dd_engine.specs.Supply.{AllStay, AreAnswers, EachGrows, EndsWith, Holds, IsAnswer, IsOfSource};
+ghost use Rattle.dd_engine.specs.Supply.{IsUsed};
 
 use crate::engine_fault::EngineFault;
 use crate::supply::Supply;
@@ -95,6 +97,10 @@ pub(crate) fn read_sources<S: Supply>(
     ensures fault { IfErr result (λ fault. EndsWith fault (S.sources supply.old)
         (S.refusals supply.old) (S.refusals supply.new) (S.unread supply.old) (S.unread supply.new)) }
 
+    // Each reader is ended, and of each source there are at most `limit` + 1 reads.
+    ensures ended { AllStay (S.lent supply.old) (S.lent supply.new) }
+    ensures reads { EachGrows (limit + 1) (S.reads supply.old) (S.reads supply.new) }
+
     // What stays.
     ensures kept { (S.sources supply.new ≡ S.sources supply.old) × (S.told supply.new ≡ S.told supply.old)
         × (S.rest supply.new ≡ S.rest supply.old) }
@@ -121,6 +127,8 @@ fn read_one<S: Supply>(
     ensures unread { IsOk result → AllStay (S.unread supply.old) (S.unread supply.new) }
     ensures fault { IfErr result (λ fault. EndsWith fault (S.sources supply.old)
         (S.refusals supply.old) (S.refusals supply.new) (S.unread supply.old) (S.unread supply.new)) }
+    ensures used { IsUsed at (limit + 1) (S.lent supply.old) (S.lent supply.new)
+        (S.reads supply.old) (S.reads supply.new) }
     ensures kept { (S.sources supply.new ≡ S.sources supply.old) × (S.told supply.new ≡ S.told supply.old)
         × (S.rest supply.new ≡ S.rest supply.old) }
 {

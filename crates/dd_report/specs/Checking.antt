@@ -85,39 +85,39 @@ module _ {R : Type 0} (has_given : R → List ℕ → Type 0) (remaining : R →
     pub named : NamesFile node → IsFileId (file_in node)
         → ((finding ≡ Some Missing) × (new ≡ counted old)) ⊎ (HasWorked old new × FindsRead node finding)
 
-  -- what is told of a record
+  -- what a check says of a record
   pub record TellsRecord (node : Node) (old new : ℕ) (text : List ℕ) : Type 0 where
     pub finding : Option Finding
     pub finds : FindsFile node old new finding
     pub line : text ≡ finding_line node finding
 
-  -- what is told of records, one after the other
+  -- what it says of records, one after the other
   abbrev pub TellsAll : List Node → ℕ → ℕ → List ℕ → Type 0
   TellsAll [] old new text = (new ≡ old) × (text ≡ [])
   TellsAll (node ∷ nodes) old new text = (here : List ℕ) × (later : List ℕ) × (mid : ℕ)
       × (text ≡ here ++ later) × TellsRecord node old mid here × TellsAll nodes mid new later
 
-  -- what is told of the first of these records, and nothing of the others
+  -- what it says of the first of these records, and not of the others
   pub record TellsFirst (nodes : List Node) (old new : ℕ) (text : List ℕ) : Type 0 where
     pub first : List Node
     pub others : List Node
     pub parts : nodes ≡ first ++ others
     pub told : TellsAll first old new text
 
-  -- what is told of all of a directory, and whether something is found
+  -- what it says of all of a directory, and whether something is found
   abbrev pub TellsWalk : Walk → Bool → ℕ → ℕ → List ℕ → Type 0
   TellsWalk walk found old new text = (findings : List ℕ) × TellsAll (nodes_of walk.trees) old new findings
       × (found ≡ not (is_right findings walk)) × (text ≡ findings ++ end_line findings walk)
 
-  -- what is told of a directory up to some place: of its first records, or of all of it
+  -- what it says of a directory up to some place: of its first records, or of all of it
   abbrev pub TellsSome : Walk → ℕ → ℕ → List ℕ → Type 0
   TellsSome walk old new text =
       TellsFirst (nodes_of walk.trees) old new text ⊎ ((found : Bool) × TellsWalk walk found old new text)
 
   -- ---- the answers of a check
 
-  -- What is told went on its way, and the answer says whether something was found. Where memory ran out it is told of
-  -- the first records; where the writer failed, it did so in what is told of them.
+  -- What it says of these records went on its way, and the answer says whether something was found. Where memory ran
+  -- out it speaks of the first of them, and where the writer failed, it failed in what was to go.
   abbrev pub Checks : List Node → Result Bool CheckFault → ℕ → ℕ → Way → Way → Type 0
   Checks nodes (Ok found) old new from to =
       (text : List ℕ) × TellsAll nodes old new text × (found ≡ not (is_empty text)) × GoesOn text from to

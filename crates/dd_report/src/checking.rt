@@ -28,7 +28,7 @@ pub enum CheckFault {
 
 /// Checks the files that the records of a directory name, in this folder, and tells what is found, depth
 /// first. Answers whether something is found. Memory where a growth is refused; Unsent where the output
-/// fails. What is found of the records before that is told.
+/// fails. The findings of the records before that are sent.
 pub fn check_records<F: Files, W: Write>(
     alloc: Global,
     folder: &str,
@@ -41,7 +41,7 @@ pub fn check_records<F: Files, W: Write>(
         (walk_view forest.now) found (F.refusals files.old) (F.refusals files.new) text
         × TakesAll (W.contents to.old) (W.contents to.new) (W.failures to.old) (W.failures to.new) text) }
 
-    // Where memory ran out, all is told of the first records; where the output failed, a front of what is told.
+    // Where memory ran out the findings of the first records are sent; where the output failed, a front of the text.
     ensures cut { result ≡ Err CheckFault.Memory → (text : List ℕ)
         × TellsFirst F.In.has_given F.In.remaining F.In.failures (F.held files.old) folder.now
         (nodes_of (walk_view forest.now).trees) (F.refusals files.old) (F.refusals files.new) text

@@ -22,11 +22,11 @@ impl<R: Read + Drop> CountedReader<R> {
         }
     }
 
-    /// How many reads failed.
-    pub(crate) fn failures(&self) -> u64
-        ensures { result ≡ self.now.counts.failures }
+    /// How often it was called, and how many of these reads failed.
+    pub(crate) fn counts(&self) -> Counts
+        ensures { result ≡ self.now.counts }
     {
-        self.counts.failures
+        self.counts
     }
 }
 

@@ -5,16 +5,15 @@ ghost use Rattle.dd_files.specs.Files.{Held};
 ghost use Rattle.dicomdir.specs.FileSupply.{told_by, counts_at};
 
 use crate::counted_reader::CountedReader;
-use dd_elem::Counts;
+use crate::source_counts::SourceCounts;
 use dd_engine::Supply;
 use dd_files::{Files, NotThere};
 
-/// Files that are read as sources, by their paths. The calls among the counts of a source are the
-/// refusals to open it, and the failures are those of its readers.
+/// Files that are read as sources, by their paths.
 pub(crate) struct FileSupply<'a, F: Files> {
     files: &'a mut F,
     paths: &'a [String],
-    counts: &'a mut [Counts],
+    counts: &'a mut [SourceCounts],
     ghost counted: { length counts.now ≡ length paths.now },
 }
 
@@ -36,7 +35,7 @@ impl<'a, F: Files> FileSupply<'a, F> {
     pub(crate) fn new(
         files: &'a mut F,
         paths: &'a [String],
-        counts: &'a mut [Counts],
+        counts: &'a mut [SourceCounts],
     ) -> FileSupply<'a, F>
         requires { length counts.old ≡ length paths.now }
         ensures reference { result.files.ghost_name ≡ files.entry.ghost_name }
@@ -59,9 +58,13 @@ impl<F: Files> Supply for FileSupply<'_, F> {
 
     ghost told = { λ s. told_by (F.held s.files.now) (map (λ path. string_bytes path) s.paths.now) };
 
-    ghost refusals = { λ s at. (counts_at s.counts.now at).calls };
+    ghost refusals = { λ s at. (counts_at s.counts.now at).refusals };
 
     ghost unread = { λ s at. (counts_at s.counts.now at).failures };
+
+    ghost reads = { λ s at. (counts_at s.counts.now at).reads };
+
+    ghost lent = { λ s at. (counts_at s.counts.now at).lent };
 
     ghost Rest = { GName × Option Held };
 
@@ -79,10 +82,12 @@ impl<F: Files> Supply for FileSupply<'_, F> {
         let mut counts = self.counts[at];
         if counts.is_live() {
             if let Ok(reader) = self.files.source(paths[at].as_str()) {
+                counts.lend();
+                self.counts[at] = counts;
                 return Ok(CountedReader::new(reader));
             }
         }
-        counts.call();
+        counts.refuse();
         self.counts[at] = counts;
         Err(NotThere)
     }
@@ -90,7 +95,7 @@ impl<F: Files> Supply for FileSupply<'_, F> {
     fn end(&mut self, at: usize, used: CountedReader<F::In>) {
         if at < self.counts.len() {
             let mut counts = self.counts[at];
-            counts.failures = counts.failures.saturating_add(used.failures());
+            counts.take_back(used.counts());
             self.counts[at] = counts;
         }
     }

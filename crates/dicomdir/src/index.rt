@@ -6,7 +6,8 @@ ghost use Rattle.dicomdir.specs.Refusal.{IsOfWork};
 use crate::file_set::{limits_of, refuse_taken};
 use crate::file_supply::FileSupply;
 use crate::refusal::{ProgramFault, Refusal, Subject};
-use dd_elem::{Counts, Memory};
+use crate::source_counts::SourceCounts;
+use dd_elem::Memory;
 use dd_engine::{Choice, EngineFault, Indexed, index_engine};
 use dd_files::{Files, SOURCE_LIMIT};
 use dd_layout::Limits;
@@ -45,7 +46,7 @@ pub(crate) fn plan_index<F: Files>(
 fn index_files<F: Files>(
     alloc: Global,
     sources: &[String],
-    counts: &mut [Counts],
+    counts: &mut [SourceCounts],
     choice: &Choice,
     limits: Limits,
     files: &mut F,
@@ -59,12 +60,12 @@ fn index_files<F: Files>(
 }
 
 /// The counts of so many sources.
-fn counts_of(alloc: Global, sources: usize) -> Result<Vec<Counts>, Memory>
+fn counts_of(alloc: Global, sources: usize) -> Result<Vec<SourceCounts>, Memory>
     ensures { IfOk result (λ counts. length counts.items ≡ sources) }
 {
     let mut counts = Vec::with_capacity(alloc, sources)?;
     for _ in 0..sources {
-        counts.push(Counts::new())?;
+        counts.push(SourceCounts::new())?;
     }
     Ok(counts)
 }

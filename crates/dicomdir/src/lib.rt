@@ -15,6 +15,7 @@ mod origins;
 mod program;
 mod refusal;
 mod set_directory;
+mod source_counts;
 
 pub use dd_engine::{
     Choice, EngineFault, Indexed, MergeFault, Merged, Pick, Supply, index_engine, merge_engine,

@@ -1,6 +1,5 @@
 //! Two sources in memory, which are indexed.
-ghost use Rattle.std.specs.Prelude.{None};
-ghost use Rattle.dicomdir.specs.FileSupply.{counts_at};
+ghost use Rattle.std.specs.Prelude.{None, slice_index, slice_index_or};
 
 use crate::cases::{Ask, ask_all};
 use dd_elem::{ByteSource, Counts, FileId, Read, SetId, Uid};
@@ -51,11 +50,14 @@ impl Read for Reader<'_> {
     }
 }
 
-/// Two sources, and of each the refusals to open it and the failures of its readers.
+/// Two sources; of each the refusals to open it and the failures of its readers, their reads, and how many of
+/// them are lent.
 #[derive(Drop)]
 struct Pair<'a> {
     sources: [&'a [u8]; 2],
     counts: [Counts; 2],
+    reads: [u64; 2],
+    lent: [u64; 2],
 }
 
 impl<'a> Supply for Pair<'a> {
@@ -65,9 +67,13 @@ impl<'a> Supply for Pair<'a> {
 
     ghost told = { λ _ _. None };
 
-    ghost refusals = { λ s at. (counts_at s.counts at).calls };
+    ghost refusals = { λ s at. (slice_index_or s.counts at (record { calls = 0; failures = 0 })).calls };
 
-    ghost unread = { λ s at. (counts_at s.counts at).failures };
+    ghost unread = { λ s at. (slice_index_or s.counts at (record { calls = 0; failures = 0 })).failures };
+
+    ghost reads = { λ s at. slice_index s.reads at };
+
+    ghost lent = { λ s at. slice_index s.lent at };
 
     ghost Rest = { Unit {0} };
 
@@ -82,7 +88,8 @@ impl<'a> Supply for Pair<'a> {
             return Err(NotThere);
         }
         let mut counts = self.counts[at];
-        if counts.is_live() {
+        if counts.is_live() && self.reads[at] < u64::MAX && self.lent[at] < u64::MAX {
+            self.lent[at] += 1;
             return Ok(Reader {
                 bytes: ByteSource::new(self.sources[at], 64, None),
                 counts: Counts::new(),
@@ -98,6 +105,8 @@ impl<'a> Supply for Pair<'a> {
             let mut counts = self.counts[at];
             counts.failures = counts.failures.saturating_add(used.counts.failures);
             self.counts[at] = counts;
+            self.reads[at] = self.reads[at].saturating_add(used.counts.calls);
+            self.lent[at] = self.lent[at].saturating_sub(1);
         }
     }
 }
@@ -108,6 +117,8 @@ fn indexed_by(alloc: Global, limit: u64) -> Result<Indexed, Fail> {
     let mut pair = Pair {
         sources: [&image, &other],
         counts: [Counts::new(); 2],
+        reads: [0; 2],
+        lent: [0; 2],
     };
     let id = SetId::new(b"")?;
     let uid = Some(Uid::new(b"2.25.0")?);

@@ -4,6 +4,7 @@ use Rattle.std.proofs.lemmas.List.{length_push}
 use Rattle.std.proofs.lemmas.Result.{err_from_is_err_and}
 use borrow.Author.Count.{below_more}
 use Rattle.dd_engine.proofs.Answering.{all_later, answer_before, answers_more, ends_later, live_before}
+use Rattle.dd_engine.proofs.Lending.{more_reads, still_later}
 use Rattle.dd_engine.proofs.reading.read_sources.Goals as goal
 
 pub loop-at-init : goal.loop-at-init
@@ -14,6 +15,9 @@ loop-at-init g c = record {
   held = c.new-sources.ensures;
   refusals = record { stays = λ _. refl };
   unread = record { stays = λ _. refl };
+  lent = record { stays = λ _. refl };
+  reads = record { grows = λ _. omega arith };
+  later = record { stays = λ _ _. refl };
   live = λ at below. absurd (omega arith);
   sources = refl;
   told = refl;
@@ -32,6 +36,9 @@ loop-at-preserved g c =
       held = c.in_ok-keep.ensures before.answers before.many before.held;
       refusals = all_later _ _ _ before.refusals (read.refusals refl);
       unread = all_later _ _ _ before.unread (read.unread refl);
+      lent = all_later _ _ _ before.lent read.used.ended;
+      reads = more_reads c.loop-at.at (c.args.limit + 1) _ _ _ before.reads before.later read.used.few read.used.others;
+      later = still_later c.loop-at.at _ _ _ before.later read.used.others;
       live = below_more _ _ before.live (live_before _ _ _ _ _ before.refusals before.unread (read.live refl));
       sources = read.kept.0 ∙ before.sources;
       told = read.kept.1 ∙ before.told;
@@ -54,3 +61,21 @@ returns-in_err-keep-clause-fault g c =
       all_later _ _ _ before.refusals (read.refusals refl),
       all_later _ _ _ before.unread (read.unread refl),
     )
+
+pub returns-in_err-answer-clause-ended : goal.returns-in_err-answer-clause-ended
+returns-in_err-answer-clause-ended g c = all_later _ _ _ c.loop-at.invariant.lent c.in_err-answer.ensures.used.ended
+
+pub returns-in_err-answer-clause-reads : goal.returns-in_err-answer-clause-reads
+returns-in_err-answer-clause-reads g c =
+    let before = c.loop-at.invariant in
+    let read = c.in_err-answer.ensures in
+    more_reads c.loop-at.at (c.args.limit + 1) _ _ _ before.reads before.later read.used.few read.used.others
+
+pub returns-in_err-keep-clause-ended : goal.returns-in_err-keep-clause-ended
+returns-in_err-keep-clause-ended g c = all_later _ _ _ c.loop-at.invariant.lent c.in_ok-answer.ensures.used.ended
+
+pub returns-in_err-keep-clause-reads : goal.returns-in_err-keep-clause-reads
+returns-in_err-keep-clause-reads g c =
+    let before = c.loop-at.invariant in
+    let read = c.in_ok-answer.ensures in
+    more_reads c.loop-at.at (c.args.limit + 1) _ _ _ before.reads before.later read.used.few read.used.others

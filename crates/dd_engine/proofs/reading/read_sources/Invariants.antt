@@ -1,7 +1,8 @@
-use Rattle.std.proofs.Common.{◌≡◌, ◌<◌, ℕ, List, length}
+use Rattle.std.proofs.Common.{◌≡◌, ◌<◌, ◌+◌, ℕ, List, length}
 use Rattle.dd_elem.specs.Device.{IsLive}
 use Rattle.dd_engine.specs.Indexing.{Answer}
-use Rattle.dd_engine.specs.Supply.{AllStay, AreAnswers, Holds}
+use Rattle.dd_engine.specs.Supply.{AllStay, AreAnswers, EachGrows, Holds}
+use Rattle.dd_engine.proofs.Lending.{StayFrom}
 use Rattle.dd_engine.proofs.reading.read_sources.Given as goal
 
 -- what is held so far are the answers for the sources so far, of which none failed
@@ -13,6 +14,9 @@ invariant-loop-at g l = record {
   held : Holds answers l.sources;
   refusals : AllStay (g.S.Supply.refusals l.fn.supply) (g.S.Supply.refusals l.supply);
   unread : AllStay (g.S.Supply.unread l.fn.supply) (g.S.Supply.unread l.supply);
+  lent : AllStay (g.S.Supply.lent l.fn.supply) (g.S.Supply.lent l.supply);
+  reads : EachGrows (l.limit + 1) (g.S.Supply.reads l.fn.supply) (g.S.Supply.reads l.supply);
+  later : StayFrom l.at (g.S.Supply.reads l.fn.supply) (g.S.Supply.reads l.supply);
   live : (at : ℕ) → at < l.at → IsLive (g.S.Supply.refusals l.fn.supply at) (g.S.Supply.unread l.fn.supply at);
   sources : g.S.Supply.sources l.supply ≡ g.S.Supply.sources l.fn.supply;
   told : g.S.Supply.told l.supply ≡ g.S.Supply.told l.fn.supply;

@@ -13,8 +13,8 @@ check_tree-returns-in_err-here-clause-checks g t c =
     let fails : r ≡ Err c.in_err-here.field-0.0 = rw (p.1, p.2) refl in
     record_ends g.F.In.Read.has_given g.F.In.Read.remaining g.F.In.Read.failures
     (g.F.Files.held c.args.files.now) c.args.folder.now c.args.tree.now r c.check_record.result
-    c.in_err-here.field-0.0 (g.F.Files.refusals c.args.files.now) (g.F.Files.refusals c.check_record.new.files) _ _ fails
-    c.in_err-here.was c.check_record.ensures.checks
+    c.in_err-here.field-0.0 (g.F.Files.refusals c.args.files.now) (g.F.Files.refusals c.check_record.new.files) _ _
+    fails c.in_err-here.was c.check_record.ensures.checks
 
 pub check_tree-returns-then-here-clause-checks : goal.check_tree-returns-then-here-clause-checks
 check_tree-returns-then-here-clause-checks g t c =
@@ -56,8 +56,8 @@ check_trees-returns-in_err-found-clause-checks g t c =
     (g.F.Files.held c.args.files.now) c.args.folder.now (g.F.Files.held c.loop-tree.files) c.args.trees.now
     c.loop-tree.tree-index c.tree-item.result r c.check_tree.result c.in_err-found.field-0.0 c.loop-tree.found
     (g.F.Files.refusals c.args.files.now) (g.F.Files.refusals c.loop-tree.files)
-    (g.F.Files.refusals c.check_tree.new.files) _ _ _ c.loop-tree-test.true c.tree-item.is c.loop-tree.invariant.kept fails
-    c.in_err-found.was c.loop-tree.invariant.told c.check_tree.ensures.checks
+    (g.F.Files.refusals c.check_tree.new.files) _ _ _ c.loop-tree-test.true c.tree-item.is
+    c.loop-tree.invariant.kept fails c.in_err-found.was c.loop-tree.invariant.told c.check_tree.ensures.checks
 
 pub check_trees-loop-tree-preserved : goal.check_trees-loop-tree-preserved
 check_trees-loop-tree-preserved g t c =
@@ -70,7 +70,7 @@ check_trees-loop-tree-preserved g t c =
           (g.F.Files.held c.args.files.now) c.args.folder.now (g.F.Files.held c.loop-tree.files) c.args.trees.now
           c.loop-tree.tree-index c.tree-item.result c.in_ok-found.found c.loop-tree.found c.if-branch.found
           (g.F.Files.refusals c.args.files.now) (g.F.Files.refusals c.loop-tree.files)
-          (g.F.Files.refusals c.check_tree.new.files) _ _ _ c.loop-tree-test.true c.tree-item.is c.loop-tree.invariant.kept both
-          c.loop-tree.invariant.told c.in_ok-found.ensures.checks;
+          (g.F.Files.refusals c.check_tree.new.files) _ _ _ c.loop-tree-test.true c.tree-item.is
+          c.loop-tree.invariant.kept both c.loop-tree.invariant.told c.in_ok-found.ensures.checks;
       kept = c.in_ok-found.ensures.kept ∙ c.loop-tree.invariant.kept;
     }

@@ -27,7 +27,8 @@ returns-in-Err-clause-checks g c =
     end_unsent g.F.In.Read.has_given g.F.In.Read.remaining g.F.In.Read.failures
     (g.F.Files.held c.args.files.now) c.args.folder.now
     c.args.forest.now c.deref.result.now c.in_ok-found.found (g.F.Files.refusals c.args.files.now)
-    (g.F.Files.refusals c.check_trees.new.files) (way c.args.lines.now (g.W.Write.contents c.args.to.now) (g.W.Write.failures c.args.to.now))
+    (g.F.Files.refusals c.check_trees.new.files)
+    (way c.args.lines.now (g.W.Write.contents c.args.to.now) (g.W.Write.failures c.args.to.now))
     (way c.check_trees.new.lines (g.W.Write.contents c.check_trees.new.to)
     (g.W.Write.failures c.check_trees.new.to))
     (way c.tell_end.new.lines (g.W.Write.contents c.tell_end.new.to) (g.W.Write.failures c.tell_end.new.to))

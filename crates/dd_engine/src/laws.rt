@@ -1,0 +1,19 @@
+//! What holds of every index, whatever the order in which its sources come.
+
+ghost use Rattle.std.specs.Prelude.{◌↔◌, ℕ, List, Option, Result};
+ghost use Rattle.dd_keys.specs.declared.parts.Parts.{Parts};
+ghost use Rattle.dd_layout.specs.Bounds.{Bounds};
+ghost use Rattle.dd_engine.specs.declared.choice.Choice.{Choice};
+ghost use Rattle.dd_engine.specs.declared.engine.Indexed.{Indexed};
+ghost use Rattle.dd_engine.specs.declared.engine_fault.EngineFault.{EngineFault};
+ghost use Rattle.dd_engine.specs.SameVersions.{Agree, IndexesTold, IsVersionThere};
+
+/// Sources with the same versions have one plan under one choice of a label, and so one directory, or one
+/// refusal of it. Neither their order nor how readers cut their bytes nor repeats change it.
+pub fn same_versions_have_one_plan()
+    ensures { (choice : Choice) (limits : Bounds) (limit : ℕ) (told other : ℕ → Option (List ℕ)) (sources others : ℕ)
+        (first second : Result Indexed EngineFault) → IndexesTold choice limits limit told sources first
+        → IndexesTold choice limits limit other others second
+        → ((version : Parts) → IsVersionThere limit told sources version ↔ IsVersionThere limit other others version)
+        → Agree first second }
+{}

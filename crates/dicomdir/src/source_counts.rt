@@ -1,0 +1,71 @@
+//! What is counted of a source.
+ghost use Rattle.std.specs.Prelude.{◌≡◌, ◌↔◌, ◌-◌, IsTrue};
+ghost use Rattle.dd_elem.specs.Device.{counted, IsLive};
+ghost use Rattle.dd_engine.specs.Supply.{added};
+ghost use Rattle.dicomdir.specs.FileSupply.{no_counts};
+
+use dd_elem::Counts;
+
+/// What is counted of a source. Each count goes up to `u64::MAX`.
+#[derive(Clone, Copy)]
+pub(crate) struct SourceCounts {
+    /// How often it was not opened.
+    pub(crate) refusals: u64,
+    /// How often its readers that were taken back were called.
+    pub(crate) reads: u64,
+    /// How many of these reads failed.
+    pub(crate) failures: u64,
+    /// How many of its readers are lent.
+    pub(crate) lent: u64,
+}
+
+impl SourceCounts {
+    /// Those of a source that was not opened yet.
+    pub(crate) fn new() -> SourceCounts
+        ensures { result ≡ no_counts }
+    {
+        SourceCounts {
+            refusals: 0,
+            reads: 0,
+            failures: 0,
+            lent: 0,
+        }
+    }
+
+    /// Is each count below its last value?
+    pub(crate) fn is_live(&self) -> bool
+        ensures { IsTrue result ↔ (IsLive self.now.refusals self.now.failures × IsLive self.now.reads self.now.lent) }
+    {
+        self.refusals < u64::MAX
+            && self.failures < u64::MAX
+            && self.reads < u64::MAX
+            && self.lent < u64::MAX
+    }
+
+    /// Counts a refusal.
+    pub(crate) fn refuse(&mut self)
+        ensures { self.new ≡ record self.old { refusals = counted self.old.refusals } }
+    {
+        self.refusals = self.refusals.saturating_add(1);
+    }
+
+    /// Counts a reader that is lent.
+    pub(crate) fn lend(&mut self)
+        ensures { self.new ≡ record self.old { lent = counted self.old.lent } }
+    {
+        self.lent = self.lent.saturating_add(1);
+    }
+
+    /// Counts a reader less, and its reads and failures.
+    pub(crate) fn take_back(&mut self, used: Counts)
+        ensures { self.new ≡ record self.old {
+            reads = added self.old.reads used.calls;
+            failures = added self.old.failures used.failures;
+            lent = self.old.lent - 1;
+        } }
+    {
+        self.reads = self.reads.saturating_add(used.calls);
+        self.failures = self.failures.saturating_add(used.failures);
+        self.lent = self.lent.saturating_sub(1);
+    }
+}
