@@ -237,7 +237,8 @@ pub record AreFollowed (x y : Result (List Listed) OwnFault) (all : List Listed)
   pub is_then : y ≡ Ok then_come
   pub both : first ++ then_come ≡ all
 
-pub are_followed : (x y : Result (List Listed) OwnFault) (all : List Listed) → followed x y ≡ Ok all → AreFollowed x y all
+pub are_followed : (x y : Result (List Listed) OwnFault) (all : List Listed) → followed x y ≡ Ok all
+    → AreFollowed x y all
 are_followed (Err e) y all same = absurd (cc)
 are_followed (Ok xs) (Err e) all same = absurd (cc)
 are_followed (Ok xs) (Ok ys) all same =

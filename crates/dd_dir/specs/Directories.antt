@@ -25,8 +25,8 @@ first_root label versions = at_or_none label versions (first_child (tree version
 abbrev pub last_root : Label → List Parts → ℕ
 last_root label versions = at_or_none label versions (last_or None (children (tree versions) []))
 
--- All offsets in a directory of these versions are smaller than this number of bytes: those of the first and of the last
--- root record, and of each record its own, that of the next one and that of the first one below, where none is 0.
+-- All offsets in a directory of these versions are smaller than this number of bytes: those of the first and of the
+-- last root record, and of each record its own, that of the next one and that of the first one below; none is 0.
 pub record OffsetsWithin (bytes : ℕ) (label : Label) (versions : List Parts) : Type 0 where
   pub first : first_root label versions < bytes
   pub last : last_root label versions < bytes

@@ -5,8 +5,8 @@ use Rattle.std.proofs.lemmas.List.{append-nil, map-append, take_more}
 use Rattle.dd_dir.specs.declared.own.Place.{Place}
 use Rattle.dd_dir.specs.declared.own_fault.OwnFault.{OwnFault}
 use Rattle.dd_dir.specs.declared.own_fault.OwnFault.TheVariants as owns
-use Rattle.dd_dir.specs.Own.{Listed, own}
-use Rattle.dd_dir.specs.OwnVersions.{Answers, Located, place_of, place_view, version_of}
+use Rattle.dd_dir.specs.Own.{Listed}
+use Rattle.dd_dir.specs.OwnVersions.{AnswersWalk, Located, place_of, place_view, version_of}
 use Rattle.dd_dir.specs.Reading.{IsWalk, Refuses}
 use Rattle.dd_dir.specs.Trees.{Walk}
 use Rattle.dd_keys.specs.declared.parts.Parts.{Parts}
@@ -74,7 +74,7 @@ picks_more before at images old new added was is views =
 
 -- a record of the set fails its checks
 pub own_fails : {B : Type 0} (Gives : List Listed → B → Type 0) (at : ℕ) (set : List ℕ) (walk : Walk) (fault : OwnFault)
-    → IsWalk set walk → Answers (own walk) Gives (Err fault) → FailsAt at set (own_fault at fault)
+    → IsWalk set walk → AnswersWalk walk Gives (Err fault) → FailsAt at set (own_fault at fault)
 own_fails Gives at set walk owns.Memory is fails = tt
 own_fails Gives at set walk (owns.NoDigest place) is fails =
     (refl, record { walk = walk; is_walk = is; fails = fails })

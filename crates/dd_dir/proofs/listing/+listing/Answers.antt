@@ -30,8 +30,8 @@ list-returns-in_err-list_one t c =
 pub list_one-returns-in-Some : goal.list_one-returns-in-Some
 list_one-returns-in-Some t c =
     let images = map listed_view c.args.images.now.items in
-    one_fails (Unit {0}) (above_view c.args.above) c.args.tree.now c.level_in.result c.fault_at.result c.in-Some.fault images
-    images c.level_in.ensures c.fault_at.ensures c.in-Some.is
+    one_fails (Unit {0}) (above_view c.args.above) c.args.tree.now c.level_in.result c.fault_at.result c.in-Some.fault
+    images images c.level_in.ensures c.fault_at.ensures c.in-Some.is
 
 pub list_one-returns : goal.list_one-returns
 list_one-returns t c =
