@@ -8,7 +8,7 @@ use Rattle.dd_elem.specs.declared.tag.Tag.{Tag}
 use Rattle.dd_elem.specs.Device.{counted, last_count}
 use Rattle.dd_keys.specs.Values.{value_at}
 use Rattle.dd_layout.specs.declared.level.Level.TheVariants.{Patient, Study, Series}
-use Rattle.dd_layout.specs.declared.table.TheConstants.{FILE, PATIENT_ID, SERIES_UID, STUDY_UID}
+use Rattle.dd_layout.specs.Entries.{tag}
 use Rattle.dd_layout.specs.Records.{kind_of}
 use Rattle.dd_dir.specs.ForestViews.{Branch}
 use Rattle.dd_dir.specs.Trees.{Node, Trees, Walk, no_trees, places, tree}
@@ -20,9 +20,9 @@ use Rattle.dd_report.specs.Telling.{shown_line}
 -- all others the File ID
 abbrev pub label_tag : List ℕ → Tag
 label_tag kind =
-    if bytes_eq kind (kind_of Patient) then PATIENT_ID.tag
-    else (if bytes_eq kind (kind_of Study) then STUDY_UID.tag
-    else (if bytes_eq kind (kind_of Series) then SERIES_UID.tag else FILE.tag))
+    if bytes_eq kind (kind_of Patient) then tag 0x0010 0x0020
+    else (if bytes_eq kind (kind_of Study) then tag 0x0020 0x000d
+    else (if bytes_eq kind (kind_of Series) then tag 0x0020 0x000e else tag 0x0004 0x1500))
 
 -- a value, and `-` where there is none or no byte of it
 abbrev pub or_dash : Option (List ℕ) → List ℕ
