@@ -59,9 +59,9 @@ impl SourceCounts {
     /// Counts a reader less, and its reads and failures.
     pub(crate) fn take_back(&mut self, used: Counts)
         ensures { self.new ≡ record self.old {
-            reads = added self.old.reads used.calls;
-            failures = added self.old.failures used.failures;
-            lent = self.old.lent - 1;
+          reads = added self.old.reads used.calls;
+          failures = added self.old.failures used.failures;
+          lent = self.old.lent - 1;
         } }
     {
         self.reads = self.reads.saturating_add(used.calls);
