@@ -15,6 +15,7 @@ use Rattle.dd_keys.specs.declared.fault.KeyFault.{KeyFault}
 use Rattle.dd_keys.specs.declared.fault.KeyFault.TheVariants.{File, Memory}
 use Rattle.dd_keys.specs.declared.parts.Parts.{Parts}
 use Rattle.dd_part10.specs.declared.fault.FileFault.TheVariants.{Meta, Set}
+use Rattle.dd_part10.specs.Memory.{SetWants}
 use Rattle.dd_set.specs.declared.fault.SetFault.TheVariants as parsing
 use Rattle.dd_layout.specs.declared.fault.PlanFault.{PlanFault}
 use Rattle.dd_layout.specs.Bounds.{Bounds}
@@ -50,7 +51,7 @@ kept_of at (suc k) (Err fault ∷ answers) version is = kept_of (suc at) k answe
 
 -- ---- the answer of a source whose bytes are known
 
-says_memory : (file : List ℕ) (fault : KeyFault) → IsWantOfMemory file fault → SaysMemory fault
+says_memory : (file : List ℕ) (fault : KeyFault) → IsWantOfMemory SetWants file fault → SaysMemory fault
 says_memory file Memory want = tt
 says_memory file (File (Meta parsing.Memory)) want = tt
 says_memory file (File (Set parsing.Memory)) want = tt
