@@ -1,1 +1,2 @@
+mod EmptyWords
 mod Publishing

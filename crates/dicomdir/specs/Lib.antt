@@ -1,4 +1,5 @@
 pub mod Done
+pub mod EmptyPaths
 pub mod FileSupply
 pub mod Refusal
 pub use Rattle.dd_engine.specs.Choosing

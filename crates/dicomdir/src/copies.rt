@@ -1,5 +1,6 @@
 //! The images of a file-set, copied into its folder.
-ghost use Rattle.std.specs.Prelude.{ℕ, All, IfErr};
+ghost use Rattle.std.specs.Prelude.{◌≡◌, ℕ, All, IfErr, IsErr};
+ghost use Rattle.dd_elem.specs.Device.{counted};
 ghost use Rattle.dicomdir.specs.Refusal.{IsAmong, IsOfWork};
 
 use crate::image_path::{ImageFolder, ImagePath, ImagePathText};
@@ -94,7 +95,7 @@ fn start_copy<F: Files>(
 }
 
 /// Ends the copy of an image, which must have the SHA-256 of the file that it comes from when that was
-/// read.
+/// read, and has it stored with others.
 fn finish_copy<F: Files>(
     image: Image,
     origin: Subject,
@@ -109,5 +110,18 @@ fn finish_copy<F: Files>(
     if digest != image.digest {
         return Err(Refusal::of(origin, ProgramFault::Changed));
     }
-    Ok(())
+    store(files)
+}
+
+/// Has stored what was made, or puts that off behind an image.
+pub(crate) fn store<F: Files>(files: &mut F) -> Result<(), Refusal>
+    ensures refused { IsErr result → F.refusals files.new ≡ counted (F.refusals files.old) }
+    ensures fault { IfErr result (λ refusal.
+        refusal ≡ record { subject = Subject.Unstored; fault = ProgramFault.Unsent }) }
+    ensures kept { F.held files.new ≡ F.held files.old }
+{
+    match files.store() {
+        Ok(()) => Ok(()),
+        Err(_) => Err(Refusal::of(Subject::Unstored, ProgramFault::Unsent)),
+    }
 }

@@ -5,7 +5,7 @@ ghost use Rattle.dd_elem.specs.Device.{counted, HasFailed};
 ghost use Rattle.dd_files.specs.Files.{ended, grown, published, started};
 ghost use Rattle.dicomdir.specs.Refusal.{IsBadLine, IsOfWork};
 
-use crate::copies::copy_images;
+use crate::copies::{copy_images, store};
 use crate::origins::Origins;
 use crate::refusal::{ProgramFault, Refusal, Subject};
 use dd_dir::write_directory;
@@ -36,7 +36,7 @@ pub(crate) fn refuse_taken<F: Files>(
 }
 
 /// Copies each image of the plan into the folder, from where it is picked, and then writes the directory
-/// there.
+/// there. All that was made is stored before the directory is made, and the directory once it has ended.
 pub(crate) fn write_file_set<F: Files, O: Origins>(
     alloc: Global,
     folder: &str,
@@ -53,8 +53,9 @@ pub(crate) fn write_file_set<F: Files, O: Origins>(
         return Err(Refusal::of(Subject::Folder, ProgramFault::Folder));
     }
     let path = path_in(alloc, folder, DIRECTORY)?;
+    store(files)?;
     match publish(path.as_str(), plan, files) {
-        Ok(()) => Ok(()),
+        Ok(()) => store(files),
         Err(fault) => Err(Refusal::of(Subject::Directory, fault)),
     }
 }

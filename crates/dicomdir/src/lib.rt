@@ -6,6 +6,7 @@
 
 mod copies;
 mod counted_reader;
+mod empty_paths;
 mod file_set;
 mod file_supply;
 mod image_path;

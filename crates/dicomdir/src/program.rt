@@ -1,18 +1,21 @@
 //! The program's run.
-ghost use Rattle.std.specs.Prelude.{◌≡◌, ◌<◌, ◌≤◌, ◌⊎◌, ℕ, All, IfErr, IfOk, IsErr, IsOk, length, true};
+ghost use Rattle.std.specs.Prelude.{◌≡◌, ◌<◌, ◌≤◌, ◌+◌, ◌⊎◌, ℕ, All, IfErr, IfOk, IsErr, IsOk, length, true};
 ghost use Rattle.clap.specs.Words.{subcommand_of, takes};
 ghost use Rattle.dd_elem.specs.Device.{HasFailed};
 ghost use Rattle.dd_layout.specs.Plans.{size};
-ghost use Rattle.dd_line.specs.Line.{AsksBadName, HasBadName, IsCheck, dicomdir_app, least_paths, words_of};
+ghost use Rattle.dd_line.specs.Line.{AsksBadName, HasBadName, IsCheck, OnlyReads, dicomdir_app, least_paths};
+ghost use Rattle.dd_line.specs.Line.{words_of};
 ghost use Rattle.dd_report.specs.Text.{TakesAll};
 ghost use Rattle.dicomdir.specs.Done.{done_text};
+ghost use Rattle.dicomdir.specs.EmptyPaths.{AsksEmptyPath, HasEmptyPath};
 ghost use Rattle.dicomdir.specs.Refusal.{IsBadLine, IsOfWork};
 
+use crate::empty_paths::{empty_path, first_empty};
 use crate::file_set::write_file_set;
 use crate::index::plan_index;
 use crate::merging::{plan_merge, read_sets, slices};
 use crate::origins::{SetFiles, SourceFiles};
-use crate::refusal::{ProgramFault, Refusal, Words, tell};
+use crate::refusal::{Paths, ProgramFault, Refusal, Words, tell};
 use crate::set_directory::{directory_bytes, refusal_of};
 use dd_dir::{DirFault, read_directory};
 use dd_elem::{SetId, Uid, Write};
@@ -40,6 +43,9 @@ use std::fmt;
 /// file-sets, each a folder with the DICOMDIR that was written here. All these are read before the first
 /// is looked at, and the plan stands before the first image is copied.
 ///
+/// A path that is empty is refused before any file is opened: OUT as a folder that is not made, any other
+/// as a file that is not there.
+///
 /// `check SET` compares the files of a file-set with its directory, of any producer, and prints what it
 /// finds, or `OK <n> records`. `list SET` prints its records.
 pub fn run<F: Files, O: Write, E: Write>(
@@ -64,6 +70,11 @@ pub fn run<F: Files, O: Write, E: Write>(
     ensures names { result ≡ 0 → takes dicomdir_app (words_of words.items) ≡ true
         → ¬ HasBadName (subcommand_of dicomdir_app (words_of words.items)) }
 
+    // With an empty path it leaves them so, too, and is not done.
+    ensures empty { takes dicomdir_app (words_of words.items) ≡ true
+        → HasEmptyPath (subcommand_of dicomdir_app (words_of words.items))
+        → (1 ≤ result) × (files.new ≡ files.old) × (out.new ≡ out.old) }
+
     // Where the work is done nothing goes to the error output.
     ensures done { result ≡ 0 → err.new ≡ err.old }
 {
@@ -87,17 +98,46 @@ fn run_asked<F: Files, O: Write, E: Write>(
     ensures line { result ≡ 2 → (files.new ≡ files.old) × (out.new ≡ out.old) }
     ensures bad { result ≡ 2 → AsksBadName asked.now }
     ensures good { result ≡ 0 → ¬ AsksBadName asked.now }
+    ensures empty { AsksEmptyPath asked.now
+        → (1 ≤ result) × (files.new ≡ files.old) × (out.new ≡ out.old) }
     ensures done { result ≡ 0 → err.new ≡ err.old }
 {
     let choice = match choice_of(asked) {
         Ok(choice) => choice,
-        Err(fault) => return tell(&Refusal::general(fault), "", &[], err),
+        Err(fault) => return tell(&Refusal::general(fault), Paths::none(), err),
     };
-    let (folder, paths) = paths_of(asked);
-    match run_verb(alloc, asked, folder, paths, &choice, files, out) {
-        Ok(status) => status,
-        Err(refusal) => tell(&refusal, folder, paths, err),
+    match first_empty(asked.paths.as_slice()) {
+        Some(at) => return tell_empty(asked, at, err),
+        None => {}
     }
+    let (folder, sources) = paths_of(asked);
+    match run_verb(alloc, asked, folder, sources, &choice, files, out) {
+        Ok(status) => status,
+        Err(refusal) => {
+            let unstored = files.unstored();
+            let paths = Paths {
+                folder,
+                sources,
+                unstored,
+            };
+            tell(&refusal, paths, err)
+        }
+    }
+}
+
+/// Tells that the path of this number is empty, and answers the status.
+fn tell_empty<E: Write>(asked: &Asked, at: usize, err: &mut E) -> u8
+    requires paths { least_paths asked.now.verb ≤ length asked.now.paths.items }
+    requires within { at < length asked.now.paths.items }
+    ensures { result ≡ 1 }
+{
+    let (folder, sources) = paths_of(asked);
+    let paths = Paths {
+        folder,
+        sources,
+        unstored: "",
+    };
+    tell(&empty_path(asked.verb, at), paths, err)
 }
 
 /// The label that the line asks for: the ID is looked at before the UID.
@@ -126,7 +166,9 @@ fn choice_of(asked: &Asked) -> Result<Choice, ProgramFault>
 /// The folder that the command writes to, if it does, and the paths that it reads.
 fn paths_of(asked: &Asked) -> (&str, &[String])
     requires { least_paths asked.now.verb ≤ length asked.now.paths.items }
-    ensures { 0 < length result.1.now }
+    ensures some { 0 < length result.1.now }
+    ensures writes { ¬ OnlyReads asked.now.verb → length asked.now.paths.items ≡ length result.1.now + 1 }
+    ensures reads { OnlyReads asked.now.verb → length asked.now.paths.items ≡ length result.1.now }
 {
     let paths = asked.paths.as_slice();
     match asked.verb {
@@ -301,13 +343,13 @@ fn tell_done<O: Write>(plan: &Plan, out: &mut O) -> u8
 /// Tells why a command line asks for nothing, and answers the status.
 fn refuse_line<O: Write, E: Write>(fault: &LineFault, out: &mut O, err: &mut E) -> u8
     ensures status { result ≤ 2 }
-    ensures memory { fault.now ≡ LineFault.Memory → result ≡ 1 }
+    ensures memory { fault.now ≡ LineFault.Memory → (result ≡ 1) × (out.new ≡ out.old) }
     ensures line { result ≡ 2 → out.new ≡ out.old }
     ensures done { result ≡ 0 → err.new ≡ err.old }
 {
     match fault {
         LineFault::Refused(error) => tell_parser(error, out, err),
-        LineFault::Memory => tell(&Refusal::memory(), "", &[], err),
+        LineFault::Memory => tell(&Refusal::memory(), Paths::none(), err),
     }
 }
 

@@ -49,7 +49,7 @@ pub enum ProgramFault {
     /// The folder could not be made.
     #[error("95 Folder")]
     Folder,
-    /// A write to the file failed, or its end.
+    /// A write to the file failed, or its end, or it was not stored.
     #[error("96 Unsent")]
     Unsent,
     /// The file is not what it was when it was read before.
@@ -76,6 +76,30 @@ pub(crate) enum Subject {
     Image(FileId),
     /// The folder of that copy.
     ImageFolder(FileId),
+    /// What the files say was not stored.
+    Unstored,
+}
+
+/// The paths that a refusal may concern.
+#[derive(Clone, Copy)]
+pub(crate) struct Paths<'a> {
+    /// The folder of the file-set that is made.
+    pub(crate) folder: &'a str,
+    /// The sources, or the folders of the file-sets that are read.
+    pub(crate) sources: &'a [String],
+    /// What the files say was not stored.
+    pub(crate) unstored: &'a str,
+}
+
+impl Paths<'_> {
+    /// No paths.
+    pub(crate) fn none() -> Paths<'static> {
+        Paths {
+            folder: "",
+            sources: &[],
+            unstored: "",
+        }
+    }
 }
 
 /// A fault, and what it concerns.
@@ -125,15 +149,20 @@ impl From<Memory> for Refusal {
 pub(crate) type Words = InlineText<256>;
 
 /// Tells a refusal in a line, with no memory, and answers the status that the run ends with: 2 where the
-/// command line is at fault, and else 1. The line names the path that the refusal concerns: one of these
-/// sources, this folder, or what stands in one of them. A failure of the writer changes nothing.
-pub(crate) fn tell<W: Write>(refusal: &Refusal, folder: &str, sources: &[String], to: &mut W) -> u8
-    requires { IsAmong (length sources.now) refusal.now.subject }
+/// command line is at fault, and else 1. The line names the path that the refusal concerns: one of these, or
+/// what stands in one of them. A failure of the writer changes nothing.
+pub(crate) fn tell<W: Write>(refusal: &Refusal, paths: Paths<'_>, to: &mut W) -> u8
+    requires { IsAmong (length paths.sources.now) refusal.now.subject }
     ensures line { result ≡ 2 ↔ IsBadLine refusal.now.fault }
     ensures status { (result ≡ 1) ⊎ (result ≡ 2) }
 {
     let words = Words::of(&refusal.fault);
     let words = words.as_str();
+    let Paths {
+        folder,
+        sources,
+        unstored,
+    } = paths;
     match refusal.subject {
         Subject::General => print_fault("-", words, to),
         Subject::Source(at) => print_fault(sources[at].as_str(), words, to),
@@ -151,6 +180,7 @@ pub(crate) fn tell<W: Write>(refusal: &Refusal, folder: &str, sources: &[String]
             let name = ImagePathText::of(&ImageFolder(file));
             print_inside(folder, name.as_str(), words, to);
         }
+        Subject::Unstored => print_fault(unstored, words, to),
     }
     status_of(&refusal.fault)
 }

@@ -1,6 +1,8 @@
 //! The program `dicomdir`: its words, over the files and the outputs of the system.
 #![tactic(auto)]
 
+mod words;
+
 ghost use Rattle.std.specs.Prelude.{◌≡◌, ◌≢◌};
 
 use dd_elem::Write;
@@ -9,9 +11,10 @@ use dicomdir_host::{Counted, HostFiles};
 use std::env;
 use std::io::ErrorKind;
 use std::process::ExitCode;
+use words::{Number, bad_word};
 
-// Tells why there are no words, and answers the status.
-fn refuse_words<E: Write>(kind: ErrorKind, err: &mut E) -> u8
+// Tells why there are no words, and which one is not text, and answers the status.
+fn refuse_words<E: Write>(kind: ErrorKind, bad: Option<usize>, err: &mut E) -> u8
     ensures memory { kind ≡ ErrorKind.OutOfMemory → result ≡ 1 }
     ensures text { kind ≢ ErrorKind.OutOfMemory → result ≡ 2 }
 {
@@ -19,7 +22,20 @@ fn refuse_words<E: Write>(kind: ErrorKind, err: &mut E) -> u8
         let _ = print_line(&["FAULT -: 91 Memory"], err);
         return 1;
     }
-    let _ = print_line(&["error: a word of the command line is not UTF-8"], err);
+    let _ = match bad {
+        Some(at) => {
+            let number = Number::of(at);
+            print_line(
+                &[
+                    "error: word ",
+                    number.as_str(),
+                    " of the command line is not UTF-8",
+                ],
+                err,
+            )
+        }
+        None => print_line(&["error: a word of the command line is not UTF-8"], err),
+    };
     2
 }
 
@@ -31,9 +47,9 @@ fn main(rt: HostRuntime) -> ExitCode {
     let status = match env::args(&rt) {
         Ok(words) => match words.collect(alloc) {
             Ok(words) => run(alloc, words, &mut files, &mut out, &mut err),
-            Err(_) => refuse_words(ErrorKind::OutOfMemory, &mut err),
+            Err(_) => refuse_words(ErrorKind::OutOfMemory, None, &mut err),
         },
-        Err(error) => refuse_words(error.kind(), &mut err),
+        Err(error) => refuse_words(error.kind(), bad_word(&rt, alloc), &mut err),
     };
     ExitCode::from(status)
 }

@@ -10,7 +10,8 @@ const CHECKS: &str = "\
 d=set: - - dicomdir check d > 0 [OK 4 records|] [] kept
 d=set: - - dicomdir check d/ > 0 [OK 4 records|] [] kept
 d/DICOMDIR=empty: - - dicomdir check d > 0 [OK 0 records|] [] kept
-DICOMDIR=first PT000001/ST000001/SE000001/IM000001=a.dcm: - - dicomdir check '' > 0 [OK 4 records|] [] kept
+DICOMDIR=first PT000001/ST000001/SE000001/IM000001=a.dcm: - - dicomdir check '' > 1 [] [FAULT : 92 Absent|] kept
+./DICOMDIR=first ./PT000001/ST000001/SE000001/IM000001=a.dcm: - - dicomdir check . > 0 [OK 4 records|] [] kept
 index d a.dcm d.dcm: - - dicomdir check d > 0 [OK 5 records|] [] kept
 d/DICOMDIR=v3 d/IMAGES/SR1=note.txt: - - dicomdir check d > 0 [OK 5 records|] [] kept
 d/DICOMDIR=first,650,0000: - - dicomdir check d > 0 [OK 4 records|] [] kept

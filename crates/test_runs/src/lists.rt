@@ -13,7 +13,8 @@ d/DICOMDIR=v3: - - dicomdir list d > 0 [320 PATIENT P1|  412 STUDY 1.2.3|    546
 d/DICOMDIR=empty: - - dicomdir list d > 0 [0 records, 0 unreached|] [] kept
 d/DICOMDIR=first: - - dicomdir list d/ > 0 [320 PATIENT P1|  404 STUDY 1.2.3|    530 SERIES 1.2.3.4\
 |      622 IMAGE PT000001\\ST000001\\SE000001\\IM000001|4 records, 0 unreached|] [] kept
-DICOMDIR=empty: - - dicomdir list '' > 0 [0 records, 0 unreached|] [] kept
+DICOMDIR=empty: - - dicomdir list '' > 1 [] [FAULT : 92 Absent|] kept
+./DICOMDIR=empty: - - dicomdir list . > 0 [0 records, 0 unreached|] [] kept
 d/DICOMDIR=first,348,0000,402,50ff: - - dicomdir list d > 0 [320 PATIENT P? inactive|  404 STUDY 1.2.3\
 |    530 SERIES 1.2.3.4|      622 IMAGE PT000001\\ST000001\\SE000001\\IM000001|4 records, 0 unreached|] [] kept
 d/DICOMDIR=v3,402,7e7f,574,0000,584,00000000: - - dicomdir list d > \

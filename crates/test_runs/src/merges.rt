@@ -33,7 +33,11 @@ d1=set: - - dicomdir merge d1 d1 > 1 [] [FAULT d1/DICOMDIR: 94 Create|] kept
 d1=set: - - dicomdir merge taken d1 > 1 [] [FAULT taken/PT000001/ST000001/SE000001/IM000001: 94 Create|] kept
 d1/DICOMDIR=first: - - dicomdir merge o d1 > \
 1 [] [FAULT d1/PT000001/ST000001/SE000001/IM000001: 92 Absent|] kept
-DICOMDIR=first: - - dicomdir merge o '' > 1 [] [FAULT PT000001/ST000001/SE000001/IM000001: 92 Absent|] kept
+./DICOMDIR=first: - - dicomdir merge o . > \
+1 [] [FAULT ./PT000001/ST000001/SE000001/IM000001: 92 Absent|] kept
+DICOMDIR=first: - - dicomdir merge o '' > 1 [] [FAULT : 92 Absent|] kept
+d1=set: - - dicomdir merge full nowhere '' d1 > 1 [] [FAULT : 92 Absent|] kept
+d1=set: - - dicomdir merge '' '' > 1 [] [FAULT : 95 Folder|] kept
 d1=set d2/DICOMDIR=first: - - dicomdir merge o d2 d1 > \
 1 [] [FAULT d2/PT000001/ST000001/SE000001/IM000001: 92 Absent|] kept
 d1=set d2/DICOMDIR=first,772,'6: - - dicomdir merge o d2/ d1 > \
@@ -59,7 +63,7 @@ d1=set d2/DICOMDIR=first: merge o d1 d2 --uid 2.25.0 > o=set
 d1/DICOMDIR=first,686,'X d1/XT000001/ST000001/SE000001/IM000001=a.dcm: merge o d1 --uid 2.25.0 > o=set
 d1/DICOMDIR=first,686,'A\\B\\C\\D\\E\\F\\G\\HHHHHHHH______________ d1/A/B/C/D/E/F/G/HHHHHHHH=a.dcm: \
 merge o d1 --uid 2.25.0 > o=set
-DICOMDIR=first PT000001/ST000001/SE000001/IM000001=a.dcm: merge o '' --uid 2.25.0 > o=set
+./DICOMDIR=first ./PT000001/ST000001/SE000001/IM000001=a.dcm: merge o . --uid 2.25.0 > o=set
 index d1 b.dcm: merge o d1 --uid 2.25.0 > o/DICOMDIR=empty
 index d1 a.dcm; index d2 d.dcm: merge o d1 d2 > index o a.dcm d.dcm
 index d1 a.dcm --id DISC1; index d2 d.dcm --uid 2.25.7: merge o d2 d1 d2 --id DISC2 > index o a.dcm d.dcm --id DISC2

@@ -50,6 +50,10 @@ SKIP part.dcm: 31 File 27 Set 1 Truncated|DONE 1 instances, 876 bytes|] [] chang
 1 [] [FAULT taken/PT000001/ST000001/SE000001/IM000001: 94 Create|] kept
 - - dicomdir index taken note.txt a.dcm > \
 1 [SKIP note.txt: 31 File 21 NotPart10|] [FAULT taken/PT000001/ST000001/SE000001/IM000001: 94 Create|] kept
+- - dicomdir index '' a.dcm --uid 2.25.0 > 1 [] [FAULT : 95 Folder|] kept
+- - dicomdir index '' '' none.dcm > 1 [] [FAULT : 95 Folder|] kept
+- - dicomdir index full none.dcm '' '' > 1 [] [FAULT : 92 Absent|] kept
+- - dicomdir index '' '' --uid 2.25.x > 2 [] [FAULT -: 71 BadUid|] kept
 - 6 dicomdir index out none.dcm --uid 2.25.0 > 1 [] [FAULT ] kept
 - 0 dicomdir index out none.dcm --uid 2.25.x > 2 [] [] kept";
 
@@ -144,7 +148,7 @@ fn texts_of_the_parser_go_to_one_output(rt: HostRuntime) -> Result<(), Fail> {
 const FILES: &str = "\
 index out a.dcm b.dcm --uid 2.25.0 > out/DICOMDIR=first out/PT000001/ST000001/SE000001/IM000001=a.dcm
 index out/ b.dcm a.dcm a.dcm --uid 2.25.0 > out/DICOMDIR=first out/PT000001/ST000001/SE000001/IM000001=a.dcm
-index '' e.dcm a.dcm --uid 2.25.0 > DICOMDIR=first PT000001/ST000001/SE000001/IM000001=a.dcm
+index . e.dcm a.dcm --uid 2.25.0 > ./DICOMDIR=first ./PT000001/ST000001/SE000001/IM000001=a.dcm
 index out b.dcm --uid 2.25.0 > out/DICOMDIR=empty";
 
 /// The files after a run.

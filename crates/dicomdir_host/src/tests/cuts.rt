@@ -19,8 +19,8 @@ finish, store
 folder o/p/s, create o/p/s/i, write abc, finish, store, create o/p/s/j, write abc, finish, store, \
 folder o/p/t, create o/p/t/i, write abc, finish, store, folder o, store, create o/DICOMDIR, write xyz, finish, store
 folder o/p/s, create o/p/s/i, write abc, finish, folder o, create o/DICOMDIR, write xyz, finish, store
-limit 1, folder o/p/s, create o/p/s/i, write abc, finish, store, folder o/q/s, create o/q/s/i, write abc, finish, store, \
-folder o, store, create o/DICOMDIR, write xyz, finish, store";
+limit 1, folder o/p/s, create o/p/s/i, write abc, finish, store, folder o/q/s, create o/q/s/i, write abc, finish, \
+store, folder o, store, create o/DICOMDIR, write xyz, finish, store";
 
 // Did no state break, and does all last at the end?
 fn is_safe(alloc: Global, calls: &str) -> Result<bool, Fail> {

@@ -1,0 +1,14 @@
+-- Where a command runs, no path is empty.
+use Rattle.std.proofs.Common.{refl, subst, sym}
+use Rattle.dicomdir.specs.EmptyPaths.{IsEmptyAt}
+use Rattle.dicomdir.proofs.program.run_asked.Goals as goal
+
+pub returns-in-Ok-run_verb-clause-empty : goal.returns-in-Ok-run_verb-clause-empty
+returns-in-Ok-run_verb-clause-empty g c = λ has.
+    absurd (c.in-None.ensures.none refl has.0 (subst (λ paths. IsEmptyAt paths has.0) (sym c.as_slice.ensures.value)
+    has.1))
+
+pub returns-in-Err-run_verb-clause-empty : goal.returns-in-Err-run_verb-clause-empty
+returns-in-Err-run_verb-clause-empty g c = λ has.
+    absurd (c.in-None.ensures.none refl has.0 (subst (λ paths. IsEmptyAt paths has.0) (sym c.as_slice.ensures.value)
+    has.1))

@@ -1,0 +1,20 @@
+-- Paths that are empty.
+use Rattle.std.specs.Prelude.{◌≡◌, ◌<◌, List, ℕ, [], Option, None, Some, String, length, slice_index_or, string_bytes, Contains}
+use Rattle.std.specs.declared.alloc.Global.{Global}
+use Rattle.clap.specs.Words.{Row, Text}
+use Rattle.dd_line.specs.Line.{given_paths}
+use Rattle.dd_line.specs.declared.line.Asked.{Asked}
+
+-- the path of this number is there, and empty
+pub record IsEmptyAt (paths : List (String Global)) (at : ℕ) : Type 0 where
+  pub within : at < length paths
+  pub empty : (otherwise : String Global) → string_bytes (slice_index_or paths at otherwise) ≡ []
+
+-- a line asks for something with an empty path
+abbrev pub AsksEmptyPath : Asked → Type 0
+AsksEmptyPath a = (at : ℕ) × IsEmptyAt a.paths.items at
+
+-- one of the paths that the named command was given is empty
+abbrev pub HasEmptyPath : Option (Text × List Row) → Type 0
+HasEmptyPath None = ⊥
+HasEmptyPath (Some (command, given)) = Contains (given_paths given) []
