@@ -17,7 +17,7 @@ use Rattle.dd_set.specs.Elements.{Part}
 use Rattle.dd_set.specs.Spelling.{undefined_length, delimiter_group, tag_text, item_tag_text, item_end_tag}
 use Rattle.dd_set.specs.Spelling.{item_end_text}
 use Rattle.dd_set.specs.Spelling.{sequence_end_text, length_of, closed, elements_text, content_text, items_text}
-use Rattle.dd_set.specs.Spelling.{item_syntax, max_levels}
+use Rattle.dd_set.specs.Spelling.{names_vr, item_syntax, max_levels}
 use Rattle.dd_set.specs.Spelling.{AreElements, IsContent, AreItems}
 use Rattle.dd_set.specs.Reading.{◌>>=◌, At, Reads, leaves_fewer, take_at, long_of, is_item, is_over, Shape, shape_at}
 use Rattle.dd_set.specs.Reading.{SequenceReader, SetReader, ItemReader, within, undefined_at, defined_at, content_at}
@@ -101,10 +101,10 @@ module _ (d : ℕ) (sequence : SequenceReader) (law : SequenceAgain d sequence) 
 
   -- an element behind its first eight bytes
   body_again : (syntax : Syntax) (low : ℕ) (e : Entry) (h : IsEntry syntax d low e)
-      (s : ShapeAgain syntax e.tag e.vr (content_length e.content)) (left : Option ℕ) (rest : List ℕ)
+      (s : ShapeAgain (names_vr syntax) e.tag e.vr (content_length e.content)) (left : Option ℕ) (rest : List ℕ)
       → body_at sequence syntax low (tag_text e.tag ++ s.first) (before left (s.second ++ content_body e.content) rest)
       ≡ Ok (e, behind left rest)
-  unfolding body_at body_of
+  unfolding body_at body_of shape_at
   body_again syntax low e h s left rest =
       let head : List ℕ = tag_text e.tag ++ s.first in
       let start : At = before left (s.second ++ content_body e.content) rest in
@@ -134,7 +134,7 @@ module _ (d : ℕ) (sequence : SequenceReader) (law : SequenceAgain d sequence) 
       (ne_eqb tag.group item_end_tag.group ne)
 
   -- the parts of an element's text: its first eight bytes, and the rest
-  entry_split : (syntax : Syntax) (e : Entry) (s : ShapeAgain syntax e.tag e.vr (content_length e.content))
+  entry_split : (syntax : Syntax) (e : Entry) (s : ShapeAgain (names_vr syntax) e.tag e.vr (content_length e.content))
       → entry_text e ≡ (tag_text e.tag ++ s.first) ++ (s.second ++ content_body e.content)
   entry_split syntax e s =
       ap (λ (y : List ℕ). tag_text e.tag ++ y) (content_parts e.vr e.content
@@ -148,7 +148,7 @@ module _ (d : ℕ) (sequence : SequenceReader) (law : SequenceAgain d sequence) 
       (Some e, behind left rest)
   unfolding whole_element
   element_again syntax form low e left rest h =
-      let s = shape_again syntax e.tag e.vr (content_length e.content) (content_form syntax d e.vr e.content h.4)
+      let s = shape_again (names_vr syntax) e.tag e.vr (content_length e.content) (content_form syntax d e.vr e.content h.4)
       (content_width syntax d e.vr e.content h.4) in
       let head : List ℕ = tag_text e.tag ++ s.first in
       let tail : List ℕ = s.second ++ content_body e.content in

@@ -13,14 +13,12 @@ use Rattle.dd_elem.proofs.Letters.{letters_two, vr_of-letters_of}
 use Rattle.dd_set.specs.declared.fault.SetFault.{SetFault}
 use Rattle.dd_set.specs.declared.syntax.Length.{Length}
 use Rattle.dd_set.specs.declared.syntax.Length.TheVariants.{Defined, Undefined}
-use Rattle.dd_set.specs.declared.syntax.Syntax.{Syntax}
-use Rattle.dd_set.specs.declared.syntax.Syntax.TheVariants.{Explicit, Implicit}
 use Rattle.dd_set.specs.Spelling.{tag_text, shape_text}
 use Rattle.dd_set.specs.Reading.{◌>>=◌, At, Reads, leaves_fewer, less, take_at, tag_of, short_of, no_byte_left, is_over}
 use Rattle.dd_set.specs.Reading.{Shape, long_length_at, long_at, explicit_at}
-use Rattle.dd_set.specs.Reading.{shape_at, within}
+use Rattle.dd_set.specs.Reading.{shape_where, within}
 use Rattle.dd_set.proofs.Steps.{done, short_again, long_again}
-use Rattle.dd_set.proofs.HeaderLaws.{HasForm, width_limit, long_shape, short_shape, long_width, short_width}
+use Rattle.dd_set.proofs.HeaderLaws.{HasFormWhere, width_limit, long_shape, short_shape, long_width, short_width}
 
 -- what the enclosing length leaves before n bytes, where this is left behind them
 abbrev pub more : Option ℕ → ℕ → Option ℕ
@@ -137,12 +135,12 @@ tag_again t rest g n = ap₂ tagged (short_again t.group (little_bytes 2 t.eleme
     tagged x y = record { group = x; element = y }
 
 -- the first four bytes behind a tag, what stands behind those, and that they are read again
-pub record ShapeAgain (syntax : Syntax) (tag : Tag) (vr : Option Vr) (n : ℕ) : Type 0 where
+pub record ShapeAgain (named : Bool) (tag : Tag) (vr : Option Vr) (n : ℕ) : Type 0 where
   pub first : List ℕ
   pub second : List ℕ
   pub whole : shape_text vr n ≡ first ++ second
   pub four : length first ≡ 4
-  pub again : (left : Option ℕ) (rest : List ℕ) → shape_at syntax (tag_text tag ++ first) (before left second rest) ≡ Ok
+  pub again : (left : Option ℕ) (rest : List ℕ) → shape_where named (tag_text tag ++ first) (before left second rest) ≡ Ok
       (record { vr = vr; length = n }, behind left rest)
 
 -- two letters name their value representation
@@ -155,8 +153,8 @@ shaped vr n at = Ok (record { vr = vr; length = n }, at)
 
 -- a header with a length of 16 bits
 short_shape_again : (tag : Tag) (vr : Vr) (n a b : ℕ) → letters_of vr ≡ a ∷ b ∷ [] → is_long_of vr ≡ false → n < 2 ^ 16
-    → ShapeAgain Explicit tag (Some vr) n
-unfolding shape_at shaped
+    → ShapeAgain true tag (Some vr) n
+unfolding shaped
 short_shape_again tag vr n a b letters long lt = record {
   first = a ∷ b ∷ little_bytes 2 n;
   second = [];
@@ -170,8 +168,8 @@ short_shape_again tag vr n a b letters long lt = record {
 
 -- a header with a length of 32 bits
 long_shape_again : (tag : Tag) (vr : Vr) (n a b : ℕ) → letters_of vr ≡ a ∷ b ∷ [] → is_long_of vr ≡ true → n < 2 ^ 32
-    → ShapeAgain Explicit tag (Some vr) n
-unfolding shape_at shaped long_at long_length_at
+    → ShapeAgain true tag (Some vr) n
+unfolding shaped long_at long_length_at
 long_shape_again tag vr n a b letters long lt = record {
   first = a ∷ b ∷ 0 ∷ 0 ∷ [];
   second = little_bytes 4 n;
@@ -188,8 +186,8 @@ long_shape_again tag vr n a b letters long lt = record {
 }
 
 -- a header without a value representation
-bare_shape_again : (tag : Tag) (n : ℕ) → n < 2 ^ 32 → ShapeAgain Implicit tag None n
-unfolding shape_at shaped
+bare_shape_again : (tag : Tag) (n : ℕ) → n < 2 ^ 32 → ShapeAgain false tag None n
+unfolding shaped
 bare_shape_again tag n lt = record {
   first = little_bytes 4 n;
   second = [];
@@ -199,17 +197,17 @@ bare_shape_again tag n lt = record {
 }
 
 -- each header
-pub shape_again : (syntax : Syntax) (tag : Tag) (vr : Option Vr) (n : ℕ) → HasForm syntax vr → n < width_limit vr
-    → ShapeAgain syntax tag vr n
-shape_again Explicit tag None n form lt = absurd form
-shape_again Explicit tag (Some vr) n form lt = go (letters_two vr).0 (letters_two vr).1.0 (letters_two vr).1.1
+pub shape_again : (named : Bool) (tag : Tag) (vr : Option Vr) (n : ℕ) → HasFormWhere named vr → n < width_limit vr
+    → ShapeAgain named tag vr n
+shape_again true tag None n form lt = absurd form
+shape_again true tag (Some vr) n form lt = go (letters_two vr).0 (letters_two vr).1.0 (letters_two vr).1.1
     (is_long_of vr) refl
   where
     go : (a b : ℕ) → letters_of vr ≡ a ∷ b ∷ [] → (long : Bool) → is_long_of vr ≡ long
-        → ShapeAgain Explicit tag (Some vr) n
+        → ShapeAgain true tag (Some vr) n
     go a b letters true long = long_shape_again tag vr n a b letters long
         (subst (λ (k : ℕ). n < k) (long_width vr long) lt)
     go a b letters false long = short_shape_again tag vr n a b letters long
         (subst (λ (k : ℕ). n < k) (short_width vr long) lt)
-shape_again Implicit tag None n form lt = bare_shape_again tag n lt
-shape_again Implicit tag (Some vr) n form lt = absurd form
+shape_again false tag None n form lt = bare_shape_again tag n lt
+shape_again false tag (Some vr) n form lt = absurd form

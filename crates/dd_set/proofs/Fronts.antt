@@ -13,11 +13,10 @@ use Rattle.dd_set.specs.declared.fault.SetFault.TheVariants.{Truncated, BadDelim
 use Rattle.dd_set.specs.declared.syntax.Length.{Length}
 use Rattle.dd_set.specs.declared.syntax.Length.TheVariants.{Defined, Undefined}
 use Rattle.dd_set.specs.declared.syntax.Syntax.{Syntax}
-use Rattle.dd_set.specs.declared.syntax.Syntax.TheVariants.{Explicit, Implicit}
 use Rattle.dd_set.specs.Elements.{Elements, element, Content, bytes, items, Entry}
-use Rattle.dd_set.specs.Spelling.{undefined_length, delimiter_group, item_syntax}
+use Rattle.dd_set.specs.Spelling.{undefined_length, delimiter_group, names_vr, item_syntax}
 use Rattle.dd_set.specs.Reading.{◌>>=◌, At, Reads, leaves_fewer, less, take_at, tag_of, long_of, short_of}
-use Rattle.dd_set.specs.Reading.{no_byte_left, is_over, Shape, long_length_at, long_at, explicit_at, shape_at}
+use Rattle.dd_set.specs.Reading.{no_byte_left, is_over, Shape, long_length_at, long_at, explicit_at, shape_at, shape_where}
 use Rattle.dd_set.specs.Reading.{SequenceReader}
 use Rattle.dd_set.specs.Reading.{SetReader, ItemReader, within, undefined_at, defined_at, content_at, ends_set}
 use Rattle.dd_set.specs.Reading.{element_at, next_elements, elements_at}
@@ -166,8 +165,11 @@ explicit_extends c q (Some vr) head at h = extends_if c q (is_long_of vr) _ _ _ 
 shape_extends : (c : Bool) (q : List ℕ) (syntax : Syntax) (head : List ℕ) (at : At) → has at.left ≡ c
     → Extends c q (shape_at syntax head at) (shape_at syntax head (longer at q))
 unfolding shape_at
-shape_extends c q Explicit head at h = explicit_extends c q (vr_of (take 2 (drop 4 head))) head at h
-shape_extends c q Implicit head at h = (refl, h)
+shape_extends c q syntax head at h = go (names_vr syntax)
+  where
+    go : (named : Bool) → Extends c q (shape_where named head at) (shape_where named head (longer at q))
+    go true = explicit_extends c q (vr_of (take 2 (drop 4 head))) head at h
+    go false = (refl, h)
 
 -- ---- what readers owe
 

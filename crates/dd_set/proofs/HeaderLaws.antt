@@ -12,13 +12,12 @@ use Rattle.dd_elem.specs.declared.vr.Vr.{Vr}
 use Rattle.dd_elem.specs.Vr.{letters_of, is_long_of, all_vrs, vr_of}
 use Rattle.dd_set.specs.declared.fault.SetFault.TheVariants.{Reserved}
 use Rattle.dd_set.specs.declared.syntax.Syntax.{Syntax}
-use Rattle.dd_set.specs.declared.syntax.Syntax.TheVariants.{Explicit, Implicit}
 use Rattle.dd_set.specs.Bytes.{AreBytes}
 use Rattle.dd_elem.specs.declared.tag.Tag.{Tag}
-use Rattle.dd_set.specs.Spelling.{tag_text, shape_text, header_text, undefined_length, length_limit}
+use Rattle.dd_set.specs.Spelling.{tag_text, shape_text, header_text, undefined_length, length_limit, names_vr}
 use Rattle.dd_set.specs.Reading.{At, take_at, tag_of, long_of, short_of, is_tag, Shape, long_length_at, long_at}
 use Rattle.dd_set.specs.Reading.{explicit_at}
-use Rattle.dd_set.specs.Reading.{shape_at}
+use Rattle.dd_set.specs.Reading.{shape_at, shape_where}
 use Rattle.dd_set.proofs.Steps.{bind_ok, allowed, chosen, ok_is, AreBytes-drop, AreBytes-take, short_text, long_text}
 use Rattle.dd_set.proofs.Steps.{short_below, long_below, found_passes}
 use Rattle.dd_set.proofs.Taken.{Takes, Takes-none, taken}
@@ -60,11 +59,14 @@ head_is head tag len fits is =
 -- ---- the value representation and the length
 
 -- a header of this syntax has one, or has none
+abbrev pub HasFormWhere : Bool → Option Vr → Type 0
+HasFormWhere true (Some vr) = Unit {0}
+HasFormWhere true None = ⊥
+HasFormWhere false None = Unit {0}
+HasFormWhere false (Some vr) = ⊥
+
 abbrev pub HasForm : Syntax → Option Vr → Type 0
-HasForm Explicit (Some vr) = Unit {0}
-HasForm Explicit None = ⊥
-HasForm Implicit None = Unit {0}
-HasForm Implicit (Some vr) = ⊥
+HasForm syntax vr = HasFormWhere (names_vr syntax) vr
 
 -- the numbers that fit the length of a header are below this
 abbrev pub width_limit : Option Vr → ℕ
@@ -118,11 +120,11 @@ vr_letters letters vr e = (bytes_eq-Decides (letters_of vr) letters).0
     (found_passes (λ v. bytes_eq (letters_of v) letters) all_vrs vr e)
 
 -- behind the tag stand this value representation and this length
-pub record Shaped (syntax : Syntax) (head : List ℕ) (at : At) (shape : Shape) (next : At) : Type 0 where
+pub record Shaped (named : Bool) (head : List ℕ) (at : At) (shape : Shape) (next : At) : Type 0 where
   pub text : List ℕ
   pub takes : Takes at text next
   pub whole : drop 4 head ++ text ≡ shape_text shape.vr shape.length
-  pub form : HasForm syntax shape.vr
+  pub form : HasFormWhere named shape.vr
   pub below : shape.length < width_limit shape.vr
 
 -- the letters stand in front of the last two bytes
@@ -137,7 +139,7 @@ long_made vr n = (record { vr = Some vr; length = n.0 }, n.1)
 -- a header with a length of 32 bits
 long_takes : (vr : Vr) (head : List ℕ) (at : At) (x : Shape × At) → length head ≡ 8 → AreBytes head → AreBytes at.bytes
     → letters_of vr ≡ take 2 (drop 4 head) → is_long_of vr ≡ true → long_at vr head at ≡ Ok x
-    → Shaped Explicit head at x.0 x.1
+    → Shaped true head at x.0 x.1
 unfolding long_at long_length_at long_made
 long_takes vr head at x len hfits fits letters long e =
     let a = allowed (short_of head == 0) Reserved _ x e in
@@ -155,7 +157,7 @@ long_takes vr head at x len hfits fits letters long e =
     (little_bytes 4 shape.length) ∙ sym (long_shape vr shape.length long) in
     let below : shape.length < width_limit shape.vr = subst (λ (n : ℕ). shape.length < n) (sym (long_width vr long))
     (long_below b.0.0 t.2) in
-    let all : Shaped Explicit head at shape b.0.1 = record {
+    let all : Shaped true head at shape b.0.1 = record {
       text = b.0.0;
       takes = t.0;
       whole = whole;
@@ -165,12 +167,12 @@ long_takes vr head at x len hfits fits letters long e =
     } in
     let made : (shape, b.0.1) ≡ x = ap (long_made vr) (ok_is (from_le_bytes w32 b.0.0, b.0.1) l.0 b.2)
     ∙ ok_is (long_made vr l.0) x l.2 in
-    subst (λ (y : Shape × At). Shaped Explicit head at y.0 y.1) made all
+    subst (λ (y : Shape × At). Shaped true head at y.0 y.1) made all
 
 -- a header with a value representation
 explicit_takes : (o : Option Vr) (head : List ℕ) (at : At) (x : Shape × At) → length head ≡ 8 → AreBytes head
     → AreBytes at.bytes → vr_of (take 2 (drop 4 head)) ≡ o → explicit_at o head at ≡ Ok x
-    → Shaped Explicit head at x.0 x.1
+    → Shaped true head at x.0 x.1
 explicit_takes None head at x len hfits fits named e = absurd cc
 explicit_takes (Some vr) head at x len hfits fits named e =
     let letters : letters_of vr ≡ take 2 (drop 4 head) = vr_letters (take 2 (drop 4 head)) vr named in
@@ -185,22 +187,21 @@ explicit_takes (Some vr) head at x len hfits fits named e =
           let whole : drop 4 head ++ [] ≡ shape_text shape.vr shape.length = append-nil (drop 4 head) ∙ front in
           let below : shape.length < width_limit shape.vr = subst (λ (n : ℕ). shape.length < n)
           (sym (short_width vr b.0)) (short_below (drop 6 head) (AreBytes-drop 6 head hfits)) in
-          let all : Shaped Explicit head at shape at = record
+          let all : Shaped true head at shape at = record
           { text = []; takes = Takes-none at fits; whole = whole; form = tt; below = below } in
-          subst (λ (y : Shape × At). Shaped Explicit head at y.0 y.1) (ok_is (shape, at) x b.1) all
+          subst (λ (y : Shape × At). Shaped true head at y.0 y.1) (ok_is (shape, at) x b.1) all
     ]
 
--- each header
-pub shape_takes : (syntax : Syntax) (head : List ℕ) (at : At) (x : Shape × At) → length head ≡ 8 → AreBytes head
-    → AreBytes at.bytes → shape_at syntax head at ≡ Ok x → Shaped syntax head at x.0 x.1
-unfolding shape_at
-shape_takes Explicit head at x len hfits fits e = explicit_takes (vr_of (take 2 (drop 4 head))) head at x len hfits fits
+-- where headers name a value representation, and where they do not
+takes_where : (named : Bool) (head : List ℕ) (at : At) (x : Shape × At) → length head ≡ 8 → AreBytes head
+    → AreBytes at.bytes → shape_where named head at ≡ Ok x → Shaped named head at x.0 x.1
+takes_where true head at x len hfits fits e = explicit_takes (vr_of (take 2 (drop 4 head))) head at x len hfits fits
     refl e
-shape_takes Implicit head at x len hfits fits e =
+takes_where false head at x len hfits fits e =
     let shape : Shape = record { vr = None; length = long_of head } in
     let whole : drop 4 head ++ [] ≡ shape_text shape.vr shape.length = append-nil (drop 4 head)
     ∙ sym (head_long head len hfits) in
-    let all : Shaped Implicit head at shape at = record {
+    let all : Shaped false head at shape at = record {
       text = [];
       takes = Takes-none at fits;
       whole = whole;
@@ -208,4 +209,10 @@ shape_takes Implicit head at x len hfits fits e =
           tt;
       below = long_below (drop 4 head) (AreBytes-drop 4 head hfits);
     } in
-    subst (λ (y : Shape × At). Shaped Implicit head at y.0 y.1) (ok_is (shape, at) x e) all
+    subst (λ (y : Shape × At). Shaped false head at y.0 y.1) (ok_is (shape, at) x e) all
+
+-- each header
+pub shape_takes : (syntax : Syntax) (head : List ℕ) (at : At) (x : Shape × At) → length head ≡ 8 → AreBytes head
+    → AreBytes at.bytes → shape_at syntax head at ≡ Ok x → Shaped (names_vr syntax) head at x.0 x.1
+unfolding shape_at
+shape_takes syntax head at x len hfits fits e = takes_where (names_vr syntax) head at x len hfits fits e

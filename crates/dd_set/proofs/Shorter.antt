@@ -10,11 +10,11 @@ use Rattle.dd_set.specs.declared.fault.SetFault.{SetFault}
 use Rattle.dd_set.specs.declared.fault.SetFault.TheVariants.{Truncated, Order, UnexpectedTag, Overrun}
 use Rattle.dd_set.specs.declared.syntax.Length.{Length}
 use Rattle.dd_set.specs.declared.syntax.Syntax.{Syntax}
-use Rattle.dd_set.specs.declared.syntax.Syntax.TheVariants.{Explicit, Implicit}
 use Rattle.dd_set.specs.Reading.{Header, there, header_with, eight_at, head_at, header_at, opening_at, behind_head}
 use Rattle.dd_set.specs.Reading.{front_at, item_opening, behind_item_head, item_front_at, At, Reads, ◌>>=◌}
-use Rattle.dd_set.specs.Reading.{leaves_fewer, take_at, tag_of, is_over, shape_at, explicit_at, long_length_at, long_at}
-use Rattle.dd_set.specs.Spelling.{delimiter_group}
+use Rattle.dd_set.specs.Reading.{leaves_fewer, take_at, tag_of, is_over, shape_at, shape_where, explicit_at}
+use Rattle.dd_set.specs.Reading.{long_length_at, long_at}
+use Rattle.dd_set.specs.Spelling.{delimiter_group, names_vr}
 use Rattle.dd_set.proofs.Steps.{passes, bind_ok, ok_is}
 
 -- what was read left at most n bytes
@@ -63,8 +63,7 @@ take_at_most n at = record { left = λ x e. omega (arith, take_fewer n at x.1 x.
 
 shape_at_most : (syntax : Syntax) (head : List ℕ) (at : At) → AtMost (length at.bytes) (shape_at syntax head at)
 unfolding shape_at long_at long_length_at
-shape_at_most Implicit head at = at_most_here (_, at)
-shape_at_most Explicit head at = explicit (vr_of (take 2 (drop 4 head)))
+shape_at_most syntax head at = go (names_vr syntax)
   where
     long : (vr : Vr) → AtMost (length at.bytes) (long_at vr head at)
     long vr = at_most_either _ _ _ _ (at_most_then _ (long_length_at at) _
@@ -74,6 +73,10 @@ shape_at_most Explicit head at = explicit (vr_of (take 2 (drop 4 head)))
     explicit : (o : Option Vr) → AtMost (length at.bytes) (explicit_at o head at)
     explicit None = at_most_none _ _
     explicit (Some vr) = at_most_either _ _ _ _ (long vr) (at_most_here (_, at))
+
+    go : (named : Bool) → AtMost (length at.bytes) (shape_where named head at)
+    go true = explicit (vr_of (take 2 (drop 4 head)))
+    go false = at_most_here (_, at)
 
 header_at_most : (syntax : Syntax) (low : ℕ) (head : List ℕ) (at : At)
     → AtMost (length at.bytes) (header_at syntax low head at)

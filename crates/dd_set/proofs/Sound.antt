@@ -1,5 +1,5 @@
 -- What is read is spelled so: reading that gives a set took the spelling of that set, level by level.
-use Rattle.std.proofs.Common.{◌≡◌, ◌≢◌, ℕ, zero, suc, ◌+◌, ◌%◌, ◌^◌, ◌<◌, ◌≤◌, true, false, nat_lt, ◌==◌, if◌then◌else◌}
+use Rattle.std.proofs.Common.{◌≡◌, ◌≢◌, ℕ, zero, suc, ◌+◌, ◌%◌, ◌^◌, ◌<◌, ◌≤◌, Bool, true, false, nat_lt, ◌==◌, if◌then◌else◌}
 use Rattle.std.proofs.Common.{List, [], ◌++◌, length, drop, Option, Some, None, IsSomeAnd, Ok, Err, refl, sym, ap}
 use Rattle.std.proofs.Common.{subst, ◌∙◌, append_assoc, arith, inl, inr}
 use Rattle.std.proofs.lemmas.Bool.{eqb-true, eqb-false, ltb-false}
@@ -12,14 +12,14 @@ use Rattle.dd_set.specs.declared.fault.SetFault.TheVariants.{Order, OddLength, U
 use Rattle.dd_set.specs.declared.syntax.Length.{Length}
 use Rattle.dd_set.specs.declared.syntax.Length.TheVariants.{Defined, Undefined}
 use Rattle.dd_set.specs.declared.syntax.Syntax.{Syntax}
-use Rattle.dd_set.specs.declared.syntax.Syntax.TheVariants.{Explicit, Implicit}
 use Rattle.dd_set.specs.Bytes.{AreBytes}
 use Rattle.dd_set.specs.Elements.{Elements, no_elements, element, Content, bytes, items, Items, item, Entry}
 use Rattle.dd_set.specs.Elements.{Part}
 use Rattle.dd_set.specs.Spelling.{undefined_length, delimiter_group, tag_text, shape_text, header_text, item_tag_text}
 use Rattle.dd_set.specs.Spelling.{item_end_tag, item_end_text, sequence_end_tag, sequence_end_text, length_of, closed}
 use Rattle.dd_set.specs.Spelling.{elements_text, content_text, items_text}
-use Rattle.dd_set.specs.Spelling.{FitsLong, length_limit, explicit_item_syntax, item_syntax, HoldsBytes}
+use Rattle.dd_set.specs.Spelling.{FitsLong, length_limit, names_vr, named_item_syntax, item_syntax, item_syntax_where}
+use Rattle.dd_set.specs.Spelling.{HoldsBytes, HoldsBytesWhere}
 use Rattle.dd_set.specs.Spelling.{AreElements, IsContent, AreItems}
 use Rattle.dd_set.specs.Reading.{◌>>=◌, At, Reads, leaves_fewer, take_at, tag_of, long_of}
 use Rattle.dd_set.specs.Reading.{is_over, Shape, shape_at, SequenceReader, SetReader, ItemReader, within, undefined_at}
@@ -28,7 +28,7 @@ use Rattle.dd_set.specs.Reading.{ends_sequence}
 use Rattle.dd_set.proofs.Cut.{body_at, whole_element, element_is}
 use Rattle.dd_set.proofs.Steps.{bind_ok, passes, allowed, chosen, ok_is, short_below, AreBytes-drop}
 use Rattle.dd_set.proofs.Taken.{Takes, Takes-none, Takes-then, taken, Ends, closed-append, within_takes}
-use Rattle.dd_set.proofs.HeaderLaws.{head_tag, head_is, HasForm, width_limit, width_at_most, within_limit, Shaped}
+use Rattle.dd_set.proofs.HeaderLaws.{head_tag, head_is, HasForm, HasFormWhere, width_limit, width_at_most, within_limit, Shaped}
 use Rattle.dd_set.proofs.HeaderLaws.{shape_takes}
 
 -- ---- the parts of a spelling
@@ -140,13 +140,17 @@ ends_undefined form at e = subst (λ (f : Length). Ends f at) (sym e) tt
 -- ---- an element
 
 -- where no sequence may follow a header there are bytes
+bytes_where : (named : Bool) (syntax : Syntax) (vr : Option Vr) → HasFormWhere named vr
+    → item_syntax_where named syntax vr Defined ≡ None → HoldsBytesWhere named vr
+bytes_where true syntax None h e = absurd h
+bytes_where true syntax (Some vr) h e = λ is. let both : ◌≡◌ {A = Option Syntax} (Some syntax) None =
+    sym (ap (λ (v : Vr). named_item_syntax syntax v Defined) is) ∙ e in absurd cc
+bytes_where false syntax None h e = tt
+bytes_where false syntax (Some vr) h e = absurd h
+
 holds_bytes : (syntax : Syntax) (vr : Option Vr) → HasForm syntax vr → item_syntax syntax vr Defined ≡ None
     → HoldsBytes syntax vr
-holds_bytes Explicit None h e = absurd h
-holds_bytes Explicit (Some vr) h e = λ is. let both : ◌≡◌ {A = Option Syntax} (Some Explicit) None =
-    sym (ap (λ (v : Vr). explicit_item_syntax v Defined) is) ∙ e in absurd cc
-holds_bytes Implicit None h e = tt
-holds_bytes Implicit (Some vr) h e = absurd h
+holds_bytes syntax vr h e = bytes_where (names_vr syntax) syntax vr h e
 
 -- a header in two parts, and the value behind it
 regroup : (h t r x b s : List ℕ) → h ≡ t ++ r → r ++ x ≡ s → h ++ (x ++ b) ≡ t ++ (s ++ b)
@@ -234,7 +238,7 @@ module _ (d : ℕ) (sequence : SequenceReader) (law : SequenceLaw d sequence) wh
       let b = passes (nat_lt (number_of tag) low) Order _ x a.1 in
       let s = bind_ok (shape_at syntax head at) (λ shape. content_at sequence syntax shape.0 shape.1 >>= λ y. Ok
       (record { tag = tag_of head; vr = shape.0.vr; content = y.0 }, y.1)) x b.1 in
-      let shaped : Shaped syntax head at s.0.0 s.0.1 = shape_takes syntax head at s.0 len hfits fits s.1 in
+      let shaped : Shaped (names_vr syntax) head at s.0.0 s.0.1 = shape_takes syntax head at s.0 len hfits fits s.1 in
       let c = bind_ok (content_at sequence syntax s.0.0 s.0.1)
       (λ y. Ok (record { tag = tag_of head; vr = s.0.0.vr; content = y.0 }, y.1)) x s.2 in
       let t = content_takes syntax s.0.0 s.0.1 c.0 shaped.takes.fits shaped.form shaped.below c.1 in

@@ -8,13 +8,13 @@ use Rattle.dd_elem.specs.declared.vr.Vr.TheVariants.{SQ, UN}
 use Rattle.dd_set.specs.declared.syntax.Length.{Length}
 use Rattle.dd_set.specs.declared.syntax.Length.TheVariants.{Defined, Undefined}
 use Rattle.dd_set.specs.declared.syntax.Syntax.{Syntax}
-use Rattle.dd_set.specs.declared.syntax.Syntax.TheVariants.{Explicit, Implicit}
 use Rattle.dd_set.specs.Elements.{Content, bytes, items}
 use Rattle.dd_set.specs.Spelling.{undefined_length}
 use Rattle.dd_set.specs.Spelling.{length_of, items_text}
-use Rattle.dd_set.specs.Spelling.{FitsLong, length_limit, explicit_item_syntax, item_syntax, HoldsBytes}
+use Rattle.dd_set.specs.Spelling.{FitsLong, length_limit, names_vr, named_item_syntax, item_syntax, item_syntax_where}
+use Rattle.dd_set.specs.Spelling.{HoldsBytes, HoldsBytesWhere}
 use Rattle.dd_set.specs.Spelling.{IsContent, AreItems}
-use Rattle.dd_set.proofs.HeaderLaws.{HasForm, width_limit, limit_within}
+use Rattle.dd_set.proofs.HeaderLaws.{HasForm, HasFormWhere, width_limit, limit_within}
 use Rattle.dd_set.proofs.Sound.{content_length}
 use Rattle.dd_set.proofs.Even.{some_of}
 
@@ -25,57 +25,61 @@ pub even_not_odd : (n : ℕ) → n % 2 ≡ 0 → (n % 2 == 1) ≡ false
 even_not_odd n e = ne_eqb (n % 2) 1 (λ f. omega arith)
 
 -- bytes stand where no sequence may
-not_sequence : (vr : Vr) → vr ≢ SQ → explicit_item_syntax vr Defined ≡ None
-not_sequence SQ h = absurd (h refl)
-not_sequence UN h = refl
-not_sequence _ h = refl
+not_sequence : (syntax : Syntax) (vr : Vr) → vr ≢ SQ → named_item_syntax syntax vr Defined ≡ None
+not_sequence syntax SQ h = absurd (h refl)
+not_sequence syntax UN h = refl
+not_sequence syntax _ h = refl
 
--- the same in either syntax
+-- the same where headers name it, and where they do not
+none_where : (named : Bool) (syntax : Syntax) (vr : Option Vr) → HoldsBytesWhere named vr
+    → item_syntax_where named syntax vr Defined ≡ None
+none_where true syntax None h = absurd h
+none_where true syntax (Some vr) h = not_sequence syntax vr h
+none_where false syntax None h = refl
+none_where false syntax (Some vr) h = absurd h
+
 pub holds_none : (syntax : Syntax) (vr : Option Vr) → HoldsBytes syntax vr → item_syntax syntax vr Defined ≡ None
-holds_none Explicit None h = absurd h
-holds_none Explicit (Some vr) h = not_sequence vr h
-holds_none Implicit None h = refl
-holds_none Implicit (Some vr) h = absurd h
+holds_none syntax vr h = none_where (names_vr syntax) syntax vr h
 
 -- what a header in this syntax has
-holds_form : (syntax : Syntax) (vr : Option Vr) → HoldsBytes syntax vr → HasForm syntax vr
-holds_form Explicit None h = absurd h
-holds_form Explicit (Some vr) h = tt
-holds_form Implicit None h = tt
-holds_form Implicit (Some vr) h = absurd h
+form_where : (named : Bool) (vr : Option Vr) → HoldsBytesWhere named vr → HasFormWhere named vr
+form_where true None h = absurd h
+form_where true (Some vr) h = tt
+form_where false None h = tt
+form_where false (Some vr) h = absurd h
 
 -- the same where it may hold items
-item_form : (syntax : Syntax) (vr : Option Vr) (form : Length) (inner : Syntax)
-    → item_syntax syntax vr form ≡ Some inner → HasForm syntax vr
-item_form Explicit None form inner e = absurd cc
-item_form Explicit (Some vr) form inner e = tt
-item_form Implicit None form inner e = tt
-item_form Implicit (Some vr) Defined inner e = absurd cc
-item_form Implicit (Some vr) Undefined inner e = absurd cc
+item_form_where : (named : Bool) (syntax : Syntax) (vr : Option Vr) (form : Length) (inner : Syntax)
+    → item_syntax_where named syntax vr form ≡ Some inner → HasFormWhere named vr
+item_form_where true syntax None form inner e = absurd cc
+item_form_where true syntax (Some vr) form inner e = tt
+item_form_where false syntax None form inner e = tt
+item_form_where false syntax (Some vr) Defined inner e = absurd cc
+item_form_where false syntax (Some vr) Undefined inner e = absurd cc
 
 -- a value representation that may hold a sequence has room for a length of 32 bits
-explicit_wide : (vr : Vr) (form : Length) (inner : Syntax) → explicit_item_syntax vr form ≡ Some inner
-    → width_limit (Some vr) ≡ 2 ^ 32
-explicit_wide SQ form inner e = refl
-explicit_wide UN form inner e = refl
-explicit_wide _ form inner e = absurd cc
+named_wide : (syntax : Syntax) (vr : Vr) (form : Length) (inner : Syntax)
+    → named_item_syntax syntax vr form ≡ Some inner → width_limit (Some vr) ≡ 2 ^ 32
+named_wide syntax SQ form inner e = refl
+named_wide syntax UN form inner e = refl
+named_wide syntax _ form inner e = absurd cc
 
--- the same in either syntax
-item_wide : (syntax : Syntax) (vr : Option Vr) (form : Length) (inner : Syntax)
-    → item_syntax syntax vr form ≡ Some inner → width_limit vr ≡ 2 ^ 32
-item_wide Explicit None form inner e = absurd cc
-item_wide Explicit (Some vr) form inner e = explicit_wide vr form inner e
-item_wide Implicit None form inner e = refl
-item_wide Implicit (Some vr) Defined inner e = absurd cc
-item_wide Implicit (Some vr) Undefined inner e = absurd cc
+-- the same where headers name it, and where they do not
+wide_where : (named : Bool) (syntax : Syntax) (vr : Option Vr) (form : Length) (inner : Syntax)
+    → item_syntax_where named syntax vr form ≡ Some inner → width_limit vr ≡ 2 ^ 32
+wide_where true syntax None form inner e = absurd cc
+wide_where true syntax (Some vr) form inner e = named_wide syntax vr form inner e
+wide_where false syntax None form inner e = refl
+wide_where false syntax (Some vr) Defined inner e = absurd cc
+wide_where false syntax (Some vr) Undefined inner e = absurd cc
 
 -- a value that fits has a header of its syntax
 pub content_form : (syntax : Syntax) (d : ℕ) (vr : Option Vr) (c : Content) → IsContent syntax d vr c
     → HasForm syntax vr
-content_form syntax d vr (bytes v) h = holds_form syntax vr h.0
+content_form syntax d vr (bytes v) h = form_where (names_vr syntax) vr h.0
 content_form syntax d vr (items form parts) h =
     let inner = some_of (item_syntax syntax vr form) (λ i. AreItems i d parts) h.0 in
-    item_form syntax vr form inner.0 inner.1
+    item_form_where (names_vr syntax) syntax vr form inner.0 inner.1
 
 -- a length that fits has 32 bits
 pub fits_width : (form : Length) (text : List ℕ) → FitsLong form text → length_of form text < 2 ^ 32
@@ -88,7 +92,8 @@ pub content_width : (syntax : Syntax) (d : ℕ) (vr : Option Vr) (c : Content) �
 content_width syntax d vr (bytes v) h = limit_within vr (length v) h.2
 content_width syntax d vr (items form parts) h =
     let inner = some_of (item_syntax syntax vr form) (λ i. AreItems i d parts) h.0 in
-    subst (λ (n : ℕ). length_of form (items_text parts) < n) (sym (item_wide syntax vr form inner.0 inner.1))
+    subst (λ (n : ℕ). length_of form (items_text parts) < n) 
+    (sym (wide_where (names_vr syntax) syntax vr form inner.0 inner.1))
     (fits_width form (items_text parts) h.1)
 
 -- no limit is above the mark of an undefined length

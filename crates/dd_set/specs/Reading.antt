@@ -1,6 +1,6 @@
 -- Reading a data set from left to right, check by check: the set, or the first check that fails (PS3.5 sections 7.1 and
 -- 7.5). Each step takes bytes from where the one before it left off.
-use Rattle.std.specs.Prelude.{ℕ, zero, suc, ◌+◌, ◌-◌, ◌%◌, List, length, take, drop, Bool, false, ◌&&◌}
+use Rattle.std.specs.Prelude.{ℕ, zero, suc, ◌+◌, ◌-◌, ◌%◌, List, length, take, drop, Bool, true, false, ◌&&◌}
 use Rattle.std.specs.Prelude.{Option, Some, None, Result, Ok, Err, nat_lt, ◌==◌, if◌then◌else◌}
 use Rattle.std.specs.Int.{w16, w32, from_le_bytes}
 use Rattle.dd_elem.specs.declared.tag.Tag.{Tag}
@@ -14,10 +14,9 @@ use Rattle.dd_set.specs.declared.fault.SetFault.TheVariants.{Overrun, TooDeep}
 use Rattle.dd_set.specs.declared.syntax.Length.{Length}
 use Rattle.dd_set.specs.declared.syntax.Length.TheVariants.{Defined, Undefined}
 use Rattle.dd_set.specs.declared.syntax.Syntax.{Syntax}
-use Rattle.dd_set.specs.declared.syntax.Syntax.TheVariants.{Explicit, Implicit}
 use Rattle.dd_set.specs.Elements.{Elements, no_elements, element, Content, bytes, items, Items, no_items, item}
 use Rattle.dd_set.specs.Elements.{Entry, Part}
-use Rattle.dd_set.specs.Spelling.{undefined_length, delimiter_group, item_syntax, max_levels}
+use Rattle.dd_set.specs.Spelling.{undefined_length, delimiter_group, names_vr, item_syntax, max_levels}
 use Rattle.dd_set.specs.Spelling.{item_tag, item_end_tag, sequence_end_tag}
 
 -- where reading stands: how many bytes the nearest enclosing length leaves, where there is one, and the bytes to come
@@ -120,9 +119,13 @@ explicit_at (Some vr) head at =
     if is_long_of vr then long_at vr head at
     else Ok (record { vr = Some vr; length = short_of head }, at)
 
+-- where headers name the value representation, and where they do not
+abbrev pub shape_where : Bool → List ℕ → At → Reads Shape
+shape_where true head at = explicit_at (vr_of (take 2 (drop 4 head))) head at
+shape_where false head at = Ok (record { vr = None; length = long_of head }, at)
+
 unfoldable pub shape_at : Syntax → List ℕ → At → Reads Shape
-shape_at Explicit head at = explicit_at (vr_of (take 2 (drop 4 head))) head at
-shape_at Implicit head at = Ok (record { vr = None; length = long_of head }, at)
+shape_at syntax head at = shape_where (names_vr syntax) head at
 
 -- what a header says: a tag, and how its value is encoded
 pub record Header : Type 0 where

@@ -1,6 +1,6 @@
 -- The bytes of a data set, and which data sets have bytes (PS3.5 sections 6.2, 7.1 and 7.5).
 use Rattle.std.specs.Prelude.{◌≡◌, ◌≢◌, ℕ, zero, suc, ◌+◌, ◌^◌, ◌<◌, ◌≤◌, ◌%◌, List, [], ◌∷◌, ◌++◌, length, Option}
-use Rattle.std.specs.Prelude.{Some, None, IsSomeAnd, if◌then◌else◌}
+use Rattle.std.specs.Prelude.{Some, None, IsSomeAnd, Bool, true, false, if◌then◌else◌}
 use Rattle.byteorder.specs.Endian.{little_bytes}
 use Rattle.dd_elem.specs.declared.tag.Tag.{Tag}
 use Rattle.dd_elem.specs.declared.vr.Vr.{Vr}
@@ -96,28 +96,40 @@ abbrev pub length_limit : Option Vr → ℕ
 length_limit None = undefined_length
 length_limit (Some vr) = if is_long_of vr then undefined_length else 2 ^ 16
 
+-- a header in this syntax names the value representation of its value
+abbrev pub names_vr : Syntax → Bool
+names_vr Explicit = true
+names_vr Implicit = false
+
 -- The syntax in which the items of a sequence are spelled, where an element of this value representation may hold a
--- sequence of this form. Explicit: SQ, of either form, and UN of undefined length, whose items are Implicit. Implicit:
--- of undefined length alone.
-abbrev pub explicit_item_syntax : Vr → Length → Option Syntax
-explicit_item_syntax SQ form = Some Explicit
-explicit_item_syntax UN Undefined = Some Implicit
-explicit_item_syntax UN Defined = None
-explicit_item_syntax _ form = None
+-- sequence of this form. Where headers name it: SQ, of either form, whose items are in the same syntax, and UN of
+-- undefined length, whose items are Implicit. Where they do not: of undefined length alone.
+abbrev pub named_item_syntax : Syntax → Vr → Length → Option Syntax
+named_item_syntax syntax SQ form = Some syntax
+named_item_syntax syntax UN Undefined = Some Implicit
+named_item_syntax syntax UN Defined = None
+named_item_syntax syntax _ form = None
+
+abbrev pub item_syntax_where : Bool → Syntax → Option Vr → Length → Option Syntax
+item_syntax_where true syntax (Some vr) form = named_item_syntax syntax vr form
+item_syntax_where true syntax None form = None
+item_syntax_where false syntax None Undefined = Some Implicit
+item_syntax_where false syntax None Defined = None
+item_syntax_where false syntax (Some vr) form = None
 
 abbrev pub item_syntax : Syntax → Option Vr → Length → Option Syntax
-item_syntax Explicit (Some vr) form = explicit_item_syntax vr form
-item_syntax Explicit None form = None
-item_syntax Implicit None Undefined = Some Implicit
-item_syntax Implicit None Defined = None
-item_syntax Implicit (Some vr) form = None
+item_syntax syntax vr form = item_syntax_where (names_vr syntax) syntax vr form
 
--- an element of this value representation may hold bytes. Explicit: of each but SQ. Implicit: where there is none.
+-- An element of this value representation may hold bytes. Where headers name it: of each but SQ. Where they do not:
+-- where there is none.
+abbrev pub HoldsBytesWhere : Bool → Option Vr → Type 0
+HoldsBytesWhere true (Some vr) = vr ≢ SQ
+HoldsBytesWhere true None = ⊥
+HoldsBytesWhere false None = Unit {0}
+HoldsBytesWhere false (Some vr) = ⊥
+
 abbrev pub HoldsBytes : Syntax → Option Vr → Type 0
-HoldsBytes Explicit (Some vr) = vr ≢ SQ
-HoldsBytes Explicit None = ⊥
-HoldsBytes Implicit None = Unit {0}
-HoldsBytes Implicit (Some vr) = ⊥
+HoldsBytes syntax vr = HoldsBytesWhere (names_vr syntax) vr
 
 -- how deep items may nest: 32 levels
 abbrev pub max_levels : ℕ

@@ -10,7 +10,7 @@ ghost use Rattle.dd_set.specs.Places.{shape_view};
 use crate::fault::SetFault;
 use crate::headers::{
     DELIMITER_GROUP, UNDEFINED_LENGTH, ends_sequence, ends_set, is_item, item_syntax, letters_in,
-    long_in, short_in, tag_in,
+    long_in, names_vr, short_in, tag_in,
 };
 use crate::syntax::{Length, Syntax};
 use dd_elem::{Tag, Vr};
@@ -130,11 +130,11 @@ fn shape_opening(syntax: Syntax, tag: Tag, head: &[u8]) -> Result<Opening, SetFa
     ensures exact { (at : At) → tagged_at syntax tag head.now at ≡ opened result at }
     ensures memory { result ≢ Err Memory }
 {
-    let Syntax::Explicit = syntax else {
+    if !names_vr(syntax) {
         let (vr, length) = (None, long_in(head));
         let shape = Shape { vr, length };
         return Ok(Opening::Whole(Header { tag, shape }));
-    };
+    }
     let Some(vr) = Vr::from_letters(letters_in(head)) else {
         return Err(SetFault::BadVr);
     };

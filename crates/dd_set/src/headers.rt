@@ -5,8 +5,8 @@ ghost use Rattle.byteorder.specs.Endian.{little_bytes};
 ghost use Rattle.dd_elem.specs.Tag.{number_of};
 ghost use Rattle.dd_elem.specs.Vr.{is_long_of};
 ghost use Rattle.dd_set.specs.Reading.{tag_of, long_of, short_of, ends_set, ends_sequence, is_item};
-ghost use Rattle.dd_set.specs.Spelling.{item_syntax, length_limit, HoldsBytes, tag_text, shape_text, header_text};
-ghost use Rattle.dd_set.specs.Spelling.{item_tag_text};
+ghost use Rattle.dd_set.specs.Spelling.{names_vr, item_syntax, length_limit, HoldsBytes, tag_text, shape_text};
+ghost use Rattle.dd_set.specs.Spelling.{header_text, item_tag_text};
 
 use crate::syntax::{Length, Syntax};
 use byteorder::{ByteOrder, LittleEndian};
@@ -61,17 +61,27 @@ pub fn low_behind(tag: Tag) -> u64
     u64::from(tag.number()) + 1
 }
 
+/// Whether a header in this syntax names the value representation of its value.
+pub fn names_vr(syntax: Syntax) -> bool
+    ensures { result ≡ names_vr syntax }
+{
+    match syntax {
+        Syntax::Explicit => true,
+        Syntax::Implicit => false,
+    }
+}
+
 /// The syntax of the items that a sequence of this form has under this value representation, where
 /// it may stand there (PS3.5 sections 6.2.2 and 7.5.1).
 pub fn item_syntax(syntax: Syntax, vr: Option<Vr>, form: Length) -> Option<Syntax>
     ensures { result ≡ item_syntax syntax vr form }
 {
-    match (syntax, vr, form) {
-        (Syntax::Explicit, Some(Vr::SQ), _) => Some(Syntax::Explicit),
-        (Syntax::Explicit, Some(Vr::UN), Length::Undefined) => Some(Syntax::Implicit),
-        (Syntax::Explicit, _, _) => None,
-        (Syntax::Implicit, None, Length::Undefined) => Some(Syntax::Implicit),
-        (Syntax::Implicit, _, _) => None,
+    match (names_vr(syntax), vr, form) {
+        (true, Some(Vr::SQ), _) => Some(syntax),
+        (true, Some(Vr::UN), Length::Undefined) => Some(Syntax::Implicit),
+        (true, _, _) => None,
+        (false, None, Length::Undefined) => Some(Syntax::Implicit),
+        (false, _, _) => None,
     }
 }
 
@@ -79,10 +89,10 @@ pub fn item_syntax(syntax: Syntax, vr: Option<Vr>, form: Length) -> Option<Synta
 pub fn holds_bytes(syntax: Syntax, vr: Option<Vr>) -> bool
     ensures { IsTrue result ↔ HoldsBytes syntax vr }
 {
-    match (syntax, vr) {
-        (Syntax::Explicit, Some(vr)) => vr != Vr::SQ,
-        (Syntax::Explicit, None) => false,
-        (Syntax::Implicit, vr) => vr.is_none(),
+    match (names_vr(syntax), vr) {
+        (true, Some(vr)) => vr != Vr::SQ,
+        (true, None) => false,
+        (false, vr) => vr.is_none(),
     }
 }
 

@@ -1,10 +1,11 @@
 -- A long header, whose length stands behind its first eight bytes.
-use Rattle.std.proofs.Common.{◌≡◌, ◌∙◌, ℕ, true, false, eqb, ap, sym, List, take, drop, Option, Some, Ok, Err, refl}
+use Rattle.std.proofs.Common.{◌≡◌, ◌∙◌, ℕ, true, false, eqb, rules, ap, sym, List, take, drop, Option, Some, Ok, Err, refl}
 use Rattle.dd_elem.specs.declared.tag.Tag.{Tag}
 use Rattle.dd_elem.specs.declared.vr.Vr.{Vr}
 use Rattle.dd_elem.specs.Vr.{is_long_of, vr_of}
 use Rattle.dd_set.specs.declared.fault.SetFault.TheVariants.{Reserved}
-use Rattle.dd_set.specs.declared.syntax.Syntax.TheVariants.{Explicit}
+use Rattle.dd_set.specs.declared.syntax.Syntax.{Syntax}
+use Rattle.dd_set.specs.Spelling.{names_vr}
 use Rattle.dd_set.specs.Checks.{long_header_at}
 use Rattle.dd_set.specs.Reading.{Header, tagged_at, header_with, there, long_length_at, At, Reads, ◌>>=◌, Shape}
 use Rattle.dd_set.specs.Reading.{short_of, shape_at, long_at}
@@ -22,28 +23,32 @@ behind_length : (tag : Tag) (vr : Vr) (r : Reads ℕ)
 behind_length tag vr (Ok n) = refl
 behind_length tag vr (Err e) = refl
 
-long_header : (tag : Tag) (vr : Vr) (head : List ℕ) (at : At) → vr_of (take 2 (drop 4 head)) ≡ Some vr
+long_header : (syntax : Syntax) (tag : Tag) (vr : Vr) (head : List ℕ) (at : At) → names_vr syntax ≡ true
+    → vr_of (take 2 (drop 4 head)) ≡ Some vr
     → is_long_of vr ≡ true → eqb (short_of head) 0 ≡ true
-    → tagged_at Explicit tag head at ≡ long_header_at tag vr at
+    → tagged_at syntax tag head at ≡ long_header_at tag vr at
 unfolding shape_at long_at
-long_header tag vr head at named long zero = rw (named, long, zero) (behind_length tag vr (long_length_at at))
+long_header syntax tag vr head at names named long zero = rw (names, named, long, zero) (behind_length tag vr (long_length_at at))
 
-reserved_header : (tag : Tag) (vr : Vr) (head : List ℕ) (at : At) → vr_of (take 2 (drop 4 head)) ≡ Some vr
+reserved_header : (syntax : Syntax) (tag : Tag) (vr : Vr) (head : List ℕ) (at : At) → names_vr syntax ≡ true
+    → vr_of (take 2 (drop 4 head)) ≡ Some vr
     → is_long_of vr ≡ true → eqb (short_of head) 0 ≡ false
-    → tagged_at Explicit tag head at ≡ Err Reserved
+    → tagged_at syntax tag head at ≡ Err Reserved
 unfolding shape_at long_at
-reserved_header tag vr head at named long other = rw (named, long, other) refl
+reserved_header syntax tag vr head at names named long other = rw (names, named, long, other) refl
 
 pub returns-then-short_in-ne0-clause-exact : goal.returns-then-short_in-ne0-clause-exact
 returns-then-short_in-ne0-clause-exact c = λ at.
     let named = ap vr_of (sym c.letters_in.ensures) ∙ sym c.in-Some.ensures.exact in
-    rw c.in-Explicit.is (reserved_header c.args.tag c.in-Some.vr c.args.head.now at named
+    let names : names_vr c.args.syntax ≡ true = search rules in
+    reserved_header c.args.syntax c.args.tag c.in-Some.vr c.args.head.now at names named
     (sym c.is_long.ensures ∙ c.if-is_long.true) (differ _ _
-    (λ zero. c.if-short_in-ne0.true (c.short_in.ensures ∙ zero))))
+    (λ zero. c.if-short_in-ne0.true (c.short_in.ensures ∙ zero)))
 
 pub returns-then-is_long-clause-exact : goal.returns-then-is_long-clause-exact
 returns-then-is_long-clause-exact c = λ at.
     let named = ap vr_of (sym c.letters_in.ensures) ∙ sym c.in-Some.ensures.exact in
     let zero : short_of c.args.head.now ≡ 0 = sym c.short_in.ensures ∙ c.if-short_in-ne0.false in
-    rw c.in-Explicit.is (long_header c.args.tag c.in-Some.vr c.args.head.now at named
-    (sym c.is_long.ensures ∙ c.if-is_long.true) (ap (λ n. eqb n 0) zero))
+    let names : names_vr c.args.syntax ≡ true = search rules in
+    long_header c.args.syntax c.args.tag c.in-Some.vr c.args.head.now at names named
+    (sym c.is_long.ensures ∙ c.if-is_long.true) (ap (λ n. eqb n 0) zero)
