@@ -1,6 +1,7 @@
 -- What is spelled is read again: reading the spelling of a set gives that set, whatever stands behind it.
 use Rattle.std.proofs.Common.{◌≡◌, ◌≢◌, ℕ, zero, suc, ◌+◌, ◌%◌, ◌^◌, ◌<◌, ◌≤◌, false, nat_lt, ◌==◌, ◌&&◌}
-use Rattle.std.proofs.Common.{if◌then◌else◌, List, [], ◌++◌, length, Option, Some, None, Ok, Err, refl, sym, ap}
+use Rattle.std.proofs.Common.{if◌then◌else◌, List, [], ◌++◌, length, Option, Some, None, Ok, Err, refl, sym, ap, ap₂}
+use Rattle.std.proofs.Common.{Bool, true}
 use Rattle.std.proofs.Common.{◌∙◌, append_assoc, append-nil, arith}
 use Rattle.std.proofs.lemmas.Bool.{le-ltb, ne_eqb, and_left}
 use Rattle.std.proofs.lemmas.List.{length-append}
@@ -12,15 +13,17 @@ use Rattle.dd_set.specs.declared.fault.SetFault.TheVariants.{Order, UnexpectedTa
 use Rattle.dd_set.specs.declared.syntax.Length.{Length}
 use Rattle.dd_set.specs.declared.syntax.Length.TheVariants.{Defined, Undefined}
 use Rattle.dd_set.specs.declared.syntax.Syntax.{Syntax}
-use Rattle.dd_set.specs.Elements.{Elements, no_elements, element, Content, bytes, items, Items, no_items, item, Entry}
+use Rattle.dd_set.specs.Elements.{Elements, no_elements, element, Content, bytes, items, fragments, Items, no_items}
+use Rattle.dd_set.specs.Elements.{item, Entry}
 use Rattle.dd_set.specs.Elements.{Part}
 use Rattle.dd_set.specs.Spelling.{undefined_length, delimiter_group, tag_text, item_tag_text, item_end_tag}
 use Rattle.dd_set.specs.Spelling.{item_end_text}
 use Rattle.dd_set.specs.Spelling.{sequence_end_text, length_of, closed, elements_text, content_text, items_text}
 use Rattle.dd_set.specs.Spelling.{names_vr, item_syntax, max_levels}
-use Rattle.dd_set.specs.Spelling.{AreElements, IsContent, AreItems}
+use Rattle.dd_set.specs.Spelling.{AreElements, IsContent, AreItems, MayHave, encapsulates, is_pixel_data, fragments_text}
 use Rattle.dd_set.specs.Reading.{◌>>=◌, At, Reads, leaves_fewer, take_at, long_of, is_item, is_over, Shape, shape_at}
-use Rattle.dd_set.specs.Reading.{SequenceReader, SetReader, ItemReader, within, undefined_at, defined_at, content_at}
+use Rattle.dd_set.specs.Reading.{SequenceReader, SetReader, ItemReader, within, open_at, fragments_here, defined_at}
+use Rattle.dd_set.specs.Reading.{content_at}
 use Rattle.dd_set.specs.Reading.{ends_set, element_at, next_elements, elements_at, ends_sequence, item_at}
 use Rattle.dd_set.specs.Reading.{next_items, items_at, part_at, sequence_with, set_with, item_reader, read_all}
 use Rattle.dd_set.proofs.Cut.{body_at, whole_element, element_is, whole_item, item_is}
@@ -32,6 +35,8 @@ use Rattle.dd_set.proofs.Even.{some_of, even_elements, even_items, closed_longer
 use Rattle.dd_set.proofs.Before.{more, before, behind, before-append, before-none, fewer_not, past, into, onward}
 use Rattle.dd_set.proofs.Before.{take_again, within_again, Closes, over_not, tag_again, ShapeAgain, shape_again}
 use Rattle.dd_set.proofs.Widths.{even_not_odd, holds_none, content_form, fits_width, content_width, limit_most}
+use Rattle.dd_set.proofs.Widths.{holds_no_fragments}
+use Rattle.dd_set.proofs.FragmentLaws.{list_again}
 
 -- ---- what readers owe: what is spelled in front of the bytes is what each gives
 
@@ -51,52 +56,62 @@ PartAgain d read = (syntax : Syntax) (p : Part) (left : Option ℕ) (rest : List
 
 module _ (d : ℕ) (sequence : SequenceReader) (law : SequenceAgain d sequence) where
   -- a defined length that the checks of a value pass
-  defined_again : (syntax : Syntax) (vr : Option Vr) (c : Content) (text : List ℕ) (left : Option ℕ) (rest : List ℕ)
+  defined_again : (syntax : Syntax) (tag : Tag) (vr : Option Vr) (c : Content) (text : List ℕ) (left : Option ℕ) (rest : List ℕ)
       → length text < undefined_length → length text % 2 ≡ 0 → (o : Option Syntax) → item_syntax syntax vr Defined ≡ o
       → defined_at sequence o (length text) (before left text rest) ≡ Ok (c, behind left rest)
-      → content_at sequence syntax (record { vr = vr; length = length text }) (before left text rest) ≡ Ok
+      → content_at sequence syntax (record { tag = tag; shape = record { vr = vr; length = length text } })
+      (before left text rest) ≡ Ok
       (c, behind left rest)
   unfolding content_at
-  defined_again syntax vr c text left rest low even o is made =
+  defined_again syntax tag vr c text left rest low even o is made =
       let defined : (length text == undefined_length) ≡ false =
       ne_eqb (length text) undefined_length (λ e. omega arith) in
-      past (length text == undefined_length) (undefined_at sequence (item_syntax syntax vr Undefined)
-      (before left text rest)) _ defined
+      past (length text == undefined_length) _ _ defined
       ∙ past (length text % 2 == 1) _ _ (even_not_odd (length text) even)
       ∙ past (leaves_fewer (more left (length text)) (length text)) _ _ (fewer_not left (length text))
       ∙ ap (λ (p : Option Syntax). defined_at sequence p (length text) (before left text rest)) is
       ∙ made
 
   -- a value behind its header
-  pub content_again : (syntax : Syntax) (vr : Option Vr) (c : Content) (left : Option ℕ) (rest : List ℕ)
-      → IsContent syntax d vr c → content_at sequence syntax (record { vr = vr; length = content_length c })
+  pub content_again : (syntax : Syntax) (tag : Tag) (vr : Option Vr) (c : Content) (left : Option ℕ) (rest : List ℕ)
+      → IsContent syntax d vr c → MayHave tag c → content_at sequence syntax
+      (record { tag = tag; shape = record { vr = vr; length = content_length c } })
       (before left (content_body c) rest) ≡ Ok (c, behind left rest)
   unfolding content_at
-  content_again syntax vr (bytes v) left rest h =
-      defined_again syntax vr (bytes v) v left rest (limit_most vr (length v) h.2) h.1 None (holds_none syntax vr h.0)
+  content_again syntax tag vr (bytes v) left rest h placed =
+      defined_again syntax tag vr (bytes v) v left rest (limit_most vr (length v) h.2) h.1 None (holds_none syntax vr h.0)
       (onward (take_at (length v) (before left v rest)) (v, behind left rest) (λ y. done (bytes y.0, y.1))
       (take_again (length v) left v rest refl))
-  content_again syntax vr (items Defined parts) left rest h =
+  content_again syntax tag vr (items Defined parts) left rest h placed =
       let inner = some_of (item_syntax syntax vr Defined) (λ i. AreItems i d parts) h.0 in
       let read = within_again left (items_text parts) rest (sequence inner.0 Defined) parts
       (law inner.0 Defined parts (Some 0) rest inner.2 refl) in
-      defined_again syntax vr (items Defined parts) (items_text parts) left rest h.1
+      defined_again syntax tag vr (items Defined parts) (items_text parts) left rest h.1
       (even_items inner.0 d parts inner.2) (Some inner.0) inner.1
       (onward (within (length (items_text parts)) (before left (items_text parts) rest) (sequence inner.0 Defined))
       (parts, behind left rest) (λ y. done (items Defined y.0, y.1)) read)
-  content_again syntax vr (items Undefined parts) left rest h =
+  content_again syntax tag vr (items Undefined parts) left rest h placed =
       let inner = some_of (item_syntax syntax vr Undefined) (λ i. AreItems i d parts) h.0 in
       let start : At = before left (items_text parts ++ sequence_end_text) rest in
-      ap (λ (o : Option Syntax). undefined_at sequence o start) inner.1
+      let none : (encapsulates syntax vr && is_pixel_data tag) ≡ false =
+      and_left (encapsulates syntax vr) (is_pixel_data tag) (holds_no_fragments syntax vr Undefined inner.0 inner.1) in
+      ap₂ (λ (b : Bool) (o : Option Syntax). open_at sequence b o start) none inner.1
       ∙ onward (sequence inner.0 Undefined start) (parts, behind left rest) (λ y. done (items Undefined y.0, y.1))
       (law inner.0 Undefined parts left rest inner.2 tt)
+  content_again syntax tag vr (fragments fs) left rest h placed =
+      let start : At = before left (fragments_text fs ++ sequence_end_text) rest in
+      let both : (encapsulates syntax vr && is_pixel_data tag) ≡ true = rw (h.0, placed) refl in
+      ap (λ (b : Bool). open_at sequence b (item_syntax syntax vr Undefined) start) both
+      ∙ onward (fragments_here start) (fs, behind left rest) (λ y. done (fragments y.0, y.1))
+      (list_again fs left rest h.1)
 
   -- an element behind its first eight bytes, with the tag apart
   body_of : Syntax → ℕ → Tag → List ℕ → At → Reads Entry
   body_of syntax low tag head at =
       if tag.group == delimiter_group then Err UnexpectedTag
       else (if nat_lt (number_of tag) low then Err Order
-      else (shape_at syntax head at >>= λ shape. content_at sequence syntax shape.0 shape.1 >>= λ x. Ok
+      else (shape_at syntax head at >>= λ shape. content_at sequence syntax (record { tag = tag; shape = shape.0 })
+      shape.1 >>= λ x. Ok
       (record { tag = tag; vr = shape.0.vr; content = x.0 }, x.1)))
 
   -- an element behind its first eight bytes
@@ -118,11 +133,12 @@ module _ (d : ℕ) (sequence : SequenceReader) (law : SequenceAgain d sequence) 
       ap (λ (t : Tag). body_of syntax low t head start) (tag_again e.tag s.first h.1 h.2)
       ∙ past (e.tag.group == delimiter_group) _ _ group
       ∙ past (nat_lt (number_of e.tag) low) _ _ order
-      ∙ onward (shape_at syntax head start) (shape, middle) (λ y. content_at sequence syntax y.0 y.1 >>= λ x. done
+      ∙ onward (shape_at syntax head start) (shape, middle) (λ y. content_at sequence syntax
+      (record { tag = e.tag; shape = y.0 }) y.1 >>= λ x. done
       (record { tag = e.tag; vr = y.0.vr; content = x.0 }, x.1)) shape_read
-      ∙ onward (content_at sequence syntax shape middle) (e.content, behind left rest)
+      ∙ onward (content_at sequence syntax (record { tag = e.tag; shape = shape }) middle) (e.content, behind left rest)
       (λ x. done (record { tag = e.tag; vr = e.vr; content = x.0 }, x.1))
-      (content_again syntax e.vr e.content left rest h.4)
+      (content_again syntax e.tag e.vr e.content left rest h.4 h.5)
 
   -- an element is no delimiter
   ends_not : (form : Length) (tag : Tag) (rest : List ℕ) → tag.group < 2 ^ 16 → tag.element < 2 ^ 16
@@ -213,10 +229,10 @@ module _ (d : ℕ) (sequence : SequenceReader) (law : SequenceAgain d sequence) 
       ap (λ (at : At). elements_at sequence syntax form (suc most) low at) start
       ∙ onward (element_at sequence syntax form low (before (more left (length tail)) (entry_text e) (tail ++ rest)))
       (Some e, before left tail rest) (next_elements (elements_at sequence syntax form most))
-      (element_again syntax form low e (more left (length tail)) (tail ++ rest) (h.0, h.1, h.2, h.3, h.4))
+      (element_again syntax form low e (more left (length tail)) (tail ++ rest) (h.0, h.1, h.2, h.3, h.4, h.5))
       ∙ onward (elements_at sequence syntax form most (number_of tag + 1) (before left tail rest))
       (others, behind left rest) (λ x. done (element tag vr content x.0, x.1))
-      (elements_again others syntax form (number_of tag + 1) most left rest h.5 over fewer)
+      (elements_again others syntax form (number_of tag + 1) most left rest h.6 over fewer)
 
 -- ---- an item
 

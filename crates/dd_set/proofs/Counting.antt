@@ -1,5 +1,6 @@
 -- How the size of a set or a sequence is counted, part by part.
-use Rattle.std.proofs.Common.{◌≡◌, ℕ, zero, suc, ◌+◌, ◌<◌, ◌≤◌, ◌^◌, List, ◌∷◌, ◌++◌, length, get_or, drop, refl, sym}
+use Rattle.std.proofs.Common.{Bor, ◌%◌}
+use Rattle.std.proofs.Common.{◌≡◌, ℕ, zero, suc, ◌+◌, ◌<◌, ◌≤◌, ◌^◌, List, [], ◌∷◌, ◌++◌, length, get_or, drop, refl, sym}
 use Rattle.std.proofs.Common.{ap, ◌∙◌, arith, append_assoc, length-append}
 use Rattle.std.proofs.lemmas.List.{at_drop_more, at_drop_all}
 use Rattle.dd_elem.specs.Tag.{number_of}
@@ -9,8 +10,9 @@ use Rattle.dd_set.specs.declared.syntax.Syntax.{Syntax}
 use Rattle.dd_set.specs.Elements.{Elements, no_elements, element, Items, no_items, item, Entry, Part}
 use Rattle.dd_set.specs.Single.{entry_text, part_text, IsEntry, IsPart}
 use Rattle.dd_set.specs.Spelling.{elements_text, items_text, tag_text, content_text, length_of, closed, item_tag_text}
-use Rattle.dd_set.specs.Spelling.{item_end_text, AreElements, AreItems}
-use Rattle.dd_set.specs.Views.{element_view, elements_view, item_view, items_view}
+use Rattle.dd_set.specs.Spelling.{item_end_text, AreElements, AreItems, AreFragments, fragment_text, fragments_text}
+use Rattle.dd_set.specs.Spelling.{undefined_length}
+use Rattle.dd_set.specs.Views.{element_view, elements_view, item_view, items_view, pieces}
 use Rattle.byteorder.specs.Endian.{little_bytes}
 
 -- ---- the front of a row and the rest
@@ -60,8 +62,8 @@ pub counts_entry : (syntax : Syntax) (levels : ℕ) (all rest : Elements) (low t
     → CountsElements syntax levels all (with_entry e rest) low total → IsEntry syntax levels low e
     → CountsElements syntax levels all rest (number_of e.tag + 1) (total + length (entry_text e))
 counts_entry syntax levels all rest low total e counts valid = record {
-  to = λ others. counts.to (valid.0, valid.1, valid.2, valid.3, valid.4, others);
-  back = λ v. (counts.back v).5;
+  to = λ others. counts.to (valid.0, valid.1, valid.2, valid.3, valid.4, valid.5, others);
+  back = λ v. (counts.back v).6;
   sum =
       let one : length (elements_text (with_entry e rest)) ≡ length (entry_text e) + length (elements_text rest) =
       ap length (entry_first e rest) ∙ length-append (entry_text e) (elements_text rest) in
@@ -77,7 +79,7 @@ counts_no_entry syntax levels all rest low total e counts none whole =
     let valid = counts.back whole.0 in
     let one : length (elements_text (with_entry e rest)) ≡ length (entry_text e) + length (elements_text rest) =
     ap length (entry_first e rest) ∙ length-append (entry_text e) (elements_text rest) in
-    none ((valid.0, valid.1, valid.2, valid.3, valid.4), omega (arith, counts.sum, one, whole.1))
+    none ((valid.0, valid.1, valid.2, valid.3, valid.4, valid.5), omega (arith, counts.sum, one, whole.1))
 
 -- nor where the sum is too large
 pub counts_too_many : (syntax : Syntax) (levels : ℕ) (all rest : Elements) (low total : ℕ) (e : Entry)
@@ -148,3 +150,44 @@ items_view-drop parts i p within is = at_drop_more items_view parts i p within
 
 pub items_view-end : (parts : List Item) (i : ℕ) → length parts ≤ i → items_view (drop i parts) ≡ no_items
 items_view-end parts i past = at_drop_all items_view parts i past
+
+-- ---- fragments
+
+-- of all the fragments the first are counted, with `total` bytes
+pub record CountsFragments (all rest : List (List ℕ)) (total : ℕ) : Type 0 where
+  pub to : AreFragments rest → AreFragments all
+  pub back : AreFragments all → AreFragments rest
+  pub sum : length (fragments_text all) ≡ total + length (fragments_text rest)
+
+pub counts_no_fragments : (all : List (List ℕ)) → CountsFragments all all 0
+counts_no_fragments all = record { to = λ v. v; back = λ v. v; sum = omega arith }
+
+pub counts_fragment : (all rest : List (List ℕ)) (total : ℕ) (f : List ℕ) → CountsFragments all (f ∷ rest) total
+    → (length f % 2 ≡ 0) × (length f < undefined_length)
+    → CountsFragments all rest (total + length (fragment_text f))
+counts_fragment all rest total f counts valid = record {
+  to = λ others. counts.to (valid.0, valid.1, others);
+  back = λ v. (counts.back v).2;
+  sum = omega (arith, counts.sum, length-append (fragment_text f) (fragments_text rest));
+}
+
+pub counts_no_fragment : (all rest : List (List ℕ)) (total : ℕ) (f : List ℕ) → CountsFragments all (f ∷ rest) total
+    → ¬ ((length f % 2 ≡ 0) × (length f < undefined_length))
+    → ¬ (AreFragments all × (length (fragments_text all) < 2 ^ 64))
+counts_no_fragment all rest total f counts none whole =
+    let valid = counts.back whole.0 in
+    none (valid.0, valid.1)
+
+pub counts_too_many_fragments : (all rest : List (List ℕ)) (total : ℕ) (f : List ℕ)
+    → CountsFragments all (f ∷ rest) total → ¬ (total + length (fragment_text f) < 2 ^ 64)
+    → ¬ (AreFragments all × (length (fragments_text all) < 2 ^ 64))
+counts_too_many_fragments all rest total f counts large whole =
+    large (omega (arith, counts.sum, length-append (fragment_text f) (fragments_text rest), whole.1))
+
+pub pieces-drop : (fs : List (Bor (List ℕ))) (i : ℕ) (f : Bor (List ℕ)) → i < length fs → f ≡ get_or fs i f
+    → pieces (drop i fs) ≡ f.now ∷ pieces (drop (i + 1) fs)
+pieces-drop fs i f within is = at_drop_more pieces fs i f within
+    ∙ ap (λ (x : Bor (List ℕ)). pieces (x ∷ drop (i + 1) fs)) (sym is)
+
+pub pieces-end : (fs : List (Bor (List ℕ))) (i : ℕ) → length fs ≤ i → pieces (drop i fs) ≡ []
+pieces-end fs i past = at_drop_all pieces fs i past

@@ -29,7 +29,8 @@ body_at sequence syntax low head at =
     if (tag_of head).group == delimiter_group then Err UnexpectedTag
     else (if nat_lt (number_of (tag_of head)) low then Err Order
     else (shape_at syntax head at
-    >>= λ shape. content_at sequence syntax shape.0 shape.1 >>= entry_with (tag_of head) shape.0))
+    >>= λ shape. content_at sequence syntax (record { tag = tag_of head; shape = shape.0 }) shape.1
+    >>= entry_with (tag_of head) shape.0))
 
 -- the next element, or the end of the set
 unfoldable pub whole_element : SequenceReader → Syntax → Length → ℕ → At → Reads (Option Entry)
@@ -48,14 +49,15 @@ whole_item part syntax form at =
     else (if is_item head.0 then (part syntax (long_of head.0) head.1 >>= there) else Err UnexpectedTag))
 
 module _ (sequence : SequenceReader) (syntax : Syntax) where
-  behind_shape : (tag : Tag) (r : Reads Shape) → ((r >>= λ shape. content_at sequence syntax shape.0 shape.1 >>=
+  behind_shape : (tag : Tag) (r : Reads Shape) → ((r >>= λ shape. content_at sequence syntax (record { tag = tag; shape = shape.0 }) shape.1 >>=
       entry_with tag shape.0) >>= there) ≡ (((r >>= header_with tag) >>= there) >>= element_behind sequence syntax)
-  behind_shape tag (Ok shape) = behind_content tag shape.0 (content_at sequence syntax shape.0 shape.1)
+  behind_shape tag (Ok shape) = behind_content tag shape.0
+      (content_at sequence syntax (record { tag = tag; shape = shape.0 }) shape.1)
   behind_shape tag (Err e) = refl
 
   behind_tests : (p q : Bool) (tag : Tag) (r : Reads Shape)
       → ((if p then Err UnexpectedTag else (if q then Err Order else
-      (r >>= λ shape. content_at sequence syntax shape.0 shape.1 >>= entry_with tag shape.0))) >>= there) ≡
+      (r >>= λ shape. content_at sequence syntax (record { tag = tag; shape = shape.0 }) shape.1 >>= entry_with tag shape.0))) >>= there) ≡
       (((if p then Err UnexpectedTag else (if q then Err Order else (r >>= header_with tag))) >>= there) >>=
       element_behind sequence syntax)
   behind_tests true q tag r = refl

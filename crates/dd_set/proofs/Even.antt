@@ -10,10 +10,12 @@ use Rattle.dd_elem.proofs.Letters.{letters_two}
 use Rattle.dd_set.specs.declared.syntax.Length.{Length}
 use Rattle.dd_set.specs.declared.syntax.Length.TheVariants.{Defined, Undefined}
 use Rattle.dd_set.specs.declared.syntax.Syntax.{Syntax}
-use Rattle.dd_set.specs.Elements.{Elements, no_elements, element, Content, bytes, items, Items, no_items, item}
+use Rattle.dd_set.specs.Elements.{Elements, no_elements, element, Content, bytes, items, fragments, Items, no_items}
+use Rattle.dd_set.specs.Elements.{item}
 use Rattle.dd_set.specs.Spelling.{shape_text, header_text, item_end_text, sequence_end_text, length_of, closed}
 use Rattle.dd_set.specs.Spelling.{elements_text, content_text, items_text, item_syntax, AreElements, IsContent}
-use Rattle.dd_set.specs.Spelling.{AreItems}
+use Rattle.dd_set.specs.Spelling.{AreItems, undefined_length, fragments_text}
+use Rattle.dd_set.proofs.FragmentLaws.{even_fragments}
 
 -- how long what a header has behind its tag is
 abbrev pub shape_length : Option Vr → ℕ
@@ -87,6 +89,15 @@ length-items vr form parts =
     let f = length-shape_text vr (length_of form (items_text parts)) in
     omega arith
 
+-- of fragments
+pub length-fragments : (vr : Option Vr) (fs : List (List ℕ))
+    → length (content_text vr (fragments fs)) ≡ shape_length vr + length (fragments_text fs) + 8
+length-fragments vr fs =
+    let e = length-append (shape_text vr undefined_length) (fragments_text fs ++ sequence_end_text) in
+    let f = length-shape_text vr undefined_length in
+    let g = length-append (fragments_text fs) sequence_end_text in
+    omega arith
+
 -- of items
 pub length-item : (form : Length) (set : Elements) (rest : Items)
     → length (items_text (item form set rest)) ≡ 8 + length (closed form item_end_text (elements_text set)) + length
@@ -97,6 +108,7 @@ length-item form set rest = let e = length-append (closed form item_end_text (el
 -- a value behind its tag has four bytes at least
 pub content_least : (vr : Option Vr) (c : Content) → 4 ≤ length (content_text vr c)
 content_least vr (bytes v) = let e = length-bytes vr v in let h = shape_least vr in omega arith
+content_least vr (fragments fs) = let e = length-fragments vr fs in let h = shape_least vr in omega arith
 content_least vr (items form parts) = let e = length-items vr form parts in let h = shape_least vr in omega arith
 
 -- an element has eight
@@ -116,7 +128,7 @@ mutual
   even_elements syntax levels low no_elements h = refl
   even_elements syntax levels low (element tag vr content rest) h =
       let a : length (content_text vr content) % 2 ≡ 0 = even_content syntax levels vr content h.4 in
-      let b : length (elements_text rest) % 2 ≡ 0 = even_elements syntax levels _ rest h.5 in
+      let b : length (elements_text rest) % 2 ≡ 0 = even_elements syntax levels _ rest h.6 in
       let e = length-element tag vr content rest in
       omega arith
 
@@ -127,6 +139,11 @@ mutual
       let e = length-bytes vr v in
       let a = shape_even vr in
       let b : length v % 2 ≡ 0 = h.1 in
+      omega arith
+  even_content syntax levels vr (fragments fs) h =
+      let e = length-fragments vr fs in
+      let a = shape_even vr in
+      let b : length (fragments_text fs) % 2 ≡ 0 = even_fragments fs h.1 in
       omega arith
   even_content syntax levels vr (items form parts) h =
       let inner = some_of (item_syntax syntax vr form) (λ i. AreItems i levels parts) h.0 in

@@ -1,6 +1,6 @@
 -- Reading a front of longer bytes: a refusal other than an early end stands whatever follows the front.
 use Rattle.std.proofs.Common.{◌≡◌, ◌≢◌, ℕ, zero, suc, ◌+◌, ◌%◌, ◌≤◌, Bool, true, false, nat_lt, ◌==◌, if◌then◌else◌}
-use Rattle.std.proofs.Common.{List, ◌++◌, length, take, drop, Option, Some, None, Result, Ok, Err, refl, sym, ap, ap₂}
+use Rattle.std.proofs.Common.{List, ◌∷◌, ◌++◌, length, take, drop, Option, Some, None, Result, Ok, Err, refl, sym, ap, ap₂}
 use Rattle.std.proofs.Common.{subst, ◌∙◌, arith}
 use Rattle.std.specs.Int.{w32, from_le_bytes}
 use Rattle.std.proofs.lemmas.Bool.{le-ltb, ltb-false, ne_eqb, eqb-false}
@@ -13,11 +13,13 @@ use Rattle.dd_set.specs.declared.fault.SetFault.TheVariants.{Truncated, BadDelim
 use Rattle.dd_set.specs.declared.syntax.Length.{Length}
 use Rattle.dd_set.specs.declared.syntax.Length.TheVariants.{Defined, Undefined}
 use Rattle.dd_set.specs.declared.syntax.Syntax.{Syntax}
-use Rattle.dd_set.specs.Elements.{Elements, element, Content, bytes, items, Entry}
+use Rattle.dd_set.specs.Elements.{Elements, element, Content, bytes, items, fragments, Entry}
 use Rattle.dd_set.specs.Spelling.{undefined_length, delimiter_group, names_vr, item_syntax}
 use Rattle.dd_set.specs.Reading.{◌>>=◌, At, Reads, leaves_fewer, less, take_at, tag_of, long_of, short_of}
 use Rattle.dd_set.specs.Reading.{no_byte_left, is_over, Shape, long_length_at, long_at, explicit_at, shape_at, shape_where}
-use Rattle.dd_set.specs.Reading.{SequenceReader}
+use Rattle.dd_set.specs.Reading.{SequenceReader, Header, eight_at, head_at, item_opening, behind_item_head}
+use Rattle.dd_set.specs.Reading.{item_front_at, there, fragment_length, fragment_behind, fragment_at, next_fragments}
+use Rattle.dd_set.specs.Reading.{fragments_at, fragments_here, opens_fragments, open_at}
 use Rattle.dd_set.specs.Reading.{SetReader, ItemReader, within, undefined_at, defined_at, content_at, ends_set}
 use Rattle.dd_set.specs.Reading.{element_at, next_elements, elements_at}
 use Rattle.dd_set.proofs.Cut.{body_at, whole_element, element_is}
@@ -171,6 +173,70 @@ shape_extends c q syntax head at h = go (names_vr syntax)
     go true = explicit_extends c q (vr_of (take 2 (drop 4 head))) head at h
     go false = (refl, h)
 
+-- ---- fragments
+
+-- the header of a fragment, or the end of the list
+behind_front_extends : (c : Bool) (q : List ℕ) (r : Result (Option ℕ) SetFault) (a : At) → has a.left ≡ c
+    → Extends c q (r >>= λ length. Ok (length, a)) (r >>= λ length. Ok (length, longer a q))
+behind_front_extends c q (Ok n) a h = (refl, h)
+behind_front_extends c q (Err e) a h = λ ne. refl
+
+front_goes : (c : Bool) (q : List ℕ) (o : Option (List ℕ)) (a : At) → has a.left ≡ c
+    → Extends c q (behind_item_head Undefined (o, a)) (behind_item_head Undefined (o, longer a q))
+front_goes c q None a h = (refl, h)
+front_goes c q (Some head) a h = behind_front_extends c q (item_opening Undefined head) a h
+
+front_extends : (c : Bool) (q : List ℕ) (at : At) → has at.left ≡ c
+    → Extends c q (item_front_at Undefined at) (item_front_at Undefined (longer at q))
+unfolding item_front_at head_at
+front_extends c q at h =
+    extends_then c q (eight_at at) (eight_at (longer at q)) (behind_item_head Undefined) (behind_item_head Undefined)
+    (extends_map c q (take_at 8 at) (take_at 8 (longer at q)) (λ x. Some x) (take_extends c 8 at q h))
+    (λ x k. front_goes c q x.0 x.1 k)
+
+-- what stands behind it
+piece_extends : (c : Bool) (q : List ℕ) (r : Result ℕ SetFault) (a : At) → has a.left ≡ c
+    → Extends c q (r >>= λ k. take_at k a >>= there) (r >>= λ k. take_at k (longer a q) >>= there)
+piece_extends c q (Ok k) a h = extends_map c q (take_at k a) (take_at k (longer a q)) (λ x. Some x)
+    (take_extends c k a q h)
+piece_extends c q (Err e) a h = λ ne. refl
+
+fragment_goes : (c : Bool) (q : List ℕ) (o : Option ℕ) (a : At) → has a.left ≡ c
+    → Extends c q (fragment_behind (o, a)) (fragment_behind (o, longer a q))
+fragment_goes c q None a h = (refl, h)
+fragment_goes c q (Some n) a h = piece_extends c q (fragment_length n) a h
+
+fragment_extends : (c : Bool) (q : List ℕ) (at : At) → has at.left ≡ c
+    → Extends c q (fragment_at at) (fragment_at (longer at q))
+unfolding fragment_at
+fragment_extends c q at h =
+    extends_then c q (item_front_at Undefined at) (item_front_at Undefined (longer at q)) fragment_behind
+    fragment_behind (front_extends c q at h) (λ x k. fragment_goes c q x.0 x.1 k)
+
+-- fragments up to the end of their list
+fragments_extend : (n m : ℕ) (c : Bool) (q : List ℕ) (at : At) → n ≤ m → has at.left ≡ c
+    → Extends c q (fragments_at n at) (fragments_at m (longer at q))
+unfolding fragments_at
+fragments_extend zero m c q at le h = λ ne. absurd (ne refl)
+fragments_extend (suc n) zero c q at le h = absurd (omega arith)
+fragments_extend (suc n) (suc m) c q at le h =
+    extends_then c q (fragment_at at) (fragment_at (longer at q))
+    (next_fragments (fragments_at n)) (next_fragments (fragments_at m)) (fragment_extends c q at h)
+    (λ x k. others_extend c q (fragments_at n) (fragments_at m)
+    (λ a g. fragments_extend n m c q a (omega arith) g) x.0 x.1 k)
+  where
+    others_extend : (c : Bool) (q : List ℕ) (others those : At → Reads (List (List ℕ)))
+        → ((a : At) → has a.left ≡ c → Extends c q (others a) (those (longer a q))) → (o : Option (List ℕ)) (a : At)
+        → has a.left ≡ c → Extends c q (next_fragments others (o, a)) (next_fragments those (o, longer a q))
+    others_extend c q others those ih None a k = (refl, k)
+    others_extend c q others those ih (Some f) a k = extends_map c q (others a) (those (longer a q))
+        (λ fs. f ∷ fs) (ih a k)
+
+list_extends : (c : Bool) (q : List ℕ) (at : At) → has at.left ≡ c
+    → Extends c q (fragments_here at) (fragments_here (longer at q))
+list_extends c q at h = fragments_extend (suc (length at.bytes)) (suc (length (at.bytes ++ q))) c q at
+    (omega (arith, length-append at.bytes q)) h
+
 -- ---- what readers owe
 
 abbrev pub SequenceExtends : SequenceReader → Type 0
@@ -195,6 +261,13 @@ module _ (sequence : SequenceReader) (law : SequenceExtends sequence) where
   undefined_extends c q (Some inner) at h = extends_map c q (sequence inner Undefined at)
       (sequence inner Undefined (longer at q)) (λ parts. items Undefined parts) (law c q inner Undefined at h tt)
 
+  -- the same, or fragments
+  open_extends : (c : Bool) (q : List ℕ) (opens : Bool) (o : Option Syntax) (at : At) → has at.left ≡ c
+      → Extends c q (open_at sequence opens o at) (open_at sequence opens o (longer at q))
+  open_extends c q false o at h = undefined_extends c q o at h
+  open_extends c q true o at h = extends_map c q (fragments_here at) (fragments_here (longer at q))
+      (λ fs. fragments fs) (list_extends c q at h)
+
   -- a value of this length
   defined_extends : (c : Bool) (q : List ℕ) (o : Option Syntax) (n : ℕ) (at : At) → has at.left ≡ c
       → Extends c q (defined_at sequence o n at) (defined_at sequence o n (longer at q))
@@ -207,15 +280,15 @@ module _ (sequence : SequenceReader) (law : SequenceExtends sequence) where
       (record { left = Some n; bytes = at.bytes }) refl refl))
 
   -- a value behind its header
-  content_extends : (c : Bool) (q : List ℕ) (syntax : Syntax) (shape : Shape) (at : At) → has at.left ≡ c
-      → Extends c q (content_at sequence syntax shape at) (content_at sequence syntax shape (longer at q))
+  content_extends : (c : Bool) (q : List ℕ) (syntax : Syntax) (header : Header) (at : At) → has at.left ≡ c
+      → Extends c q (content_at sequence syntax header at) (content_at sequence syntax header (longer at q))
   unfolding content_at
-  content_extends c q syntax shape at h =
-      extends_if c q (shape.length == undefined_length) _ _ _ _
-      (λ u. undefined_extends c q (item_syntax syntax shape.vr Undefined) at h)
-      (λ d. extends_if c q (shape.length % 2 == 1) _ _ _ _ (λ odd. λ ne. refl)
-      (λ even. extends_if c q (leaves_fewer at.left shape.length) _ _ _ _ (λ few. λ ne. refl)
-      (λ room. defined_extends c q (item_syntax syntax shape.vr Defined) shape.length at h)))
+  content_extends c q syntax header at h =
+      extends_if c q (header.shape.length == undefined_length) _ _ _ _
+      (λ u. open_extends c q (opens_fragments syntax header) (item_syntax syntax header.shape.vr Undefined) at h)
+      (λ d. extends_if c q (header.shape.length % 2 == 1) _ _ _ _ (λ odd. λ ne. refl)
+      (λ even. extends_if c q (leaves_fewer at.left header.shape.length) _ _ _ _ (λ few. λ ne. refl)
+      (λ room. defined_extends c q (item_syntax syntax header.shape.vr Defined) header.shape.length at h)))
 
   -- an element behind its first eight bytes
   body_extends : (c : Bool) (q : List ℕ) (syntax : Syntax) (low : ℕ) (head : List ℕ) (at : At) → has at.left ≡ c
@@ -226,14 +299,18 @@ module _ (sequence : SequenceReader) (law : SequenceExtends sequence) where
       (λ e. extends_if c q (nat_lt (number_of (tag_of head)) low) _ _ _ _ (λ below. λ ne. refl)
       (λ rises. extends_then c q (shape_at syntax head at) (shape_at syntax head (longer at q)) shape_then shape_then
       (shape_extends c q syntax head at h)
-      (λ s k. extends_map c q (content_at sequence syntax s.0 s.1) (content_at sequence syntax s.0 (longer s.1 q))
-      (λ x. entry_of s.0.vr x) (content_extends c q syntax s.0 s.1 k))))
+      (λ s k. extends_map c q (content_at sequence syntax (header_of s.0) s.1)
+      (content_at sequence syntax (header_of s.0) (longer s.1 q))
+      (λ x. entry_of s.0.vr x) (content_extends c q syntax (header_of s.0) s.1 k))))
     where
+      header_of : Shape → Header
+      header_of shape = record { tag = tag_of head; shape = shape }
+
       entry_of : Option Vr → Content → Entry
       entry_of vr x = record { tag = tag_of head; vr = vr; content = x }
 
       shape_then : Shape × At → Reads Entry
-      shape_then shape = content_at sequence syntax shape.0 shape.1 >>= λ x. Ok (entry_of shape.0.vr x.0, x.1)
+      shape_then shape = content_at sequence syntax (header_of shape.0) shape.1 >>= λ x. Ok (entry_of shape.0.vr x.0, x.1)
 
   -- an element or a delimiter, where the set is not over
   head_then : Syntax → Length → ℕ → List ℕ × At → Reads (Option Entry)

@@ -7,6 +7,8 @@ pub mod Cut
 pub mod Entries
 pub mod Even
 pub mod Feeding
+pub mod FragmentLaws
+pub mod FragmentSteps
 pub mod FrontItems
 pub mod Fronts
 pub mod Going

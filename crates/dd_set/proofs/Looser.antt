@@ -3,7 +3,8 @@ use Rattle.std.proofs.Common.{ℕ, zero, suc, ◌≤◌, Option, IsSomeAnd, sym,
 use Rattle.dd_elem.specs.declared.vr.Vr.{Vr}
 use Rattle.dd_elem.specs.Tag.{number_of}
 use Rattle.dd_set.specs.declared.syntax.Syntax.{Syntax}
-use Rattle.dd_set.specs.Elements.{Elements, no_elements, element, Content, bytes, items, Items, no_items, item}
+use Rattle.dd_set.specs.Elements.{Elements, no_elements, element, Content, bytes, items, fragments, Items, no_items}
+use Rattle.dd_set.specs.Elements.{item}
 use Rattle.dd_set.specs.Spelling.{item_syntax, AreElements, IsContent, AreItems}
 use Rattle.dd_set.proofs.Even.{some_of}
 
@@ -14,7 +15,7 @@ AreElements-lower syntax levels low lower no_elements le h = tt
 AreElements-lower syntax levels low lower (element tag vr content rest) le h =
     let first : low ≤ number_of tag = h.0 in
     let still : lower ≤ number_of tag = omega arith in
-    (still, h.1, h.2, h.3, h.4, h.5)
+    (still, h.1, h.2, h.3, h.4, h.5, h.6)
 
 mutual
   -- a set that nests no deeper than so many levels nests no deeper than more
@@ -27,14 +28,16 @@ mutual
     h.2,
     h.3,
     IsContent-deeper syntax levels more vr content le h.4,
+    h.5,
     AreElements-deeper syntax levels more
-        _ rest le h.5,
+        _ rest le h.6,
   )
 
   -- the same of a value
   pub IsContent-deeper : (syntax : Syntax) (levels more : ℕ) (vr : Option Vr) (content : Content) → levels ≤ more
       → IsContent syntax levels vr content → IsContent syntax more vr content
   IsContent-deeper syntax levels more vr (bytes v) le h = h
+  IsContent-deeper syntax levels more vr (fragments fs) le h = h
   IsContent-deeper syntax levels more vr (items form parts) le h =
       let inner = some_of (item_syntax syntax vr form) (λ i. AreItems i levels parts) h.0 in (
         subst (λ (o : Option Syntax). IsSomeAnd o (λ i. AreItems i more parts)) (sym inner.1)

@@ -1,6 +1,7 @@
 -- The text of an element or an item as the pieces that are sent.
 use Rattle.std.proofs.Common.{◌≡◌, ℕ, List, ◌++◌, ◌+◌, ◌<◌, length, get_or, drop, subst, Option, refl, sym, ap, ◌∙◌}
-use Rattle.std.proofs.Common.{append_assoc, append-nil}
+use Rattle.std.proofs.Common.{append_assoc, append-nil, Bor, [], ◌∷◌, ◌%◌, arith}
+use Rattle.std.proofs.lemmas.List.{get_or_default}
 use Rattle.byteorder.specs.Endian.{little_bytes}
 use Rattle.dd_elem.specs.declared.tag.Tag.{Tag}
 use Rattle.dd_elem.specs.declared.vr.Vr.{Vr}
@@ -10,16 +11,17 @@ use Rattle.dd_set.specs.declared.set.Item.{Item}
 use Rattle.dd_set.specs.declared.set.Value.TheViews.{out-DataSet, out-Item}
 use Rattle.dd_set.specs.declared.syntax.Length.{Length}
 use Rattle.dd_set.specs.declared.syntax.Length.TheVariants.{Defined, Undefined}
-use Rattle.dd_set.specs.Elements.{Content, Items, items}
+use Rattle.dd_set.specs.Elements.{Content, Items, items, fragments}
 use Rattle.dd_set.specs.Single.{entry_text, part_text, mark_text}
 use Rattle.dd_set.specs.Spelling.{elements_text, items_text, tag_text, shape_text, header_text, content_text, length_of}
 use Rattle.dd_set.specs.Spelling.{closed, item_tag_text, item_end_text, sequence_end_text}
 use Rattle.dd_elem.specs.Tag.{number_of}
 use Rattle.dd_set.specs.declared.syntax.Syntax.{Syntax}
 use Rattle.dd_set.specs.Single.{IsEntry, IsPart}
-use Rattle.dd_set.specs.Spelling.{AreElements, AreItems}
-use Rattle.dd_set.specs.Views.{set_view, element_view, elements_view, item_view, items_view, value_view}
+use Rattle.dd_set.specs.Spelling.{AreElements, AreItems, AreFragments, fragment_text, fragments_text, undefined_length}
+use Rattle.dd_set.specs.Views.{set_view, element_view, elements_view, item_view, items_view, value_view, pieces}
 use Rattle.dd_set.proofs.Counting.{with_entry, entry_first, part_first, part_valid, elements_view-drop, items_view-drop}
+use Rattle.dd_set.proofs.Counting.{pieces-drop}
 use Rattle.dd_set.proofs.Seen.{set_view-is, element_view-is, item_view-is}
 
 -- contents with the mark of their end are the contents and then the mark
@@ -87,7 +89,7 @@ pub entry_valid : (syntax : Syntax) (levels low : ℕ) (es : List Element) (i : 
 entry_valid syntax levels low es i e within is valid =
     let v : AreElements syntax levels low (with_entry (element_view e) (elements_view (drop (i + 1) es))) =
     subst (AreElements syntax levels low) (elements_view-drop es i e within is) valid in
-    ((v.0, v.1, v.2, v.3, v.4), v.5)
+    ((v.0, v.1, v.2, v.3, v.4, v.5), v.6)
 
 pub part_valid_at : (syntax : Syntax) (levels : ℕ) (parts : List Item) (i : ℕ) (p : Item) → i < length parts
     → p ≡ get_or parts i p → AreItems syntax levels (items_view (drop i parts)) → IsPart syntax levels (item_view p)
@@ -95,3 +97,31 @@ pub part_valid_at : (syntax : Syntax) (levels : ℕ) (parts : List Item) (i : �
 part_valid_at syntax levels parts i p within is valid =
     part_valid syntax levels (item_view p) (items_view (drop (i + 1) parts))
     (subst (AreItems syntax levels) (items_view-drop parts i p within is) valid)
+
+-- ---- fragments
+
+-- the text of what is left of a list of fragments begins with that of the next
+pub piece_at : (fs : List (Bor (List ℕ))) (i : ℕ) (d : Bor (List ℕ)) → i < length fs
+    → fragments_text (pieces (drop i fs)) ≡ fragment_text (get_or fs i d).now
+    ++ fragments_text (pieces (drop (i + 1) fs))
+piece_at fs i d within = ap fragments_text (pieces-drop fs i (get_or fs i d) within
+    (get_or_default fs i d (get_or fs i d) within))
+
+-- fragments from a place on are valid behind it too
+pub piece_valid : (fs : List (Bor (List ℕ))) (i : ℕ) (d : Bor (List ℕ)) → i < length fs
+    → AreFragments (pieces (drop i fs)) → (length (get_or fs i d).now % 2 ≡ 0)
+    × (length (get_or fs i d).now < undefined_length) × AreFragments (pieces (drop (i + 1) fs))
+piece_valid fs i d within valid = subst AreFragments (pieces-drop fs i (get_or fs i d) within
+    (get_or_default fs i d (get_or fs i d) within)) valid
+
+pub pieces_rest : (fs : List (Bor (List ℕ))) (i : ℕ) → i < length fs → AreFragments (pieces (drop i fs))
+    → AreFragments (pieces (drop (i + 1) fs))
+pieces_rest [] i within valid = absurd (omega arith)
+pieces_rest (f ∷ fs) i within valid = (piece_valid (f ∷ fs) i f within valid).2
+
+-- pixel data in fragments is sent as its header, its fragments and the mark of their end
+pub fragments_parts : (tag : Tag) (vr : Option Vr) (fs : List (List ℕ))
+    → header_text tag vr undefined_length ++ (fragments_text fs ++ sequence_end_text) ≡ tag_text tag
+    ++ content_text vr (fragments fs)
+fragments_parts tag vr fs = append_assoc (tag_text tag) (shape_text vr undefined_length)
+    (fragments_text fs ++ sequence_end_text)

@@ -8,7 +8,8 @@ use Rattle.dd_elem.specs.Tag.{number_of}
 use Rattle.dd_set.specs.declared.set.Element.{Element}
 use Rattle.dd_set.specs.declared.set.Item.{Item}
 use Rattle.dd_set.specs.declared.syntax.Syntax.{Syntax}
-use Rattle.dd_set.specs.Elements.{Elements, no_elements, element, Content, bytes, items, Items, no_items, item, Entry}
+use Rattle.dd_set.specs.Elements.{Elements, no_elements, element, Content, bytes, items, fragments, Items, no_items}
+use Rattle.dd_set.specs.Elements.{item, Entry}
 use Rattle.dd_set.specs.Elements.{Part}
 use Rattle.dd_set.specs.Find.{same_tag}
 use Rattle.dd_set.specs.Single.{entry_text, part_text, IsEntry, IsPart}
@@ -27,6 +28,7 @@ starts_from at (item form set rest) = at ∷ starts_from (at + length (part_text
 
 abbrev pub content_starts : ℕ → Tag → Option Vr → Content → Option (List ℕ)
 content_starts at tag vr (bytes v) = None
+content_starts at tag vr (fragments fs) = None
 content_starts at tag vr (items form parts) = Some (starts_from
     (at + length (header_text tag vr (length_of form (items_text parts)))) parts)
 
@@ -47,6 +49,7 @@ item_places-sums front (item form set rest) =
 pub content_places-sums : (front : List ℕ) (tag : Tag) (vr : Option Vr) (content : Content)
     → content_places front tag vr content ≡ content_starts (length front) tag vr content
 content_places-sums front tag vr (bytes v) = refl
+content_places-sums front tag vr (fragments fs) = refl
 content_places-sums front tag vr (items form parts) =
     let text = header_text tag vr (length_of form (items_text parts)) in
     ap (λ (starts : List ℕ). Some starts) (item_places-sums (front ++ text) parts
@@ -112,7 +115,7 @@ pub seeking_entry : (syntax : Syntax) (levels : ℕ) (wanted : Tag) (first : ℕ
     → Seeking syntax levels wanted first all (at + length (entry_text e)) rest
 seeking_entry syntax levels wanted first all at e rest so other = record {
   low = number_of e.tag + 1;
-  valid = so.valid.5;
+  valid = so.valid.6;
   fits =
       let one : length (elements_text (with_entry e rest)) ≡ length (entry_text e) + length (elements_text rest) =
       ap length (entry_first e rest) ∙ length-append (entry_text e) (elements_text rest) in
@@ -130,7 +133,7 @@ pub seeking_sized : (syntax : Syntax) (levels : ℕ) (wanted : Tag) (first : ℕ
 seeking_sized syntax levels wanted first all at e rest so =
     let one : length (elements_text (with_entry e rest)) ≡ length (entry_text e) + length (elements_text rest) =
     ap length (entry_first e rest) ∙ length-append (entry_text e) (elements_text rest) in
-    ((omega arith, so.valid.1, so.valid.2, so.valid.3, so.valid.4), omega (arith, one, so.fits))
+    ((omega arith, so.valid.1, so.valid.2, so.valid.3, so.valid.4, so.valid.5), omega (arith, one, so.fits))
 
 -- it is the one
 pub seeking_found : (syntax : Syntax) (levels : ℕ) (wanted : Tag) (first : ℕ) (all : Elements) (at : ℕ) (e : Entry)

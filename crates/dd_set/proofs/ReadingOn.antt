@@ -28,7 +28,7 @@ module _ (sequence : SequenceReader) (syntax : Syntax) (form : Length) (low : �
 
   -- a header and its value
   pub element_found : (header : Header) (mid end : At) (content : Content)
-      → front_at syntax form low at ≡ Ok (Some header, mid) → content_at sequence syntax header.shape mid ≡ Ok
+      → front_at syntax form low at ≡ Ok (Some header, mid) → content_at sequence syntax header mid ≡ Ok
       (content, end)
       → element_at sequence syntax form low at ≡ Ok (
         Some (record
@@ -50,13 +50,13 @@ module _ (sequence : SequenceReader) (syntax : Syntax) (form : Length) (low : �
 
   -- a value that is refused
   pub content_refused : (header : Header) (mid : At) (e : SetFault)
-      → front_at syntax form low at ≡ Ok (Some header, mid) → content_at sequence syntax header.shape mid ≡ Err e
+      → front_at syntax form low at ≡ Ok (Some header, mid) → content_at sequence syntax header mid ≡ Err e
       → element_at sequence syntax form low at ≡ Err e
   unfolding element_at
   content_refused header mid e h k = rw h (bind_fails _ _ e k)
 
   pub content_stops : (header : Header) (mid : At) (e : SetFault) → front_at syntax form low at ≡ Ok (Some header, mid)
-      → Fails e (content_at sequence syntax header.shape mid)
+      → Fails e (content_at sequence syntax header mid)
       → Fails e (element_at sequence syntax form low at)
   content_stops header mid e h k = fails_along e _ _ k (λ f m. content_refused header mid f h m)
 
@@ -131,7 +131,7 @@ pub element_steps : (sequence : SequenceReader) (syntax : Syntax) (form : Length
     (header : Header) (bytes : List ℕ) (behind now : Option ℕ) (mid rest : List ℕ)
     → front_at syntax form low (record { left = left; bytes = bytes }) ≡ Ok
     (Some header, record { left = behind; bytes = mid })
-    → Skips (Ok now) (content_at sequence syntax header.shape (record { left = behind; bytes = mid })) rest
+    → Skips (Ok now) (content_at sequence syntax header (record { left = behind; bytes = mid })) rest
     → length rest ≤ length mid
     → ElementStep sequence syntax form low left header.tag bytes now rest
 element_steps sequence syntax form low left header bytes behind now mid rest h k few = record {

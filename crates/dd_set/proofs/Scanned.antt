@@ -13,12 +13,12 @@ use Rattle.dd_set.specs.declared.found.FoundValue.{FoundValue}
 use Rattle.dd_set.specs.declared.syntax.Length.TheVariants.{Defined, Undefined}
 use Rattle.dd_set.specs.declared.syntax.Syntax.{Syntax}
 use Rattle.dd_set.specs.Checks.{sorted}
-use Rattle.dd_set.specs.Elements.{Content, bytes, items, Entry, elements_of}
+use Rattle.dd_set.specs.Elements.{Content, bytes, items, fragments, Entry, elements_of}
 use Rattle.dd_set.specs.Gives.{Fails}
 use Rattle.dd_set.specs.Reading.{Header, front_at, At, Reads, ◌>>=◌, SequenceReader, ItemReader, content_at, element_at}
-use Rattle.dd_set.specs.Reading.{elements_at, sequence_with, set_with, within}
-use Rattle.dd_set.specs.Scan.{Told, sequence, Hit, hit_of, is_wanted, hits_of, first_tag, first_of, told_of, value_told}
-use Rattle.dd_set.specs.Scan.{told_where, noted, whole_elements}
+use Rattle.dd_set.specs.Reading.{elements_at, sequence_with, set_with, within, fragments_here}
+use Rattle.dd_set.specs.Scan.{Told, Hit, hit_of, is_wanted, hits_of, first_tag, first_of, told_of, value_told}
+use Rattle.dd_set.specs.Scan.{told_where, noted, whole_elements, sort_told}
 use Rattle.dd_set.specs.Skips.{TellsValue, IsThere}
 use Rattle.dd_set.proofs.Entries.{entries_of-elements_of}
 use Rattle.dd_set.proofs.Feeding.{bind_fails}
@@ -39,15 +39,18 @@ tells_bytes (Err e) read rest h = (
   λ is. let there = h.1 is in (bytes there.0, there.1, rw there.2 refl),
 )
 
--- a value that is not bytes is a sequence
+-- a value that is not bytes is a sequence or fragments
 pub items_told : (read : SequenceReader) (sort : Sort) (at end : At) (y : Content)
-    → ((n : ℕ) → sort ≡ sorts.Bytes n → ⊥) → sorted read (Ok sort) at ≡ Ok (y, end) → sequence ≡ told_of y
+    → ((n : ℕ) → sort ≡ sorts.Bytes n → ⊥) → sorted read (Ok sort) at ≡ Ok (y, end) → sort_told sort ≡ told_of y
 items_told read (sorts.Bytes n) at end y other h = absurd (other n refl)
 items_told read (sorts.Open inner) at end y other h =
     let e = bind_ok (read inner Undefined at) (λ x. Ok (items Undefined x.0, x.1)) (y, end) h in
     ap (λ (z : Content × At). told_of z.0) (ok_is _ _ e.2)
 items_told read (sorts.Closed inner n) at end y other h =
     let e = bind_ok (within n at (read inner Defined)) (λ x. Ok (items Defined x.0, x.1)) (y, end) h in
+    ap (λ (z : Content × At). told_of z.0) (ok_is _ _ e.2)
+items_told read sorts.Fragments at end y other h =
+    let e = bind_ok (fragments_here at) (λ x. Ok (fragments x.0, x.1)) (y, end) h in
     ap (λ (z : Content × At). told_of z.0) (ok_is _ _ e.2)
 
 -- ---- sets
@@ -104,7 +107,7 @@ pub value_steps : (reader : SequenceReader) (syntax : Syntax) (low : ℕ) (left 
     → front_at syntax Defined low (record { left = left; bytes = all }) ≡ Ok
     (Some header, record { left = behind; bytes = mid })
     → TellsValue (option_map value_told) (told_where keeps) (Ok (value, now))
-    (content_at reader syntax header.shape (record { left = behind; bytes = mid })) rest → length rest ≤ length mid
+    (content_at reader syntax header (record { left = behind; bytes = mid })) rest → length rest ≤ length mid
     → ValueStep reader syntax low left header (option_map value_told value) keeps all now rest
 value_steps reader syntax low left header value keeps all behind now mid rest h k few = record {
   content = k.0;
@@ -127,7 +130,7 @@ pub element_there : (reader : SequenceReader) (syntax : Syntax) (low : ℕ) (lef
     (all : List ℕ) (behind : Option ℕ) (mid rest : List ℕ)
     → front_at syntax Defined low (record { left = left; bytes = all }) ≡ Ok
     (Some header, record { left = behind; bytes = mid })
-    → IsThere (content_at reader syntax header.shape (record { left = behind; bytes = mid })) rest
+    → IsThere (content_at reader syntax header (record { left = behind; bytes = mid })) rest
     → ElementThere reader syntax low left header.tag all rest
 element_there reader syntax low left header all behind mid rest h k = record {
   entry = record { tag = header.tag; vr = header.shape.vr; content = k.0 };

@@ -9,11 +9,12 @@ use Rattle.dd_elem.specs.Vr.{vr_of}
 use Rattle.dd_set.specs.declared.fault.SetFault.{SetFault}
 use Rattle.dd_set.specs.declared.fault.SetFault.TheVariants.{Truncated, Order, UnexpectedTag, Overrun}
 use Rattle.dd_set.specs.declared.syntax.Length.{Length}
+use Rattle.dd_set.specs.declared.syntax.Length.TheVariants.{Undefined}
 use Rattle.dd_set.specs.declared.syntax.Syntax.{Syntax}
 use Rattle.dd_set.specs.Reading.{Header, there, header_with, eight_at, head_at, header_at, opening_at, behind_head}
 use Rattle.dd_set.specs.Reading.{front_at, item_opening, behind_item_head, item_front_at, At, Reads, ◌>>=◌}
 use Rattle.dd_set.specs.Reading.{leaves_fewer, take_at, tag_of, is_over, shape_at, shape_where, explicit_at}
-use Rattle.dd_set.specs.Reading.{long_length_at, long_at}
+use Rattle.dd_set.specs.Reading.{long_length_at, long_at, fragment_length, fragment_behind, fragment_at}
 use Rattle.dd_set.specs.Spelling.{delimiter_group, names_vr}
 use Rattle.dd_set.proofs.Steps.{passes, bind_ok, ok_is}
 
@@ -143,3 +144,26 @@ item_front_shortens form at = record {
         let b = bind_ok (item_opening form head) _ (Some n, end) h in
         let same : mid ≡ end = ap (λ (y : Option ℕ × At). y.1) (ok_is _ _ b.2) in
         omega (arith, head_shortens form at mid head e, ap (λ (a : At). length a.bytes) same)
+
+-- a fragment takes bytes
+fragment_left : (at : At) (o : Option ℕ) (mid : At) (f : List ℕ) (end : At) → item_front_at Undefined at ≡ Ok (o, mid)
+    → fragment_behind (o, mid) ≡ Ok (Some f, end) → length end.bytes < length at.bytes
+fragment_left at None mid f end e h = absurd (nothing_read f mid end h)
+fragment_left at (Some n) mid f end e h =
+    let l = bind_ok (fragment_length n) (λ k. take_at k mid >>= there) (Some f, end) h in
+    let t = bind_ok (take_at l.0 mid) there (Some f, end) l.2 in
+    let same : t.0.1 ≡ end = ap (λ (y : Option (List ℕ) × At). y.1) (ok_is _ _ t.2) in
+    omega (
+      arith,
+      take_fewer l.0 mid t.0.1 t.0.0 t.1,
+      (item_front_shortens Undefined at).left n mid e,
+      ap (λ (a : At). length a.bytes) same,
+    )
+
+pub fragment_shortens : (at : At) → Shortens (length at.bytes) (fragment_at at)
+unfolding fragment_at
+fragment_shortens at = record {
+  left = λ f end h.
+      let b = bind_ok (item_front_at Undefined at) fragment_behind (Some f, end) h in
+      fragment_left at b.0.0 b.0.1 f end b.1 b.2;
+}

@@ -2,7 +2,7 @@
 use Rattle.std.proofs.Common.{◌≡◌, ◌≢◌, ℕ, zero, suc, ◌+◌, ◌%◌, ◌^◌, ◌<◌, ◌≤◌, Bool, true, false, nat_lt, ◌==◌, if◌then◌else◌}
 use Rattle.std.proofs.Common.{List, [], ◌++◌, length, drop, Option, Some, None, IsSomeAnd, Ok, Err, refl, sym, ap}
 use Rattle.std.proofs.Common.{subst, ◌∙◌, append_assoc, arith, inl, inr}
-use Rattle.std.proofs.lemmas.Bool.{eqb-true, eqb-false, ltb-false}
+use Rattle.std.proofs.lemmas.Bool.{eqb-true, eqb-false, ltb-false, and_parts}
 use Rattle.std.proofs.lemmas.List.{take-append-drop}
 use Rattle.byteorder.specs.Endian.{little_bytes}
 use Rattle.dd_elem.specs.declared.tag.Tag.{Tag}
@@ -13,16 +13,17 @@ use Rattle.dd_set.specs.declared.syntax.Length.{Length}
 use Rattle.dd_set.specs.declared.syntax.Length.TheVariants.{Defined, Undefined}
 use Rattle.dd_set.specs.declared.syntax.Syntax.{Syntax}
 use Rattle.dd_set.specs.Bytes.{AreBytes}
-use Rattle.dd_set.specs.Elements.{Elements, no_elements, element, Content, bytes, items, Items, item, Entry}
+use Rattle.dd_set.specs.Elements.{Elements, no_elements, element, Content, bytes, items, fragments, Items, item, Entry}
 use Rattle.dd_set.specs.Elements.{Part}
 use Rattle.dd_set.specs.Spelling.{undefined_length, delimiter_group, tag_text, shape_text, header_text, item_tag_text}
 use Rattle.dd_set.specs.Spelling.{item_end_tag, item_end_text, sequence_end_tag, sequence_end_text, length_of, closed}
 use Rattle.dd_set.specs.Spelling.{elements_text, content_text, items_text}
 use Rattle.dd_set.specs.Spelling.{FitsLong, length_limit, names_vr, named_item_syntax, item_syntax, item_syntax_where}
 use Rattle.dd_set.specs.Spelling.{HoldsBytes, HoldsBytesWhere}
-use Rattle.dd_set.specs.Spelling.{AreElements, IsContent, AreItems}
+use Rattle.dd_set.specs.Spelling.{AreElements, IsContent, AreItems, MayHave, encapsulates, is_pixel_data, fragments_text}
 use Rattle.dd_set.specs.Reading.{◌>>=◌, At, Reads, leaves_fewer, take_at, tag_of, long_of}
 use Rattle.dd_set.specs.Reading.{is_over, Shape, shape_at, SequenceReader, SetReader, ItemReader, within, undefined_at}
+use Rattle.dd_set.specs.Reading.{opens_fragments, open_at, fragments_here}
 use Rattle.dd_set.specs.Reading.{defined_at, content_at, ends_set, element_at, next_elements, elements_at}
 use Rattle.dd_set.specs.Reading.{ends_sequence}
 use Rattle.dd_set.proofs.Cut.{body_at, whole_element, element_is}
@@ -30,16 +31,19 @@ use Rattle.dd_set.proofs.Steps.{bind_ok, passes, allowed, chosen, ok_is, short_b
 use Rattle.dd_set.proofs.Taken.{Takes, Takes-none, Takes-then, taken, Ends, closed-append, within_takes}
 use Rattle.dd_set.proofs.HeaderLaws.{head_tag, head_is, HasForm, HasFormWhere, width_limit, width_at_most, within_limit, Shaped}
 use Rattle.dd_set.proofs.HeaderLaws.{shape_takes}
+use Rattle.dd_set.proofs.FragmentLaws.{fragments_take}
 
 -- ---- the parts of a spelling
 
 -- a value behind its header, and the length that the header gives
 abbrev pub content_body : Content → List ℕ
 content_body (bytes v) = v
+content_body (fragments fs) = fragments_text fs ++ sequence_end_text
 content_body (items form parts) = closed form sequence_end_text (items_text parts)
 
 abbrev pub content_length : Content → ℕ
 content_length (bytes v) = length v
+content_length (fragments fs) = undefined_length
 content_length (items form parts) = length_of form (items_text parts)
 
 -- a header's rest and a value are these two
@@ -47,6 +51,7 @@ pub content_parts : (vr : Option Vr) (c : Content) → content_text vr c ≡ sha
     ++ content_body c
 content_parts vr (bytes v) = refl
 content_parts vr (items form parts) = refl
+content_parts vr (fragments fs) = refl
 
 -- an element by itself
 abbrev pub entry_text : Entry → List ℕ
@@ -55,7 +60,7 @@ entry_text e = tag_text e.tag ++ content_text e.vr e.content
 -- an element that a set may have, with a tag not below `low`
 abbrev pub IsEntry : Syntax → ℕ → ℕ → Entry → Type 0
 IsEntry syntax d low e = (low ≤ number_of e.tag) × (e.tag.group < 2 ^ 16) × (e.tag.element < 2 ^ 16)
-    × (e.tag.group ≢ delimiter_group) × IsContent syntax d e.vr e.content
+    × (e.tag.group ≢ delimiter_group) × IsContent syntax d e.vr e.content × MayHave e.tag e.content
 
 -- an item by itself: behind its header, the length that its header gives, and all of it
 abbrev pub part_body : Part → List ℕ
@@ -163,38 +168,39 @@ even_from : (n : ℕ) → (n % 2 == 1) ≡ false → n % 2 ≡ 0
 even_from n e = let ne = eqb-false (n % 2) 1 e in omega arith
 
 -- a value that was read, and the length that its header gave
-abbrev pub ContentTaken : ℕ → Syntax → Option Vr → ℕ → At → Content → At → Type 0
-ContentTaken d syntax vr n at c next = Takes at (content_body c) next × (n ≡ content_length c) × IsContent syntax d vr c
+abbrev pub ContentTaken : ℕ → Syntax → Tag → Option Vr → ℕ → At → Content → At → Type 0
+ContentTaken d syntax tag vr n at c next = Takes at (content_body c) next × (n ≡ content_length c)
+    × IsContent syntax d vr c × MayHave tag c
 
 module _ (d : ℕ) (sequence : SequenceReader) (law : SequenceLaw d sequence) where
   -- a value of undefined length
-  undefined_takes : (o : Option Syntax) (syntax : Syntax) (vr : Option Vr) (at : At) (x : Content × At)
+  undefined_takes : (o : Option Syntax) (syntax : Syntax) (tag : Tag) (vr : Option Vr) (at : At) (x : Content × At)
       → AreBytes at.bytes → item_syntax syntax vr Undefined ≡ o → undefined_at sequence o at ≡ Ok x
-      → ContentTaken d syntax vr undefined_length at x.0 x.1
-  undefined_takes None syntax vr at x fits is e = absurd cc
-  undefined_takes (Some inner) syntax vr at x fits is e =
+      → ContentTaken d syntax tag vr undefined_length at x.0 x.1
+  undefined_takes None syntax tag vr at x fits is e = absurd cc
+  undefined_takes (Some inner) syntax tag vr at x fits is e =
       let a = bind_ok (sequence inner Undefined at) (λ y. Ok (items Undefined y.0, y.1)) x e in
       let l = law inner Undefined at a.0 fits a.1 in
       let valid : IsSomeAnd (item_syntax syntax vr Undefined) (λ i. AreItems i d a.0.0) =
       subst (λ (o : Option Syntax). IsSomeAnd o (λ i. AreItems i d a.0.0)) (sym is) l.1 in
       let made : Content × At = (items Undefined a.0.0, a.0.1) in
-      subst (λ (y : Content × At). ContentTaken d syntax vr undefined_length at y.0 y.1) (ok_is made x a.2)
-      (l.0, refl, (valid, tt))
+      subst (λ (y : Content × At). ContentTaken d syntax tag vr undefined_length at y.0 y.1) (ok_is made x a.2)
+      (l.0, refl, (valid, tt), tt)
 
   -- a value of this length
-  defined_takes : (o : Option Syntax) (syntax : Syntax) (vr : Option Vr) (n : ℕ) (at : At) (x : Content × At)
+  defined_takes : (o : Option Syntax) (syntax : Syntax) (tag : Tag) (vr : Option Vr) (n : ℕ) (at : At) (x : Content × At)
       → AreBytes at.bytes → item_syntax syntax vr Defined ≡ o → HasForm syntax vr → n % 2 ≡ 0 → n < undefined_length
       → n < length_limit vr → leaves_fewer at.left n ≡ false → defined_at sequence o n at ≡ Ok x
-      → ContentTaken d syntax vr n at x.0 x.1
-  defined_takes None syntax vr n at x fits is form even low limit enough e =
+      → ContentTaken d syntax tag vr n at x.0 x.1
+  defined_takes None syntax tag vr n at x fits is form even low limit enough e =
       let a = bind_ok (take_at n at) (λ y. Ok (bytes y.0, y.1)) x e in
       let t = taken n at a.0 fits a.1 in
       let made : Content × At = (bytes a.0.0, a.0.1) in
       let even' : length a.0.0 % 2 ≡ 0 = ap (λ (k : ℕ). k % 2) t.1 ∙ even in
       let fits' : length a.0.0 < length_limit vr = subst (λ (k : ℕ). k < length_limit vr) (sym t.1) limit in
       let valid : IsContent syntax d vr (bytes a.0.0) = (holds_bytes syntax vr form is, even', fits') in
-      subst (λ (y : Content × At). ContentTaken d syntax vr n at y.0 y.1) (ok_is made x a.2) (t.0, sym t.1, valid)
-  defined_takes (Some inner) syntax vr n at x fits is form even low limit enough e =
+      subst (λ (y : Content × At). ContentTaken d syntax tag vr n at y.0 y.1) (ok_is made x a.2) (t.0, sym t.1, valid, tt)
+  defined_takes (Some inner) syntax tag vr n at x fits is form even low limit enough e =
       let a = bind_ok (within n at (sequence inner Defined)) (λ y. Ok (items Defined y.0, y.1)) x e in
       let t = within_takes n at (sequence inner Defined) (λ y. items_text y) (λ y. AreItems inner d y)
       (λ y r. law inner Defined (record { left = Some n; bytes = at.bytes }) y fits r) a.0 enough a.1 in
@@ -203,27 +209,45 @@ module _ (d : ℕ) (sequence : SequenceReader) (law : SequenceLaw d sequence) wh
       subst (λ (o : Option Syntax). IsSomeAnd o (λ i. AreItems i d a.0.0)) (sym is) t.2 in
       let fits' : length (items_text a.0.0) < undefined_length = subst (λ (k : ℕ). k < undefined_length) t.1 low in
       let valid : IsContent syntax d vr (items Defined a.0.0) = (some_inner, fits') in
-      subst (λ (y : Content × At). ContentTaken d syntax vr n at y.0 y.1) (ok_is made x a.2) (t.0, t.1, valid)
+      subst (λ (y : Content × At). ContentTaken d syntax tag vr n at y.0 y.1) (ok_is made x a.2) (t.0, t.1, valid, tt)
+
+  -- a value of undefined length, which may be fragments
+  open_takes : (opens : Bool) (o : Option Syntax) (syntax : Syntax) (tag : Tag) (vr : Option Vr) (at : At)
+      (x : Content × At) → AreBytes at.bytes
+      → (opens ≡ true → (encapsulates syntax vr ≡ true) × (is_pixel_data tag ≡ true))
+      → item_syntax syntax vr Undefined ≡ o → open_at sequence opens o at ≡ Ok x
+      → ContentTaken d syntax tag vr undefined_length at x.0 x.1
+  open_takes false o syntax tag vr at x fits may is e = undefined_takes o syntax tag vr at x fits is e
+  open_takes true o syntax tag vr at x fits may is e =
+      let a = bind_ok (fragments_here at) (λ y. Ok (fragments y.0, y.1)) x e in
+      let t = fragments_take (suc (length at.bytes)) at a.0 fits a.1 in
+      let made : Content × At = (fragments a.0.0, a.0.1) in
+      let so = may refl in
+      subst (λ (y : Content × At). ContentTaken d syntax tag vr undefined_length at y.0 y.1) (ok_is made x a.2)
+      (t.0, refl, (so.0, t.1), so.1)
 
   -- a value behind its header
-  pub content_takes : (syntax : Syntax) (shape : Shape) (at : At) (x : Content × At) → AreBytes at.bytes
-      → HasForm syntax shape.vr → shape.length < width_limit shape.vr → content_at sequence syntax shape at ≡ Ok x
-      → ContentTaken d syntax shape.vr shape.length at x.0 x.1
+  pub content_takes : (syntax : Syntax) (tag : Tag) (shape : Shape) (at : At) (x : Content × At) → AreBytes at.bytes
+      → HasForm syntax shape.vr → shape.length < width_limit shape.vr
+      → content_at sequence syntax (record { tag = tag; shape = shape }) at ≡ Ok x
+      → ContentTaken d syntax tag shape.vr shape.length at x.0 x.1
   unfolding content_at
-  content_takes syntax shape at x fits form below e =
-      elim (chosen (shape.length == undefined_length) (undefined_at sequence (item_syntax syntax shape.vr Undefined) at)
-      _ (Ok x) e) [
+  content_takes syntax tag shape at x fits form below e =
+      let opens : Bool = opens_fragments syntax (record { tag = tag; shape = shape }) in
+      elim (chosen (shape.length == undefined_length)
+      (open_at sequence opens (item_syntax syntax shape.vr Undefined) at) _ (Ok x) e) [
         | inl a ↦
             let len : shape.length ≡ undefined_length = eqb-true _ _ a.0 in
-            let t = undefined_takes (item_syntax syntax shape.vr Undefined) syntax shape.vr at x fits refl a.1 in
-            (t.0, len ∙ t.1, t.2)
+            let t = open_takes opens (item_syntax syntax shape.vr Undefined) syntax tag shape.vr at x fits
+            (λ o. and_parts (encapsulates syntax shape.vr) (is_pixel_data tag) o) refl a.1 in
+            (t.0, len ∙ t.1, t.2, t.3)
         | inr b ↦
             let odd = passes (shape.length % 2 == 1) OddLength _ x b.1 in
             let room = passes (leaves_fewer at.left shape.length) Overrun _ x odd.1 in
             let ne : shape.length ≡ undefined_length → ⊥ = eqb-false _ _ b.0 in
             let most : width_limit shape.vr ≤ 2 ^ 32 = width_at_most shape.vr in
             let low : shape.length < undefined_length = omega arith in
-            defined_takes (item_syntax syntax shape.vr Defined) syntax shape.vr shape.length at x fits refl form
+            defined_takes (item_syntax syntax shape.vr Defined) syntax tag shape.vr shape.length at x fits refl form
             (even_from shape.length odd.0) low (within_limit shape.vr shape.length below ne) room.0 room.1
       ]
 
@@ -236,12 +260,13 @@ module _ (d : ℕ) (sequence : SequenceReader) (law : SequenceLaw d sequence) wh
       let tag : Tag = tag_of head in
       let a = passes (tag.group == delimiter_group) UnexpectedTag _ x e in
       let b = passes (nat_lt (number_of tag) low) Order _ x a.1 in
-      let s = bind_ok (shape_at syntax head at) (λ shape. content_at sequence syntax shape.0 shape.1 >>= λ y. Ok
+      let s = bind_ok (shape_at syntax head at) (λ shape. content_at sequence syntax
+      (record { tag = tag_of head; shape = shape.0 }) shape.1 >>= λ y. Ok
       (record { tag = tag_of head; vr = shape.0.vr; content = y.0 }, y.1)) x b.1 in
       let shaped : Shaped (names_vr syntax) head at s.0.0 s.0.1 = shape_takes syntax head at s.0 len hfits fits s.1 in
-      let c = bind_ok (content_at sequence syntax s.0.0 s.0.1)
+      let c = bind_ok (content_at sequence syntax (record { tag = tag_of head; shape = s.0.0 }) s.0.1)
       (λ y. Ok (record { tag = tag_of head; vr = s.0.0.vr; content = y.0 }, y.1)) x s.2 in
-      let t = content_takes syntax s.0.0 s.0.1 c.0 shaped.takes.fits shaped.form shaped.below c.1 in
+      let t = content_takes syntax tag s.0.0 s.0.1 c.0 shaped.takes.fits shaped.form shaped.below c.1 in
       let made : Entry = record { tag = tag; vr = s.0.0.vr; content = c.0.0 } in
       let both : Takes at (shaped.text ++ content_body c.0.0) c.0.1 =
       Takes-then at s.0.1 c.0.1 shaped.text (content_body c.0.0) shaped.takes t.0 in
@@ -262,6 +287,7 @@ module _ (d : ℕ) (sequence : SequenceReader) (law : SequenceLaw d sequence) wh
             (AreBytes-drop 2 head hfits),
         group_ne,
         t.2,
+        t.3,
       ) in
       subst (λ (y : Entry × At). (text : List ℕ) × Takes at text y.1 × (head ++ text ≡ entry_text y.0)
       × IsEntry syntax d low y.0) (ok_is (made, c.0.1) x c.2)
@@ -332,7 +358,7 @@ module _ (d : ℕ) (sequence : SequenceReader) (law : SequenceLaw d sequence) wh
       let took : Takes at (closed form item_end_text (elements_text made)) a.0.1 =
       subst (λ (y : List ℕ). Takes at y a.0.1) (set_text_more form item_end_text (tag_text f.tag)
       (content_text f.vr f.content) (elements_text a.0.0)) both in
-      let valid : AreElements syntax d low made = (h.1.0, h.1.1, h.1.2, h.1.3, h.1.4, r.1) in
+      let valid : AreElements syntax d low made = (h.1.0, h.1.1, h.1.2, h.1.3, h.1.4, h.1.5, r.1) in
       subst (λ (y : Elements × At). SetTaken syntax d form low at y.0 y.1) (ok_is (made, a.0.1) x a.2)
       (took, valid, r.2)
 

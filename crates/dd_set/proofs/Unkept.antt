@@ -12,12 +12,15 @@ use Rattle.dd_set.specs.declared.syntax.Length.TheVariants.{Defined, Undefined}
 use Rattle.dd_set.specs.declared.syntax.Syntax.{Syntax}
 use Rattle.dd_set.specs.Elements.{Elements, Items, items, Entry, Part}
 use Rattle.dd_set.specs.Memory.{keeps_no_item, unkept_sequence, keeps_no_element, unkept_set, unkept_item, WantsMemory}
+use Rattle.dd_set.specs.Memory.{WantsContent, WantsEntry}
+use Rattle.dd_set.specs.Reading.{Header, front_at, opens_fragments, open_at}
 use Rattle.dd_set.specs.Reading.{At, Reads, Shape, ◌>>=◌, SequenceReader, SetReader, ItemReader, take_at, less}
 use Rattle.dd_set.specs.Reading.{leaves_fewer, within, undefined_at, defined_at, content_at, tag_of, long_of, shape_at}
 use Rattle.dd_set.specs.Reading.{is_over, ends_set, element_at, next_elements, elements_at, ends_sequence}
 use Rattle.dd_set.specs.Reading.{is_item, item_at, next_items, items_at, part_at, sequence_with, set_with, item_reader}
 use Rattle.dd_set.specs.Spelling.{undefined_length, item_syntax, delimiter_group}
 use Rattle.dd_set.proofs.Cut.{body_at, whole_element, element_is, whole_item, item_is}
+use Rattle.dd_set.proofs.ReadingOn.{element_found, content_refused}
 
 -- the second reading wants memory, or gives what the first one gives
 abbrev pub Alike : {X : Type 0} → Result X SetFault → Result X SetFault → Type 0
@@ -64,14 +67,20 @@ module _ (full unkept : SequenceReader) (law : (syntax : Syntax) (form : Length)
       (alike_made (full inner Defined here) (unkept inner Defined here)
       (λ x. Ok (x.0, record { left = less at.left n; bytes = x.1.bytes })) (law inner Defined here))
 
-  content_alike : (syntax : Syntax) (shape : Shape) (at : At)
-      → Alike (content_at full syntax shape at) (content_at unkept syntax shape at)
+  open_alike : (opens : Bool) (inner : Option Syntax) (at : At)
+      → Alike (open_at full opens inner at) (open_at unkept opens inner at)
+  open_alike true inner at = inr refl
+  open_alike false inner at = undefined_alike inner at
+
+  content_alike : (syntax : Syntax) (header : Header) (at : At)
+      → Alike (content_at full syntax header at) (content_at unkept syntax header at)
   unfolding content_at
-  content_alike syntax shape at =
-      alike_if (shape.length == undefined_length) _ _ _ _ (undefined_alike (item_syntax syntax shape.vr Undefined) at)
-      (alike_if (shape.length % 2 == 1) _ _ _ _ (inr refl)
-      (alike_if (leaves_fewer at.left shape.length) _ _ _ _ (inr refl)
-      (defined_alike (item_syntax syntax shape.vr Defined) shape.length at)))
+  content_alike syntax header at =
+      alike_if (header.shape.length == undefined_length) _ _ _ _
+      (open_alike (opens_fragments syntax header) (item_syntax syntax header.shape.vr Undefined) at)
+      (alike_if (header.shape.length % 2 == 1) _ _ _ _ (inr refl)
+      (alike_if (leaves_fewer at.left header.shape.length) _ _ _ _ (inr refl)
+      (defined_alike (item_syntax syntax header.shape.vr Defined) header.shape.length at)))
 
   body_alike : (syntax : Syntax) (low : ℕ) (head : List ℕ) (at : At)
       → Alike (body_at full syntax low head at) (body_at unkept syntax low head at)
@@ -80,8 +89,11 @@ module _ (full unkept : SequenceReader) (law : (syntax : Syntax) (form : Length)
       alike_if ((tag_of head).group == delimiter_group) _ _ _ _ (inr refl)
       (alike_if (nat_lt (number_of (tag_of head)) low) _ _ _ _ (inr refl)
       (alike_then (shape_at syntax head at) (shape_at syntax head at) _ _ (inr refl)
-      (λ shape. alike_made (content_at full syntax shape.0 shape.1) (content_at unkept syntax shape.0 shape.1) _
-      (content_alike syntax shape.0 shape.1))))
+      (λ shape. alike_made (content_at full syntax (header_of shape.0) shape.1)
+      (content_at unkept syntax (header_of shape.0) shape.1) _ (content_alike syntax (header_of shape.0) shape.1))))
+    where
+      header_of : Shape → Header
+      header_of shape = record { tag = tag_of head; shape = shape }
 
   element_alike : (syntax : Syntax) (form : Length) (low : ℕ) (at : At)
       → Alike (element_at full syntax form low at) (element_at unkept syntax form low at)
@@ -254,3 +266,28 @@ set_wants levels syntax form low start at end e (inr wants) is = wants
 pub deeper_unkept : (levels inner n : ℕ) (syntax : Syntax) (at : At) → levels ≡ suc inner
     → unkept_item levels syntax n at ≡ part_at (unkept_set (unkept_item inner)) syntax n at
 deeper_unkept levels inner n syntax at e = rw e refl
+
+-- ---- a refusal within an element
+
+pub value_wants : (levels : ℕ) (syntax : Syntax) (form : Length) (low : ℕ) (at : At) (header : Header) (mid : At)
+    → front_at syntax form low at ≡ Ok (Some header, mid)
+    → WantsContent (content_at (sequence_with (item_reader levels)) syntax header mid)
+    (content_at (unkept_sequence (unkept_item levels)) syntax header mid)
+    → WantsEntry (element_at (sequence_with (item_reader levels)) syntax form low at)
+    (element_at (unkept_sequence (unkept_item levels)) syntax form low at)
+value_wants levels syntax form low at header mid is (inl e) =
+    inl (content_refused (unkept_sequence (unkept_item levels)) syntax form low at header mid Memory is e)
+value_wants levels syntax form low at header mid is (inr whole) = inr (
+  record { tag = header.tag; vr = header.shape.vr; content = whole.0 },
+  whole.1,
+  element_found (sequence_with (item_reader levels)) syntax form low at header mid whole.1 whole.0 is whole.2,
+)
+
+pub set_stops : (levels : ℕ) (syntax : Syntax) (form : Length) (low : ℕ) (start at : At)
+    → (low ≡ 0) × (at ≡ start) ⊎ (unkept_set (unkept_item levels) syntax form start ≡ Err Memory)
+    → WantsEntry (element_at (sequence_with (item_reader levels)) syntax form low at)
+    (element_at (unkept_sequence (unkept_item levels)) syntax form low at)
+    → unkept_set (unkept_item levels) syntax form start ≡ Err Memory
+set_stops levels syntax form low start at so (inl e) = set_fails levels syntax form low start at so e
+set_stops levels syntax form low start at so (inr whole) =
+    set_wants levels syntax form low start at whole.1 whole.0 so whole.2

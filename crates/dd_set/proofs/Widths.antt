@@ -4,16 +4,17 @@ use Rattle.std.proofs.Common.{if◌then◌else◌, List, length, Option, Some, N
 use Rattle.std.proofs.Common.{arith}
 use Rattle.std.proofs.lemmas.Bool.{ne_eqb}
 use Rattle.dd_elem.specs.declared.vr.Vr.{Vr}
-use Rattle.dd_elem.specs.declared.vr.Vr.TheVariants.{SQ, UN}
+use Rattle.dd_elem.specs.declared.vr.Vr.TheVariants.{OB, SQ, UN}
 use Rattle.dd_set.specs.declared.syntax.Length.{Length}
 use Rattle.dd_set.specs.declared.syntax.Length.TheVariants.{Defined, Undefined}
 use Rattle.dd_set.specs.declared.syntax.Syntax.{Syntax}
-use Rattle.dd_set.specs.Elements.{Content, bytes, items}
+use Rattle.dd_set.specs.declared.syntax.Syntax.TheVariants.{Explicit, Implicit, Encapsulated}
+use Rattle.dd_set.specs.Elements.{Content, bytes, items, fragments}
 use Rattle.dd_set.specs.Spelling.{undefined_length}
 use Rattle.dd_set.specs.Spelling.{length_of, items_text}
 use Rattle.dd_set.specs.Spelling.{FitsLong, length_limit, names_vr, named_item_syntax, item_syntax, item_syntax_where}
 use Rattle.dd_set.specs.Spelling.{HoldsBytes, HoldsBytesWhere}
-use Rattle.dd_set.specs.Spelling.{IsContent, AreItems}
+use Rattle.dd_set.specs.Spelling.{IsContent, AreItems, encapsulates, is_of_bytes}
 use Rattle.dd_set.proofs.HeaderLaws.{HasForm, HasFormWhere, width_limit, limit_within}
 use Rattle.dd_set.proofs.Sound.{content_length}
 use Rattle.dd_set.proofs.Even.{some_of}
@@ -73,10 +74,42 @@ wide_where false syntax None form inner e = refl
 wide_where false syntax (Some vr) Defined inner e = absurd cc
 wide_where false syntax (Some vr) Undefined inner e = absurd cc
 
+-- fragments stand where a header names a value representation with room for a length of 32 bits
+encapsulates_form : (syntax : Syntax) (vr : Option Vr) → encapsulates syntax vr ≡ true → HasForm syntax vr
+encapsulates_form Explicit vr e = absurd cc
+encapsulates_form Implicit vr e = absurd cc
+encapsulates_form Encapsulated None e = absurd cc
+encapsulates_form Encapsulated (Some vr) e = tt
+
+of_bytes_wide : (vr : Vr) → is_of_bytes vr ≡ true → width_limit (Some vr) ≡ 2 ^ 32
+of_bytes_wide OB e = refl
+of_bytes_wide _ e = absurd cc
+
+encapsulates_wide : (syntax : Syntax) (vr : Option Vr) → encapsulates syntax vr ≡ true → width_limit vr ≡ 2 ^ 32
+encapsulates_wide Explicit vr e = absurd cc
+encapsulates_wide Implicit vr e = absurd cc
+encapsulates_wide Encapsulated None e = absurd cc
+encapsulates_wide Encapsulated (Some vr) e = of_bytes_wide vr e
+
+-- and no sequence stands there
+holds_no_items : (syntax : Syntax) (vr : Vr) (form : Length) (inner : Syntax)
+    → named_item_syntax syntax vr form ≡ Some inner → is_of_bytes vr ≡ false
+holds_no_items syntax SQ form inner e = refl
+holds_no_items syntax UN form inner e = refl
+holds_no_items syntax _ form inner e = absurd cc
+
+pub holds_no_fragments : (syntax : Syntax) (vr : Option Vr) (form : Length) (inner : Syntax)
+    → item_syntax syntax vr form ≡ Some inner → encapsulates syntax vr ≡ false
+holds_no_fragments Explicit vr form inner e = refl
+holds_no_fragments Implicit vr form inner e = refl
+holds_no_fragments Encapsulated None form inner e = refl
+holds_no_fragments Encapsulated (Some vr) form inner e = holds_no_items Encapsulated vr form inner e
+
 -- a value that fits has a header of its syntax
 pub content_form : (syntax : Syntax) (d : ℕ) (vr : Option Vr) (c : Content) → IsContent syntax d vr c
     → HasForm syntax vr
 content_form syntax d vr (bytes v) h = form_where (names_vr syntax) vr h.0
+content_form syntax d vr (fragments fs) h = encapsulates_form syntax vr h.0
 content_form syntax d vr (items form parts) h =
     let inner = some_of (item_syntax syntax vr form) (λ i. AreItems i d parts) h.0 in
     item_form_where (names_vr syntax) syntax vr form inner.0 inner.1
@@ -90,9 +123,11 @@ fits_width Undefined text h = omega arith
 pub content_width : (syntax : Syntax) (d : ℕ) (vr : Option Vr) (c : Content) → IsContent syntax d vr c
     → content_length c < width_limit vr
 content_width syntax d vr (bytes v) h = limit_within vr (length v) h.2
+content_width syntax d vr (fragments fs) h = subst (λ (n : ℕ). undefined_length < n)
+    (sym (encapsulates_wide syntax vr h.0)) (omega arith)
 content_width syntax d vr (items form parts) h =
     let inner = some_of (item_syntax syntax vr form) (λ i. AreItems i d parts) h.0 in
-    subst (λ (n : ℕ). length_of form (items_text parts) < n) 
+    subst (λ (n : ℕ). length_of form (items_text parts) < n)
     (sym (wide_where (names_vr syntax) syntax vr form inner.0 inner.1))
     (fits_width form (items_text parts) h.1)
 

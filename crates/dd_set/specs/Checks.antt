@@ -12,8 +12,9 @@ use Rattle.dd_set.specs.declared.checks.Reach.TheVariants as reaches
 use Rattle.dd_set.specs.declared.fault.SetFault.{SetFault}
 use Rattle.dd_set.specs.declared.syntax.Length.TheVariants.{Defined, Undefined}
 use Rattle.dd_set.specs.declared.syntax.Syntax.{Syntax}
-use Rattle.dd_set.specs.Elements.{Content, bytes, items, Part}
+use Rattle.dd_set.specs.Elements.{Content, bytes, items, fragments, Part}
 use Rattle.dd_set.specs.Reading.{Header, long_length_at, At, Reads, ◌>>=◌, SequenceReader, SetReader, take_at, within}
+use Rattle.dd_set.specs.Reading.{fragments_here}
 use Rattle.dd_set.specs.Places.{shape_view}
 
 abbrev pub header_view : Said → Header
@@ -35,6 +36,7 @@ sorted sequence (Ok (sorts.Bytes n)) at = take_at n at >>= λ x. Ok (bytes x.0, 
 sorted sequence (Ok (sorts.Open inner)) at = sequence inner Undefined at >>= λ x. Ok (items Undefined x.0, x.1)
 sorted sequence (Ok (sorts.Closed inner n)) at =
     within n at (sequence inner Defined) >>= λ x. Ok (items Defined x.0, x.1)
+sorted sequence (Ok sorts.Fragments) at = fragments_here at >>= λ x. Ok (fragments x.0, x.1)
 sorted sequence (Err e) at = Err e
 
 abbrev pub reached : SetReader → Syntax → Result Reach SetFault → At → Reads Part

@@ -10,10 +10,11 @@ mutual
     no_elements : Elements
     element : Tag → Option Vr → Content → Elements → Elements
 
-  -- a value: bytes, or a sequence of items and how its end is told
+  -- a value: bytes, or a sequence of items and how its end is told, or the fragments of pixel data
   pub data Content : Type 0 where
     bytes : List ℕ → Content
     items : Length → Items → Content
+    fragments : List (List ℕ) → Content
 
   -- the items of a sequence: each how its end is told, and its data set
   pub data Items : Type 0 where

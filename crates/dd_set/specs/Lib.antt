@@ -1,5 +1,6 @@
 pub mod Bytes
 pub mod Checks
+pub mod Counts
 pub mod Elements
 pub mod Feeds
 pub mod Find

@@ -1,10 +1,10 @@
 -- Where reading wants memory: the same reading where nothing has a place, in which the first item or element that was
 -- read whole finds none. All else about the bytes is checked as by `Reading`.
-use Rattle.std.specs.Prelude.{◌≡◌, ℕ, zero, suc, List, Option, Some, None, Ok, Err}
+use Rattle.std.specs.Prelude.{◌≡◌, ◌⊎◌, ℕ, zero, suc, List, Option, Some, None, Ok, Err}
 use Rattle.dd_set.specs.declared.fault.SetFault.TheVariants.{TooDeep, Memory}
 use Rattle.dd_set.specs.declared.syntax.Length.TheVariants.{Defined}
 use Rattle.dd_set.specs.declared.syntax.Syntax.{Syntax}
-use Rattle.dd_set.specs.Elements.{Elements, no_elements, Items, no_items, Entry, Part}
+use Rattle.dd_set.specs.Elements.{Elements, no_elements, Content, Items, no_items, Entry, Part}
 use Rattle.dd_set.specs.Reading.{At, Reads, ◌>>=◌, SequenceReader, SetReader, ItemReader, element_at, item_at, part_at}
 use Rattle.dd_set.specs.Spelling.{max_levels}
 
@@ -28,6 +28,14 @@ unkept_set part syntax form at = element_at (unkept_sequence part) syntax form 0
 abbrev pub unkept_item : ℕ → ItemReader
 unkept_item zero syntax n at = Err TooDeep
 unkept_item (suc levels) syntax n at = part_at (unkept_set (unkept_item levels)) syntax n at
+
+-- Within an element: the reading wants memory where nothing has a place, or it gives the whole of it, as a list of
+-- fragments that then finds none.
+abbrev pub WantsContent : Reads Content → Reads Content → Type 0
+WantsContent full unkept = (unkept ≡ Err Memory) ⊎ ((c : Content) × (end : At) × (full ≡ Ok (c, end)))
+
+abbrev pub WantsEntry : Reads (Option Entry) → Reads (Option Entry) → Type 0
+WantsEntry full unkept = (unkept ≡ Err Memory) ⊎ ((e : Entry) × (end : At) × (full ≡ Ok (Some e, end)))
 
 -- reading the bytes wants memory: an item or an element was read whole before a check failed
 abbrev pub WantsMemory : Syntax → List ℕ → Type 0

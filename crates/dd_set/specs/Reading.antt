@@ -1,6 +1,6 @@
 -- Reading a data set from left to right, check by check: the set, or the first check that fails (PS3.5 sections 7.1 and
 -- 7.5). Each step takes bytes from where the one before it left off.
-use Rattle.std.specs.Prelude.{ℕ, zero, suc, ◌+◌, ◌-◌, ◌%◌, List, length, take, drop, Bool, true, false, ◌&&◌}
+use Rattle.std.specs.Prelude.{ℕ, zero, suc, ◌+◌, ◌-◌, ◌%◌, List, [], ◌∷◌, length, take, drop, Bool, true, false, ◌&&◌}
 use Rattle.std.specs.Prelude.{Option, Some, None, Result, Ok, Err, nat_lt, ◌==◌, if◌then◌else◌}
 use Rattle.std.specs.Int.{w16, w32, from_le_bytes}
 use Rattle.dd_elem.specs.declared.tag.Tag.{Tag}
@@ -14,9 +14,11 @@ use Rattle.dd_set.specs.declared.fault.SetFault.TheVariants.{Overrun, TooDeep}
 use Rattle.dd_set.specs.declared.syntax.Length.{Length}
 use Rattle.dd_set.specs.declared.syntax.Length.TheVariants.{Defined, Undefined}
 use Rattle.dd_set.specs.declared.syntax.Syntax.{Syntax}
-use Rattle.dd_set.specs.Elements.{Elements, no_elements, element, Content, bytes, items, Items, no_items, item}
+use Rattle.dd_set.specs.Elements.{Elements, no_elements, element, Content, bytes, items, fragments, Items, no_items}
+use Rattle.dd_set.specs.Elements.{item}
 use Rattle.dd_set.specs.Elements.{Entry, Part}
-use Rattle.dd_set.specs.Spelling.{undefined_length, delimiter_group, names_vr, item_syntax, max_levels}
+use Rattle.dd_set.specs.Spelling.{undefined_length, delimiter_group, names_vr, item_syntax, max_levels, encapsulates}
+use Rattle.dd_set.specs.Spelling.{is_pixel_data}
 use Rattle.dd_set.specs.Spelling.{item_tag, item_end_tag, sequence_end_tag}
 
 -- where reading stands: how many bytes the nearest enclosing length leaves, where there is one, and the bytes to come
@@ -186,6 +188,35 @@ behind_item_head form (Some head, at) = item_opening form head >>= λ length. Ok
 unfoldable pub item_front_at : Length → At → Reads (Option ℕ)
 item_front_at form at = head_at form at >>= behind_item_head form
 
+-- ---- fragments
+
+-- the length of a fragment
+unfoldable pub fragment_length : ℕ → Result ℕ SetFault
+fragment_length n =
+    if n == undefined_length then Err UndefinedLength
+    else (if n % 2 == 1 then Err OddLength
+    else Ok n)
+
+abbrev pub fragment_behind : Option ℕ × At → Reads (Option (List ℕ))
+fragment_behind (None, at) = Ok (None, at)
+fragment_behind (Some n, at) = fragment_length n >>= λ k. take_at k at >>= there
+
+-- the next fragment, or the end of the list; what stands before it is the header of an item
+unfoldable pub fragment_at : At → Reads (Option (List ℕ))
+fragment_at at = item_front_at Undefined at >>= fragment_behind
+
+abbrev pub next_fragments : (At → Reads (List (List ℕ))) → Option (List ℕ) × At → Reads (List (List ℕ))
+next_fragments others (None, at) = Ok ([], at)
+next_fragments others (Some f, at) = others at >>= λ x. Ok (f ∷ x.0, x.1)
+
+-- fragments to the end of their list
+unfoldable pub fragments_at : ℕ → At → Reads (List (List ℕ))
+fragments_at zero at = Err Truncated
+fragments_at (suc most) at = fragment_at at >>= next_fragments (fragments_at most)
+
+abbrev pub fragments_here : At → Reads (List (List ℕ))
+fragments_here at = fragments_at (suc (length at.bytes)) at
+
 -- ---- values and elements
 
 -- how a sequence, the set of an item, and an item with its length are read
@@ -211,19 +242,28 @@ abbrev pub defined_at : SequenceReader → Option Syntax → ℕ → At → Read
 defined_at sequence None n at = take_at n at >>= λ x. Ok (bytes x.0, x.1)
 defined_at sequence (Some inner) n at = within n at (sequence inner Defined) >>= λ x. Ok (items Defined x.0, x.1)
 
+-- pixel data that may be fragments
+abbrev pub opens_fragments : Syntax → Header → Bool
+opens_fragments syntax header = encapsulates syntax header.shape.vr && is_pixel_data header.tag
+
+abbrev pub open_at : SequenceReader → Bool → Option Syntax → At → Reads Content
+open_at sequence true inner at = fragments_here at >>= λ x. Ok (fragments x.0, x.1)
+open_at sequence false inner at = undefined_at sequence inner at
+
 -- the value behind a header
-unfoldable pub content_at : SequenceReader → Syntax → Shape → At → Reads Content
-content_at sequence syntax shape at =
-    if shape.length == undefined_length then undefined_at sequence (item_syntax syntax shape.vr Undefined) at
-    else (if shape.length % 2 == 1 then Err OddLength
-    else (if leaves_fewer at.left shape.length then Err Overrun
-    else defined_at sequence (item_syntax syntax shape.vr Defined) shape.length at))
+unfoldable pub content_at : SequenceReader → Syntax → Header → At → Reads Content
+content_at sequence syntax header at =
+    if header.shape.length == undefined_length
+    then open_at sequence (opens_fragments syntax header) (item_syntax syntax header.shape.vr Undefined) at
+    else (if header.shape.length % 2 == 1 then Err OddLength
+    else (if leaves_fewer at.left header.shape.length then Err Overrun
+    else defined_at sequence (item_syntax syntax header.shape.vr Defined) header.shape.length at))
 
 -- the element behind its header
 abbrev pub element_behind : SequenceReader → Syntax → Option Header × At → Reads (Option Entry)
 element_behind sequence syntax (None, at) = Ok (None, at)
 element_behind sequence syntax (Some header, at) =
-    content_at sequence syntax header.shape at
+    content_at sequence syntax header at
     >>= λ x. Ok (Some (record { tag = header.tag; vr = header.shape.vr; content = x.0 }), x.1)
 
 -- the next element, or the end of the set

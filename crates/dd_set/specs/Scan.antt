@@ -7,13 +7,15 @@ use Rattle.dd_elem.specs.Clean.{clean_of}
 use Rattle.dd_elem.specs.Key.{max_key_length}
 use Rattle.dd_elem.specs.Tag.{number_of}
 use Rattle.dd_elem.specs.declared.tag.Tag.{Tag}
+use Rattle.dd_set.specs.declared.checks.Sort.{Sort}
+use Rattle.dd_set.specs.declared.checks.Sort.TheVariants as sorts
 use Rattle.dd_set.specs.declared.fault.SetFault.{SetFault}
 use Rattle.dd_set.specs.declared.fault.SetFault.TheVariants.{Memory}
 use Rattle.dd_set.specs.declared.found.Scan.{Scan}
 use Rattle.dd_set.specs.declared.found.Found.{Found}
 use Rattle.dd_set.specs.declared.found.FoundValue.{FoundValue}
 use Rattle.dd_set.specs.declared.found.FoundValue.TheVariants as values
-use Rattle.dd_set.specs.Elements.{Elements, Content, bytes, items, Entry}
+use Rattle.dd_set.specs.Elements.{Elements, Content, bytes, items, fragments as fragment_list, Entry}
 use Rattle.dd_set.specs.Find.{same_tag, entries_of}
 use Rattle.dd_set.specs.declared.syntax.Length.TheVariants.{Defined}
 use Rattle.dd_set.specs.declared.syntax.Syntax.{Syntax}
@@ -25,9 +27,10 @@ use Rattle.dd_set.specs.Spelling.{max_levels}
 abbrev pub most_told : ℕ
 most_told = max_key_length
 
--- what is told of a value: that it is a sequence; or the front of its bytes, and how many they are
+-- what is told of a value: that it is a sequence, or fragments; or the front of its bytes, and how many they are
 pub data Told : Type 0 where
   sequence : Told
+  fragments : Told
   cleaned : List ℕ → ℕ → Told
 
 abbrev pub told_value : Option (List ℕ) → Told
@@ -38,6 +41,7 @@ told_value (Some value) = cleaned (take most_told value) (length value)
 abbrev pub told_of : Content → Told
 told_of (bytes v) = told_value (Some (clean_of v))
 told_of (items form parts) = told_value None
+told_of (fragment_list fs) = fragments
 
 -- what is told of an element
 pub record Hit : Type 0 where
@@ -86,6 +90,7 @@ HasWanted syntax wanted given =
 
 abbrev pub value_told : FoundValue → Told
 value_told values.Items = sequence
+value_told values.Fragments = fragments
 value_told (values.Bytes front length) = cleaned front.items length
 
 abbrev pub found_hit : Found → Hit
@@ -105,6 +110,13 @@ ScanGives syntax wanted (Err e) given = Fails e (read_all syntax given) × (e �
 abbrev pub told_where : Bool → Content → Option Told
 told_where true c = Some (told_of c)
 told_where false c = None
+
+-- what is told of a value of this sort that is not bytes
+abbrev pub sort_told : Sort → Told
+sort_told (sorts.Bytes n) = sequence
+sort_told (sorts.Open inner) = sequence
+sort_told (sorts.Closed inner n) = sequence
+sort_told sorts.Fragments = fragments
 
 -- the hit that this makes
 abbrev pub noted : Tag → Option Told → List Hit

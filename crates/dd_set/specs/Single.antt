@@ -8,7 +8,7 @@ use Rattle.dd_set.specs.declared.syntax.Length.TheVariants.{Defined, Undefined}
 use Rattle.dd_set.specs.declared.syntax.Syntax.{Syntax}
 use Rattle.dd_set.specs.Elements.{Entry, Part}
 use Rattle.dd_set.specs.Spelling.{tag_text, content_text, elements_text, item_tag_text, item_end_text, length_of}
-use Rattle.dd_set.specs.Spelling.{closed, delimiter_group, AreElements, IsContent, FitsLong}
+use Rattle.dd_set.specs.Spelling.{closed, delimiter_group, AreElements, IsContent, MayHave, FitsLong}
 
 -- an element: tag, the rest of the header, and the value
 abbrev pub entry_text : Entry → List ℕ
@@ -23,7 +23,7 @@ part_text p = item_tag_text ++ (little_bytes 4 (length_of p.length (elements_tex
 abbrev pub IsEntry : Syntax → ℕ → ℕ → Entry → Type 0
 IsEntry syntax levels low e =
     (low ≤ number_of e.tag) × (e.tag.group < 2 ^ 16) × (e.tag.element < 2 ^ 16) × (e.tag.group ≢ delimiter_group)
-    × IsContent syntax levels e.vr e.content
+    × IsContent syntax levels e.vr e.content × MayHave e.tag e.content
 
 -- an item where so many levels may still nest, itself included
 abbrev pub IsPart : Syntax → ℕ → Part → Type 0

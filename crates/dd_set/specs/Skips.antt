@@ -1,6 +1,6 @@
 -- What a function that reads from a feed returned, against reading in memory. The feed holds no place to stand at: what
 -- the nearest enclosing length leaves is returned, and `rest` is still to come.
-use Rattle.std.specs.Prelude.{◌≡◌, ℕ, List, Option, Result, Ok, Err}
+use Rattle.std.specs.Prelude.{◌≡◌, ℕ, List, Option, Some, None, Bool, true, false, Result, Ok, Err}
 use Rattle.dd_set.specs.declared.fault.SetFault.{SetFault}
 use Rattle.dd_set.specs.declared.fault.SetFault.TheVariants.{Memory}
 use Rattle.dd_set.specs.Gives.{Fails}
@@ -20,6 +20,12 @@ Takes y (Err e) read rest = Fails e read
 abbrev pub Skips : {Y : Type 0} → Result (Option ℕ) SetFault → Reads Y → List ℕ → Type 0
 Skips {Y} (Ok left) read rest = (y : Y) × (read ≡ Ok (y, record { left = left; bytes = rest }))
 Skips (Err e) read rest = Fails e read
+
+-- reading gives one more, which is skipped, or the end
+abbrev pub SkipsSome : {Y : Type 0} → Result (Bool × Option ℕ) SetFault → Reads (Option Y) → List ℕ → Type 0
+SkipsSome {Y} (Ok (true, left)) read rest = (y : Y) × (read ≡ Ok (Some y, record { left = left; bytes = rest }))
+SkipsSome (Ok (false, left)) read rest = read ≡ Ok (None, record { left = left; bytes = rest })
+SkipsSome (Err e) read rest = Fails e read
 
 -- reading gives some value
 abbrev pub IsThere : {Y : Type 0} → Reads Y → List ℕ → Type 0

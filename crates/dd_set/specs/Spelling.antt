@@ -1,17 +1,18 @@
 -- The bytes of a data set, and which data sets have bytes (PS3.5 sections 6.2, 7.1 and 7.5).
 use Rattle.std.specs.Prelude.{◌≡◌, ◌≢◌, ℕ, zero, suc, ◌+◌, ◌^◌, ◌<◌, ◌≤◌, ◌%◌, List, [], ◌∷◌, ◌++◌, length, Option}
-use Rattle.std.specs.Prelude.{Some, None, IsSomeAnd, Bool, true, false, if◌then◌else◌}
+use Rattle.std.specs.Prelude.{Some, None, IsSomeAnd, Bool, true, false, ◌&&◌, ◌==◌, if◌then◌else◌}
 use Rattle.byteorder.specs.Endian.{little_bytes}
 use Rattle.dd_elem.specs.declared.tag.Tag.{Tag}
 use Rattle.dd_elem.specs.declared.vr.Vr.{Vr}
-use Rattle.dd_elem.specs.declared.vr.Vr.TheVariants.{SQ, UN}
+use Rattle.dd_elem.specs.declared.vr.Vr.TheVariants.{OB, SQ, UN}
 use Rattle.dd_elem.specs.Tag.{number_of}
 use Rattle.dd_elem.specs.Vr.{letters_of, is_long_of}
 use Rattle.dd_set.specs.declared.syntax.Length.{Length}
 use Rattle.dd_set.specs.declared.syntax.Length.TheVariants.{Defined, Undefined}
 use Rattle.dd_set.specs.declared.syntax.Syntax.{Syntax}
-use Rattle.dd_set.specs.declared.syntax.Syntax.TheVariants.{Explicit, Implicit}
-use Rattle.dd_set.specs.Elements.{Elements, no_elements, element, Content, bytes, items, Items, no_items, item}
+use Rattle.dd_set.specs.declared.syntax.Syntax.TheVariants.{Explicit, Implicit, Encapsulated}
+use Rattle.dd_set.specs.Elements.{Elements, no_elements, element, Content, bytes, items, fragments, Items, no_items}
+use Rattle.dd_set.specs.Elements.{item}
 
 -- ---- the bytes
 
@@ -47,6 +48,13 @@ item_end_tag = record { group = delimiter_group; element = 0xe00d }
 abbrev pub sequence_end_tag : Tag
 sequence_end_tag = record { group = delimiter_group; element = 0xe0dd }
 
+-- the tag of pixel data, whose value may be fragments
+abbrev pub pixel_data_tag : Tag
+pixel_data_tag = record { group = 0x7fe0; element = 0x0010 }
+
+abbrev pub is_pixel_data : Tag → Bool
+is_pixel_data tag = (tag.group == pixel_data_tag.group) && (tag.element == pixel_data_tag.element)
+
 -- what an item begins with, and both ends, whose length is 0
 abbrev pub item_tag_text : List ℕ
 item_tag_text = tag_text item_tag
@@ -66,6 +74,15 @@ abbrev pub closed : Length → List ℕ → List ℕ → List ℕ
 closed Defined mark text = text
 closed Undefined mark text = text ++ mark
 
+-- a fragment: the tag of an item, its length and its bytes
+abbrev pub fragment_text : List ℕ → List ℕ
+fragment_text f = item_tag_text ++ (little_bytes 4 (length f) ++ f)
+
+-- fragments, one after the other
+abbrev pub fragments_text : List (List ℕ) → List ℕ
+fragments_text [] = []
+fragments_text (f ∷ fs) = fragment_text f ++ fragments_text fs
+
 abbrev mutual
   -- the elements of a set, one after the other: tag, then the rest of the header and the value
   pub elements_text : Elements → List ℕ
@@ -77,6 +94,7 @@ abbrev mutual
   content_text vr (bytes v) = shape_text vr (length v) ++ v
   content_text vr (items form parts) = shape_text vr (length_of form (items_text parts))
       ++ closed form sequence_end_text (items_text parts)
+  content_text vr (fragments fs) = shape_text vr undefined_length ++ (fragments_text fs ++ sequence_end_text)
 
   -- the items of a sequence, one after the other
   pub items_text : Items → List ℕ
@@ -100,6 +118,7 @@ length_limit (Some vr) = if is_long_of vr then undefined_length else 2 ^ 16
 abbrev pub names_vr : Syntax → Bool
 names_vr Explicit = true
 names_vr Implicit = false
+names_vr Encapsulated = true
 
 -- The syntax in which the items of a sequence are spelled, where an element of this value representation may hold a
 -- sequence of this form. Where headers name it: SQ, of either form, whose items are in the same syntax, and UN of
@@ -131,6 +150,28 @@ HoldsBytesWhere false (Some vr) = ⊥
 abbrev pub HoldsBytes : Syntax → Option Vr → Type 0
 HoldsBytes syntax vr = HoldsBytesWhere (names_vr syntax) vr
 
+-- pixel data of this value representation may be fragments: OB, in an encapsulated syntax
+abbrev pub is_of_bytes : Vr → Bool
+is_of_bytes OB = true
+is_of_bytes _ = false
+
+abbrev pub encapsulates : Syntax → Option Vr → Bool
+encapsulates Explicit vr = false
+encapsulates Implicit vr = false
+encapsulates Encapsulated None = false
+encapsulates Encapsulated (Some vr) = is_of_bytes vr
+
+-- fragments have even lengths of 32 bits
+abbrev pub AreFragments : List (List ℕ) → Type 0
+AreFragments [] = Unit {0}
+AreFragments (f ∷ fs) = (length f % 2 ≡ 0) × (length f < undefined_length) × AreFragments fs
+
+-- only pixel data has fragments
+abbrev pub MayHave : Tag → Content → Type 0
+MayHave tag (bytes v) = Unit {0}
+MayHave tag (items form parts) = Unit {0}
+MayHave tag (fragments fs) = is_pixel_data tag ≡ true
+
 -- how deep items may nest: 32 levels
 abbrev pub max_levels : ℕ
 max_levels = 32
@@ -142,13 +183,15 @@ abbrev mutual
   AreElements syntax levels low no_elements = Unit {0}
   AreElements syntax levels low (element tag vr content rest) =
       (low ≤ number_of tag) × (tag.group < 2 ^ 16) × (tag.element < 2 ^ 16) × (tag.group ≢ delimiter_group)
-      × IsContent syntax levels vr content × AreElements syntax levels (number_of tag + 1) rest
+      × IsContent syntax levels vr content × MayHave tag content
+      × AreElements syntax levels (number_of tag + 1) rest
 
-  -- a value: bytes of even length, or items, with a length that fits
+  -- a value: bytes of even length, or items, with a length that fits, or fragments
   pub IsContent : Syntax → ℕ → Option Vr → Content → Type 0
   IsContent syntax levels vr (bytes v) = HoldsBytes syntax vr × (length v % 2 ≡ 0) × (length v < length_limit vr)
   IsContent syntax levels vr (items form parts) = IsSomeAnd (item_syntax syntax vr form)
       (λ inner. AreItems inner levels parts) × FitsLong form (items_text parts)
+  IsContent syntax levels vr (fragments fs) = (encapsulates syntax vr ≡ true) × AreFragments fs
 
   -- items, each one level further in
   pub AreItems : Syntax → ℕ → Items → Type 0

@@ -2,7 +2,8 @@
 use Rattle.std.specs.Prelude.{ℕ, List, [], ◌∷◌, ◌++◌, length, Option, Some, None, if◌then◌else◌}
 use Rattle.dd_elem.specs.declared.tag.Tag.{Tag}
 use Rattle.dd_elem.specs.declared.vr.Vr.{Vr}
-use Rattle.dd_set.specs.Elements.{Elements, no_elements, element, Content, bytes, items, Items, no_items, item}
+use Rattle.dd_set.specs.Elements.{Elements, no_elements, element, Content, bytes, items, fragments, Items, no_items}
+use Rattle.dd_set.specs.Elements.{item}
 use Rattle.dd_set.specs.Find.{same_tag}
 use Rattle.dd_set.specs.Single.{entry_text, part_text}
 use Rattle.dd_set.specs.Spelling.{items_text, header_text, length_of}
@@ -16,6 +17,7 @@ item_places front (item form set rest) = length front
 -- of the items of an element that stands behind the bytes `front`, where it is a sequence
 abbrev pub content_places : List ℕ → Tag → Option Vr → Content → Option (List ℕ)
 content_places front tag vr (bytes v) = None
+content_places front tag vr (fragments fs) = None
 content_places front tag vr (items form parts) =
     Some (item_places (front ++ header_text tag vr (length_of form (items_text parts))) parts)
 

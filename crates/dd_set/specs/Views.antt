@@ -1,16 +1,23 @@
 -- The elements that a `DataSet` stands for, and the same of its parts.
-use Rattle.std.specs.Prelude.{List, map}
+use Rattle.std.specs.Prelude.{ℕ, List, map}
+use Rattle.std.specs.Borrow.{Bor}
 use Rattle.dd_set.specs.declared.set.DataSet.{DataSet, fold-DataSet}
 use Rattle.dd_set.specs.declared.set.Element.{Element, fold-Element}
 use Rattle.dd_set.specs.declared.set.Item.{Item, fold-Item}
 use Rattle.dd_set.specs.declared.set.Value.{Value, fold-Value}
 use Rattle.dd_set.specs.declared.set.Value.TheOpen.{Value-F, DataSet-F, Element-F, Item-F}
-use Rattle.dd_set.specs.Elements.{Elements, Content, Items, bytes, items, Entry, Part, elements_of, items_of}
+use Rattle.dd_set.specs.Elements.{Elements, Content, Items, bytes, items, fragments, Entry, Part, elements_of}
+use Rattle.dd_set.specs.Elements.{items_of}
+
+-- the bytes of slices
+abbrev pub pieces : List (Bor (List ℕ)) → List (List ℕ)
+pieces fs = map (λ f. f.now) fs
 
 -- one level of each type, with what is inside already seen
 abbrev pub value_step : Value-F Content Elements Entry Part → Content
 value_step (Value-F.Bytes v) = bytes v.now
 value_step (Value-F.Items form parts) = items form (items_of parts.items)
+value_step (Value-F.Fragments fs) = fragments (pieces fs.items)
 
 abbrev pub set_step : DataSet-F Content Elements Entry Part → Elements
 set_step s = elements_of s.elements.items

@@ -2,15 +2,14 @@
 
 ghost use Rattle.std.specs.Prelude.{◌≡◌, ◌≢◌, ◌==◌, ℕ, List, length, unwrap_or, None, Err};
 ghost use Rattle.dd_set.specs.declared.fault.SetFault.TheVariants.{Memory};
-ghost use Rattle.dd_set.specs.Checks.{opened, sorted, reached};
+ghost use Rattle.dd_set.specs.Checks.{header_view, opened, sorted, reached};
 ghost use Rattle.dd_set.specs.Reading.{opening_at, tagged_at, item_opening, At, SequenceReader, SetReader};
-ghost use Rattle.dd_set.specs.Reading.{leaves_fewer, less, is_over, content_at, part_at};
-ghost use Rattle.dd_set.specs.Places.{shape_view};
+ghost use Rattle.dd_set.specs.Reading.{leaves_fewer, less, is_over, content_at, part_at, fragment_length};
 
 use crate::fault::SetFault;
 use crate::headers::{
-    DELIMITER_GROUP, UNDEFINED_LENGTH, ends_sequence, ends_set, is_item, item_syntax, letters_in,
-    long_in, names_vr, short_in, tag_in,
+    DELIMITER_GROUP, UNDEFINED_LENGTH, encapsulates, ends_sequence, ends_set, is_item,
+    is_pixel_data, item_syntax, letters_in, long_in, names_vr, short_in, tag_in,
 };
 use crate::syntax::{Length, Syntax};
 use dd_elem::{Tag, Vr};
@@ -49,6 +48,8 @@ pub enum Sort {
     Open(Syntax),
     /// Items in this syntax, in so many bytes.
     Closed(Syntax, u32),
+    /// Fragments, up to a delimiter.
+    Fragments,
 }
 
 /// How far the set of an item reaches.
@@ -170,12 +171,16 @@ pub fn item_opening(form: Length, head: &[u8]) -> Result<Option<u32>, SetFault>
 
 /// What stands behind a header, where the enclosing length leaves so much.
 #[tactic(auto, unfolding(crate::specs::Reading::content_at))]
-pub fn sort_of(syntax: Syntax, shape: Shape, left: Option<u64>) -> Result<Sort, SetFault>
+pub fn sort_of(syntax: Syntax, header: Header, left: Option<u64>) -> Result<Sort, SetFault>
     ensures exact { (sequence : SequenceReader) (bytes : List ℕ) → let at : At = record { left = left; bytes = bytes }
-        in content_at sequence syntax (shape_view shape) at ≡ sorted sequence result at }
+        in content_at sequence syntax (header_view header) at ≡ sorted sequence result at }
     ensures memory { result ≢ Err Memory }
 {
+    let shape = header.shape;
     if shape.length == UNDEFINED_LENGTH {
+        if encapsulates(syntax, shape.vr) && is_pixel_data(header.tag) {
+            return Ok(Sort::Fragments);
+        }
         return match item_syntax(syntax, shape.vr, Length::Undefined) {
             Some(inner) => Ok(Sort::Open(inner)),
             None => Err(SetFault::UndefinedLength),
@@ -191,6 +196,21 @@ pub fn sort_of(syntax: Syntax, shape: Shape, left: Option<u64>) -> Result<Sort, 
         Some(inner) => Ok(Sort::Closed(inner, shape.length)),
         None => Ok(Sort::Bytes(shape.length)),
     }
+}
+
+/// The length of a fragment, where it may have this one.
+#[tactic(auto, unfolding(crate::specs::Reading::fragment_length))]
+pub fn fragment_length(n: u32) -> Result<u32, SetFault>
+    ensures exact { result ≡ fragment_length n }
+    ensures memory { result ≢ Err Memory }
+{
+    if n == UNDEFINED_LENGTH {
+        return Err(SetFault::UndefinedLength);
+    }
+    if n % 2 == 1 {
+        return Err(SetFault::OddLength);
+    }
+    Ok(n)
 }
 
 /// How far the set of an item of this length reaches, where the enclosing length leaves so much.

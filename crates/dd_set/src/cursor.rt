@@ -1,6 +1,7 @@
 //! Headers and bytes taken from where reading stands.
 
-ghost use Rattle.std.specs.Prelude.{◌≡◌, ◌+◌, ◌≤◌, ◌<◌, length, IfOk, OnSome, option_map};
+ghost use Rattle.std.specs.Prelude.{◌≡◌, ◌≢◌, ◌+◌, ◌≤◌, ◌<◌, length, IfOk, OnSome, Err, option_map};
+ghost use Rattle.dd_set.specs.declared.fault.SetFault.TheVariants.{Memory};
 ghost use Rattle.dd_set.specs.Checks.{header_view};
 ghost use Rattle.dd_set.specs.Reading.{long_length_at, front_at, item_front_at, take_at, is_over, less};
 ghost use Rattle.dd_set.specs.Places.{at_view, stepped};
@@ -56,6 +57,7 @@ impl<'a> Cursor<'a> {
         ensures exact { take_at n (at_view self.entry) ≡ stepped (λ bytes. bytes.now) result }
         ensures whole { IfOk result (λ x. length x.0.now ≡ n) }
         ensures shorter { IfOk result (λ x. length x.1.rest.now + n ≡ length self.entry.rest.now) }
+        ensures memory { result ≢ Err Memory }
     {
         if leaves_fewer(self.left, n) {
             return Err(SetFault::Overrun);
@@ -115,6 +117,7 @@ impl<'a> Cursor<'a> {
         ensures exact { item_front_at form (at_view self.entry) ≡ stepped (λ n. n) result }
         ensures shorter { IfOk result (λ x. OnSome x.0 (length x.1.rest.now < length self.entry.rest.now)) }
         ensures not_longer { IfOk result (λ x. length x.1.rest.now ≤ length self.entry.rest.now) }
+        ensures memory { result ≢ Err Memory }
     {
         if self.is_over(form) {
             return Ok((None, self));

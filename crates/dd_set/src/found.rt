@@ -35,6 +35,8 @@ impl Drop for Found {
 pub enum FoundValue {
     /// The element is a sequence.
     Items,
+    /// The element is pixel data in fragments.
+    Fragments,
     /// Of bytes without their padding (PS3.5 section 6.2) the front, and how many they are.
     Bytes {
         /// The first 1,024 of them.

@@ -6,7 +6,7 @@ ghost use Rattle.dd_elem.specs.Tag.{number_of};
 ghost use Rattle.dd_elem.specs.Vr.{is_long_of};
 ghost use Rattle.dd_set.specs.Reading.{tag_of, long_of, short_of, ends_set, ends_sequence, is_item};
 ghost use Rattle.dd_set.specs.Spelling.{names_vr, item_syntax, length_limit, HoldsBytes, tag_text, shape_text};
-ghost use Rattle.dd_set.specs.Spelling.{header_text, item_tag_text};
+ghost use Rattle.dd_set.specs.Spelling.{header_text, item_tag_text, encapsulates, is_pixel_data};
 
 use crate::syntax::{Length, Syntax};
 use byteorder::{ByteOrder, LittleEndian};
@@ -54,6 +54,12 @@ pub const SEQUENCE_END: Tag = Tag {
     element: 0xe0dd,
 };
 
+/// The tag of pixel data, whose value may be fragments (PS3.5 annex A.4).
+pub const PIXEL_DATA: Tag = Tag {
+    group: 0x7fe0,
+    element: 0x0010,
+};
+
 /// The least number of a tag that may follow this one.
 pub fn low_behind(tag: Tag) -> u64
     ensures { result ≡ number_of tag + 1 }
@@ -68,6 +74,7 @@ pub fn names_vr(syntax: Syntax) -> bool
     match syntax {
         Syntax::Explicit => true,
         Syntax::Implicit => false,
+        Syntax::Encapsulated => true,
     }
 }
 
@@ -94,6 +101,25 @@ pub fn holds_bytes(syntax: Syntax, vr: Option<Vr>) -> bool
         (true, None) => false,
         (false, vr) => vr.is_none(),
     }
+}
+
+/// Whether pixel data of this value representation may be fragments.
+pub fn encapsulates(syntax: Syntax, vr: Option<Vr>) -> bool
+    ensures { result ≡ encapsulates syntax vr }
+{
+    match (syntax, vr) {
+        (Syntax::Explicit, _) => false,
+        (Syntax::Implicit, _) => false,
+        (Syntax::Encapsulated, Some(Vr::OB)) => true,
+        (Syntax::Encapsulated, _) => false,
+    }
+}
+
+/// Whether the tag is that of pixel data.
+pub fn is_pixel_data(tag: Tag) -> bool
+    ensures { result ≡ is_pixel_data tag }
+{
+    tag == PIXEL_DATA
 }
 
 /// The defined lengths that a header of this value representation has room for are below this.

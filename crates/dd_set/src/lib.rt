@@ -17,9 +17,11 @@ mod feed;
 mod filling;
 mod finding;
 mod found;
+mod fragments;
 mod headers;
 mod kept;
 mod reading;
+#[cfg(test)]
 mod scan_fault;
 mod scanning;
 mod sending;

@@ -4,15 +4,17 @@ ghost use Rattle.std.specs.Prelude.{◌≡◌, ◌<◌, ◌≤◌, length, IfOk,
 ghost use Rattle.dd_set.specs.declared.fault.SetFault.TheVariants.{Memory};
 ghost use Rattle.dd_set.specs.Elements.{Elements};
 ghost use Rattle.dd_set.specs.Gives.{Gives};
-ghost use Rattle.dd_set.specs.Memory.{unkept_sequence, unkept_set, unkept_item, WantsMemory};
-ghost use Rattle.dd_set.specs.Places.{at_view, shape_view};
+ghost use Rattle.dd_set.specs.Memory.{unkept_sequence, unkept_set, unkept_item, WantsMemory, WantsContent, WantsEntry};
+ghost use Rattle.dd_set.specs.Checks.{header_view};
+ghost use Rattle.dd_set.specs.Places.{at_view};
 ghost use Rattle.dd_set.specs.Reading.{item_reader, sequence_with, set_with, content_at, element_at, item_at, read_all};
 ghost use Rattle.dd_set.specs.Spelling.{Spells};
 ghost use Rattle.dd_set.specs.Views.{set_view, element_view, value_view, item_view, items_view};
 
-use crate::checks::{Header, Reach, Shape, Sort, reach_of, sort_of};
+use crate::checks::{Header, Reach, Sort, reach_of, sort_of};
 use crate::cursor::Cursor;
 use crate::fault::SetFault;
+use crate::fragments::fragments;
 use crate::headers::{MAX_LEVELS, low_behind};
 use crate::set::{DataSet, Element, Item, Value};
 use crate::syntax::{Length, Syntax};
@@ -24,16 +26,17 @@ fn content<'a>(
     alloc: Global,
     levels: u32,
     syntax: Syntax,
-    shape: Shape,
+    header: Header,
     at: Cursor<'a>,
 ) -> Result<(Value<'a>, Cursor<'a>), SetFault>
     ensures exact { Gives (λ x. (value_view x.0, at_view x.1)) result
-        (content_at (sequence_with (item_reader levels)) syntax (shape_view shape) (at_view at.entry)) }
+        (content_at (sequence_with (item_reader levels)) syntax (header_view header) (at_view at.entry)) }
     ensures shorter { IfOk result (λ x. length x.1.rest.now ≤ length at.entry.rest.now) }
     ensures memory { result ≡ Err Memory
-        → content_at (unkept_sequence (unkept_item levels)) syntax (shape_view shape) (at_view at.entry) ≡ Err Memory }
+        → WantsContent (content_at (sequence_with (item_reader levels)) syntax (header_view header) (at_view at.entry))
+        (content_at (unkept_sequence (unkept_item levels)) syntax (header_view header) (at_view at.entry)) }
 {
-    match sort_of(syntax, shape, at.left)? {
+    match sort_of(syntax, header, at.left)? {
         Sort::Bytes(n) => {
             let (bytes, end) = at.take(u64::from(n))?;
             Ok((Value::Bytes(bytes), end))
@@ -47,6 +50,10 @@ fn content<'a>(
             let (length, n) = (Length::Defined, u64::from(n));
             let (items, end) = sequence(alloc, levels, inner, length, at.within(n))?;
             Ok((Value::Items { length, items }, at.behind(n, end)))
+        }
+        Sort::Fragments => {
+            let (fragments, end) = fragments(alloc, at)?;
+            Ok((Value::Fragments(fragments), end))
         }
     }
 }
@@ -66,14 +73,15 @@ fn element<'a>(
     ensures shorter { IfOk result (λ x. OnSome x.0 (length x.1.rest.now < length at.entry.rest.now)) }
     ensures not_longer { IfOk result (λ x. length x.1.rest.now ≤ length at.entry.rest.now) }
     ensures memory { result ≡ Err Memory
-        → element_at (unkept_sequence (unkept_item levels)) syntax form low (at_view at.entry) ≡ Err Memory }
+        → WantsEntry (element_at (sequence_with (item_reader levels)) syntax form low (at_view at.entry))
+        (element_at (unkept_sequence (unkept_item levels)) syntax form low (at_view at.entry)) }
 {
     let (header, at) = at.front(syntax, form, low)?;
-    let Some(Header { tag, shape }) = header else {
+    let Some(header) = header else {
         return Ok((None, at));
     };
-    let vr = shape.vr;
-    let (value, at) = content(alloc, levels, syntax, shape, at)?;
+    let (tag, vr) = (header.tag, header.shape.vr);
+    let (value, at) = content(alloc, levels, syntax, header, at)?;
     Ok((Some(Element { tag, vr, value }), at))
 }
 

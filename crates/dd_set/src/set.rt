@@ -28,7 +28,7 @@ pub struct Element<'a> {
 #[cycle(data_set)]
 #[derive(Debug, Drop, PartialEq)]
 pub enum Value<'a> {
-    /// The bytes of a value that is no sequence, padding included.
+    /// The bytes of a value that is no sequence and has no fragments, padding included.
     Bytes(&'a [u8]),
     /// A sequence of items (PS3.5 section 7.5).
     Items {
@@ -37,6 +37,8 @@ pub enum Value<'a> {
         /// Its items.
         items: Vec<Item<'a>>,
     },
+    /// The fragments of encapsulated pixel data, the offset table first (PS3.5 annex A.4).
+    Fragments(Vec<&'a [u8]>),
 }
 
 /// An item of a sequence, which holds a data set.

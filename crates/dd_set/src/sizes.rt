@@ -1,20 +1,21 @@
 //! How long the bytes of a data set are.
 
-ghost use Rattle.std.specs.Prelude.{◌≡◌, ℕ, List, ◌+◌, ◌≤◌, ◌<◌, ◌^◌, length};
+ghost use Rattle.std.specs.Prelude.{◌≡◌, ℕ, List, ◌+◌, ◌≤◌, ◌<◌, ◌^◌, ◌%◌, ◌↔◌, length, IsTrue};
 ghost use Rattle.std.specs.Option.{SomeIff};
 ghost use Rattle.dd_set.specs.Elements.{bytes};
 ghost use Rattle.dd_set.specs.Single.{entry_text, part_text, IsEntry, IsPart};
 ghost use Rattle.dd_set.specs.Spelling.{elements_text, content_text, items_text, AreElements, IsContent, AreItems};
-ghost use Rattle.dd_set.specs.Spelling.{FitsLong, closed};
-ghost use Rattle.dd_set.specs.Views.{set_view, element_view, value_view, items_view, item_view};
+ghost use Rattle.dd_set.specs.Spelling.{FitsLong, closed, MayHave, AreFragments, fragment_text, fragments_text};
+ghost use Rattle.dd_set.specs.Spelling.{undefined_length};
+ghost use Rattle.dd_set.specs.Views.{set_view, element_view, value_view, items_view, item_view, pieces};
 
 use crate::headers::{
-    DELIMITER_GROUP, MAX_LEVELS, PLAIN_SIZE, TAG_SIZE, UNDEFINED_LENGTH, holds_bytes, item_syntax,
-    length_limit, low_behind, shape_size,
+    DELIMITER_GROUP, MAX_LEVELS, PLAIN_SIZE, TAG_SIZE, UNDEFINED_LENGTH, encapsulates, holds_bytes,
+    is_pixel_data, item_syntax, length_limit, low_behind, shape_size,
 };
 use crate::set::{DataSet, Element, Item, Value};
 use crate::syntax::{Length, Syntax};
-use dd_elem::Vr;
+use dd_elem::{Tag, Vr};
 
 impl DataSet<'_> {
     ghost use Rattle.dd_set.specs.Spelling.{Spells};
@@ -61,6 +62,9 @@ pub fn element_size(element: &Element<'_>, syntax: Syntax, levels: u32, low: u64
     if number < low || element.tag.group == DELIMITER_GROUP {
         return None;
     }
+    if !may_have(element.tag, &element.value) {
+        return None;
+    }
     let size = value_size(&element.value, element.vr, syntax, levels)?;
     size.checked_add(TAG_SIZE as u64)
 }
@@ -80,7 +84,52 @@ fn value_size(value: &Value<'_>, vr: Option<Vr>, syntax: Syntax, levels: u32) ->
             let size = items_size(items, inner, levels)?;
             closed_size(shape_size(vr), *length, size)
         }
+        Value::Fragments(fragments) => {
+            if !encapsulates(syntax, vr) {
+                return None;
+            }
+            let size = fragments_size(fragments)?;
+            closed_size(shape_size(vr), Length::Undefined, size)
+        }
     }
+}
+
+/// Whether an element with this tag may have this value: fragments only where it is pixel data.
+fn may_have(tag: Tag, value: &Value<'_>) -> bool
+    ensures { IsTrue result ↔ MayHave tag (value_view value.now) }
+{
+    match value {
+        Value::Bytes(_) => true,
+        Value::Items { .. } => true,
+        Value::Fragments(_) => is_pixel_data(tag),
+    }
+}
+
+/// The size of fragments.
+fn fragments_size(fragments: &[&[u8]]) -> Option<u64>
+    ensures { let text = fragments_text (pieces fragments.now)
+        in SomeIff result
+        (AreFragments (pieces fragments.now) × (length text < 2 ^ 64))
+        (length text) }
+{
+    let mut total: u64 = 0;
+    for fragment in fragments {
+        let size = fragment_size(fragment)?;
+        total = total.checked_add(size)?;
+    }
+    Some(total)
+}
+
+/// The size of a fragment.
+fn fragment_size(fragment: &[u8]) -> Option<u64>
+    ensures { SomeIff result ((length fragment.now % 2 ≡ 0) × (length fragment.now < undefined_length))
+        (length (fragment_text fragment.now)) }
+{
+    let size = fragment.len() as u64;
+    if size % 2 == 1 || size >= u64::from(UNDEFINED_LENGTH) {
+        return None;
+    }
+    Some(PLAIN_SIZE + size)
 }
 
 /// The size of a value that is bytes with what its header has behind the tag.

@@ -1,14 +1,14 @@
 //! Values, items and sets of a feed let go, with all checks of the grammar. `left` is what the nearest
 //! enclosing length leaves.
 
-ghost use Rattle.std.specs.Prelude.{◌≢◌, ◌≤◌, Err};
+ghost use Rattle.std.specs.Prelude.{◌≢◌, ◌≤◌, ◌<◌, Err, IfOk, IsTrue};
 ghost use Rattle.dd_set.specs.declared.fault.SetFault.TheVariants.{Memory};
 ghost use Rattle.dd_set.specs.Feeds.{Scans};
-ghost use Rattle.dd_set.specs.Places.{shape_view};
-ghost use Rattle.dd_set.specs.Reading.{item_reader, sequence_with, set_with, content_at};
-ghost use Rattle.dd_set.specs.Skips.{Skips};
+ghost use Rattle.dd_set.specs.Checks.{header_view};
+ghost use Rattle.dd_set.specs.Reading.{item_reader, sequence_with, set_with, content_at, fragment_at, fragments_here};
+ghost use Rattle.dd_set.specs.Skips.{Skips, SkipsSome};
 
-use crate::checks::{Reach, Shape, Sort, less, reach_of, sort_of};
+use crate::checks::{Header, Reach, Sort, fragment_length, less, reach_of, sort_of};
 use crate::fault::SetFault;
 use crate::feed::Feed;
 use crate::headers::low_behind;
@@ -21,16 +21,16 @@ pub fn skip_content<F: Feed>(
     feed: &mut F,
     levels: u32,
     syntax: Syntax,
-    shape: Shape,
+    header: Header,
     left: Option<u64>,
 ) -> Result<Option<u64>, SetFault>
     ensures found { Scans F.moves F.tells feed.old feed.new (λ bytes rest. Skips result
-        (content_at (sequence_with (item_reader levels)) syntax (shape_view shape)
+        (content_at (sequence_with (item_reader levels)) syntax (header_view header)
         (record { left = left; bytes = bytes })) rest) }
     ensures fewer { F.most feed.new ≤ F.most feed.old }
     ensures memory { result ≢ Err Memory }
 {
-    match sort_of(syntax, shape, left)? {
+    match sort_of(syntax, header, left)? {
         Sort::Bytes(n) => pass(feed, n, left),
         Sort::Open(inner) => skip_items(feed, levels, inner, Length::Undefined, left),
         Sort::Closed(inner, n) => {
@@ -38,7 +38,40 @@ pub fn skip_content<F: Feed>(
             skip_items(feed, levels, inner, Length::Defined, Some(n))?;
             Ok(less(left, n))
         }
+        Sort::Fragments => skip_fragments(feed, left),
     }
+}
+
+/// Lets the fragments of a list go, to its end.
+fn skip_fragments<F: Feed>(feed: &mut F, mut left: Option<u64>) -> Result<Option<u64>, SetFault>
+    ensures found { Scans F.moves F.tells feed.old feed.new (λ bytes rest. Skips result
+        (fragments_here (record { left = left; bytes = bytes })) rest) }
+    ensures fewer { F.most feed.new ≤ F.most feed.old }
+    ensures memory { result ≢ Err Memory }
+{
+    'fragments: loop {
+        let (more, behind) = skip_fragment(feed, left)?;
+        left = behind;
+        if !more {
+            return Ok(left);
+        }
+    }
+}
+
+/// Lets the next fragment of a list go, and answers whether there was one.
+fn skip_fragment<F: Feed>(feed: &mut F, left: Option<u64>) -> Result<(bool, Option<u64>), SetFault>
+    ensures found { Scans F.moves F.tells feed.old feed.new (λ bytes rest. SkipsSome result
+        (fragment_at (record { left = left; bytes = bytes })) rest) }
+    ensures fewer { F.most feed.new ≤ F.most feed.old }
+    ensures some { IfOk result (λ x. IsTrue x.0 → F.most feed.new < F.most feed.old) }
+    ensures memory { result ≢ Err Memory }
+{
+    let (length, behind) = item_front(feed, Length::Undefined, left)?;
+    let Some(n) = length else {
+        return Ok((false, behind));
+    };
+    let n = fragment_length(n)?;
+    Ok((true, pass(feed, n, behind)?))
 }
 
 /// Lets the elements of a set go, to its end.
@@ -62,7 +95,7 @@ fn skip_set<F: Feed>(
             return Ok(behind);
         };
         low = low_behind(header.tag);
-        left = skip_content(feed, levels, syntax, header.shape, behind)?;
+        left = skip_content(feed, levels, syntax, header, behind)?;
     }
 }
 

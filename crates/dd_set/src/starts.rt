@@ -70,6 +70,7 @@ fn starts_of(
 {
     match &element.value {
         Value::Bytes(_) => Ok(None),
+        Value::Fragments(_) => Ok(None),
         Value::Items { length, items } => match item_syntax(syntax, element.vr, *length) {
             Some(inner) => {
                 let first = at + TAG_SIZE as u64 + shape_size(element.vr);

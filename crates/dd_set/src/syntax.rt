@@ -1,12 +1,14 @@
 //! How a data set is encoded.
 
-/// An uncompressed little endian transfer syntax (PS3.5 section 10.1 and annex A).
+/// A little endian transfer syntax (PS3.5 section 10.1 and annex A).
 #[derive(Clone, Copy, Debug, PartialEq, Eq, Hash)]
 pub enum Syntax {
     /// Each header names the value representation of its value.
     Explicit,
     /// A header is a tag and a length.
     Implicit,
+    /// As Explicit, where pixel data may be fragments (PS3.5 annex A.4).
+    Encapsulated,
 }
 
 /// How the end of a sequence or of an item is told (PS3.5 section 7.5).

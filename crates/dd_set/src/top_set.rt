@@ -4,12 +4,13 @@ ghost use Rattle.std.specs.Prelude.{◌≡◌, ◌≤◌, ◌++◌, [], Some, No
 ghost use Rattle.std.specs.Prelude.{map, option_map, unwrap_or};
 ghost use Rattle.dd_set.specs.declared.fault.SetFault.TheVariants.{Memory};
 ghost use Rattle.dd_set.specs.Feeds.{Scans};
-ghost use Rattle.dd_set.specs.Places.{shape_view};
+ghost use Rattle.dd_set.specs.Checks.{header_view};
 ghost use Rattle.dd_set.specs.Reading.{item_reader, sequence_with, content_at};
 ghost use Rattle.dd_set.specs.Scan.{ScanGives, is_wanted, found_hit, value_told, told_of, told_where, noted};
+ghost use Rattle.dd_set.specs.Scan.{sort_told};
 ghost use Rattle.dd_set.specs.Skips.{TellsValue};
 
-use crate::checks::{Shape, Sort, sort_of};
+use crate::checks::{Header, Sort, sort_of};
 use crate::cleaning::take_cleaned;
 use crate::fault::SetFault;
 use crate::feed::Feed;
@@ -51,15 +52,8 @@ pub fn take_set<F: Feed>(
         let tag = header.tag;
         low = low_behind(tag);
         let keeps = is_wanted(wanted, tag);
-        let (value, behind) = take_value(
-            alloc,
-            feed,
-            MAX_LEVELS,
-            syntax,
-            header.shape,
-            behind,
-            keeps,
-        )?;
+        let (value, behind) =
+            take_value(alloc, feed, MAX_LEVELS, syntax, header, behind, keeps)?;
         left = behind;
         note(&mut scan, tag, value)?;
     }
@@ -93,23 +87,23 @@ fn take_value<F: Feed>(
     feed: &mut F,
     levels: u32,
     syntax: Syntax,
-    shape: Shape,
+    header: Header,
     left: Option<u64>,
     keeps: bool,
 ) -> Result<(Option<FoundValue>, Option<u64>), SetFault>
     ensures found { Scans F.moves F.tells feed.old feed.new (λ bytes rest.
         TellsValue (option_map value_told) (told_where keeps) result
-        (content_at (sequence_with (item_reader levels)) syntax (shape_view shape)
+        (content_at (sequence_with (item_reader levels)) syntax (header_view header)
         (record { left = left; bytes = bytes })) rest) }
     ensures fewer { F.most feed.new ≤ F.most feed.old }
     ensures kept { IfOk result (λ x. IsSome x.0 → IsTrue keeps) }
     ensures memory { result ≡ Err Memory → IsTrue keeps }
 {
     if !keeps {
-        let left = skip_content(feed, levels, syntax, shape, left)?;
+        let left = skip_content(feed, levels, syntax, header, left)?;
         return Ok((None, left));
     }
-    let (value, left) = take_wanted(alloc, feed, levels, syntax, shape, left)?;
+    let (value, left) = take_wanted(alloc, feed, levels, syntax, header, left)?;
     Ok((Some(value), left))
 }
 
@@ -119,17 +113,29 @@ fn take_wanted<F: Feed>(
     feed: &mut F,
     levels: u32,
     syntax: Syntax,
-    shape: Shape,
+    header: Header,
     left: Option<u64>,
 ) -> Result<(FoundValue, Option<u64>), SetFault>
     ensures found { Scans F.moves F.tells feed.old feed.new (λ bytes rest. TellsValue value_told told_of result
-        (content_at (sequence_with (item_reader levels)) syntax (shape_view shape)
+        (content_at (sequence_with (item_reader levels)) syntax (header_view header)
         (record { left = left; bytes = bytes })) rest) }
     ensures fewer { F.most feed.new ≤ F.most feed.old }
 {
-    if let Sort::Bytes(n) = sort_of(syntax, shape, left)? {
+    let sort = sort_of(syntax, header, left)?;
+    if let Sort::Bytes(n) = sort {
         return take_cleaned(alloc, feed, n, left);
     }
-    let left = skip_content(feed, levels, syntax, shape, left)?;
-    Ok((FoundValue::Items, left))
+    let value = told_by(sort);
+    let left = skip_content(feed, levels, syntax, header, left)?;
+    Ok((value, left))
+}
+
+/// What is told of a value that is not bytes.
+fn told_by(sort: Sort) -> FoundValue
+    ensures { value_told result ≡ sort_told sort }
+{
+    match sort {
+        Sort::Bytes(_) | Sort::Open(_) | Sort::Closed(_, _) => FoundValue::Items,
+        Sort::Fragments => FoundValue::Fragments,
+    }
 }

@@ -1,14 +1,16 @@
 //! Data sets sent to a writer.
 
 ghost use Rattle.std.specs.Prelude.{◌≡◌, ◌+◌, ◌++◌, ◌<◌, ◌^◌, length, unwrap_or, Some, None, Err, IfSome};
-ghost use Rattle.dd_set.specs.Elements.{bytes, items};
+ghost use Rattle.std.specs.Prelude.{true};
+ghost use Rattle.dd_elem.specs.Vr.{is_long_of};
+ghost use Rattle.dd_set.specs.Elements.{bytes, items, fragments as fragment_list};
 ghost use Rattle.dd_set.specs.Sends.{SendsTo};
 ghost use Rattle.dd_set.specs.Single.{entry_text, part_text, mark_text, IsPart};
 ghost use Rattle.dd_set.specs.Spelling.{Spells, elements_text, items_text, header_text, tag_text, content_text};
 ghost use Rattle.dd_set.specs.Spelling.{length_of, length_limit, AreElements, IsContent};
-ghost use Rattle.dd_set.specs.Spelling.{AreItems, FitsLong};
+ghost use Rattle.dd_set.specs.Spelling.{AreItems, FitsLong, AreFragments, fragment_text, fragments_text};
 ghost use Rattle.dd_set.specs.Spelling.{undefined_length};
-ghost use Rattle.dd_set.specs.Views.{set_view, element_view, value_view, items_view, item_view};
+ghost use Rattle.dd_set.specs.Views.{set_view, element_view, value_view, items_view, item_view, pieces};
 
 use crate::headers::{
     ITEM_END, MAX_LEVELS, SEQUENCE_END, UNDEFINED_LENGTH, item_header, item_syntax, plain_header,
@@ -85,7 +87,57 @@ fn send_element<W: Write>(
             let sent = send_items(items, inner, levels, writer, sent)?;
             send_end(*length, SEQUENCE_END, writer, sent)
         }
+        Value::Fragments(fragments) => {
+            send_all_fragments(element.tag, element.vr, fragments, writer, sent)
+        }
     }
+}
+
+/// Sends an element whose value is fragments.
+fn send_all_fragments<W: Write>(
+    tag: Tag,
+    vr: Option<Vr>,
+    fragments: &[&[u8]],
+    writer: &mut W,
+    sent: u64,
+) -> Result<u64, WriteFault>
+    requires wide { (v : Vr) → vr ≡ Some v → is_long_of v ≡ true }
+    requires valid { AreFragments (pieces fragments.now) }
+    requires fits { sent + length (tag_text tag ++ content_text vr (fragment_list (pieces fragments.now)))
+        < 2 ^ 64 }
+    ensures { let text = tag_text tag ++ content_text vr (fragment_list (pieces fragments.now))
+        in SendsTo W.contents W.rest W.failures text sent result writer.old writer.new }
+{
+    let sent = send_front(tag, vr, UNDEFINED_LENGTH, writer, sent)?;
+    let sent = send_fragments(fragments, writer, sent)?;
+    send(&plain_header(SEQUENCE_END, 0), writer, sent)
+}
+
+/// Sends fragments.
+fn send_fragments<W: Write>(
+    fragments: &[&[u8]],
+    writer: &mut W,
+    mut sent: u64,
+) -> Result<u64, WriteFault>
+    requires valid { AreFragments (pieces fragments.now) }
+    requires fits { sent + length (fragments_text (pieces fragments.now)) < 2 ^ 64 }
+    ensures { let text = fragments_text (pieces fragments.now)
+        in SendsTo W.contents W.rest W.failures text sent result writer.old writer.new }
+{
+    for fragment in fragments {
+        sent = send_fragment(fragment, writer, sent)?;
+    }
+    Ok(sent)
+}
+
+/// Sends a fragment.
+fn send_fragment<W: Write>(fragment: &[u8], writer: &mut W, sent: u64) -> Result<u64, WriteFault>
+    requires room { length fragment.now < undefined_length }
+    requires fits { sent + length (fragment_text fragment.now) < 2 ^ 64 }
+    ensures { SendsTo W.contents W.rest W.failures (fragment_text fragment.now) sent result writer.old writer.new }
+{
+    let sent = send(&item_header(fragment.len() as u32), writer, sent)?;
+    send(fragment, writer, sent)
 }
 
 /// Sends an element whose value is bytes.

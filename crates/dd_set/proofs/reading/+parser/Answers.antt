@@ -1,13 +1,13 @@
 -- What the loops read, and the item of defined length; the search finds the rest.
 use Rattle.std.proofs.Common.{rules, ◌≡◌, ◌+◌, ◌-◌, ◌<◌, length, suc, [], ◌∷◌, ◌++◌, map, ap, sym}
-use Rattle.std.proofs.Common.{subst, ◌∙◌, arith, inr, Some, None, Ok, Err}
+use Rattle.std.proofs.Common.{subst, ◌∙◌, arith, inl, inr, Some, None, Ok, Err}
 use Rattle.std.proofs.lemmas.Result.{err_from_is_err_and}
 use Rattle.std.proofs.lemmas.List.{map_push}
 use Rattle.dd_elem.specs.Tag.{number_of}
 use Rattle.dd_set.specs.declared.set.DataSet.{the_lemmas}
 use Rattle.dd_set.specs.declared.set.Value.TheViews.{roll-Item, roll-Element, roll-DataSet}
 use Rattle.dd_set.specs.declared.syntax.Length.TheVariants.{Defined}
-use Rattle.dd_set.specs.Elements.{elements_of}
+use Rattle.dd_set.specs.Elements.{elements_of, fragments}
 use Rattle.dd_set.specs.Gives.{Fails}
 use Rattle.dd_set.specs.Checks.{header_view}
 use Rattle.dd_set.specs.Places.{at_view}
@@ -18,10 +18,12 @@ use Rattle.dd_set.specs.Views.{set_view, element_view, value_view, item_view}
 use Rattle.dd_set.proofs.Feeding.{fails_is}
 use Rattle.dd_set.proofs.Loops.{fails_along, items_more, items_done, items_fail, elements_more, elements_done}
 use Rattle.dd_set.proofs.Loops.{elements_fail}
-use Rattle.dd_set.proofs.ReadingOn.{element_none, element_found, front_refused, content_refused, content_stops}
+use Rattle.dd_set.proofs.ReadingOn.{element_none, element_found, front_refused, content_stops}
 use Rattle.dd_set.proofs.ReadingOn.{item_none, item_found, item_front_refused, part_refused, part_stops, within_found}
 use Rattle.dd_set.proofs.ReadingOn.{within_fails, deeper_is}
-use Rattle.dd_set.proofs.Unkept.{fault_is, sequence_fails, sequence_wants, set_fails, set_wants, deeper_unkept}
+use Rattle.dd_set.proofs.Unkept.{fault_is, sequence_fails, sequence_wants, set_stops, set_wants, deeper_unkept}
+use Rattle.dd_set.proofs.Unkept.{value_wants}
+use Rattle.dd_set.proofs.Steps.{bind_made}
 use Rattle.dd_set.proofs.reading.+parser.Goals as goal
 
 pub sequence-returns-in_err-found-clause-exact : goal.sequence-returns-in_err-found-clause-exact
@@ -131,7 +133,7 @@ pub set-returns-in_err-found-clause-memory : goal.set-returns-in_err-found-claus
 set-returns-in_err-found-clause-memory t c = λ memory.
     let p = err_from_is_err_and c.from_residual.result c.from_residual.ensures.1 in
     let refused : c.in_err-found.field-0.0 ≡ Memory = fault_is _ _ _ p.1 p.2 memory in
-    set_fails c.args.levels c.args.syntax c.args.form c.elements.low (at_view c.args.at)
+    set_stops c.args.levels c.args.syntax c.args.form c.elements.low (at_view c.args.at)
     (at_view c.elements.place) c.elements.invariant.4 (c.in_err-found.ensures.memory (ap (λ e. Err e) refused))
 
 pub set-returns-in_err-push-in-Some-clause-memory : goal.set-returns-in_err-push-in-Some-clause-memory
@@ -146,6 +148,19 @@ set-returns-in_err-push-in-Some-clause-memory t c = λ memory.
     set_wants c.args.levels c.args.syntax c.args.form c.elements.low (at_view c.args.at) (at_view c.elements.place)
     (at_view c.in_ok-found.behind) (element_view next) c.elements.invariant.4 found
 
+-- ---- fragments
+
+pub content-returns-in_err-fragments-in-Fragments-clause-memory :
+    goal.content-returns-in_err-fragments-in-Fragments-clause-memory
+content-returns-in_err-fragments-in-Fragments-clause-memory t c = λ memory.
+    let p = err_from_is_err_and c.from_residual-in_err-fragments-in-Fragments.result
+    c.from_residual-in_err-fragments-in-Fragments.ensures.1 in
+    let refused : c.in_err-fragments-in-Fragments.field-0.0 ≡ Memory = fault_is _ _ _ p.1 p.2 memory in
+    let whole = c.in_err-fragments-in-Fragments.ensures.memory (ap (λ e. Err e) refused) in
+    let is = rw c.in-Fragments.is at (c.in_ok-n.ensures.exact (sequence_with (item_reader c.args.levels))
+    c.args.at.rest.now) in
+    inr (fragments whole.0, whole.1, is ∙ bind_made _ _ _ whole.2)
+
 -- ---- an element
 
 pub element-returns-in_err-header-clause-exact : goal.element-returns-in_err-header-clause-exact
@@ -159,8 +174,8 @@ pub element-returns-in_err-header-clause-memory : goal.element-returns-in_err-he
 element-returns-in_err-header-clause-memory t c = λ memory.
     let p = err_from_is_err_and c.from_residual.result c.from_residual.ensures.1 in
     let refused : c.in_err-header.field-0.0 ≡ Memory = fault_is _ _ _ p.1 p.2 memory in
-    front_refused (unkept_sequence (unkept_item c.args.levels)) c.args.syntax c.args.form c.args.low (at_view c.args.at)
-    Memory (rw refused at c.in_err-header.ensures.exact)
+    inl (front_refused (unkept_sequence (unkept_item c.args.levels)) c.args.syntax c.args.form c.args.low
+    (at_view c.args.at) Memory (rw refused at c.in_err-header.ensures.exact))
 
 pub element-returns-in_default-clause-exact : goal.element-returns-in_default-clause-exact
 element-returns-in_default-clause-exact t c =
@@ -178,13 +193,12 @@ pub element-returns-in_err-value-clause-memory : goal.element-returns-in_err-val
 element-returns-in_err-value-clause-memory t c = λ memory.
     let p = err_from_is_err_and c.from_residual-in_err-value.result c.from_residual-in_err-value.ensures.1 in
     let refused : c.in_err-value.field-0.0 ≡ Memory = fault_is _ _ _ p.1 p.2 memory in
-    content_refused (unkept_sequence (unkept_item c.args.levels)) c.args.syntax c.args.form c.args.low
-    (at_view c.args.at) _ _ Memory
+    value_wants c.args.levels c.args.syntax c.args.form c.args.low (at_view c.args.at) _ _
     (rw c.in-Some.is at c.in_ok-header.ensures.exact) (c.in_err-value.ensures.memory (ap (λ e. Err e) refused))
 
 pub element-returns-clause-exact : goal.element-returns-clause-exact
 element-returns-clause-exact t c =
-    let header = c.in-Some.field-0 in
+    let header = c.in-Some.header in
     let value = c.in_ok-value.value in
     let seen : element_view (roll-Element (record { tag = header.tag; vr = header.shape.vr; value = value })) ≡ record
     { tag = header.tag; vr = header.shape.vr; content = value_view value } = search (rules, the_lemmas) in

@@ -10,7 +10,7 @@ pub returns-in-Bytes-clause-found : goal.returns-in-Bytes-clause-found
 returns-in-Bytes-clause-found g c =
     let reader = sequence_with (item_reader c.args.levels) in
     scans_same _ _ _ _ _ _ c.take_cleaned.ensures.found (λ all rest t few h.
-    let is = rw c.in-Bytes.is at (c.in_ok-n.ensures.exact reader all) in
+    let is = rw c.in-Bytes.is at (c.in_ok-sort.ensures.exact reader all) in
     rw is (tells_bytes _ _ rest h))
 
 pub returns-in_err-left-clause-found : goal.returns-in_err-left-clause-found
@@ -25,8 +25,8 @@ returns-clause-found g c =
     scans_same _ _ _ _ _ _ c.in_ok-left.ensures.found (λ all rest t few h.
     let at : At = record { left = c.args.left; bytes = all } in (
       h.0,
-      items_told reader c.in_ok-n.field-0 at _ h.0 c.in_default.not-Bytes
-          (sym (c.in_ok-n.ensures.exact reader all) ∙ h.1),
+      c.told_by-value.ensures ∙ items_told reader c.in_ok-sort.sort at _ h.0 c.in_default.not-Bytes
+          (sym (c.in_ok-sort.ensures.exact reader all) ∙ h.1),
       h.1,
     ))
 

@@ -1,0 +1,10 @@
+-- What counting the fragments of a list returned, against reading it.
+use Rattle.std.specs.Prelude.{◌≡◌, ℕ, List, length, Result, Ok, Err}
+use Rattle.dd_set.specs.declared.fault.SetFault.{SetFault}
+use Rattle.dd_set.specs.Gives.{Fails}
+use Rattle.dd_set.specs.Reading.{At, Reads}
+
+-- reading gives so many, or this fault
+abbrev pub Counts : Result ℕ SetFault → Reads (List (List ℕ)) → Type 0
+Counts (Ok n) read = (fs : List (List ℕ)) × (end : At) × (read ≡ Ok (fs, end)) × (length fs ≡ n)
+Counts (Err e) read = Fails e read
