@@ -18,7 +18,7 @@ use Rattle.dd_layout.specs.declared.level.Level.TheVariants.{Patient, Study, Ser
 use Rattle.dd_layout.specs.declared.table.Row.{Row}
 use Rattle.dd_layout.specs.declared.table.TheConstants as row
 use Rattle.dd_layout.specs.Tables.{table_of}
-use Rattle.dd_set.specs.Elements.{Elements, Content, Entry, bytes, items}
+use Rattle.dd_set.specs.Elements.{Elements, Content, Entry, bytes, items, fragments}
 use Rattle.dd_set.specs.Find.{find_in}
 use Rattle.dd_dir.specs.declared.own_fault.OwnFault.{OwnFault}
 use Rattle.dd_dir.specs.Own.{Above, root, in_patient, in_study, in_series, in_image, Listed, below, fault_at}
@@ -52,6 +52,7 @@ clean_content : (content : Content)
     → clean_of (unwrap_or (content_value content) []) ≡ unwrap_or (content_value content) []
 clean_content (bytes v) = clean_of-clean_of v
 clean_content (items form parts) = refl
+clean_content (fragments fs) = refl
 
 clean_entry : (entry : Option Entry) → clean_of (unwrap_or (entry_value entry) []) ≡ unwrap_or (entry_value entry) []
 clean_entry None = refl

@@ -8,7 +8,8 @@ use Rattle.dd_elem.specs.declared.vr.Vr.{Vr}
 use Rattle.dd_set.specs.declared.syntax.Length.TheVariants.{Defined, Undefined}
 use Rattle.dd_set.specs.declared.syntax.Length.{Length}
 use Rattle.dd_set.specs.declared.set.Item.{Item}
-use Rattle.dd_set.specs.Elements.{Elements, no_elements, element, Content, bytes, items, Items, no_items, item}
+use Rattle.dd_set.specs.Elements.{Elements, no_elements, element, Content, bytes, items, fragments, Items, no_items}
+use Rattle.dd_set.specs.Elements.{item}
 use Rattle.dd_set.specs.Elements.{Entry, Part}
 use Rattle.dd_set.specs.Find.{same_tag}
 use Rattle.dd_set.specs.Single.{entry_text, part_text}
@@ -35,6 +36,7 @@ content_moved : (by at : ℕ) (t : Tag) (vr : Option Vr) (content : Content)
     → content_starts (at + by) t vr content
     ≡ option_map (λ (ns : List ℕ). map (λ (n : ℕ). n + by) ns) (content_starts at t vr content)
 content_moved by at t vr (bytes v) = refl
+content_moved by at t vr (fragments fs) = refl
 content_moved by at t vr (items form parts) =
     let size = length (header_text t vr (length_of form (items_text parts))) in
     let next : at + by + size ≡ at + size + by = omega arith in
@@ -90,6 +92,7 @@ content_within : (at : ℕ) (t : Tag) (vr : Option Vr) (content : Content) (ns :
     → (k : ℕ) → k < length ns → get_or ns k 0 ≤ at + length
     (entry_text (record { tag = t; vr = vr; content = content }))
 content_within at t vr (bytes v) ns e k in_range = absurd cc
+content_within at t vr (fragments fs) ns e k in_range = absurd cc
 content_within at t vr (items form parts) ns e k in_range =
     let text = items_text parts in
     let shape = shape_text vr (length_of form text) in
@@ -152,6 +155,7 @@ items_many front (item form set rest) =
 content_many : (front : List ℕ) (t : Tag) (vr : Option Vr) (content : Content)
     → SameMany (content_places front t vr content) (item_sets_of content)
 content_many front t vr (bytes v) = tt
+content_many front t vr (fragments fs) = tt
 content_many front t vr (items form parts) =
     items_many (front ++ header_text t vr (length_of form (items_text parts))) parts
 

@@ -5,7 +5,8 @@ use Rattle.std.proofs.lemmas.Bool.{eqb-true}
 use Rattle.std.proofs.lemmas.List.{length-take-le}
 use Rattle.dd_elem.specs.declared.tag.Tag.{Tag}
 use Rattle.dd_elem.specs.declared.vr.Vr.{Vr}
-use Rattle.dd_set.specs.Elements.{Elements, no_elements, element, Content, bytes, items, Items, no_items, item}
+use Rattle.dd_set.specs.Elements.{Elements, no_elements, element, Content, bytes, items, fragments, Items, no_items}
+use Rattle.dd_set.specs.Elements.{item}
 use Rattle.dd_set.specs.Find.{same_tag}
 use Rattle.dd_set.specs.Single.{entry_text, part_text}
 use Rattle.dd_set.specs.Spelling.{header_text, items_text, length_of}
@@ -52,6 +53,7 @@ item_places_rise front (item form set rest) =
 content_places_rise : (front : List ℕ) (t : Tag) (vr : Option Vr) (content : Content) (starts : List ℕ)
     → content_places front t vr content ≡ Some starts → Rises (length front) starts
 content_places_rise front t vr (bytes v) starts e = absurd cc
+content_places_rise front t vr (fragments fs) starts e = absurd cc
 content_places_rise front t vr (items form parts) starts e =
     let header : List ℕ = header_text t vr (length_of form (items_text parts)) in
     let is : item_places (front ++ header) parts ≡ starts = cc in

@@ -5,16 +5,17 @@ use Rattle.std.specs.Int.{w16, w32, from_le_bytes}
 use Rattle.dd_elem.specs.Clean.{clean_of}
 use Rattle.dd_elem.specs.declared.tag.Tag.{Tag}
 use Rattle.dd_keys.specs.Values.{value_at}
-use Rattle.dd_set.specs.Elements.{Elements, Content, bytes, items, Entry, Items, no_items, item}
+use Rattle.dd_set.specs.Elements.{Elements, Content, bytes, items, fragments, Entry, Items, no_items, item}
 use Rattle.dd_set.specs.Find.{find_in}
 use Rattle.dd_layout.specs.Entries.{tag}
 
 -- ---- values
 
--- the bytes of a value that is no sequence
+-- the bytes of a value that is no sequence and has no fragments
 abbrev pub bytes_of : Content → Option (List ℕ)
 bytes_of (bytes v) = Some v
 bytes_of (items form parts) = None
+bytes_of (fragments fs) = None
 
 -- the value of the element with this tag, where it is there and holds bytes
 abbrev pub value_of : Tag → Elements → Option (List ℕ)
@@ -69,6 +70,7 @@ sets_of (item form set rest) = set ∷ sets_of rest
 abbrev pub item_sets_of : Content → Option (List Elements)
 item_sets_of (bytes v) = None
 item_sets_of (items form parts) = Some (sets_of parts)
+item_sets_of (fragments fs) = None
 
 -- the data sets of the records, where they are items
 abbrev pub records_in : Elements → Option (List Elements)

@@ -58,7 +58,7 @@ pub fn digest_in(set: &DataSet<'_>) -> Option<[u8; 32]>
     }
     match set.find(DIGEST.tag)?.value {
         Value::Bytes(digest) => <[u8; 32]>::try_from(digest).ok(),
-        Value::Items { .. } => None,
+        Value::Items { .. } | Value::Fragments(_) => None,
     }
 }
 

@@ -34,7 +34,7 @@ fn items_held<'a>(value: Value<'a>) -> Option<Vec<Item<'a>>>
 {
     match value {
         Value::Items { items, .. } => Some(items),
-        Value::Bytes(_) => None,
+        Value::Bytes(_) | Value::Fragments(_) => None,
     }
 }
 

@@ -14,7 +14,7 @@ fn value_of<'a>(set: &DataSet<'a>, tag: Tag) -> Option<&'a [u8]>
 {
     match set.find(tag)?.value {
         Value::Bytes(value) => Some(value),
-        Value::Items { .. } => None,
+        Value::Items { .. } | Value::Fragments(_) => None,
     }
 }
 

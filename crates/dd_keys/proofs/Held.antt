@@ -9,7 +9,7 @@ use Rattle.dd_elem.specs.Uid.{IsUid, is_uid}
 use Rattle.dd_elem.specs.declared.tag.Tag.{Tag}
 use Rattle.dd_elem.proofs.Cleaning.{clean_of-clean_of}
 use Rattle.dd_elem.proofs.UidForm.{IsUid_from_is_uid, is_uid_from_IsUid}
-use Rattle.dd_set.specs.Elements.{Elements, Content, bytes, items, Entry}
+use Rattle.dd_set.specs.Elements.{Elements, Content, bytes, items, fragments, Entry}
 use Rattle.dd_set.specs.Find.{find_in}
 use Rattle.dd_part10.specs.declared.meta.Meta.{Meta}
 use Rattle.dd_keys.specs.declared.fault.KeyFault.{KeyFault}
@@ -28,6 +28,7 @@ content_value-clean (bytes given) value e =
     let is : clean_of given ≡ value = cc in
     ap clean_of (sym is) ∙ clean_of-clean_of given ∙ is
 content_value-clean (items form parts) value e = absurd (cc)
+content_value-clean (fragments fs) value e = absurd (cc)
 
 entry_value-clean : (entry : Option Entry) (value : List ℕ) → entry_value entry ≡ Some value → clean_of value ≡ value
 entry_value-clean None value e = let is : [] ≡ value = cc in ap clean_of (sym is) ∙ is

@@ -6,12 +6,12 @@ use Rattle.std.proofs.lemmas.List.{take_all}
 use Rattle.dd_elem.specs.Clean.{clean_of}
 use Rattle.dd_elem.specs.Key.{IsKey}
 use Rattle.dd_elem.specs.declared.tag.Tag.{Tag}
-use Rattle.dd_set.specs.Elements.{Elements, Content, bytes, items, Entry}
+use Rattle.dd_set.specs.Elements.{Elements, Content, bytes, items, fragments, Entry}
 use Rattle.dd_set.specs.Find.{same_tag, entries_of}
 use Rattle.dd_set.specs.Scan.{Told, cleaned, told_value, told_of, Hit, hit_of, is_wanted, hits_of, found_hit}
 use Rattle.dd_set.specs.declared.found.Found.{Found}
 use Rattle.dd_part10.proofs.Tags.{same_tag-is}
-use Rattle.dd_keys.specs.Told.{told_at, found_told, told_found, IsFront, AreFronts}
+use Rattle.dd_keys.specs.Told.{told_at, value_of_key, found_told, told_found, IsFront, AreFronts}
 use Rattle.dd_keys.proofs.Tells.{TellsSet}
 use Rattle.dd_keys.specs.Table.{wanted_tags}
 use Rattle.dd_keys.specs.Values.{content_value, entry_value, value_at}
@@ -21,7 +21,7 @@ use Rattle.dd_keys.proofs.Held.{content_value-clean, value_at-clean}
 
 hit_told : Option Hit → Told
 hit_told None = cleaned [] 0
-hit_told (Some hit) = hit.told
+hit_told (Some hit) = value_of_key hit.told
 
 hits_told : Tag → List Hit → Told
 hits_told tag hits = hit_told (find (λ hit. same_tag hit.tag tag) hits)
@@ -41,9 +41,10 @@ found_is tag (found ∷ founds) =
 
 -- ---- the hits of a set tell its values at the wanted tags
 
-told_content : (content : Content) → told_of content ≡ told_value (content_value content)
+told_content : (content : Content) → value_of_key (told_of content) ≡ told_value (content_value content)
 told_content (bytes value) = refl
 told_content (items form parts) = refl
+told_content (fragments fs) = refl
 
 hits_step : (keeps is : Bool) (tag : Tag) (e : Entry) (kept : List Entry) (others : Option Entry)
     → (is ≡ true → keeps ≡ true)

@@ -6,7 +6,7 @@ use Rattle.dd_elem.specs.Key.{IsKey, max_key_length}
 use Rattle.dd_elem.specs.declared.tag.Tag.{Tag}
 use Rattle.dd_set.specs.Elements.{Elements}
 use Rattle.dd_set.specs.Find.{same_tag}
-use Rattle.dd_set.specs.Scan.{Told, sequence, cleaned, told_value, value_told}
+use Rattle.dd_set.specs.Scan.{Told, sequence, fragments, cleaned, told_value, value_told}
 use Rattle.dd_set.specs.declared.found.Found.{Found}
 use Rattle.dd_part10.specs.declared.meta.Meta.{Meta}
 use Rattle.dd_keys.specs.declared.fault.KeyFault.{KeyFault}
@@ -28,10 +28,16 @@ use Rattle.dd_keys.specs.Values.{value_at, key_by, uid_by, patient_by, study_by,
 abbrev pub told_at : Tag → Elements → Told
 told_at tag set = told_value (value_at tag set)
 
+-- what that is for a key, which fragments are no value of, as a sequence is none
+abbrev pub value_of_key : Told → Told
+value_of_key sequence = sequence
+value_of_key fragments = sequence
+value_of_key (cleaned front size) = cleaned front size
+
 -- what is told of an element that may have been found
 abbrev pub found_told : Option Found → Told
 found_told None = cleaned [] 0
-found_told (Some found) = value_told found.value
+found_told (Some found) = value_of_key (value_told found.value)
 
 -- what is told of the first one with a tag
 abbrev pub told_found : Tag → List Found → Told
@@ -45,6 +51,7 @@ shown_told (Bytes front size) = cleaned front.now size
 -- a told value that is not too long for a key is one
 abbrev pub IsFront : Told → Type 0
 IsFront sequence = Unit {0}
+IsFront fragments = Unit {0}
 IsFront (cleaned front size) = size ≤ max_key_length → IsKey front
 
 abbrev pub AreFronts : (Tag → Told) → Type 0
@@ -55,10 +62,12 @@ AreFronts tells = (tag : Tag) → IsFront (tells tag)
 -- the bytes that are told
 abbrev pub front_of : Told → Option (List ℕ)
 front_of sequence = None
+front_of fragments = None
 front_of (cleaned front size) = Some front
 
 abbrev pub told_key_fault : Tag → Told → Option KeyFault
 told_key_fault tag sequence = Some (KeyIsSequence tag)
+told_key_fault tag fragments = Some (KeyIsSequence tag)
 told_key_fault tag (cleaned front size) = if nat_lt max_key_length size then Some (KeyTooLong tag) else None
 
 abbrev pub told_uid_fault : UidRow → Meta → Told → Option KeyFault

@@ -2,7 +2,7 @@
 use Rattle.std.specs.Prelude.{ℕ, List, [], ◌∷◌, Option, Some, None, unwrap_or}
 use Rattle.dd_elem.specs.Clean.{clean_of}
 use Rattle.dd_elem.specs.declared.tag.Tag.{Tag}
-use Rattle.dd_set.specs.Elements.{Elements, Content, bytes, items, Entry}
+use Rattle.dd_set.specs.Elements.{Elements, Content, bytes, items, fragments, Entry}
 use Rattle.dd_set.specs.Find.{find_in}
 use Rattle.dd_part10.specs.declared.meta.Meta.{Meta}
 use Rattle.dd_keys.specs.Table.{KeyRow, charset_row, study_date_row, study_time_row, accession_row, modality_row}
@@ -17,6 +17,7 @@ use Rattle.dd_keys.specs.declared.parts.Parts.{Parts}
 abbrev pub content_value : Content → Option (List ℕ)
 content_value (bytes value) = Some (clean_of value)
 content_value (items form parts) = None
+content_value (fragments fs) = None
 
 -- the same of an element, and no bytes where there is none
 abbrev pub entry_value : Option Entry → Option (List ℕ)

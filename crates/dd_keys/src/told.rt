@@ -61,7 +61,7 @@ impl Values for Vec<Found> {
             };
         };
         match &found.value {
-            FoundValue::Items => Shown::Items,
+            FoundValue::Items | FoundValue::Fragments => Shown::Items,
             FoundValue::Bytes { front, length } => Shown::Bytes {
                 front: front.as_slice(),
                 length: *length,

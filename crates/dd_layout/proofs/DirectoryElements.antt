@@ -77,7 +77,7 @@ directory_valid id first last parts few valid below =
     let firsts : List Entry = long_entry (tag 0x0004 0x1200) first ∷ lasts in
     let e = length-padded 0x20 id in
     let a : AreElements Explicit max_levels 0x00041213 (elements_of records) =
-    (omega arith, omega arith, omega arith, (λ e. omega arith), (valid, below), tt) in
+    (omega arith, omega arith, omega arith, (λ e. omega arith), (valid, below), tt, tt) in
     let b : AreElements Explicit max_levels 0x00041203 (elements_of flag) =
     one_valid max_levels 0x00041203 (tag 0x0004 0x1212) (Some US) (bytes (little_bytes 2 0x0000))
     (elements_of records) tt tt (refl, omega arith) a in

@@ -10,7 +10,7 @@ use Rattle.dd_elem.specs.declared.tag.Tag.{Tag}
 use Rattle.dd_elem.specs.declared.vr.Vr.{Vr}
 use Rattle.dd_elem.specs.declared.vr.Vr.TheVariants.{CS, DA, LO, PN, SH, SQ, TM}
 use Rattle.dd_keys.specs.declared.parts.Parts.{Parts}
-use Rattle.dd_set.specs.Elements.{Elements, Entry, Content, bytes, items, element, elements_of}
+use Rattle.dd_set.specs.Elements.{Elements, Entry, Content, bytes, items, fragments, element, elements_of}
 use Rattle.dd_set.specs.Spelling.{AreElements, delimiter_group, length_limit}
 use Rattle.dd_set.specs.declared.syntax.Syntax.TheVariants.{Explicit}
 use Rattle.dd_layout.specs.Cells.{IsShort, IsShortContent, IsShortEntry}
@@ -58,6 +58,7 @@ pub one_valid : (levels low : ℕ) (t : Tag) (vr : Option Vr) (c : Content) (res
     → AreElements Explicit levels (number_of t + 1) rest → AreElements Explicit levels low (element t vr c rest)
 one_valid levels low t None c rest follows h short valid = absurd h
 one_valid levels low t (Some vr) (items form parts) rest follows h short valid = absurd short
+one_valid levels low t (Some vr) (fragments fs) rest follows h short valid = absurd short
 one_valid levels low t (Some vr) (bytes v) rest follows h short valid =
     let a = both (leb low (number_of t)) (ltb t.group delimiter_group && ltb t.element (2 ^ 16)) follows in
     let b = both (ltb t.group delimiter_group) (ltb t.element (2 ^ 16)) a.1 in
@@ -67,6 +68,7 @@ one_valid levels low t (Some vr) (bytes v) rest follows h short valid =
       ltb→lt t.element (2 ^ 16) b.1,
       (λ e. omega arith),
       (no_sequence vr h, short.0, short_fits vr v short.1),
+      tt,
       valid,
     )
 

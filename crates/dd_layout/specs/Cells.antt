@@ -6,7 +6,7 @@ use Rattle.byteorder.specs.Endian.{little_bytes}
 use Rattle.dd_elem.specs.FileId.{Ranks}
 use Rattle.dd_elem.specs.Key.{max_key_length}
 use Rattle.dd_keys.specs.declared.parts.Parts.{Parts}
-use Rattle.dd_set.specs.Elements.{Entry, Content, bytes, items}
+use Rattle.dd_set.specs.Elements.{Entry, Content, bytes, items, fragments}
 use Rattle.dd_layout.specs.declared.cell.Cell.{Cell}
 use Rattle.dd_layout.specs.declared.cell.CellValue.{CellValue}
 use Rattle.dd_layout.specs.declared.cell.CellValue.TheVariants as values
@@ -56,6 +56,7 @@ IsShort v = (length v % 2 ≡ 0) × (length v ≤ max_key_length)
 abbrev pub IsShortContent : Content → Type 0
 IsShortContent (bytes v) = IsShort v
 IsShortContent (items form parts) = ⊥
+IsShortContent (fragments fs) = ⊥
 
 abbrev pub IsShortEntry : Entry → Type 0
 IsShortEntry entry = IsShortContent entry.content

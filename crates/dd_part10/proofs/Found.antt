@@ -17,7 +17,7 @@ use Rattle.dd_elem.proofs.UidForm.{IsUid_from_is_uid}
 use Rattle.dd_set.specs.declared.syntax.Syntax.{Syntax}
 use Rattle.dd_set.specs.declared.syntax.Syntax.TheVariants.{Explicit}
 use Rattle.dd_set.specs.Bytes.{AreBytes}
-use Rattle.dd_set.specs.Elements.{Elements, no_elements, element, Content, bytes, items, Entry}
+use Rattle.dd_set.specs.Elements.{Elements, no_elements, element, Content, bytes, items, fragments, Entry}
 use Rattle.dd_set.specs.Find.{same_tag, entries_of, find_in}
 use Rattle.dd_set.specs.Reading.{read_all}
 use Rattle.dd_set.specs.Spelling.{Spells, header_text}
@@ -159,6 +159,7 @@ content_holds : (group : Elements) (tag : Tag) (vr : Option Vr) (content : Conte
     → Contains (entries_of group) (record { tag = tag; vr = vr; content = content }) → uid_of tag content ≡ Ok uid
     → HasMetaUid group tag uid
 content_holds group tag vr (items form parts) uid holds e = absurd cc
+content_holds group tag vr (fragments fs) uid holds e = absurd cc
 content_holds group tag vr (bytes v) uid holds e =
     let a = allowed (is_uid (clean_of v)) (MetaUid tag) (Ok (clean_of v)) uid e in
     let same : clean_of v ≡ uid = ok_is (clean_of v) uid a.1 in

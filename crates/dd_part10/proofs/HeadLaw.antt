@@ -102,7 +102,7 @@ uid_valid : (low number : ℕ) (uid : List ℕ) (rest : Elements) → low ≤ 65
     → AreElements Explicit max_levels (65536 * 2 + number + 1) rest
     → AreElements Explicit max_levels low (uid_element (record { group = 2; element = number }) uid rest)
 uid_valid low number uid rest above room short others =
-    (above, lit< tt, room, (λ e. absurd (omega (arith, e))), padded_fits uid short, others)
+    (above, lit< tt, room, (λ e. absurd (omega (arith, e))), padded_fits uid short, tt, others)
 
 -- the elements of the group are those of a data set
 group_valid : (meta : Meta) → IsUid meta.class → IsUid meta.instance → IsUid meta.transfer
@@ -116,6 +116,7 @@ group_valid meta class instance transfer =
       lit< tt,
       (λ e. absurd (omega (arith, e))),
       version_fits,
+      tt,
       uid_valid 131074 2 meta.class second (lit≤ tt) (lit< tt) class.short
           (uid_valid 131075 3 meta.instance third (lit≤ tt) (lit< tt) instance.short
           (uid_valid 131076 16 meta.transfer last (lit≤ tt) (lit< tt) transfer.short

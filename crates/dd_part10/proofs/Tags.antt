@@ -76,7 +76,7 @@ low_below syntax levels low (element tag vr content rest) e h there =
       | inl is ↦ let same : number_of tag ≡ number_of e.tag =
           ap (λ (x : Entry). number_of x.tag) is in omega (arith, h.0, same)
       | inr later ↦ let more : number_of tag + 1 ≤ number_of e.tag =
-          low_below syntax levels (number_of tag + 1) rest e h.5 later in omega (arith, h.0, more)
+          low_below syntax levels (number_of tag + 1) rest e h.6 later in omega (arith, h.0, more)
     ]
 
 -- an element of a set is what a search for its tag finds
@@ -92,9 +92,9 @@ found_in syntax levels low (element tag vr content rest) e h there =
           rw hit (ap (λ (x : Entry). Some x) is)
       | inr later ↦
           let more : number_of tag + 1 ≤ number_of e.tag = low_below syntax levels
-          (number_of tag + 1) rest e h.5 later in
+          (number_of tag + 1) rest e h.6 later in
           let miss : same_tag tag e.tag ≡ false = same_tag-other tag e.tag (omega (arith, more)) in
-          rw miss (found_in syntax levels (number_of tag + 1) rest e h.5 later)
+          rw miss (found_in syntax levels (number_of tag + 1) rest e h.6 later)
     ]
 
 -- ---- a group that is alone

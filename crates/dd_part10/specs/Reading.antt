@@ -11,7 +11,7 @@ use Rattle.dd_elem.specs.declared.vr.Vr.TheVariants.{UL}
 use Rattle.dd_set.specs.declared.fault.SetFault.{SetFault}
 use Rattle.dd_set.specs.declared.syntax.Syntax.{Syntax}
 use Rattle.dd_set.specs.declared.syntax.Syntax.TheVariants.{Explicit}
-use Rattle.dd_set.specs.Elements.{Elements, Content, bytes, items}
+use Rattle.dd_set.specs.Elements.{Elements, Content, bytes, items, fragments}
 use Rattle.dd_set.specs.Find.{entries_of, find_in}
 use Rattle.dd_set.specs.Reading.{read_all}
 use Rattle.dd_set.specs.Scan.{first_of}
@@ -83,6 +83,7 @@ is_alone group = list_all (λ e. is_meta_tag e.tag) (entries_of group)
 abbrev pub uid_of : Tag → Content → Result (List ℕ) FileFault
 uid_of tag (bytes v) = if is_uid (clean_of v) then Ok (clean_of v) else Err (MetaUid tag)
 uid_of tag (items form parts) = Err (MetaUid tag)
+uid_of tag (fragments fs) = Err (MetaUid tag)
 
 -- the element is there, and holds a UID
 unfoldable pub uid_at : Tag → Elements → Result (List ℕ) FileFault

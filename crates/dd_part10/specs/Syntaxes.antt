@@ -2,18 +2,27 @@
 use Rattle.std.specs.Prelude.{ℕ, List, [], ◌∷◌, Option, find, option_map, codes}
 use Rattle.std.specs.Str.{bytes_eq}
 use Rattle.dd_set.specs.declared.syntax.Syntax.{Syntax}
-use Rattle.dd_set.specs.declared.syntax.Syntax.TheVariants.{Explicit, Implicit}
+use Rattle.dd_set.specs.declared.syntax.Syntax.TheVariants.{Explicit, Implicit, Encapsulated}
 
 -- a transfer syntax: its UID, and how it encodes a data set
 pub record TransferSyntax : Type 0 where
   pub uid : List ℕ
   pub syntax : Syntax
 
--- Implicit VR Little Endian and Explicit VR Little Endian
+-- Implicit VR Little Endian and Explicit VR Little Endian; with encapsulated pixel data: RLE Lossless, JPEG Baseline,
+-- Extended and Lossless, JPEG-LS Lossless and Near-Lossless, JPEG 2000 Lossless Only and JPEG 2000
 abbrev pub transfer_syntaxes : List TransferSyntax
 transfer_syntaxes =
     record { uid = codes "1.2.840.10008.1.2"; syntax = Implicit }
     ∷ record { uid = codes "1.2.840.10008.1.2.1"; syntax = Explicit }
+    ∷ record { uid = codes "1.2.840.10008.1.2.5"; syntax = Encapsulated }
+    ∷ record { uid = codes "1.2.840.10008.1.2.4.50"; syntax = Encapsulated }
+    ∷ record { uid = codes "1.2.840.10008.1.2.4.51"; syntax = Encapsulated }
+    ∷ record { uid = codes "1.2.840.10008.1.2.4.70"; syntax = Encapsulated }
+    ∷ record { uid = codes "1.2.840.10008.1.2.4.80"; syntax = Encapsulated }
+    ∷ record { uid = codes "1.2.840.10008.1.2.4.81"; syntax = Encapsulated }
+    ∷ record { uid = codes "1.2.840.10008.1.2.4.90"; syntax = Encapsulated }
+    ∷ record { uid = codes "1.2.840.10008.1.2.4.91"; syntax = Encapsulated }
     ∷ []
 
 -- the syntax of the transfer syntax with this UID, where there is one

@@ -21,7 +21,6 @@ mod fragments;
 mod headers;
 mod kept;
 mod reading;
-#[cfg(test)]
 mod scan_fault;
 mod scanning;
 mod sending;
