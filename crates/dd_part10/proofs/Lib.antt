@@ -10,4 +10,5 @@ pub mod Faults
 pub mod Cuts
 pub mod Taken
 pub mod Heads
+pub mod KnownSyntaxes
 pub mod HeadLaw

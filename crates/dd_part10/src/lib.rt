@@ -18,6 +18,7 @@ mod reading;
 mod scanned;
 mod stream_fault;
 mod streaming;
+mod syntaxes;
 mod taking;
 
 pub use fault::FileFault;

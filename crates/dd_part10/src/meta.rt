@@ -1,5 +1,6 @@
 //! The file meta information.
 
+use crate::syntaxes::syntax_of;
 use dd_elem::Uid;
 use dd_set::Syntax;
 
@@ -30,19 +31,6 @@ impl Meta {
     pub fn syntax_of(transfer: &Uid) -> Option<Syntax>
         ensures { result ≡ syntax_of transfer.now }
     {
-        match transfer.as_bytes() {
-            b"1.2.840.10008.1.2" => Some(Syntax::Implicit),
-            b"1.2.840.10008.1.2.1" => Some(Syntax::Explicit),
-            b"1.2.840.10008.1.2.5" // RLE Lossless
-            | b"1.2.840.10008.1.2.4.50" // JPEG Baseline
-            | b"1.2.840.10008.1.2.4.51" // JPEG Extended
-            | b"1.2.840.10008.1.2.4.70" // JPEG Lossless
-            | b"1.2.840.10008.1.2.4.80" // JPEG-LS Lossless
-            | b"1.2.840.10008.1.2.4.81" // JPEG-LS Near-Lossless
-            | b"1.2.840.10008.1.2.4.90" // JPEG 2000 Lossless Only
-            | b"1.2.840.10008.1.2.4.91" // JPEG 2000
-            => Some(Syntax::Encapsulated),
-            _ => None,
-        }
+        syntax_of(transfer.as_bytes())
     }
 }

@@ -30,11 +30,11 @@ returns-clause-found g c =
       h.1,
     ))
 
-pub returns-in_err-n-clause-found : goal.returns-in_err-n-clause-found
-returns-in_err-n-clause-found g c =
+pub returns-in_err-sort-clause-found : goal.returns-in_err-sort-clause-found
+returns-in_err-sort-clause-found g c =
     let p = err_from_is_err_and c.from_residual.result c.from_residual.ensures.1 in
     let reader = sequence_with (item_reader c.args.levels) in
     rw (p.1, p.2) (scans_none _ _ _ _ (g.met.F.Feed.stays _) (λ rest t. (
-      fails_is c.in_err-n.field-0.0 _ (c.in_err-n.ensures.exact reader rest),
-      λ is. absurd (c.in_err-n.ensures.memory (ap (λ e. Err e) is)),
+      fails_is c.in_err-sort.field-0.0 _ (c.in_err-sort.ensures.exact reader rest),
+      λ is. absurd (c.in_err-sort.ensures.memory (ap (λ e. Err e) is)),
     )))

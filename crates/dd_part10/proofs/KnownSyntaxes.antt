@@ -1,0 +1,37 @@
+-- The syntax of a transfer syntax, by tests of its UID.
+use Rattle.std.proofs.Common.{◌≡◌, ℕ, Bool, true, false, ◌||◌, List, [], ◌∷◌, Option, Some, None, option_map, map}
+use Rattle.std.proofs.Common.{if◌then◌else◌, refl, sym, ◌∙◌, bytes_eq}
+use Rattle.std.specs.Prelude.{find, codes}
+use Rattle.std.specs.List.{list_any}
+use Rattle.std.proofs.lemmas.Cmp.{nat_list_eq_equiv}
+use Rattle.dd_set.specs.declared.syntax.Syntax.{Syntax}
+use Rattle.dd_set.specs.declared.syntax.Syntax.TheVariants.{Encapsulated}
+use Rattle.dd_part10.specs.Syntaxes.{TransferSyntax, encapsulated_syntaxes, syntax_of}
+
+abbrev encapsulated : List ℕ → TransferSyntax
+encapsulated uid = record { uid = uid; syntax = Encapsulated }
+
+abbrev syntax_in : Option TransferSyntax → Option Syntax
+syntax_in found = option_map (λ (t : TransferSyntax). t.syntax) found
+
+found_step : (is any : Bool) (uid : List ℕ) (found : Option TransferSyntax)
+    → syntax_in found ≡ (if any then Some Encapsulated else None)
+    → syntax_in (if is then Some (encapsulated uid) else found) ≡ (if is || any then Some Encapsulated else None)
+found_step true any uid found h = refl
+found_step false any uid found h = h
+
+found_among : (uid : List ℕ) (uids : List (List ℕ))
+    → syntax_in (find (λ (t : TransferSyntax). bytes_eq t.uid uid) (map encapsulated uids))
+    ≡ (if list_any (λ (known : List ℕ). bytes_eq known uid) uids then Some Encapsulated else None)
+found_among uid [] = refl
+found_among uid (known ∷ uids) = found_step (bytes_eq known uid) _ known _ (found_among uid uids)
+
+-- behind the tests for the two others
+pub behind_both : (uid : List ℕ) (listed : Bool) → bytes_eq uid (codes "1.2.840.10008.1.2") ≡ false
+    → bytes_eq uid (codes "1.2.840.10008.1.2.1") ≡ false
+    → list_any (λ (known : List ℕ). bytes_eq known uid) encapsulated_syntaxes ≡ listed
+    → (if listed then Some Encapsulated else None) ≡ syntax_of uid
+behind_both uid listed implicit explicit is =
+    let no_implicit = nat_list_eq_equiv.symm (codes "1.2.840.10008.1.2") uid ∙ implicit in
+    let no_explicit = nat_list_eq_equiv.symm (codes "1.2.840.10008.1.2.1") uid ∙ explicit in
+    rw (no_implicit, no_explicit) (rw is at (sym (found_among uid encapsulated_syntaxes)))
