@@ -41,10 +41,9 @@ const CHANGED: &str = "\
 136 'OB > 22 GroupLength
 148 'ZZ > 26 Meta 3 BadVr";
 
-/// V1 with other elements: a group length that stops before the last element of group 0002, one that takes
-/// in the first of the data set and one above 65,536; each UID that has to be there absent; UIDs that are
-/// none, and one with items; a big endian file, one in a syntax of JPEG that is not read and a deflated one; files
-/// in RLE and in JPEG 2000.
+/// V1 with other elements. First a group length that stops before the last element of group 0002, one that takes in
+/// the first of the data set and one above 65,536. Then each UID that has to be there absent; UIDs that are none, and
+/// one with items. Last other transfer syntaxes: big endian, one of JPEG that is not read, deflated, RLE, JPEG 2000.
 const OTHER: &str = "\
 0002,0000 UL 5e000000 > 22 GroupLength
 0002,0000 UL a6000000 > 22 GroupLength

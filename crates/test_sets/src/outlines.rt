@@ -1,5 +1,5 @@
-//! What a data set holds, as text: `TAG VR VALUE` for each element, for one with items their lengths and
-//! what they hold, and for one with fragments the bytes of each.
+//! What a data set holds, as text: `TAG VR VALUE` for each element. For one with items the value is their lengths
+//! and what they hold, and for one with fragments the bytes of each.
 
 use dd_set::{DataSet, Element, Item, Value};
 use dd_vectors::text_of;

@@ -31,9 +31,9 @@ explicit 08006000 4353 0200 4354 08004011 5351 0000 1a000000 feff00e0 00000000 \
 feff00e0 0a000000 10002000 4c4f 0200 5031 > \
 (0008,0060) CS 'CT; (0008,1140) SQ Defined Defined [] Defined [(0010,0020) LO 'P1]";
 
-/// Data sets in an encapsulated syntax, and what they hold. Pixel data in fragments: two, none at all, an
-/// empty offset table alone and one that is not empty; two in an item of each form of length; two before
-/// another element. Then pixel data that is bytes, items that are in Implicit VR, and one other element.
+/// Data sets in an encapsulated syntax, and what they hold. Pixel data in fragments comes first: two, none at all,
+/// an empty offset table alone and one that is not empty. Then two in an item of each form of length, and two before
+/// another element. Last pixel data that is bytes, items in Implicit VR, and one other element.
 const ENCAPSULATED_SETS: &str = "\
 encapsulated e07f1000 4f42 0000 ffffffff feff00e0 00000000 feff00e0 04000000 ff4fff51 feffdde0 00000000 > \
 (7FE0,0010) OB Fragments [] [ff4fff51]
@@ -57,8 +57,8 @@ feff0de0 00000000 feffdde0 00000000 > \
 (0009,1001) UN Undefined Undefined [(0010,0020) - 'P1]
 encapsulated 10002000 4c4f 0200 5031 > (0010,0020) LO 'P1";
 
-/// The same as in the first table: their sizes in Explicit, in Implicit VR and in an encapsulated syntax, and
-/// where the items of the last element start in the spelling that was read.
+/// The sets of the first table, and their sizes in Explicit, in Implicit VR and in an encapsulated syntax. Behind
+/// these stands where the items of the last element start in the spelling that was read.
 const SIZES: &str = "\
 explicit 10002000 4c4f 0200 5031 > Some(10) None Some(10), None
 implicit 10002000 02000000 5031 > None Some(10) None, None
@@ -74,7 +74,7 @@ None Some(34) None, Some([8])
 explicit 08006000 4353 0200 4354 08004011 5351 0000 1a000000 feff00e0 00000000 \
 feff00e0 0a000000 10002000 4c4f 0200 5031 > Some(48) None Some(48), Some([22, 30])";
 
-/// Likewise of those in an encapsulated syntax, and of fragments before a sequence.
+/// The same of those in an encapsulated syntax, and of fragments before a sequence.
 const ENCAPSULATED_SIZES: &str = "\
 encapsulated e07f1000 4f42 0000 ffffffff feff00e0 00000000 feff00e0 04000000 ff4fff51 feffdde0 00000000 > \
 None None Some(40), None

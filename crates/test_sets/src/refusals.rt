@@ -35,9 +35,9 @@ explicit 08004011 5351 0000 ffffffff feff00e0 ffffffff feff0de0 02000000 > 8 Bad
 explicit 08004011 5351 0000 08000000 feff00e0 02000000 > 9 Overrun
 explicit 08004011 5351 0000 12000000 feff00e0 0a000000 10002000 4c4f 0400 5031 > 9 Overrun";
 
-/// Pixel data in fragments: a length that is odd, undefined or past the end of the bytes, another tag than that
-/// of an item, the end of a list with a length; the end and a fragment past the end of the item that holds
-/// them, and an odd length where it ends; elements behind it that are out of order.
+/// Pixel data in fragments. First a length that is odd, undefined or past the end of the bytes, other tags than that
+/// of an item, and the end of a list with a length. Then an item that ends before the mark or within a fragment, and
+/// an odd length where it ends. Last elements behind the pixel data that are out of order.
 const FRAGMENTS: &str = "\
 encapsulated e07f1000 4f42 0000 ffffffff feff00e0 00000000 feff00e0 03000000 ff4fff51 feffdde0 00000000 > 5 OddLength
 encapsulated e07f1000 4f42 0000 ffffffff feff00e0 00000000 feff00e0 ffffffff ff4fff51 feffdde0 00000000 > \
@@ -59,8 +59,8 @@ encapsulated e07f1000 4f42 0000 ffffffff feff00e0 00000000 feff00e0 04000000 ff4
 encapsulated e07f1000 4f42 0000 ffffffff feff00e0 00000000 feff00e0 04000000 ff4fff51 feffdde0 00000000 \
 e07f1000 4f42 0000 ffffffff feff00e0 00000000 feff00e0 04000000 ff4fff51 feffdde0 00000000 > 2 Order";
 
-/// Pixel data where no fragments stand: under other value representations, tags and reserved bytes; in Explicit
-/// and in Implicit VR; and within an element UN, whose items are in Implicit VR.
+/// Pixel data where no fragments stand: under other value representations and tags, and with other reserved bytes;
+/// in Explicit and in Implicit VR. Last within an element UN, whose items are in Implicit VR.
 const NO_FRAGMENTS: &str = "\
 encapsulated e07f1000 4f57 0000 ffffffff feff00e0 00000000 feff00e0 04000000 ff4fff51 feffdde0 00000000 > \
 6 UndefinedLength

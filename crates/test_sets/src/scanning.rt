@@ -53,8 +53,8 @@ const LONG: &str = "\
 1023 5001 0 > 1023 A 1023
 10001 1 0 > 1024 A 10001";
 
-/// Scans for the Patient ID, the Referenced Image Sequence and the Pixel Data: of elements, of a sequence in
-/// whose item another element stands, of padding, and of bytes that are no data set.
+/// Scans for the Patient ID, the Referenced Image Sequence and the Pixel Data: of elements, of a sequence in whose
+/// item another element stands, and of padding. Then of bytes that are no data set.
 const SETS: &str = "\
 explicit ' > empty
 explicit 10002000 4c4f 0200 5031 > (0010,0020); (0010,0020) 'P1 2
@@ -72,8 +72,8 @@ explicit 10002000 4c4f 0200 50 > 1 Truncated
 explicit 08004011 5351 0000 ffffffff feffdde0 02000000 > 8 BadDelimiter
 explicit 08004011 5351 0000 08000000 feff00e0 02000000 > 9 Overrun";
 
-/// The same of pixel data in fragments: two, none at all, two before another element, one behind one, two in an
-/// item, where they are not found; of pixel data that is bytes; and of a fragment of odd length.
+/// The same of pixel data in fragments: two, none at all, two before another element, and one behind one. Then two
+/// in an item, where they are not found; pixel data that is bytes; and a fragment of odd length.
 const FRAGMENTS: &str = "\
 encapsulated e07f1000 4f42 0000 ffffffff feff00e0 00000000 feff00e0 04000000 ff4fff51 feffdde0 00000000 > \
 (7FE0,0010); (7FE0,0010) fragments

@@ -21,9 +21,9 @@ feff0de0 00000000 feffdde0 00000000 > 46 [46]
 implicit 08004011 ffffffff feff00e0 0a000000 10002000 02000000 5031 feffdde0 00000000 > \
 34 [34]";
 
-/// The same of pixel data in fragments: two, none at all, an empty offset table alone and one that is not empty;
-/// two in an item of each form of length; two before a sequence. Then pixel data that is bytes, items that are
-/// in Implicit VR, and one other element.
+/// The same of pixel data in fragments: two, none at all, an empty offset table alone and one that is not empty.
+/// Then two in an item of each form of length, and two before a sequence. Last pixel data that is bytes, items in
+/// Implicit VR, and one other element.
 const FRAGMENTS: &str = "\
 encapsulated e07f1000 4f42 0000 ffffffff feff00e0 00000000 feff00e0 04000000 ff4fff51 feffdde0 00000000 > \
 40 [40]
@@ -59,9 +59,9 @@ const FAILING: &str = "\
 40 encapsulated e07f1000 4f42 0000 ffffffff feff00e0 00000000 feff00e0 04000000 ff4fff51 feffdde0 00000000 > \
 40 [40]";
 
-/// Elements whose value is an empty offset table and one fragment: the tag, the value representation (`--` for
-/// none), the syntax and the fragment; and the size and what comes of sending the set, with what the writer
-/// holds. Only pixel data OB in an encapsulated syntax has fragments, and these are of even length.
+/// Elements whose value is an empty offset table and one fragment: the tag, the value representation (`--` for none),
+/// the syntax and the fragment. The answer is the size, what comes of sending the set, and what the writer holds.
+/// Only pixel data OB in an encapsulated syntax has fragments, and these are of even length.
 const MADE: &str = "\
 7FE0,0010 OB encapsulated ff4fff51 > \
 Some(40) 40 [e07f10004f420000fffffffffeff00e000000000feff00e004000000ff4fff51feffdde000000000]

@@ -9,9 +9,9 @@ use dd_vectors::{push_bytes, v1, v1_encapsulated, v1_with};
 use std::alloc::Global;
 use std::test::Fail;
 
-/// How many bytes come in one read, after how many the reader fails, the limit, and the file: V1 of 454
-/// bytes, whole or its front of so many bytes, V1 with pixel data in fragments, of 496 bytes, or V1 with
-/// other elements. A failure and one byte more than the limit come before every check, wherever it fails.
+/// How many bytes come in one read, after how many the reader fails, the limit, and the file. This is V1 of 454
+/// bytes, whole or its front of so many bytes, V1 with pixel data in fragments, of 496 bytes, or V1 with other
+/// elements. A failure and one byte more than the limit come before every check, wherever it fails.
 const READ: &str = "\
 1 1000 454 whole > taken
 7 1000 454 whole > taken

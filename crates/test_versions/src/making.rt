@@ -8,8 +8,8 @@ use std::alloc::Global;
 use std::cmp::Ordering;
 use std::test::Fail;
 
-/// The parts of V1 with other values, and what does not fit: each key that has to be there empty, another
-/// class, other transfer syntaxes; the least tag where two do not fit; parts that fit.
+/// The parts of V1 with other values, and what does not fit: each key that has to be there empty, another class,
+/// other transfer syntaxes. Then the least tag where two do not fit, and parts that fit.
 const MISFITS: &str = "\
 0008,0020 ' > (0008,0020) does not fit
 0008,0030 ' > (0008,0030) does not fit
