@@ -42,6 +42,13 @@ const IMPLICIT: &str = "0002,0000 UL 82000000; 0002,0010 UI '1.2.840.10008.1.2~"
 const SEQUENCE: &str = "08004011 ffffffff feff00e0 ffffffff 20000d00 04000000 '9.9~ \
                         feff0de0 00000000 feffdde0 00000000";
 
+/// What makes V1 a file in JPEG 2000: another group length and another transfer syntax.
+const ENCAPSULATED: &str = "0002,0000 UL 86000000; 0002,0010 UI '1.2.840.10008.1.2.4.90";
+
+/// Pixel data in two fragments: an offset table, which is empty, and four bytes.
+const FRAGMENTS: &str = "e07f1000 4f42 0000 ffffffff feff00e0 00000000 feff00e0 04000000 ff4fff51 \
+                         feffdde0 00000000";
+
 /// How headers are spelled.
 #[derive(Clone, Copy, PartialEq, Eq)]
 enum Headers {
@@ -71,6 +78,13 @@ pub fn v1_implicit(alloc: Global) -> Result<Vec<u8>, Fail> {
     push_rows(alloc, &mut bytes, Headers::Implicit, (FRONT, ""))?;
     push_bytes(alloc, &mut bytes, SEQUENCE)?;
     push_rows(alloc, &mut bytes, Headers::Implicit, (BACK, ""))?;
+    Ok(bytes)
+}
+
+/// V1 in JPEG 2000, and behind it pixel data in fragments: 496 bytes.
+pub fn v1_encapsulated(alloc: Global) -> Result<Vec<u8>, Fail> {
+    let mut bytes = v1_with(alloc, ENCAPSULATED)?;
+    push_bytes(alloc, &mut bytes, FRAGMENTS)?;
     Ok(bytes)
 }
 

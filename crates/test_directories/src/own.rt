@@ -23,6 +23,8 @@ one 810 'dd > 61 NoDigest 622
 one 686 'p > 63 RecordKey 622 (0004,1500)
 one 730 '9 > 63 RecordKey 622 (0004,1510)
 one 782 '9 > 63 RecordKey 622 (0004,1512)
+one 800 '2 > 63 RecordKey 622 (0004,1512)
+one 800 '5 > 1 1.2.3.4.5
 one 514 '. > 63 RecordKey 404 (0020,000D)";
 
 /// A directory with what is put into its bytes; and the instance and the File ID of each image, in the order

@@ -11,7 +11,8 @@ use std::test::Fail;
 const HEADS: &str = "\
 v2 > 266, 266 [266]
 v1 > 276, 276 [276]
-v1 implicit > 274, 274 [274]";
+v1 implicit > 274, 274 [274]
+v1 encapsulated > 278, 278 [278]";
 
 /// After how many bytes a writer fails that gets the head of V2.
 const FAILING: &str = "\

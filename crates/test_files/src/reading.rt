@@ -14,13 +14,31 @@ use std::test::Fail;
 const FILES: &str = "\
 v1 > 454 276 1.2.840.10008.5.1.4.1.1.2 1.2.3.4.5 1.2.840.10008.1.2.1 12
 v1 implicit > 496 274 1.2.840.10008.5.1.4.1.1.2 1.2.3.4.5 1.2.840.10008.1.2 13
+v1 encapsulated > 496 278 1.2.840.10008.5.1.4.1.1.2 1.2.3.4.5 1.2.840.10008.1.2.4.90 13
 v2 > 320 266 1.2.840.10008.1.3.10 2.25.0 1.2.840.10008.1.2.1 5";
 
-/// Transfer syntaxes, and how they are read. The last is big endian.
+/// Transfer syntaxes, and how they are read: the two that are not compressed; RLE, three of JPEG, two of JPEG-LS
+/// and two of JPEG 2000. The rest is not read: big endian, deflated, two more of JPEG and one of JPEG 2000, MPEG2,
+/// a part of a UID and a UID with more behind it.
 const SYNTAXES: &str = "\
 1.2.840.10008.1.2.1 > Some(Explicit)
 1.2.840.10008.1.2 > Some(Implicit)
-1.2.840.10008.1.2.2 > None";
+1.2.840.10008.1.2.5 > Some(Encapsulated)
+1.2.840.10008.1.2.4.50 > Some(Encapsulated)
+1.2.840.10008.1.2.4.51 > Some(Encapsulated)
+1.2.840.10008.1.2.4.70 > Some(Encapsulated)
+1.2.840.10008.1.2.4.80 > Some(Encapsulated)
+1.2.840.10008.1.2.4.81 > Some(Encapsulated)
+1.2.840.10008.1.2.4.90 > Some(Encapsulated)
+1.2.840.10008.1.2.4.91 > Some(Encapsulated)
+1.2.840.10008.1.2.2 > None
+1.2.840.10008.1.2.1.99 > None
+1.2.840.10008.1.2.4.52 > None
+1.2.840.10008.1.2.4.57 > None
+1.2.840.10008.1.2.4.92 > None
+1.2.840.10008.1.2.4.100 > None
+1.2.840.10008.1.2.4 > None
+1.2.840.10008.1.2.5.1 > None";
 
 fn numbers(alloc: Global, bytes: &[u8]) -> Result<String, Fail> {
     let file = parse_file(alloc, bytes)?;

@@ -41,9 +41,9 @@ const CHANGED: &str = "\
 136 'OB > 22 GroupLength
 148 'ZZ > 26 Meta 3 BadVr";
 
-/// V1 with other elements: a group length that stops before the last element of group 0002, one that takes
-/// in the first of the data set and one above 65,536; each UID that has to be there absent; UIDs that are
-/// none, and one with items; a big endian file.
+/// V1 with other elements. First a group length that stops before the last element of group 0002, one that takes in
+/// the first of the data set and one above 65,536. Then each UID that has to be there absent; UIDs that are none, and
+/// one with items. Last other transfer syntaxes: big endian, one of JPEG that is not read, deflated, RLE, JPEG 2000.
 const OTHER: &str = "\
 0002,0000 UL 5e000000 > 22 GroupLength
 0002,0000 UL a6000000 > 22 GroupLength
@@ -55,7 +55,11 @@ const OTHER: &str = "\
 0002,0003 UI '1.2.3.4.a~ > 24 MetaUid (0002,0003)
 0002,0003 UI '__________ > 24 MetaUid (0002,0003)
 0002,0000 UL 7e000000; 0002,0003 SQ > 24 MetaUid (0002,0003)
-0002,0010 UI '1.2.840.10008.1.2.2~ > 25 OtherSyntax 1.2.840.10008.1.2.2";
+0002,0010 UI '1.2.840.10008.1.2.2~ > 25 OtherSyntax 1.2.840.10008.1.2.2
+0002,0000 UL 86000000; 0002,0010 UI '1.2.840.10008.1.2.4.52 > 25 OtherSyntax 1.2.840.10008.1.2.4.52
+0002,0000 UL 86000000; 0002,0010 UI '1.2.840.10008.1.2.1.99 > 25 OtherSyntax 1.2.840.10008.1.2.1.99
+0002,0010 UI '1.2.840.10008.1.2.5~ > taken
+0002,0000 UL 86000000; 0002,0010 UI '1.2.840.10008.1.2.4.90 > taken";
 
 /// Is a file with these bytes refused by this fault where it is read from a reader?
 fn is_refused_alike(alloc: Global, bytes: &[u8], fault: Option<FileFault>) -> bool {

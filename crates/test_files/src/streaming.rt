@@ -37,11 +37,12 @@ as parsed; (0008,0016) '1.2.840.10008.5.1.4.1.1.2 25; (0020,0013) '1 1
 276 02 44 454 276 0010,0020 > 14 Read
 276 02 44 453 - 0010,0020 > 15 TooLong";
 
-/// Files, and what is told of their Directory Record Sequence, Referenced Image Sequence and Patient ID, which
-/// the directory holds in an item alone.
+/// Files, and what is told of their Directory Record Sequence, Referenced Image Sequence, Pixel Data and Patient
+/// ID, which the directory holds in an item alone.
 const FILES: &str = "\
 v1 > as parsed; (0010,0020) 'P1 2
 v1 implicit > as parsed; (0008,1140) items; (0010,0020) 'P1 2
+v1 encapsulated > as parsed; (0010,0020) 'P1 2; (7FE0,0010) fragments
 v2 > as parsed; (0004,1220) items
 first directory > as parsed; (0004,1220) items";
 
@@ -53,14 +54,17 @@ const LONG_GROUPS: &str = "\
 1026 864 > 1348 1170 as parsed; (0010,0020) 'P1 2
 65536 65374 > 65858 65680 as parsed; (0010,0020) 'P1 2";
 
-/// The tag of an element that was found, and `items`, or the front of its value and the length.
+/// The tag of an element that was found, and `items`, `fragments`, or the front of its value and the length.
 fn value(alloc: Global, found: &Found) -> Result<String, Fail> {
     let tag = found.tag;
-    let FoundValue::Bytes { front, length } = &found.value else {
-        return Ok(format!(in alloc; "; {tag} items")?);
-    };
-    let front = text_of(alloc, front)?;
-    Ok(format!(in alloc; "; {tag} {front} {length}")?)
+    match &found.value {
+        FoundValue::Items => Ok(format!(in alloc; "; {tag} items")?),
+        FoundValue::Fragments => Ok(format!(in alloc; "; {tag} fragments")?),
+        FoundValue::Bytes { front, length } => {
+            let front = text_of(alloc, front)?;
+            Ok(format!(in alloc; "; {tag} {front} {length}")?)
+        }
+    }
 }
 
 /// What was read: whether the meta information is this one, and of each element that was found the tag,
@@ -108,10 +112,11 @@ pub(crate) fn read_whole(alloc: Global, piece: u64, question: &str) -> Result<St
     let bytes = file_named(alloc, question)?;
     let parsed = meta_of(alloc, &bytes)?;
     let mut reader = ByteSource::new(&bytes, piece, None);
-    let wanted: [Tag; 3] = [
+    let wanted: [Tag; 4] = [
         tag_of("0010,0020")?,
         tag_of("0008,1140")?,
         tag_of("0004,1220")?,
+        tag_of("7FE0,0010")?,
     ];
     let answer = read_file(alloc, &mut reader, &wanted, 4096);
     told(alloc, answer, &parsed)

@@ -2,7 +2,8 @@
 
 use dd_part10::{Meta, parse_file};
 use dd_vectors::{
-    SOURCE_ROWS, bytes_of, first_directory, push_bytes, put_at, tag_of, v1, v1_implicit, v2,
+    SOURCE_ROWS, bytes_of, first_directory, push_bytes, put_at, tag_of, v1, v1_encapsulated,
+    v1_implicit, v2,
 };
 use std::alloc::Global;
 use std::test::Fail;
@@ -12,6 +13,7 @@ pub(crate) fn file_named(alloc: Global, name: &str) -> Result<Vec<u8>, Fail> {
     match name {
         "v1" => v1(alloc),
         "v1 implicit" => v1_implicit(alloc),
+        "v1 encapsulated" => v1_encapsulated(alloc),
         "v2" => v2(alloc),
         "first directory" => first_directory(alloc),
         _ => Err("no file of this name".into()),

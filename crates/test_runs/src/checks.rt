@@ -13,6 +13,7 @@ d/DICOMDIR=empty: - - dicomdir check d > 0 [OK 0 records|] [] kept
 DICOMDIR=first PT000001/ST000001/SE000001/IM000001=a.dcm: - - dicomdir check '' > 1 [] [FAULT : 92 Absent|] kept
 ./DICOMDIR=first ./PT000001/ST000001/SE000001/IM000001=a.dcm: - - dicomdir check . > 0 [OK 4 records|] [] kept
 index d a.dcm d.dcm: - - dicomdir check d > 0 [OK 5 records|] [] kept
+index d f.dcm: - - dicomdir check d > 0 [OK 4 records|] [] kept
 d/DICOMDIR=v3 d/IMAGES/SR1=note.txt: - - dicomdir check d > 0 [OK 5 records|] [] kept
 d/DICOMDIR=first,650,0000: - - dicomdir check d > 0 [OK 4 records|] [] kept
 d/DICOMDIR=first: - - dicomdir check d > 3 [MISSING PT000001\\ST000001\\SE000001\\IM000001|] [] kept
@@ -42,6 +43,7 @@ d/DICOMDIR=first,336,40010000: - - dicomdir check d > 3 [BROKEN 55 Twice 320|] [
 d/DICOMDIR=first,282,41010000: - - dicomdir check d > 3 [BROKEN 54 Dangling 321|] [] kept
 d/DICOMDIR=first,370,'________: - - dicomdir check d > 3 [BROKEN 53 RecordShape 320|] [] kept
 d/DICOMDIR=a.dcm: - - dicomdir check d > 3 [BROKEN 52 NotDirectory|] [] kept
+d/DICOMDIR=empty,226,'5: - - dicomdir check d > 3 [BROKEN 52 NotDirectory|] [] kept
 d/DICOMDIR=note.txt: - - dicomdir check d > 3 [BROKEN 51 File 21 NotPart10|] [] kept
 d/DICOMDIR=deep: - - dicomdir check d > 3 [BROKEN 58 TooDeep 1984|] [] kept
 d/DICOMDIR=empty: - - dicomdir check nowhere > 1 [] [FAULT nowhere/DICOMDIR: 92 Absent|] kept

@@ -1,6 +1,6 @@
 //! Files in memory, as runs find them.
 
-use dd_vectors::{deep, first_directory, put_words, v1, v1_with, v2, v3};
+use dd_vectors::{deep, first_directory, put_words, v1, v1_encapsulated, v1_with, v2, v3};
 use dicomdir::MemFiles;
 use std::alloc::Global;
 use std::test::Fail;
@@ -18,7 +18,8 @@ e.dcm 0010,0010 PN 'DOE^JANE";
 /// The path of the first image in its file-set.
 pub(crate) const FIRST_IMAGE: &str = "out/PT000001/ST000001/SE000001/IM000001";
 
-/// Images, a part of V1, a text, a folder that has a directory, and one that has an image.
+/// Images, V1 with pixel data in fragments, which is f.dcm, a part of V1, a text, a folder that has a directory,
+/// and one that has an image.
 pub(crate) fn disc(alloc: Global) -> Result<MemFiles, Fail> {
     let mut files = MemFiles::new(alloc);
     for line in IMAGES.split('\n') {
@@ -32,6 +33,7 @@ pub(crate) fn disc(alloc: Global) -> Result<MemFiles, Fail> {
 fn put_others(alloc: Global, files: &mut MemFiles) -> Result<(), Fail> {
     let image = v1(alloc)?;
     files.put("part.dcm", image.get(..450).ok_or("fewer bytes")?)?;
+    files.put("f.dcm", &v1_encapsulated(alloc)?)?;
     files.put("note.txt", b"no image")?;
     files.put("full/DICOMDIR", b"")?;
     files.put("taken/PT000001/ST000001/SE000001/IM000001", b"")?;

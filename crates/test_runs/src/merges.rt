@@ -13,6 +13,8 @@ d1=set d2/DICOMDIR=empty: - - dicomdir merge o d2 d1 d2 --uid 2.25.0 > 0 [DONE 1
 d1/DICOMDIR=empty: - - dicomdir merge o d1 --uid 2.25.0 > 0 [DONE 0 instances, 320 bytes|] [] changed
 index d1 a.dcm; index d2 d.dcm: - - dicomdir merge o d1 d2 --uid 2.25.0 > \
 0 [DONE 2 instances, 1130 bytes|] [] changed
+index d1 f.dcm; index d2 d.dcm: - - dicomdir merge o d1 d2 --uid 2.25.0 > \
+0 [DONE 2 instances, 1132 bytes|] [] changed
 d1=set: - - dicomdir merge o d1 --uid 2.25.0 --max-bytes 876 > 0 [DONE 1 instances, 876 bytes|] [] changed
 d1=set: - - dicomdir merge o d1 --uid 2.25.0 --max-bytes 875 > 1 [] [FAULT -: 43 TooLarge|] kept
 d1=set d2/DICOMDIR=first,402,'P2,772,'6: - - dicomdir merge o d2 d1 > \
@@ -66,6 +68,7 @@ merge o d1 --uid 2.25.0 > o=set
 ./DICOMDIR=first ./PT000001/ST000001/SE000001/IM000001=a.dcm: merge o . --uid 2.25.0 > o=set
 index d1 b.dcm: merge o d1 --uid 2.25.0 > o/DICOMDIR=empty
 index d1 a.dcm; index d2 d.dcm: merge o d1 d2 > index o a.dcm d.dcm
+index d1 f.dcm; index d2 d.dcm: merge o d1 d2 > index o f.dcm d.dcm
 index d1 a.dcm --id DISC1; index d2 d.dcm --uid 2.25.7: merge o d2 d1 d2 --id DISC2 > index o a.dcm d.dcm --id DISC2
 index d1 a.dcm d.dcm; index d2 b.dcm; index d3 d.dcm: merge o d1 d2 d3 > index o d.dcm a.dcm
 index d1 a.dcm; index d2 c.dcm; index d3 e.dcm: merge o d1 d2 d3 > index o a.dcm c.dcm e.dcm

@@ -33,6 +33,8 @@ const RUNS: &str = "\
 SKIP part.dcm: 31 File 27 Set 1 Truncated|DONE 1 instances, 876 bytes|] [] changed
 - - dicomdir index out a.dcm c.dcm a.dcm e.dcm --uid 2.25.0 > 0 [DONE 1 instances, 876 bytes|] [] changed
 - - dicomdir index out a.dcm d.dcm --uid 2.25.0 > 0 [DONE 2 instances, 1130 bytes|] [] changed
+- - dicomdir index out f.dcm --uid 2.25.0 > 0 [DONE 1 instances, 878 bytes|] [] changed
+- - dicomdir index out f.dcm --uid 2.25.0 --max-bytes 877 > 1 [] [FAULT -: 43 TooLarge|] kept
 0 - dicomdir index out a.dcm --uid 2.25.0 > 1 [] [] changed
 9 - dicomdir index out a.dcm --uid 2.25.0 > 1 [DONE 1 in] [] changed
 9 - dicomdir index out a.dcm b.dcm --uid 2.25.0 > 1 [SKIP b.dc] [] kept
@@ -195,6 +197,9 @@ fn neither_order_nor_repeats_change_the_files(rt: HostRuntime) -> Result<(), Fai
 /// Versions of one instance, and which is copied.
 const KEPT: &str = "\
 a.dcm > a.dcm
+f.dcm > f.dcm
+f.dcm a.dcm > a.dcm
+a.dcm f.dcm > a.dcm
 a.dcm c.dcm > c.dcm
 c.dcm a.dcm > c.dcm
 e.dcm a.dcm > a.dcm

@@ -13,6 +13,7 @@ pub(crate) enum Ask {
     Measured,
     Found,
     Refused,
+    CutFront,
     Deep,
     ScannedV1,
     /// The most bytes of a read.
@@ -21,6 +22,7 @@ pub(crate) enum Ask {
     Long,
     Sent,
     Cut,
+    Made,
     Header,
     Piece,
 }
@@ -32,6 +34,7 @@ fn answer(alloc: Global, ask: Ask, question: &str) -> Result<String, Fail> {
         Ask::Measured => reading::measured(alloc, question),
         Ask::Found => reading::found(alloc, question),
         Ask::Refused => refusals::refused(alloc, question),
+        Ask::CutFront => refusals::cut(alloc, question),
         Ask::Deep => refusals::deep(alloc, question),
         Ask::ScannedV1 => scanning::scanned_v1(alloc, question),
         Ask::ScannedSet(piece) => scanning::scanned_set(alloc, piece, question),
@@ -39,6 +42,7 @@ fn answer(alloc: Global, ask: Ask, question: &str) -> Result<String, Fail> {
         Ask::Long => scanning::long(alloc, question),
         Ask::Sent => sending::sent(alloc, question),
         Ask::Cut => sending::cut(alloc, question),
+        Ask::Made => sending::made(alloc, question),
         Ask::Header => sending::header(alloc, question),
         Ask::Piece => sending::piece(alloc, question),
     }

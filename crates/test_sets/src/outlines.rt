@@ -1,5 +1,5 @@
-//! What a data set holds, as text: `TAG VR VALUE` for each element, and for one with items their lengths
-//! and what they hold.
+//! What a data set holds, as text: `TAG VR VALUE` for each element. For one with items the value is their lengths
+//! and what they hold, and for one with fragments the bytes of each.
 
 use dd_set::{DataSet, Element, Item, Value};
 use dd_vectors::text_of;
@@ -17,6 +17,7 @@ pub(crate) fn outline(alloc: Global, set: &DataSet<'_>) -> Result<String, Fail> 
                 text.push_str(format!(in alloc; "{length:?}")?.as_str())?;
                 push_items(alloc, &mut text, items)?;
             }
+            Value::Fragments(fragments) => push_fragments(alloc, &mut text, fragments)?,
         }
     }
     Ok(text)
@@ -40,6 +41,16 @@ fn push_value(alloc: Global, text: &mut String, bytes: &[u8]) -> Result<(), Fail
     Ok(())
 }
 
+/// `Fragments`, and each as `[BYTES]`.
+fn push_fragments(alloc: Global, text: &mut String, fragments: &[&[u8]]) -> Result<(), Fail> {
+    text.push_str("Fragments")?;
+    for fragment in fragments {
+        let bytes = hex::encode(alloc, *fragment)?;
+        text.push_str(format!(in alloc; " [{bytes}]")?.as_str())?;
+    }
+    Ok(())
+}
+
 /// Each item, as `LENGTH [ELEMENTS]`.
 fn push_items(alloc: Global, text: &mut String, items: &[Item<'_>]) -> Result<(), Fail> {
     for item in items {
@@ -57,6 +68,7 @@ fn push_plain(alloc: Global, text: &mut String, set: &DataSet<'_>) -> Result<(),
         match &element.value {
             Value::Bytes(bytes) => push_value(alloc, text, bytes)?,
             Value::Items { .. } => return Err("items within items".into()),
+            Value::Fragments(fragments) => push_fragments(alloc, text, fragments)?,
         }
     }
     Ok(())

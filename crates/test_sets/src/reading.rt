@@ -31,22 +31,71 @@ explicit 08006000 4353 0200 4354 08004011 5351 0000 1a000000 feff00e0 00000000 \
 feff00e0 0a000000 10002000 4c4f 0200 5031 > \
 (0008,0060) CS 'CT; (0008,1140) SQ Defined Defined [] Defined [(0010,0020) LO 'P1]";
 
-/// The same: their sizes in Explicit and in Implicit VR, and where the items of (0008,1140) start in the
-/// spelling that was read.
+/// Data sets in an encapsulated syntax, and what they hold. Pixel data in fragments comes first: two, none at all,
+/// an empty offset table alone and one that is not empty. Then two in an item of each form of length, and two before
+/// another element. Last pixel data that is bytes, items in Implicit VR, and one other element.
+const ENCAPSULATED_SETS: &str = "\
+encapsulated e07f1000 4f42 0000 ffffffff feff00e0 00000000 feff00e0 04000000 ff4fff51 feffdde0 00000000 > \
+(7FE0,0010) OB Fragments [] [ff4fff51]
+encapsulated e07f1000 4f42 0000 ffffffff feffdde0 00000000 > (7FE0,0010) OB Fragments
+encapsulated e07f1000 4f42 0000 ffffffff feff00e0 00000000 feffdde0 00000000 > \
+(7FE0,0010) OB Fragments []
+encapsulated e07f1000 4f42 0000 ffffffff feff00e0 04000000 00000000 feffdde0 00000000 > \
+(7FE0,0010) OB Fragments [00000000]
+encapsulated 08004011 5351 0000 ffffffff feff00e0 ffffffff e07f1000 4f42 0000 ffffffff \
+feff00e0 00000000 feff00e0 04000000 ff4fff51 feffdde0 00000000 feff0de0 00000000 feffdde0 00000000 > \
+(0008,1140) SQ Undefined Undefined [(7FE0,0010) OB Fragments [] [ff4fff51]]
+encapsulated 08004011 5351 0000 30000000 feff00e0 28000000 e07f1000 4f42 0000 ffffffff \
+feff00e0 00000000 feff00e0 04000000 ff4fff51 feffdde0 00000000 > \
+(0008,1140) SQ Defined Defined [(7FE0,0010) OB Fragments [] [ff4fff51]]
+encapsulated e07f1000 4f42 0000 ffffffff feff00e0 00000000 feff00e0 04000000 ff4fff51 feffdde0 00000000 \
+fcfffcff 4f42 0000 02000000 5031 > \
+(7FE0,0010) OB Fragments [] [ff4fff51]; (FFFC,FFFC) OB 'P1
+encapsulated e07f1000 4f42 0000 02000000 5031 > (7FE0,0010) OB 'P1
+encapsulated 09000110 554e 0000 ffffffff feff00e0 ffffffff 10002000 02000000 5031 \
+feff0de0 00000000 feffdde0 00000000 > \
+(0009,1001) UN Undefined Undefined [(0010,0020) - 'P1]
+encapsulated 10002000 4c4f 0200 5031 > (0010,0020) LO 'P1";
+
+/// The sets of the first table, and their sizes in Explicit, in Implicit VR and in an encapsulated syntax. Behind
+/// these stands where the items of the last element start in the spelling that was read.
 const SIZES: &str = "\
-explicit 10002000 4c4f 0200 5031 > Some(10) None, None
-implicit 10002000 02000000 5031 > None Some(10), None
-explicit ' > Some(0) Some(0), None
+explicit 10002000 4c4f 0200 5031 > Some(10) None Some(10), None
+implicit 10002000 02000000 5031 > None Some(10) None, None
+explicit ' > Some(0) Some(0) Some(0), None
 explicit 08004011 5351 0000 12000000 feff00e0 0a000000 10002000 4c4f 0200 5031 > \
-Some(30) None, Some([12])
+Some(30) None Some(30), Some([12])
 explicit 08004011 5351 0000 ffffffff feff00e0 ffffffff 10002000 4c4f 0200 5031 \
-feff0de0 00000000 feffdde0 00000000 > Some(46) None, Some([12])
+feff0de0 00000000 feffdde0 00000000 > Some(46) None Some(46), Some([12])
 explicit 09000110 554e 0000 ffffffff feff00e0 ffffffff 10002000 02000000 5031 \
-feff0de0 00000000 feffdde0 00000000 > Some(46) None, None
+feff0de0 00000000 feffdde0 00000000 > Some(46) None Some(46), Some([12])
 implicit 08004011 ffffffff feff00e0 0a000000 10002000 02000000 5031 feffdde0 00000000 > \
-None Some(34), Some([8])
+None Some(34) None, Some([8])
 explicit 08006000 4353 0200 4354 08004011 5351 0000 1a000000 feff00e0 00000000 \
-feff00e0 0a000000 10002000 4c4f 0200 5031 > Some(48) None, Some([22, 30])";
+feff00e0 0a000000 10002000 4c4f 0200 5031 > Some(48) None Some(48), Some([22, 30])";
+
+/// The same of those in an encapsulated syntax, and of fragments before a sequence.
+const ENCAPSULATED_SIZES: &str = "\
+encapsulated e07f1000 4f42 0000 ffffffff feff00e0 00000000 feff00e0 04000000 ff4fff51 feffdde0 00000000 > \
+None None Some(40), None
+encapsulated e07f1000 4f42 0000 ffffffff feffdde0 00000000 > None None Some(20), None
+encapsulated e07f1000 4f42 0000 ffffffff feff00e0 00000000 feffdde0 00000000 > \
+None None Some(28), None
+encapsulated e07f1000 4f42 0000 ffffffff feff00e0 04000000 00000000 feffdde0 00000000 > \
+None None Some(32), None
+encapsulated 08004011 5351 0000 ffffffff feff00e0 ffffffff e07f1000 4f42 0000 ffffffff \
+feff00e0 00000000 feff00e0 04000000 ff4fff51 feffdde0 00000000 feff0de0 00000000 feffdde0 00000000 > \
+None None Some(76), Some([12])
+encapsulated 08004011 5351 0000 30000000 feff00e0 28000000 e07f1000 4f42 0000 ffffffff \
+feff00e0 00000000 feff00e0 04000000 ff4fff51 feffdde0 00000000 > \
+None None Some(60), Some([12])
+encapsulated e07f1000 4f42 0000 ffffffff feff00e0 00000000 feff00e0 04000000 ff4fff51 feffdde0 00000000 \
+fafffaff 5351 0000 12000000 feff00e0 0a000000 10002000 4c4f 0200 5031 > \
+None None Some(70), Some([52])
+encapsulated e07f1000 4f42 0000 02000000 5031 > Some(14) None Some(14), None
+encapsulated 09000110 554e 0000 ffffffff feff00e0 ffffffff 10002000 02000000 5031 \
+feff0de0 00000000 feffdde0 00000000 > Some(46) None Some(46), Some([12])
+encapsulated 10002000 4c4f 0200 5031 > Some(10) None Some(10), None";
 
 /// Tags, and the element of a set of a modality and a Patient ID that has them.
 const FOUND: &str = "\
@@ -62,15 +111,25 @@ pub(crate) fn held(alloc: Global, question: &str) -> Result<String, Fail> {
 
 #[test]
 fn sets_hold_what_their_bytes_spell(rt: HostRuntime) -> Result<(), Fail> {
-    ask_all(&rt, rt.alloc(), Ask::Held, SETS)
+    ask_all(&rt, rt.alloc(), Ask::Held, SETS)?;
+    ask_all(&rt, rt.alloc(), Ask::Held, ENCAPSULATED_SETS)
 }
 
-/// Both sizes, and where the items start.
+/// Where the items of the last element start.
+fn last_starts(alloc: Global, syntax: Syntax, set: &DataSet<'_>) -> Result<Option<Vec<u64>>, Fail> {
+    match set.elements.last() {
+        None => Ok(None),
+        Some(last) => Ok(set.item_starts(alloc, syntax, last.tag)?),
+    }
+}
+
+/// The three sizes, and where the items of the last element start.
 fn numbers(alloc: Global, syntax: Syntax, set: &DataSet<'_>) -> Result<String, Fail> {
     let explicit = set.size(Syntax::Explicit);
     let implicit = set.size(Syntax::Implicit);
-    let starts = set.item_starts(alloc, syntax, IMAGES)?;
-    Ok(format!(in alloc; "{explicit:?} {implicit:?}, {starts:?}")?)
+    let encapsulated = set.size(Syntax::Encapsulated);
+    let starts = last_starts(alloc, syntax, set)?;
+    Ok(format!(in alloc; "{explicit:?} {implicit:?} {encapsulated:?}, {starts:?}")?)
 }
 
 pub(crate) fn measured(alloc: Global, question: &str) -> Result<String, Fail> {
@@ -81,7 +140,8 @@ pub(crate) fn measured(alloc: Global, question: &str) -> Result<String, Fail> {
 
 #[test]
 fn sets_have_the_size_of_their_bytes(rt: HostRuntime) -> Result<(), Fail> {
-    ask_all(&rt, rt.alloc(), Ask::Measured, SIZES)
+    ask_all(&rt, rt.alloc(), Ask::Measured, SIZES)?;
+    ask_all(&rt, rt.alloc(), Ask::Measured, ENCAPSULATED_SIZES)
 }
 
 /// Has the set no items of this tag in this syntax?

@@ -1,7 +1,7 @@
 //! Data sets scanned from a reader.
 
 use crate::cases::{Ask, ask_all};
-use crate::spellings::{IMAGES, PATIENT_ID, spelled};
+use crate::spellings::{IMAGES, PATIENT_ID, PIXEL_DATA, spelled};
 use dd_elem::{ByteSource, Tag};
 use dd_set::{FoundValue, Scan, ScanFault, SetFault, Syntax, scan};
 use dd_vectors::{bytes_of, reader_of, tags_of, text_of, v1};
@@ -53,8 +53,8 @@ const LONG: &str = "\
 1023 5001 0 > 1023 A 1023
 10001 1 0 > 1024 A 10001";
 
-/// Scans for the Patient ID and the Referenced Image Sequence: of elements, of a sequence in whose item
-/// another element stands, of padding, and of bytes that are no data set.
+/// Scans for the Patient ID, the Referenced Image Sequence and the Pixel Data: of elements, of a sequence in whose
+/// item another element stands, and of padding. Then of bytes that are no data set.
 const SETS: &str = "\
 explicit ' > empty
 explicit 10002000 4c4f 0200 5031 > (0010,0020); (0010,0020) 'P1 2
@@ -72,6 +72,22 @@ explicit 10002000 4c4f 0200 50 > 1 Truncated
 explicit 08004011 5351 0000 ffffffff feffdde0 02000000 > 8 BadDelimiter
 explicit 08004011 5351 0000 08000000 feff00e0 02000000 > 9 Overrun";
 
+/// The same of pixel data in fragments: two, none at all, two before another element, and one behind one. Then two
+/// in an item, where they are not found; pixel data that is bytes; and a fragment of odd length.
+const FRAGMENTS: &str = "\
+encapsulated e07f1000 4f42 0000 ffffffff feff00e0 00000000 feff00e0 04000000 ff4fff51 feffdde0 00000000 > \
+(7FE0,0010); (7FE0,0010) fragments
+encapsulated e07f1000 4f42 0000 ffffffff feffdde0 00000000 > (7FE0,0010); (7FE0,0010) fragments
+encapsulated e07f1000 4f42 0000 ffffffff feff00e0 00000000 feff00e0 04000000 ff4fff51 feffdde0 00000000 \
+fcfffcff 4f42 0000 02000000 5031 > (7FE0,0010); (7FE0,0010) fragments
+encapsulated 10002000 4c4f 0200 5031 e07f1000 4f42 0000 ffffffff feff00e0 00000000 feffdde0 00000000 > \
+(0010,0020); (0010,0020) 'P1 2; (7FE0,0010) fragments
+encapsulated 08004011 5351 0000 ffffffff feff00e0 ffffffff e07f1000 4f42 0000 ffffffff \
+feff00e0 00000000 feff00e0 04000000 ff4fff51 feffdde0 00000000 feff0de0 00000000 feffdde0 00000000 > \
+(0008,1140); (0008,1140) items
+encapsulated e07f1000 4f42 0000 02000000 5031 > (7FE0,0010); (7FE0,0010) 'P1 2
+encapsulated e07f1000 4f42 0000 ffffffff feff00e0 03000000 > 5 OddLength";
+
 /// What a scan tells: the first tag, and of each element that it found the tag, the front of the value
 /// and the length; or its fault.
 fn told(alloc: Global, answer: Result<Scan, ScanFault>) -> Result<String, Fail> {
@@ -87,6 +103,9 @@ fn told(alloc: Global, answer: Result<Scan, ScanFault>) -> Result<String, Fail> 
         let tag = found.tag;
         match &found.value {
             FoundValue::Items => text.push_str(format!(in alloc; "; {tag} items")?.as_str())?,
+            FoundValue::Fragments => {
+                text.push_str(format!(in alloc; "; {tag} fragments")?.as_str())?;
+            }
             FoundValue::Bytes { front, length } => {
                 let front = text_of(alloc, front)?;
                 text.push_str(format!(in alloc; "; {tag} {front} {length}")?.as_str())?;
@@ -117,7 +136,7 @@ fn scans_of_one_set(rt: HostRuntime) -> Result<(), Fail> {
 pub(crate) fn scanned_set(alloc: Global, piece: u64, question: &str) -> Result<String, Fail> {
     let (syntax, bytes) = spelled(alloc, question)?;
     let mut reader = ByteSource::new(&bytes, piece, None);
-    let wanted: [Tag; 2] = [PATIENT_ID, IMAGES];
+    let wanted: [Tag; 3] = [PATIENT_ID, IMAGES, PIXEL_DATA];
     let answer = scan(alloc, syntax, &mut reader, &wanted, 4096);
     told(alloc, answer)
 }
@@ -127,6 +146,13 @@ fn scans_of_many_sets(rt: HostRuntime) -> Result<(), Fail> {
     ask_all(&rt, rt.alloc(), Ask::ScannedSet(1), SETS)?;
     ask_all(&rt, rt.alloc(), Ask::ScannedSet(7), SETS)?;
     ask_all(&rt, rt.alloc(), Ask::ScannedSet(4096), SETS)
+}
+
+#[test]
+fn scans_of_fragments(rt: HostRuntime) -> Result<(), Fail> {
+    ask_all(&rt, rt.alloc(), Ask::ScannedSet(1), FRAGMENTS)?;
+    ask_all(&rt, rt.alloc(), Ask::ScannedSet(7), FRAGMENTS)?;
+    ask_all(&rt, rt.alloc(), Ask::ScannedSet(4096), FRAGMENTS)
 }
 
 pub(crate) fn scanned_faulty(alloc: Global, question: &str) -> Result<String, Fail> {

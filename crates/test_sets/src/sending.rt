@@ -2,7 +2,7 @@
 
 use crate::cases::{Ask, ask_all};
 use crate::spellings::{PATIENT_ID, nested, set_of, spelled};
-use dd_elem::{Sink, Vr};
+use dd_elem::{Sink, Tag, Vr};
 use dd_set::{DataSet, Element, Syntax, Value, WriteFault, send, send_header, write_set};
 use dd_vectors::{bytes_of, tag_of};
 use std::alloc::Global;
@@ -21,12 +21,61 @@ feff0de0 00000000 feffdde0 00000000 > 46 [46]
 implicit 08004011 ffffffff feff00e0 0a000000 10002000 02000000 5031 feffdde0 00000000 > \
 34 [34]";
 
-/// After how many bytes a writer fails that gets 32 nested sequences, of 1,152 bytes.
+/// The same of pixel data in fragments: two, none at all, an empty offset table alone and one that is not empty.
+/// Then two in an item of each form of length, and two before a sequence. Last pixel data that is bytes, items in
+/// Implicit VR, and one other element.
+const FRAGMENTS: &str = "\
+encapsulated e07f1000 4f42 0000 ffffffff feff00e0 00000000 feff00e0 04000000 ff4fff51 feffdde0 00000000 > \
+40 [40]
+encapsulated e07f1000 4f42 0000 ffffffff feffdde0 00000000 > 20 [20]
+encapsulated e07f1000 4f42 0000 ffffffff feff00e0 00000000 feffdde0 00000000 > 28 [28]
+encapsulated e07f1000 4f42 0000 ffffffff feff00e0 04000000 00000000 feffdde0 00000000 > 32 [32]
+encapsulated 08004011 5351 0000 ffffffff feff00e0 ffffffff e07f1000 4f42 0000 ffffffff \
+feff00e0 00000000 feff00e0 04000000 ff4fff51 feffdde0 00000000 feff0de0 00000000 feffdde0 00000000 > 76 [76]
+encapsulated 08004011 5351 0000 30000000 feff00e0 28000000 e07f1000 4f42 0000 ffffffff \
+feff00e0 00000000 feff00e0 04000000 ff4fff51 feffdde0 00000000 > 60 [60]
+encapsulated e07f1000 4f42 0000 ffffffff feff00e0 00000000 feff00e0 04000000 ff4fff51 feffdde0 00000000 \
+fafffaff 5351 0000 12000000 feff00e0 0a000000 10002000 4c4f 0200 5031 > 70 [70]
+encapsulated e07f1000 4f42 0000 02000000 5031 > 14 [14]
+encapsulated 09000110 554e 0000 ffffffff feff00e0 ffffffff 10002000 02000000 5031 \
+feff0de0 00000000 feffdde0 00000000 > 46 [46]
+encapsulated 10002000 4c4f 0200 5031 > 10 [10]";
+
+/// After how many bytes a writer fails that gets 32 nested sequences, of 1,152 bytes, or pixel data in fragments,
+/// of 40 bytes.
 const FAILING: &str = "\
-0 > 12 Write 0 [0]
-400 > 12 Write 400 [400]
-1151 > 12 Write 1151 [1151]
-1152 > 1152 [1152]";
+0 nested > 12 Write 0 [0]
+400 nested > 12 Write 400 [400]
+1151 nested > 12 Write 1151 [1151]
+1152 nested > 1152 [1152]
+11 encapsulated e07f1000 4f42 0000 ffffffff feff00e0 00000000 feff00e0 04000000 ff4fff51 feffdde0 00000000 > \
+12 Write 11 [11]
+20 encapsulated e07f1000 4f42 0000 ffffffff feff00e0 00000000 feff00e0 04000000 ff4fff51 feffdde0 00000000 > \
+12 Write 20 [20]
+31 encapsulated e07f1000 4f42 0000 ffffffff feff00e0 00000000 feff00e0 04000000 ff4fff51 feffdde0 00000000 > \
+12 Write 31 [31]
+39 encapsulated e07f1000 4f42 0000 ffffffff feff00e0 00000000 feff00e0 04000000 ff4fff51 feffdde0 00000000 > \
+12 Write 39 [39]
+40 encapsulated e07f1000 4f42 0000 ffffffff feff00e0 00000000 feff00e0 04000000 ff4fff51 feffdde0 00000000 > \
+40 [40]";
+
+/// Elements whose value is an empty offset table and one fragment: the tag, the value representation (`--` for none),
+/// the syntax and the fragment. The answer is the size, what comes of sending the set, and what the writer holds.
+/// Only pixel data OB in an encapsulated syntax has fragments, and these are of even length.
+const MADE: &str = "\
+7FE0,0010 OB encapsulated ff4fff51 > \
+Some(40) 40 [e07f10004f420000fffffffffeff00e000000000feff00e004000000ff4fff51feffdde000000000]
+7FE0,0010 OB encapsulated ' > \
+Some(36) 36 [e07f10004f420000fffffffffeff00e000000000feff00e000000000feffdde000000000]
+7FE0,0010 OB encapsulated ff4fff > None 13 NotWritable []
+7FE0,0011 OB encapsulated ff4fff51 > None 13 NotWritable []
+0010,0020 OB encapsulated ff4fff51 > None 13 NotWritable []
+7FE0,0010 OW encapsulated ff4fff51 > None 13 NotWritable []
+7FE0,0010 UN encapsulated ff4fff51 > None 13 NotWritable []
+7FE0,0010 -- encapsulated ff4fff51 > None 13 NotWritable []
+7FE0,0010 OB explicit ff4fff51 > None 13 NotWritable []
+7FE0,0010 OB implicit ff4fff51 > None 13 NotWritable []
+7FE0,0010 -- implicit ff4fff51 > None 13 NotWritable []";
 
 /// A header: its tag, its value representation, its length and how many bytes went before. A short one
 /// has room for a length up to 65,535.
@@ -76,13 +125,23 @@ pub(crate) fn sent(alloc: Global, question: &str) -> Result<String, Fail> {
 
 #[test]
 fn sets_give_their_bytes_back(rt: HostRuntime) -> Result<(), Fail> {
-    ask_all(&rt, rt.alloc(), Ask::Sent, SENT)
+    ask_all(&rt, rt.alloc(), Ask::Sent, SENT)?;
+    ask_all(&rt, rt.alloc(), Ask::Sent, FRAGMENTS)
+}
+
+/// The 32 nested sequences, or the set of this line.
+fn named(alloc: Global, line: &str) -> Result<(Syntax, Vec<u8>), Fail> {
+    if line == "nested" {
+        return Ok((Syntax::Explicit, nested(alloc, 32, &[])?));
+    }
+    spelled(alloc, line)
 }
 
 pub(crate) fn cut(alloc: Global, question: &str) -> Result<String, Fail> {
-    let bytes = nested(alloc, 32)?;
-    let sink = Sink::new(alloc, Some(question.parse()?));
-    sent_again(alloc, Syntax::Explicit, &bytes, sink)
+    let (fails, line) = question.split_once(' ').ok_or("no set")?;
+    let (syntax, bytes) = named(alloc, line)?;
+    let sink = Sink::new(alloc, Some(fails.parse()?));
+    sent_again(alloc, syntax, &bytes, sink)
 }
 
 #[test]
@@ -90,25 +149,57 @@ fn a_writer_that_fails_keeps_what_it_took(rt: HostRuntime) -> Result<(), Fail> {
     ask_all(&rt, rt.alloc(), Ask::Cut, FAILING)
 }
 
-/// The data set of a Patient ID with this value.
-fn only(alloc: Global, value: &[u8]) -> Result<DataSet<'_>, Fail> {
+/// The data set of one element.
+fn only<'a>(
+    alloc: Global,
+    tag: Tag,
+    vr: Option<Vr>,
+    value: Value<'a>,
+) -> Result<DataSet<'a>, Fail> {
     let mut elements = Vec::new(alloc);
-    elements.push(Element {
-        tag: PATIENT_ID,
-        vr: Some(Vr::LO),
-        value: Value::Bytes(value),
-    })?;
+    elements.push(Element { tag, vr, value })?;
     Ok(DataSet { elements })
 }
 
 #[test]
 fn a_set_of_odd_bytes_is_not_written(rt: HostRuntime) -> Result<(), Fail> {
-    let set = only(rt.alloc(), b"P")?;
+    let set = only(rt.alloc(), PATIENT_ID, Some(Vr::LO), Value::Bytes(b"P"))?;
     let mut sink = Sink::new(rt.alloc(), None);
     let answer = write_set(&set, Syntax::Explicit, &mut sink);
     assert_eq!(rt; answer, Err(WriteFault::NotWritable));
     assert!(rt; sink.bytes().is_empty() && set.size(Syntax::Explicit).is_none());
     Ok(())
+}
+
+/// An empty offset table, and this fragment.
+fn in_fragments<'a>(alloc: Global, fragment: &'a [u8]) -> Result<Value<'a>, Fail> {
+    let mut fragments: Vec<&'a [u8]> = Vec::new(alloc);
+    fragments.push(&[])?;
+    fragments.push(fragment)?;
+    Ok(Value::Fragments(fragments))
+}
+
+/// The size of a set, and what comes of sending it.
+fn size_and_sent(alloc: Global, syntax: Syntax, set: &DataSet<'_>) -> Result<String, Fail> {
+    let mut sink = Sink::new(alloc, None);
+    sink.reserve(40)?;
+    let answer = write_set(set, syntax, &mut sink);
+    let (size, told) = (set.size(syntax), told_with(alloc, answer, &sink)?);
+    Ok(format!(in alloc; "{size:?} {told}")?)
+}
+
+pub(crate) fn made(alloc: Global, question: &str) -> Result<String, Fail> {
+    let (tag, rest) = question.split_once(' ').ok_or("no tag")?;
+    let (letters, line) = rest.split_once(' ').ok_or("no letters")?;
+    let (syntax, fragment) = spelled(alloc, line)?;
+    let vr = Vr::from_letters(letters.as_bytes().try_into()?);
+    let set = only(alloc, tag_of(tag)?, vr, in_fragments(alloc, &fragment)?)?;
+    size_and_sent(alloc, syntax, &set)
+}
+
+#[test]
+fn fragments_are_written_where_they_may_stand(rt: HostRuntime) -> Result<(), Fail> {
+    ask_all(&rt, rt.alloc(), Ask::Made, MADE)
 }
 
 /// What comes of sending this header.

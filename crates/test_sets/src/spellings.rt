@@ -18,12 +18,20 @@ pub(crate) const IMAGES: Tag = Tag {
     element: 0x1140,
 };
 
-/// The syntax of a line `explicit WORDS` or `implicit WORDS`, and the bytes that its words name.
+/// Pixel Data.
+pub(crate) const PIXEL_DATA: Tag = Tag {
+    group: 0x7fe0,
+    element: 0x0010,
+};
+
+/// The syntax of a line `explicit WORDS`, `implicit WORDS` or `encapsulated WORDS`, and the bytes that its
+/// words name.
 pub(crate) fn spelled(alloc: Global, line: &str) -> Result<(Syntax, Vec<u8>), Fail> {
     let (name, words) = line.split_once(' ').ok_or("no syntax")?;
     let syntax = match name {
         "explicit" => Syntax::Explicit,
         "implicit" => Syntax::Implicit,
+        "encapsulated" => Syntax::Encapsulated,
         _ => return Err("no syntax".into()),
     };
     Ok((syntax, bytes_of(alloc, words)?))
@@ -34,8 +42,9 @@ pub(crate) fn set_of(alloc: Global, syntax: Syntax, bytes: &[u8]) -> Result<Data
     parse(alloc, syntax, bytes)
 }
 
-/// Sequences of undefined length, each with one item of undefined length, nested so deep.
-pub(crate) fn nested(alloc: Global, levels: usize) -> Result<Vec<u8>, Fail> {
+/// Sequences of undefined length, each with one item of undefined length, nested so deep. The innermost item
+/// has these bytes.
+pub(crate) fn nested(alloc: Global, levels: usize, inside: &[u8]) -> Result<Vec<u8>, Fail> {
     let mut bytes = Vec::new(alloc);
     for _ in 0..levels {
         push_bytes(
@@ -44,6 +53,7 @@ pub(crate) fn nested(alloc: Global, levels: usize) -> Result<Vec<u8>, Fail> {
             "08004011 5351 0000 ffffffff feff00e0 ffffffff",
         )?;
     }
+    bytes.extend_from_slice(inside)?;
     for _ in 0..levels {
         push_bytes(alloc, &mut bytes, "feff0de0 00000000 feffdde0 00000000")?;
     }

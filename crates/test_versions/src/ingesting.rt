@@ -5,13 +5,13 @@ use crate::reading::text_of_keys;
 use crate::refusals::with_patient_id;
 use dd_elem::{ByteSource, Ordered};
 use dd_keys::{Version, ingest, version_of};
-use dd_vectors::{push_bytes, v1, v1_with};
+use dd_vectors::{push_bytes, v1, v1_encapsulated, v1_with};
 use std::alloc::Global;
 use std::test::Fail;
 
-/// How many bytes come in one read, after how many the reader fails, the limit, and the file: V1 of 454
-/// bytes, whole or its front of so many bytes, or V1 with other elements. A failure and one byte more than
-/// the limit come before every check, wherever it fails.
+/// How many bytes come in one read, after how many the reader fails, the limit, and the file. This is V1 of 454
+/// bytes, whole or its front of so many bytes, V1 with pixel data in fragments, of 496 bytes, or V1 with other
+/// elements. A failure and one byte more than the limit come before every check, wherever it fails.
 const READ: &str = "\
 1 1000 454 whole > taken
 7 1000 454 whole > taken
@@ -25,6 +25,11 @@ const READ: &str = "\
 100 0 454 whole > 38 Read
 100 200 199 whole > 39 FileTooLong
 100 1000 0 whole > 39 FileTooLong
+1 1000 496 encapsulated > taken
+7 1000 496 encapsulated > taken
+4096 1000 496 encapsulated > taken
+7 1000 495 encapsulated > 39 FileTooLong
+7 495 496 encapsulated > 38 Read
 1 132 454 131 > 31 File 21 NotPart10
 1 131 454 131 > 38 Read
 7 1000 454 275 > 31 File 22 GroupLength
@@ -69,6 +74,9 @@ const LONG: &str = "\
 fn file_of(alloc: Global, name: &str) -> Result<Vec<u8>, Fail> {
     if name == "whole" {
         return v1(alloc);
+    }
+    if name == "encapsulated" {
+        return v1_encapsulated(alloc);
     }
     let Ok(size) = name.parse() else {
         return v1_with(alloc, name);

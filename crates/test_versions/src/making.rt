@@ -8,8 +8,8 @@ use std::alloc::Global;
 use std::cmp::Ordering;
 use std::test::Fail;
 
-/// The parts of V1 with other values, and what does not fit: each key that has to be there empty, another
-/// class, another transfer syntax; the least tag where two do not fit; parts that fit.
+/// The parts of V1 with other values, and what does not fit: each key that has to be there empty, another class,
+/// other transfer syntaxes. Then the least tag where two do not fit, and parts that fit.
 const MISFITS: &str = "\
 0008,0020 ' > (0008,0020) does not fit
 0008,0030 ' > (0008,0030) does not fit
@@ -20,13 +20,16 @@ const MISFITS: &str = "\
 0020,0013 ' > (0020,0013) does not fit
 0008,0016 '1.2.840.10008.5.1.4.1.1.88.11 > (0008,0016) does not fit
 0002,0010 '1.2.840.10008.1.2.2 > (0002,0010) does not fit
+0002,0010 '1.2.840.10008.1.2.4.52 > (0002,0010) does not fit
 0020,0013 '; 0008,0030 ' > (0008,0030) does not fit
 0020,0010 '; 0010,0020 ' > (0010,0020) does not fit
 0008,0020 '; 0008,0016 '1.2.3 > (0008,0016) does not fit
 0008,0020 '; 0002,0010 '1.2.3 > (0002,0010) does not fit
 0010,0010 ' > fits
 0010,0020 'P2 > fits
-0002,0010 '1.2.840.10008.1.2 > fits";
+0002,0010 '1.2.840.10008.1.2 > fits
+0002,0010 '1.2.840.10008.1.2.4.90 > fits
+0002,0010 '1.2.840.10008.1.2.5 > fits";
 
 /// Versions, each smaller than the next: 32 bytes of a digest, and what is not as in V1. Each next one has
 /// a part greater that is compared earlier.

@@ -2,17 +2,18 @@
 
 use crate::cases::{Ask, ask_all};
 use dd_keys::{Parts, version_of};
-use dd_vectors::{text_of, v1, v1_implicit, v1_with};
+use dd_vectors::{text_of, v1, v1_encapsulated, v1_implicit, v1_with};
 use std::alloc::Global;
 use std::test::Fail;
 
-/// V1, V1 in Implicit VR, where the Study Instance UID within the sequence is none of the keys, and the
-/// SHA-256 of each.
+/// V1, V1 in Implicit VR, where the Study Instance UID within the sequence is none of the keys, V1 with pixel
+/// data in fragments, and the SHA-256 of each.
 const DIGESTS: &str = "\
 v1 > 900e75e1c153f87b21e09f9db68aef627f2dd320eb3afb1f2574594e6c862a92
-v1 implicit > e10bec66fe1be47ab72d26a9e484a07318910813ff740d20298322b503bed3d2";
+v1 implicit > e10bec66fe1be47ab72d26a9e484a07318910813ff740d20298322b503bed3d2
+v1 encapsulated > 756287360dde40dc344fec2c491cc6e36d76ca14ce56951a42db23f73c75c1fa";
 
-/// These two, V1 with some keys empty or absent, and V1 with all keys absent that may be. What follows are
+/// These three, V1 with some keys empty or absent, and V1 with all keys absent that may be. What follows are
 /// the keys of the patient, the study and the series, the instance number, the class, the transfer syntax
 /// and the instance, in the order of the fields.
 const KEYS: &str = "\
@@ -20,6 +21,8 @@ v1 > 'P1 'DOE^JOHN ' '1.2.3 '20240115 '101500 ' ' '1 ' '1.2.3.4 'CT '1 '1 \
 '1.2.840.10008.5.1.4.1.1.2 '1.2.840.10008.1.2.1 '1.2.3.4.5
 v1 implicit > 'P1 'DOE^JOHN ' '1.2.3 '20240115 '101500 ' ' '1 ' '1.2.3.4 'CT '1 '1 \
 '1.2.840.10008.5.1.4.1.1.2 '1.2.840.10008.1.2 '1.2.3.4.5
+v1 encapsulated > 'P1 'DOE^JOHN ' '1.2.3 '20240115 '101500 ' ' '1 ' '1.2.3.4 'CT '1 '1 \
+'1.2.840.10008.5.1.4.1.1.2 '1.2.840.10008.1.2.4.90 '1.2.3.4.5
 0010,0020 LO; 0020,0010 absent; 0020,0013 IS '__ > \
 'NOID 'DOE^JOHN ' '1.2.3 '20240115 '101500 ' ' '0 ' '1.2.3.4 'CT '1 '0 \
 '1.2.840.10008.5.1.4.1.1.2 '1.2.840.10008.1.2.1 '1.2.3.4.5
@@ -33,6 +36,7 @@ fn file_of(alloc: Global, name: &str) -> Result<Vec<u8>, Fail> {
     match name {
         "v1" => v1(alloc),
         "v1 implicit" => v1_implicit(alloc),
+        "v1 encapsulated" => v1_encapsulated(alloc),
         changes => v1_with(alloc, changes),
     }
 }
