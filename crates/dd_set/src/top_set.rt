@@ -52,8 +52,7 @@ pub fn take_set<F: Feed>(
         let tag = header.tag;
         low = low_behind(tag);
         let keeps = is_wanted(wanted, tag);
-        let (value, behind) =
-            take_value(alloc, feed, MAX_LEVELS, syntax, header, behind, keeps)?;
+        let (value, behind) = take_value(alloc, feed, MAX_LEVELS, syntax, header, behind, keeps)?;
         left = behind;
         note(&mut scan, tag, value)?;
     }
