@@ -1,8 +1,10 @@
 #!/usr/bin/python3
 """Chooses files for file-sets by pydicom's reading, and compares what readers find with the files.
 
-    compare.py choose FILES TAKEN REFUSED COUNT   lists of paths, and how many instances are taken
-    compare.py check OUT TAKEN SEEN               a file-set, its sources, what each reader printed of it
+    compare.py choose FILES TAKEN REFUSED FAULTS COUNT
+        lists of paths, the lines of those that are refused for how they are encoded, how many instances are taken
+    compare.py check OUT TAKEN SEEN
+        a file-set, its sources, what each reader printed of it
 """
 import collections
 import hashlib
@@ -13,6 +15,8 @@ import warnings
 
 import pydicom
 from pydicom.dataelem import RawDataElement
+from pydicom.encaps import generate_pixel_data_fragment, get_frame_offsets
+from pydicom.filebase import DicomBytesIO
 from pydicom.fileset import FileSet
 from pydicom.uid import UID
 
@@ -23,7 +27,12 @@ IMAGES = {
         "1 1.1 1.1.1 1.2 1.2.1 2 2.1 3.1 4 4.1 6.1 7 7.1 7.2 7.3 7.4 12.1 12.2 20 77.1.1 77.1.2 77.1.4 128"
     ).split()
 }
-SYNTAXES = {"1.2.840.10008.1.2", "1.2.840.10008.1.2.1"}
+ENCAPSULATED = {"1.2.840.10008.1.2." + last for last in "4.50 4.51 4.70 4.80 4.81 4.90 4.91 5".split()}
+SYNTAXES = {"1.2.840.10008.1.2", "1.2.840.10008.1.2.1"} | ENCAPSULATED
+# Of those that it does not take: deflated, big endian, JPEG Lossless with any predictor, JPEG Progressive.
+OTHERS = {"1.2.840.10008.1.2." + last for last in "1.99 2 4.57 4.55".split()}
+# What stands in place of a length where a delimiter stands at the end.
+UNDEFINED = 0xFFFFFFFF
 KINDS = ["PATIENT", "STUDY", "SERIES", "IMAGE"]
 # What names a record of each kind, in the file and, for dumps, in the record.
 NAMES = ["PatientID", "StudyInstanceUID", "SeriesInstanceUID", "SOPInstanceUID"]
@@ -41,8 +50,9 @@ REPLACED = {"PatientID": "NOID", "StudyDate": "19000101", "StudyTime": "000000",
 # A date, a time and a UID as PS3.5 sections 6.2 and 9.1 want them. pydicom also reads older ones.
 FORMS = {"StudyDate": r"\d{8}", "StudyTime": r"\d\d(\d\d(\d\d(\.\d{1,6})?)?)?", "UID": r"[012]\.[0-9.]+"}
 
-# names: what names its four records. keys: what else these have. multiple: has it several frames?
-Source = collections.namedtuple("Source", "path names keys syntax modality multiple")
+# names: what names its four records. keys: what else these have. multiple: has it several frames? fragments: how
+# many bytes each fragment of its pixel data has, the offset table being the first, where it has fragments.
+Source = collections.namedtuple("Source", "path names keys syntax modality multiple fragments")
 # A record as a reader sees it: its level, its name or None, and the File ID of an image.
 Row = collections.namedtuple("Row", "level name file")
 
@@ -64,11 +74,42 @@ def value_of(holder, keyword):
     return ("" if value is None else str(value)) or REPLACED.get(keyword, "")
 
 
+def pixels_of(data):
+    """The pixel data where its length is undefined, so that its value is fragments; or None."""
+    pixels = data.get_item("PixelData")
+    return pixels if isinstance(pixels, RawDataElement) and pixels.length == UNDEFINED else None
+
+
+def fragments_of(data):
+    """How many bytes each fragment has, the offset table being the first. ValueError where these are no fragments."""
+    pixels = pixels_of(data)
+    if pixels is None:
+        return ()
+    stream = DicomBytesIO(pixels.value)
+    stream.is_little_endian = True
+    has_offsets, offsets = get_frame_offsets(stream)
+    fragments = tuple(len(fragment) for fragment in generate_pixel_data_fragment(stream))
+    return (4 * len(offsets) if has_offsets else 0,) + fragments
+
+
 def is_whole(element):
     """Has pydicom read as many bytes as the length says, and an even number? A sequence is read whole."""
-    if not isinstance(element, RawDataElement) or element.length == 0xFFFFFFFF:
+    if not isinstance(element, RawDataElement) or element.length == UNDEFINED:
         return True
     return element.length == len(element.value or b"") and element.length % 2 == 0
+
+
+def has_whole_pixels(data):
+    """Is pydicom's pixel data, where its length is undefined, a list of fragments as the standard wants it?"""
+    pixels = pixels_of(data)
+    if pixels is None:
+        return True
+    try:
+        even = all(size % 2 == 0 for size in fragments_of(data))
+    except ValueError:
+        return False
+    named = not pixels.is_implicit_VR and pixels.VR == "OB"
+    return even and named and data.file_meta.TransferSyntaxUID in ENCAPSULATED
 
 
 def is_taken(data):
@@ -78,6 +119,8 @@ def is_taken(data):
         return False
     tags = list(data.keys())
     if tags != sorted(tags) or not all(is_whole(element) for element in list(data.values())):
+        return False
+    if not has_whole_pixels(data):
         return False
     uids = [value_of(data, keyword) for keyword in NAMES[1:]]
     same = [
@@ -98,13 +141,18 @@ def has_forms(source):
     )
 
 
-def read_source(path):
-    """A file that the program must take, or None."""
+def read_file(path):
+    """What pydicom reads, or None where it is no DICOM file."""
     try:
-        data = pydicom.dcmread(path)
+        return pydicom.dcmread(path)
     except pydicom.errors.InvalidDicomError:
         return None
-    if not is_taken(data):
+
+
+def read_source(path):
+    """A file that the program must take, or None."""
+    data = read_file(path)
+    if data is None or not is_taken(data):
         return None
     return Source(
         path,
@@ -113,32 +161,70 @@ def read_source(path):
         str(data.file_meta.TransferSyntaxUID),
         value_of(data, "Modality"),
         int(data.get("NumberOfFrames") or 1) > 1,
+        fragments_of(data),
     )
 
 
-def choose(files, taken, refused, count):
+def fault_of(path):
+    """The fault of a file that is refused for its transfer syntax, or for fragments that are not OB; or None."""
+    data = read_file(path)
+    if data is None or "TransferSyntaxUID" not in data.file_meta:
+        return None
+    if data.file_meta.TransferSyntaxUID not in SYNTAXES:
+        return f"31 File 25 OtherSyntax {data.file_meta.TransferSyntaxUID}"
+    pixels = pixels_of(data)
+    if pixels is None or pixels.is_implicit_VR or pixels.VR == "OB":
+        return None
+    return "31 File 27 Set 6 UndefinedLength"
+
+
+def digest_of(source):
+    """The SHA-256 of a source."""
+    return hashlib.sha256(pathlib.Path(source.path).read_bytes()).digest()
+
+
+def kept_of(sources):
+    """Of each instance the source that a file-set has: the one whose digest is the greatest."""
+    kept = {}
+    for source in sources:
+        instance = source.names[3]
+        kept[instance] = max(kept.get(instance, source), source, key=digest_of)
+    return list(kept.values())
+
+
+def check_syntaxes(sources):
+    """Is each transfer syntax that the program takes among these?"""
+    missing = SYNTAXES - {source.syntax for source in sources}
+    wanted(not missing, f"no image is of {', '.join(sorted(missing))}")
+
+
+def choose(files, taken, refused, faults, count):
     """Sorts files into those that the program must take and those that it must skip, and names the rest."""
-    sources, skipped = [], []
+    sources, skipped = [], {}
     for path in lines_of(files):
         source = read_source(path)
         if source is None:
-            skipped.append(path)
+            skipped[path] = fault_of(path)
         elif has_forms(source):
             sources.append(source)
         else:
             print(f"left out, for a date, a time or a UID that no record may have: {path}")
     modalities = {source.modality for source in sources}
     patients = {source.names[0] for source in sources}
-    instances = {source.names[3] for source in sources}
+    kept = kept_of(sources)
     frames = sum(source.multiple for source in sources)
-    print(f"{len(sources)} files to take: {len(instances)} instances of {len(patients)} patients, "
+    print(f"{len(sources)} files to take: {len(kept)} instances of {len(patients)} patients, "
           f"{', '.join(sorted(modalities))}, {frames} of several frames; {len(skipped)} files to skip")
     wanted(modalities >= {"CT", "MR", "US"}, "CT, MR or US is not there")
-    wanted({source.syntax for source in sources} == SYNTAXES, "a transfer syntax is not there")
+    check_syntaxes(kept)
     wanted(len(patients) >= 3 and frames >= 1 and len(skipped) >= 2, "too few patients, frames or files to skip")
+    missing = OTHERS - {fault.split()[-1] for fault in skipped.values() if fault}
+    wanted(not missing, f"no file to skip is of {', '.join(sorted(missing))}")
     pathlib.Path(taken).write_text("".join(f"{source.path}\n" for source in sources))
     pathlib.Path(refused).write_text("".join(f"{path}\n" for path in sorted(skipped)))
-    pathlib.Path(count).write_text(f"{len(instances)}\n")
+    lines = sorted(f"SKIP {path}: {fault}\n" for path, fault in skipped.items() if fault)
+    pathlib.Path(faults).write_text("".join(lines))
+    pathlib.Path(count).write_text(f"{len(kept)}\n")
 
 
 def lines_of(path):
@@ -147,13 +233,14 @@ def lines_of(path):
 
 
 def copies(out, sources):
-    """The source of each file of a file-set but its directory, by File ID, whose bytes are the same."""
-    known = {pathlib.Path(source.path).read_bytes(): source for source in sources}
+    """The source of each file of a file-set but its directory, by File ID: the same bytes, and what pydicom reads."""
+    known = {pathlib.Path(source.path).read_bytes(): source for source in kept_of(sources)}
     found = {}
     for path in sorted(pathlib.Path(out).rglob("*")):
         if path.is_file() and path != pathlib.Path(out, "DICOMDIR"):
             source = known.get(path.read_bytes())
-            wanted(source, f"{path} is no copy of a source")
+            wanted(source, f"{path} is not the source that a file-set has of its instance")
+            wanted(read_source(path) == source._replace(path=path), f"pydicom: {path} is not read as its source")
             found["\\".join(path.relative_to(out).parts)] = source
     return found
 
@@ -244,6 +331,29 @@ def check_dumps(seen, files):
            "gdcmdump sees other offsets than dcmdump")
 
 
+def check_copies(text, out, files):
+    """Compares what dcmdump prints of each copy with what pydicom reads: transfer syntax, instance and fragments."""
+    dumps = {}
+    for line in text.splitlines():
+        start = re.match(r"# dcmdump \(\d+/\d+\): (.*)", line)
+        element = re.match(r"\((0002,0010|0008,0018)\) UI \[(.*)\] +#", line)
+        fragment = re.match(r"  \(fffe,e000\) pi .* # +(\d+), 1 Item$", line)
+        if start:
+            dump = dumps.setdefault(start[1], {"fragments": ()})
+        elif element:
+            dump[element[1]] = element[2]
+        elif fragment:
+            dump["fragments"] += (int(fragment[1]),)
+    for name, source in files.items():
+        path = str(pathlib.Path(out, *name.split("\\")))
+        known = {"0002,0010": source.syntax, "0008,0018": source.names[3], "fragments": source.fragments}
+        wanted(dumps.get(path) == known, f"dcmdump: {path} has {dumps.get(path)} and not {known}")
+    check_syntaxes(files.values())
+    counts = collections.Counter(source.syntax for source in files.values())
+    print(f"copies: {len(files)} files, as their sources: "
+          + ", ".join(f"{count} of {syntax}" for syntax, count in sorted(counts.items())))
+
+
 def check_verdicts(seen, files):
     """No reader prints an error, dcmftest says yes to every file, and dciodvfy names the kind of object."""
     for reader, text in seen.items():
@@ -280,8 +390,7 @@ def check_keys(instance, source, sources):
         known = {other.keys[level] for other in below}
         wanted(keys in known, f"pydicom: {path}: {KINDS[level]} has {keys} and not {known}")
     wanted(instance.TransferSyntaxUID == source.syntax, f"pydicom: {path}: transfer syntax")
-    digest = hashlib.sha256(pathlib.Path(source.path).read_bytes()).digest()
-    wanted(instance[0x00091001].value == digest, f"pydicom: {path}: digest")
+    wanted(instance[0x00091001].value == digest_of(source), f"pydicom: {path}: digest")
 
 
 def file_id(instance):
@@ -331,6 +440,7 @@ def check(out, taken, seen):
     wanted({source.names[3] for source in files.values()} == instances and len(files) == len(instances),
            f"{len(files)} copies of {len(instances)} instances")
     printed = {path.name: path.read_text(errors="replace") for path in pathlib.Path(seen).iterdir()}
+    check_copies(printed.pop("dcmdump-copies"), out, files)
     check_dumps(printed, files)
     check_verdicts(printed, files)
     check_dcdirdmp(printed, files)

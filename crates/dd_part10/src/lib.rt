@@ -1,4 +1,5 @@
-//! DICOM files: the preamble, the prefix `DICM`, group 0002 and the data set (PS3.10 section 7).
+//! DICOM files: the preamble, the prefix `DICM`, group 0002 and the data set (PS3.10 section 7), in ten
+//! transfer syntaxes, eight of which have encapsulated pixel data.
 //!
 //! Its one promise: what is read as a file is one, what is one is read, and a refusal names the first
 //! check that the bytes fail. Only where a growth is refused, while group 0002 or the data set is read

@@ -24,7 +24,8 @@ const SHORT_GROUP: usize = 1024;
 
 /// Takes the file that the bytes of a feed are, all that are still to come, with every check of
 /// `parse_file` in its order. Keeps its meta information, and of each wanted element of the data set
-/// whether it is a sequence, or else the first 1,024 bytes of its value without the padding.
+/// whether it is a sequence or fragments, or else the first 1,024 bytes of its value without the
+/// padding.
 pub fn take_file<F: Feed>(alloc: Global, feed: &mut F, wanted: &[Tag]) -> Result<Scanned, FileFault>
     // Whatever was still to come, this is what is told of it, or why it is refused.
     ensures found { Scans F.moves F.tells feed.old feed.new

@@ -24,8 +24,8 @@ use std::alloc::Global;
 
 /// Takes the data set that the bytes of a feed spell, all that are still to come, with every check of
 /// `parse` in its order. Keeps its first tag, and of each wanted element of the set itself whether it
-/// is a sequence, or else the front of its value without the padding. Wants memory only behind a wanted
-/// element that was read whole.
+/// is a sequence or fragments, or else the front of its value without the padding. Wants memory only
+/// behind a wanted element that was read whole.
 pub fn take_set<F: Feed>(
     alloc: Global,
     feed: &mut F,
