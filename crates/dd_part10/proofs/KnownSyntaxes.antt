@@ -31,6 +31,7 @@ pub behind_both : (uid : List ℕ) (listed : Bool) → bytes_eq uid (codes "1.2.
     → bytes_eq uid (codes "1.2.840.10008.1.2.1") ≡ false
     → list_any (λ (known : List ℕ). bytes_eq known uid) encapsulated_syntaxes ≡ listed
     → (if listed then Some Encapsulated else None) ≡ syntax_of uid
+unfolding syntax_of
 behind_both uid listed implicit explicit is =
     let no_implicit = nat_list_eq_equiv.symm (codes "1.2.840.10008.1.2") uid ∙ implicit in
     let no_explicit = nat_list_eq_equiv.symm (codes "1.2.840.10008.1.2.1") uid ∙ explicit in

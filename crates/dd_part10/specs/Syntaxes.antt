@@ -24,5 +24,5 @@ transfer_syntaxes =
     ∷ map (λ uid. record { uid = uid; syntax = Encapsulated }) encapsulated_syntaxes
 
 -- the syntax of the transfer syntax with this UID, where there is one
-abbrev pub syntax_of : List ℕ → Option Syntax
+unfoldable pub syntax_of : List ℕ → Option Syntax
 syntax_of uid = option_map (λ t. t.syntax) (find (λ t. bytes_eq t.uid uid) transfer_syntaxes)

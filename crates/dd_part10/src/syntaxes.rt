@@ -26,6 +26,7 @@ const ENCAPSULATED: [&[u8]; 8] = [
 ];
 
 /// Returns the syntax of the transfer syntax with this UID, and None where it is not read.
+#[tactic(auto, unfolding(crate::specs::Syntaxes::syntax_of))]
 pub(crate) fn syntax_of(uid: &[u8]) -> Option<Syntax>
     ensures { result ≡ syntax_of uid.now }
 {
