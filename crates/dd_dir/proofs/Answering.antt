@@ -1,9 +1,17 @@
 -- What is known of the bytes when the parts of reading them have answered.
 use Rattle.std.proofs.Common.{◌≡◌, ◌⊎◌, inl, inr, ℕ, ◌+◌, ◌<◌, Bool, true, List, ◌++◌, length, take, Option, Some, None}
 use Rattle.std.proofs.Common.{Result, Ok, Err, IfOk, IfErr, if◌then◌else◌, refl, sym, ap, subst, ◌∙◌, arith}
-use Rattle.std.proofs.Common.{length-append}
+use Rattle.std.proofs.Common.{length-append, bytes_eq}
 use Rattle.dd_set.specs.Elements.{Elements}
-use Rattle.dd_set.specs.Spelling.{elements_text}
+use Rattle.dd_set.specs.Spelling.{elements_text, Spells}
+use Rattle.dd_set.specs.declared.syntax.Syntax.{Syntax}
+use Rattle.dd_set.specs.declared.syntax.Syntax.TheVariants.{Explicit}
+use Rattle.dd_set.proofs.Steps.{some_is}
+use Rattle.dd_part10.specs.Syntaxes.{syntax_of}
+use Rattle.dd_part10.proofs.KnownSyntaxes.{explicit_known}
+use Rattle.dd_layout.specs.Directory.{directory_class, directory_syntax}
+use Rattle.std.proofs.lemmas.Bool.{and_parts}
+use Rattle.std.proofs.lemmas.Slice.Eq.{bytes_eq-Decides}
 use Rattle.dd_part10.specs.declared.fault.FileFault.{FileFault}
 use Rattle.dd_part10.specs.declared.meta.Meta.{Meta}
 use Rattle.dd_part10.specs.File.{IsFile, prefix, group_length_text}
@@ -49,6 +57,17 @@ is_directory file meta set at contents is_file class is = record {
   is_file = is_file;
   says = says file meta set at (Some contents) class is;
 }
+
+-- its data set is spelled in Explicit VR
+pub is_explicit : (file : List ℕ) (meta : Meta) (set : Elements) (at : ℕ) → IsFile file meta set at
+    → is_directory_meta meta ≡ true → Spells Explicit set (elements_text set)
+is_explicit file meta set at h class =
+    let named = (bytes_eq-Decides meta.transfer directory_syntax).0
+    (and_parts (bytes_eq meta.class directory_class) (bytes_eq meta.transfer directory_syntax) class).1 in
+    let known : syntax_of meta.transfer ≡ Some Explicit = ap syntax_of named ∙ explicit_known in
+    let same : h.syntax ≡ Explicit = some_is h.syntax Explicit (sym h.known ∙ known) in
+    subst (λ (text : List ℕ). Spells Explicit set text) h.follows.whole
+    (subst (λ (syntax : Syntax). Spells syntax set h.set_text) same h.follows)
 
 -- all its bytes stand before its data set or are of it
 pub all_bytes : (file : List ℕ) (meta : Meta) (set : Elements) (at : ℕ) → IsFile file meta set at

@@ -1,6 +1,6 @@
 -- A directory is a file.
 use Rattle.std.proofs.Common.{◌≡◌, ℕ, ◌≤◌, ◌<◌, ◌^◌, List, ◌++◌, length, map, refl, subst, arith, length-append}
-use Rattle.std.specs.Prelude.{codes, Some}
+use Rattle.std.specs.Prelude.{codes}
 use Rattle.std.specs.List.{All, AllByRecursion}
 use Rattle.std.proofs.lemmas.List.Elements.{All-from_recursion, recursion_from_All}
 use Rattle.dd_elem.specs.SetId.{max_set_id_length}
@@ -12,7 +12,7 @@ use Rattle.dd_part10.proofs.HeadLaw.{head_is_file}
 use Rattle.dd_part10.proofs.Heads.{length_head}
 use Rattle.dd_set.specs.Spelling.{Spells, elements_text}
 use Rattle.dd_set.specs.declared.syntax.Syntax.TheVariants.{Explicit}
-use Rattle.dd_part10.specs.Syntaxes.{syntax_of}
+use Rattle.dd_part10.proofs.KnownSyntaxes.{explicit_known}
 use Rattle.dd_layout.specs.declared.label.Label.{Label}
 use Rattle.dd_layout.specs.declared.record.PlanRecord.{PlanRecord}
 use Rattle.dd_layout.specs.Directory.{meta_of}
@@ -30,10 +30,6 @@ class_valid = IsUid_from_is_uid (codes "1.2.840.10008.1.3.10") refl
 syntax_valid : IsUid (codes "1.2.840.10008.1.2.1")
 unfolding is_uid
 syntax_valid = IsUid_from_is_uid (codes "1.2.840.10008.1.2.1") refl
-
-syntax_known : syntax_of (codes "1.2.840.10008.1.2.1") ≡ Some Explicit
-unfolding syntax_of
-syntax_known = refl
 
 -- the second of two texts that fit
 second_below : (xs ys : List ℕ) (n : ℕ) → length (xs ++ ys) ≡ n → n < 2 ^ 32 → length ys < 2 ^ 64
@@ -67,4 +63,4 @@ directory_is_file label versions seen rows bytes wide same is sound bytes_is wid
     (subst (λ (l : Label). length l.id ≤ max_set_id_length) same few)
     (subst (λ (rs : List PlanRecord). AllByRecursion IsRecord (map (entries_of versions) rs)) is valid) in
     head_is_file (meta_of label) Explicit (directory_set label versions) (elements_text (directory_set label versions))
-    class_valid (subst (λ (l : Label). IsUid l.uid) same uid) syntax_valid syntax_known spelled (omega arith)
+    class_valid (subst (λ (l : Label). IsUid l.uid) same uid) syntax_valid explicit_known spelled (omega arith)

@@ -5,7 +5,7 @@ use Rattle.std.specs.Prelude.{find, codes}
 use Rattle.std.specs.List.{list_any}
 use Rattle.std.proofs.lemmas.Cmp.{nat_list_eq_equiv}
 use Rattle.dd_set.specs.declared.syntax.Syntax.{Syntax}
-use Rattle.dd_set.specs.declared.syntax.Syntax.TheVariants.{Encapsulated}
+use Rattle.dd_set.specs.declared.syntax.Syntax.TheVariants.{Explicit, Encapsulated}
 use Rattle.dd_part10.specs.Syntaxes.{TransferSyntax, encapsulated_syntaxes, syntax_of}
 
 abbrev encapsulated : List ℕ → TransferSyntax
@@ -36,3 +36,8 @@ behind_both uid listed implicit explicit is =
     let no_implicit = nat_list_eq_equiv.symm (codes "1.2.840.10008.1.2") uid ∙ implicit in
     let no_explicit = nat_list_eq_equiv.symm (codes "1.2.840.10008.1.2.1") uid ∙ explicit in
     rw (no_implicit, no_explicit) (rw is at (sym (found_among uid encapsulated_syntaxes)))
+
+-- that of Explicit VR Little Endian
+pub explicit_known : syntax_of (codes "1.2.840.10008.1.2.1") ≡ Some Explicit
+unfolding syntax_of
+explicit_known = refl

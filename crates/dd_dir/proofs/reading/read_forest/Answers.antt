@@ -6,12 +6,18 @@ use Rattle.dd_part10.specs.File.{IsFile}
 use Rattle.dd_set.specs.declared.fault.SetFault.TheVariants as set_faults
 use Rattle.dd_dir.specs.ReadAnswers.{TellsContents, directory_view}
 use Rattle.dd_dir.specs.Reading.{contents_in, is_directory_meta}
-use Rattle.dd_dir.proofs.Answering.{is_directory, all_bytes, told_refused, told_no_file, told_wanted, starts_rise}
+use Rattle.dd_dir.proofs.Answering.{is_directory, is_explicit, all_bytes, told_refused, told_no_file, told_wanted, starts_rise}
 use Rattle.dd_dir.proofs.Answering.{starts_many}
 use Rattle.dd_dir.proofs.Answering.{walk_in, refused_in, same_exit, same_fault}
 use Rattle.dd_dir.proofs.Moved.{sets_many}
 use Rattle.dd_dir.proofs.WalkPlaces.{front_length}
 use Rattle.dd_dir.proofs.reading.read_forest.Goals as goal
+
+pub directory_of-requires-clause-spelled : goal.directory_of-requires-clause-spelled
+directory_of-requires-clause-spelled c =
+    let f = c.in_ok-file.file in
+    let is_file : IsFile c.args.bytes.now f.meta (set_view f.set) f.set_at = search rules in
+    is_explicit c.args.bytes.now f.meta (set_view f.set) f.set_at is_file (sym c.if-not-is_directory_meta.ensures)
 
 pub directory_of-requires-clause-fits : goal.directory_of-requires-clause-fits
 directory_of-requires-clause-fits c =
