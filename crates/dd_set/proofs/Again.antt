@@ -20,7 +20,8 @@ use Rattle.dd_set.specs.Spelling.{undefined_length, delimiter_group, tag_text, i
 use Rattle.dd_set.specs.Spelling.{item_end_text}
 use Rattle.dd_set.specs.Spelling.{sequence_end_text, length_of, closed, elements_text, content_text, items_text}
 use Rattle.dd_set.specs.Spelling.{names_vr, item_syntax, max_levels}
-use Rattle.dd_set.specs.Spelling.{AreElements, IsContent, AreItems, MayHave, encapsulates, is_pixel_data, fragments_text}
+use Rattle.dd_set.specs.Spelling.{AreElements, IsContent, AreItems, MayHave, encapsulates, is_pixel_data}
+use Rattle.dd_set.specs.Spelling.{fragments_text}
 use Rattle.dd_set.specs.Reading.{◌>>=◌, At, Reads, leaves_fewer, take_at, long_of, is_item, is_over, Shape, shape_at}
 use Rattle.dd_set.specs.Reading.{SequenceReader, SetReader, ItemReader, within, open_at, fragments_here, defined_at}
 use Rattle.dd_set.specs.Reading.{content_at}
@@ -56,8 +57,8 @@ PartAgain d read = (syntax : Syntax) (p : Part) (left : Option ℕ) (rest : List
 
 module _ (d : ℕ) (sequence : SequenceReader) (law : SequenceAgain d sequence) where
   -- a defined length that the checks of a value pass
-  defined_again : (syntax : Syntax) (tag : Tag) (vr : Option Vr) (c : Content) (text : List ℕ) (left : Option ℕ) (rest : List ℕ)
-      → length text < undefined_length → length text % 2 ≡ 0 → (o : Option Syntax) → item_syntax syntax vr Defined ≡ o
+  defined_again : (syntax : Syntax) (tag : Tag) (vr : Option Vr) (c : Content) (text : List ℕ) (left : Option ℕ)
+      (rest : List ℕ) → length text < undefined_length → length text % 2 ≡ 0 → (o : Option Syntax) → item_syntax syntax vr Defined ≡ o
       → defined_at sequence o (length text) (before left text rest) ≡ Ok (c, behind left rest)
       → content_at sequence syntax (record { tag = tag; shape = record { vr = vr; length = length text } })
       (before left text rest) ≡ Ok
@@ -79,7 +80,8 @@ module _ (d : ℕ) (sequence : SequenceReader) (law : SequenceAgain d sequence) 
       (before left (content_body c) rest) ≡ Ok (c, behind left rest)
   unfolding content_at
   content_again syntax tag vr (bytes v) left rest h placed =
-      defined_again syntax tag vr (bytes v) v left rest (limit_most vr (length v) h.2) h.1 None (holds_none syntax vr h.0)
+      defined_again syntax tag vr (bytes v) v left rest (limit_most vr (length v) h.2) h.1 None
+      (holds_none syntax vr h.0)
       (onward (take_at (length v) (before left v rest)) (v, behind left rest) (λ y. done (bytes y.0, y.1))
       (take_again (length v) left v rest refl))
   content_again syntax tag vr (items Defined parts) left rest h placed =
@@ -164,8 +166,8 @@ module _ (d : ℕ) (sequence : SequenceReader) (law : SequenceAgain d sequence) 
       (Some e, behind left rest)
   unfolding whole_element
   element_again syntax form low e left rest h =
-      let s = shape_again (names_vr syntax) e.tag e.vr (content_length e.content) (content_form syntax d e.vr e.content h.4)
-      (content_width syntax d e.vr e.content h.4) in
+      let s = shape_again (names_vr syntax) e.tag e.vr (content_length e.content)
+      (content_form syntax d e.vr e.content h.4) (content_width syntax d e.vr e.content h.4) in
       let head : List ℕ = tag_text e.tag ++ s.first in
       let tail : List ℕ = s.second ++ content_body e.content in
       let start : At = before left (head ++ tail) rest in

@@ -140,8 +140,8 @@ pub record ShapeAgain (named : Bool) (tag : Tag) (vr : Option Vr) (n : ℕ) : Ty
   pub second : List ℕ
   pub whole : shape_text vr n ≡ first ++ second
   pub four : length first ≡ 4
-  pub again : (left : Option ℕ) (rest : List ℕ) → shape_where named (tag_text tag ++ first) (before left second rest) ≡ Ok
-      (record { vr = vr; length = n }, behind left rest)
+  pub again : (left : Option ℕ) (rest : List ℕ) → shape_where named (tag_text tag ++ first) (before left second rest)
+      ≡ Ok (record { vr = vr; length = n }, behind left rest)
 
 -- two letters name their value representation
 named : (vr : Vr) (a b : ℕ) → letters_of vr ≡ a ∷ b ∷ [] → vr_of (a ∷ b ∷ []) ≡ Some vr

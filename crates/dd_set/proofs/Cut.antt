@@ -49,15 +49,18 @@ whole_item part syntax form at =
     else (if is_item head.0 then (part syntax (long_of head.0) head.1 >>= there) else Err UnexpectedTag))
 
 module _ (sequence : SequenceReader) (syntax : Syntax) where
-  behind_shape : (tag : Tag) (r : Reads Shape) → ((r >>= λ shape. content_at sequence syntax (record { tag = tag; shape = shape.0 }) shape.1 >>=
-      entry_with tag shape.0) >>= there) ≡ (((r >>= header_with tag) >>= there) >>= element_behind sequence syntax)
+  -- the value behind a header with this tag
+  abbrev then_content : Tag → Shape × At → Reads Entry
+  then_content tag shape =
+      content_at sequence syntax (record { tag = tag; shape = shape.0 }) shape.1 >>= entry_with tag shape.0
+
+  behind_shape : (tag : Tag) (r : Reads Shape) → ((r >>= then_content tag) >>= there) ≡ (((r >>= header_with tag) >>= there) >>= element_behind sequence syntax)
   behind_shape tag (Ok shape) = behind_content tag shape.0
       (content_at sequence syntax (record { tag = tag; shape = shape.0 }) shape.1)
   behind_shape tag (Err e) = refl
 
   behind_tests : (p q : Bool) (tag : Tag) (r : Reads Shape)
-      → ((if p then Err UnexpectedTag else (if q then Err Order else
-      (r >>= λ shape. content_at sequence syntax (record { tag = tag; shape = shape.0 }) shape.1 >>= entry_with tag shape.0))) >>= there) ≡
+      → ((if p then Err UnexpectedTag else (if q then Err Order else (r >>= then_content tag))) >>= there) ≡
       (((if p then Err UnexpectedTag else (if q then Err Order else (r >>= header_with tag))) >>= there) >>=
       element_behind sequence syntax)
   behind_tests true q tag r = refl

@@ -162,7 +162,8 @@ unfolding item_front_at head_at item_opening
 list_end_again left rest =
     let start : At = before left sequence_end_text rest in
     onward (eight_at start) (Some sequence_end_text, behind left rest) (behind_item_head Undefined)
-    (onward (take_at 8 start) (sequence_end_text, behind left rest) there (take_again 8 left sequence_end_text rest refl))
+    (onward (take_at 8 start) (sequence_end_text, behind left rest) there
+    (take_again 8 left sequence_end_text rest refl))
 
 length_again : (n : ℕ) → n % 2 ≡ 0 → n < undefined_length → fragment_length n ≡ Ok n
 unfolding fragment_length
@@ -181,7 +182,8 @@ fragment_again f left rest even low =
     ap (λ (at : At). item_front_at Undefined at >>= fragment_behind) split
     ∙ onward (item_front_at Undefined (before (more left (length f)) head (f ++ rest))) (Some (length f), middle)
     fragment_behind (front_again (length f) (more left (length f)) (f ++ rest) (omega arith))
-    ∙ onward (fragment_length (length f)) (length f) (λ k. take_at k middle >>= there) (length_again (length f) even low)
+    ∙ onward (fragment_length (length f)) (length f) (λ k. take_at k middle >>= there)
+    (length_again (length f) even low)
     ∙ onward (take_at (length f) middle) (f, behind left rest) there (take_again (length f) left f rest refl)
 
 list_over_again : (left : Option ℕ) (rest : List ℕ)

@@ -7,7 +7,8 @@ use Rattle.dd_set.specs.Gives.{Fails}
 use Rattle.dd_set.specs.Reading.{At, take_at, item_front_at, fragment_length, fragment_behind}
 use Rattle.dd_set.specs.Reading.{fragment_at, fragments_at, fragments_here}
 use Rattle.dd_set.proofs.Feeding.{bind_fails}
-use Rattle.dd_set.proofs.FragmentLaws.{with_fragments, with_no_fragments, fragments_more, fragments_done, fragments_fail}
+use Rattle.dd_set.proofs.FragmentLaws.{with_fragments, with_no_fragments, fragments_more, fragments_done}
+use Rattle.dd_set.proofs.FragmentLaws.{fragments_fail}
 use Rattle.dd_set.proofs.Loops.{fails_along}
 use Rattle.dd_set.proofs.Shorter.{fragment_shortens}
 

@@ -1,6 +1,7 @@
 -- Reading a front of longer bytes: a refusal other than an early end stands whatever follows the front.
 use Rattle.std.proofs.Common.{◌≡◌, ◌≢◌, ℕ, zero, suc, ◌+◌, ◌%◌, ◌≤◌, Bool, true, false, nat_lt, ◌==◌, if◌then◌else◌}
-use Rattle.std.proofs.Common.{List, ◌∷◌, ◌++◌, length, take, drop, Option, Some, None, Result, Ok, Err, refl, sym, ap, ap₂}
+use Rattle.std.proofs.Common.{List, ◌∷◌, ◌++◌, length, take, drop, Option, Some, None, Result, Ok, Err, refl, sym, ap}
+use Rattle.std.proofs.Common.{ap₂}
 use Rattle.std.proofs.Common.{subst, ◌∙◌, arith}
 use Rattle.std.specs.Int.{w32, from_le_bytes}
 use Rattle.std.proofs.lemmas.Bool.{le-ltb, ltb-false, ne_eqb, eqb-false}
@@ -16,7 +17,8 @@ use Rattle.dd_set.specs.declared.syntax.Syntax.{Syntax}
 use Rattle.dd_set.specs.Elements.{Elements, element, Content, bytes, items, fragments, Entry}
 use Rattle.dd_set.specs.Spelling.{undefined_length, delimiter_group, names_vr, item_syntax}
 use Rattle.dd_set.specs.Reading.{◌>>=◌, At, Reads, leaves_fewer, less, take_at, tag_of, long_of, short_of}
-use Rattle.dd_set.specs.Reading.{no_byte_left, is_over, Shape, long_length_at, long_at, explicit_at, shape_at, shape_where}
+use Rattle.dd_set.specs.Reading.{no_byte_left, is_over, Shape, long_length_at, long_at, explicit_at, shape_at}
+use Rattle.dd_set.specs.Reading.{shape_where}
 use Rattle.dd_set.specs.Reading.{SequenceReader, Header, eight_at, head_at, item_opening, behind_item_head}
 use Rattle.dd_set.specs.Reading.{item_front_at, there, fragment_length, fragment_behind, fragment_at, next_fragments}
 use Rattle.dd_set.specs.Reading.{fragments_at, fragments_here, opens_fragments, open_at}
@@ -310,7 +312,8 @@ module _ (sequence : SequenceReader) (law : SequenceExtends sequence) where
       entry_of vr x = record { tag = tag_of head; vr = vr; content = x }
 
       shape_then : Shape × At → Reads Entry
-      shape_then shape = content_at sequence syntax (header_of shape.0) shape.1 >>= λ x. Ok (entry_of shape.0.vr x.0, x.1)
+      shape_then shape =
+          content_at sequence syntax (header_of shape.0) shape.1 >>= λ x. Ok (entry_of shape.0.vr x.0, x.1)
 
   -- an element or a delimiter, where the set is not over
   head_then : Syntax → Length → ℕ → List ℕ × At → Reads (Option Entry)

@@ -1,5 +1,6 @@
 -- What is read is spelled so: reading that gives a set took the spelling of that set, level by level.
-use Rattle.std.proofs.Common.{◌≡◌, ◌≢◌, ℕ, zero, suc, ◌+◌, ◌%◌, ◌^◌, ◌<◌, ◌≤◌, Bool, true, false, nat_lt, ◌==◌, if◌then◌else◌}
+use Rattle.std.proofs.Common.{◌≡◌, ◌≢◌, ℕ, zero, suc, ◌+◌, ◌%◌, ◌^◌, ◌<◌, ◌≤◌, Bool, true, false, nat_lt, ◌==◌}
+use Rattle.std.proofs.Common.{if◌then◌else◌}
 use Rattle.std.proofs.Common.{List, [], ◌++◌, length, drop, Option, Some, None, IsSomeAnd, Ok, Err, refl, sym, ap}
 use Rattle.std.proofs.Common.{subst, ◌∙◌, append_assoc, arith, inl, inr}
 use Rattle.std.proofs.lemmas.Bool.{eqb-true, eqb-false, ltb-false, and_parts}
@@ -20,7 +21,8 @@ use Rattle.dd_set.specs.Spelling.{item_end_tag, item_end_text, sequence_end_tag,
 use Rattle.dd_set.specs.Spelling.{elements_text, content_text, items_text}
 use Rattle.dd_set.specs.Spelling.{FitsLong, length_limit, names_vr, named_item_syntax, item_syntax, item_syntax_where}
 use Rattle.dd_set.specs.Spelling.{HoldsBytes, HoldsBytesWhere}
-use Rattle.dd_set.specs.Spelling.{AreElements, IsContent, AreItems, MayHave, encapsulates, is_pixel_data, fragments_text}
+use Rattle.dd_set.specs.Spelling.{AreElements, IsContent, AreItems, MayHave, encapsulates, is_pixel_data}
+use Rattle.dd_set.specs.Spelling.{fragments_text}
 use Rattle.dd_set.specs.Reading.{◌>>=◌, At, Reads, leaves_fewer, take_at, tag_of, long_of}
 use Rattle.dd_set.specs.Reading.{is_over, Shape, shape_at, SequenceReader, SetReader, ItemReader, within, undefined_at}
 use Rattle.dd_set.specs.Reading.{opens_fragments, open_at, fragments_here}
@@ -29,7 +31,8 @@ use Rattle.dd_set.specs.Reading.{ends_sequence}
 use Rattle.dd_set.proofs.Cut.{body_at, whole_element, element_is}
 use Rattle.dd_set.proofs.Steps.{bind_ok, passes, allowed, chosen, ok_is, short_below, AreBytes-drop}
 use Rattle.dd_set.proofs.Taken.{Takes, Takes-none, Takes-then, taken, Ends, closed-append, within_takes}
-use Rattle.dd_set.proofs.HeaderLaws.{head_tag, head_is, HasForm, HasFormWhere, width_limit, width_at_most, within_limit, Shaped}
+use Rattle.dd_set.proofs.HeaderLaws.{head_tag, head_is, HasForm, HasFormWhere, width_limit, width_at_most, within_limit}
+use Rattle.dd_set.proofs.HeaderLaws.{Shaped}
 use Rattle.dd_set.proofs.HeaderLaws.{shape_takes}
 use Rattle.dd_set.proofs.FragmentLaws.{fragments_take}
 
@@ -188,8 +191,8 @@ module _ (d : ℕ) (sequence : SequenceReader) (law : SequenceLaw d sequence) wh
       (l.0, refl, (valid, tt), tt)
 
   -- a value of this length
-  defined_takes : (o : Option Syntax) (syntax : Syntax) (tag : Tag) (vr : Option Vr) (n : ℕ) (at : At) (x : Content × At)
-      → AreBytes at.bytes → item_syntax syntax vr Defined ≡ o → HasForm syntax vr → n % 2 ≡ 0 → n < undefined_length
+  defined_takes : (o : Option Syntax) (syntax : Syntax) (tag : Tag) (vr : Option Vr) (n : ℕ) (at : At)
+      (x : Content × At) → AreBytes at.bytes → item_syntax syntax vr Defined ≡ o → HasForm syntax vr → n % 2 ≡ 0 → n < undefined_length
       → n < length_limit vr → leaves_fewer at.left n ≡ false → defined_at sequence o n at ≡ Ok x
       → ContentTaken d syntax tag vr n at x.0 x.1
   defined_takes None syntax tag vr n at x fits is form even low limit enough e =
@@ -199,7 +202,8 @@ module _ (d : ℕ) (sequence : SequenceReader) (law : SequenceLaw d sequence) wh
       let even' : length a.0.0 % 2 ≡ 0 = ap (λ (k : ℕ). k % 2) t.1 ∙ even in
       let fits' : length a.0.0 < length_limit vr = subst (λ (k : ℕ). k < length_limit vr) (sym t.1) limit in
       let valid : IsContent syntax d vr (bytes a.0.0) = (holds_bytes syntax vr form is, even', fits') in
-      subst (λ (y : Content × At). ContentTaken d syntax tag vr n at y.0 y.1) (ok_is made x a.2) (t.0, sym t.1, valid, tt)
+      subst (λ (y : Content × At). ContentTaken d syntax tag vr n at y.0 y.1) (ok_is made x a.2)
+      (t.0, sym t.1, valid, tt)
   defined_takes (Some inner) syntax tag vr n at x fits is form even low limit enough e =
       let a = bind_ok (within n at (sequence inner Defined)) (λ y. Ok (items Defined y.0, y.1)) x e in
       let t = within_takes n at (sequence inner Defined) (λ y. items_text y) (λ y. AreItems inner d y)

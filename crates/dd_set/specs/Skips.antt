@@ -16,7 +16,7 @@ abbrev pub Takes : {Y : Type 0} → Y → Result (Option ℕ) SetFault → Reads
 Takes y (Ok left) read rest = read ≡ Ok (y, record { left = left; bytes = rest })
 Takes y (Err e) read rest = Fails e read
 
--- reading gives some value, which is let go
+-- reading gives some value, which is skipped
 abbrev pub Skips : {Y : Type 0} → Result (Option ℕ) SetFault → Reads Y → List ℕ → Type 0
 Skips {Y} (Ok left) read rest = (y : Y) × (read ≡ Ok (y, record { left = left; bytes = rest }))
 Skips (Err e) read rest = Fails e read

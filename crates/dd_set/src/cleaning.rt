@@ -100,7 +100,7 @@ fn take_long<F: Feed>(
     Ok((FoundValue::Bytes { front, length }, less(left, n)))
 }
 
-/// Lets the bytes of a value go behind the first `passed` of n, and answers how many of all stay
+/// Skips the bytes of a value behind the first `passed` of n, and answers how many of all stay
 /// without the padding, where so many of the first do. None where the feed is over before.
 fn cleaned_length<F: Feed>(feed: &mut F, mut cleaned: u64, mut passed: u64, n: u64) -> Option<u64>
     requires { passed ≤ n }

@@ -24,7 +24,7 @@ pub fn fill<F: Feed>(feed: &mut F, room: &mut [u8]) -> usize
     at
 }
 
-/// Lets n bytes go, and answers how many went: fewer only where the feed is at its end.
+/// Skips n bytes, and answers how many there were: fewer only where the feed is at its end.
 pub fn skip<F: Feed>(feed: &mut F, n: u64) -> u64
     ensures bound { result ≤ n }
     ensures moved { (taken : List ℕ) × (length taken ≡ result) × F.moves feed.old feed.new taken }
@@ -42,7 +42,7 @@ pub fn skip<F: Feed>(feed: &mut F, n: u64) -> u64
     at
 }
 
-/// Lets all bytes go that are still to come.
+/// Skips all bytes that are still to come.
 pub fn drain<F: Feed>(feed: &mut F)
     ensures moved { (taken : List ℕ) × F.moves feed.old feed.new taken }
     ensures over { IsOver F.tells feed.new }

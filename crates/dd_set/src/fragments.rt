@@ -14,8 +14,8 @@ use crate::fault::SetFault;
 use crate::syntax::Length;
 use std::alloc::Global;
 
-/// The fragments of a list, to its end. The list is gone over twice, so that room is made once, and
-/// only for a list that was read whole.
+/// Reads the fragments of a list, to its end. It walks the list twice, so that it takes memory once, and
+/// only for a list that is whole.
 pub fn fragments<'a>(alloc: Global, at: Cursor<'a>) -> Result<(Vec<&'a [u8]>, Cursor<'a>), SetFault>
     ensures exact { Gives (λ x. (pieces x.0.items, at_view x.1)) result (fragments_here (at_view at.entry)) }
     ensures shorter { IfOk result (λ x. length x.1.rest.now ≤ length at.entry.rest.now) }
@@ -35,7 +35,7 @@ pub fn fragments<'a>(alloc: Global, at: Cursor<'a>) -> Result<(Vec<&'a [u8]>, Cu
     }
 }
 
-/// How many fragments a list has, to its end.
+/// Counts the fragments of a list, to its end.
 fn count_fragments(at: Cursor<'_>) -> Result<usize, SetFault>
     ensures exact { Counts result (fragments_here (at_view at.entry)) }
     ensures memory { result ≢ Err Memory }
@@ -52,7 +52,7 @@ fn count_fragments(at: Cursor<'_>) -> Result<usize, SetFault>
     }
 }
 
-/// The next fragment of a list, or None at its end.
+/// Reads the next fragment of a list, or None at its end.
 #[tactic(auto, unfolding(crate::specs::Reading::fragment_at))]
 fn fragment<'a>(at: Cursor<'a>) -> Result<(Option<&'a [u8]>, Cursor<'a>), SetFault>
     ensures exact { fragment_at (at_view at.entry) ≡ stepped (option_map (λ f. f.now)) result }

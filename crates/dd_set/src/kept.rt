@@ -62,7 +62,7 @@ impl Kept {
         n
     }
 
-    /// Lets at most n go, and answers how many.
+    /// Skips at most n, and answers how many.
     pub(crate) fn pass(&mut self, n: u64) -> u64
         ensures count { result ≡ min n (length self.old) }
         ensures gone { self.old ≡ take result self.old ++ self.new }

@@ -1,4 +1,4 @@
-//! Values, items and sets of a feed let go, with all checks of the grammar. `left` is what the nearest
+//! Skips values, items and sets of a feed, with all checks of the grammar. `left` is what the nearest
 //! enclosing length leaves.
 
 ghost use Rattle.std.specs.Prelude.{◌≢◌, ◌≤◌, ◌<◌, Err, IfOk, IsTrue};
@@ -15,7 +15,7 @@ use crate::headers::low_behind;
 use crate::syntax::{Length, Syntax};
 use crate::taking::{front, item_front, pass};
 
-/// Lets the value behind a header go.
+/// Skips the value behind a header.
 #[cycle(skipping)]
 pub fn skip_content<F: Feed>(
     feed: &mut F,
@@ -42,7 +42,7 @@ pub fn skip_content<F: Feed>(
     }
 }
 
-/// Lets the fragments of a list go, to its end.
+/// Skips the fragments of a list, to its end.
 fn skip_fragments<F: Feed>(feed: &mut F, mut left: Option<u64>) -> Result<Option<u64>, SetFault>
     ensures found { Scans F.moves F.tells feed.old feed.new (λ bytes rest. Skips result
         (fragments_here (record { left = left; bytes = bytes })) rest) }
@@ -58,7 +58,7 @@ fn skip_fragments<F: Feed>(feed: &mut F, mut left: Option<u64>) -> Result<Option
     }
 }
 
-/// Lets the next fragment of a list go, and answers whether there was one.
+/// Skips the next fragment of a list, and answers whether there was one.
 fn skip_fragment<F: Feed>(feed: &mut F, left: Option<u64>) -> Result<(bool, Option<u64>), SetFault>
     ensures found { Scans F.moves F.tells feed.old feed.new (λ bytes rest. SkipsSome result
         (fragment_at (record { left = left; bytes = bytes })) rest) }
@@ -74,7 +74,7 @@ fn skip_fragment<F: Feed>(feed: &mut F, left: Option<u64>) -> Result<(bool, Opti
     Ok((true, pass(feed, n, behind)?))
 }
 
-/// Lets the elements of a set go, to its end.
+/// Skips the elements of a set, to its end.
 #[cycle(skipping)]
 fn skip_set<F: Feed>(
     feed: &mut F,
@@ -99,7 +99,7 @@ fn skip_set<F: Feed>(
     }
 }
 
-/// Lets the items of a sequence go, to its end.
+/// Skips the items of a sequence, to its end.
 #[cycle(skipping)]
 fn skip_items<F: Feed>(
     feed: &mut F,
@@ -122,7 +122,7 @@ fn skip_items<F: Feed>(
     }
 }
 
-/// Lets an item go behind its header, where so many levels may still nest.
+/// Skips an item behind its header, where so many levels may still nest.
 #[cycle(skipping)]
 fn skip_part<F: Feed>(
     feed: &mut F,

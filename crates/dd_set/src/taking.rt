@@ -39,7 +39,7 @@ pub fn take<F: Feed>(
     Ok(less(left, n as u64))
 }
 
-/// Lets n bytes go.
+/// Skips n bytes.
 pub fn pass<F: Feed>(feed: &mut F, n: u32, left: Option<u64>) -> Result<Option<u64>, SetFault>
     ensures found { Scans F.moves F.tells feed.old feed.new (λ bytes rest.
         Skips result (take_at n (record { left = left; bytes = bytes })) rest) }

@@ -6,7 +6,8 @@ use Rattle.dd_part10.specs.File.{IsFile}
 use Rattle.dd_set.specs.declared.fault.SetFault.TheVariants as set_faults
 use Rattle.dd_dir.specs.ReadAnswers.{TellsContents, directory_view}
 use Rattle.dd_dir.specs.Reading.{contents_in, is_directory_meta}
-use Rattle.dd_dir.proofs.Answering.{is_directory, is_explicit, all_bytes, told_refused, told_no_file, told_wanted, starts_rise}
+use Rattle.dd_dir.proofs.Answering.{is_directory, is_explicit, all_bytes, told_refused, told_no_file, told_wanted}
+use Rattle.dd_dir.proofs.Answering.{starts_rise}
 use Rattle.dd_dir.proofs.Answering.{starts_many}
 use Rattle.dd_dir.proofs.Answering.{walk_in, refused_in, same_exit, same_fault}
 use Rattle.dd_dir.proofs.Moved.{sets_many}

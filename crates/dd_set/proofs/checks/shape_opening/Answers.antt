@@ -1,5 +1,6 @@
 -- A long header, whose length stands behind its first eight bytes.
-use Rattle.std.proofs.Common.{◌≡◌, ◌∙◌, ℕ, true, false, eqb, rules, ap, sym, List, take, drop, Option, Some, Ok, Err, refl}
+use Rattle.std.proofs.Common.{◌≡◌, ◌∙◌, ℕ, true, false, eqb, rules, ap, sym, List, take, drop, Option, Some, Ok, Err}
+use Rattle.std.proofs.Common.{refl}
 use Rattle.dd_elem.specs.declared.tag.Tag.{Tag}
 use Rattle.dd_elem.specs.declared.vr.Vr.{Vr}
 use Rattle.dd_elem.specs.Vr.{is_long_of, vr_of}
@@ -28,7 +29,8 @@ long_header : (syntax : Syntax) (tag : Tag) (vr : Vr) (head : List ℕ) (at : At
     → is_long_of vr ≡ true → eqb (short_of head) 0 ≡ true
     → tagged_at syntax tag head at ≡ long_header_at tag vr at
 unfolding shape_at long_at
-long_header syntax tag vr head at names named long zero = rw (names, named, long, zero) (behind_length tag vr (long_length_at at))
+long_header syntax tag vr head at names named long zero =
+    rw (names, named, long, zero) (behind_length tag vr (long_length_at at))
 
 reserved_header : (syntax : Syntax) (tag : Tag) (vr : Vr) (head : List ℕ) (at : At) → names_vr syntax ≡ true
     → vr_of (take 2 (drop 4 head)) ≡ Some vr
