@@ -1,0 +1,189 @@
+"""Runs with calls of the system that fail."""
+import collections
+import errno
+import os
+
+from rooms import DIRECTORY, OUTPUT, Result, harm
+
+FIRST_IMAGE = "OUT/PT000001/ST000001/SE000001/IM000001"
+
+# The errors that the calls fail with. EACCES and EINVAL are what a system says that can't store a folder, EMFILE is
+# what it says where the process has no more descriptors.
+ERRORS = {
+    "statx": ("EIO", "EACCES", "EINTR"),
+    "open": ("EIO", "EACCES", "EMFILE", "EINTR"),
+    "create": ("EIO", "ENOSPC", "EMFILE", "EINTR"),
+    "read": ("EIO", "EINTR"),
+    "write": ("EIO", "ENOSPC", "EINTR"),
+    "mkdir": ("EIO", "ENOSPC", "EINTR"),
+    "fsync": ("EIO", "ENOSPC", "EINVAL", "EINTR"),
+    "close": ("EIO", "ENOSPC", "EINTR"),
+}
+# What a signal interrupts (EINTR) has to be done again. These calls are not, and fail as with any other error: a
+# fault of the program. Where one of them is made again, or another one is not, this script fails.
+NOT_MADE_AGAIN = {"statx", "mkdir"}
+
+
+def tasks(case):
+    """Each call of the undisturbed run, by its place there and its number among those of its name, with each error,
+    alone and with all later ones of its name."""
+    counts = collections.Counter()
+    for at, call in enumerate(case.right.calls):
+        counts[call.name] += 1
+        for error in ERRORS[call.name]:
+            yield at, counts[call.name], error, False
+            # What is interrupted for ever is no disc that fails.
+            if error != "EINTR":
+                yield at, counts[call.name], error, True
+
+
+# ---- What has to come of a failure: nothing (None), a fault, a finding, or that the output failed ----
+
+
+def folder_to_make(calls, at):
+    """The folder that a call of mkdir, or a look behind it, is made for: that of the file that is created next."""
+    return next(os.path.dirname(call.path) for call in calls[at:] if call.name == "create")
+
+
+def open_copies(calls, at):
+    """How many files that were created are open before this call."""
+    paths = collections.Counter()
+    for call in calls[:at]:
+        if call.name == "create":
+            paths[call.path] += 1
+        elif call.name == "close" and paths[call.path] > 0:
+            paths[call.path] -= 1
+    return sum(paths.values())
+
+
+def of_look(case, call, lasts):
+    """The look whether OUT has a directory fails: it counts as none."""
+    if call.answer < 0:
+        return None
+    # It has one, and the run ends at the first name that is taken, or before, where each later look fails too.
+    source = case.command.words.split()[2]
+    return f"{source}: 92 Absent" if lasts else f"{FIRST_IMAGE}: 94 Create"
+
+
+def of_folder(case, at, error):
+    """A call to store a folder fails, or the look at one that was not made."""
+    calls = case.right.calls
+    if calls[at - 1].name == "mkdir" and calls[at - 1].path == calls[at].path:
+        return folder_to_make(calls, at) + ": 95 Folder"
+    # One that may not be opened is passed over.
+    return None if error == "EACCES" else calls[at].path + ": 96 Unsent"
+
+
+def of_reading(case, at, error, lasts):
+    """A look at what is there, its opening, or a read of it fails."""
+    call = case.right.calls[at]
+    if call.path == DIRECTORY:
+        return of_look(case, call, lasts)
+    if is_folder(case, call.path):
+        return of_folder(case, at, error)
+    if case.command.words.startswith("check") and not call.path.endswith("/DICOMDIR"):
+        finding = "UNREADABLE" if call.name == "read" else "MISSING"
+        return finding + " " + call.path.split("/", 1)[1].replace("/", "\\")
+    return call.path + (": 93 Unread" if call.name == "read" else ": 92 Absent")
+
+
+def is_folder(case, path):
+    """Is it a folder that is made, or in which something is made?"""
+    return path == "." or (path in case.right.left and case.right.left[path] is None)
+
+
+def consequence(case, at, error, lasts):
+    """What has to come of it that this call fails."""
+    calls = case.right.calls
+    call = calls[at]
+    if call.path == OUTPUT:
+        return OUTPUT
+    # std tells no error of close. A folder that can't be made, and is there, is as good.
+    if call.name == "close" or (call.name == "mkdir" and call.answer == -errno.EEXIST):
+        return None
+    # Files that wait to be stored are closed, and the call is made again.
+    if error == "EMFILE" and not lasts and open_copies(calls, at) > 0:
+        return None
+    # A folder that its system can't store is passed over.
+    if call.name == "fsync" and error == "EINVAL" and is_folder(case, call.path):
+        return None
+    if call.name == "mkdir":
+        return folder_to_make(calls, at) + ": 95 Folder"
+    if call.name == "create":
+        return call.path + ": 94 Create"
+    if call.name in ("write", "fsync"):
+        return call.path + ": 96 Unsent"
+    return of_reading(case, at, error, lasts)
+
+
+def is_as_failed(case, run, task):
+    """Has the run the status and the lines that must come of it that this call fails, and each later one of its name
+    where that lasts?"""
+    at, _, error, lasts = task
+    calls = case.right.calls
+    places = range(at, len(calls)) if lasts else [at]
+    findings = []
+    for found in [consequence(case, place, error, lasts) for place in places if calls[place].name == calls[at].name]:
+        if found is None or found in findings:
+            continue
+        if found.startswith(("MISSING", "UNREADABLE")):
+            findings.append(found)
+            continue
+        line = "" if found == OUTPUT else f"FAULT {found}\n"
+        return (run.status, run.err) == (1, line) and case.right.out.startswith(run.out)
+    if findings:
+        return (run.status, run.out, run.err) == (3, "".join(f"{found}\n" for found in findings), "")
+    return run.is_as(case.right)
+
+
+# ---- The runs ----
+
+
+def judge(case, run, task):
+    """What is wrong in a run in which this call fails."""
+    found = harm(case, run)
+    if not (is_as_failed(case, run, task) or (task[2] == "EINTR" and run.is_as(case.right))):
+        found.append("it is not what has to come of this")
+    return found
+
+
+def kind_of(case, run, error):
+    """What came of it that a call fails."""
+    if run.is_as(case.right):
+        return "as if undisturbed"
+    if error == "EINTR":
+        return "not made again"
+    if run.status == 3:
+        return "a finding"
+    return run.err.rsplit(": ", 1)[-1].strip() or "1 and no line"
+
+
+def try_one(room, case, task):
+    """Does a task."""
+    at, number, error, lasts = task
+    call = case.right.calls[at]
+    refused = f"{call.name} {number} {getattr(errno, error)}"
+    run = room.run(case.command, REFUSE_CALL=refused, **({"REFUSE_LATER": "1"} if lasts else {}))
+    what = f"{call.name} {number} {call.path} {error} {'and all later' if lasts else 'alone'}"
+    return Result(what, run, kind_of(case, run, error), judge(case, run, task))
+
+
+def sum_up(case, results):
+    """Tells what calls of a command failed."""
+    names = collections.Counter(call.name for call in case.right.calls)
+    shown = ", ".join(f"{count} {name}" for name, count in sorted(names.items()))
+    print(f"{case.command.name}: {sum(names.values())} calls ({shown}), {len(results)} runs")
+
+
+def sum_up_all(cases):
+    """Tells what came of each call and error, over all commands, and what is not made again. Gives what is not as
+    NOT_MADE_AGAIN says."""
+    kinds = collections.defaultdict(collections.Counter)
+    for case, results in cases:
+        for (at, _, error, _), result in results:
+            kinds[case.right.calls[at].name, error][result.kind] += 1
+    for (name, error), counts in sorted(kinds.items()):
+        shown = ", ".join(f"{count} {kind}" for kind, count in sorted(counts.items()))
+        print(f"{name} {error}: {sum(counts.values())} runs: {shown}")
+    found = {name for (name, _), counts in kinds.items() if counts["not made again"]}
+    return [f"{name} that is interrupted: not as NOT_MADE_AGAIN says" for name in sorted(found ^ NOT_MADE_AGAIN)]

@@ -1,0 +1,52 @@
+"""Runs with growths refused."""
+import re
+
+from rooms import Result, count_kinds, harm
+
+MEMORY = "FAULT -: 91 Memory\n"
+# A file or a folder whose path finds no memory is refused as one that can't be opened or made.
+FAULT = re.compile(r"FAULT OUT[^:\n]*: (94 Create|95 Folder)\n")
+
+
+def tasks(case):
+    """Each growth of the undisturbed run, refused alone and with all that follow; and one more, that never comes."""
+    for growth in range(1, case.right.growths + 2):
+        for lasts in (False, True):
+            yield growth, lasts
+
+
+def judge(case, run):
+    """What is wrong in a run in which growths were refused."""
+    found = harm(case, run)
+    if run.is_as(case.right):
+        return found
+    if run.status != 1 or not (run.err == MEMORY or FAULT.fullmatch(run.err)):
+        found.append("it ends neither as the undisturbed run nor with 1 and a line")
+    if not case.right.out.startswith(run.out):
+        found.append("its output is no front of what it has to be")
+    if not run.calls and run.err != MEMORY:
+        found.append("no file was looked at, and the line is another")
+    return found
+
+
+def try_one(room, case, task):
+    """Does a task."""
+    growth, lasts = task
+    run = room.run(case.command, REFUSE_GROWTH=str(growth), **({"REFUSE_LATER": "1"} if lasts else {}))
+    what = f"growth {growth} {'and all later' if lasts else 'alone'}"
+    if growth > case.right.growths:
+        wrong = ["the undisturbed run has no such growth"] if run.refused or not run.is_as(case.right) else []
+        return Result(what, run, "", wrong)
+    kind = "as if undisturbed" if run.is_as(case.right) else run.err.rsplit(": ", 1)[-1].strip()
+    return Result(what, run, kind, judge(case, run))
+
+
+def sum_up(case, results):
+    """Tells what came of the growths of a command."""
+    kinds = [result.kind for _, result in results if result.kind]
+    print(f"{case.command.name}: {case.right.growths} growths, {len(kinds)} runs: {count_kinds(kinds)}")
+
+
+def sum_up_all(_):
+    """There is nothing more to tell, and nothing more that is wrong."""
+    return []

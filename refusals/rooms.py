@@ -1,0 +1,228 @@
+"""A room in which the program is run with something refused, and what no such run may do."""
+import collections
+import dataclasses
+import hashlib
+import os
+import pathlib
+import re
+import shutil
+import subprocess
+
+from images import image
+
+# A run that takes so many seconds hangs.
+LIMIT = 60
+DIRECTORY = "OUT/DICOMDIR"
+OUTPUT = "the output"
+# More growths than any run asks for: none is refused, and all are counted.
+NO_GROWTH = "1000000000"
+
+
+@dataclasses.dataclass(frozen=True)
+class Command:
+    """A command line of the program. Where OUT is there before the run, it is a copy of the folder `before`."""
+
+    name: str
+    words: str
+    before: str = ""
+
+
+COMMANDS = [
+    Command("index of one image", "index OUT a.dcm --uid 2.25.0"),
+    Command("index of three images and a text", "index OUT a.dcm b.dcm text c.dcm --uid 2.25.0"),
+    Command("index into a folder that is there", "index OUT b.dcm --uid 2.25.0", before="OTHER"),
+    Command("index into a folder that has a set", "index OUT a.dcm --uid 2.25.0", before="SETA"),
+    Command("merge of two sets", "merge OUT SETA SETB --uid 2.25.0"),
+    Command("list of two images", "list SETA"),
+    Command("check of two images", "check SETA"),
+]
+
+
+@dataclasses.dataclass(frozen=True)
+class Call:
+    """A call that a run has made: its name, what it answered, and the path that it was about."""
+
+    name: str
+    answer: int
+    path: str
+    is_refused: bool
+
+
+@dataclasses.dataclass(frozen=True)
+class Run:
+    """What a run has printed and left."""
+
+    # None where it hangs.
+    status: int
+    out: str
+    err: str
+    # The bytes of each file in OUT by its path, and None for a folder.
+    left: dict
+    calls: list
+    growths: int
+    refused: int
+
+    def told(self):
+        """Its status and what it has printed, in one line."""
+        return " ".join([str(self.status)] + (self.out + self.err).splitlines())
+
+    def is_as(self, other):
+        """Has it printed and left what another one has?"""
+        return (self.status, self.out, self.err, self.left) == (other.status, other.out, other.err, other.left)
+
+
+@dataclasses.dataclass(frozen=True)
+class Case:
+    """A command, its undisturbed run, and what is in OUT before."""
+
+    command: Command
+    right: Run
+    before: dict
+
+
+@dataclasses.dataclass(frozen=True)
+class Result:
+    """What a task was, in words, its run, what came of it, and what is wrong."""
+
+    what: str
+    run: Run
+    kind: str
+    wrong: list
+
+
+def tree(folder):
+    """The bytes of each file in the folder by its path, and None for each folder."""
+    found = {}
+    for top, _, names in os.walk(folder):
+        found[top] = None
+        for name in names:
+            path = os.path.join(top, name)
+            found[path] = pathlib.Path(path).read_bytes()
+    return found
+
+
+def calls_of(log):
+    """The calls that the library has told."""
+    calls, paths = [], {"1": OUTPUT}
+    for line in log.splitlines():
+        name, answer, of = line.lstrip("!").split(" ", 2)
+        path = paths[of] if name in ("read", "write", "fsync", "close") else of
+        if name in ("open", "create") and int(answer) >= 0:
+            paths[answer] = path
+        calls.append(Call(name, int(answer), path, line.startswith("!")))
+    return calls
+
+
+def begin(command):
+    """Makes OUT as it is before the command."""
+    shutil.rmtree("OUT", ignore_errors=True)
+    if command.before:
+        shutil.copytree(command.before, "OUT")
+
+
+def look():
+    """All files that are there and are not to be changed: paths, modes, times and digests."""
+    found = []
+    for top, folders, names in os.walk("."):
+        if top == "." and "OUT" in folders:
+            folders.remove("OUT")
+        for name in names:
+            path = os.path.join(top, name)
+            seen = os.stat(path)
+            digest = hashlib.sha256(pathlib.Path(path).read_bytes()).digest()
+            found.append((path, seen.st_mode, seen.st_ino, seen.st_mtime_ns, digest))
+    return sorted(found)
+
+
+class Room:
+    """A folder with sources and file-sets, in which the program is run, one run at a time. It becomes the current
+    folder of the process."""
+
+    def __init__(self, program, library, example, folder):
+        self.program, self.library = program, library
+        self.log, self.counts = folder + ".log", folder + ".counts"
+        os.mkdir(folder)
+        os.chdir(folder)
+        first = pathlib.Path(example).read_bytes()
+        pathlib.Path("a.dcm").write_bytes(image(first, 0))
+        pathlib.Path("b.dcm").write_bytes(image(first, 6, is_large=True))
+        pathlib.Path("c.dcm").write_bytes(image(first, 1))
+        pathlib.Path("text").write_bytes(b"no image\n")
+        os.mkdir("OTHER")
+        pathlib.Path("OTHER/text").write_bytes(b"another file\n")
+        for words in ("index SETA a.dcm b.dcm", "index SETB b.dcm c.dcm"):
+            subprocess.run([program] + words.split(), check=True, stdout=subprocess.DEVNULL)
+        self.given = look()
+
+    def run(self, command, **settings):
+        """Runs the command, with these settings of the library."""
+        begin(command)
+        for path in (self.log, self.counts):
+            pathlib.Path(path).write_text("", encoding="ascii")
+        settings = {"REFUSE_GROWTH": NO_GROWTH, **settings}
+        settings.update(LD_PRELOAD=self.library, REFUSE_LOG=self.log, REFUSE_COUNTS=self.counts)
+        try:
+            done = subprocess.run([self.program] + command.words.split(), env=settings, timeout=LIMIT,
+                                  stdin=subprocess.DEVNULL, capture_output=True, text=True, check=False)
+            status, out, err = done.returncode, done.stdout, done.stderr
+        except subprocess.TimeoutExpired:
+            status, out, err = None, "", ""
+        counts = re.fullmatch(r"armed 1 growths (\d+) refused (\d+)\n", pathlib.Path(self.counts).read_text())
+        growths, refused = (int(counts[1]), int(counts[2])) if counts else (0, 0)
+        calls = calls_of(pathlib.Path(self.log).read_text())
+        return Run(status, out, err, tree("OUT"), calls, growths, refused + sum(call.is_refused for call in calls))
+
+    def learn(self, command):
+        """Runs a command undisturbed."""
+        begin(command)
+        before = tree("OUT")
+        return Case(command, self.run(command), before)
+
+    def touched(self):
+        """Says where a given file is not as it was."""
+        now = look()
+        is_touched, self.given = now != self.given, now
+        return ["a given file is touched"] if is_touched else []
+
+
+def harm(case, run):
+    """What no run may do, whatever is refused: nothing where all is well."""
+    found, right = [], case.right
+    if run.status is None:
+        found.append("it hangs")
+    elif run.status not in (0, 1, 3):
+        found.append(f"it ends with {run.status}")
+    for path, content in case.before.items():
+        if run.left.get(path, b"") != content:
+            found.append(f"{path} was there, and is changed")
+    for path, content in run.left.items():
+        if path not in right.left:
+            found.append(f"{path} is not of the file-set")
+        elif content is not None and not right.left[path].startswith(content):
+            found.append(f"{path} is no front of what it has to be")
+    if run.err and right.status == 0 and right.out and run.out == right.out:
+        found.append("it says that the work is done, and a fault")
+    if run.refused == 0:
+        found.append("nothing was refused")
+    return found + directory_harm(case, run)
+
+
+def directory_harm(case, run):
+    """What is wrong of a new directory."""
+    found = []
+    content = run.left.get(DIRECTORY)
+    if content is None or DIRECTORY in case.before or run.is_as(case.right):
+        return found
+    is_set_whole = run.left == case.right.left
+    if content == case.right.left[DIRECTORY] and not is_set_whole:
+        found.append("the directory is whole, and the rest is not")
+    # No line has to tell where the output failed: then the set is whole.
+    is_told = run.err in (f"FAULT {DIRECTORY}: 96 Unsent\n", "FAULT OUT: 96 Unsent\n")
+    if not is_told and not (run.err == "" and is_set_whole):
+        found.append("a directory stands there, and the line does not tell it")
+    return found
+
+
+def count_kinds(kinds):
+    """How often each kind is there, in words."""
+    return ", ".join(f"{count} {kind}" for kind, count in sorted(collections.Counter(kinds).items()))
