@@ -3,7 +3,7 @@ import collections
 import errno
 import os
 
-from rooms import DIRECTORY, OUTPUT, Result, harm
+from rooms import DIRECTORY, OUTPUT, count_kinds, harm, result_of, tell_standing
 
 FIRST_IMAGE = "OUT/PT000001/ST000001/SE000001/IM000001"
 
@@ -165,25 +165,25 @@ def try_one(room, case, task):
     refused = f"{call.name} {number} {getattr(errno, error)}"
     run = room.run(case.command, REFUSE_CALL=refused, **({"REFUSE_LATER": "1"} if lasts else {}))
     what = f"{call.name} {number} {call.path} {error} {'and all later' if lasts else 'alone'}"
-    return Result(what, run, kind_of(case, run, error), judge(case, run, task))
+    return result_of(case, what, run, kind_of(case, run, error), judge(case, run, task))
 
 
 def sum_up(case, results):
     """Tells what calls of a command failed."""
-    names = collections.Counter(call.name for call in case.right.calls)
-    shown = ", ".join(f"{count} {name}" for name, count in sorted(names.items()))
-    print(f"{case.command.name}: {sum(names.values())} calls ({shown}), {len(results)} runs")
+    calls = case.right.calls
+    shown = count_kinds(call.name for call in calls)
+    print(f"{case.command.name}: {len(calls)} calls ({shown}), {len(results)} runs")
+    tell_standing(results)
 
 
 def sum_up_all(cases):
     """Tells what came of each call and error, over all commands, and what is not made again. Gives what is not as
     NOT_MADE_AGAIN says."""
-    kinds = collections.defaultdict(collections.Counter)
+    kinds = collections.defaultdict(list)
     for case, results in cases:
         for (at, _, error, _), result in results:
-            kinds[case.right.calls[at].name, error][result.kind] += 1
-    for (name, error), counts in sorted(kinds.items()):
-        shown = ", ".join(f"{count} {kind}" for kind, count in sorted(counts.items()))
-        print(f"{name} {error}: {sum(counts.values())} runs: {shown}")
-    found = {name for (name, _), counts in kinds.items() if counts["not made again"]}
+            kinds[case.right.calls[at].name, error].append(result.kind)
+    for (name, error), kinds_of in sorted(kinds.items()):
+        print(f"{name} {error}: {len(kinds_of)} runs: {count_kinds(kinds_of)}")
+    found = {name for (name, _), kinds_of in kinds.items() if "not made again" in kinds_of}
     return [f"{name} that is interrupted: not as NOT_MADE_AGAIN says" for name in sorted(found ^ NOT_MADE_AGAIN)]

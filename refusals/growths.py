@@ -1,7 +1,7 @@
 """Runs with growths refused."""
 import re
 
-from rooms import Result, count_kinds, harm
+from rooms import count_kinds, harm, result_of, tell_standing
 
 MEMORY = "FAULT -: 91 Memory\n"
 # A file or a folder whose path finds no memory is refused as one that can't be opened or made.
@@ -36,15 +36,16 @@ def try_one(room, case, task):
     what = f"growth {growth} {'and all later' if lasts else 'alone'}"
     if growth > case.right.growths:
         wrong = ["the undisturbed run has no such growth"] if run.refused or not run.is_as(case.right) else []
-        return Result(what, run, "", wrong)
+        return result_of(case, what, run, "", wrong)
     kind = "as if undisturbed" if run.is_as(case.right) else run.err.rsplit(": ", 1)[-1].strip()
-    return Result(what, run, kind, judge(case, run))
+    return result_of(case, what, run, kind, judge(case, run))
 
 
 def sum_up(case, results):
     """Tells what came of the growths of a command."""
     kinds = [result.kind for _, result in results if result.kind]
     print(f"{case.command.name}: {case.right.growths} growths, {len(kinds)} runs: {count_kinds(kinds)}")
+    tell_standing(results)
 
 
 def sum_up_all(_):

@@ -7,6 +7,7 @@ LIBRARY is refuse.c, compiled. All happens in FOLDER, which is new, in as many p
 are processors. A line for each run is left in FOLDER/runs. The status is 1 where a run is not as it has to be; such
 runs are told on the error output.
 """
+import concurrent.futures
 import multiprocessing
 import os
 import sys
@@ -16,8 +17,8 @@ import growths
 from rooms import COMMANDS, Room
 
 PARTS = {"growths": growths, "calls": calls}
-# Of this many runs that are wrong each is told.
-SHOWN = 20
+# Where so many things are wrong, it ends.
+ENOUGH = 20
 
 
 class Worker:
@@ -34,11 +35,10 @@ class Worker:
 
     @classmethod
     def do(cls, part, number, task):
-        """Does a task of a case, of which it gives the line, the result, and all that is wrong."""
-        case = cls.cases[number]
-        result = PARTS[part].try_one(cls.room, case, task)
-        line = f"{case.command.name} | {result.what} | {result.run.told()}"
-        return line, result, result.wrong + cls.room.touched()
+        """Does a task of a case."""
+        result = PARTS[part].try_one(cls.room, cls.cases[number], task)
+        result.wrong.extend(cls.room.touched())
+        return result
 
 
 def learn(words):
@@ -52,13 +52,11 @@ def learn(words):
         Worker.cases.append(case)
 
 
-def run_all(part, words):
-    """Does all tasks, each of which is the number of its case and itself."""
-    tasks = [(number, task) for number, case in enumerate(Worker.cases) for task in PARTS[part].tasks(case)]
-    jobs = int(os.environ.get("JOBS") or os.cpu_count())
-    with multiprocessing.get_context("fork").Pool(jobs, Worker.begin, words) as pool:
-        done = pool.starmap(Worker.do, [(part, number, task) for number, task in tasks], chunksize=8)
-    return tasks, done
+def tell_wrong(wrong):
+    """Tells what is wrong, and answers the status."""
+    for line in wrong:
+        print(f"refused.py: {line}", file=sys.stderr)
+    return 1 if wrong else 0
 
 
 def main(part, *words):
@@ -66,21 +64,25 @@ def main(part, *words):
     words = [os.path.abspath(word) for word in words]
     os.mkdir(words[-1])
     learn(words)
-    tasks, done = run_all(part, words)
+    tasks = [(part, number, task) for number, case in enumerate(Worker.cases) for task in PARTS[part].tasks(case)]
     results = [(case, []) for case in Worker.cases]
     wrong = []
-    with open(os.path.join(words[-1], "runs"), "w", encoding="utf-8") as lines:
-        for (number, task), (line, result, found) in zip(tasks, done):
+    jobs = int(os.environ.get("JOBS") or os.cpu_count())
+    context = multiprocessing.get_context("fork")
+    with concurrent.futures.ProcessPoolExecutor(jobs, context, Worker.begin, words) as pool, \
+            open(os.path.join(words[-1], "runs"), "w", encoding="utf-8") as lines:
+        for (_, number, task), result in zip(tasks, pool.map(Worker.do, *zip(*tasks), chunksize=8)):
             results[number][1].append((task, result))
-            lines.write(line + "\n")
-            wrong += [f"{line}: {words_of}" for words_of in found]
+            lines.write(result.line + "\n")
+            wrong += [f"{result.line}: {found}" for found in result.wrong]
+            if len(wrong) >= ENOUGH:
+                pool.shutdown(cancel_futures=True)
+                return tell_wrong(wrong)
     for case, results_of in results:
         PARTS[part].sum_up(case, results_of)
     wrong += PARTS[part].sum_up_all(results)
-    print(f"{part}: {len(done)} runs, {len(wrong)} not as they have to be")
-    for line in wrong[:SHOWN]:
-        print(f"refused.py: {line}", file=sys.stderr)
-    return 1 if wrong else 0
+    print(f"{part}: {len(tasks)} runs, {len(wrong)} not as they have to be")
+    return tell_wrong(wrong)
 
 
 if __name__ == "__main__":

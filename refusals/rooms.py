@@ -5,13 +5,16 @@ import hashlib
 import os
 import pathlib
 import re
+import resource
 import shutil
 import subprocess
 
 from images import image
 
 # A run that takes so many seconds hangs.
-LIMIT = 60
+SECONDS = 20
+# No run writes or takes so many bytes.
+LIMITS = {resource.RLIMIT_CORE: 0, resource.RLIMIT_FSIZE: 1 << 24, resource.RLIMIT_AS: 1 << 30}
 DIRECTORY = "OUT/DICOMDIR"
 OUTPUT = "the output"
 # More growths than any run asks for: none is refused, and all are counted.
@@ -82,11 +85,11 @@ class Case:
 
 @dataclasses.dataclass(frozen=True)
 class Result:
-    """What a task was, in words, its run, what came of it, and what is wrong."""
+    """What came of a run: a line that tells all of it, its kind, what stands of a new directory, and what is wrong."""
 
-    what: str
-    run: Run
+    line: str
     kind: str
+    stands: str
     wrong: list
 
 
@@ -134,13 +137,20 @@ def look():
     return sorted(found)
 
 
+def text_of(path):
+    """What a file says."""
+    return pathlib.Path(path).read_text(encoding="utf-8", errors="replace")
+
+
 class Room:
     """A folder with sources and file-sets, in which the program is run, one run at a time. It becomes the current
-    folder of the process."""
+    folder of the process, which gets the limits of a run."""
 
     def __init__(self, program, library, example, folder):
         self.program, self.library = program, library
-        self.log, self.counts = folder + ".log", folder + ".counts"
+        self.log, self.counts, self.out, self.err = (f"{folder}.{name}" for name in ("log", "counts", "out", "err"))
+        for limit, most in LIMITS.items():
+            resource.setrlimit(limit, (most, most))
         os.mkdir(folder)
         os.chdir(folder)
         first = pathlib.Path(example).read_bytes()
@@ -158,19 +168,20 @@ class Room:
         """Runs the command, with these settings of the library."""
         begin(command)
         for path in (self.log, self.counts):
-            pathlib.Path(path).write_text("", encoding="ascii")
+            pathlib.Path(path).write_bytes(b"")
         settings = {"REFUSE_GROWTH": NO_GROWTH, **settings}
         settings.update(LD_PRELOAD=self.library, REFUSE_LOG=self.log, REFUSE_COUNTS=self.counts)
-        try:
-            done = subprocess.run([self.program] + command.words.split(), env=settings, timeout=LIMIT,
-                                  stdin=subprocess.DEVNULL, capture_output=True, text=True, check=False)
-            status, out, err = done.returncode, done.stdout, done.stderr
-        except subprocess.TimeoutExpired:
-            status, out, err = None, "", ""
-        counts = re.fullmatch(r"armed 1 growths (\d+) refused (\d+)\n", pathlib.Path(self.counts).read_text())
+        with open(self.out, "wb") as out, open(self.err, "wb") as err:
+            try:
+                status = subprocess.run([self.program] + command.words.split(), env=settings, timeout=SECONDS,
+                                        stdin=subprocess.DEVNULL, stdout=out, stderr=err, check=False).returncode
+            except subprocess.TimeoutExpired:
+                status = None
+        counts = re.fullmatch(r"armed 1 growths (\d+) refused (\d+)\n", text_of(self.counts))
         growths, refused = (int(counts[1]), int(counts[2])) if counts else (0, 0)
-        calls = calls_of(pathlib.Path(self.log).read_text())
-        return Run(status, out, err, tree("OUT"), calls, growths, refused + sum(call.is_refused for call in calls))
+        calls = calls_of(text_of(self.log))
+        refused += sum(call.is_refused for call in calls)
+        return Run(status, text_of(self.out), text_of(self.err), tree("OUT"), calls, growths, refused)
 
     def learn(self, command):
         """Runs a command undisturbed."""
@@ -221,6 +232,28 @@ def directory_harm(case, run):
     if not is_told and not (run.err == "" and is_set_whole):
         found.append("a directory stands there, and the line does not tell it")
     return found
+
+
+def standing(case, run):
+    """What stands of a new directory behind a run that was refused: empty where it was not, or makes none."""
+    if run.status != 1 or DIRECTORY in case.before or DIRECTORY not in case.right.left:
+        return ""
+    content = run.left.get(DIRECTORY)
+    if content is None:
+        return "no directory"
+    return "a whole directory" if content == case.right.left[DIRECTORY] else "a cut directory"
+
+
+def result_of(case, what, run, kind, wrong):
+    """What came of a run in which something was refused, which is told by `what`."""
+    return Result(f"{case.command.name} | {what} | {run.told()}", kind, standing(case, run), wrong)
+
+
+def tell_standing(results):
+    """Tells what stands behind the runs that were refused."""
+    stands = [result.stands for _, result in results if result.stands]
+    if stands:
+        print(f"    {len(stands)} of them end with 1: {count_kinds(stands)}")
 
 
 def count_kinds(kinds):
