@@ -150,7 +150,8 @@ class Room:
         self.program, self.library = program, library
         self.log, self.counts, self.out, self.err = (f"{folder}.{name}" for name in ("log", "counts", "out", "err"))
         for limit, most in LIMITS.items():
-            resource.setrlimit(limit, (most, most))
+            hard = resource.getrlimit(limit)[1]
+            resource.setrlimit(limit, (most if hard == resource.RLIM_INFINITY else min(most, hard), hard))
         os.mkdir(folder)
         os.chdir(folder)
         first = pathlib.Path(example).read_bytes()
