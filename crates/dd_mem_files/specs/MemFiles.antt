@@ -1,12 +1,14 @@
 -- Files in memory, as their callers see them, and what changes them.
-use Rattle.std.specs.Prelude.{◌≡◌, ◌≢◌, ℕ, List, [], ◌++◌, ◌&&◌, map, Option, Some, None, String, Vec, string_bytes}
+use Rattle.std.specs.Prelude.{◌≡◌, ◌≢◌, ◌<◌, ℕ, List, [], ◌++◌, ◌&&◌, map, Option, Some, None, String, Vec, string_bytes}
 use Rattle.std.specs.Prelude.{if◌then◌else◌, Bool, true, bytes_eq, option_map}
 use Rattle.std.specs.BTreeMap.{BTreeMap}
 use Rattle.std.specs.Map.{lookup}
 use Rattle.std.specs.declared.alloc.Global.{Global}
+use Rattle.dd_elem.specs.Device.{counted, last_count}
 use Rattle.dd_elem.specs.declared.counts.Counts.{Counts}
 use Rattle.dd_mem_files.specs.declared.later.Later.{Later}
 use Rattle.dd_mem_files.specs.MemReader.{Opened}
+use Rattle.dd_mem_files.specs.PlannedFaults.{FailingReader, Planned, after_call, after_opening}
 use Rattle.dd_files.specs.Files.{Held, with_written, written}
 
 -- the path and the bytes of each file
@@ -68,15 +70,31 @@ pub record Stored : Type 0 where
   pub refusals : ℕ
   -- the file that is to change
   pub later : Option Change
+  -- what is to fail
+  pub planned : Planned
+
+-- a call that is numbered may be done
+abbrev pub MayCall : Stored → Type 0
+MayCall s = (s.refusals < last_count) × (s.planned.call ≢ 1)
+
+-- they after such a call that changes nothing else
+abbrev pub called : Stored → Stored
+called s = record s { planned = after_call s.planned }
+
+-- they after such a call that was refused
+abbrev pub refused : Stored → Stored
+refused s = record (called s) { refusals = counted s.refusals }
 
 -- an opening of the file at the path
 pub record Opens (old new : Stored) (path : List ℕ) : Type 0 where
   pub files : Gets old.files new.files path (due old.later path)
   pub later : new.later ≡ opened path old.later
+  pub planned : new.planned ≡ after_opening path (after_call old.planned)
+  pub others : new ≡ record old { files = new.files; later = new.later; planned = new.planned }
 
--- a new reader of these bytes
-abbrev pub unread : List ℕ → Opened
-unread bytes = record { given = []; left = bytes; counts = record { calls = 0; failures = 0 } }
+-- a new reader of these bytes, which is to fail after so many of them, where it is
+abbrev pub unread : List ℕ → Option ℕ → Opened
+unread bytes fails = record { given = []; left = bytes; fails = fails; counts = record { calls = 0; failures = 0 } }
 
 -- what they hold
 abbrev pub held_of : Stored → Held
@@ -103,12 +121,15 @@ abbrev pub emptied : Option (List ℕ) → Option (List ℕ)
 emptied None = None
 emptied (Some bytes) = Some []
 
--- what no write changes: all but the bytes of the file that is being written, and the counts of writes
+-- what no write changes: all but the bytes of the file that is being written, the counts of writes and how much
+-- they still take
 pub record Unwritten : Type 0 where
   pub bytes_at : List ℕ → Option (List ℕ)
   pub current : Option (List ℕ)
   pub refusals : ℕ
   pub later : Option Change
+  pub call : ℕ
+  pub reader : Option FailingReader
 
 abbrev pub unwritten : Stored → Unwritten
 unwritten s = record {
@@ -116,4 +137,6 @@ unwritten s = record {
   current = s.current;
   refusals = s.refusals;
   later = s.later;
+  call = s.planned.call;
+  reader = s.planned.reader;
 }

@@ -1,6 +1,7 @@
 -- A reader of a file in memory, as its callers see it, and what a read of it does.
-use Rattle.std.specs.Prelude.{ℕ, List, ◌++◌, take, drop, Result, Ok, Err, true, false}
+use Rattle.std.specs.Prelude.{ℕ, min, List, ◌++◌, length, take, drop, Option, Result, Ok, Err, true, false}
 use Rattle.dd_elem.specs.Counts.{counts_after}
+use Rattle.dd_elem.specs.Device.{IsLive, IsBeforeFail, passing}
 use Rattle.dd_elem.specs.declared.counts.Counts.{Counts}
 
 -- a reader of a file
@@ -8,11 +9,21 @@ pub record Opened : Type 0 where
   -- the bytes that it gave, and those that are still to come
   pub given : List ℕ
   pub left : List ℕ
+  -- after how many bytes it fails for good
+  pub fails : Option ℕ
   pub counts : Counts
+
+-- a read of it succeeds
+abbrev pub IsReadable : Opened → Type 0
+IsReadable s = IsLive s.counts.calls s.counts.failures × IsBeforeFail s.fails (length s.given)
+
+-- how many bytes the next read gives, with room for `room`
+abbrev pub next_len : Opened → ℕ → ℕ
+next_len s room = passing s.fails (length s.given) (min room (length s.left))
 
 -- it after a read with this result
 abbrev pub after_read : {E : Type 0} → Opened → Result ℕ E → Opened
-after_read s (Ok n) = record {
+after_read s (Ok n) = record s {
   given = s.given ++ take n s.left;
   left = drop n s.left;
   counts = counts_after s.counts true;

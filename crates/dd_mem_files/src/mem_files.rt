@@ -1,17 +1,20 @@
 //! Files in memory.
-ghost use Rattle.std.specs.Prelude.{◌≡◌, IsSome, is_ok, IfSome, ◌↔◌, [], length, None, Some, IsOk, IsErr, false};
-ghost use Rattle.std.specs.Prelude.{IsTrue, ◌<◌, codes, IfOk, OnOk, OnErr, option_map, option_copied, string_bytes};
+ghost use Rattle.std.specs.Prelude.{◌≡◌, IsSome, is_ok, IfSome, ◌↔◌, [], length, None, Some, IsOk, IsErr, take};
+ghost use Rattle.std.specs.Prelude.{IsTrue, ◌<◌, codes, IfOk, OnOk, OnErr, option_map, option_copied, string_bytes, false};
 ghost use Rattle.std.specs.Io.{WritesAtMost};
 ghost use Rattle.std.specs.Io.KnownBytes.{WriteAppends};
 ghost use Rattle.dd_elem.specs.Counts.{counts_after};
-ghost use Rattle.dd_elem.specs.Device.{counted, last_count, HasWorked, IsLive};
+ghost use Rattle.dd_elem.specs.Device.{counted, last_count, HasWorked, IsBeforeFail, IsLive, passing};
 ghost use Rattle.dd_mem_files.specs.MemFiles.{Stored, Unwritten, listed, bytes_at, change_of, told_of, unread};
-ghost use Rattle.dd_mem_files.specs.MemFiles.{unwritten, written_of, SetsFile, GrowsFile, GrowsWritten};
+ghost use Rattle.dd_mem_files.specs.MemFiles.{unwritten, written_of, SetsFile, GrowsWritten, MayCall, called, refused};
 ghost use Rattle.dd_mem_files.specs.MemFiles.{KeepsFiles, Gets, Opens, due};
 ghost use Rattle.dd_mem_files.specs.MemLaws.{held_grows, refusals_stay, told_contents};
+ghost use Rattle.dd_mem_files.specs.PlannedFaults.{after_write, fails_at, nothing_planned};
 
+use crate::contents::{append, set};
 use crate::later::{Later, count_opening, due_bytes};
 use crate::mem_reader::MemReader;
+use crate::planned_faults::PlannedFaults;
 use dd_elem::{Counts, Memory, Write};
 use dd_files::{Files, NotDone, NotThere};
 use std::alloc::Global;
@@ -29,6 +32,7 @@ pub struct MemFiles {
     counts: Counts,
     refusals: u64,
     later: Option<Later>,
+    planned: PlannedFaults,
 }
 
 // By hand, so that letting go of it is one call.
@@ -41,6 +45,7 @@ impl Drop for MemFiles {
             counts: _,
             refusals: _,
             later: _later,
+            planned: _planned,
         } = self;
     }
 }
@@ -54,38 +59,8 @@ impl Model for MemFiles {
       counts = s.counts;
       refusals = s.refusals;
       later = option_map change_of s.later;
+      planned = s.planned;
     } };
-}
-
-// Gives the path these bytes. Memory where a growth is refused, and then nothing has changed.
-fn set(
-    alloc: Global,
-    files: &mut BTreeMap<String, Vec<u8>>,
-    path: &str,
-    bytes: &[u8],
-) -> Result<(), Memory>
-    ensures ok { OnOk result (SetsFile (listed files.old) (listed files.new) path.now bytes.now) }
-    ensures err { OnErr result (listed files.new ≡ listed files.old) }
-{
-    let path = String::from_str(alloc, path)?;
-    let bytes = bytes.to_vec(alloc)?;
-    files.insert(path, bytes)?;
-    Ok(())
-}
-
-// Adds the bytes to the end of the file at the path. NotDone where there is none or its growth is
-// refused; the files are then as they were.
-fn append(files: &mut BTreeMap<String, Vec<u8>>, path: &str, bytes: &[u8]) -> Result<(), NotDone>
-    ensures ok { OnOk result (GrowsFile (listed files.old) (listed files.new) path.now bytes.now) }
-    ensures err { OnErr result (KeepsFiles (listed files.old) (listed files.new)) }
-{
-    let Some(file) = files.get_mut(path) else {
-        return Err(NotDone);
-    };
-    match file.extend_from_slice(bytes) {
-        Ok(()) => Ok(()),
-        Err(_) => Err(NotDone),
-    }
 }
 
 impl MemFiles {
@@ -97,6 +72,7 @@ impl MemFiles {
           counts = record { calls = 0; failures = 0 };
           refusals = 0;
           later = None;
+          planned = nothing_planned;
         } }
     {
         MemFiles {
@@ -106,6 +82,7 @@ impl MemFiles {
             counts: Counts::new(),
             refusals: 0,
             later: None,
+            planned: PlannedFaults::new(),
         }
     }
 
@@ -137,6 +114,37 @@ impl MemFiles {
         Ok(())
     }
 
+    /// From now on writes take so many bytes in all, and then fail.
+    pub fn fail_write(&mut self, after: u64)
+        ensures { self.new ≡ record self.old { planned = record self.old.planned { room = Some after } } }
+    {
+        self.planned.fail_write(after);
+    }
+
+    /// The n-th call of `source`, `folder`, `create` and `finish` together, counted from now and from 1, is
+    /// refused. 0 is none.
+    pub fn fail_call(&mut self, n: u32)
+        ensures { self.new ≡ record self.old { planned = record self.old.planned { call = n } } }
+    {
+        self.planned.fail_call(n);
+    }
+
+    /// The reader of the path that this opening gives, counted from now and from 1, fails after so many bytes.
+    /// 0 is none, and a call takes the place of the one before. Memory where a growth is refused, and then
+    /// nothing has changed.
+    pub fn fail_read(&mut self, path: &str, opening: u32, after: u64) -> Result<(), Memory>
+        ensures ok { OnOk result (self.new ≡ record self.old {
+          planned = record self.old.planned {
+            reader = Some (record { path = path.now; opening = opening; after = after });
+          };
+        }) }
+        ensures err { OnErr result (self.new ≡ self.old) }
+    {
+        let path = String::from_str(self.alloc, path)?;
+        self.planned.fail_read(path, opening, after);
+        Ok(())
+    }
+
     /// The bytes of the file at the path, where there is one.
     pub fn bytes(&self, path: &str) -> Option<&[u8]>
         ensures { option_copied result ≡ bytes_at self.now.files path.now }
@@ -147,42 +155,31 @@ impl MemFiles {
         }
     }
 
-    // A reader of the file at the path, or None where there is none, its copy is refused or the
-    // refusals are at their last value.
-    fn open(&self, path: &str) -> Option<MemReader>
-        ensures live { IsSome result → self.now.refusals < last_count }
-        ensures gives { IfSome result (λ reader. bytes_at self.now.files path.now ≡ Some reader.left) }
-        ensures new { IfSome result (λ reader. reader ≡ unread reader.left) }
+    // A copy of the bytes of the file at the path, or None where there is none or the copy is refused.
+    fn copy(&self, path: &str) -> Option<Vec<u8>>
+        ensures { IfSome result (λ copy. bytes_at self.now.files path.now ≡ Some copy.items) }
     {
-        if self.refusals == u64::MAX {
-            return None;
-        }
-        match self.bytes(path)?.to_vec(self.alloc) {
-            Ok(copy) => Some(MemReader::new(copy)),
-            Err(_) => None,
-        }
+        self.bytes(path)?.to_vec(self.alloc).ok()
     }
 
-    // Gives the path the bytes that it is to have at this opening, and a reader of them; or else this
-    // reader of its file. None where a growth is refused, and then nothing has changed.
-    fn reopen(&mut self, path: &str, reader: MemReader) -> Option<MemReader>
-        requires here { bytes_at self.old.files path.now ≡ Some reader.left }
-        requires fresh { reader ≡ unread reader.left }
-        ensures gives { IfSome result (λ reader. bytes_at self.new.files path.now ≡ Some reader.left) }
-        ensures new { IfSome result (λ reader. reader ≡ unread reader.left) }
+    // Gives the path the bytes that it is to have at this opening, and answers a copy of them; or else this copy
+    // of its bytes. None where a growth is refused, and then nothing has changed.
+    fn reopen(&mut self, path: &str, copy: Vec<u8>) -> Option<Vec<u8>>
+        requires { bytes_at self.old.files path.now ≡ Some copy.items }
+        ensures gives { IfSome result (λ copy. bytes_at self.new.files path.now ≡ Some copy.items) }
         ensures some { IsSome result
             → Gets self.old.files self.new.files path.now (due self.old.later path.now) }
         ensures none { result ≡ None → self.new ≡ self.old }
         ensures same { self.new ≡ record self.old { files = self.new.files } }
     {
         let Some(bytes) = due_bytes(&self.later, path) else {
-            return Some(reader);
+            return Some(copy);
         };
         let Ok(copy) = bytes.to_vec(self.alloc) else {
             return None;
         };
         match set(self.alloc, &mut self.files, path, bytes) {
-            Ok(()) => Some(MemReader::new(copy)),
+            Ok(()) => Some(copy),
             Err(_) => None,
         }
     }
@@ -200,13 +197,13 @@ impl MemFiles {
         Ok(())
     }
 
-    // Whether a file may be started at the path: there is none, and the refusals are not at their
-    // last value.
-    fn is_free(&self, path: &str) -> bool
-        ensures { IsTrue result ↔ ((self.now.refusals < last_count)
-            × (bytes_at self.now.files path.now ≡ None)) }
+    // Counts a call. May it be done? Not where it is to be refused, or the refusals are at their last value.
+    fn begin(&mut self) -> bool
+        ensures may { IsTrue result ↔ MayCall self.old }
+        ensures same { self.new ≡ called self.old }
     {
-        self.refusals < u64::MAX && self.bytes(path).is_none()
+        let is_refused = self.planned.call();
+        !is_refused && self.refusals < u64::MAX
     }
 
     // Counts a refusal.
@@ -216,17 +213,28 @@ impl MemFiles {
         self.refusals = self.refusals.saturating_add(1);
     }
 
-    // Adds the bytes to the end of the file that is being written. NotDone where there is none or its
-    // growth is refused; the files are then as they were.
-    fn append(&mut self, bytes: &[u8]) -> Result<(), NotDone>
-        ensures ok { OnOk result (GrowsWritten self.old self.new bytes.now) }
+    // Adds what a write takes of the bytes to the end of the file that is being written, and answers how many
+    // these are. NotDone where there is no such file, its growth is refused or writes are to fail; the files are
+    // then as they were.
+    fn append(&mut self, bytes: &[u8]) -> Result<usize, NotDone>
+        ensures room { IsOk result → IsBeforeFail self.old.planned.room 0 }
+        ensures len { IfOk result (λ n. n ≡ passing self.old.planned.room 0 (length bytes.now)) }
+        ensures ok { IfOk result (λ n. GrowsWritten self.old self.new (take n bytes.now)) }
         ensures err { OnErr result (KeepsFiles self.old.files self.new.files) }
-        ensures same { self.new ≡ record self.old { files = self.new.files } }
+        ensures same { self.new ≡ record self.old {
+          files = self.new.files;
+          planned = after_write self.old.planned result;
+        } }
     {
+        let Some(n) = self.planned.taken_len(bytes.len()) else {
+            return Err(NotDone);
+        };
         match &self.current {
-            Some(path) => append(&mut self.files, path.as_str(), bytes),
-            None => Err(NotDone),
+            Some(path) => append(&mut self.files, path.as_str(), &bytes[..n])?,
+            None => return Err(NotDone),
         }
+        self.planned.take(n);
+        Ok(n)
     }
 }
 
@@ -241,26 +249,32 @@ impl Write for MemFiles {
 
     ghost rest = { unwritten };
 
-    /// Takes the whole piece to the end of the file that is being written. It fails where there is
-    /// none, where a count is at its last value and where a growth is refused, and then takes nothing.
+    /// Takes the whole piece, or what fits before writes are to fail, to the end of the file that is being
+    /// written. It fails there, where there is no such file, where a count is at its last value and where a
+    /// growth is refused, and then takes nothing.
     fn write(&mut self, bytes: &[u8]) -> io::Result<usize>
         ensures bound { WritesAtMost result bytes.now }
         ensures appends { WriteAppends (written_of self.old) (written_of self.new) result bytes.now }
 
-        // It works only where no count is at its last value, and then takes all for the file that is
-        // being written.
+        // It works only where no count is at its last value and writes are not to fail yet, and how many bytes it
+        // takes then for the file that is being written.
         ensures live { IsOk result → IsLive self.old.counts.calls self.old.counts.failures }
-        ensures whole { IfOk result (λ n. n ≡ length bytes.now) }
+        ensures room { IsOk result → IsBeforeFail self.old.planned.room 0 }
+        ensures len { IfOk result (λ n. n ≡ passing self.old.planned.room 0 (length bytes.now)) }
 
         // How it counts, and what stays.
         ensures counts { self.new.counts ≡ counts_after self.old.counts (is_ok result) }
-        ensures ok { OnOk result (GrowsWritten self.old self.new bytes.now) }
+        ensures ok { IfOk result (λ n. GrowsWritten self.old self.new (take n bytes.now)) }
         ensures err { OnErr result (KeepsFiles self.old.files self.new.files) }
-        ensures same { self.new ≡ record self.old { files = self.new.files; counts = self.new.counts } }
+        ensures same { self.new ≡ record self.old {
+          files = self.new.files;
+          counts = self.new.counts;
+          planned = after_write self.old.planned result;
+        } }
     {
         self.counts.begin()?;
         match self.append(bytes) {
-            Ok(()) => Ok(bytes.len()),
+            Ok(n) => Ok(n),
             Err(_) => {
                 self.counts.fail();
                 Err(io::Error::other("no file took the bytes"))
@@ -277,80 +291,77 @@ impl Files for MemFiles {
     ghost held = { told_of };
 
     /// Gives a reader of a copy of the file's bytes; a file that changes later has its new bytes from its
-    /// second opening on. NotThere where there is no such file, a growth is refused or the refusals are at
-    /// their last value; the files are then as they were.
+    /// second opening on. NotThere where the call is to be refused, there is no such file, a growth is refused or
+    /// the refusals are at their last value; the files are then as they were, and it is no opening.
     fn source(&mut self, path: &str) -> Result<MemReader, NotThere>
         ensures worked { IsOk result → HasWorked self.old.refusals self.new.refusals }
         ensures refused { IsErr result → self.new.refusals ≡ counted self.old.refusals }
+        ensures may { IsOk result → MayCall self.old }
         ensures gives { IfOk result (λ reader. bytes_at self.new.files path.now ≡ Some reader.left) }
-        ensures new { IfOk result (λ reader. reader ≡ unread reader.left) }
+        ensures new { IfOk result (λ reader. reader
+            ≡ unread reader.left (fails_at self.old.planned.reader path.now)) }
         ensures opens { OnOk result (Opens self.old self.new path.now) }
-        ensures err { OnErr result (self.new ≡ record self.old { refusals = self.new.refusals }) }
-        ensures same { self.new ≡ record self.old {
-          files = self.new.files;
-          later = self.new.later;
-          refusals = self.new.refusals;
-        } }
+        ensures err { OnErr result (self.new ≡ refused self.old) }
     {
-        if let Some(reader) = self.open(path) {
-            if let Some(reader) = self.reopen(path, reader) {
-                count_opening(&mut self.later, path);
-                return Ok(reader);
+        if self.begin() {
+            if let Some(copy) = self.copy(path) {
+                if let Some(copy) = self.reopen(path, copy) {
+                    count_opening(&mut self.later, path);
+                    return Ok(MemReader::new(copy, self.planned.open(path)));
+                }
             }
         }
         self.refuse();
         Err(NotThere)
     }
 
-    /// Every folder is there. NotDone only where the refusals are at their last value.
+    /// Every folder is there. NotDone only where the call is to be refused or the refusals are at their last
+    /// value.
     fn folder(&mut self, _path: &str) -> Result<(), NotDone>
         ensures worked { IsOk result → HasWorked self.old.refusals self.new.refusals }
         ensures refused { IsErr result → self.new.refusals ≡ counted self.old.refusals }
-        ensures done { IsOk result ↔ (self.old.refusals < last_count) }
-        ensures same { self.new ≡ record self.old { refusals = self.new.refusals } }
+        ensures done { IsOk result ↔ MayCall self.old }
+        ensures ok { OnOk result (self.new ≡ called self.old) }
+        ensures err { OnErr result (self.new ≡ refused self.old) }
     {
-        if self.refusals < u64::MAX {
-            Ok(())
-        } else {
-            Err(NotDone)
+        if self.begin() {
+            return Ok(());
         }
+        self.refuse();
+        Err(NotDone)
     }
 
-    /// Starts an empty file at the path. NotDone where the path is there, a growth is refused or the
-    /// refusals are at their last value; the files are then as they were.
+    /// Starts an empty file at the path. NotDone where the call is to be refused, the path is there, a growth is
+    /// refused or the refusals are at their last value; the files are then as they were.
     fn create(&mut self, path: &str) -> Result<(), NotDone>
         ensures worked { IsOk result → HasWorked self.old.refusals self.new.refusals }
         ensures refused { IsErr result → self.new.refusals ≡ counted self.old.refusals }
+        ensures may { IsOk result → MayCall self.old }
         ensures free { OnOk result (bytes_at self.old.files path.now ≡ None) }
         ensures ok { OnOk result (SetsFile self.old.files self.new.files path.now []) }
         ensures started { OnOk result (self.new.current ≡ Some path.now) }
-        ensures err { OnErr result (self.new ≡ record self.old { refusals = self.new.refusals }) }
-        ensures counts { self.new.counts ≡ self.old.counts }
-        ensures later { self.new.later ≡ self.old.later }
+        ensures err { OnErr result (self.new ≡ refused self.old) }
+        ensures same { OnOk result (self.new
+            ≡ record (called self.old) { files = self.new.files; current = self.new.current }) }
     {
-        if !self.is_free(path) {
-            self.refuse();
-            return Err(NotDone);
+        if self.begin() && self.bytes(path).is_none() && self.start(path).is_ok() {
+            return Ok(());
         }
-        match self.start(path) {
-            Ok(()) => Ok(()),
-            Err(_) => {
-                self.refuse();
-                Err(NotDone)
-            }
-        }
+        self.refuse();
+        Err(NotDone)
     }
 
-    /// Ends the file that is being written; later writes fail until the next is started. NotDone only
-    /// where the refusals are at their last value, and then it goes on.
+    /// Ends the file that is being written; later writes fail until the next is started. NotDone only where the
+    /// call is to be refused or the refusals are at their last value, and then it goes on.
     fn finish(&mut self) -> Result<(), NotDone>
         ensures worked { IsOk result → HasWorked self.old.refusals self.new.refusals }
         ensures refused { IsErr result → self.new.refusals ≡ counted self.old.refusals }
-        ensures done { IsOk result ↔ (self.old.refusals < last_count) }
-        ensures ok { OnOk result (self.new ≡ record self.old { current = None }) }
-        ensures err { OnErr result (self.new ≡ record self.old { refusals = self.new.refusals }) }
+        ensures done { IsOk result ↔ MayCall self.old }
+        ensures ok { OnOk result (self.new ≡ record (called self.old) { current = None }) }
+        ensures err { OnErr result (self.new ≡ refused self.old) }
     {
-        if self.refusals == u64::MAX {
+        if !self.begin() {
+            self.refuse();
             return Err(NotDone);
         }
         self.current = None;

@@ -1,19 +1,21 @@
 //! A reader of a file in memory.
-ghost use Rattle.std.specs.Prelude.{◌≡◌, [], ◌≤◌, ◌↔◌, ◌<◌, min, length, take, drop, Some, IsOk, IsErr, IfOk};
+ghost use Rattle.std.specs.Prelude.{◌≡◌, [], ◌≤◌, ◌↔◌, ◌<◌, length, take, drop, Some, IsOk, IsErr, IfOk};
+ghost use Rattle.std.specs.Prelude.{IsSome, IfSome};
 ghost use Rattle.std.specs.Io.{ReadsAtMost};
 ghost use Rattle.std.specs.Io.KnownBytes.{ReadConsumes};
-ghost use Rattle.dd_elem.specs.Device.{counted, last_count, HasWorked, IsLive, Gives, read_piece};
-ghost use Rattle.dd_mem_files.specs.MemReader.{Opened, after_read};
+ghost use Rattle.dd_elem.specs.Device.{counted, last_count, HasWorked, Gives, read_piece};
+ghost use Rattle.dd_mem_files.specs.MemReader.{Opened, IsReadable, after_read, next_len};
 
 use dd_elem::{Counts, Read};
 use std::io;
 use std::marker::Model;
 
-/// A reader of a file in memory, which has a copy of its bytes.
+/// A reader of a file in memory, which has a copy of its bytes and may fail for good after so many of them.
 #[derive(Debug, Drop)]
 pub struct MemReader {
     bytes: Vec<u8>,
     at: usize,
+    fails: Option<u64>,
     counts: Counts,
 }
 
@@ -23,6 +25,7 @@ impl Model for MemReader {
     ghost view = { λ s. record {
       given = take s.at s.bytes.items;
       left = drop s.at s.bytes.items;
+      fails = s.fails;
       counts = s.counts;
     } };
 
@@ -30,18 +33,38 @@ impl Model for MemReader {
 }
 
 impl MemReader {
-    /// A reader of these bytes.
-    pub(crate) fn new(bytes: Vec<u8>) -> Self
+    /// A reader of these bytes. With `fails` it fails for good after so many of them, before it tells the end.
+    pub(crate) fn new(bytes: Vec<u8>, fails: Option<u64>) -> Self
         ensures { result ≡ record {
           given = [];
           left = bytes.items;
+          fails = fails;
           counts = record { calls = 0; failures = 0 };
         } }
     {
         MemReader {
             bytes,
             at: 0,
+            fails,
             counts: Counts::new(),
+        }
+    }
+
+    /// How many bytes the next read gives, or None where it fails.
+    fn next_len(&self, room: usize) -> Option<usize>
+        ensures readable { IsSome result ↔ IsReadable self.now }
+        ensures len { IfSome result (λ n. n ≡ next_len self.now room) }
+    {
+        if !self.counts.is_live() {
+            return None;
+        }
+        let wanted = room.min(self.bytes.len() - self.at);
+        match self.fails {
+            None => Some(wanted),
+            Some(fails) if (self.at as u64) < fails => {
+                Some((wanted as u64).min(fails - self.at as u64) as usize)
+            }
+            Some(_) => None,
         }
     }
 }
@@ -55,8 +78,8 @@ impl Read for MemReader {
 
     ghost has_given = { λ s bytes. bytes ≡ s.given };
 
-    /// Gives the next bytes, as many as there is room for and as are left. It fails only where a
-    /// count is at its last value.
+    /// Gives the next bytes, as many as there is room for and as are left, up to where it fails for good. It
+    /// fails there, and where a count is at its last value.
     fn read(&mut self, buf: &mut [u8]) -> io::Result<usize>
         ensures bound { ReadsAtMost result buf.new }
         ensures called { self.new.counts.calls ≡ counted self.old.counts.calls }
@@ -67,14 +90,22 @@ impl Read for MemReader {
         ensures gives { Gives (λ s bytes. bytes ≡ s.given) self.old self.new (read_piece result buf.new) }
 
         // Exactly when it works, how many bytes come then, and what it is afterwards.
-        ensures readable { IsOk result ↔ IsLive self.old.counts.calls self.old.counts.failures }
-        ensures len { IfOk result (λ n. n ≡ min (length buf.old) (length self.old.left)) }
+        ensures readable { IsOk result ↔ IsReadable self.old }
+        ensures len { IfOk result (λ n. n ≡ next_len self.old (length buf.old)) }
         ensures after { self.new ≡ after_read self.old result }
     {
-        self.counts.begin()?;
-        let n = buf.len().min(self.bytes.len() - self.at);
-        buf[..n].copy_from_slice(&self.bytes[self.at..self.at + n]);
-        self.at += n;
-        Ok(n)
+        let next = self.next_len(buf.len());
+        self.counts.call();
+        match next {
+            None => {
+                self.counts.fail();
+                Err(io::Error::other("the file fails from here on"))
+            }
+            Some(n) => {
+                buf[..n].copy_from_slice(&self.bytes[self.at..self.at + n]);
+                self.at += n;
+                Ok(n)
+            }
+        }
     }
 }

@@ -1,25 +1,33 @@
 -- The bytes that a read gives are the next ones.
-use Rattle.std.proofs.Common.{◌≡◌, ◌++◌, length, drop, arith}
+use Rattle.std.proofs.Common.{◌≡◌, refl, sym, ap, ◌∙◌, ◌+◌, ◌++◌, length, drop, arith}
 use Rattle.std.proofs.lemmas.Grind.{common_steps}
-use Rattle.std.proofs.lemmas.List.{drop_all}
 use Rattle.std.proofs.Math.Seq.{take-add}
-use Rattle.dd_mem_files.proofs.Rest.{drop-split}
+use Rattle.dd_mem_files.specs.MemReader.{Opened}
+use Rattle.dd_mem_files.proofs.Rest.{drop-split, next_len-end}
 use Rattle.dd_mem_files.proofs.mem_reader.MemReaderRead.read.Goals as goal
 
-pub returns-clause-left : goal.returns-clause-left
-returns-clause-left c =
-    let split = drop-split c.self.inside.bytes.items c.self.inside.at c.min-n.result in
-    let room_is : length (c.copy_from_slice.new.self ++ drop c.min-n.result c.args.buf.now) ≡ length c.args.buf.now =
+pub returns-in-Some-clause-left : goal.returns-in-Some-clause-left
+returns-in-Some-clause-left c =
+    let split = drop-split c.self.inside.bytes.items c.self.inside.at c.in-Some.n in
+    let next = c.in-Some.ensures in
+    let left_is = ap (λ (s : Opened). s.left) c.self.view_is in
+    let room_is : length (c.copy_from_slice.new.self ++ drop c.in-Some.n c.args.buf.now) ≡ length c.args.buf.now =
     grind (arith, common_steps) in
-    rw (← c.self.view_is) (grind (arith, common_steps), λ none room. drop_all _ c.self.inside.bytes.items (omega arith))
+    let here : c.in-Some.n ≡ 0 → c.self.inside.at + c.in-Some.n ≡ c.self.inside.at = λ none. omega arith in
+    rw (← c.self.view_is) (
+      grind (arith, common_steps),
+      λ none room. let same = here none in rw same
+          (left_is ∙ next_len-end c.args.self.now (length c.args.buf.now) (next.readable.0 refl).1
+          (sym next.len ∙ none) (omega arith)),
+    )
 
-pub returns-clause-gives : goal.returns-clause-gives
-returns-clause-gives c =
-    let more = take-add c.self.inside.at c.min-n.result c.self.inside.bytes.items in
+pub returns-in-Some-clause-gives : goal.returns-in-Some-clause-gives
+returns-in-Some-clause-gives c =
+    let more = take-add c.self.inside.at c.in-Some.n c.self.inside.bytes.items in
     rw (← c.self.view_is) (record { then = λ before h. grind (arith, common_steps) })
 
-pub returns-clause-after : goal.returns-clause-after
-returns-clause-after c =
-    let more = take-add c.self.inside.at c.min-n.result c.self.inside.bytes.items in
-    let split = drop-split c.self.inside.bytes.items c.self.inside.at c.min-n.result in
+pub returns-in-Some-clause-after : goal.returns-in-Some-clause-after
+returns-in-Some-clause-after c =
+    let more = take-add c.self.inside.at c.in-Some.n c.self.inside.bytes.items in
+    let split = drop-split c.self.inside.bytes.items c.self.inside.at c.in-Some.n in
     rw (← c.self.view_is) (grind (arith, common_steps))

@@ -1,6 +1,6 @@
 -- The map gets the bytes at the path.
 use Rattle.dd_mem_files.proofs.Stored.{sets_file}
-use Rattle.dd_mem_files.proofs.mem_files.set.Goals as goal
+use Rattle.dd_mem_files.proofs.contents.set.Goals as goal
 
 pub returns-clause-ok : goal.returns-clause-ok
 returns-clause-ok c =

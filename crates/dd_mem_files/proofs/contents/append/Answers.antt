@@ -3,7 +3,7 @@ use Rattle.std.proofs.Common.{◌≡◌, ◌++◌, Some, ap, sym, ◌∙◌, rul
 use Rattle.std.specs.Prelude.{option_map}
 use Rattle.dd_mem_files.specs.MemFiles.{bytes_at, listed}
 use Rattle.dd_mem_files.proofs.Stored.{lookup-listed, sets_file, keeps_files}
-use Rattle.dd_mem_files.proofs.mem_files.append.Goals as goal
+use Rattle.dd_mem_files.proofs.contents.append.Goals as goal
 
 pub returns-in-Ok-clause-ok : goal.returns-in-Ok-clause-ok
 returns-in-Ok-clause-ok c =

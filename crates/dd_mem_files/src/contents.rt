@@ -1,0 +1,43 @@
+//! The bytes of files by their paths.
+ghost use Rattle.std.specs.Prelude.{◌≡◌, OnOk, OnErr};
+ghost use Rattle.dd_mem_files.specs.MemFiles.{GrowsFile, KeepsFiles, SetsFile, listed};
+
+use dd_elem::Memory;
+use dd_files::NotDone;
+use std::alloc::Global;
+use std::collections::BTreeMap;
+
+/// Gives the path these bytes. Memory where a growth is refused, and then nothing has changed.
+pub(crate) fn set(
+    alloc: Global,
+    files: &mut BTreeMap<String, Vec<u8>>,
+    path: &str,
+    bytes: &[u8],
+) -> Result<(), Memory>
+    ensures ok { OnOk result (SetsFile (listed files.old) (listed files.new) path.now bytes.now) }
+    ensures err { OnErr result (listed files.new ≡ listed files.old) }
+{
+    let path = String::from_str(alloc, path)?;
+    let bytes = bytes.to_vec(alloc)?;
+    files.insert(path, bytes)?;
+    Ok(())
+}
+
+/// Adds the bytes to the end of the file at the path. NotDone where there is none or its growth is
+/// refused; the files are then as they were.
+pub(crate) fn append(
+    files: &mut BTreeMap<String, Vec<u8>>,
+    path: &str,
+    bytes: &[u8],
+) -> Result<(), NotDone>
+    ensures ok { OnOk result (GrowsFile (listed files.old) (listed files.new) path.now bytes.now) }
+    ensures err { OnErr result (KeepsFiles (listed files.old) (listed files.new)) }
+{
+    let Some(file) = files.get_mut(path) else {
+        return Err(NotDone);
+    };
+    match file.extend_from_slice(bytes) {
+        Ok(()) => Ok(()),
+        Err(_) => Err(NotDone),
+    }
+}
