@@ -1,6 +1,6 @@
 //! Cases: what each asks, and that the answer is right.
 
-use crate::{derivation, fields, own, publishing, sending, walks};
+use crate::{cuts, derivation, fields, own, publishing, sending, walks};
 use dd_vectors::{answered, question};
 use std::alloc::Global;
 use std::process::Abort;
@@ -17,8 +17,11 @@ pub(crate) enum Ask {
     Record,
     Limited,
     Directory,
+    FourSent,
     Read,
     ReadDeep,
+    Cut,
+    Offset,
 }
 
 /// The answer to a question.
@@ -32,8 +35,11 @@ fn answer(alloc: Global, ask: Ask, question: &str) -> Result<String, Fail> {
         Ask::Record => publishing::record(alloc, question),
         Ask::Limited => publishing::limited(alloc, question),
         Ask::Directory => sending::directory(alloc, question),
+        Ask::FourSent => sending::four_sent(alloc, question),
         Ask::Read => walks::read(alloc, question),
         Ask::ReadDeep => walks::read_deep(alloc, question),
+        Ask::Cut => cuts::cut(alloc, question),
+        Ask::Offset => cuts::offset(alloc, question),
     }
 }
 

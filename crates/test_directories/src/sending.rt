@@ -1,12 +1,13 @@
 //! Directories sent to a writer.
 
 use crate::cases::{Ask, ask_all};
-use crate::publishing::{label_of, limits_of};
+use crate::publishing::{label_of, limits_of, published};
 use dd_catalogue::Catalogue;
 use dd_dir::write_directory;
 use dd_elem::Sink;
 use dd_layout::{Plan, lay_out};
-use dd_samples::v1_version;
+use dd_samples::{taken, v1_version};
+use dd_set::WriteFault;
 use dd_vectors::first_directory;
 use std::alloc::Global;
 use std::test::Fail;
@@ -66,4 +67,54 @@ pub(crate) fn directory(alloc: Global, question: &str) -> Result<String, Fail> {
 #[test]
 fn the_directory_of_v1(rt: HostRuntime) -> Result<(), Fail> {
     ask_all(&rt, rt.alloc(), Ask::Directory, SENT)
+}
+
+/// After how many bytes at least and at most a writer fails that gets the directory of four images, and what comes
+/// of each such writer. `there` is where it fails, and it then holds so many of the first bytes.
+const FOUR_SENT: &str = "\
+0 2031 > 12 Write there
+2032 2040 > 2032 bytes";
+
+/// What comes of a writer that fails after so many bytes and gets the directory of this plan.
+fn outcome(alloc: Global, plan: &Plan, bytes: &[u8], after: u64) -> Result<String, Fail> {
+    let mut sink = Sink::new(alloc, Some(after));
+    sink.reserve(bytes.len())?;
+    let said = write_directory(plan, &mut sink);
+    if !bytes.starts_with(sink.bytes()) {
+        return Err("it holds other bytes".into());
+    }
+    let held = sink.bytes().len() as u64;
+    match said {
+        Ok(size) if size == held => Ok(format!(in alloc; "{size} bytes")?),
+        Err(WriteFault::Write(sent)) if sent == held && held == after => {
+            Ok(String::from_str(alloc, "12 Write there")?)
+        }
+        said => Ok(format!(in alloc; "{said:?}, but {held} bytes")?),
+    }
+}
+
+/// The plan of the four images.
+fn plan_of_four(alloc: Global) -> Result<Plan, Fail> {
+    let catalogue = taken(alloc, "1234")?;
+    Ok(lay_out(alloc, &catalogue, &label_of("")?, limits_of("")?)?)
+}
+
+/// What comes of all these writers, or of the first of which something else comes.
+pub(crate) fn four_sent(alloc: Global, question: &str) -> Result<String, Fail> {
+    let (first, last) = question.split_once(' ').ok_or("no last")?;
+    let (first, last): (u64, u64) = (first.parse()?, last.parse()?);
+    let (plan, bytes) = (plan_of_four(alloc)?, published(alloc, "1234")?);
+    let common = outcome(alloc, &plan, &bytes, first)?;
+    for after in first..=last {
+        let said = outcome(alloc, &plan, &bytes, after)?;
+        if said.as_str() != common.as_str() {
+            return Ok(format!(in alloc; "{said} at {after}")?);
+        }
+    }
+    Ok(common)
+}
+
+#[test]
+fn a_directory_stops_where_its_writer_fails(rt: HostRuntime) -> Result<(), Fail> {
+    ask_all(&rt, rt.alloc(), Ask::FourSent, FOUR_SENT)
 }

@@ -19,6 +19,7 @@ one 370 'PRIVATE_ > (320 PRIVATE(404 STUDY(530 SERIES(622 IMAGE)))) 0
 one 348 0000 > (320 PATIENT inactive(404 STUDY(530 SERIES(622 IMAGE)))) 0
 one 336 40010000 > 55 Twice 320
 one 282 41010000 > 54 Dangling 321
+one 282 ffffffff > 54 Dangling 4294967295
 one 282 00000000 > 56 LastRoot
 one 282 00000000 294 00000000 > 4
 one 370 '________ > 53 RecordShape 320
@@ -40,11 +41,16 @@ one 128 '4 > 51 File 21 NotPart10
 1234 336 43010000 358 41010000 > 54 Dangling 321
 v3 > (320 PATIENT(412 STUDY(546 SERIES(646 IMAGE inactive)(818 SR DOCUMENT)))) 0";
 
-/// So many records, each below the one before; and how many levels there are, or why they are refused.
+/// So many records, each below the one before; and how many bytes their directory has, and how many levels there
+/// are, or why they are refused.
 const DEEP: &str = "\
-1 > 1
-32 > 32
-33 > 58 TooDeep 1984";
+1 > 372 bytes, 1
+2 > 424 bytes, 2
+31 > 1932 bytes, 31
+32 > 1984 bytes, 32
+33 > 2036 bytes, 58 TooDeep 1984
+34 > 2088 bytes, 58 TooDeep 1984
+100 > 5520 bytes, 58 TooDeep 1984";
 
 /// The directory of this name.
 fn directory(alloc: Global, name: &str) -> Result<Vec<u8>, Fail> {
@@ -118,9 +124,9 @@ fn levels(tree: &Tree<'_>) -> u32 {
     most.saturating_add(1)
 }
 
-pub(crate) fn read_deep(alloc: Global, question: &str) -> Result<String, Fail> {
-    let bytes = deep(alloc, question.parse()?)?;
-    match read_directory(alloc, &bytes) {
+/// How many levels the records of a directory have, or why it is refused.
+fn levels_or_fault(alloc: Global, bytes: &[u8]) -> Result<String, Fail> {
+    match read_directory(alloc, bytes) {
         Ok(forest) => {
             let root = forest.trees.first().ok_or("no record")?;
             let levels = levels(root);
@@ -128,6 +134,12 @@ pub(crate) fn read_deep(alloc: Global, question: &str) -> Result<String, Fail> {
         }
         Err(fault) => Ok(format!(in alloc; "{fault}")?),
     }
+}
+
+pub(crate) fn read_deep(alloc: Global, question: &str) -> Result<String, Fail> {
+    let bytes = deep(alloc, question.parse()?)?;
+    let (size, said) = (bytes.len(), levels_or_fault(alloc, &bytes)?);
+    Ok(format!(in alloc; "{size} bytes, {said}")?)
 }
 
 #[test]

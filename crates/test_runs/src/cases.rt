@@ -1,6 +1,6 @@
 //! Cases: what each asks, and that the answer is right.
 
-use crate::{runs, scripts};
+use crate::{devices, runs, scripts};
 use dd_vectors::{answered, question};
 use std::alloc::Global;
 use std::process::Abort;
@@ -12,6 +12,9 @@ pub(crate) enum Ask {
     Ran,
     Ended,
     Text,
+    Unsent,
+    Refused,
+    Unread,
 }
 
 /// The answer to a question.
@@ -20,6 +23,9 @@ fn answer(alloc: Global, ask: Ask, question: &str) -> Result<String, Fail> {
         Ask::Ran => scripts::ran(alloc, question),
         Ask::Ended => runs::end(alloc, question),
         Ask::Text => runs::text(alloc, question),
+        Ask::Unsent => devices::unsent(alloc, question),
+        Ask::Refused => devices::refused(alloc, question),
+        Ask::Unread => devices::unread(alloc, question),
     }
 }
 

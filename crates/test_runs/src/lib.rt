@@ -6,6 +6,8 @@ mod cases;
 #[cfg(test)]
 mod checks;
 #[cfg(test)]
+mod devices;
+#[cfg(test)]
 mod disc;
 #[cfg(test)]
 mod lists;

@@ -27,7 +27,7 @@ fn take_step(alloc: Global, step: &str, files: &mut MemFiles) -> Result<(), Fail
 }
 
 /// Runs a line, and says how that ends.
-fn end_by(alloc: Global, line: &str, files: &mut MemFiles) -> Result<String, Fail> {
+pub(crate) fn end_by(alloc: Global, line: &str, files: &mut MemFiles) -> Result<String, Fail> {
     let line = format!(in alloc; "- - dicomdir {line}")?;
     end_of(alloc, line.as_str(), files)
 }

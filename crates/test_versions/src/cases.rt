@@ -10,6 +10,7 @@ use std::test::Fail;
 #[derive(Clone, Copy)]
 pub(crate) enum Ask {
     Ingested,
+    Unread,
     Large,
     IngestedLong,
     Misfit,
@@ -24,6 +25,7 @@ pub(crate) enum Ask {
 fn answer(alloc: Global, ask: Ask, question: &str) -> Result<String, Fail> {
     match ask {
         Ask::Ingested => ingesting::ingested(alloc, question),
+        Ask::Unread => ingesting::unread(alloc, question),
         Ask::Large => ingesting::large(alloc, question),
         Ask::IngestedLong => ingesting::long(alloc, question),
         Ask::Misfit => making::misfit(alloc, question),

@@ -118,6 +118,46 @@ fn a_reader_gives_the_version_of_its_bytes(rt: HostRuntime) -> Result<(), Fail> 
     ask_all(&rt, rt.alloc(), Ask::Ingested, READ)
 }
 
+/// How many bytes come in one read, and after how many at least and at most the reader of V1 fails: what becomes of
+/// it with each such reader, where the limit is the 454 bytes of V1.
+const UNREAD: &str = "\
+1 0 454 > 38 Read
+7 0 454 > 38 Read
+100 0 454 > 38 Read
+4096 0 454 > 38 Read
+1 455 460 > taken
+4096 455 460 > taken";
+
+/// What becomes of these bytes where a reader gives them so and fails after so many of them.
+fn failing_at(alloc: Global, bytes: &[u8], piece: u64, fails: u64) -> Result<String, Fail> {
+    let mut source = ByteSource::new(bytes, piece, Some(fails));
+    outcome(alloc, bytes, &mut source, 454)
+}
+
+/// What becomes of V1 with each reader that fails within the range, or with the first of which something else does.
+fn unread_in(alloc: Global, piece: u64, first: u64, last: u64) -> Result<String, Fail> {
+    let bytes = v1(alloc)?;
+    let common = failing_at(alloc, &bytes, piece, first)?;
+    for fails in first..=last {
+        let answer = failing_at(alloc, &bytes, piece, fails)?;
+        if answer.as_str() != common.as_str() {
+            return Ok(format!(in alloc; "{answer} at {fails}")?);
+        }
+    }
+    Ok(common)
+}
+
+pub(crate) fn unread(alloc: Global, question: &str) -> Result<String, Fail> {
+    let (piece, rest) = question.split_once(' ').ok_or("no failure")?;
+    let (first, last) = rest.split_once(' ').ok_or("no last")?;
+    unread_in(alloc, piece.parse()?, first.parse()?, last.parse()?)
+}
+
+#[test]
+fn a_reader_may_fail_at_every_byte(rt: HostRuntime) -> Result<(), Fail> {
+    ask_all(&rt, rt.alloc(), Ask::Unread, UNREAD)
+}
+
 /// V1 with the large element behind it: 1,000,466 bytes.
 fn large_file(alloc: Global) -> Result<Vec<u8>, Fail> {
     let mut bytes = v1(alloc)?;

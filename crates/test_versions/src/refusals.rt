@@ -1,25 +1,44 @@
 //! Bytes that are no file of a version, each with the first check that they fail.
 
 use crate::cases::{Ask, ask_all};
-use dd_keys::{KeyFault, version_of};
+use dd_keys::{KeyFault, Parts, version_of};
 use dd_part10::FileFault;
 use dd_set::SetFault;
 use dd_vectors::{v1, v1_with};
 use std::alloc::Global;
 use std::test::Fail;
 
-/// V1 cut to so many bytes: within the preamble, within group 0002, and behind it before and within the
-/// elements of the data set.
+/// To how many bytes at least and at most V1 is cut, and what becomes of each such front: within the preamble, within
+/// group 0002, then between and within the elements of the data set. Of a version follow the ID of the study, the
+/// number of the series and that of the image. The whole is the last.
 const CUT: &str = "\
-131 > 31 File 21 NotPart10
-275 > 31 File 22 GroupLength
-276 > 33 MissingKey (0008,0016)
-310 > 33 MissingKey (0008,0018)
-328 > 33 MissingKey (0020,000D)
-408 > 33 MissingKey (0020,000E)
-424 > taken
-453 > 31 File 27 Set 1 Truncated
-454 > taken";
+0 131 > 31 File 21 NotPart10
+132 275 > 31 File 22 GroupLength
+276 276 > 33 MissingKey (0008,0016)
+277 309 > 31 File 27 Set 1 Truncated
+310 310 > 33 MissingKey (0008,0018)
+311 327 > 31 File 27 Set 1 Truncated
+328 328 > 33 MissingKey (0020,000D)
+329 343 > 31 File 27 Set 1 Truncated
+344 344 > 33 MissingKey (0020,000D)
+345 357 > 31 File 27 Set 1 Truncated
+358 358 > 33 MissingKey (0020,000D)
+359 367 > 31 File 27 Set 1 Truncated
+368 368 > 33 MissingKey (0020,000D)
+369 383 > 31 File 27 Set 1 Truncated
+384 384 > 33 MissingKey (0020,000D)
+385 393 > 31 File 27 Set 1 Truncated
+394 394 > 33 MissingKey (0020,000D)
+395 407 > 31 File 27 Set 1 Truncated
+408 408 > 33 MissingKey (0020,000E)
+409 423 > 31 File 27 Set 1 Truncated
+424 424 > taken 0 0 0
+425 433 > 31 File 27 Set 1 Truncated
+434 434 > taken 1 0 0
+435 443 > 31 File 27 Set 1 Truncated
+444 444 > taken 1 1 0
+445 453 > 31 File 27 Set 1 Truncated
+454 454 > taken 1 1 1";
 
 /// V1 with other elements: keys that are no UID, empty, sequences or absent, and UIDs that are not those of
 /// group 0002; another value representation, which is free, and an absent name; the class of a report in
@@ -52,11 +71,39 @@ fn answer(alloc: Global, bytes: &[u8]) -> Result<String, Fail> {
     }
 }
 
+/// The ID of the study, the number of the series and that of the image of the version, or the words of the fault.
+fn numbers(alloc: Global, bytes: &[u8]) -> Result<String, Fail> {
+    match version_of(alloc, bytes) {
+        Ok(version) => numbers_of(alloc, version.parts()),
+        Err(fault) => Ok(format!(in alloc; "{fault}")?),
+    }
+}
+
+fn numbers_of(alloc: Global, parts: &Parts) -> Result<String, Fail> {
+    let study = str::from_utf8(parts.study.id.as_bytes())?;
+    let series = str::from_utf8(parts.series.number.as_bytes())?;
+    let number = str::from_utf8(parts.number.as_bytes())?;
+    Ok(format!(in alloc; "taken {study} {series} {number}")?)
+}
+
+/// What becomes of the first so many bytes.
+fn front(alloc: Global, bytes: &[u8], size: usize) -> Result<String, Fail> {
+    numbers(alloc, bytes.get(..size).ok_or("fewer bytes")?)
+}
+
+/// What becomes of each front of the range, or of the first of which something else becomes.
 pub(crate) fn cut(alloc: Global, question: &str) -> Result<String, Fail> {
+    let (first, last) = question.split_once(' ').ok_or("no last")?;
+    let (first, last): (usize, usize) = (first.parse()?, last.parse()?);
     let bytes = v1(alloc)?;
-    let size: usize = question.parse()?;
-    let front = bytes.get(..size).ok_or("fewer bytes")?;
-    answer(alloc, front)
+    let common = front(alloc, &bytes, first)?;
+    for size in first..=last {
+        let answer = front(alloc, &bytes, size)?;
+        if answer.as_str() != common.as_str() {
+            return Ok(format!(in alloc; "{answer} at {size}")?);
+        }
+    }
+    Ok(common)
 }
 
 #[test]
