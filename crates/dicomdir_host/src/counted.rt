@@ -73,8 +73,8 @@ impl<T: io::Write + Drop> Write for Counted<T> {
     }
 }
 
-// How often a call is made again that a signal interrupts.
-const TRIES: u32 = 1000;
+/// How often a call is made again that a signal interrupts.
+pub(crate) const TRIES: u32 = 1000;
 
 /// One read, made again where a signal interrupts it.
 fn read_again<T: io::Read>(reader: &mut T, buf: &mut [u8]) -> io::Result<usize>

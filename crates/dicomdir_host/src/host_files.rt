@@ -5,6 +5,7 @@ ghost use Rattle.dd_elem.specs.Device.{HasWorked, counted, last_count};
 ghost use Rattle.dicomdir_host.specs.Directory.{IsDirectoryPath};
 ghost use Rattle.dicomdir_host.specs.Storing.{IsStored, Names};
 
+use crate::again::{is_folder, make_folder};
 use crate::counted::Counted;
 use crate::output::{self, Output};
 use crate::paths::{before_slash, folder_of};
@@ -71,14 +72,6 @@ fn is_directory(path: &str) -> bool
     match path.as_bytes().strip_suffix(DIRECTORY.as_bytes()) {
         Some(folder) => folder.is_empty() || folder.ends_with(b"/"),
         None => false,
-    }
-}
-
-// Does a folder stand at the path?
-fn is_folder<R: fs::Files>(rt: &R, path: &str) -> bool {
-    match fs::metadata(rt, path) {
-        Ok(found) => found.is_dir(),
-        Err(_) => false,
     }
 }
 
@@ -166,7 +159,7 @@ impl<'a, R: fs::Files> HostFiles<'a, R> {
         ensures same { self.new ≡ record self.old { unstored = self.new.unstored } }
     {
         let folder = self.unstored.room(folder_of(path))?;
-        match fs::create_dir(self.rt, path) {
+        match make_folder(self.rt, path) {
             Ok(()) => Ok(self.unstored.name(folder)?),
             Err(_) if is_folder(self.rt, path) => Ok(()),
             Err(error) => Err(error),

@@ -4,6 +4,7 @@
 //! Its one promise: no call of the system fails without being counted.
 #![tactic(auto)]
 
+mod again;
 mod counted;
 mod host_files;
 mod output;

@@ -3,6 +3,7 @@ ghost use Rattle.std.specs.Prelude.{◌≡◌, ◌↔◌, ◌++◌, ◌∷◌, [
 ghost use Rattle.std.specs.Prelude.{IfOk, IfSome, IsErr, IsOk, IsSome};
 ghost use Rattle.dicomdir_host.specs.Storing.{IsStored};
 
+use crate::again::look;
 use std::alloc::{AllocError, Global};
 use std::fs::{self, File, OpenFile};
 use std::io::{self, ErrorKind};
@@ -169,7 +170,7 @@ impl<F: OpenFile + Drop> Unstored<F> {
 /// The file or the folder at the path, opened for reading. Anything else is refused, since to open it could
 /// wait.
 pub(crate) fn open<R: fs::Files>(rt: &R, path: &str) -> io::Result<R::File> {
-    let found = fs::metadata(rt, path)?;
+    let found = look(rt, path)?;
     if !found.is_file() && !found.is_dir() {
         return Err(io::Error::other("no file and no folder"));
     }

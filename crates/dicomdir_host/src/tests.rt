@@ -30,6 +30,7 @@ pipe a, read a, create a > . - - >
 read a, file a, fail open, read a, read a > - . . - old > old
 fail folder, folder d, folder d > . - + > none
 fail create, create a, create a > . - + >
+pause folder, folder d, folder d/e > . + + > none
 file a, fail read, read a, read a > . . ! old > old
 create a, write xyz, pause write, finish, pause read, read a > + + . + . xyz > xyz
 create a, write xyz, fail store, finish, store, store, unstored > + + . + + - a > xyz
@@ -64,7 +65,8 @@ create a, finish, fail open, create DICOMDIR > + + . - > make a, store a
 file DICOMDIR, create a, finish, create DICOMDIR > . + + - > make a, store a, store .
 folder d, folder d, folder e, folder d, folder d > + + + + + > folder d, folder e, folder d
 folder d/e, folder d/f, store > + + + > folder d, folder d/e, folder d, folder d/f, store ., store d
-fail folder, folder d, folder d, folder d > . - + + > folder d";
+fail folder, folder d, folder d, folder d > . - + + > folder d
+pause folder, folder d, store > . + + > folder d, store .";
 
 fn call_of(name: &str) -> Option<Call> {
     match name {
