@@ -19,9 +19,6 @@ ERRORS = {
     "fsync": ("EIO", "ENOSPC", "EINVAL", "EINTR"),
     "close": ("EIO", "ENOSPC", "EINTR"),
 }
-# What a signal interrupts (EINTR) has to be done again. These calls are not, and fail as with any other error: a
-# fault of the program. Where one of them is made again, or another one is not, this script fails.
-NOT_MADE_AGAIN = {"statx", "mkdir"}
 
 
 def tasks(case):
@@ -177,8 +174,8 @@ def sum_up(case, results):
 
 
 def sum_up_all(cases):
-    """Tells what came of each call and error, over all commands, and what is not made again. Gives what is not as
-    NOT_MADE_AGAIN says."""
+    """Tells what came of each call and error, over all commands. Gives the calls that a signal interrupts (EINTR)
+    and that are not made again: faults of the program."""
     kinds = collections.defaultdict(list)
     for case, results in cases:
         for (at, _, error, _), result in results:
@@ -186,4 +183,4 @@ def sum_up_all(cases):
     for (name, error), kinds_of in sorted(kinds.items()):
         print(f"{name} {error}: {len(kinds_of)} runs: {count_kinds(kinds_of)}")
     found = {name for (name, _), kinds_of in kinds.items() if "not made again" in kinds_of}
-    return [f"{name} that is interrupted: not as NOT_MADE_AGAIN says" for name in sorted(found ^ NOT_MADE_AGAIN)]
+    return [f"{name} that is interrupted is not made again" for name in sorted(found)]
