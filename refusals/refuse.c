@@ -17,8 +17,8 @@
  * Only what main does is counted, and so nothing of the loader, nor of libc's start and end.
  *
  * A test can choose the growth by itself: a request of 2^62 + N bytes, which no machine can grant, is refused, and
- * has the N-th growth after it refused. A request of 2^62 bytes ends that. Without the library both are refused
- * too, and no other growth is.
+ * has the N-th growth after it refused. A request of 2^62 bytes ends that; then a request of 1,000,003 bytes is
+ * refused where a growth was. Without the library the first two are refused too, and no other growth is.
  *
  * The program has one thread, so the counts are plain numbers.
  */
@@ -89,16 +89,18 @@ extern void *__libc_realloc(void *old, size_t size);
 extern void *__libc_memalign(size_t alignment, size_t size);
 
 static const size_t request_to_arm = (size_t)1 << 62;
+static const size_t request_to_tell = 1000003;
 static int is_armed;
 static unsigned long armed, growths, refused;
-/* How many growths there were when it was armed last. */
-static unsigned long growths_before;
+/* How many growths there were, and how many were refused, when it was armed last. */
+static unsigned long growths_before, refused_before;
 
 static void arm(unsigned long chosen)
 {
     is_armed = 1;
     armed += 1;
     growths_before = growths;
+    refused_before = refused;
     growth_to_refuse = chosen;
 }
 
@@ -113,7 +115,7 @@ static int refuses_growth(size_t size)
         return 1;
     }
     if (!is_armed)
-        return 0;
+        return size == request_to_tell && refused > refused_before;
     growths += 1;
     if (!is_chosen(growths - growths_before, growth_to_refuse))
         return 0;

@@ -17,7 +17,7 @@ import growths
 from rooms import COMMANDS, Room
 
 PARTS = {"growths": growths, "calls": calls}
-# Where so many things are wrong, it ends.
+# It ends once this number of things are wrong.
 ENOUGH = 20
 
 

@@ -11,9 +11,9 @@ import subprocess
 
 from images import image
 
-# A run that takes so many seconds hangs.
+# A run that takes this number of seconds hangs.
 SECONDS = 20
-# No run writes or takes so many bytes.
+# No run writes a core file, a file larger than this, or takes more memory than this, in bytes.
 LIMITS = {resource.RLIMIT_CORE: 0, resource.RLIMIT_FSIZE: 1 << 24, resource.RLIMIT_AS: 1 << 30}
 DIRECTORY = "OUT/DICOMDIR"
 OUTPUT = "the output"

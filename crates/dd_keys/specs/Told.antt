@@ -28,7 +28,7 @@ use Rattle.dd_keys.specs.Values.{value_at, key_by, uid_by, patient_by, study_by,
 abbrev pub told_at : Tag → Elements → Told
 told_at tag set = told_value (value_at tag set)
 
--- what that is for a key, which fragments are no value of, as a sequence is none
+-- the same where the element is that of a key: fragments count as a sequence, since a key has neither as its value
 abbrev pub value_of_key : Told → Told
 value_of_key sequence = sequence
 value_of_key fragments = sequence

@@ -1,6 +1,6 @@
 -- Files in memory, as their callers see them, and what changes them.
-use Rattle.std.specs.Prelude.{◌≡◌, ◌≢◌, ◌<◌, ℕ, List, [], ◌++◌, ◌&&◌, map, Option, Some, None, String, Vec, string_bytes}
-use Rattle.std.specs.Prelude.{if◌then◌else◌, Bool, true, bytes_eq, option_map}
+use Rattle.std.specs.Prelude.{◌≡◌, ◌≢◌, ◌<◌, ℕ, List, [], ◌++◌, ◌&&◌, map, Option, Some, None, String, Vec}
+use Rattle.std.specs.Prelude.{string_bytes, if◌then◌else◌, Bool, true, bytes_eq, option_map}
 use Rattle.std.specs.BTreeMap.{BTreeMap}
 use Rattle.std.specs.Map.{lookup}
 use Rattle.std.specs.declared.alloc.Global.{Global}
@@ -92,7 +92,7 @@ pub record Opens (old new : Stored) (path : List ℕ) : Type 0 where
   pub planned : new.planned ≡ after_opening path (after_call old.planned)
   pub others : new ≡ record old { files = new.files; later = new.later; planned = new.planned }
 
--- a new reader of these bytes, which is to fail after so many of them, where it is
+-- a new reader of these bytes, which fails after the first `n` of them where `fails` is `Some n`
 abbrev pub unread : List ℕ → Option ℕ → Opened
 unread bytes fails = record { given = []; left = bytes; fails = fails; counts = record { calls = 0; failures = 0 } }
 

@@ -7,7 +7,7 @@ use Rattle.dd_mem_files.specs.declared.planned_faults.ReaderFault.{ReaderFault}
 pub record FailingReader : Type 0 where
   -- the path of its file
   pub path : List ℕ
-  -- at which opening of it from now on, counted from 1; 0 for none
+  -- at which of the next openings of it, the first of which is number 1; with 0 no reader fails
   pub opening : ℕ
   -- after how many bytes
   pub after : ℕ
@@ -19,12 +19,12 @@ failing_reader_of fault = record { path = string_bytes fault.path; opening = fau
 pub record Planned : Type 0 where
   -- how many bytes writes still take, where they are to fail then
   pub room : Option ℕ
-  -- which of the next calls is refused, counted from 1; 0 for none
+  -- which of the next calls is refused, the first of which is number 1; with 0 no call is refused
   pub call : ℕ
   -- the reader that is to fail
   pub reader : Option FailingReader
 
--- nothing is
+-- nothing is to fail
 abbrev pub nothing_planned : Planned
 nothing_planned = record { room = None; call = 0; reader = None }
 

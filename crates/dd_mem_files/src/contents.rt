@@ -23,8 +23,8 @@ pub(crate) fn set(
     Ok(())
 }
 
-/// Adds the bytes to the end of the file at the path. NotDone where there is none or its growth is
-/// refused; the files are then as they were.
+/// Adds the bytes to the end of the file at the path. NotDone where no file is at the path or its growth
+/// is refused; the files are then as they were.
 pub(crate) fn append(
     files: &mut BTreeMap<String, Vec<u8>>,
     path: &str,

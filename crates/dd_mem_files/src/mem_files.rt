@@ -114,24 +114,24 @@ impl MemFiles {
         Ok(())
     }
 
-    /// From now on writes take so many bytes in all, and then fail.
+    /// Makes writes fail once they have taken `after` bytes in all, counted from this call.
     pub fn fail_write(&mut self, after: u64)
         ensures { self.new ≡ record self.old { planned = record self.old.planned { room = Some after } } }
     {
         self.planned.fail_write(after);
     }
 
-    /// The n-th call of `source`, `folder`, `create` and `finish` together, counted from now and from 1, is
-    /// refused. 0 is none.
+    /// Makes the files refuse the n-th of the next calls of `source`, `folder`, `create` and `finish`, counted
+    /// together. The next call is number 1; with 0 no call is refused. A later `fail_call` replaces this one.
     pub fn fail_call(&mut self, n: u32)
         ensures { self.new ≡ record self.old { planned = record self.old.planned { call = n } } }
     {
         self.planned.fail_call(n);
     }
 
-    /// The reader of the path that this opening gives, counted from now and from 1, fails after so many bytes.
-    /// 0 is none, and a call takes the place of the one before. Memory where a growth is refused, and then
-    /// nothing has changed.
+    /// Makes the reader that the given one of the next openings of the path returns fail after `after` bytes. The
+    /// next opening is number 1; with 0 no reader fails. A later `fail_read` replaces this one. Memory where a
+    /// growth is refused, and then nothing has changed.
     pub fn fail_read(&mut self, path: &str, opening: u32, after: u64) -> Result<(), Memory>
         ensures ok { OnOk result (self.new ≡ record self.old {
           planned = record self.old.planned {
@@ -155,7 +155,7 @@ impl MemFiles {
         }
     }
 
-    // A copy of the bytes of the file at the path, or None where there is none or the copy is refused.
+    // Copies the bytes of the file at the path. None where no file is at the path or the copy is refused.
     fn copy(&self, path: &str) -> Option<Vec<u8>>
         ensures { IfSome result (λ copy. bytes_at self.now.files path.now ≡ Some copy.items) }
     {

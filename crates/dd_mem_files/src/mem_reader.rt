@@ -10,7 +10,7 @@ use dd_elem::{Counts, Read};
 use std::io;
 use std::marker::Model;
 
-/// A reader of a file in memory, which has a copy of its bytes and may fail for good after so many of them.
+/// A reader of a file in memory. It has a copy of the file's bytes, and it may fail for good at a given place.
 #[derive(Debug, Drop)]
 pub struct MemReader {
     bytes: Vec<u8>,
@@ -33,7 +33,8 @@ impl Model for MemReader {
 }
 
 impl MemReader {
-    /// A reader of these bytes. With `fails` it fails for good after so many of them, before it tells the end.
+    /// Makes a reader of these bytes. Where `fails` is `Some(n)`, it fails for good after n bytes, before it
+    /// reports the end.
     pub(crate) fn new(bytes: Vec<u8>, fails: Option<u64>) -> Self
         ensures { result ≡ record {
           given = [];

@@ -14,7 +14,7 @@ struct ReaderFault {
     after: u64,
 }
 
-/// What is to fail: writes after so many bytes, one of the next calls, and one reader.
+/// What is to fail: writes after a number of bytes, one of the next calls, and one reader.
 #[derive(Debug, Drop)]
 pub(crate) struct PlannedFaults {
     room: Option<u64>,
@@ -44,21 +44,21 @@ impl PlannedFaults {
         }
     }
 
-    /// Writes are to fail once they took so many bytes.
+    /// Makes writes fail once they have taken `after` bytes in all.
     pub(crate) fn fail_write(&mut self, after: u64)
         ensures { self.new ≡ record self.old { room = Some after } }
     {
         self.room = Some(after);
     }
 
-    /// The n-th of the next calls is to be refused.
+    /// Makes the n-th of the next calls be refused; with 0 no call is refused.
     pub(crate) fn fail_call(&mut self, n: u32)
         ensures { self.new ≡ record self.old { call = n } }
     {
         self.call = n;
     }
 
-    /// The reader of this opening of the path is to fail after so many bytes.
+    /// Makes the reader of this opening of the path fail after `after` bytes.
     pub(crate) fn fail_read(&mut self, path: String, opening: u32, after: u64)
         ensures { self.new ≡ record self.old {
           reader = Some (record { path = string_bytes path; opening = opening; after = after });

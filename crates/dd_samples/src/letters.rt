@@ -11,7 +11,7 @@ use std::test::Fail;
 /// else is not as in V1: four images of two patients; one of the first's series in another study; one of
 /// the first's study with another patient; one of another series that comes before the first's; three
 /// whose numbers have another order than their instances; and versions of the first and the second with
-/// other digests, descriptions and times.
+/// other digests, descriptions and times, of which one description has more than 22 bytes.
 const IMAGES: &str = "\
 1 170 ' '1.2.3.4.5~
 2 170 ' '1.2.3.4.6~
@@ -29,6 +29,7 @@ b 2 ' '1.2.3.4.5~
 A 170 'A '1.2.3.4.5~
 B 170 'B '1.2.3.4.5~
 Z 170 'Z '1.2.3.4.5~
+W 170 'A_DESCRIPTION_THAT_WANTS_MEMORY '1.2.3.4.5~
 C 170 'B '1.2.3.4.6~
 L 170 'A '1.2.3.4.6~; 0008,0030 TM '101600
 x 1 'Z '1.2.3.4.5~

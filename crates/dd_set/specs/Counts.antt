@@ -4,7 +4,7 @@ use Rattle.dd_set.specs.declared.fault.SetFault.{SetFault}
 use Rattle.dd_set.specs.Gives.{Fails}
 use Rattle.dd_set.specs.Reading.{At, Reads}
 
--- reading gives so many, or this fault
+-- reading gives a list of this length, or fails with this fault
 abbrev pub Counts : Result ℕ SetFault → Reads (List (List ℕ)) → Type 0
 Counts (Ok n) read = (fs : List (List ℕ)) × (end : At) × (read ≡ Ok (fs, end)) × (length fs ≡ n)
 Counts (Err e) read = Fails e read

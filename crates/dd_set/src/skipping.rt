@@ -122,7 +122,7 @@ fn skip_items<F: Feed>(
     }
 }
 
-/// Skips an item behind its header, where so many levels may still nest.
+/// Skips an item behind its header, where `levels` levels may still nest.
 #[cycle(skipping)]
 fn skip_part<F: Feed>(
     feed: &mut F,

@@ -6,12 +6,14 @@
 
 mod cases;
 mod directories;
+mod growths;
 mod readers;
 mod source_file;
 mod texts;
 
 pub use cases::{answered, failing, push_lines, question, words_of};
 pub use directories::{deep, first_directory, v2, v3};
+pub use growths::{ends_refused, growth_numbers, refuse_growth, require, was_refused};
 pub use readers::{reader_of, tags_of};
 pub use source_file::{SOURCE_ROWS, v1, v1_encapsulated, v1_implicit, v1_with};
 pub use texts::{bytes_of, push_bytes, put_at, put_words, tag_of, text_of};

@@ -3,6 +3,7 @@
 
 mod cuts;
 mod disc;
+mod disc_file;
 mod power_cut;
 
 use crate::HostFiles;
@@ -32,6 +33,8 @@ fail folder, folder d, folder d > . - + > none
 fail create, create a, create a > . - + >
 pause folder, folder d, folder d/e > . + + > none
 file a, fail read, read a, read a > . . ! old > old
+file a, fail look, read a, pause look, read a > . . - . old > old
+dir d, pause look, folder d > . . + > none
 create a, write xyz, pause write, finish, pause read, read a > + + . + . xyz > xyz
 create a, write xyz, fail store, finish, store, store, unstored > + + . + + - a > xyz
 create a, write xyz, fail store, finish, store, store, store, create b > + + . + + - - + > xyz
@@ -66,7 +69,8 @@ file DICOMDIR, create a, finish, create DICOMDIR > . + + - > make a, store a, st
 folder d, folder d, folder e, folder d, folder d > + + + + + > folder d, folder e, folder d
 folder d/e, folder d/f, store > + + + > folder d, folder d/e, folder d, folder d/f, store ., store d
 fail folder, folder d, folder d, folder d > . - + + > folder d
-pause folder, folder d, store > . + + > folder d, store .";
+pause folder, folder d, store > . + + > folder d, store .
+pause made, folder d, store > . + + > folder d, folder d, store .";
 
 fn call_of(name: &str) -> Option<Call> {
     match name {
@@ -76,6 +80,8 @@ fn call_of(name: &str) -> Option<Call> {
         "read" => Some(Call::Read),
         "write" => Some(Call::Write),
         "store" => Some(Call::Store),
+        "look" => Some(Call::Look),
+        "made" => Some(Call::Made),
         _ => None,
     }
 }

@@ -77,7 +77,7 @@ fn said(alloc: Global, bytes: &[u8]) -> Result<String, Fail> {
     }
 }
 
-/// What is said of the first so many bytes.
+/// Reads the first `size` bytes alone, and gives what is said of them.
 fn said_of_front(alloc: Global, bytes: &[u8], size: usize) -> Result<String, Fail> {
     said(alloc, bytes.get(..size).ok_or("fewer bytes")?)
 }

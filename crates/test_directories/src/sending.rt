@@ -70,12 +70,12 @@ fn the_directory_of_v1(rt: HostRuntime) -> Result<(), Fail> {
 }
 
 /// After how many bytes at least and at most a writer fails that gets the directory of four images, and what comes
-/// of each such writer. `there` is where it fails, and it then holds so many of the first bytes.
+/// of each such writer. `there` says that it fails exactly there, and then holds all the bytes before that place.
 const FOUR_SENT: &str = "\
 0 2031 > 12 Write there
 2032 2040 > 2032 bytes";
 
-/// What comes of a writer that fails after so many bytes and gets the directory of this plan.
+/// Sends the directory of this plan to a writer that fails after `after` bytes, and says what comes of it.
 fn outcome(alloc: Global, plan: &Plan, bytes: &[u8], after: u64) -> Result<String, Fail> {
     let mut sink = Sink::new(alloc, Some(after));
     sink.reserve(bytes.len())?;

@@ -4,6 +4,8 @@
 #[cfg(test)]
 mod cases;
 #[cfg(test)]
+mod growths;
+#[cfg(test)]
 mod limits;
 #[cfg(test)]
 mod plans;

@@ -3,7 +3,7 @@
 use crate::cases::{Ask, ask_all};
 use crate::plans::plan;
 use dd_keys::Version;
-use dd_layout::PlanRecord;
+use dd_layout::{Plan, PlanRecord};
 use dd_vectors::text_of;
 use std::alloc::Global;
 use std::test::Fail;
@@ -11,7 +11,7 @@ use std::test::Fail;
 /// Catalogues, each between empty lines: the images; and of each record the level, its offset, that of the
 /// next one of its parent, that of the first one below, the ranks in the File ID, and the place of the
 /// least version below it.
-const PLANS: &str = "\
+pub(crate) const PLANS: &str = "\
 1
 Patient 320 0 404 - 0
 Study 404 0 530 - 0
@@ -98,7 +98,11 @@ fn push_record(alloc: Global, text: &mut String, record: &PlanRecord) -> Result<
 
 /// The images and the records of their plan.
 fn records(alloc: Global, letters: &str) -> Result<String, Fail> {
-    let plan = plan(alloc, letters)?;
+    lines(alloc, letters, &plan(alloc, letters)?)
+}
+
+/// The images and the records of this plan.
+pub(crate) fn lines(alloc: Global, letters: &str, plan: &Plan) -> Result<String, Fail> {
     let mut text = String::from_str(alloc, letters)?;
     for record in plan.records() {
         push_record(alloc, &mut text, record)?;

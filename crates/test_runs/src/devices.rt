@@ -31,7 +31,7 @@ const REFUSED: &str = "\
 10 > 0 [DONE 1 instances, 876 bytes|] [] whole whole";
 
 /// A file, at which opening of it the reader fails and after how many bytes at least and at most, the line, and how
-/// each such run ends, with what is in its folder then. A `front` has at most so many bytes as were read.
+/// each such run ends, with what is in its folder then. A `front` has at most as many bytes as were read.
 const UNREAD: &str = "\
 a.dcm 1 0 454: index out a.dcm --uid 2.25.0 > 1 [] [FAULT a.dcm: 93 Unread|] none none
 a.dcm 2 0 453: index out a.dcm --uid 2.25.0 > 1 [] [FAULT a.dcm: 93 Unread|] front none
@@ -53,9 +53,9 @@ d1/DICOMDIR 1 500 500: list d1 > 1 [] [FAULT d1/DICOMDIR: 93 Unread|] whole whol
 
 /// How many bytes a front has.
 #[derive(Clone, Copy)]
-struct Front {
-    least: u64,
-    most: u64,
+pub(crate) struct Front {
+    pub(crate) least: u64,
+    pub(crate) most: u64,
 }
 
 /// The bytes of V1, and of the directory that has it alone.
@@ -90,7 +90,7 @@ fn disc_of(alloc: Global, sample: &Sample) -> Result<MemFiles, Fail> {
 }
 
 /// What a file holds of these bytes.
-fn held(file: Option<&[u8]>, whole: &[u8], front: Front) -> &'static str {
+pub(crate) fn held(file: Option<&[u8]>, whole: &[u8], front: Front) -> &'static str {
     let Some(bytes) = file else {
         return "none";
     };
@@ -118,7 +118,7 @@ fn left(
     Ok(format!(in alloc; "{image} {directory}")?)
 }
 
-/// Exactly so many bytes.
+/// Asks for a front of exactly `size` bytes.
 fn exactly(size: u64) -> Front {
     Front {
         least: size,
@@ -126,7 +126,7 @@ fn exactly(size: u64) -> Front {
     }
 }
 
-/// Runs an index of V1, and says how it ends where writes are to stop after so many bytes.
+/// Runs an index of V1, and says how it ends where writes are to stop after `after` bytes.
 fn indexed(
     alloc: Global,
     sample: &Sample,
@@ -186,7 +186,7 @@ fn folder_of(line: &str) -> Result<&str, Fail> {
     }
 }
 
-/// How the line ends where the reader of this path and opening fails after so many bytes.
+/// Runs the line, and says how it ends where the reader of this path and opening fails after `after` bytes.
 fn unread_after(
     alloc: Global,
     sample: &Sample,

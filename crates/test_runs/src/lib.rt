@@ -10,6 +10,8 @@ mod devices;
 #[cfg(test)]
 mod disc;
 #[cfg(test)]
+mod growths;
+#[cfg(test)]
 mod lists;
 #[cfg(test)]
 mod merges;

@@ -88,7 +88,7 @@ encapsulated e07f1000 4f42 0000 ffffffff feff00e0 00000000 feff00e0 04000000 ff4
 encapsulated 08004011 5351 0000 ffffffff feff00e0 ffffffff e07f1000 4f42 0000 ffffffff \
 feff00e0 00000000 feff00e0 04000000 ff4fff51 feffdde0 00000000 feff0de0 00000000 feffdde0 00000000 > 76 75";
 
-/// Is a set of these bytes refused by this fault where a reader gives it, at most so many bytes in a read?
+/// Is a set of these bytes refused by this fault where a reader gives it, at most `piece` bytes in a read?
 fn is_refused_alike(
     alloc: Global,
     syntax: Syntax,

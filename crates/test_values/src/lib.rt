@@ -10,6 +10,8 @@ mod cases;
 #[cfg(test)]
 mod devices;
 #[cfg(test)]
+mod growths;
+#[cfg(test)]
 mod identifiers;
 #[cfg(test)]
 mod keys;

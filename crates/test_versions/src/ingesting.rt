@@ -10,7 +10,7 @@ use std::alloc::Global;
 use std::test::Fail;
 
 /// How many bytes come in one read, after how many the reader fails, the limit, and the file. This is V1 of 454
-/// bytes, whole or its front of so many bytes, V1 with pixel data in fragments, of 496 bytes, or V1 with other
+/// bytes, whole or its front of the given length, V1 with pixel data in fragments, of 496 bytes, or V1 with other
 /// elements. A failure and one byte more than the limit come before every check, wherever it fails.
 const READ: &str = "\
 1 1000 454 whole > taken
@@ -65,7 +65,7 @@ efcd87e22343fd137453c1ffbda35b482032867d71027bbfdc706b672e5a5d5b \
 '1.2.840.10008.5.1.4.1.1.2 '1.2.840.10008.1.2.1 '1.2.3.4.5
 4096 1000465 > 39 FileTooLong";
 
-/// V1 with a Patient ID of so many letters and this padding: how many bytes are kept, or the refusal.
+/// V1 with a Patient ID of this number of letters and this padding: how many bytes are kept, or the refusal.
 const LONG: &str = "\
 1024 ____ > 1024 bytes
 1025 _ > 35 KeyTooLong (0010,0020)";
@@ -128,7 +128,8 @@ const UNREAD: &str = "\
 1 455 460 > taken
 4096 455 460 > taken";
 
-/// What becomes of these bytes where a reader gives them so and fails after so many of them.
+/// Reads these bytes from a reader that gives at most `piece` at a time and fails after `fails`, and says what
+/// becomes of them.
 fn failing_at(alloc: Global, bytes: &[u8], piece: u64, fails: u64) -> Result<String, Fail> {
     let mut source = ByteSource::new(bytes, piece, Some(fails));
     outcome(alloc, bytes, &mut source, 454)
@@ -169,7 +170,7 @@ fn large_file(alloc: Global) -> Result<Vec<u8>, Fail> {
 }
 
 /// The SHA-256 and the keys of a version.
-fn text_of_version(alloc: Global, version: &Version) -> Result<String, Fail> {
+pub(crate) fn text_of_version(alloc: Global, version: &Version) -> Result<String, Fail> {
     let digits = hex::encode(alloc, version.parts().digest)?;
     let keys = text_of_keys(alloc, version.parts())?;
     Ok(format!(in alloc; "{digits} {keys}")?)

@@ -7,6 +7,8 @@ mod cases;
 #[cfg(test)]
 mod classes;
 #[cfg(test)]
+mod growths;
+#[cfg(test)]
 mod ingesting;
 #[cfg(test)]
 mod making;

@@ -32,7 +32,7 @@ v1 encapsulated > 'P1 'DOE^JOHN ' '1.2.3 '20240115 '101500 ' ' '1 ' '1.2.3.4 'CT
 '1.2.840.10008.5.1.4.1.1.2 '1.2.840.10008.1.2.1 '1.2.3.4.5";
 
 /// The file with this name, or V1 with these changes.
-fn file_of(alloc: Global, name: &str) -> Result<Vec<u8>, Fail> {
+pub(crate) fn file_of(alloc: Global, name: &str) -> Result<Vec<u8>, Fail> {
     match name {
         "v1" => v1(alloc),
         "v1 implicit" => v1_implicit(alloc),

@@ -86,7 +86,7 @@ fn numbers_of(alloc: Global, parts: &Parts) -> Result<String, Fail> {
     Ok(format!(in alloc; "taken {study} {series} {number}")?)
 }
 
-/// What becomes of the first so many bytes.
+/// Reads the first `size` bytes alone, and says what becomes of them.
 fn front(alloc: Global, bytes: &[u8], size: usize) -> Result<String, Fail> {
     numbers(alloc, bytes.get(..size).ok_or("fewer bytes")?)
 }
@@ -121,12 +121,12 @@ fn the_first_check_of_a_key_that_fails(rt: HostRuntime) -> Result<(), Fail> {
     ask_all(&rt, rt.alloc(), Ask::Other, OTHER)
 }
 
-/// V1 with a Patient ID of so many letters and this padding: how many bytes are kept, or the refusal.
+/// V1 with a Patient ID of this number of letters and this padding: how many bytes are kept, or the refusal.
 const LONG: &str = "\
 1024 __ > 1024 bytes
 1025 _ > 35 KeyTooLong (0010,0020)";
 
-/// A Patient ID of so many letters and this padding.
+/// Spells a Patient ID of `letters` letters and this padding.
 fn patient_id(alloc: Global, letters: u32, padding: &str) -> Result<String, Fail> {
     let mut change = String::from_str(alloc, "0010,0020 LO '")?;
     for _ in 0..letters {

@@ -1,14 +1,15 @@
 //! A disc in memory that stands in for the files of the system. One call of it can be made to fail.
 ghost use Rattle.std.specs.Io.{ReadsAtMost};
 
+use super::disc_file::DiscFile;
 use super::power_cut::{Entry, Kind, all_last, may_break, parent};
 use std::alloc::{Allocator, Global};
 use std::cell::RefCell;
-use std::fs::{Files, Metadata, OpenFile, OpenOptions};
-use std::io::{self, Empty, ErrorKind, Read, Seek, SeekFrom, Write};
+use std::fs::{Files, Metadata, OpenOptions};
+use std::io::{self, Empty, ErrorKind, Read};
 
 // The most bytes that a read gives or a write takes.
-const STEP: usize = 1000;
+pub(super) const STEP: usize = 1000;
 
 /// What can fail.
 #[derive(Clone, Copy, PartialEq)]
@@ -19,6 +20,9 @@ pub(super) enum Call {
     Read,
     Write,
     Store,
+    Look,
+    /// A folder that is made by then.
+    Made,
 }
 
 /// The disc: what stands there, in the order in which it was made, the next call that fails, which files and
@@ -30,7 +34,7 @@ pub(super) struct Disc {
     failing: Option<Call>,
     kind: ErrorKind,
     log: String,
-    open: usize,
+    pub(super) open: usize,
     most_open: usize,
     broken: usize,
 }
@@ -117,7 +121,7 @@ impl Disc {
         }
     }
 
-    fn store(&mut self, place: usize) -> io::Result<()> {
+    pub(super) fn store(&mut self, place: usize) -> io::Result<()> {
         self.pass(Call::Store)?;
         let Some(entry) = self.entries.get(place) else {
             return Err(io::Error::from(ErrorKind::NotFound));
@@ -186,7 +190,7 @@ impl Disc {
         Some(self.entries.get(self.find(path)?)?.kind)
     }
 
-    fn pass(&mut self, call: Call) -> io::Result<()> {
+    pub(super) fn pass(&mut self, call: Call) -> io::Result<()> {
         if self.failing == Some(call) {
             self.failing = None;
             return Err(io::Error::from(self.kind));
@@ -232,7 +236,7 @@ impl Disc {
         }
     }
 
-    fn read(&self, place: usize, from: usize, buf: &mut [u8]) -> io::Result<usize>
+    pub(super) fn read(&self, place: usize, from: usize, buf: &mut [u8]) -> io::Result<usize>
         ensures { ReadsAtMost result buf.new }
     {
         let Some(entry) = self.entries.get(place) else {
@@ -247,7 +251,7 @@ impl Disc {
     }
 }
 
-fn in_use() -> io::Error {
+pub(super) fn in_use() -> io::Error {
     io::Error::other("the disc is in use")
 }
 
@@ -281,7 +285,8 @@ impl<'a> Files for DiscFiles<'a> {
     }
 
     fn metadata(&self, path: &str) -> io::Result<Metadata> {
-        let disc = self.0.try_borrow().map_err(|_| in_use())?;
+        let mut disc = self.0.try_borrow_mut().map_err(|_| in_use())?;
+        disc.pass(Call::Look)?;
         match disc.kind(path) {
             Some(Kind::File) => Ok(Metadata::of_file(0)),
             Some(Kind::Folder) => Ok(Metadata::of_dir()),
@@ -297,7 +302,7 @@ impl<'a> Files for DiscFiles<'a> {
         disc.note("folder", path)?;
         disc.has_room_for(path)?;
         disc.make(path, Kind::Folder, false)?;
-        Ok(())
+        disc.pass(Call::Made)
     }
 
     fn open_dir(&self, _path: &str) -> io::Result<Empty> {
@@ -325,75 +330,6 @@ impl<'a> Files for DiscFiles<'a> {
     }
 
     fn remove_dir_all<B: Allocator>(&self, _alloc: B, _path: &str) -> io::Result<()> {
-        Err(io::Error::from(ErrorKind::Unsupported))
-    }
-}
-
-/// An open file of a disc. Writes go to its end.
-pub(super) struct DiscFile<'a> {
-    disc: &'a RefCell<Disc>,
-    place: usize,
-    from: usize,
-}
-
-impl Drop for DiscFile<'_> {
-    fn drop(self) {
-        let DiscFile {
-            disc,
-            place: _,
-            from: _,
-        } = self;
-        if let Ok(mut disc) = disc.try_borrow_mut() {
-            disc.open = disc.open.saturating_sub(1);
-        }
-    }
-}
-
-impl Read for DiscFile<'_> {
-    fn read(&mut self, buf: &mut [u8]) -> io::Result<usize> {
-        let mut disc = self.disc.try_borrow_mut().map_err(|_| in_use())?;
-        disc.pass(Call::Read)?;
-        let n = disc.read(self.place, self.from, buf)?;
-        self.from = self.from.saturating_add(n);
-        Ok(n)
-    }
-}
-
-impl Write for DiscFile<'_> {
-    fn write(&mut self, bytes: &[u8]) -> io::Result<usize> {
-        let mut disc = self.disc.try_borrow_mut().map_err(|_| in_use())?;
-        disc.pass(Call::Write)?;
-        let taken = &bytes[..bytes.len().min(STEP)];
-        disc.add(self.place, taken)?;
-        Ok(taken.len())
-    }
-
-    fn flush(&mut self) -> io::Result<()> {
-        Ok(())
-    }
-}
-
-impl Seek for DiscFile<'_> {
-    fn seek(&mut self, _to: SeekFrom) -> io::Result<u64> {
-        Err(io::Error::from(ErrorKind::Unsupported))
-    }
-}
-
-impl OpenFile for DiscFile<'_> {
-    fn sync_all(&self) -> io::Result<()> {
-        let mut disc = self.disc.try_borrow_mut().map_err(|_| in_use())?;
-        disc.store(self.place)
-    }
-
-    fn sync_data(&self) -> io::Result<()> {
-        self.sync_all()
-    }
-
-    fn metadata(&self) -> io::Result<Metadata> {
-        Err(io::Error::from(ErrorKind::Unsupported))
-    }
-
-    fn set_len(&self, _size: u64) -> io::Result<()> {
         Err(io::Error::from(ErrorKind::Unsupported))
     }
 }

@@ -4,7 +4,7 @@ use Rattle.dd_set.specs.Reading.{fragments_at, fragments_here}
 use Rattle.dd_set.proofs.FragmentLaws.{with_fragments}
 use Rattle.dd_set.proofs.fragments.count_fragments.Given as goal
 
--- so many fragments were read, and those that reading gives from here are the others
+-- the fragments read so far are `l.count` in number, and reading gives the others from here
 abbrev pub invariant-fragments : goal.invariant-fragments
 invariant-fragments l =
     (most : ℕ) × (front : List (List ℕ)) × (length l.place.rest.now < most) × (length front ≡ l.count)
