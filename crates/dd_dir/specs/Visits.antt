@@ -17,8 +17,8 @@ use Rattle.dd_dir.specs.Trees.{Node, Trees, Walk, no_trees}
 
 -- ---- what is visited
 
--- the key by which a record is known that stands below so many others: Patient ID, Study Instance UID, Series Instance
--- UID, Referenced SOP Instance UID in File
+-- the key by which a record below those of this path is known: Patient ID, Study Instance UID, Series Instance UID,
+-- Referenced SOP Instance UID in File
 abbrev pub own_key : Path → Elements → List ℕ
 own_key [] set = key_of (tag 0x0010 0x0020) set
 own_key (patient ∷ []) set = key_of (tag 0x0020 0x000d) set

@@ -8,7 +8,7 @@ use Rattle.dd_dir.specs.declared.fault.DirFault.TheVariants.{RecordShape, Dangli
 use Rattle.dd_dir.specs.Saying.{Says, says_of}
 use Rattle.dd_dir.specs.Trees.{Node, Trees, no_trees, tree, places}
 
--- records are at most so many levels deep
+-- the most levels of records
 abbrev pub max_record_levels : ℕ
 max_record_levels = 32
 

@@ -76,7 +76,7 @@ fn id_of<'a>(set: &DataSet<'a>) -> &'a [u8]
     value_at(set, SET_ID).unwrap_or(&[])
 }
 
-/// Moves these places by so many bytes.
+/// Moves these places by a number of bytes.
 fn shift(starts: &mut [u64], by: u64)
     requires { EachIndex starts.old (λ k. slice_index starts.old k + by < 2 ^ 64) }
     ensures { starts.new ≡ map (λ start. start + by) starts.old }

@@ -37,7 +37,7 @@ pub struct Own<'a> {
     pub places: Vec<Place<'a>>,
 }
 
-// By hand, so that letting go of it is one call.
+// By hand, so that dropping it is one call.
 impl Drop for Own<'_> {
     fn drop(self) {
         let Own {
@@ -123,7 +123,9 @@ fn places<'a>(alloc: Global, images: &[Listed<'_, 'a>]) -> Result<Vec<Place<'a>>
     if images.is_empty() {
         return Ok(Vec::new(alloc));
     }
-    Ok(images.iter().map(|image| place_of(image)).collect(alloc)?)
+    let mut places = Vec::with_capacity(alloc, images.len())?;
+    places.extend(images.iter().map(|image| place_of(image)))?;
+    Ok(places)
 }
 
 /// Where the file of an image is.

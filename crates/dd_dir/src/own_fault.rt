@@ -1,4 +1,4 @@
-//! Why a directory is none that was written here.
+//! Why a directory was not written here.
 
 ghost use Rattle.std.specs.Prelude.{◌≡◌};
 ghost use Rattle.dd_dir.specs.declared.own_fault.OwnFault.TheVariants as faults;

@@ -16,7 +16,7 @@ use crate::slots::lift;
 use dd_set::DataSet;
 use std::alloc::Global;
 
-/// Records are at most so many levels deep.
+/// The most levels of records.
 const MAX_LEVELS: u32 = 32;
 
 /// The record at this place, taken out of its slot, and what it says.

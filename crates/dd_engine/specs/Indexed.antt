@@ -40,7 +40,7 @@ Indexes choice limits answers (Err Memory) = Unit {0}
 Indexes choice limits answers (Err (Absent at)) = ⊥
 Indexes choice limits answers (Err (Unread at)) = ⊥
 
--- the answer for so many sources, of which these bytes are told; where a source failed, nothing is said of the others
+-- the answer for a number of sources that tell these bytes; where a source failed, nothing is said of the others
 abbrev pub AnswersSupply : Choice → Bounds → ℕ → (ℕ → Option (List ℕ)) → ℕ → Result Indexed EngineFault → Type 0
 AnswersSupply choice limits limit told sources (Err (Absent at)) = at < sources
 AnswersSupply choice limits limit told sources (Err (Unread at)) = at < sources
@@ -52,12 +52,12 @@ AnswersSupply choice limits limit told sources (Ok indexed) = (answers : List An
 
 -- ---- numbers of sources
 
--- the sources that are skipped and those that images are copied from are among so many
+-- the sources that are skipped, and those that images are copied from, are some of these
 pub record IsWithin (sources : ℕ) (indexed : Indexed) : Type 0 where
   pub skipped : All (λ skip. skip.0 < sources) indexed.skipped.items
   pub picks : All (λ at. at < sources) indexed.picks.items
 
--- a source that a fault names is among so many
+-- a source that a fault names is one of these
 abbrev pub IsNamed : ℕ → EngineFault → Type 0
 IsNamed sources Memory = Unit {0}
 IsNamed sources (Absent at) = at < sources

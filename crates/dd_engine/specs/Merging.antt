@@ -100,7 +100,7 @@ Merges choice limits sets (Err Memory) = Unit {0}
 
 -- ---- numbers of sets
 
--- a set that a fault names is among so many
+-- a set that a fault names is one of these
 abbrev pub IsNamedSet : ℕ → MergeFault → Type 0
 IsNamedSet sets (Dir at fault) = at < sets
 IsNamedSet sets (Own at fault) = at < sets

@@ -26,7 +26,7 @@ pub struct Indexed {
     pub picks: Vec<usize>,
 }
 
-// By hand, so that letting go of it is one call.
+// By hand, so that dropping it is one call.
 impl Drop for Indexed {
     fn drop(self) {
         let Indexed {

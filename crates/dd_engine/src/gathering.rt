@@ -23,7 +23,7 @@ pub(crate) struct Gathered<'a> {
     pub(crate) picks: Vec<Pick<'a>>,
 }
 
-// By hand, so that letting go of it is one call.
+// By hand, so that dropping it is one call.
 impl Drop for Gathered<'_> {
     fn drop(self) {
         let Gathered {

@@ -34,7 +34,7 @@ pub struct Pick<'a> {
     pub file: &'a [u8],
 }
 
-// By hand, so that letting go of it is one call.
+// By hand, so that dropping it is one call.
 impl Drop for Merged<'_> {
     fn drop(self) {
         let Merged {

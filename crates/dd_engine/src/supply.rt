@@ -40,7 +40,7 @@ pub trait Supply {
     fn count(&self) -> usize
         ensures { result ≡ sources self.now };
 
-    /// Opens a source for reading. It is refused, too, where there is none of this number.
+    /// Opens a source for reading. It is refused, too, where no source has this number.
     fn begin(&mut self, at: usize) -> Result<Self::In, NotThere>
         ensures there { IsOk result → at < sources self.old }
         ensures live { IsOk result → IsLive (refusals self.old at) (unread self.old at) }

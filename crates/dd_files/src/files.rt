@@ -47,7 +47,8 @@ pub trait Files: Write {
         // What stays.
         ensures counts { (Self.calls self.new ≡ Self.calls self.old)
             × (Self.failures self.new ≡ Self.failures self.old) }
-        ensures kept { held self.new ≡ held self.old };
+        ensures kept { held self.new ≡ held self.old }
+        ensures bytes { IsErr result → Self.contents self.new ≡ Self.contents self.old };
 
     /// Makes a folder with its parents. One that is there is right.
     fn folder(&mut self, path: &str) -> Result<(), NotDone>
@@ -57,7 +58,8 @@ pub trait Files: Write {
         // What stays.
         ensures counts { (Self.calls self.new ≡ Self.calls self.old)
             × (Self.failures self.new ≡ Self.failures self.old) }
-        ensures kept { held self.new ≡ held self.old };
+        ensures kept { held self.new ≡ held self.old }
+        ensures bytes { Self.contents self.new ≡ Self.contents self.old };
 
     /// Starts a new file, to which later writes go. It is refused where the name is taken.
     fn create(&mut self, path: &str) -> Result<(), NotDone>
@@ -72,7 +74,8 @@ pub trait Files: Write {
         // What stays.
         ensures counts { (Self.calls self.new ≡ Self.calls self.old)
             × (Self.failures self.new ≡ Self.failures self.old) }
-        ensures kept { IsErr result → held self.new ≡ held self.old };
+        ensures kept { IsErr result → held self.new ≡ held self.old }
+        ensures bytes { IsErr result → Self.contents self.new ≡ Self.contents self.old };
 
     /// Ends the file that is being written.
     fn finish(&mut self) -> Result<(), NotDone>
@@ -83,7 +86,8 @@ pub trait Files: Write {
         // What stays.
         ensures counts { (Self.calls self.new ≡ Self.calls self.old)
             × (Self.failures self.new ≡ Self.failures self.old) }
-        ensures kept { IsErr result → held self.new ≡ held self.old };
+        ensures kept { IsErr result → held self.new ≡ held self.old }
+        ensures bytes { IsErr result → Self.contents self.new ≡ Self.contents self.old };
 
     /// Has stored what was made: the bytes of the files that have ended, and the name of each new file and
     /// folder. Behind the end of a file that is no directory, a call may put this off to the next one.

@@ -1,4 +1,4 @@
--- The bytes of a list from a place on.
+-- The bytes from a place on, and what a device lets pass.
 use Rattle.std.proofs.Common.{◌≡◌, ℕ, List, [], ◌++◌, ◌+◌, ◌<◌, min, length, take, drop, Some, None, sym, ap, ◌∙◌}
 use Rattle.std.proofs.Common.{arith}
 use Rattle.std.specs.Prelude.{Option}

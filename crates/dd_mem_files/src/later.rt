@@ -10,7 +10,7 @@ pub(crate) struct Later {
     pub(crate) is_opened: bool,
 }
 
-// By hand, so that letting go of it is one call.
+// By hand, so that dropping it is one call.
 impl Drop for Later {
     fn drop(self) {
         let Later {

@@ -1,6 +1,7 @@
 //! Files in memory.
 ghost use Rattle.std.specs.Prelude.{◌≡◌, IsSome, is_ok, IfSome, ◌↔◌, [], length, None, Some, IsOk, IsErr, take};
-ghost use Rattle.std.specs.Prelude.{IsTrue, ◌<◌, codes, IfOk, OnOk, OnErr, option_map, option_copied, string_bytes, false};
+ghost use Rattle.std.specs.Prelude.{IsTrue, ◌<◌, codes, IfOk, OnOk, OnErr, option_map, option_copied, string_bytes};
+ghost use Rattle.std.specs.Prelude.{false};
 ghost use Rattle.std.specs.Io.{WritesAtMost};
 ghost use Rattle.std.specs.Io.KnownBytes.{WriteAppends};
 ghost use Rattle.dd_elem.specs.Counts.{counts_after};
@@ -35,7 +36,7 @@ pub struct MemFiles {
     planned: PlannedFaults,
 }
 
-// By hand, so that letting go of it is one call.
+// By hand, so that dropping it is one call.
 impl Drop for MemFiles {
     fn drop(self) {
         let MemFiles {
@@ -129,9 +130,9 @@ impl MemFiles {
         self.planned.fail_call(n);
     }
 
-    /// Makes the reader that the given one of the next openings of the path returns fail after `after` bytes. The
-    /// next opening is number 1; with 0 no reader fails. A later `fail_read` replaces this one. Memory where a
-    /// growth is refused, and then nothing has changed.
+    /// Makes the reader of a later opening of the path fail after `after` bytes. The next opening is number 1; with
+    /// 0 no reader fails. A later `fail_read` replaces this one. Memory where a growth is refused, and then nothing
+    /// has changed.
     pub fn fail_read(&mut self, path: &str, opening: u32, after: u64) -> Result<(), Memory>
         ensures ok { OnOk result (self.new ≡ record self.old {
           planned = record self.old.planned {

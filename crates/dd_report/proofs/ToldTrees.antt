@@ -111,41 +111,43 @@ stored_given None path given old new there known = tt
 stored_given (Some files) path given old new there known =
     (there.0, subst (λ (o : Option (List ℕ)). Consumes o new given) there.1 known)
 
-module _ {R : Type 0} (has_given : R → List ℕ → Type 0) (remaining : R → Option (List ℕ)) (failures : R → ℕ)
+module _ {R : Type 0} (has_given : R → List ℕ → Type 0) (remaining : R → Option (List ℕ)) (calls failures : R → ℕ)
     (held : Option Held) (folder : List ℕ) where
   pub read_found : (opened path file given : List ℕ) (node : Node) (finding : Option Finding) (fresh left : R)
       → file ≡ file_in node → IsFileId (file_in node) → opened ≡ path
       → (All (λ (byte : ℕ). byte < 128) file → IsPathIn folder (id_path file) path)
       → IfSome held (λ files. IsSome (files.bytes_at opened) × (remaining fresh ≡ files.bytes_at opened))
-      → has_given fresh [] → failures fresh ≡ 0 → Gives has_given fresh left given
-      → Consumes (remaining fresh) (remaining left) given
+      → has_given fresh [] → calls fresh ≡ 0 → failures fresh ≡ 0 → Gives has_given fresh left given
+      → Consumes (remaining fresh) (remaining left) given → calls left ≤ calls fresh + most_read + 1
       → IsFound finding (digest_in node.set) most_read given (remaining left) (failures fresh) (failures left)
-      → FindsRead has_given remaining failures held folder node finding
-  read_found opened path file given node finding fresh left is id at place there new none gives known found = record {
-    path = path;
-    place = subst (λ (name : List ℕ). IsPathIn folder (id_path name) path) is
-        (place (subst (λ (name : List ℕ). All (λ (byte : ℕ). byte < 128) name) (sym is)
-        (id_ascii (file_in node) id)));
-    reader = left;
-    given = given;
-    gave = gives.then [] new;
-    stored = subst (λ (xs : List ℕ). IfSome held (λ files.
-        IsSome (files.bytes_at xs) × Consumes (files.bytes_at xs) (remaining left) given)) at
-        (stored_given held opened given (remaining fresh) (remaining left) there known);
-    found = subst (λ (n : ℕ). IsFound finding (digest_in node.set) most_read given (remaining left) n
-        (failures left)) none found;
-  }
+      → FindsRead has_given remaining calls failures held folder node finding
+  read_found opened path file given node finding fresh left is id at place there new unread none gives known reads
+      found = record {
+        path = path;
+        place = subst (λ (name : List ℕ). IsPathIn folder (id_path name) path) is
+            (place (subst (λ (name : List ℕ). All (λ (byte : ℕ). byte < 128) name) (sym is)
+            (id_ascii (file_in node) id)));
+        reader = left;
+        given = given;
+        gave = gives.then [] new;
+        stored = subst (λ (xs : List ℕ). IfSome held (λ files.
+            IsSome (files.bytes_at xs) × Consumes (files.bytes_at xs) (remaining left) given)) at
+            (stored_given held opened given (remaining fresh) (remaining left) there known);
+        reads = subst (λ (n : ℕ). calls left ≤ n + most_read + 1) unread reads;
+        found = subst (λ (n : ℕ). IsFound finding (digest_in node.set) most_read given (remaining left) n
+            (failures left)) none found;
+      }
 
   -- ---- records
 
   abbrev Told : List Node → ℕ → ℕ → List ℕ → Type 0
-  Told = TellsAll has_given remaining failures held folder
+  Told = TellsAll has_given remaining calls failures held folder
 
   abbrev First : List Node → ℕ → ℕ → List ℕ → Type 0
-  First = TellsFirst has_given remaining failures held folder
+  First = TellsFirst has_given remaining calls failures held folder
 
   abbrev Checked : List Node → Result Bool CheckFault → ℕ → ℕ → Way → Way → Type 0
-  Checked = Checks has_given remaining failures held folder
+  Checked = Checks has_given remaining calls failures held folder
 
   -- those of both lists
   both_told : (xs ys : List Node) (f g h : ℕ) (one two : List ℕ) → Told xs f g one → Told ys g h two
@@ -189,7 +191,7 @@ module _ {R : Type 0} (has_given : R → List ℕ → Type 0) (remaining : R →
       ([], record { first = []; others = node ∷ []; parts = refl; told = (same, refl) }, goes_none a)
 
   one_told : (node : Node) (f g : ℕ) (finding : Option Finding)
-      → FindsFile has_given remaining failures held folder node f g finding
+      → FindsFile has_given remaining calls failures held folder node f g finding
       → Told (node ∷ []) f g (finding_line node finding)
   one_told node f g finding finds = (
     finding_line node finding,
@@ -201,7 +203,8 @@ module _ {R : Type 0} (has_given : R → List ℕ → Type 0) (remaining : R →
   )
 
   pub record_quiet : (node : Node) (f g : ℕ) (finding : Option Finding) (w : Way) → finding ≡ None
-      → FindsFile has_given remaining failures held folder node f g finding → Checked (node ∷ []) (Ok false) f g w w
+      → FindsFile has_given remaining calls failures held folder node f g finding
+      → Checked (node ∷ []) (Ok false) f g w w
   record_quiet node f g finding w is finds = (
     [],
     subst (λ (text : List ℕ). Told (node ∷ []) f g text) (ap (finding_line node) is) (one_told node f g finding finds),
@@ -210,7 +213,7 @@ module _ {R : Type 0} (has_given : R → List ℕ → Type 0) (remaining : R →
   )
 
   pub record_told : (node : Node) (f g : ℕ) (finding : Finding) (found : Option Finding) (a b : Way)
-      → found ≡ Some finding → FindsFile has_given remaining failures held folder node f g found
+      → found ≡ Some finding → FindsFile has_given remaining calls failures held folder node f g found
       → GoesOn (finding_line node (Some finding)) a b → Checked (node ∷ []) (Ok true) f g a b
   record_told node f g finding found a b is finds goes = (
     finding_line node (Some finding),
@@ -220,7 +223,7 @@ module _ {R : Type 0} (has_given : R → List ℕ → Type 0) (remaining : R →
   )
 
   pub record_unsent : (node : Node) (f g : ℕ) (finding : Finding) (found : Option Finding) (a b : Way)
-      → found ≡ Some finding → FindsFile has_given remaining failures held folder node f g found
+      → found ≡ Some finding → FindsFile has_given remaining calls failures held folder node f g found
       → Fails (finding_line node (Some finding)) a b → Checked (node ∷ []) (Err Unsent) f g a b
   record_unsent node f g finding found a b is finds failed = (
     finding_line node (Some finding),
@@ -267,16 +270,16 @@ module _ {R : Type 0} (has_given : R → List ℕ → Type 0) (remaining : R →
 
   -- files that hold the same
   over : (mid : Option Held) (nodes : List Node) (r : Result Bool CheckFault) (f g : ℕ) (a b : Way) → mid ≡ held
-      → Checks has_given remaining failures mid folder nodes r f g a b → Checked nodes r f g a b
+      → Checks has_given remaining calls failures mid folder nodes r f g a b → Checked nodes r f g a b
   over mid nodes r f g a b same checks =
-      subst (λ (h : Option Held). Checks has_given remaining failures h folder nodes r f g a b) same checks
+      subst (λ (h : Option Held). Checks has_given remaining calls failures h folder nodes r f g a b) same checks
 
   -- ---- trees
 
   pub more_told : (mid : Option Held) (trees : List Tree) (i : ℕ) (t : Tree) (one found new : Bool) (f g h : ℕ)
       (a b c : Way) → i < length trees → t ≡ get_or trees i t → mid ≡ held → new ≡ (one || found)
       → Checked (nodes_of (trees_view (take i trees))) (Ok found) f g a b
-      → Checks has_given remaining failures mid folder (tree_nodes t) (Ok one) g h b c
+      → Checks has_given remaining calls failures mid folder (tree_nodes t) (Ok one) g h b c
       → Checked (nodes_of (trees_view (take (i + 1) trees))) (Ok new) f h a c
   more_told mid trees i t one found new f g h a b c within is same both so_far next =
       subst (λ (ns : List Node). Checked ns (Ok new) f h a c) (sym (one_tree_more trees i t within is))
@@ -293,7 +296,7 @@ module _ {R : Type 0} (has_given : R → List ℕ → Type 0) (remaining : R →
       (fault : CheckFault) (found : Bool) (f g h : ℕ) (a b c : Way) → i < length trees → t ≡ get_or trees i t
       → mid ≡ held → r ≡ Err fault → one ≡ Err fault
       → Checked (nodes_of (trees_view (take i trees))) (Ok found) f g a b
-      → Checks has_given remaining failures mid folder (tree_nodes t) one g h b c
+      → Checks has_given remaining calls failures mid folder (tree_nodes t) one g h b c
       → Checked (nodes_of (trees_view trees)) r f h a c
   trees_end mid trees i t r one fault found f g h a b c within is same ends was so_far next =
       rw ends (ends_told (nodes_of (trees_view (take i trees))) (tree_nodes t)
@@ -306,7 +309,7 @@ module _ {R : Type 0} (has_given : R → List ℕ → Type 0) (remaining : R →
   pub branch_told : (mid : Option Held) (t : Tree) (trees : List Tree) (here below found : Bool) (f g h : ℕ)
       (a b c : Way) → mid ≡ held → trees ≡ (out-Tree t).below.items → found ≡ (here || below)
       → Checked ((tree_view t).node ∷ []) (Ok here) f g a b
-      → Checks has_given remaining failures mid folder (nodes_of (trees_view trees)) (Ok below) g h b c
+      → Checks has_given remaining calls failures mid folder (nodes_of (trees_view trees)) (Ok below) g h b c
       → Checked (tree_nodes t) (Ok found) f h a c
   branch_told mid t trees here below found f g h a b c same is both first rest =
       then_told ((tree_view t).node ∷ []) (nodes_of (tree_view t).below) here below found f g h a b c both first
@@ -316,7 +319,7 @@ module _ {R : Type 0} (has_given : R → List ℕ → Type 0) (remaining : R →
   pub branch_ends : (mid : Option Held) (t : Tree) (trees : List Tree) (r one : Result Bool CheckFault)
       (fault : CheckFault) (here : Bool) (f g h : ℕ) (a b c : Way) → mid ≡ held → trees ≡ (out-Tree t).below.items
       → r ≡ Err fault → one ≡ Err fault → Checked ((tree_view t).node ∷ []) (Ok here) f g a b
-      → Checks has_given remaining failures mid folder (nodes_of (trees_view trees)) one g h b c
+      → Checks has_given remaining calls failures mid folder (nodes_of (trees_view trees)) one g h b c
       → Checked (tree_nodes t) r f h a c
   branch_ends mid t trees r one fault here f g h a b c same is ends was first rest =
       rw ends (ends_told ((tree_view t).node ∷ []) (nodes_of (tree_view t).below) [] (tree_nodes t) fault here f g h
@@ -336,7 +339,7 @@ module _ {R : Type 0} (has_given : R → List ℕ → Type 0) (remaining : R →
   -- ---- a directory
 
   abbrev CheckedAll : Walk → Result Bool CheckFault → ℕ → ℕ → Way → Way → Type 0
-  CheckedAll = ChecksAll has_given remaining failures held folder
+  CheckedAll = ChecksAll has_given remaining calls failures held folder
 
   -- a fault in its trees is one of all
   pub walk_ends : (forest : Forest) (trees : List Tree) (r one : Result Bool CheckFault) (fault : CheckFault) (f g : ℕ)
@@ -354,7 +357,7 @@ module _ {R : Type 0} (has_given : R → List ℕ → Type 0) (remaining : R →
       rw ends (same.0, inl same.1, same.2)
 
   abbrev Walked : Forest → Bool → ℕ → ℕ → List ℕ → Type 0
-  Walked forest = TellsWalk has_given remaining failures held folder (walk_view forest)
+  Walked forest = TellsWalk has_given remaining calls failures held folder (walk_view forest)
 
   walk_told : (forest : Forest) (trees : List Tree) (found some all : Bool) (f g : ℕ) (text : List ℕ)
       → trees ≡ forest.trees.items → Told (nodes_of (trees_view trees)) f g text → found ≡ not (is_empty text)
@@ -398,7 +401,7 @@ module _ {R : Type 0} (has_given : R → List ℕ → Type 0) (remaining : R →
 
   pub walk_went : (walk : Walk) (r : Result Bool CheckFault) (f g : ℕ) (a b : Way) (c : Option (List ℕ)) (h : ℕ)
       → a.waits ≡ [] → CheckedAll walk r f g a b → TakesAll b.holds c b.failures h b.waits
-      → IfOk r (λ found. (text : List ℕ) × TellsWalk has_given remaining failures held folder walk found f g text
+      → IfOk r (λ found. (text : List ℕ) × TellsWalk has_given remaining calls failures held folder walk found f g text
       × TakesAll a.holds c a.failures h text)
   walk_went walk (Ok found) f g a b c h none checks took =
       (checks.0, checks.1, all_goes checks.0 a b c h none checks.2 took)
@@ -413,7 +416,7 @@ module _ {R : Type 0} (has_given : R → List ℕ → Type 0) (remaining : R →
       (cut.0, cut.1, all_goes cut.0 a b c h none cut.2 took)
 
   abbrev SomeTold : Walk → ℕ → ℕ → List ℕ → Type 0
-  SomeTold = TellsSome has_given remaining failures held folder
+  SomeTold = TellsSome has_given remaining calls failures held folder
 
   pub walk_unsent : (walk : Walk) (r : Result Bool CheckFault) (f g : ℕ) (a b : Way) → a.waits ≡ [] → r ≡ Err Unsent
       → CheckedAll walk r f g a b

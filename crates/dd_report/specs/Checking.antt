@@ -1,6 +1,6 @@
 -- What a check of a file-set finds of the files that its records name, and the lines that tell it.
-use Rattle.std.specs.Prelude.{◌≡◌, ◌⊎◌, ℕ, Bool, not, ◌&&◌, ◌==◌, List, [], ◌∷◌, ◌++◌, Option, None, Some, IfSome}
-use Rattle.std.specs.Prelude.{IsSome, Result, Ok, Err, codes, if◌then◌else◌}
+use Rattle.std.specs.Prelude.{◌≡◌, ◌⊎◌, ℕ, ◌+◌, ◌≤◌, Bool, not, ◌&&◌, ◌==◌, List, [], ◌∷◌, ◌++◌, Option, None}
+use Rattle.std.specs.Prelude.{Some, IfSome, IsSome, Result, Ok, Err, codes, if◌then◌else◌}
 use Rattle.std.specs.Fmt.{decimal}
 use Rattle.std.specs.Io.KnownBytes.{Consumes}
 use Rattle.hex.specs.Hex.{encode_lower}
@@ -61,12 +61,13 @@ abbrev pub most_read : ℕ
 most_read = 4294967295
 
 -- ---- what is found in files that hold this, in a folder; their readers say what they gave, what they have left, and
--- how many of their reads failed
+-- how many reads they had and how many of these failed
 
-module _ {R : Type 0} (has_given : R → List ℕ → Type 0) (remaining : R → Option (List ℕ)) (failures : R → ℕ)
+module _ {R : Type 0} (has_given : R → List ℕ → Type 0) (remaining : R → Option (List ℕ)) (calls failures : R → ℕ)
     (held : Option Held) (folder : List ℕ) where
   -- The file that a record names was opened for a reader, and this is found by reading it. What the reader gave and
-  -- what it has left are the bytes at the file's path, where these are known.
+  -- what it has left are the bytes at the file's path, where these are known; it was read at most once for each byte
+  -- and once more.
   pub record FindsRead (node : Node) (finding : Option Finding) : Type 0 where
     pub path : List ℕ
     pub place : IsPathIn folder (id_path (file_in node)) path
@@ -75,6 +76,7 @@ module _ {R : Type 0} (has_given : R → List ℕ → Type 0) (remaining : R →
     pub gave : has_given reader given
     pub stored : IfSome held (λ files.
         IsSome (files.bytes_at path) × Consumes (files.bytes_at path) (remaining reader) given)
+    pub reads : calls reader ≤ most_read + 1
     pub found : IsFound finding (digest_in node.set) most_read given (remaining reader) 0 (failures reader)
 
   -- What is found of the file that a record names. The files had refused `old` calls before, and have refused `new`.

@@ -37,17 +37,17 @@ pub fn check_records<F: Files, W: Write>(
     to: &mut W,
 ) -> Result<bool, CheckFault>
     ensures told { IfOk result (λ found. (text : List ℕ)
-        × TellsWalk F.In.has_given F.In.remaining F.In.failures (F.held files.old) folder.now
+        × TellsWalk F.In.has_given F.In.remaining F.In.calls F.In.failures (F.held files.old) folder.now
         (walk_view forest.now) found (F.refusals files.old) (F.refusals files.new) text
         × TakesAll (W.contents to.old) (W.contents to.new) (W.failures to.old) (W.failures to.new) text) }
 
     // Where memory ran out the findings of the first records are sent; where the output failed, a front of the text.
     ensures cut { result ≡ Err CheckFault.Memory → (text : List ℕ)
-        × TellsFirst F.In.has_given F.In.remaining F.In.failures (F.held files.old) folder.now
+        × TellsFirst F.In.has_given F.In.remaining F.In.calls F.In.failures (F.held files.old) folder.now
         (nodes_of (walk_view forest.now).trees) (F.refusals files.old) (F.refusals files.new) text
         × TakesAll (W.contents to.old) (W.contents to.new) (W.failures to.old) (W.failures to.new) text }
     ensures unsent { result ≡ Err CheckFault.Unsent → (text : List ℕ)
-        × TellsSome F.In.has_given F.In.remaining F.In.failures (F.held files.old) folder.now
+        × TellsSome F.In.has_given F.In.remaining F.In.calls F.In.failures (F.held files.old) folder.now
         (walk_view forest.now) (F.refusals files.old) (F.refusals files.new) text
         × FailsAmid (W.contents to.old) (W.contents to.new) (W.failures to.old) (W.failures to.new) text }
 
@@ -81,7 +81,7 @@ fn check_forest<F: Files, W: Write>(
     lines: &mut LineBuffer,
     to: &mut W,
 ) -> Result<bool, CheckFault>
-    ensures checks { ChecksAll F.In.has_given F.In.remaining F.In.failures (F.held files.old) folder.now
+    ensures checks { ChecksAll F.In.has_given F.In.remaining F.In.calls F.In.failures (F.held files.old) folder.now
         (walk_view forest.now) result (F.refusals files.old) (F.refusals files.new)
         (way lines.old (W.contents to.old) (W.failures to.old))
         (way lines.new (W.contents to.new) (W.failures to.new)) }
@@ -129,7 +129,7 @@ fn check_trees<F: Files, W: Write>(
     lines: &mut LineBuffer,
     to: &mut W,
 ) -> Result<bool, CheckFault>
-    ensures checks { Checks F.In.has_given F.In.remaining F.In.failures (F.held files.old) folder.now
+    ensures checks { Checks F.In.has_given F.In.remaining F.In.calls F.In.failures (F.held files.old) folder.now
         (nodes_of (trees_view trees.now)) result (F.refusals files.old) (F.refusals files.new)
         (way lines.old (W.contents to.old) (W.failures to.old))
         (way lines.new (W.contents to.new) (W.failures to.new)) }
@@ -152,7 +152,7 @@ fn check_tree<F: Files, W: Write>(
     lines: &mut LineBuffer,
     to: &mut W,
 ) -> Result<bool, CheckFault>
-    ensures checks { Checks F.In.has_given F.In.remaining F.In.failures (F.held files.old) folder.now
+    ensures checks { Checks F.In.has_given F.In.remaining F.In.calls F.In.failures (F.held files.old) folder.now
         ((tree_view tree.now).node ∷ nodes_of (tree_view tree.now).below) result
         (F.refusals files.old) (F.refusals files.new)
         (way lines.old (W.contents to.old) (W.failures to.old))
@@ -173,7 +173,7 @@ fn check_record<F: Files, W: Write>(
     lines: &mut LineBuffer,
     to: &mut W,
 ) -> Result<bool, CheckFault>
-    ensures checks { Checks F.In.has_given F.In.remaining F.In.failures (F.held files.old) folder.now
+    ensures checks { Checks F.In.has_given F.In.remaining F.In.calls F.In.failures (F.held files.old) folder.now
         ((tree_view tree.now).node ∷ []) result (F.refusals files.old) (F.refusals files.new)
         (way lines.old (W.contents to.old) (W.failures to.old))
         (way lines.new (W.contents to.new) (W.failures to.new)) }
@@ -199,8 +199,8 @@ fn finding_in<F: Files>(
     tree: &Tree<'_>,
     files: &mut F,
 ) -> Result<Option<Finding>, Memory>
-    ensures found { IfOk result (FindsFile F.In.has_given F.In.remaining F.In.failures (F.held files.old) folder.now
-        (tree_view tree.now).node (F.refusals files.old) (F.refusals files.new)) }
+    ensures found { IfOk result (FindsFile F.In.has_given F.In.remaining F.In.calls F.In.failures (F.held files.old)
+        folder.now (tree_view tree.now).node (F.refusals files.old) (F.refusals files.new)) }
 
     // Where memory ran out no file was asked for.
     ensures unasked { IsErr result → F.refusals files.new ≡ F.refusals files.old }

@@ -111,7 +111,7 @@ impl LineBuffer {
         Ok(())
     }
 
-    /// Is there room for so many bytes more?
+    /// Is there room for this many more bytes?
     fn has_room(&self, more: usize) -> bool
         ensures { IsTrue result ↔ (length self.now + more ≤ ROOM) }
     {

@@ -12,7 +12,7 @@ use Rattle.dicomdir.specs.declared.refusal.ProgramFault.TheVariants.{SetId, Uid}
 abbrev pub IsBadLine : ProgramFault → Type 0
 IsBadLine fault = ((bad : BadUid) × (fault ≡ Uid bad)) ⊎ ((bad : BadSetId) × (fault ≡ SetId bad))
 
--- a path that is concerned is one of so many
+-- a path that is concerned is one of these
 abbrev pub IsAmong : ℕ → Subject → Type 0
 IsAmong paths subject.General = Unit {0}
 IsAmong paths (subject.Source at) = at < paths

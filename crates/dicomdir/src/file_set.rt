@@ -14,7 +14,7 @@ use dd_files::{DIRECTORY, Files, path_in};
 use dd_layout::{Limits, Plan};
 use std::alloc::Global;
 
-/// The limits of a directory that may have so many bytes, and as many records below one parent as a
+/// The limits of a directory that may have `max_bytes` bytes, and as many records below one parent as a
 /// File ID has ranks for.
 pub(crate) fn limits_of(max_bytes: u32) -> Limits {
     Limits::new(max_bytes, FileId::MAX_RANK).unwrap()

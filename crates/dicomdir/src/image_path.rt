@@ -55,7 +55,7 @@ impl fmt::Display for IdPath<'_> {
     }
 }
 
-/// Writes so many characters of components, with `/` between these.
+/// Writes the first `count` characters of components, with `/` between these.
 fn write_path<W: fmt::Write>(text: &[u8], count: usize, f: &mut fmt::Formatter<W>) -> fmt::Result {
     for byte in text.iter().take(count) {
         f.write_char(slashed(*byte))?;

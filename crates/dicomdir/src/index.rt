@@ -13,7 +13,7 @@ use dd_files::{Files, SOURCE_LIMIT};
 use dd_layout::Limits;
 use std::alloc::Global;
 
-/// Reads all sources and plans the directory of their versions, which may have so many bytes. Refused, in
+/// Reads all sources and plans the directory of their versions, which may have `max_bytes` bytes. Refused, in
 /// this order, where the folder has a directory already, where a source can't be opened or read, and where
 /// the versions have no place in a directory.
 pub(crate) fn plan_index<F: Files>(
@@ -59,7 +59,7 @@ fn index_files<F: Files>(
     index_engine(alloc, &mut supply, choice, limits, SOURCE_LIMIT)
 }
 
-/// The counts of so many sources.
+/// The counts of a number of sources.
 fn counts_of(alloc: Global, sources: usize) -> Result<Vec<SourceCounts>, Memory>
     ensures { IfOk result (λ counts. length counts.items ≡ sources) }
 {

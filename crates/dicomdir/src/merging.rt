@@ -27,7 +27,7 @@ pub(crate) fn read_sets<F: Files>(
 }
 
 /// Plans the directory of the best versions of all these sets, each of which has the bytes of its
-/// directory. It may have so many bytes.
+/// directory. It may have `max_bytes` bytes.
 pub(crate) fn plan_merge<'a>(
     alloc: Global,
     sets: &'a [&'a [u8]],

@@ -19,10 +19,10 @@ pub enum ProgramFault {
     /// The versions have no place in a directory.
     #[error(transparent)]
     Plan(PlanFault),
-    /// The command line gives a UID that is none.
+    /// The command line gives a UID that has not the form of one.
     #[error(transparent)]
     Uid(BadUid),
-    /// The command line gives a File-set ID that is none.
+    /// The command line gives a File-set ID that has not the form of one.
     #[error(transparent)]
     SetId(BadSetId),
     /// The directory has more bytes than are read.

@@ -15,7 +15,7 @@ use dd_files::{DIRECTORY, Files, NotDone, NotThere};
 use std::alloc::Global;
 use std::{fs, io};
 
-// So many files that have ended wait to be stored at most.
+// The most files that have ended and wait to be stored.
 const BATCH: usize = 100;
 
 // What the system says where a process, and where the system, has no more descriptors.
@@ -49,7 +49,7 @@ pub struct HostFiles<'a, R: fs::Files> {
     refusals: u64,
 }
 
-// By hand, so that letting go of it is one call.
+// By hand, so that dropping it is one call.
 impl<R: fs::Files> Drop for HostFiles<'_, R> {
     fn drop(self) {
         let HostFiles {

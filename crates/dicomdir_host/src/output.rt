@@ -22,7 +22,7 @@ fn has_failed(answer: &io::Result<usize>, bytes: &[u8]) -> bool
     }
 }
 
-/// A file until a write to it fails. It is let go then, so that nothing more reaches it.
+/// A file until a write to it fails. It is dropped then, so that nothing more reaches it.
 #[derive(Drop)]
 pub(crate) struct Target<F: io::Write + Drop> {
     file: Option<F>,
@@ -53,7 +53,7 @@ impl<F: io::Write + Drop> io::Write for Target<F> {
     }
 }
 
-/// The file that is being written, where there is one, with a buffer before it. It is let go where a
+/// The file that is being written, where there is one, with a buffer before it. It is dropped where a
 /// write fails.
 #[derive(Drop)]
 pub(crate) struct Output<F: io::Write + Drop> {

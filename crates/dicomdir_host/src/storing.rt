@@ -27,7 +27,7 @@ pub(crate) struct Unstored<F: Drop> {
     lost: Option<String>,
 }
 
-// By hand, so that letting go of it is one call.
+// By hand, so that dropping it is one call.
 impl<F: Drop> Drop for Unstored<F> {
     fn drop(self) {
         let Unstored {

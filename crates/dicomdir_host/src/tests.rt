@@ -18,7 +18,7 @@ use std::str;
 use std::test::Fail;
 
 // In each line calls, then what they came to (+ done, - refused or failed, ! not read, or the bytes
-// that were read), then the bytes at `a` once the files are let go.
+// that were read), then the bytes at `a` once the files are dropped.
 const CASES: &str = "\
 create a, write xyz, finish, read a > + + + xyz > xyz
 file a, create a, write new, read a > . - - old > old

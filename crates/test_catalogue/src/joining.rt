@@ -31,7 +31,7 @@ fn merged(alloc: Global, groups: &str) -> Result<Catalogue, Fail> {
 }
 
 /// The catalogue of each group.
-fn catalogues(alloc: Global, groups: &str) -> Result<Vec<Catalogue>, Fail> {
+pub(crate) fn catalogues(alloc: Global, groups: &str) -> Result<Vec<Catalogue>, Fail> {
     let mut catalogues = Vec::new(alloc);
     for letters in groups.split('+') {
         catalogues.push(taken(alloc, letters)?)?;
@@ -47,7 +47,7 @@ fn gathered(alloc: Global, groups: &str) -> Result<Catalogue, Fail> {
 }
 
 /// A batch of each group, or an empty merge where it has no letters.
-fn batches(alloc: Global, groups: &str) -> Result<Vec<History>, Fail> {
+pub(crate) fn batches(alloc: Global, groups: &str) -> Result<Vec<History>, Fail> {
     let mut parts = Vec::new(alloc);
     for letters in groups.split('+') {
         parts.push(if letters.is_empty() {

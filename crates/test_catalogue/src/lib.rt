@@ -8,6 +8,8 @@ mod counting;
 #[cfg(test)]
 mod equality;
 #[cfg(test)]
+mod growths;
+#[cfg(test)]
 mod joining;
 #[cfg(test)]
 mod studies;

@@ -51,7 +51,7 @@ fn push_study(alloc: Global, text: &mut String, parts: &Parts) -> Result<(), Fai
 }
 
 /// The studies of all instances.
-fn studies(alloc: Global, catalogue: &Catalogue) -> Result<String, Fail> {
+pub(crate) fn studies(alloc: Global, catalogue: &Catalogue) -> Result<String, Fail> {
     let mut text = String::new(alloc);
     for version in catalogue.versions() {
         push_study(alloc, &mut text, version.parts())?;

@@ -10,6 +10,8 @@ mod derivation;
 #[cfg(test)]
 mod fields;
 #[cfg(test)]
+mod growths;
+#[cfg(test)]
 mod own;
 #[cfg(test)]
 mod publishing;

@@ -59,7 +59,7 @@ one 348 0000 > 62 ForeignRecord 320
 one 402 2020 > 63 RecordKey 320 (0010,0020)";
 
 /// How many versions a catalogue has, and their instances.
-fn instances(alloc: Global, catalogue: &Catalogue) -> Result<String, AllocError> {
+pub(crate) fn instances(alloc: Global, catalogue: &Catalogue) -> Result<String, AllocError> {
     let count = catalogue.len();
     let mut text = format!(in alloc; "{count}")?;
     for version in catalogue.versions() {
@@ -84,7 +84,7 @@ fn catalogues_of_directories(rt: HostRuntime) -> Result<(), Fail> {
 }
 
 /// How many images there are, and the instance and the File ID of each.
-fn files(alloc: Global, places: &[Place<'_>]) -> Result<String, Fail> {
+pub(crate) fn files(alloc: Global, places: &[Place<'_>]) -> Result<String, Fail> {
     let count = places.len();
     let mut text = format!(in alloc; "{count}")?;
     for place in places {
@@ -109,7 +109,7 @@ fn files_of_directories(rt: HostRuntime) -> Result<(), Fail> {
 }
 
 /// How many images there are, and what is told of the version of each, with its File ID.
-fn images(alloc: Global, own: &Own<'_>) -> Result<String, Fail> {
+pub(crate) fn images(alloc: Global, own: &Own<'_>) -> Result<String, Fail> {
     let count = own.places.len();
     let mut text = format!(in alloc; "{count}")?;
     for (version, place) in own.versions.iter().zip(&own.places) {

@@ -154,7 +154,7 @@ fn directories_keep_to_their_limits(rt: HostRuntime) -> Result<(), Fail> {
 }
 
 /// The join of the batches with these letters.
-fn history(alloc: Global, groups: &str) -> Result<History, Fail> {
+pub(crate) fn history(alloc: Global, groups: &str) -> Result<History, Fail> {
     let mut parts = Vec::new(alloc);
     for letters in groups.split('+') {
         parts.push(History::Batch(images(alloc, letters)?))?;

@@ -34,7 +34,7 @@ pub(crate) fn first_catalogue(alloc: Global) -> Result<Catalogue, Fail> {
 }
 
 /// The plan of V1 alone.
-fn first_plan(alloc: Global) -> Result<Plan, Fail> {
+pub(crate) fn first_plan(alloc: Global) -> Result<Plan, Fail> {
     let catalogue = first_catalogue(alloc)?;
     Ok(lay_out(alloc, &catalogue, &label_of("")?, limits_of("")?)?)
 }

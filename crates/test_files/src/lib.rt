@@ -5,6 +5,8 @@
 #[cfg(test)]
 mod cases;
 #[cfg(test)]
+mod growths;
+#[cfg(test)]
 mod heads;
 #[cfg(test)]
 mod reading;

@@ -3,7 +3,7 @@
 use crate::cases::{Ask, ask_all};
 use crate::vectors::file_named;
 use dd_elem::Uid;
-use dd_part10::{Meta, parse_file};
+use dd_part10::{DicomFile, Meta, parse_file};
 use dd_set::{Element, Value};
 use dd_vectors::{SOURCE_ROWS, text_of, v1};
 use std::alloc::Global;
@@ -40,20 +40,18 @@ const SYNTAXES: &str = "\
 1.2.840.10008.1.2.4 > None
 1.2.840.10008.1.2.5.1 > None";
 
-fn numbers(alloc: Global, bytes: &[u8]) -> Result<String, Fail> {
-    let file = parse_file(alloc, bytes)?;
-    let (size, place, count) = (bytes.len(), file.set_at, file.set.elements.len());
-    let Meta {
-        class,
-        instance,
-        transfer,
-    } = file.meta;
+/// What is told of a file of this many bytes.
+pub(crate) fn told(alloc: Global, size: usize, file: &DicomFile<'_>) -> Result<String, Fail> {
+    let (place, count) = (file.set_at, file.set.elements.len());
+    let (class, instance) = (file.meta.class, file.meta.instance);
+    let transfer = file.meta.transfer;
     Ok(format!(in alloc; "{size} {place} {class} {instance} {transfer} {count}")?)
 }
 
 pub(crate) fn described(alloc: Global, question: &str) -> Result<String, Fail> {
     let bytes = file_named(alloc, question)?;
-    numbers(alloc, &bytes)
+    let file = parse_file(alloc, &bytes)?;
+    told(alloc, bytes.len(), &file)
 }
 
 #[test]

@@ -69,7 +69,7 @@ fn value(alloc: Global, found: &Found) -> Result<String, Fail> {
 
 /// What was read: whether the meta information is this one, and of each element that was found the tag,
 /// the front of the value and the length; or the fault.
-fn told(
+pub(crate) fn told(
     alloc: Global,
     answer: Result<Scanned, StreamFault>,
     parsed: &Meta,

@@ -6,6 +6,8 @@ mod cases;
 #[cfg(test)]
 mod directories;
 #[cfg(test)]
+mod growths;
+#[cfg(test)]
 mod keys;
 #[cfg(test)]
 mod picks;

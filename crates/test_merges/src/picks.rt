@@ -32,7 +32,7 @@ const PICKS: &str = "\
 0 0 5 1 first,402,2020 > Own 2: 63 RecordKey 320 (0010,0020)";
 
 /// The size of a merge, and what is picked.
-fn told(alloc: Global, merged: &Merged<'_>) -> Result<String, Fail> {
+pub(crate) fn told(alloc: Global, merged: &Merged<'_>) -> Result<String, Fail> {
     let size = merged.plan.size();
     let mut text = format!(in alloc; "{size}")?;
     for pick in &merged.picks {

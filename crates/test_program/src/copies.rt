@@ -8,7 +8,7 @@ use std::alloc::Global;
 use std::test::Fail;
 
 /// The SHA-256 of V1.
-const DIGEST: &str = "900e75e1c153f87b21e09f9db68aef627f2dd320eb3afb1f2574594e6c862a92";
+pub(crate) const DIGEST: &str = "900e75e1c153f87b21e09f9db68aef627f2dd320eb3afb1f2574594e6c862a92";
 
 /// Copies of V1: how many bytes a read gives, after how many the reader and the writer fail, the limit, and
 /// what the copy says and how many bytes of V1 were sent.
@@ -48,7 +48,7 @@ fn copied(alloc: Global, image: &[u8], wanted: &str, question: &str) -> Result<S
     Ok(format!(in alloc; "{said} {sent}")?)
 }
 
-fn digest_words(alloc: Global, digest: &[u8; 32], wanted: &str) -> Result<String, Fail> {
+pub(crate) fn digest_words(alloc: Global, digest: &[u8; 32], wanted: &str) -> Result<String, Fail> {
     let is_right = bytes_of(alloc, wanted)?.as_slice() == &digest[..];
     let words = if is_right { "digest" } else { "another digest" };
     Ok(String::from_str(alloc, words)?)

@@ -4,8 +4,8 @@ ghost use Rattle.std.specs.Prelude.{None, slice_index, slice_index_or};
 use crate::cases::{Ask, ask_all};
 use dd_elem::{ByteSource, Counts, FileId, Read, SetId, Uid};
 use dd_layout::Limits;
-use dd_vectors::{v1, v1_with};
-use dicomdir::{Choice, Indexed, NotThere, Supply, index_engine};
+use dd_vectors::{refuse_growth, require, v1, v1_with, was_refused};
+use dicomdir::{Choice, EngineFault, Indexed, NotThere, Supply, index_engine};
 use std::alloc::Global;
 use std::io;
 use std::test::Fail;
@@ -148,4 +148,32 @@ pub(crate) fn indexed(alloc: Global, question: &str) -> Result<String, Fail> {
 #[test]
 fn sources_are_skipped_or_picked(rt: HostRuntime) -> Result<(), Fail> {
     ask_all(&rt, rt.alloc(), Ask::Indexed, INDEXES)
+}
+
+/// Indexes both with the chosen growth refused, and answers whether one was. Where it was the index wants memory, and
+/// made again it answers.
+pub(crate) fn index_refused(alloc: Global, chosen: u32) -> Result<bool, Fail> {
+    let (image, other) = (v1(alloc)?, v1_with(alloc, OTHER)?);
+    let (counts, none) = ([Counts::new(); 2], [0; 2]);
+    let mut pair = Pair {
+        sources: [&image, &other],
+        counts,
+        reads: none,
+        lent: none,
+    };
+    let (id, uid) = (SetId::new(b"")?, Some(Uid::new(b"2.25.0")?));
+    let limits = Limits::new(u32::MAX, FileId::MAX_RANK).ok_or("no limits")?;
+    refuse_growth(alloc, chosen)?;
+    let answer = index_engine(alloc, &mut pair, &Choice { id, uid }, limits, 1000);
+    let refused = was_refused(alloc, matches!(answer, Err(EngineFault::Memory)))?;
+    let indexed = match answer {
+        Ok(indexed) => indexed,
+        Err(_) => indexed_by(alloc, 1000)?,
+    };
+    require(
+        told(alloc, &indexed)?.as_str()
+            == "skip 1: 32 NotImage 1.2.840.10008.5.1.4.1.1.88.11, pick 0, 876 bytes",
+        "one source is skipped and one is picked",
+    )?;
+    Ok(refused)
 }

@@ -14,6 +14,8 @@ mod faults;
 #[cfg(test)]
 mod findings;
 #[cfg(test)]
+mod growths;
+#[cfg(test)]
 mod lines;
 #[cfg(test)]
 mod printing;

@@ -107,12 +107,18 @@ fn refused(alloc: Global, fault: &LineFault) -> Result<String, Fail> {
     Ok(format!(in alloc; "{status} {is_mistake}")?)
 }
 
+/// What a line asks for, or how it is refused.
+pub(crate) fn said(alloc: Global, answer: &Result<Asked, LineFault>) -> Result<String, Fail> {
+    match answer {
+        Ok(asked) => told(alloc, asked),
+        Err(fault) => refused(alloc, fault),
+    }
+}
+
 pub(crate) fn line(alloc: Global, question: &str) -> Result<String, Fail> {
     let words = words_of(alloc, question)?;
-    match read_words(alloc, words.as_slice()) {
-        Ok(asked) => told(alloc, &asked),
-        Err(fault) => refused(alloc, &fault),
-    }
+    let answer = read_words(alloc, words.as_slice());
+    said(alloc, &answer)
 }
 
 #[test]

@@ -90,7 +90,7 @@ encapsulated e07f1000 4f42 0000 ffffffff feff00e0 03000000 > 5 OddLength";
 
 /// What a scan tells: the first tag, and of each element that it found the tag, the front of the value
 /// and the length; or its fault.
-fn told(alloc: Global, answer: Result<Scan, ScanFault>) -> Result<String, Fail> {
+pub(crate) fn told(alloc: Global, answer: Result<Scan, ScanFault>) -> Result<String, Fail> {
     let scan = match answer {
         Ok(scan) => scan,
         Err(fault) => return Ok(format!(in alloc; "{fault}")?),

@@ -38,7 +38,7 @@ fn a_power_cut_leaves_no_directory_without_its_images(rt: HostRuntime) -> Result
     Ok(())
 }
 
-// The calls of a run with so many images, while so many files can be open.
+// The calls of a run with `images` images, while `open` files can be open.
 fn calls_of(alloc: Global, images: u32, open: u32) -> Result<String, Fail> {
     let mut calls = format!(in alloc; "limit {open}, folder o/s")?;
     for image in 0..images {

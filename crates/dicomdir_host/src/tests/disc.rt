@@ -215,7 +215,7 @@ impl Disc {
         }
     }
 
-    // Refuses a folder whose path is taken, or whose parent is none.
+    // Refuses a folder whose path is taken, or whose parent is no folder.
     fn has_room_for(&self, path: &str) -> io::Result<()> {
         if self.kind(path).is_some() {
             return Err(io::Error::from(ErrorKind::AlreadyExists));

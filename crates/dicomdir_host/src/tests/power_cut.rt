@@ -19,7 +19,7 @@ pub(super) struct Entry {
     pub(super) is_named: bool,
 }
 
-// By hand, so that letting go of it is one call.
+// By hand, so that dropping it is one call.
 impl Drop for Entry {
     fn drop(self) {
         let Entry {

@@ -7,7 +7,7 @@ use Rattle.dd_report.proofs.checking.+findings.Given as goal
 
 abbrev pub invariant-check_trees-loop-tree : goal.invariant-check_trees-loop-tree
 invariant-check_trees-loop-tree g l = record {
-  told : Checks g.F.In.Read.has_given g.F.In.Read.remaining g.F.In.Read.failures
+  told : Checks g.F.In.Read.has_given g.F.In.Read.remaining g.F.In.Read.calls g.F.In.Read.failures
       (g.F.Files.held l.initial.files) l.folder (nodes_of (trees_view (take l.tree-index l.trees))) (Ok l.found)
       (g.F.Files.refusals l.initial.files) (g.F.Files.refusals l.files)
       (way l.initial.lines (g.W.Write.contents l.initial.to) (g.W.Write.failures l.initial.to))

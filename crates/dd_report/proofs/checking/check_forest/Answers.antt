@@ -7,7 +7,7 @@ use Rattle.dd_report.proofs.checking.check_forest.Goals as goal
 
 pub returns-then-found-clause-checks : goal.returns-then-found-clause-checks
 returns-then-found-clause-checks g c =
-    all_checked g.F.In.Read.has_given g.F.In.Read.remaining g.F.In.Read.failures
+    all_checked g.F.In.Read.has_given g.F.In.Read.remaining g.F.In.Read.calls g.F.In.Read.failures
     (g.F.Files.held c.args.files.now) c.args.folder.now c.args.forest.now c.deref.result.now
     c.in_ok-found.found (not (c.args.forest.now.unreached == 0)) c.in_ok-found.found
     (g.F.Files.refusals c.args.files.now) (g.F.Files.refusals c.check_trees.new.files) _ _ _ c.deref.ensures.value
@@ -15,7 +15,7 @@ returns-then-found-clause-checks g c =
 
 pub returns-else-found-clause-checks : goal.returns-else-found-clause-checks
 returns-else-found-clause-checks g c =
-    all_checked g.F.In.Read.has_given g.F.In.Read.remaining g.F.In.Read.failures
+    all_checked g.F.In.Read.has_given g.F.In.Read.remaining g.F.In.Read.calls g.F.In.Read.failures
     (g.F.Files.held c.args.files.now) c.args.folder.now c.args.forest.now c.deref.result.now
     c.in_ok-found.found (nat_lt 0 c.args.forest.now.unreached) _
     (g.F.Files.refusals c.args.files.now) (g.F.Files.refusals c.check_trees.new.files) _ _ _ c.deref.ensures.value
@@ -24,7 +24,7 @@ returns-else-found-clause-checks g c =
 
 pub returns-in-Err-clause-checks : goal.returns-in-Err-clause-checks
 returns-in-Err-clause-checks g c =
-    end_unsent g.F.In.Read.has_given g.F.In.Read.remaining g.F.In.Read.failures
+    end_unsent g.F.In.Read.has_given g.F.In.Read.remaining g.F.In.Read.calls g.F.In.Read.failures
     (g.F.Files.held c.args.files.now) c.args.folder.now
     c.args.forest.now c.deref.result.now c.in_ok-found.found (g.F.Files.refusals c.args.files.now)
     (g.F.Files.refusals c.check_trees.new.files)

@@ -7,7 +7,7 @@ use Rattle.dd_report.proofs.checking.check_record.Goals as goal
 
 pub returns-in_default-clause-checks : goal.returns-in_default-clause-checks
 returns-in_default-clause-checks g c =
-    record_cut g.F.In.Read.has_given g.F.In.Read.remaining g.F.In.Read.failures
+    record_cut g.F.In.Read.has_given g.F.In.Read.remaining g.F.In.Read.calls g.F.In.Read.failures
     (g.F.Files.held c.args.files.now) c.args.folder.now
     (tree_view c.args.tree.now).node (g.F.Files.refusals c.args.files.now) (g.F.Files.refusals c.finding_in.new.files)
     (way c.args.lines.now (g.W.Write.contents c.args.to.now) (g.W.Write.failures c.args.to.now))
@@ -15,7 +15,7 @@ returns-in_default-clause-checks g c =
 
 pub returns-in_default-finding-clause-checks : goal.returns-in_default-finding-clause-checks
 returns-in_default-finding-clause-checks g c =
-    record_quiet g.F.In.Read.has_given g.F.In.Read.remaining g.F.In.Read.failures
+    record_quiet g.F.In.Read.has_given g.F.In.Read.remaining g.F.In.Read.calls g.F.In.Read.failures
     (g.F.Files.held c.args.files.now) c.args.folder.now
     (tree_view c.args.tree.now).node (g.F.Files.refusals c.args.files.now) (g.F.Files.refusals c.finding_in.new.files)
     c.in-Ok.finding (way c.args.lines.now (g.W.Write.contents c.args.to.now) (g.W.Write.failures c.args.to.now))
@@ -23,7 +23,7 @@ returns-in_default-finding-clause-checks g c =
 
 pub returns-in-Ok-tell_finding-clause-checks : goal.returns-in-Ok-tell_finding-clause-checks
 returns-in-Ok-tell_finding-clause-checks g c =
-    record_told g.F.In.Read.has_given g.F.In.Read.remaining g.F.In.Read.failures
+    record_told g.F.In.Read.has_given g.F.In.Read.remaining g.F.In.Read.calls g.F.In.Read.failures
     (g.F.Files.held c.args.files.now) c.args.folder.now
     (tree_view c.args.tree.now).node (g.F.Files.refusals c.args.files.now) (g.F.Files.refusals c.finding_in.new.files)
     c.in-Some.finding c.in-Ok.finding
@@ -33,7 +33,7 @@ returns-in-Ok-tell_finding-clause-checks g c =
 
 pub returns-in-Err-clause-checks : goal.returns-in-Err-clause-checks
 returns-in-Err-clause-checks g c =
-    record_unsent g.F.In.Read.has_given g.F.In.Read.remaining g.F.In.Read.failures
+    record_unsent g.F.In.Read.has_given g.F.In.Read.remaining g.F.In.Read.calls g.F.In.Read.failures
     (g.F.Files.held c.args.files.now) c.args.folder.now
     (tree_view c.args.tree.now).node (g.F.Files.refusals c.args.files.now) (g.F.Files.refusals c.finding_in.new.files)
     c.in-Some.finding c.in-Ok.finding

@@ -14,9 +14,9 @@ returns-in-Ok-clause-found g c =
           let id = c.in-Some.ensures.some in
           inr (
             opened.worked refl,
-            read_found g.F.In.Read.has_given g.F.In.Read.remaining g.F.In.Read.failures
+            read_found g.F.In.Read.has_given g.F.In.Read.remaining g.F.In.Read.calls g.F.In.Read.failures
                 (g.F.Files.held c.args.files.now) c.args.folder.now _ _ c.in-Some.file.now by.given _
                 c.finding_of.result _ _ id.1 is c.as_str.ensures.value c.in_ok-path.ensures opened.left
-                opened.fresh.2 opened.fresh.1 by.gave by.known by.found,
+                opened.fresh.2 opened.fresh.0 opened.fresh.1 by.gave by.known by.reads by.found,
           );
     }
