@@ -17,7 +17,7 @@ length-put key keys values v (w ∷ m) =
     (λ e. rw e (omega arith))
     (λ e. rw e (omega (arith, rest)))
 
-length-best : {V K : Type 0} (key : V → K) (keys : K → K → Ordering) (values : V → V → Ordering) (s : List V)
+pub length-best : {V K : Type 0} (key : V → K) (keys : K → K → Ordering) (values : V → V → Ordering) (s : List V)
     → length (best key keys values s) ≤ length s
 length-best key keys values [] = omega arith
 length-best key keys values (v ∷ s) =

@@ -6,9 +6,11 @@ pub mod BestOfBests
 pub mod Cases
 pub mod Clashes
 pub mod Counted
+pub mod FreeMembers
 pub mod Gathering
 pub mod Harmonies
 pub mod Harmonised
+pub mod Held
 pub mod Images
 pub mod Members
 pub mod Merging
@@ -16,6 +18,7 @@ pub mod Places
 pub mod References
 pub mod Retold
 pub mod SameVersions
+pub mod TakenOut
 pub mod TakenParts
 pub mod TwoOwners
 pub mod Woven

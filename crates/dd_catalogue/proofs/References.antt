@@ -1,5 +1,6 @@
 -- Lists of references, seen as the values that they lend.
-use Rattle.std.specs.Prelude.{◌≡◌, ◌<◌, ◌≤◌, ℕ, List, [], ◌∷◌, Result, Ok, Err, length, get_or, set, map, true}
+use Rattle.std.specs.Prelude.{◌≡◌, ◌<◌, ◌≤◌, ℕ, Bool, true, List, [], ◌∷◌, Result, Ok, Err, filter, length, map}
+use Rattle.std.specs.Prelude.{get_or, set}
 use Rattle.std.specs.List.{AllWithin, HoldsAt, insert}
 use Rattle.std.specs.Ordering.{is_lt}
 use Rattle.std.specs.declared.cmp.Ordering.{Ordering}
@@ -10,6 +11,7 @@ use Rattle.std.proofs.lemmas.List as lists
 use Rattle.std.proofs.Math.ListN as seq
 use Rattle.dd_elem.specs.Ordered.{bytes_cmp}
 use Rattle.dd_catalogue.specs.Best.{IsAbove, IsRising, put}
+use Rattle.dd_catalogue.specs.Rising.{by_test}
 use Rattle.dd_catalogue.specs.Table.{IsPlace}
 use Rattle.dd_catalogue.proofs.Places.{put_replaces, put_between}
 
@@ -42,6 +44,14 @@ place_under now key k m (Err i) is = (
   (λ j e a b. let below : j < length m = subst (λ n. j < n) (length-map m now) b in let d = some_item m j below in
       subst (λ x. bytes_cmp (key x) k ≡ Greater) (sym (lists.get_or-map now m j d e below)) (is.2 j d a below)),
 )
+
+-- what is left of references is what is left of their values
+pub map_filter : {B V : Type 0} (now : B → V) (test : V → Bool) (m : List B)
+    → map now (filter (λ x. test (now x)) m) ≡ filter test (map now m)
+map_filter now test [] = refl
+map_filter now test (x ∷ m) = by_test (test (now x))
+    (λ e. rw e (ap (λ s. now x ∷ s) (map_filter now test m)))
+    (λ e. rw e (map_filter now test m))
 
 pub read_under : {B V : Type 0} (now : B → V) (m : List B) (i : ℕ) (x : B) → x ≡ get_or m i x
     → now x ≡ get_or (map now m) i (now x)

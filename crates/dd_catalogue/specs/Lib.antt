@@ -5,7 +5,10 @@ pub mod BestLaws
 pub mod CatalogueJoin
 pub mod Clash
 pub mod Compared
+pub mod Contents
 pub mod Equal
+pub mod Free
+pub mod FreeLaws
 pub mod Harmony
 pub mod Histories
 pub mod Joins

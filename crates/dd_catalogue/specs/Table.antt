@@ -18,3 +18,8 @@ IsPlace key k m (Err i) = (i ≤ length m) × AllWithin (λ w. bytes_cmp (key w)
 abbrev pub taken_by : {V : Type 0} → (V → V → Ordering) → V → Option V → Taken V
 taken_by values v None = Fresh
 taken_by values v (Some w) = if is_lt (values w v) then Displaced w else Returned v
+
+-- the place, whether the value is there or not
+abbrev pub found_place : Result ℕ ℕ → ℕ
+found_place (Ok i) = i
+found_place (Err i) = i

@@ -1,11 +1,14 @@
 -- What becomes of a version that a catalogue takes.
-use Rattle.std.specs.Prelude.{List, Option, Some, None, if◌then◌else◌}
+use Rattle.std.specs.Prelude.{ℕ, List, Option, Some, None, if◌then◌else◌}
 use Rattle.std.specs.Ordering.{is_lt}
 use Rattle.dd_keys.specs.Orders.{parts_cmp}
 use Rattle.dd_keys.specs.declared.parts.Parts.{Parts}
 use Rattle.dd_catalogue.specs.Versions.{kept}
+use Rattle.dd_catalogue.specs.Contents.{Contents, is_withdrawn}
 use Rattle.dd_catalogue.specs.declared.catalogue.Took.{Took}
-use Rattle.dd_catalogue.specs.declared.catalogue.Took.TheVariants.{New, Replaced, Kept}
+use Rattle.dd_catalogue.specs.declared.catalogue.Withdrew.{Withdrew}
+use Rattle.dd_catalogue.specs.declared.catalogue.Withdrew.TheVariants.{New as Fresh_withdrawal, Already}
+use Rattle.dd_catalogue.specs.declared.catalogue.Took.TheVariants.{New, Replaced, Kept, Withdrawn}
 use Rattle.dd_catalogue.specs.declared.table.Taken.{Taken}
 use Rattle.dd_catalogue.specs.declared.table.Taken.TheVariants.{Fresh, Displaced, Returned}
 
@@ -14,9 +17,17 @@ abbrev pub took_by : Parts → Option Parts → Took
 took_by version None = New
 took_by version (Some old) = if is_lt (parts_cmp old version) then Replaced old else Kept version
 
--- it is new, or replaces a smaller one, or the one that is there is kept
-abbrev pub took_of : List Parts → Parts → Took
-took_of m version = took_by version (kept m version.instance)
+-- its instance is withdrawn, or it is new, or replaces a smaller one, or the one that is there is kept
+abbrev pub took_of : Contents → Parts → Took
+took_of c version =
+    if is_withdrawn c.withdrawn version.instance
+    then Withdrawn version
+    else took_by version (kept c.versions version.instance)
+
+-- the UID is withdrawn already, or it is not and this version had it
+abbrev pub withdrew_of : Contents → List ℕ → Withdrew
+withdrew_of c uid =
+    if is_withdrawn c.withdrawn uid then Already else Fresh_withdrawal (kept c.versions uid)
 
 -- what became of a value of a table, said of a version
 abbrev pub as_took : Taken Parts → Took

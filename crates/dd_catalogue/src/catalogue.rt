@@ -1,17 +1,23 @@
 //! Catalogues of versions.
 
-ghost use Rattle.std.specs.Prelude.{◌≡◌, ◌≢◌, ◌==◌, ◌+◌, ◌≤◌, [], ◌∷◌, ◌++◌, length, map, option_copied};
-ghost use Rattle.std.specs.Prelude.{IsOk, IfOk, IfErr, OnOk, OnErr, IsSome};
+ghost use Rattle.std.specs.Prelude.{◌≡◌, ◌≢◌, ◌==◌, ◌≤◌, ◌+◌, ◌*◌, [], length, map, option_copied};
+ghost use Rattle.std.specs.Prelude.{IsOk, IfOk, IfErr, OnOk, OnErr, IsSome, IsTrue};
 ghost use Rattle.dd_catalogue.specs.Clash.{IsClash, clash};
 ghost use Rattle.dd_catalogue.specs.Harmony.{IsHarmonised, harmonised};
 ghost use Rattle.dd_catalogue.specs.Versions.{IsCatalogue, best_of, compared_of, kept};
-ghost use Rattle.dd_catalogue.specs.Taking.{as_took, took_of};
+ghost use Rattle.dd_catalogue.specs.Best.{IsRising};
+ghost use Rattle.dd_catalogue.specs.Contents.{IsHeld, all_of, and_version, and_withdrawn, held_of};
+ghost use Rattle.dd_catalogue.specs.Contents.{is_withdrawn, nothing};
+ghost use Rattle.dd_catalogue.specs.Equal.{are_same_uids};
+ghost use Rattle.dd_catalogue.specs.Taking.{as_took, took_of, withdrew_of};
+ghost use Rattle.dd_elem.specs.Ordered.{bytes_cmp};
 
 use crate::conflicts::first_clash;
 use crate::harmony::in_harmony;
 use crate::join::Join;
-use crate::lent::{Keyed, lent};
-use crate::table::{Copied, Table, Taken};
+use crate::lent::lent;
+use crate::sifting::sift_lent;
+use crate::table::{Table, Taken};
 use dd_elem::{Memory, Uid};
 use dd_keys::Version;
 use std::alloc::Global;
@@ -27,6 +33,17 @@ pub enum Took {
     Replaced(Version),
     /// It is no greater than the one that is there: handed back.
     Kept(Version),
+    /// Its instance is withdrawn: handed back.
+    Withdrawn(Version),
+}
+
+/// What became of an instance that was withdrawn.
+#[derive(Debug, Drop)]
+pub enum Withdrew {
+    /// It was not withdrawn before. This version of it was kept until now.
+    New(Option<Version>),
+    /// It was withdrawn before.
+    Already,
 }
 
 /// Want of memory: a growth was refused.
@@ -37,116 +54,151 @@ pub struct Refused {
     pub back: Version,
 }
 
-/// A catalogue of image instances: of each SOP Instance UID (PS3.3 section C.12.1) that it has taken,
-/// the greatest version.
+/// A catalogue of image instances: of each SOP Instance UID (PS3.3 section C.12.1) that it has taken
+/// and that is not withdrawn, the greatest version, and the UIDs that are withdrawn.
 #[derive(Debug)]
 pub struct Catalogue {
     table: Table<Version>,
+    withdrawn: Table<Uid>,
 }
 
 impl Model for Catalogue {
-    ghost use Rattle.std.specs.Prelude.{List};
-    ghost use Rattle.dd_keys.specs.declared.parts.Parts.{Parts};
+    ghost use Rattle.std.specs.Prelude.{◌≡◌};
+    ghost use Rattle.dd_catalogue.specs.Contents.{Contents, left_of};
 
-    ghost Value = { List Parts };
+    ghost Value = { Contents };
 
-    ghost view = { λ catalogue. catalogue.table };
+    ghost view = { λ catalogue. record { versions = catalogue.table; withdrawn = catalogue.withdrawn } };
+
+    ghost invariant = { λ catalogue. left_of catalogue.table catalogue.withdrawn ≡ catalogue.table };
 }
 
-// By hand, so that letting go of a catalogue is one call.
+// By hand, so that dropping a catalogue is one call.
 impl Drop for Catalogue {
     fn drop(self) {
-        let Catalogue { table: _table } = self;
-    }
-}
-
-/// A version has its SOP Instance UID as key.
-impl Keyed for Version {
-    ghost use Rattle.dd_catalogue.specs.Versions.{instance_of};
-
-    ghost key_of = { instance_of };
-
-    fn key(&self) -> &[u8] {
-        self.parts().instance.as_bytes()
-    }
-}
-
-impl Copied for Version {
-    fn copied(&self) -> Result<Version, Memory> {
-        self.copy()
+        let Catalogue {
+            table: _table,
+            withdrawn: _withdrawn,
+        } = self;
     }
 }
 
 impl Catalogue {
-    /// The catalogue that has taken no version.
+    /// The catalogue that has taken no version and withdrawn nothing.
     pub fn new(alloc: Global) -> Catalogue
-        ensures { result ≡ [] }
+        ensures { result ≡ nothing }
     {
         Catalogue {
             table: Table::new(alloc),
+            withdrawn: Table::new(alloc),
         }
     }
 
-    /// The best of these versions.
-    pub(crate) fn of(alloc: Global, versions: Vec<&Version>) -> Result<Catalogue, Memory>
-        ensures { IfOk result (λ catalogue. catalogue ≡ best_of (map (λ version. version.now) versions.entry.items)) }
+    /// The best of these versions, without those that are withdrawn. Each that is kept is copied once.
+    pub(crate) fn of(
+        alloc: Global,
+        mut versions: Vec<&Version>,
+        withdrawn: Vec<&Uid>,
+    ) -> Result<Catalogue, Memory>
+        ensures { IfOk result (λ catalogue. catalogue ≡ held_of (record {
+          versions = map (λ version. version.now) versions.entry.items;
+          withdrawn = map (λ uid. uid.now) withdrawn.entry.items;
+        })) }
     {
-        Ok(Catalogue {
-            table: Table::of(alloc, versions)?,
-        })
+        let withdrawn = Table::of(alloc, withdrawn)?;
+        sift_lent(&mut versions, &withdrawn);
+        let table = Table::of(alloc, versions)?;
+        Ok(Catalogue { table, withdrawn })
     }
 
-    /// The best of these versions: they are sorted once, and each that is kept is copied once. Memory
-    /// where a growth was refused: never where there are no versions.
+    /// The best of these versions, with nothing withdrawn: they are sorted once, and each that is kept is
+    /// copied once. Memory where a growth was refused: never where there are no versions.
+    #[tactic(auto, using(crate::proofs::Held::left_of_none))]
     pub fn from_versions(alloc: Global, versions: &[Version]) -> Result<Catalogue, Memory>
-        ensures best { IfOk result (λ catalogue. catalogue ≡ best_of versions.now) }
+        ensures best { IfOk result (λ catalogue. catalogue.versions ≡ best_of versions.now) }
+        ensures withdrawn { IfOk result (λ catalogue. catalogue.withdrawn ≡ []) }
         ensures some { OnErr result (versions.now ≢ []) }
     {
         if versions.is_empty() {
             return Ok(Catalogue::new(alloc));
         }
-        Catalogue::of(alloc, lent(alloc, versions)?)
+        Ok(Catalogue {
+            table: Table::of(alloc, lent(alloc, versions)?)?,
+            withdrawn: Table::new(alloc),
+        })
     }
 
     /// How many instances it holds.
     pub fn len(&self) -> usize
-        ensures { result ≡ length self.now }
+        ensures { result ≡ length self.now.versions }
     {
         self.table.values().len()
     }
 
     /// Does it hold no instance?
     pub fn is_empty(&self) -> bool
-        ensures { result ≡ (length self.now == 0) }
+        ensures { result ≡ (length self.now.versions == 0) }
     {
         self.len() == 0
     }
 
     /// The version that it keeps of this instance.
     pub fn get(&self, instance: &Uid) -> Option<&Version>
-        ensures { option_copied result ≡ kept self.now instance.now }
+        ensures { option_copied result ≡ kept self.now.versions instance.now }
     {
         self.table.get(instance.as_bytes())
     }
 
     /// The versions that it keeps, rising by SOP Instance UID.
     pub fn versions(&self) -> &[Version]
-        ensures all { result.now ≡ self.now }
-        ensures rising { IsCatalogue self.now }
+        ensures all { result.now ≡ self.now.versions }
+        ensures rising { IsCatalogue self.now.versions }
+        ensures held { IsHeld self.now }
     {
+        self.known();
         self.table.values()
     }
 
-    /// Takes a version. It is kept where none of its instance is there, or one that is smaller, which
-    /// is handed back; else it is handed back itself. Refused where a growth was: the version is
-    /// handed back and nothing has changed. No memory is taken where the instance is held.
+    /// The SOP Instance UIDs that are withdrawn, rising.
+    pub fn withdrawn(&self) -> &[Uid]
+        ensures all { result.now ≡ self.now.withdrawn }
+        ensures rising { IsRising (λ uid. uid) bytes_cmp self.now.withdrawn }
+    {
+        self.withdrawn.values()
+    }
+
+    /// What is known of every catalogue.
+    fn known(&self)
+        ensures { IsHeld self.now }
+    {
+        self.table.values();
+        self.withdrawn.values();
+    }
+
+    /// Is the instance withdrawn?
+    fn has_withdrawn(&self, instance: &Uid) -> bool
+        ensures withdrawn { result ≡ is_withdrawn self.now.withdrawn instance.now }
+        ensures held { IsHeld self.now }
+    {
+        self.known();
+        self.withdrawn.has(instance.as_bytes())
+    }
+
+    /// Takes a version. It is kept where its instance is not withdrawn and none of its instance is there,
+    /// or one that is smaller, which is handed back; else it is handed back itself. Refused where a growth
+    /// was: the version is handed back and nothing has changed. No memory is taken where the instance is
+    /// held or withdrawn.
     pub fn take(&mut self, version: Version) -> Result<Took, Refused>
-        ensures ok { OnOk result (self.new ≡ best_of (version ∷ self.old)) }
+        ensures ok { OnOk result (self.new ≡ held_of (and_version version self.old)) }
         ensures took { IfOk result (λ took. took ≡ took_of self.old version) }
         ensures err { OnErr result (self.new ≡ self.old) }
         ensures back { IfErr result (λ refused. refused.back ≡ version) }
-        ensures held { IsSome (kept self.old version.instance) → IsOk result }
+        ensures held { IsSome (kept self.old.versions version.instance) → IsOk result }
+        ensures withdrawn { IsTrue (is_withdrawn self.old.withdrawn version.instance) → IsOk result }
     {
+        if self.has_withdrawn(&version.parts().instance) {
+            return Ok(Took::Withdrawn(version));
+        }
         let taken = match self.table.take(version) {
             Ok(taken) => taken,
             Err(back) => return Err(Refused { back }),
@@ -154,30 +206,84 @@ impl Catalogue {
         Ok(told(taken))
     }
 
-    /// Takes copies of all versions of the other catalogue, in one walk through both. Memory where a
-    /// growth was refused; then nothing has changed. No memory is taken where the other catalogue is
-    /// empty.
-    pub fn merge(&mut self, other: &Catalogue) -> Result<(), Memory>
-        ensures ok { OnOk result (self.new ≡ best_of (self.old ++ other.now)) }
+    /// Withdraws an instance: no version of it is kept from now on, whatever is taken or merged. Memory
+    /// where a growth was refused; then nothing has changed. No memory is taken where it is withdrawn
+    /// already.
+    pub fn withdraw(&mut self, instance: Uid) -> Result<Withdrew, Memory>
+        ensures ok { OnOk result (self.new ≡ held_of (and_withdrawn instance self.old)) }
+        ensures withdrew { IfOk result (λ withdrew. withdrew ≡ withdrew_of self.old instance) }
         ensures err { OnErr result (self.new ≡ self.old) }
-        ensures empty { other.now ≡ [] → IsOk result }
-        ensures catalogues { IsCatalogue self.old × IsCatalogue other.now }
+        ensures already { IsTrue (is_withdrawn self.old.withdrawn instance) → IsOk result }
+    {
+        if self.has_withdrawn(&instance) {
+            return Ok(Withdrew::Already);
+        }
+        if self.withdrawn.take(instance).is_err() {
+            return Err(Memory);
+        }
+        Ok(Withdrew::New(self.table.remove(instance.as_bytes())))
+    }
+
+    /// Takes copies of all versions of the other catalogue, in one walk through both, and withdraws what
+    /// it has withdrawn. Memory where a growth was refused; then nothing has changed. No memory is taken
+    /// where the other catalogue has no version and has withdrawn nothing.
+    pub fn merge(&mut self, other: &Catalogue) -> Result<(), Memory>
+        ensures ok { OnOk result (self.new ≡ held_of (all_of self.old other.now)) }
+        ensures err { OnErr result (self.new ≡ self.old) }
+        ensures empty { other.now ≡ nothing → IsOk result }
+        ensures catalogues { IsHeld self.old × IsHeld other.now }
     {
         self.merge_counted(other)?;
         Ok(())
     }
 
-    /// The same as `merge`. Answers how many pairs of SOP Instance UIDs were compared: one for each UID
-    /// of either catalogue that is at most the greatest of each, so no more than both hold together.
+    /// The same as `merge`. Answers how many pairs of SOP Instance UIDs were compared. Where nothing is
+    /// withdrawn that is one for each UID of either catalogue that is at most the greatest of each, so no
+    /// more than both hold together; else at most twice as many as all versions and withdrawn UIDs of both.
     pub fn merge_counted(&mut self, other: &Catalogue) -> Result<u64, Memory>
-        ensures ok { OnOk result (self.new ≡ best_of (self.old ++ other.now)) }
-        ensures count { IfOk result (λ count. count ≡ compared_of self.old other.now) }
-        ensures few { IfOk result (λ count. count ≤ length self.old + length other.now) }
+        ensures ok { OnOk result (self.new ≡ held_of (all_of self.old other.now)) }
+        ensures count { self.old.withdrawn ≡ [] → other.now.withdrawn ≡ []
+            → IfOk result (λ count. count ≡ compared_of self.old.versions other.now.versions) }
+        ensures few { self.old.withdrawn ≡ [] → other.now.withdrawn ≡ []
+            → IfOk result (λ count. count ≤ length self.old.versions + length other.now.versions) }
+        ensures twice { IfOk result (λ count. count ≤ 2 * (length self.old.versions + length other.now.versions
+            + (length self.old.withdrawn + length other.now.withdrawn))) }
         ensures err { OnErr result (self.new ≡ self.old) }
-        ensures empty { other.now ≡ [] → IsOk result }
-        ensures catalogues { IsCatalogue self.old × IsCatalogue other.now }
+        ensures empty { other.now ≡ nothing → IsOk result }
+        ensures catalogues { IsHeld self.old × IsHeld other.now }
     {
-        self.table.merge(&other.table)
+        self.known();
+        other.known();
+        if other.withdrawn.values().is_empty() {
+            return self.merge_versions(other);
+        }
+        let mut withdrawn = self.withdrawn.copy()?;
+        let sets = withdrawn.merge(&other.withdrawn)?;
+        let maps = self.table.merge(&other.table)?;
+        let sifted = self.table.sift(withdrawn.values());
+        self.withdrawn = withdrawn;
+        Ok(sets.saturating_add(maps).saturating_add(sifted))
+    }
+
+    /// The same, where the other catalogue has withdrawn nothing.
+    fn merge_versions(&mut self, other: &Catalogue) -> Result<u64, Memory>
+        requires { other.now.withdrawn ≡ [] }
+        ensures ok { OnOk result (self.new ≡ held_of (all_of self.old other.now)) }
+        ensures count { self.old.withdrawn ≡ []
+            → IfOk result (λ count. count ≡ compared_of self.old.versions other.now.versions) }
+        ensures few { self.old.withdrawn ≡ []
+            → IfOk result (λ count. count ≤ length self.old.versions + length other.now.versions) }
+        ensures twice { IfOk result (λ count. count ≤ 2 * (length self.old.versions + length other.now.versions
+            + length self.old.withdrawn)) }
+        ensures err { OnErr result (self.new ≡ self.old) }
+        ensures empty { other.now ≡ nothing → IsOk result }
+        ensures catalogues { IsHeld self.old × IsHeld other.now }
+    {
+        self.known();
+        other.known();
+        let maps = self.table.merge(&other.table)?;
+        let sifted = self.table.sift(self.withdrawn.values());
+        Ok(maps.saturating_add(sifted))
     }
 
     /// The least instance that conflicts with a greater one, and the least greater one with which it
@@ -185,37 +291,38 @@ impl Catalogue {
     /// series and different studies. Memory where a growth was refused, and never where the catalogue
     /// is empty.
     pub fn conflict(&self) -> Result<Option<(Uid, Uid)>, Memory>
-        ensures first { IfOk result (λ pair. IsClash self.now pair) }
-        ensures pair { IfOk result (λ pair. pair ≡ clash self.now) }
-        ensures some { OnErr result (self.now ≢ []) }
+        ensures first { IfOk result (λ pair. IsClash self.now.versions pair) }
+        ensures pair { IfOk result (λ pair. pair ≡ clash self.now.versions) }
+        ensures some { OnErr result (self.now.versions ≢ []) }
     {
         first_clash(self.table.allocator(), self.versions())
     }
 
     /// The same instances, each with the greatest keys of its patient, its study and its series among
-    /// all versions here. The keys of a patient, a study or a series are taken whole. Memory where a
-    /// growth was refused, and never where the catalogue is empty.
+    /// all versions here. The keys of a patient, a study or a series are taken whole. What is withdrawn
+    /// stays withdrawn. Memory where a growth was refused, and never where the catalogue has no version and
+    /// has withdrawn nothing.
     pub fn harmonise(&self) -> Result<Catalogue, Memory>
-        ensures agreed { IfOk result (λ catalogue. IsHarmonised self.now catalogue) }
-        ensures whole { IfOk result (λ catalogue. catalogue ≡ harmonised self.now) }
-        ensures some { OnErr result (self.now ≢ []) }
+        ensures agreed { IfOk result (λ catalogue. IsHarmonised self.now.versions catalogue.versions) }
+        ensures whole { IfOk result (λ catalogue. catalogue.versions ≡ harmonised self.now.versions) }
+        ensures withdrawn { IfOk result (λ catalogue. catalogue.withdrawn ≡ self.now.withdrawn) }
+        ensures some { OnErr result (self.now ≢ nothing) }
     {
         let alloc = self.table.allocator();
-        Ok(Catalogue {
-            table: in_harmony(alloc, self.versions())?,
-        })
+        let table = in_harmony(alloc, self.versions())?;
+        let withdrawn = self.withdrawn.copy()?;
+        Ok(Catalogue { table, withdrawn })
     }
 
-    /// An equal catalogue. Memory where a growth was refused, and never where the catalogue is empty.
+    /// An equal catalogue. Memory where a growth was refused, and never where the catalogue has no version
+    /// and has withdrawn nothing.
     pub fn copy(&self) -> Result<Catalogue, Memory>
         ensures same { IfOk result (λ catalogue. catalogue ≡ self.now) }
-        ensures some { OnErr result (self.now ≢ []) }
+        ensures some { OnErr result (self.now ≢ nothing) }
     {
-        if self.is_empty() {
-            return Ok(Catalogue::new(self.table.allocator()));
-        }
         Ok(Catalogue {
             table: self.table.copy()?,
+            withdrawn: self.withdrawn.copy()?,
         })
     }
 }
@@ -231,33 +338,37 @@ fn told(taken: Taken<Version>) -> Took
     }
 }
 
-/// Catalogues are equal where their versions are.
+/// Catalogues are equal where their versions are, and what they have withdrawn.
 impl PartialEq for Catalogue {
-    ghost use Rattle.std.specs.Cmp.{partial_equiv_from_equiv};
-    ghost use Rattle.std.specs.Cmp.Lexicographic.{lists_per};
-    ghost use Rattle.std.proofs.lemmas.Cmp.{eq_by_cmp_equiv};
-    ghost use Rattle.dd_keys.specs.Orders.{parts_total};
-    ghost use Rattle.dd_catalogue.specs.Equal.{is_same};
+    ghost use Rattle.dd_catalogue.specs.Equal.{holds_same, holds_same_per};
 
-    ghost eq = { is_same };
+    ghost eq = { holds_same };
 
-    ghost laws = { lists_per (partial_equiv_from_equiv (eq_by_cmp_equiv parts_total)) };
+    ghost laws = { holds_same_per };
 
     fn eq(&self, other: &Catalogue) -> bool {
-        self.versions() == other.versions()
+        self.versions() == other.versions() && are_same(self.withdrawn(), other.withdrawn())
     }
 }
 
-/// The join of two catalogues is the best of both. It takes memory where the other is not empty.
-impl Join for Catalogue {
-    ghost use Rattle.dd_catalogue.specs.Versions.{IsCatalogue};
-    ghost use Rattle.dd_catalogue.specs.CatalogueJoin.{BringsVersions, both, catalogue_laws};
+/// Are these the same UIDs?
+fn are_same(one: &[Uid], other: &[Uid]) -> bool
+    ensures { result ≡ are_same_uids one.now other.now }
+{
+    one == other
+}
 
-    ghost is_value = { IsCatalogue };
+/// The join of two catalogues is the best of both that neither has withdrawn, and what either has
+/// withdrawn. It takes memory where the other has a version or has withdrawn a UID.
+impl Join for Catalogue {
+    ghost use Rattle.dd_catalogue.specs.Contents.{IsHeld};
+    ghost use Rattle.dd_catalogue.specs.CatalogueJoin.{BringsSome, both, catalogue_laws};
+
+    ghost is_value = { IsHeld };
 
     ghost joined = { both };
 
-    ghost takes_memory = { BringsVersions };
+    ghost takes_memory = { BringsSome };
 
     fn join(&mut self, other: &Catalogue) -> Result<(), Memory> {
         self.merge(other)

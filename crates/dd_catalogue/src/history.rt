@@ -1,13 +1,12 @@
 //! What a catalogue has taken, and the catalogue that this gives.
 
-ghost use Rattle.std.specs.Prelude.{◌≡◌, ◌≢◌, [], ◌++◌, map, IfOk, OnOk, OnErr};
-ghost use Rattle.dd_catalogue.specs.Best.{SameMembers};
+ghost use Rattle.std.specs.Prelude.{◌≡◌, ◌≢◌, ◌++◌, map, IfOk, OnOk, OnErr};
+ghost use Rattle.dd_catalogue.specs.Contents.{SameContents, held_of, nothing};
 ghost use Rattle.dd_catalogue.specs.Histories.{taken};
-ghost use Rattle.dd_catalogue.specs.Versions.{best_of};
 ghost use Rattle.dd_catalogue.specs.declared.history.History.{History};
 
 use crate::catalogue::Catalogue;
-use dd_elem::Memory;
+use dd_elem::{Memory, Uid};
 use dd_keys::Version;
 use std::alloc::Global;
 
@@ -16,31 +15,41 @@ use std::alloc::Global;
 pub enum History {
     /// It took these versions.
     Batch(Vec<Version>),
+    /// It withdrew these instances.
+    Withdraw(Vec<Uid>),
     /// It is the join of what these gave.
     Merge(Vec<History>),
 }
 
-/// The catalogue that a history gives: the best of all versions that were taken in it. They are sorted
-/// once, however the history nests, and each that is kept is copied once. Memory where a growth was
-/// refused, and never where no version was taken.
+/// The catalogue that a history gives: the best of all versions that were taken in it and whose
+/// instances were not withdrawn in it, and what was withdrawn. They are sorted once, however the history
+/// nests, and each version that is kept is copied once. Memory where a growth was refused, and never where
+/// nothing was taken or withdrawn.
 pub fn build(alloc: Global, history: &History) -> Result<Catalogue, Memory>
-    ensures best { IfOk result (λ catalogue. catalogue ≡ best_of (taken history.now)) }
-    ensures some { OnErr result (taken history.now ≢ []) }
+    ensures best { IfOk result (λ catalogue. catalogue ≡ held_of (taken history.now)) }
+    ensures some { OnErr result (taken history.now ≢ nothing) }
 {
     let mut versions = Vec::new(alloc);
-    collect(history, &mut versions)?;
-    if versions.is_empty() {
+    let mut withdrawn = Vec::new(alloc);
+    collect(history, &mut versions, &mut withdrawn)?;
+    if versions.is_empty() && withdrawn.is_empty() {
         return Ok(Catalogue::new(alloc));
     }
-    Catalogue::of(alloc, versions)
+    Catalogue::of(alloc, versions, withdrawn)
 }
 
-/// Adds a reference to each version that was taken. Memory where a growth was refused, and never where no
-/// version was taken.
-fn collect<'a>(history: &'a History, versions: &mut Vec<&'a Version>) -> Result<(), Memory>
-    ensures all { OnOk result (map (λ version. version.now) versions.new.items
-        ≡ map (λ version. version.now) versions.old.items ++ taken history.now) }
-    ensures some { OnErr result (taken history.now ≢ []) }
+/// Adds a reference to each version that was taken, and to each UID that was withdrawn. Memory where a
+/// growth was refused, and never where nothing was taken or withdrawn.
+fn collect<'a>(
+    history: &'a History,
+    versions: &mut Vec<&'a Version>,
+    withdrawn: &mut Vec<&'a Uid>,
+) -> Result<(), Memory>
+    ensures versions { OnOk result (map (λ version. version.now) versions.new.items
+        ≡ map (λ version. version.now) versions.old.items ++ (taken history.now).versions) }
+    ensures withdrawn { OnOk result (map (λ uid. uid.now) withdrawn.new.items
+        ≡ map (λ uid. uid.now) withdrawn.old.items ++ (taken history.now).withdrawn) }
+    ensures some { OnErr result (taken history.now ≢ nothing) }
 {
     match history {
         History::Batch(batch) => {
@@ -48,17 +57,22 @@ fn collect<'a>(history: &'a History, versions: &mut Vec<&'a Version>) -> Result<
                 versions.push(version)?;
             }
         }
+        History::Withdraw(uids) => {
+            for uid in uids {
+                withdrawn.push(uid)?;
+            }
+        }
         History::Merge(parts) => {
             for part in parts {
-                collect(part, versions)?;
+                collect(part, versions, withdrawn)?;
             }
         }
     }
     Ok(())
 }
 
-/// Histories in which the same versions were taken, in any order, with repeats and through any merges,
-/// give equal catalogues.
+/// Histories in which the same versions were taken and the same instances withdrawn, in any order, with
+/// repeats and through any merges, give equal catalogues.
 pub fn build_order_is_free()
-    ensures { (h g : History) → SameMembers (taken h) (taken g) → best_of (taken h) ≡ best_of (taken g) }
+    ensures { (h g : History) → SameContents (taken h) (taken g) → held_of (taken h) ≡ held_of (taken g) }
 {}

@@ -1,10 +1,11 @@
 //! What holds of every set of versions, whatever the order in which they arrive.
 
-ghost use Rattle.std.specs.Prelude.{◌≡◌, ◌↔◌, ◌++◌, ℕ, List, Option, Decides, true};
+ghost use Rattle.std.specs.Prelude.{◌≡◌, ◌↔◌, [], ◌++◌, ℕ, List, Option, Contains, Decides, true};
 ghost use Rattle.dd_keys.specs.declared.parts.Parts.{Parts};
 ghost use Rattle.dd_catalogue.specs.Best.{SameMembers};
 ghost use Rattle.dd_catalogue.specs.Clash.{Conflict, IsClash, clash, conflicts};
-ghost use Rattle.dd_catalogue.specs.Equal.{is_same};
+ghost use Rattle.dd_catalogue.specs.Contents.{Contents, IsHeld, is_withdrawn, kept_of, left_of};
+ghost use Rattle.dd_catalogue.specs.Equal.{holds_same};
 ghost use Rattle.dd_catalogue.specs.Harmony.{IsHarmonised, harmonised};
 ghost use Rattle.dd_catalogue.specs.Versions.{IsBestOf, IsCatalogue, best_of};
 
@@ -21,6 +22,38 @@ pub fn best_is_one()
 /// The best of all versions in two bests is the best of both sets together.
 pub fn best_of_bests()
     ensures { (s t : List Parts) → best_of (best_of s ++ best_of t) ≡ best_of (s ++ t) }
+{}
+
+/// A UID is withdrawn exactly where it is one of those that are.
+pub fn withdrawn_decides()
+    ensures { (w : List (List ℕ)) (uid : List ℕ) → Decides (is_withdrawn w uid) (Contains w uid) }
+{}
+
+/// What is kept is the best of the versions that are left.
+pub fn kept_is_best_of_left()
+    ensures { (s : List Parts) (w : List (List ℕ)) → IsBestOf (left_of s w) (kept_of s w) }
+{}
+
+/// Where nothing is withdrawn, what is kept is the best of all versions.
+pub fn kept_of_all()
+    ensures { (s : List Parts) → kept_of s [] ≡ best_of s }
+{}
+
+/// What is kept of what two sets keep is what is kept of both.
+pub fn kept_of_kept()
+    ensures { (s t : List Parts) (w u : List (List ℕ))
+        → kept_of (kept_of s w ++ kept_of t u) (w ++ u) ≡ kept_of (s ++ t) (w ++ u) }
+{}
+
+/// Neither the order of versions nor that of withdrawals changes what is kept, nor do repeats.
+pub fn kept_order_is_free()
+    ensures { (s t : List Parts) (w u : List (List ℕ)) → SameMembers s t → SameMembers w u
+        → kept_of s w ≡ kept_of t u }
+{}
+
+/// No version of a catalogue is withdrawn.
+pub fn held_is_apart()
+    ensures { (c : Contents) (v : Parts) → IsHeld c → Contains c.versions v → ¬ Contains c.withdrawn v.instance }
 {}
 
 /// Two versions conflict exactly where the test of it holds.
@@ -52,5 +85,5 @@ pub fn harmonised_is_one()
 
 /// Catalogues are equal by `==` exactly where they are the same.
 pub fn equal_is_same()
-    ensures { (m n : List Parts) → (is_same m n ≡ true) ↔ (m ≡ n) }
+    ensures { (c d : Contents) → (holds_same c d ≡ true) ↔ (c ≡ d) }
 {}

@@ -1,8 +1,9 @@
 //! The catalogue of image instances: of each SOP Instance UID (PS3.3 section C.12.1) the greatest
-//! version that was taken.
+//! version that was taken, and the UIDs whose instances are withdrawn, of which no version is kept.
 //!
-//! Its one promise: a catalogue is the best of the set of all versions taken, so that neither the order
-//! of arrival nor repeats nor merges change it.
+//! Its one promise: a catalogue is the best of the set of all versions taken whose instances are not
+//! withdrawn, with the set of all withdrawn UIDs, so that neither the order of arrival nor repeats nor
+//! merges change it.
 #![tactic(auto)]
 
 mod catalogue;
@@ -14,11 +15,13 @@ mod join;
 mod laws;
 mod lent;
 mod owners;
+mod sifting;
 mod table;
 mod tuples;
+mod values;
 mod weaving;
 
-pub use catalogue::{Catalogue, Refused, Took};
+pub use catalogue::{Catalogue, Refused, Took, Withdrew};
 pub use harmony_laws::{
     catalogue_agrees_with_itself, harmony_again_is_same, harmony_is_not_less, harmony_keeps_clash,
     harmony_keeps_images, merged_harmonies_are_merged_sets,
@@ -27,5 +30,6 @@ pub use history::{History, build, build_order_is_free};
 pub use join::{Join, gather, gather_order_is_free, join_is_lawful, join_order_is_free};
 pub use laws::{
     best_is_best, best_is_one, best_of_bests, clash_is_clash, clash_is_one, conflicts_decides,
-    equal_is_same, harmonised_is_harmonised, harmonised_is_one,
+    equal_is_same, harmonised_is_harmonised, harmonised_is_one, held_is_apart,
+    kept_is_best_of_left, kept_of_all, kept_of_kept, kept_order_is_free, withdrawn_decides,
 };

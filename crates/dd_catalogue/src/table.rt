@@ -1,17 +1,19 @@
 //! Tables: of each key the greatest value.
 
-ghost use Rattle.std.specs.Prelude.{◌≡◌, ◌<◌, ◌≤◌, ◌+◌, [], ◌∷◌, List, length, option_copied, map, ◌++◌, IsOk, IfOk, IfErr};
-ghost use Rattle.std.specs.Prelude.{OnOk, OnErr, IsSome};
+ghost use Rattle.std.specs.Prelude.{◌≡◌, ◌≢◌, ◌<◌, ◌≤◌, ◌+◌, [], ◌∷◌, List, is_some, length, option_copied, map, ◌++◌};
+ghost use Rattle.std.specs.Prelude.{IsOk, IfOk, IfErr, OnOk, OnErr, IsSome};
 ghost use Rattle.std.specs.List.{HoldsAt, AllWithin};
 ghost use Rattle.std.specs.declared.cmp.Ordering.TheVariants.{Less, Equal, Greater};
 ghost use Rattle.dd_elem.specs.Ordered.{bytes_cmp};
 ghost use Rattle.dd_catalogue.specs.Best.{IsRising, at, best, put};
 ghost use Rattle.dd_catalogue.specs.Compared.{compared};
+ghost use Rattle.dd_catalogue.specs.Free.{free};
 ghost use Rattle.dd_catalogue.specs.Table.{IsPlace, taken_by};
 
 use crate::lent::{Greatest, Keyed};
+use crate::sifting::sift;
 use crate::weaving::weave;
-use dd_elem::Memory;
+use dd_elem::{Memory, Uid};
 use std::alloc::Global;
 use std::cmp::Ordering;
 use std::marker::Model;
@@ -89,14 +91,43 @@ impl<T: Keyed + Copied + Drop> Table<T> {
         }
     }
 
+    /// Is there a value with this key?
+    pub(crate) fn has(&self, key: &[u8]) -> bool
+        ensures { result ≡ is_some (at T.key_of bytes_cmp self.now key.now) }
+    {
+        self.place(key).is_ok()
+    }
+
+    /// Takes out the value with this key.
+    pub(crate) fn remove(&mut self, key: &[u8]) -> Option<T>
+        ensures after { self.new ≡ free T.key_of bytes_cmp (key.now ∷ []) self.old }
+        ensures value { result ≡ at T.key_of bytes_cmp self.old key.now }
+    {
+        match self.place(key) {
+            Ok(place) => Some(self.held.remove(place)),
+            Err(_) => None,
+        }
+    }
+
+    /// Takes out the values with these keys, which rise. Answers how many pairs of keys were compared.
+    pub(crate) fn sift(&mut self, keys: &[Uid]) -> u64
+        requires { IsRising (λ uid. uid) bytes_cmp keys.now }
+        ensures after { self.new ≡ free T.key_of bytes_cmp keys.now self.old }
+        ensures few { result ≤ length self.old + length keys.now }
+        ensures none { keys.now ≡ [] → result ≡ 0 }
+    {
+        sift(&mut self.held, keys)
+    }
+
     /// What the table takes its memory from.
     pub(crate) fn allocator(&self) -> Global {
         *self.held.allocator()
     }
 
-    /// An equal table.
+    /// An equal table. Memory where a growth was refused: never where it is empty.
     pub(crate) fn copy(&self) -> Result<Table<T>, Memory>
-        ensures { IfOk result (λ table. table ≡ self.now) }
+        ensures equal { IfOk result (λ table. table ≡ self.now) }
+        ensures some { OnErr result (self.now ≢ []) }
     {
         Ok(Table {
             held: copies(self.allocator(), self.values())?,
@@ -213,10 +244,14 @@ impl<T: Keyed + Copied + Drop> Table<T> {
     }
 }
 
-/// Copies of these values.
+/// Copies of these values. Memory where a growth was refused: never where there are none.
 fn copies<T: Copied + Drop>(alloc: Global, values: &[T]) -> Result<Vec<T>, Memory>
-    ensures { IfOk result (λ copies. copies.items ≡ values.now) }
+    ensures equal { IfOk result (λ copies. copies.items ≡ values.now) }
+    ensures some { OnErr result (values.now ≢ []) }
 {
+    if values.is_empty() {
+        return Ok(Vec::new(alloc));
+    }
     let mut copies = Vec::with_capacity(alloc, values.len())?;
     for value in values {
         copies.push(value.copied()?)?;

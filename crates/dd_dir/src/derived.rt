@@ -24,10 +24,10 @@ pub fn derived_uid(
     id: &SetId,
     limits: Limits,
 ) -> Result<Uid, PlanFault>
-    ensures uid { IfOk result (λ uid. uid ≡ derived id.now catalogue.now) }
-    ensures allowed { IsOk result → refusal (unnamed_label id.now) limits catalogue.now ≡ None }
+    ensures uid { IfOk result (λ uid. uid ≡ derived id.now catalogue.now.versions) }
+    ensures allowed { IsOk result → refusal (unnamed_label id.now) limits catalogue.now.versions ≡ None }
     ensures refused { IfErr result (λ fault. (fault ≡ PlanFault.Memory)
-        ⊎ (refusal (unnamed_label id.now) limits catalogue.now ≡ Some fault)) }
+        ⊎ (refusal (unnamed_label id.now) limits catalogue.now.versions ≡ Some fault)) }
 {
     let plan = lay_out(alloc, catalogue, &unnamed_label(id), limits)?;
     let mut digester = Digester::new();

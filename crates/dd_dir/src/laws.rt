@@ -1,10 +1,9 @@
 //! What holds of every directory.
 
 ghost use Rattle.std.specs.Prelude.{◌≡◌, All, List, length};
-ghost use Rattle.dd_catalogue.specs.Best.{SameMembers};
+ghost use Rattle.dd_catalogue.specs.Contents.{SameContents, held_of};
 ghost use Rattle.dd_catalogue.specs.Harmony.{harmonised};
 ghost use Rattle.dd_catalogue.specs.Histories.{taken};
-ghost use Rattle.dd_catalogue.specs.Versions.{best_of};
 ghost use Rattle.dd_catalogue.specs.declared.history.History.{History};
 ghost use Rattle.dd_keys.specs.declared.parts.Parts.{Parts};
 ghost use Rattle.dd_layout.specs.declared.label.Label.{Label};
@@ -32,9 +31,10 @@ pub fn harmony_keeps_the_directory()
     ensures { (label : Label) (m : List Parts) → directory label (harmonised m) ≡ directory label m }
 {}
 
-/// Histories in which the same versions were taken, in any order, with repeats and through any merges, have
-/// the same directory under one label, byte for byte. This states a law, and does nothing.
+/// Histories in which the same versions were taken and the same instances withdrawn, in any order, with
+/// repeats and through any merges, have the same directory under one label, byte for byte. This states a
+/// law, and does nothing.
 pub fn same_versions_same_directory()
-    ensures { (label : Label) (h g : History) → SameMembers (taken h) (taken g)
-        → directory label (best_of (taken h)) ≡ directory label (best_of (taken g)) }
+    ensures { (label : Label) (h g : History) → SameContents (taken h) (taken g)
+        → directory label (held_of (taken h)).versions ≡ directory label (held_of (taken g)).versions }
 {}

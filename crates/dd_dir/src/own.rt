@@ -57,13 +57,14 @@ pub fn own_of<'a>(alloc: Global, forest: &Forest<'a>) -> Result<Own<'a>, OwnFaul
 }
 
 /// The best of the versions of the images that a directory lists whose records are those that are
-/// written here. Otherwise the first check that a record fails, depth first: it is not in use or its type
-/// is not the one of its level, it is of an image without a digest, or the first of its elements in the
-/// order of tags is not what it must be. Memory where a growth was refused, which wants an image
-/// before the first such record.
+/// written here, with nothing withdrawn. Otherwise the first check that a record fails, depth first: it is
+/// not in use or its type is not the one of its level, it is of an image without a digest, or the first of
+/// its elements in the order of tags is not what it must be. Memory where a growth was refused, which wants
+/// an image before the first such record.
 pub fn catalogue_of(alloc: Global, forest: &Forest<'_>) -> Result<Catalogue, OwnFault>
     ensures { AnswersWalk (walk_view forest.now)
-        (λ images catalogue. catalogue ≡ best_of (map version_of images)) result }
+        (λ images catalogue. (catalogue.versions ≡ best_of (map version_of images)) × (catalogue.withdrawn ≡ []))
+        result }
 {
     let images = listed(alloc, forest)?;
     let versions = versions(alloc, &images)?;

@@ -1,9 +1,9 @@
 //! From a catalogue, or from what was taken, to the bytes of a directory.
 
 ghost use Rattle.std.specs.Prelude.{◌≡◌, ◌⊎◌, None, Some, IfErr, IfOk, IsOk, length};
+ghost use Rattle.dd_catalogue.specs.Contents.{held_of};
 ghost use Rattle.dd_catalogue.specs.Harmony.{harmonised};
 ghost use Rattle.dd_catalogue.specs.Histories.{taken};
-ghost use Rattle.dd_catalogue.specs.Versions.{best_of};
 ghost use Rattle.dd_layout.specs.Refusal.{refusal};
 ghost use Rattle.dd_dir.specs.Directories.{IsDirectory, OffsetsWithin, directory};
 ghost use Rattle.dd_dir.specs.SaysItself.{SaysItself};
@@ -25,14 +25,15 @@ pub fn publish(
     label: &Label,
     limits: Limits,
 ) -> Result<Vec<u8>, PlanFault>
-    ensures bytes { IfOk result (λ bytes. bytes.items ≡ directory label.now catalogue.now) }
-    ensures file { IsOk result → IsDirectory label.now (harmonised catalogue.now) }
-    ensures within { IfOk result (λ bytes. OffsetsWithin (length bytes.items) label.now (harmonised catalogue.now)) }
-    ensures realised { IfOk result (λ bytes. Realises label.now catalogue.now bytes.items) }
-    ensures own { IfOk result (λ bytes. SaysItself catalogue.now bytes.items) }
-    ensures allowed { IsOk result → refusal label.now limits catalogue.now ≡ None }
+    ensures bytes { IfOk result (λ bytes. bytes.items ≡ directory label.now catalogue.now.versions) }
+    ensures file { IsOk result → IsDirectory label.now (harmonised catalogue.now.versions) }
+    ensures within { IfOk result (λ bytes. OffsetsWithin (length bytes.items) label.now
+        (harmonised catalogue.now.versions)) }
+    ensures realised { IfOk result (λ bytes. Realises label.now catalogue.now.versions bytes.items) }
+    ensures own { IfOk result (λ bytes. SaysItself catalogue.now.versions bytes.items) }
+    ensures allowed { IsOk result → refusal label.now limits catalogue.now.versions ≡ None }
     ensures refused { IfErr result (λ fault. (fault ≡ PlanFault.Memory)
-        ⊎ (refusal label.now limits catalogue.now ≡ Some fault)) }
+        ⊎ (refusal label.now limits catalogue.now.versions ≡ Some fault)) }
 {
     versions_rise(catalogue);
     let plan = lay_out(alloc, catalogue, label, limits)?;
@@ -44,23 +45,24 @@ pub fn publish(
     }
 }
 
-/// The bytes of the directory of the best of all versions that were taken in a history, in harmony, under
-/// this label. Refused as `publish` refuses that catalogue, and as Memory where the catalogue finds no room.
+/// The bytes of the directory of the best of all versions that were taken in a history and whose instances
+/// were not withdrawn in it, in harmony, under this label. Refused as `publish` refuses that catalogue, and
+/// as Memory where the catalogue finds no room.
 pub fn assemble(
     alloc: Global,
     history: &History,
     label: &Label,
     limits: Limits,
 ) -> Result<Vec<u8>, PlanFault>
-    ensures bytes { IfOk result (λ bytes. bytes.items ≡ directory label.now (best_of (taken history.now))) }
-    ensures file { IsOk result → IsDirectory label.now (harmonised (best_of (taken history.now))) }
+    ensures bytes { IfOk result (λ bytes. bytes.items ≡ directory label.now (held_of (taken history.now)).versions) }
+    ensures file { IsOk result → IsDirectory label.now (harmonised (held_of (taken history.now)).versions) }
     ensures within { IfOk result (λ bytes. OffsetsWithin (length bytes.items) label.now
-        (harmonised (best_of (taken history.now)))) }
-    ensures realised { IfOk result (λ bytes. Realises label.now (best_of (taken history.now)) bytes.items) }
-    ensures own { IfOk result (λ bytes. SaysItself (best_of (taken history.now)) bytes.items) }
-    ensures allowed { IsOk result → refusal label.now limits (best_of (taken history.now)) ≡ None }
+        (harmonised (held_of (taken history.now)).versions)) }
+    ensures realised { IfOk result (λ bytes. Realises label.now (held_of (taken history.now)).versions bytes.items) }
+    ensures own { IfOk result (λ bytes. SaysItself (held_of (taken history.now)).versions bytes.items) }
+    ensures allowed { IsOk result → refusal label.now limits (held_of (taken history.now)).versions ≡ None }
     ensures refused { IfErr result (λ fault. (fault ≡ PlanFault.Memory)
-        ⊎ (refusal label.now limits (best_of (taken history.now)) ≡ Some fault)) }
+        ⊎ (refusal label.now limits (held_of (taken history.now)).versions ≡ Some fault)) }
 {
     let catalogue = build(alloc, history)?;
     publish(alloc, &catalogue, label, limits)

@@ -27,7 +27,7 @@ pub(crate) fn parts_of(version: &Version) -> &Parts
 
 /// The versions of a catalogue rise by instance. This states a law, and does nothing.
 pub(crate) fn versions_rise(catalogue: &Catalogue)
-    ensures { IsCatalogue catalogue.now }
+    ensures { IsCatalogue catalogue.now.versions }
 {
     catalogue.versions();
 }

@@ -27,10 +27,11 @@ pub(crate) fn plan_for(
     choice: &Choice,
     limits: Limits,
 ) -> Result<Plan, PlanFault>
-    ensures planned { IfOk result (λ plan. plan ≡ layout_of (label_for choice.now catalogue.now) catalogue.now) }
-    ensures allowed { IsOk result → refusal_for choice.now limits catalogue.now ≡ None }
+    ensures planned { IfOk result (λ plan. plan
+        ≡ layout_of (label_for choice.now catalogue.now.versions) catalogue.now.versions) }
+    ensures allowed { IsOk result → refusal_for choice.now limits catalogue.now.versions ≡ None }
     ensures refused { IfErr result (λ fault. (fault ≡ PlanFault.Memory)
-        ⊎ (refusal_for choice.now limits catalogue.now ≡ Some fault)) }
+        ⊎ (refusal_for choice.now limits catalogue.now.versions ≡ Some fault)) }
 {
     let uid = uid_for(alloc, catalogue, choice, limits)?;
     let label = Label { id: choice.id, uid };
@@ -44,10 +45,10 @@ fn uid_for(
     choice: &Choice,
     limits: Limits,
 ) -> Result<Uid, PlanFault>
-    ensures chosen { IfOk result (λ uid. uid ≡ uid_by choice.now.uid choice.now.id catalogue.now) }
-    ensures allowed { IsOk result → derivation choice.now.uid choice.now.id limits catalogue.now ≡ None }
+    ensures chosen { IfOk result (λ uid. uid ≡ uid_by choice.now.uid choice.now.id catalogue.now.versions) }
+    ensures allowed { IsOk result → derivation choice.now.uid choice.now.id limits catalogue.now.versions ≡ None }
     ensures refused { IfErr result (λ fault. (fault ≡ PlanFault.Memory)
-        ⊎ (derivation choice.now.uid choice.now.id limits catalogue.now ≡ Some fault)) }
+        ⊎ (derivation choice.now.uid choice.now.id limits catalogue.now.versions ≡ Some fault)) }
 {
     match choice.uid {
         Some(uid) => Ok(uid),

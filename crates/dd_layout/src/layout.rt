@@ -1,6 +1,7 @@
 //! From a catalogue to the plan of its directory.
 
-ghost use Rattle.std.specs.Prelude.{◌≡◌, ◌≢◌, ◌⊎◌, [], None, Some, IsOk, IfOk, IfErr, map};
+ghost use Rattle.std.specs.Prelude.{◌≡◌, ◌≢◌, ◌⊎◌, None, Some, IsOk, IfOk, IfErr, map};
+ghost use Rattle.dd_catalogue.specs.Contents.{nothing};
 ghost use Rattle.dd_layout.specs.Layouts.{IsLaidOut, layout_of};
 ghost use Rattle.dd_layout.specs.Plans.{tree};
 ghost use Rattle.dd_layout.specs.Refusal.{excess, refusal};
@@ -23,17 +24,17 @@ use std::alloc::Global;
 /// Conflict where two of them conflict, with the first pair; as TooMany where one record or the root has
 /// more children than the limits allow, with the topmost level of such children; as TooLarge where the
 /// file has more bytes than they allow; and as Memory where a growth was refused, which never is where
-/// there are no versions.
+/// there are no versions and nothing is withdrawn.
 pub fn lay_out(
     alloc: Global,
     catalogue: &Catalogue,
     label: &Label,
     limits: Limits,
 ) -> Result<Plan, PlanFault>
-    ensures planned { IfOk result (λ plan. plan ≡ layout_of label.now catalogue.now) }
-    ensures allowed { IsOk result → refusal label.now limits catalogue.now ≡ None }
-    ensures refused { IfErr result (λ fault. ((fault ≡ PlanFault.Memory) × (catalogue.now ≢ []))
-        ⊎ (refusal label.now limits catalogue.now ≡ Some fault)) }
+    ensures planned { IfOk result (λ plan. plan ≡ layout_of label.now catalogue.now.versions) }
+    ensures allowed { IsOk result → refusal label.now limits catalogue.now.versions ≡ None }
+    ensures refused { IfErr result (λ fault. ((fault ≡ PlanFault.Memory) × (catalogue.now ≢ nothing))
+        ⊎ (refusal label.now limits catalogue.now.versions ≡ Some fault)) }
 {
     if let Some((one, other)) = catalogue.conflict()? {
         return Err(PlanFault::Conflict(one, other));

@@ -24,12 +24,12 @@ impl Model for Plan {
 
     ghost Value = { Layout };
 
-    ghost view = { λ plan. record { label = plan.label; versions = plan.catalogue } };
+    ghost view = { λ plan. record { label = plan.label; versions = plan.catalogue.versions } };
 
-    ghost invariant = { λ plan. IsLaidOut plan.label plan.catalogue plan.records.items plan.size };
+    ghost invariant = { λ plan. IsLaidOut plan.label plan.catalogue.versions plan.records.items plan.size };
 }
 
-// By hand, so that letting go of a plan is one call.
+// By hand, so that dropping a plan is one call.
 impl Drop for Plan {
     fn drop(self) {
         let Plan {
@@ -49,8 +49,8 @@ impl Plan {
         records: Vec<PlanRecord>,
         size: u32,
     ) -> Plan
-        requires { IsLaidOut label catalogue records.items size }
-        ensures { result ≡ record { label = label; versions = catalogue } }
+        requires { IsLaidOut label catalogue.versions records.items size }
+        ensures { result ≡ record { label = label; versions = catalogue.versions } }
     {
         Plan {
             label,

@@ -2,7 +2,7 @@
 
 use crate::joining::{batches, catalogues};
 use crate::studies::studies;
-use dd_catalogue::{Catalogue, History, Join, Refused, Took, build, gather};
+use dd_catalogue::{Catalogue, History, Join, Refused, Took, Withdrew, build, gather};
 use dd_elem::{Memory, Uid};
 use dd_keys::Version;
 use dd_samples::{image, images, taken};
@@ -10,7 +10,7 @@ use dd_vectors::{growth_numbers, refuse_growth, require, was_refused};
 use std::alloc::Global;
 use std::test::Fail;
 
-/// The calls that can want memory, and one that never does.
+/// The calls that can want memory, and two that never do.
 #[derive(Clone, Copy)]
 enum Call {
     Build,
@@ -21,7 +21,10 @@ enum Call {
     Harmonise,
     JoinVersions,
     Join(Way),
+    MergeWithdrawn,
     Take,
+    Withdraw,
+    WithdrawAgain,
 }
 
 /// The calls that join a catalogue with another.
@@ -43,7 +46,10 @@ fn is_refused(alloc: Global, call: Call, chosen: u32) -> Result<bool, Fail> {
         Call::Harmonise => harmonise_refused(alloc, chosen),
         Call::JoinVersions => join_versions_refused(alloc, chosen),
         Call::Join(way) => join_refused(alloc, way, chosen),
+        Call::MergeWithdrawn => merge_withdrawn_refused(alloc, chosen),
         Call::Take => take_refused(alloc, chosen),
+        Call::Withdraw => withdraw_refused(alloc, chosen),
+        Call::WithdrawAgain => withdraw_again_refused(alloc, chosen),
     }
 }
 
@@ -287,4 +293,85 @@ fn take_refused(alloc: Global, chosen: u32) -> Result<bool, Fail> {
 #[test]
 fn growths_of_take(rt: HostRuntime) -> Result<(), Fail> {
     refuse_each(rt.alloc(), Call::Take)
+}
+
+/// The first of the images.
+fn first_instance() -> Result<Uid, Fail> {
+    Ok(Uid::new(b"1.2.3.4.5")?)
+}
+
+/// The catalogue that took these images and withdrew the first.
+fn without_first(alloc: Global, letters: &str) -> Result<Catalogue, Fail> {
+    let mut catalogue = taken(alloc, letters)?;
+    catalogue.withdraw(first_instance()?)?;
+    Ok(catalogue)
+}
+
+/// Fails where the catalogue is not the one that took these images and withdrew the first.
+fn require_without_first(alloc: Global, catalogue: &Catalogue, letters: &str) -> Result<(), Fail> {
+    require(
+        *catalogue == without_first(alloc, letters)?,
+        "the catalogue holds these images, and the first is withdrawn",
+    )
+}
+
+/// Merges a catalogue with one that has withdrawn one of its images.
+fn merge_withdrawn_refused(alloc: Global, chosen: u32) -> Result<bool, Fail> {
+    let mut catalogue = taken(alloc, "13")?;
+    let other = without_first(alloc, "2")?;
+    refuse_growth(alloc, chosen)?;
+    let answer = catalogue.merge(&other);
+    let refused = was_refused(alloc, answer.is_err())?;
+    if refused {
+        require_held(alloc, &catalogue, "13")?;
+        catalogue.merge(&other)?;
+    }
+    require_without_first(alloc, &catalogue, "23")?;
+    require_without_first(alloc, &other, "2")?;
+    Ok(refused)
+}
+
+#[test]
+fn growths_of_merge_with_what_is_withdrawn(rt: HostRuntime) -> Result<(), Fail> {
+    refuse_each(rt.alloc(), Call::MergeWithdrawn)
+}
+
+/// Withdraws an image that is held.
+fn withdraw_refused(alloc: Global, chosen: u32) -> Result<bool, Fail> {
+    let mut catalogue = taken(alloc, "12")?;
+    let instance = first_instance()?;
+    refuse_growth(alloc, chosen)?;
+    let answer = catalogue.withdraw(instance);
+    let refused = was_refused(alloc, answer.is_err())?;
+    if refused {
+        require_held(alloc, &catalogue, "12")?;
+        catalogue.withdraw(instance)?;
+    }
+    require_without_first(alloc, &catalogue, "2")?;
+    Ok(refused)
+}
+
+#[test]
+fn growths_of_withdraw(rt: HostRuntime) -> Result<(), Fail> {
+    refuse_each(rt.alloc(), Call::Withdraw)
+}
+
+/// Withdraws an image that is withdrawn already.
+fn withdraw_again_refused(alloc: Global, chosen: u32) -> Result<bool, Fail> {
+    let mut catalogue = without_first(alloc, "12")?;
+    let instance = first_instance()?;
+    refuse_growth(alloc, chosen)?;
+    let answer = catalogue.withdraw(instance);
+    let refused = was_refused(alloc, answer.is_err())?;
+    require(
+        matches!(answer, Ok(Withdrew::Already)),
+        "the image was withdrawn before",
+    )?;
+    require_without_first(alloc, &catalogue, "2")?;
+    Ok(refused)
+}
+
+#[test]
+fn no_growths_of_withdraw_again(rt: HostRuntime) -> Result<(), Fail> {
+    refuse_each(rt.alloc(), Call::WithdrawAgain)
 }

@@ -15,3 +15,5 @@ mod joining;
 mod studies;
 #[cfg(test)]
 mod taking;
+#[cfg(test)]
+mod withdrawing;

@@ -37,6 +37,7 @@ fn take(alloc: Global, catalogue: &mut Catalogue, version: Version) -> Result<St
             let given = told(alloc, &given)?;
             Ok(format!(in alloc; "Kept {given}")?)
         }
+        Ok(Took::Withdrawn(_)) => Err("it is withdrawn".into()),
         Err(_) => Err("no memory".into()),
     }
 }

@@ -29,14 +29,14 @@ returns-in-Ok-clause-within c =
     c.in-Ok.ensures.within in
     let planned = subst (λ (p : Layout). OffsetsWithin (length (directory_of p.label p.versions)) p.label p.versions)
     c.in_ok-plan.ensures.planned whole in
-    let m = harmonised c.args.catalogue.now in
+    let m = harmonised c.args.catalogue.now.versions in
     subst (λ (bytes : List ℕ). OffsetsWithin (length bytes) c.args.label.now m) (sym (returns-in-Ok-clause-bytes c))
     planned
 
 pub returns-in-Ok-clause-realised : goal.returns-in-Ok-clause-realised
 returns-in-Ok-clause-realised c =
     let label = c.args.label.now in
-    let m = c.args.catalogue.now in
+    let m = c.args.catalogue.now.versions in
     let planned = c.in_ok-plan.ensures.planned in
     let whole = subst (λ (plan : Layout). Realises plan.label m (directory_of plan.label plan.versions)) planned
     (c.in-Ok.ensures.realised refl m c.versions_rise.ensures (ap (λ (plan : Layout). plan.versions) planned)) in
@@ -44,7 +44,7 @@ returns-in-Ok-clause-realised c =
 
 pub returns-in-Ok-clause-own : goal.returns-in-Ok-clause-own
 returns-in-Ok-clause-own c =
-    let m = c.args.catalogue.now in
+    let m = c.args.catalogue.now.versions in
     let planned = c.in_ok-plan.ensures.planned in
     let whole = subst (λ (plan : Layout). SaysItself m (directory_of plan.label plan.versions)) planned
     (c.in-Ok.ensures.own refl m c.versions_rise.ensures (ap (λ (plan : Layout). plan.versions) planned)) in

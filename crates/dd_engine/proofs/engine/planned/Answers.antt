@@ -18,9 +18,9 @@ source_picks-requires c =
     let zips = zip_is sources c.deref-3.result.now c.deref-2.result.now
     (c.deref-3.ensures.value ∙ ap (λ p. p.1.items) parts ∙ held.numbers)
     (c.deref-2.ensures.value ∙ ap (λ p. p.0.items) parts ∙ held.versions) in
-    let best = best_is sources c.deref.result.now c.in_ok-catalogue.catalogue c.in_ok-catalogue.ensures.best
+    let best = best_is sources c.deref.result.now c.in_ok-catalogue.catalogue.versions c.in_ok-catalogue.ensures.best
     (c.deref.ensures.value ∙ ap (λ p. p.0.items) parts ∙ held.versions) in
-    planned_versions sources _ c.args.choice.now c.in_ok-catalogue.catalogue c.in_ok-plan.plan best zips
+    planned_versions sources _ c.args.choice.now c.in_ok-catalogue.catalogue.versions c.in_ok-plan.plan best zips
     c.in_ok-plan.ensures.planned
 
 pub returns-clause-indexes : goal.returns-clause-indexes
@@ -30,7 +30,7 @@ returns-clause-indexes c = λ answers held.
     let zips = zip_is sources c.deref-3.result.now c.deref-2.result.now
     (c.deref-3.ensures.value ∙ ap (λ p. p.1.items) parts ∙ held.numbers)
     (c.deref-2.ensures.value ∙ ap (λ p. p.0.items) parts ∙ held.versions) in
-    let best = best_is sources c.deref.result.now c.in_ok-catalogue.catalogue c.in_ok-catalogue.ensures.best
+    let best = best_is sources c.deref.result.now c.in_ok-catalogue.catalogue.versions c.in_ok-catalogue.ensures.best
     (c.deref.ensures.value ∙ ap (λ p. p.0.items) parts ∙ held.versions) in
     let choice = c.args.choice.now in
     record {
@@ -38,8 +38,8 @@ returns-clause-indexes c = λ answers held.
       allowed = ap (λ (m : List Parts). refusal_for choice c.args.limits m) (sym best)
           ∙ c.in_ok-plan.ensures.allowed refl;
       skipped = ap (λ p. p.2.items) parts ∙ held.skips;
-      picks = planned_picks sources _ choice c.in_ok-catalogue.catalogue c.in_ok-plan.plan c.in_ok-picks.picks.items
-          best zips c.in_ok-plan.ensures.planned c.in_ok-picks.ensures.all;
+      picks = planned_picks sources _ choice c.in_ok-catalogue.catalogue.versions c.in_ok-plan.plan
+          c.in_ok-picks.picks.items best zips c.in_ok-plan.ensures.planned c.in_ok-picks.ensures.all;
     }
 
 pub returns-clause-within : goal.returns-clause-within

@@ -11,7 +11,7 @@ place_picks-requires c =
     let held = c.requires.1 in
     let best = c.in_ok-catalogue.ensures.best ∙ ap best_of (c.deref.ensures.value ∙ held.versions) in (
       c.requires.0,
-      planned_of c.requires.0 c.args.choice.now c.in_ok-catalogue.catalogue c.in_ok-plan.plan best
+      planned_of c.requires.0 c.args.choice.now c.in_ok-catalogue.catalogue.versions c.in_ok-plan.plan best
           c.in_ok-plan.ensures.planned,
       held,
     )
@@ -24,6 +24,6 @@ returns c = λ images held.
       plan = c.in_ok-plan.ensures.planned ∙ ap (λ (m : List Parts). layout_of (label_for choice m) m) best;
       allowed = ap (λ (m : List Parts). refusal_for choice c.args.limits m) (sym best)
           ∙ c.in_ok-plan.ensures.allowed refl;
-      picks = picked_of images choice c.in_ok-catalogue.catalogue c.in_ok-plan.plan c.in_ok-picks.picks.items best
-          c.in_ok-plan.ensures.planned (c.in_ok-picks.ensures images held);
+      picks = picked_of images choice c.in_ok-catalogue.catalogue.versions c.in_ok-plan.plan c.in_ok-picks.picks.items
+          best c.in_ok-plan.ensures.planned (c.in_ok-picks.ensures images held);
     }

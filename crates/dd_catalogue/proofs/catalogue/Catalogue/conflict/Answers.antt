@@ -6,7 +6,7 @@ use Rattle.dd_catalogue.proofs.catalogue.Catalogue.conflict.Goals as goal
 
 pub returns-clause-first : goal.returns-clause-first
 returns-clause-first c =
-    let m = c.args.self.now in
+    let m = c.args.self.now.versions in
     IfOk-weaker c.first_clash.result (λ pair. pair ≡ clash c.versions.result.now) (λ pair. IsClash m pair)
     (λ pair is. subst (λ x. IsClash m x) (sym (is ∙ ap clash c.versions.ensures.all))
     (clash_is_clash m c.versions.ensures.rising))

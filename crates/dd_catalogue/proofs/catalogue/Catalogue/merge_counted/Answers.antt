@@ -1,0 +1,42 @@
+use Rattle.std.proofs.Common.{◌≡◌, ◌++◌, ◌∙◌, ap, arith}
+use Rattle.dd_elem.specs.Ordered.{bytes_cmp}
+use Rattle.dd_catalogue.specs.CatalogueJoin.{same_contents}
+use Rattle.dd_catalogue.specs.Compared.{compared}
+use Rattle.dd_catalogue.specs.Contents.{Contents, left_of, uids_of}
+use Rattle.dd_catalogue.specs.Versions.{best_of}
+use Rattle.dd_catalogue.proofs.Held.{few_of_both, held_of_both, left_twice}
+use Rattle.dd_catalogue.proofs.catalogue.Catalogue.merge_counted.Goals as goal
+
+pub invariant_of-self-2 : goal.invariant_of-self-2
+invariant_of-self-2 c =
+    rw (c.sift-sifted.ensures.after, c.values-2.ensures.all) (left_twice c.merge-2.new.self c.merge.new.self)
+
+pub returns-clause-ok : goal.returns-clause-ok
+returns-clause-ok c =
+    let old : Contents = record { versions = c.self.inside.table; withdrawn = c.self.inside.withdrawn } in
+    let other : Contents = record { versions = c.other.inside.table; withdrawn = c.other.inside.withdrawn } in
+    let sets : c.merge.new.self ≡ uids_of (c.self.inside.withdrawn ++ c.other.inside.withdrawn) =
+    c.in_ok-sets.ensures.ok ∙ ap (λ w. uids_of (w ++ c.other.inside.withdrawn)) c.in_ok-withdrawn.ensures.equal in
+    let table : c.sift-sifted.new.self ≡ left_of (best_of (c.self.inside.table ++ c.other.inside.table))
+    (uids_of (c.self.inside.withdrawn ++ c.other.inside.withdrawn)) = c.sift-sifted.ensures.after
+    ∙ ap (λ w. left_of c.merge-2.new.self w) (c.values-2.ensures.all ∙ sets)
+    ∙ ap (λ m. left_of m (uids_of (c.self.inside.withdrawn ++ c.other.inside.withdrawn))) c.in_ok-maps.ensures.ok in
+    rw (← c.self.view_is, ← c.other.view_is) (same_contents _ _ table sets ∙ held_of_both old other)
+
+pub returns-clause-twice : goal.returns-clause-twice
+returns-clause-twice c =
+    let sets : c.merge.new.self ≡ uids_of (c.self.inside.withdrawn ++ c.other.inside.withdrawn) =
+    c.in_ok-sets.ensures.ok ∙ ap (λ w. uids_of (w ++ c.other.inside.withdrawn)) c.in_ok-withdrawn.ensures.equal in
+    let count : c.in_ok-sets.sets
+    ≡ compared (λ u. u) bytes_cmp bytes_cmp c.self.inside.withdrawn c.other.inside.withdrawn =
+    c.in_ok-sets.ensures.count ∙ ap (λ w. compared (λ u. u) bytes_cmp bytes_cmp w c.other.inside.withdrawn)
+    c.in_ok-withdrawn.ensures.equal in
+    rw (← c.self.view_is, ← c.other.view_is) (omega (
+      arith,
+      c.saturating_add.ensures,
+      c.saturating_add-2.ensures,
+      few_of_both c.self.inside.table c.other.inside.table c.merge-2.new.self c.self.inside.withdrawn
+          c.other.inside.withdrawn c.merge.new.self c.values-2.result.now c.in_ok-sets.sets c.in_ok-maps.maps
+          c.sift-sifted.result count c.in_ok-maps.ensures.count c.in_ok-maps.ensures.ok sets c.values-2.ensures.all
+          c.sift-sifted.ensures.few,
+    ))

@@ -1,0 +1,15 @@
+use Rattle.std.proofs.Common.{◌≡◌, sym, ◌∙◌, ap}
+use Rattle.std.specs.declared.cmp.Ordering.TheVariants.{Greater}
+use Rattle.dd_elem.specs.Ordered.{bytes_cmp}
+use Rattle.dd_catalogue.proofs.TakenOut.{all_greater}
+use Rattle.dd_catalogue.proofs.sifting.seek.Goals as goal
+
+pub returns-in-Greater-clause-place : goal.returns-in-Greater-clause-place
+returns-in-Greater-clause-place c =
+    let above : bytes_cmp c.index-keys-place.result c.args.key.now ≡ Greater =
+    ap (λ y. bytes_cmp y c.args.key.now) (sym c.as_bytes.ensures.value) ∙ sym c.cmp.ensures ∙ c.in-Greater.is in (
+      c.loop-place.invariant.within,
+      c.loop-place.invariant.smaller,
+      all_greater c.args.key.now c.index-keys-place.result c.args.keys.now c.loop-place.place c.requires.rising
+          c.loop-place-test.true c.index-keys-place.is above,
+    )

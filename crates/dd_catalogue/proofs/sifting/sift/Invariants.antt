@@ -1,0 +1,17 @@
+use Rattle.std.proofs.Common.{◌≡◌, ◌≤◌, ℕ, length, drop, get_or}
+use Rattle.std.proofs.lemmas.List.Filters.{FiltersInPlace}
+use Rattle.dd_elem.specs.Ordered.{bytes_cmp}
+use Rattle.dd_catalogue.specs.Free.{is_free}
+use Rattle.dd_catalogue.proofs.TakenOut.{AreBelow}
+use Rattle.dd_catalogue.proofs.sifting.sift.Given as goal
+
+abbrev pub invariant-loop-place : goal.invariant-loop-place
+invariant-loop-place g l = record {
+  filters : FiltersInPlace (λ v. is_free bytes_cmp l.keys (g.T.Keyed.key_of v)) l.initial.held.items l.held.items
+      l.kept l.place;
+  behind : l.kept ≤ l.place;
+  rest : (j : ℕ) (d : g.row.T.Denot) → l.place ≤ j → get_or l.held.items j d ≡ get_or l.initial.held.items j d;
+  passed : l.passed ≤ length l.keys;
+  smaller : AreBelow g.T.Keyed.key_of l.keys l.passed (drop l.place l.initial.held.items);
+  met : l.met ≤ l.place;
+}

@@ -1,0 +1,59 @@
+-- What a catalogue holds: versions, and the SOP Instance UIDs (PS3.3 section C.12.1) that are withdrawn. It keeps the
+-- best of the versions whose instances are not withdrawn.
+use Rattle.std.specs.Prelude.{◌≡◌, ℕ, List, [], ◌∷◌, ◌++◌, Bool, not}
+use Rattle.dd_elem.specs.Ordered.{bytes_cmp}
+use Rattle.dd_keys.specs.Orders.{parts_cmp}
+use Rattle.dd_keys.specs.declared.parts.Parts.{Parts}
+use Rattle.dd_catalogue.specs.Best.{IsRising, SameMembers}
+use Rattle.dd_catalogue.specs.Free.{is_free, free, set_of, best_free}
+use Rattle.dd_catalogue.specs.Versions.{IsCatalogue, instance_of}
+
+-- versions and withdrawn UIDs: both taken in any order and with repeats, or as a catalogue holds them
+pub record Contents : Type 0 where
+  pub versions : List Parts
+  pub withdrawn : List (List ℕ)
+
+abbrev pub nothing : Contents
+nothing = record { versions = []; withdrawn = [] }
+
+-- is the UID withdrawn?
+abbrev pub is_withdrawn : List (List ℕ) → List ℕ → Bool
+is_withdrawn w uid = not (is_free bytes_cmp w uid)
+
+-- the versions whose instance is not withdrawn
+abbrev pub left_of : List Parts → List (List ℕ) → List Parts
+left_of s w = free instance_of bytes_cmp w s
+
+-- the best of the versions whose instance is not withdrawn
+abbrev pub kept_of : List Parts → List (List ℕ) → List Parts
+kept_of s w = best_free instance_of bytes_cmp parts_cmp s w
+
+-- the UIDs, each once, rising
+abbrev pub uids_of : List (List ℕ) → List (List ℕ)
+uids_of w = set_of bytes_cmp w
+
+-- what a catalogue holds that took these
+abbrev pub held_of : Contents → Contents
+held_of c = record { versions = kept_of c.versions c.withdrawn; withdrawn = uids_of c.withdrawn }
+
+-- both together
+abbrev pub all_of : Contents → Contents → Contents
+all_of c d = record { versions = c.versions ++ d.versions; withdrawn = c.withdrawn ++ d.withdrawn }
+
+-- one version more, and one UID more
+abbrev pub and_version : Parts → Contents → Contents
+and_version v c = record { versions = v ∷ c.versions; withdrawn = c.withdrawn }
+
+abbrev pub and_withdrawn : List ℕ → Contents → Contents
+and_withdrawn uid c = record { versions = c.versions; withdrawn = uid ∷ c.withdrawn }
+
+-- as a catalogue holds them: versions that rise by instance and UIDs that rise, and no version's instance is withdrawn
+pub record IsHeld (c : Contents) : Type 0 where
+  pub versions : IsCatalogue c.versions
+  pub withdrawn : IsRising (λ u. u) bytes_cmp c.withdrawn
+  pub apart : left_of c.versions c.withdrawn ≡ c.versions
+
+-- the same versions and the same UIDs, in any order and with repeats
+pub record SameContents (c d : Contents) : Type 0 where
+  pub versions : SameMembers c.versions d.versions
+  pub withdrawn : SameMembers c.withdrawn d.withdrawn
