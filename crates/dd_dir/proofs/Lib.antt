@@ -38,3 +38,4 @@ pub mod WalkEnds
 pub mod WalkFiles
 pub mod WalkLaws
 pub mod WalkPlaces
+pub mod WithdrawalTexts

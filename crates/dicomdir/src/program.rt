@@ -328,7 +328,7 @@ fn tell_done<O: Write>(plan: &Plan, out: &mut O) -> u8
     ensures status { (result ≡ 0) ⊎ (result ≡ 1) }
     ensures done { result ≡ 0 → TakesAll (O.contents out.old) (O.contents out.new)
         (O.failures out.old) (O.failures out.new)
-        (done_text (length plan.now.versions) (size plan.now.label plan.now.versions)) }
+        (done_text (length plan.now.versions) (size plan.now.label plan.now.versions plan.now.withdrawn)) }
     ensures failed { result ≡ 1 → HasFailed (O.failures out.old) (O.failures out.new) }
 {
     let (mut count, mut size) = (Buffer::new(), Buffer::new());
