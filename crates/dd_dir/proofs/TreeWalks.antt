@@ -30,7 +30,7 @@ use Rattle.dd_dir.specs.Directories.{last_root}
 use Rattle.dd_dir.specs.Keyed.{IsKeyed, IsKeyedBy, IsSent}
 use Rattle.dd_dir.specs.Reading.{Contents, IsDirectoryFile, IsWalk, contents_by, contents_in}
 use Rattle.dd_dir.specs.Reading.{count_unseen, stands_of}
-use Rattle.dd_dir.specs.Saying.{Says, id_in, says_of}
+use Rattle.dd_dir.specs.Saying.{Says, beside_in, says_of}
 use Rattle.dd_dir.specs.Trees.{Walk, places}
 use Rattle.dd_dir.specs.Visits.{Visit, node_at, or_root, visit_at, visits_of}
 use Rattle.dd_dir.specs.Walks.{AreApart, IsChain, Seen, nothing, with, with_all}
@@ -90,7 +90,7 @@ contents_at label versions = record {
   last = last_root label versions;
   starts = map (at label versions) (tree versions);
   sets = map (λ x. (node_at label versions x).set) (tree versions);
-  id = id_in (directory_set label versions);
+  beside = beside_in (directory_set label versions);
 }
 
 set_says : (label : Label) (versions : List Parts) → size label versions < 2 ^ 32
@@ -104,7 +104,7 @@ set_says label versions small sound =
     let other = from_le_bytes-to_le_bytes_4 (last_root label versions) (omega (arith, last, small)) in
     let starts = places_are label versions sound in
     let sets = sets_are versions (record_at label versions) (tree versions) in
-    λ i. contents_by (id_in (directory_set label versions)) (Some (one i)) (Some (other i)) (starts i) (Some (sets i))
+    λ i. contents_by (beside_in (directory_set label versions)) (Some (one i)) (Some (other i)) (starts i) (Some (sets i))
 
 pub file_says : (label : Label) (versions : List Parts) → IsSent label versions
     → IsDirectoryFile (directory_of label versions) (contents_at label versions)
@@ -209,7 +209,7 @@ tree_linked versions =
 -- the trees that grow from the rows
 abbrev pub tree_walk : Label → List Parts → Walk
 tree_walk label versions = record {
-  id = id_in (directory_set label versions);
+  beside = beside_in (directory_set label versions);
   trees = (grown (node_at label versions) (tree versions)).patient;
   unreached = 0;
 }
@@ -281,7 +281,7 @@ tree_is_walked label versions sent = record {
     trees = record { chain = tree_chain label versions sent; apart = tree_apart label versions sent };
     ends = last_along (node_at label versions) None (tree versions) (all_have_levels versions)
         ∙ sym (at_is label versions (last_or None (children (tree versions) [])));
-    id = refl;
+    beside = refl;
     unreached = tree_reached label versions sent;
   };
 }

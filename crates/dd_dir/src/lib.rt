@@ -24,6 +24,7 @@ mod values;
 mod walk;
 mod walk_laws;
 mod well_formed;
+mod withdrawn;
 mod writing;
 
 pub use derived::derived_uid;
