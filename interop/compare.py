@@ -3,6 +3,8 @@
 
     compare.py choose FILES TAKEN REFUSED FAULTS COUNT
         lists of paths, the lines of those that are refused for how they are encoded, how many instances are taken
+    compare.py leave TAKEN INSTANCE LEFT
+        the list of the files to take, and the same without those of an instance
     compare.py check OUT TAKEN SEEN
         a file-set, its sources, what each reader printed of it
 """
@@ -225,6 +227,13 @@ def choose(files, taken, refused, faults, count):
     lines = sorted(f"SKIP {path}: {fault}\n" for path, fault in skipped.items() if fault)
     pathlib.Path(faults).write_text("".join(lines))
     pathlib.Path(count).write_text(f"{len(kept)}\n")
+
+
+def leave(taken, instance, left):
+    """Leaves the files of an instance out of a list."""
+    paths = [path for path in lines_of(taken) if read_source(path).names[3] != instance]
+    wanted(len(paths) < len(lines_of(taken)), f"no file is of {instance}")
+    pathlib.Path(left).write_text("".join(f"{path}\n" for path in paths))
 
 
 def lines_of(path):
@@ -450,4 +459,4 @@ def check(out, taken, seen):
 if __name__ == "__main__":
     # Many of pydicom's files are made to be warned of.
     warnings.simplefilter("ignore")
-    {"choose": choose, "check": check}[sys.argv[1]](*sys.argv[2:])
+    {"choose": choose, "leave": leave, "check": check}[sys.argv[1]](*sys.argv[2:])

@@ -36,6 +36,7 @@ COMMANDS = [
     Command("index into a folder that is there", "index OUT b.dcm --uid 2.25.0", before="OTHER"),
     Command("index into a folder that has a set", "index OUT a.dcm --uid 2.25.0", before="SETA"),
     Command("merge of two sets", "merge OUT SETA SETB --uid 2.25.0"),
+    Command("withdraw of one image of two", "withdraw OUT SETA 1.2.3.1000 1.2.3.1 --uid 2.25.0"),
     Command("list of two images", "list SETA"),
     Command("check of two images", "check SETA"),
 ]

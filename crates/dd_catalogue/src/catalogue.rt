@@ -1,6 +1,6 @@
 //! Catalogues of versions.
 
-ghost use Rattle.std.specs.Prelude.{◌≡◌, ◌≢◌, ◌==◌, ◌≤◌, ◌+◌, ◌*◌, [], length, map, option_copied};
+ghost use Rattle.std.specs.Prelude.{◌≡◌, ◌≢◌, ◌==◌, ◌≤◌, ◌+◌, ◌*◌, ◌⊎◌, [], length, map, option_copied};
 ghost use Rattle.std.specs.Prelude.{IsOk, IfOk, IfErr, OnOk, OnErr, IsSome, IsTrue};
 ghost use Rattle.dd_catalogue.specs.Clash.{IsClash, clash};
 ghost use Rattle.dd_catalogue.specs.Harmony.{IsHarmonised, harmonised};
@@ -94,7 +94,7 @@ impl Catalogue {
         }
     }
 
-    /// The best of these versions, without those that are withdrawn. Each that is kept is copied once.
+    /// The best of the versions whose instances are not withdrawn. Each version that is kept is copied once.
     pub(crate) fn of(
         alloc: Global,
         mut versions: Vec<&Version>,
@@ -126,6 +126,26 @@ impl Catalogue {
             table: Table::of(alloc, lent(alloc, versions)?)?,
             withdrawn: Table::new(alloc),
         })
+    }
+
+    /// Makes a catalogue of the best of the versions whose instances are not withdrawn, and of these withdrawn
+    /// UIDs. Both lists are sorted once, and each version and UID that is kept is copied once. Memory where a
+    /// growth was refused, and never where both lists are empty.
+    pub fn from_parts(
+        alloc: Global,
+        versions: &[Version],
+        withdrawn: &[Uid],
+    ) -> Result<Catalogue, Memory>
+        ensures held { IfOk result (λ catalogue. catalogue ≡ held_of (record {
+          versions = versions.now;
+          withdrawn = withdrawn.now;
+        })) }
+        ensures some { OnErr result ((versions.now ≢ []) ⊎ (withdrawn.now ≢ [])) }
+    {
+        if versions.is_empty() && withdrawn.is_empty() {
+            return Ok(Catalogue::new(alloc));
+        }
+        Catalogue::of(alloc, lent(alloc, versions)?, lent(alloc, withdrawn)?)
     }
 
     /// How many instances it holds.

@@ -24,12 +24,12 @@ pub fn best_of_bests()
     ensures { (s t : List Parts) → best_of (best_of s ++ best_of t) ≡ best_of (s ++ t) }
 {}
 
-/// A UID is withdrawn exactly where it is one of those that are.
+/// The test whether a UID is withdrawn holds exactly where the withdrawn UIDs contain it.
 pub fn withdrawn_decides()
     ensures { (w : List (List ℕ)) (uid : List ℕ) → Decides (is_withdrawn w uid) (Contains w uid) }
 {}
 
-/// What is kept is the best of the versions that are left.
+/// What is kept is the best of the versions whose instances are not withdrawn.
 pub fn kept_is_best_of_left()
     ensures { (s : List Parts) (w : List (List ℕ)) → IsBestOf (left_of s w) (kept_of s w) }
 {}
@@ -39,19 +39,19 @@ pub fn kept_of_all()
     ensures { (s : List Parts) → kept_of s [] ≡ best_of s }
 {}
 
-/// What is kept of what two sets keep is what is kept of both.
+/// What two catalogues keep together is what one keeps that took and withdrew all the same.
 pub fn kept_of_kept()
     ensures { (s t : List Parts) (w u : List (List ℕ))
         → kept_of (kept_of s w ++ kept_of t u) (w ++ u) ≡ kept_of (s ++ t) (w ++ u) }
 {}
 
-/// Neither the order of versions nor that of withdrawals changes what is kept, nor do repeats.
+/// The order of versions and withdrawals does not change what is kept, and neither do repeats.
 pub fn kept_order_is_free()
     ensures { (s t : List Parts) (w u : List (List ℕ)) → SameMembers s t → SameMembers w u
         → kept_of s w ≡ kept_of t u }
 {}
 
-/// No version of a catalogue is withdrawn.
+/// A catalogue holds no version whose instance is withdrawn.
 pub fn held_is_apart()
     ensures { (c : Contents) (v : Parts) → IsHeld c → Contains c.versions v → ¬ Contains c.withdrawn v.instance }
 {}

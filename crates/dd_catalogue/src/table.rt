@@ -244,7 +244,7 @@ impl<T: Keyed + Copied + Drop> Table<T> {
     }
 }
 
-/// Copies of these values. Memory where a growth was refused: never where there are none.
+/// Copies these values. Memory where a growth was refused, and never where the list is empty.
 fn copies<T: Copied + Drop>(alloc: Global, values: &[T]) -> Result<Vec<T>, Memory>
     ensures equal { IfOk result (λ copies. copies.items ≡ values.now) }
     ensures some { OnErr result (values.now ≢ []) }

@@ -6,58 +6,60 @@ use Rattle.dd_set.specs.Elements.{Elements}
 use Rattle.dd_set.specs.Starts.{places_in}
 use Rattle.dd_layout.specs.Entries.{tag}
 use Rattle.dd_dir.specs.Reading.{Contents, contents_by, contents_in}
-use Rattle.dd_dir.specs.Saying.{id_in, first_in, last_in, records_in}
+use Rattle.dd_dir.specs.Saying.{beside_in, first_in, last_in, records_in}
+use Rattle.dd_dir.specs.Trees.{Beside}
 use Rattle.dd_dir.proofs.Moved.{SameMany, places_moved, places_many}
 use Rattle.dd_dir.proofs.Sequences.{items_in, items_in-is}
 
 -- all are there
-told : (id : List ℕ) (first last : Option ℕ) (starts : Option (List ℕ)) (sets : Option (List Elements)) (f l : ℕ)
+told : (beside : Beside) (first last : Option ℕ) (starts : Option (List ℕ)) (sets : Option (List Elements)) (f l : ℕ)
     (ns : List ℕ) (xs : List Elements) → first ≡ Some f → last ≡ Some l → starts ≡ Some ns → sets ≡ Some xs
-    → contents_by id first last starts sets ≡ Some (record { first = f; last = l; starts = ns; sets = xs; id = id })
-told id first last starts sets f l ns xs a b c d = rw (a, b, c, d) refl
+    → contents_by beside first last starts sets
+    ≡ Some (record { first = f; last = l; starts = ns; sets = xs; beside = beside })
+told beside first last starts sets f l ns xs a b c d = rw (a, b, c, d) refl
 
 -- one is not
-no_first : (id : List ℕ) (last : Option ℕ) (starts : Option (List ℕ)) (sets : Option (List Elements))
-    → contents_by id None last starts sets ≡ None
-no_first id last starts sets = refl
+no_first : (beside : Beside) (last : Option ℕ) (starts : Option (List ℕ)) (sets : Option (List Elements))
+    → contents_by beside None last starts sets ≡ None
+no_first beside last starts sets = refl
 
-no_last : (id : List ℕ) (first : Option ℕ) (starts : Option (List ℕ)) (sets : Option (List Elements))
-    → contents_by id first None starts sets ≡ None
-no_last id None starts sets = refl
-no_last id (Some f) starts sets = refl
+no_last : (beside : Beside) (first : Option ℕ) (starts : Option (List ℕ)) (sets : Option (List Elements))
+    → contents_by beside first None starts sets ≡ None
+no_last beside None starts sets = refl
+no_last beside (Some f) starts sets = refl
 
-no_starts : (id : List ℕ) (first last : Option ℕ) (sets : Option (List Elements))
-    → contents_by id first last None sets ≡ None
-no_starts id None last sets = refl
-no_starts id (Some f) None sets = refl
-no_starts id (Some f) (Some l) sets = refl
+no_starts : (beside : Beside) (first last : Option ℕ) (sets : Option (List Elements))
+    → contents_by beside first last None sets ≡ None
+no_starts beside None last sets = refl
+no_starts beside (Some f) None sets = refl
+no_starts beside (Some f) (Some l) sets = refl
 
-no_sets : (id : List ℕ) (first last : Option ℕ) (starts : Option (List ℕ))
-    → contents_by id first last starts None ≡ None
-no_sets id None last starts = refl
-no_sets id (Some f) None starts = refl
-no_sets id (Some f) (Some l) None = refl
-no_sets id (Some f) (Some l) (Some ns) = refl
+no_sets : (beside : Beside) (first last : Option ℕ) (starts : Option (List ℕ))
+    → contents_by beside first last starts None ≡ None
+no_sets beside None last starts = refl
+no_sets beside (Some f) None starts = refl
+no_sets beside (Some f) (Some l) None = refl
+no_sets beside (Some f) (Some l) (Some ns) = refl
 
 pub without_first : (front : List ℕ) (set : Elements) → first_in set ≡ None → contents_in front set ≡ None
 unfolding contents_in
 without_first front set is =
-    ap (λ (o : Option ℕ). contents_by (id_in set) o (last_in set) (places_in (tag 0x0004 0x1220) front set)
+    ap (λ (o : Option ℕ). contents_by (beside_in set) o (last_in set) (places_in (tag 0x0004 0x1220) front set)
     (records_in set)) is
 
 pub without_last : (front : List ℕ) (set : Elements) → last_in set ≡ None → contents_in front set ≡ None
 unfolding contents_in
 without_last front set is =
-    ap (λ (o : Option ℕ). contents_by (id_in set) (first_in set) o (places_in (tag 0x0004 0x1220) front set)
+    ap (λ (o : Option ℕ). contents_by (beside_in set) (first_in set) o (places_in (tag 0x0004 0x1220) front set)
     (records_in set)) is
-    ∙ no_last (id_in set) (first_in set) (places_in (tag 0x0004 0x1220) front set) (records_in set)
+    ∙ no_last (beside_in set) (first_in set) (places_in (tag 0x0004 0x1220) front set) (records_in set)
 
 pub without_sets : (front : List ℕ) (set : Elements) → records_in set ≡ None → contents_in front set ≡ None
 unfolding contents_in
 without_sets front set is =
-    ap (λ (o : Option (List Elements)). contents_by (id_in set) (first_in set) (last_in set)
+    ap (λ (o : Option (List Elements)). contents_by (beside_in set) (first_in set) (last_in set)
     (places_in (tag 0x0004 0x1220) front set) o) is
-    ∙ no_sets (id_in set) (first_in set) (last_in set) (places_in (tag 0x0004 0x1220) front set)
+    ∙ no_sets (beside_in set) (first_in set) (last_in set) (places_in (tag 0x0004 0x1220) front set)
 
 pub without_starts : (front : List ℕ) (set : Elements) → places_in (tag 0x0004 0x1220) [] set ≡ None
     → contents_in front set ≡ None
@@ -66,8 +68,8 @@ without_starts front set is =
     let none : places_in (tag 0x0004 0x1220) front set ≡ None =
     places_moved (tag 0x0004 0x1220) front (length front) set refl
     ∙ ap (λ (o : Option (List ℕ)). option_map (λ (ns : List ℕ). map (λ (n : ℕ). n + length front) ns) o) is in
-    ap (λ (o : Option (List ℕ)). contents_by (id_in set) (first_in set) (last_in set) o (records_in set)) none
-    ∙ no_starts (id_in set) (first_in set) (last_in set) (records_in set)
+    ap (λ (o : Option (List ℕ)). contents_by (beside_in set) (first_in set) (last_in set) o (records_in set)) none
+    ∙ no_starts (beside_in set) (first_in set) (last_in set) (records_in set)
 
 -- the places behind `by` bytes
 moved_some : (front : List ℕ) (by : ℕ) (set : Elements) (ns : List ℕ) → length front ≡ by
@@ -80,10 +82,10 @@ moved_some front by set ns long is =
 pub with_all_there : (front : List ℕ) (by : ℕ) (set : Elements) (f l : ℕ) (ns : List ℕ) (xs : List Elements)
     → length front ≡ by → first_in set ≡ Some f → last_in set ≡ Some l → places_in (tag 0x0004 0x1220) [] set ≡ Some ns
     → records_in set ≡ Some xs → contents_in front set
-    ≡ Some (record { first = f; last = l; starts = map (λ (n : ℕ). n + by) ns; sets = xs; id = id_in set })
+    ≡ Some (record { first = f; last = l; starts = map (λ (n : ℕ). n + by) ns; sets = xs; beside = beside_in set })
 unfolding contents_in
 with_all_there front by set f l ns xs long first last starts sets =
-    told (id_in set) (first_in set) (last_in set) (places_in (tag 0x0004 0x1220) front set) (records_in set) f l
+    told (beside_in set) (first_in set) (last_in set) (places_in (tag 0x0004 0x1220) front set) (records_in set) f l
     (map (λ (n : ℕ). n + by) ns) xs first last (moved_some front by set ns long starts) sets
 
 -- the records are there where their places are
@@ -108,7 +110,7 @@ wanted_there front set f l first last some =
     let xs = sets_there (places_in (tag 0x0004 0x1220) [] set) (items_in (tag 0x0004 0x1220) set) same ns.0 ns.1 in
     let sets : records_in set ≡ Some xs.0 = sym (items_in-is (tag 0x0004 0x1220) set) ∙ xs.1 in
     let by = length front in (
-      record { first = f; last = l; starts = map (λ (n : ℕ). n + by) ns.0; sets = xs.0; id = id_in set },
+      record { first = f; last = l; starts = map (λ (n : ℕ). n + by) ns.0; sets = xs.0; beside = beside_in set },
       with_all_there front by set f l ns.0 xs.0 refl first last ns.1 sets,
       omega (arith, ns.2, length-map ns.0 (λ (n : ℕ). n + by)),
     )

@@ -36,31 +36,34 @@ second_below : (xs ys : List ℕ) (n : ℕ) → length (xs ++ ys) ≡ n → n < 
 second_below xs ys n is below = omega (arith, length-append xs ys, is, below)
 
 -- its elements are those of a data set
-set_spelled : (label : Label) (versions : List Parts) → All (IsSound (length versions)) (records_of label versions)
-    → size label versions < 2 ^ 32 → length label.id ≤ max_set_id_length
+set_spelled : (label : Label) (versions : List Parts) (withdrawn : List (List ℕ))
+    → All (IsSound (length versions)) (records_of label versions)
+    → size label versions withdrawn < 2 ^ 32 → length label.id ≤ max_set_id_length
     → AllByRecursion IsRecord (map (entries_of versions) (records_of label versions))
-    → Spells Explicit (directory_set label versions) (elements_text (directory_set label versions))
-set_spelled label versions sound below few valid =
+    → Spells Explicit (directory_set label versions withdrawn) (elements_text (directory_set label versions withdrawn))
+set_spelled label versions withdrawn sound below few valid =
     let entries = map (entries_of versions) (records_of label versions) in
     let head = length_head (meta_of label) in
     let sum = sizes_sum label versions (tree versions)
     (recursion_from_All (IsSound (length versions)) (records_of label versions) sound) in
-    let all = directory_length label versions sound in
+    let all = directory_length label versions withdrawn sound in
     record {
-      valid = elements_are_valid label.id (first_root label versions) (last_root label versions) entries few
-          (All-from_recursion IsRecord entries valid) (omega (arith, sum, head, below));
+      valid = elements_are_valid label.id (first_root label versions) (last_root label versions) entries
+          withdrawn few (All-from_recursion IsRecord entries valid) (omega (arith, sum, head, below))
+          (omega (arith, below));
       whole = refl;
-      fits = second_below (head_text (meta_of label)) (elements_text (directory_set label versions)) _ all below;
+      fits = second_below (head_text (meta_of label)) (elements_text (directory_set label versions withdrawn)) _ all
+          below;
     }
 
-pub directory_is_file : (label : Label) (versions : List Parts) (seen : Label) (rows : List PlanRecord)
-    (bytes wide : ℕ) → seen ≡ label → rows ≡ records_of label versions → All (IsSound (length versions)) rows
-    → bytes ≡ size label versions → wide ≡ bytes → wide < 2 ^ 32 → length seen.id ≤ max_set_id_length → IsUid seen.uid
-    → AllByRecursion IsRecord (map (entries_of versions) rows) → IsDirectory label versions
-directory_is_file label versions seen rows bytes wide same is sound bytes_is wide_is below few uid valid =
-    let fits : size label versions < 2 ^ 32 = omega (arith, bytes_is, wide_is, below) in
-    let spelled = set_spelled label versions (subst (All (IsSound (length versions))) is sound) fits
+pub directory_is_file : (label : Label) (versions : List Parts) (withdrawn : List (List ℕ)) (seen : Label)
+    (rows : List PlanRecord) → seen ≡ label → rows ≡ records_of label versions → All (IsSound (length versions)) rows
+    → size label versions withdrawn < 2 ^ 32 → length seen.id ≤ max_set_id_length → IsUid label.uid
+    → AllByRecursion IsRecord (map (entries_of versions) rows) → IsDirectory label versions withdrawn
+directory_is_file label versions withdrawn seen rows same is sound below few uid valid =
+    let set = directory_set label versions withdrawn in
+    let spelled = set_spelled label versions withdrawn (subst (All (IsSound (length versions))) is sound) below
     (subst (λ (l : Label). length l.id ≤ max_set_id_length) same few)
     (subst (λ (rs : List PlanRecord). AllByRecursion IsRecord (map (entries_of versions) rs)) is valid) in
-    head_is_file (meta_of label) Explicit (directory_set label versions) (elements_text (directory_set label versions))
-    class_valid (subst (λ (l : Label). IsUid l.uid) same uid) syntax_valid explicit_known spelled (omega arith)
+    head_is_file (meta_of label) Explicit set (elements_text set) class_valid uid syntax_valid explicit_known spelled
+    (omega arith)

@@ -1,7 +1,7 @@
 -- The text of a directory as the pieces that are sent, and how long it is.
 use Rattle.std.proofs.Common.{◌≡◌, ℕ, ◌+◌, ◌-◌, ◌<◌, ◌^◌, List, [], ◌∷◌, ◌++◌, length, map, Option, Some, Result, Ok}
 use Rattle.std.proofs.Common.{Err, sum_by}
-use Rattle.std.proofs.Common.{refl, sym, ap, subst, ◌∙◌, arith, append_assoc, length-append}
+use Rattle.std.proofs.Common.{refl, sym, ap, ◌∙◌, arith, append_assoc, length-append}
 use Rattle.std.specs.Prelude.{IfOk}
 use Rattle.std.specs.List.{All, AllByRecursion, slice_get}
 use Rattle.std.proofs.lemmas.List.Elements.{recursion_from_All}
@@ -16,18 +16,20 @@ use Rattle.dd_set.specs.Sends.{Sends}
 use Rattle.dd_set.specs.declared.write_fault.WriteFault.{WriteFault}
 use Rattle.dd_set.specs.Spelling.{header_text, items_text, shape_text, tag_text}
 use Rattle.dd_layout.specs.declared.label.Label.{Label}
-use Rattle.dd_layout.specs.declared.record.PlanRecord.{PlanRecord}
 use Rattle.dd_layout.specs.Directory.{directory_entries, first_offset, front_entries, meta_of, records_entry}
 use Rattle.dd_layout.specs.Entries.{tag}
 use Rattle.dd_layout.specs.Layouts.{IsSound}
 use Rattle.dd_layout.specs.Paths.{Path}
-use Rattle.dd_layout.specs.Plans.{file_of, least_below, level_of, record_at, record_size_at, records_of, size, size_of}
+use Rattle.dd_layout.specs.Plans.{file_of, least_below, level_of, record_at, record_size_at, records_end, records_of}
+use Rattle.dd_layout.specs.Plans.{size, size_of}
 use Rattle.dd_layout.specs.Plans.{tree}
 use Rattle.dd_layout.specs.Records.{record_part}
 use Rattle.dd_layout.specs.Sizes.{record_size}
+use Rattle.dd_layout.specs.Withdrawals.{withdrawal_entries, withdrawals_size}
 use Rattle.dd_layout.proofs.RecordSizes.{same_size}
 use Rattle.dd_layout.proofs.DirectoryElements.{items_length, length_is_of_records}
 use Rattle.dd_dir.specs.Directories.{directory_of, entries_by, entries_of, first_root, last_root}
+use Rattle.dd_dir.specs.Directories.{opening_text}
 use Rattle.dd_dir.proofs.RecordTexts.{records_text}
 use Rattle.dd_dir.proofs.RowTexts.{text-append, text-one, text_of}
 
@@ -68,23 +70,23 @@ pub records_length : (label : Label) (versions : List Parts)
     → All (IsSound (length versions)) (records_of label versions)
     → first_offset label
     + length (items_text (items_of (map record_part (map (entries_of versions) (records_of label versions)))))
-    ≡ size label versions
+    ≡ records_end label versions
 records_length label versions sound =
     let a = items_length (map (entries_of versions) (records_of label versions)) in
     let b = sizes_sum label versions (tree versions)
     (recursion_from_All (IsSound (length versions)) (records_of label versions) sound) in
     omega arith
 
-pub directory_length : (label : Label) (versions : List Parts)
+pub directory_length : (label : Label) (versions : List Parts) (withdrawn : List (List ℕ))
     → All (IsSound (length versions)) (records_of label versions)
-    → length (directory_of label versions) ≡ size label versions
-directory_length label versions sound =
+    → length (directory_of label versions withdrawn) ≡ size label versions withdrawn
+directory_length label versions withdrawn sound =
     let entries = map (entries_of versions) (records_of label versions) in
     let first = first_root label versions in
     let last = last_root label versions in
-    let all = directory_entries label.id first last (map record_part entries) in
+    let all = directory_entries label.id first last (map record_part entries) ++ withdrawal_entries withdrawn in
     let a = length-append (head_text (meta_of label)) (text_of all) in
-    let b = length_is_of_records label first last entries in
+    let b = length_is_of_records label first last entries withdrawn in
     let c = sizes_sum label versions (tree versions)
     (recursion_from_All (IsSound (length versions)) (records_of label versions) sound) in
     omega arith
@@ -105,51 +107,98 @@ sequence_parts parts count is =
 abbrev pub sequence_header : ℕ → List ℕ
 sequence_header count = header_text (tag 0x0004 0x1220) (Some SQ) count
 
--- the directory is sent as its head, the elements before its records, the header of the sequence, and its records
-pub directory_parts : (label : Label) (versions : List Parts) (seen : Label) (rows : List PlanRecord) (meta : Meta)
-    (front : List Entry) (first last bytes wide offset : ℕ) → seen ≡ label → rows ≡ records_of label versions
-    → All (IsSound (length versions)) rows → meta ≡ meta_of seen → front ≡ front_entries seen.id first last
-    → first ≡ first_root label versions → last ≡ last_root label versions → bytes ≡ size label versions → wide ≡ bytes
-    → offset ≡ first_offset seen
-    → head_text meta ++ (text_of front ++ (sequence_header (wide - offset) ++ records_text versions rows))
-    ≡ directory_of label versions
-directory_parts label versions seen rows meta front first last bytes wide offset same is sound meta_is front_is first_is
-    last_is bytes_is wide_is offset_is =
-    let parts = map record_part (map (entries_of versions) (records_of label versions)) in
-    let a = records_length label versions (subst (All (IsSound (length versions))) is sound) in
-    let start : offset ≡ first_offset label = offset_is ∙ ap first_offset same in
-    let count : wide - offset ≡ length (items_text (items_of parts)) = omega (arith, a, bytes_is, wide_is, start) in
+-- what stands before the records is sent as the head, the elements before their sequence, and its header
+pub opening_parts : (label : Label) (versions : List Parts) (seen : Label) (meta : Meta) (front : List Entry)
+    (first last count : ℕ) → seen ≡ label → meta ≡ meta_of seen → front ≡ front_entries seen.id first last
+    → first ≡ first_root label versions → last ≡ last_root label versions
+    → head_text meta ++ (text_of front ++ sequence_header count) ≡ opening_text label versions count
+opening_parts label versions seen meta front first last count same meta_is front_is first_is last_is =
     let whole : front ≡ front_entries label.id (first_root label versions) (last_root label versions) =
     front_is ∙ ap (λ (l : Label). front_entries l.id first last) same
     ∙ ap (λ (n : ℕ). front_entries label.id n last) first_is
     ∙ ap (λ (n : ℕ). front_entries label.id (first_root label versions) n) last_is in
-    rw (is, meta_is, same) (ap (λ (t : List ℕ). head_text (meta_of label) ++ t)
-    (ap (λ (t : List ℕ). text_of front ++ t) (sym (sequence_parts parts (wide - offset) count))
-    ∙ sym (text-append front (records_entry parts ∷ []))
-    ∙ ap (λ (es : List Entry). text_of (es ++ (records_entry parts ∷ []))) whole))
+    rw (meta_is, same) (ap (λ (es : List Entry). head_text (meta_of label) ++ (text_of es ++ sequence_header count))
+    whole)
 
--- behind three of four texts that went, the fourth makes the length of the whole
-last_length : (one two three four whole : List ℕ) (n m k : ℕ) → one ++ (two ++ (three ++ four)) ≡ whole
-    → n ≡ 0 + length one → m ≡ n + length two → k ≡ m + length three → k + length four ≡ length whole
-last_length one two three four whole n m k is first second third =
+-- the directory is sent as what stands before its records, the records, and the elements with the withdrawn UIDs
+pub directory_parts : (label : Label) (versions : List Parts) (withdrawn : List (List ℕ)) (count : ℕ)
+    → All (IsSound (length versions)) (records_of label versions)
+    → count ≡ records_end label versions - first_offset label
+    → opening_text label versions count
+    ++ (records_text versions (records_of label versions) ++ text_of (withdrawal_entries withdrawn))
+    ≡ directory_of label versions withdrawn
+directory_parts label versions withdrawn count sound count_is =
+    let parts = map record_part (map (entries_of versions) (records_of label versions)) in
+    let items : List ℕ = items_text (items_of parts) in
+    let a = records_length label versions sound in
+    let many : count ≡ length items = omega (arith, a, count_is) in
+    let front = front_entries label.id (first_root label versions) (last_root label versions) in
+    let head : List ℕ = head_text (meta_of label) in
+    let rest : List ℕ = text_of (withdrawal_entries withdrawn) in
+    append_assoc head (text_of front ++ sequence_header count) (items ++ rest)
+    ∙ ap (λ (t : List ℕ). head ++ t) (append_assoc (text_of front) (sequence_header count) (items ++ rest)
+    ∙ ap (λ (t : List ℕ). text_of front ++ t) (sym (append_assoc (sequence_header count) items rest)
+    ∙ ap (λ (t : List ℕ). t ++ rest) (sym (sequence_parts parts count many)))
+    ∙ sym (append_assoc (text_of front) (text_of (records_entry parts ∷ [])) rest)
+    ∙ ap (λ (t : List ℕ). t ++ rest) (sym (text-append front (records_entry parts ∷ [])))
+    ∙ sym (text-append (front ++ (records_entry parts ∷ [])) (withdrawal_entries withdrawn)))
+
+-- so there is room for what stands before the records
+pub opening_fits : (label : Label) (versions : List Parts) (withdrawn : List (List ℕ)) (count : ℕ)
+    → All (IsSound (length versions)) (records_of label versions) → size label versions withdrawn < 2 ^ 32
+    → count ≡ records_end label versions - first_offset label → length (opening_text label versions count) < 2 ^ 64
+opening_fits label versions withdrawn count sound below count_is =
+    let rest : List ℕ = records_text versions (records_of label versions) ++ text_of (withdrawal_entries withdrawn) in
+    let whole = ap length (directory_parts label versions withdrawn count sound count_is) in
+    let long = directory_length label versions withdrawn sound in
+    let one = length-append (opening_text label versions count) rest in
+    omega (arith, whole, long, one, below)
+
+-- for its second and its third piece
+pub second_piece_fits : (one two three whole : List ℕ) (n : ℕ) → one ++ (two ++ three) ≡ whole → length whole < 2 ^ 64
+    → n ≡ 0 + length one → n + length two < 2 ^ 64
+second_piece_fits one two three whole n is fits first =
     let a = ap length is in
-    let b = length-append one (two ++ (three ++ four)) in
-    let c = length-append two (three ++ four) in
-    let d = length-append three four in
-    omega arith
+    let b = length-append one (two ++ three) in
+    let c = length-append two three in
+    omega (arith, a, b, c, fits, first)
 
--- so there is room for the records behind the header of their sequence
-pub records_fit : (label : Label) (versions : List Parts) (rows : List PlanRecord) (meta : Meta) (front : List Entry)
-    (count n m k : ℕ) → rows ≡ records_of label versions → All (IsSound (length versions)) rows
-    → size label versions < 2 ^ 32
-    → head_text meta ++ (text_of front ++ (sequence_header count ++ records_text versions rows))
-    ≡ directory_of label versions → n ≡ 0 + length (head_text meta) → m ≡ n + length (text_of front)
-    → k ≡ m + length (sequence_header count) → k + length (records_text versions rows) < 2 ^ 64
-records_fit label versions rows meta front count n m k is sound below whole first second third =
-    let sum = last_length (head_text meta) (text_of front) (sequence_header count) (records_text versions rows)
-    (directory_of label versions) n m k whole first second third in
-    let long = directory_length label versions (subst (All (IsSound (length versions))) is sound) in
-    omega (arith, sum, long, below)
+pub third_piece_fits : (one two three whole : List ℕ) (n m : ℕ) → one ++ (two ++ three) ≡ whole
+    → length whole < 2 ^ 64 → n ≡ 0 + length one → m ≡ n + length two → m + length three < 2 ^ 64
+third_piece_fits one two three whole n m is fits first second =
+    let a = ap length is in
+    let b = length-append one (two ++ three) in
+    let c = length-append two three in
+    omega (arith, a, b, c, fits, first, second)
+
+-- for the records
+pub records_fit : (label : Label) (versions : List Parts) (withdrawn : List (List ℕ)) (count n : ℕ)
+    → All (IsSound (length versions)) (records_of label versions) → size label versions withdrawn < 2 ^ 32
+    → count ≡ records_end label versions - first_offset label → n ≡ 0 + length (opening_text label versions count)
+    → n + length (records_text versions (records_of label versions)) < 2 ^ 64
+records_fit label versions withdrawn count n sound below count_is first =
+    let records : List ℕ = records_text versions (records_of label versions) in
+    let rest : List ℕ = text_of (withdrawal_entries withdrawn) in
+    let whole = ap length (directory_parts label versions withdrawn count sound count_is) in
+    let long = directory_length label versions withdrawn sound in
+    let one = length-append (opening_text label versions count) (records ++ rest) in
+    let two = length-append records rest in
+    omega (arith, whole, long, one, two, below, first)
+
+-- and for the elements behind them
+pub withdrawals_fit : (label : Label) (versions : List Parts) (withdrawn : List (List ℕ)) (count n m : ℕ)
+    → All (IsSound (length versions)) (records_of label versions) → size label versions withdrawn < 2 ^ 32
+    → count ≡ records_end label versions - first_offset label → n ≡ 0 + length (opening_text label versions count)
+    → m ≡ n + length (records_text versions (records_of label versions))
+    → m + withdrawals_size withdrawn < 2 ^ 64
+withdrawals_fit label versions withdrawn count n m sound below count_is first second =
+    let records : List ℕ = records_text versions (records_of label versions) in
+    let rest : List ℕ = text_of (withdrawal_entries withdrawn) in
+    let whole = ap length (directory_parts label versions withdrawn count sound count_is) in
+    let long = directory_length label versions withdrawn sound in
+    let one = length-append (opening_text label versions count) (records ++ rest) in
+    let two = length-append records rest in
+    omega (arith, whole, long, one, two, below, first, second)
 
 -- the answer is the size of a text that was sent whole
 pub size_told : {R : Type 0} (text : List ℕ) (n : ℕ) (result : Result ℕ WriteFault) (old new : Option (List ℕ) × R)

@@ -14,7 +14,7 @@ use Rattle.dd_dir.specs.ReadAnswers.{Fails, Follows}
 use Rattle.dd_dir.specs.Reading.{Contents, stands_of, count_unseen, AreTrees, IsWalkOf, EndElsewhere, RefusesOf}
 use Rattle.dd_dir.specs.Saying.{sets_of}
 use Rattle.dd_dir.specs.Slots.{Rises, AreLeft, reached, count_left, slots_view}
-use Rattle.dd_dir.specs.Trees.{Trees, places, last_root_or}
+use Rattle.dd_dir.specs.Trees.{Beside, Trees, places, last_root_or}
 use Rattle.dd_dir.specs.Walks.{Seen, nothing, with_all, AreApart, Stops}
 use Rattle.dd_dir.proofs.Lifting.{same_start}
 use Rattle.dd_dir.proofs.Moved.{sets_many}
@@ -129,16 +129,16 @@ ends_elsewhere contents slots new trees is follows other = record {
   elsewhere = other;
 }
 
-pub walk_of : (contents : Contents) (slots new : List (Option Elements)) (trees : Trees) (id : List ℕ) (unreached : ℕ)
-    → slots ≡ map (λ (set : Elements). Some set) contents.sets → Rises 0 contents.starts
+pub walk_of : (contents : Contents) (slots new : List (Option Elements)) (trees : Trees) (beside : Beside)
+    (unreached : ℕ) → slots ≡ map (λ (set : Elements). Some set) contents.sets → Rises 0 contents.starts
     → length contents.starts ≡ length new
     → Follows contents.starts contents.sets contents.first 0 slots new trees → last_root_or 0 trees ≡ contents.last
-    → id ≡ contents.id → unreached ≡ count_left new
-    → IsWalkOf contents (record { id = id; trees = trees; unreached = unreached })
-walk_of contents slots new trees id unreached is rise same follows ends id_is count = record {
+    → beside ≡ contents.beside → unreached ≡ count_left new
+    → IsWalkOf contents (record { beside = beside; trees = trees; unreached = unreached })
+walk_of contents slots new trees beside unreached is rise same follows ends beside_is count = record {
   trees = follows_trees contents slots new trees is follows;
   ends = ends;
-  id = id_is;
+  beside = beside_is;
   unreached =
       let adds : reached contents.starts new ≡ with_all (places trees) nothing =
       follows.adds ∙ ap (λ (seen : Seen). with_all (places trees) seen)

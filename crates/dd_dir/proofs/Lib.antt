@@ -18,6 +18,7 @@ pub mod ListedFirst
 pub mod ListedImages
 pub mod Moved
 pub mod OffsetsWithin
+pub mod OwnAnswers
 pub mod OwnDirectories
 pub mod OwnKeys
 pub mod PlacesAlong
@@ -38,3 +39,6 @@ pub mod WalkEnds
 pub mod WalkFiles
 pub mod WalkLaws
 pub mod WalkPlaces
+pub mod WithdrawalTexts
+pub mod WithdrawnRead
+pub mod WithdrawnUids

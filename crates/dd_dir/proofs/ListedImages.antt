@@ -10,7 +10,8 @@ use Rattle.dd_set.specs.Views.{set_view}
 use Rattle.dd_dir.specs.declared.forest.Tree.{Tree, out-Tree, the_lemmas}
 use Rattle.dd_dir.specs.declared.listing.Listed.{Listed as ListedValue}
 use Rattle.dd_dir.specs.declared.own_fault.OwnFault.{OwnFault}
-use Rattle.dd_dir.specs.declared.own_fault.OwnFault.TheVariants.{NoDigest, ForeignRecord, RecordKey, Memory}
+use Rattle.dd_dir.specs.declared.own_fault.OwnFault.TheVariants.{BadWithdrawal, ForeignRecord, Memory, NoDigest}
+use Rattle.dd_dir.specs.declared.own_fault.OwnFault.TheVariants.{RecordKey}
 use Rattle.dd_dir.specs.ForestViews.{tree_view, trees_view}
 use Rattle.dd_layout.specs.declared.level.Level.{Level}
 use Rattle.dd_layout.specs.declared.table.Row.{Row}
@@ -44,6 +45,8 @@ adds_behind old mid new front x IsWanted Wants (Ok done) e wants a = (
   ap (λ (r : Images). followed (Ok front) r) a.1,
   a.2 ∙ ap (λ (s : List Listed). s ++ a.0) e ∙ append_assoc old front a.0,
 )
+adds_behind old mid new front x IsWanted Wants (Err BadWithdrawal) e wants a =
+    ap (λ (r : Images). followed (Ok front) r) a
 adds_behind old mid new front x IsWanted Wants (Err Memory) e wants a = wants a
 adds_behind old mid new front x IsWanted Wants (Err (NoDigest at)) e wants a =
     ap (λ (r : Images). followed (Ok front) r) a
@@ -56,6 +59,7 @@ adds_behind old mid new front x IsWanted Wants (Err (RecordKey at tag)) e wants 
 pub refused_before : (F G : Type 0) (old new mid : List Listed) (x y : Images) (IsWanted Wants : Type 0)
     (fault : OwnFault) → (IsWanted → Wants) → Adds {F = F} old new x IsWanted (Err fault)
     → Adds {F = G} old mid (followed x y) Wants (Err fault)
+refused_before F G old new mid x y IsWanted Wants BadWithdrawal wants a = ap (λ (r : Images). followed r y) a
 refused_before F G old new mid x y IsWanted Wants Memory wants a = wants a
 refused_before F G old new mid x y IsWanted Wants (NoDigest at) wants a = ap (λ (r : Images). followed r y) a
 refused_before F G old new mid x y IsWanted Wants (ForeignRecord at) wants a = ap (λ (r : Images). followed r y) a
@@ -219,6 +223,7 @@ never_memory (Some level) node e =
 fails_by : (F : Type 0) (level : Option Level) (node : Node) (all : Images) (IsWanted : Type 0) (why : OwnFault)
     (old new : List Listed) → fault_at level node ≡ Some why → all ≡ Err why
     → Adds {F = F} old new all IsWanted (Err why)
+fails_by F level node all IsWanted BadWithdrawal old new fails is = is
 fails_by F level node all IsWanted Memory old new fails is = absurd (never_memory level node fails)
 fails_by F level node all IsWanted (NoDigest at) old new fails is = is
 fails_by F level node all IsWanted (ForeignRecord at) old new fails is = is

@@ -1,4 +1,4 @@
--- What a directory says of itself is its versions in harmony, and where their files are.
+-- What a directory says of itself is its versions in harmony, where their files are, and its withdrawn UIDs.
 use Rattle.std.specs.Prelude.{◌≡◌, ◌≢◌, ℕ, true, List, [], ◌∷◌, filter, map, unwrap_or, Option}
 use Rattle.std.specs.List.{AllByRecursion}
 use Rattle.std.proofs.Common.{refl, sym, ◌∙◌, ap, ap₂, subst, inl, inr}
@@ -26,6 +26,7 @@ use Rattle.dd_dir.specs.OwnVersions.{Located, place_of, version_of}
 use Rattle.dd_dir.specs.SaysItself.{SaysItself, is_of_image, place_in}
 use Rattle.dd_dir.specs.Trees.{Node}
 use Rattle.dd_dir.specs.Visits.{node_at}
+use Rattle.dd_dir.specs.Withdrawn.{AreRisingUids}
 use Rattle.dd_dir.proofs.ListedAlong.{image_by, listed_along, rows_images}
 use Rattle.dd_dir.proofs.RecordValues.{ImageSays, PatientSays, SeriesSays, StudySays}
 use Rattle.dd_dir.proofs.RowsSay.{front_among, image_row, patient_row, row_of, row_ranks, rows_pass}
@@ -34,6 +35,7 @@ use Rattle.dd_dir.proofs.SameTuples.{AreAlike, harmony_is_alike}
 use Rattle.dd_dir.proofs.TreeWalks.{tree_is_walked, tree_linked, tree_walk}
 use Rattle.dd_dir.proofs.VisitsAlong.{front_is}
 use Rattle.dd_dir.proofs.WalkFiles.{one_walk}
+use Rattle.dd_dir.proofs.WithdrawnRead.{withdrawn_read}
 
 -- ---- one image
 
@@ -92,8 +94,8 @@ led_is a b c d v led =
     let none : [] ≡ is.0 = cc in
     path ∙ ap (λ (w : Path). a ∷ b ∷ c ∷ d ∷ w) (sym none)
 
-image_says_version : (label : Label) (versions : List Parts) (a b c d : List ℕ) → AreAlike versions
-    → IsSent label versions → Member (a ∷ b ∷ c ∷ d ∷ []) (tree versions)
+image_says_version : {withdrawn : List (List ℕ)} (label : Label) (versions : List Parts) (a b c d : List ℕ)
+    → AreAlike versions → IsSent label versions withdrawn → Member (a ∷ b ∷ c ∷ d ∷ []) (tree versions)
     → SaysVersion versions (a ∷ b ∷ c ∷ d ∷ []) (image_by (node_at label versions) a b c d)
 image_says_version label versions a b c d alike sent i =
     let image = image_by (node_at label versions) a b c d in
@@ -142,8 +144,8 @@ abbrev RowSays : List Parts → (Path → Node) → Path → Type 0
 RowSays versions node (a ∷ b ∷ c ∷ d ∷ []) = SaysVersion versions (a ∷ b ∷ c ∷ d ∷ []) (image_by node a b c d)
 RowSays versions node path = Unit {0}
 
-row_says : (label : Label) (versions : List Parts) (x : Path) → AreAlike versions → IsSent label versions
-    → Member x (tree versions) → RowSays versions (node_at label versions) x
+row_says : {withdrawn : List (List ℕ)} (label : Label) (versions : List Parts) (x : Path) → AreAlike versions
+    → IsSent label versions withdrawn → Member x (tree versions) → RowSays versions (node_at label versions) x
 row_says label versions [] alike sent i = tt
 row_says label versions (a ∷ []) alike sent i = tt
 row_says label versions (a ∷ b ∷ []) alike sent i = tt
@@ -151,8 +153,8 @@ row_says label versions (a ∷ b ∷ c ∷ []) alike sent i = tt
 row_says label versions (a ∷ b ∷ c ∷ d ∷ []) alike sent i = image_says_version label versions a b c d alike sent i
 row_says label versions (a ∷ b ∷ c ∷ d ∷ e ∷ x) alike sent i = tt
 
-rows_say : (label : Label) (versions : List Parts) (rest : List Path) → AreAlike versions → IsSent label versions
-    → ((x : Path) → Member x rest → Member x (tree versions))
+rows_say : {withdrawn : List (List ℕ)} (label : Label) (versions : List Parts) (rest : List Path) → AreAlike versions
+    → IsSent label versions withdrawn → ((x : Path) → Member x rest → Member x (tree versions))
     → AllByRecursion (RowSays versions (node_at label versions)) rest
 rows_say label versions [] alike sent among = tt
 rows_say label versions (x ∷ rest) alike sent among = (
@@ -236,7 +238,8 @@ path_among versions v i =
     member_of (path_of v) (tree versions) (((tree_is_tree paths).each (path_of v)).1
     (some, (path_of v, contained (path_of v) paths (member-map path_of v versions i), leads_itself (path_of v))))
 
-all_said : (label : Label) (versions : List Parts) → AreAlike versions → IsSent label versions → IsCatalogue versions
+all_said : {withdrawn : List (List ℕ)} (label : Label) (versions : List Parts) → AreAlike versions
+    → IsSent label versions withdrawn → IsCatalogue versions
     → SameMembers (said (node_at label versions) (tree versions)) versions
 all_said label versions alike sent up =
     let node = node_at label versions in
@@ -255,9 +258,10 @@ all_said label versions alike sent up =
           contained v (said node rows) (subst (λ (w : Parts). Member w (said node rows)) one u.1)),
     )
 
-pub directory_says : (label : Label) (m : List Parts) → IsCatalogue m → IsSent label (harmonised m)
-    → SaysItself m (directory label m)
-directory_says label m up sent =
+pub directory_says : (label : Label) (m : List Parts) (withdrawn : List (List ℕ)) → IsCatalogue m
+    → AreRisingUids withdrawn → IsSent label (harmonised m) withdrawn
+    → SaysItself m withdrawn (directory label m withdrawn)
+directory_says label m withdrawn up uids sent =
     let versions = harmonised m in
     let node = node_at label versions in
     let rows = tree versions in
@@ -266,11 +270,11 @@ directory_says label m up sent =
     let each = rows_say label versions rows alike sent (λ x i. i) in
     let levels = all_have_levels versions in
     let same = all_said label versions alike sent rises in
-    let is = tree_is_walked label versions sent in
+    let is = tree_is_walked label versions withdrawn sent in
     record {
-      walk = tree_walk label versions;
+      walk = tree_walk label versions withdrawn;
       is_walk = is;
-      only = λ other so. one_walk (directory label m) (tree_walk label versions) other is so;
+      only = λ other so. one_walk (directory label m withdrawn) (tree_walk label versions withdrawn) other is so;
       images = rows_images node rows;
       lists = listed_along node [] rows levels (tree_linked versions)
           (rows_pass label versions rows sent (λ x i. i) levels);
@@ -279,4 +283,6 @@ directory_says label m up sent =
       best = best_of_same versions_ordered (said node rows) versions same
           ∙ best_of_rising versions_ordered versions rises;
       places = places_are versions node rows each;
+      names = withdrawn_read label versions withdrawn uids.each;
+      rising = uids;
     }

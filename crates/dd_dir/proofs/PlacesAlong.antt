@@ -1,5 +1,5 @@
 -- The items of the records of a directory stand at the offsets of the plan.
-use Rattle.std.specs.Prelude.{◌≡◌, ◌≤◌, ℕ, ◌+◌, ◌==◌, true, false, not, List, [], ◌∷◌, ◌++◌, All, length, map}
+use Rattle.std.specs.Prelude.{◌≡◌, ◌≤◌, ◌<◌, ◌^◌, ℕ, ◌+◌, ◌==◌, true, false, not, List, [], ◌∷◌, ◌++◌, All, length, map}
 use Rattle.std.specs.Prelude.{Option, Some, None}
 use Rattle.std.specs.List.{AllByRecursion}
 use Rattle.std.proofs.Common.{refl, sym, ◌∙◌, ap, inl, inr, arith, append_assoc}
@@ -25,7 +25,8 @@ use Rattle.dd_layout.specs.Directory.{first_offset, meta_of}
 use Rattle.dd_layout.specs.Entries.{bytes_entry, padded, tag}
 use Rattle.dd_layout.specs.Layouts.{IsSound}
 use Rattle.dd_layout.specs.Paths.{Path, is_before}
-use Rattle.dd_layout.specs.Plans.{at, at_or_none, path_of, record_at, record_size_at, records_of, size, tree}
+use Rattle.dd_layout.specs.Plans.{at, at_or_none, path_of, record_at, record_size_at, records_end, records_of, size}
+use Rattle.dd_layout.specs.Plans.{tree}
 use Rattle.dd_layout.specs.Records.{record_part}
 use Rattle.dd_layout.specs.Sizes.{record_size}
 use Rattle.dd_layout.proofs.Leasts.{paths_have_parts}
@@ -70,14 +71,19 @@ starts_along label versions front (x ∷ rest) is sound =
     ∙ ap (λ (l : List ℕ). at label versions x ∷ l)
     (starts_along label versions (front ++ x ∷ []) rest (is ∙ sym (append_assoc front (x ∷ []) rest)) sound.1)
 
--- all are within the size
+-- all are within the bytes up to the end of the records
 pub at_most : (label : Label) (versions : List Parts) (x : Option Path)
-    → at_or_none label versions x ≤ size label versions
+    → at_or_none label versions x ≤ records_end label versions
 at_most label versions None = omega arith
 at_most label versions (Some x) =
     let both = sum_by-filter_both (λ y. is_before y x) (λ y. not (is_before y x)) (λ y. refl)
     (record_size_at versions) (tree versions) in
     omega (arith, both)
+
+-- which fit 32 bits where the whole directory does
+pub end_small : (label : Label) (versions : List Parts) (withdrawn : List (List ℕ))
+    → size label versions withdrawn < 2 ^ 32 → records_end label versions < 2 ^ 32
+end_small label versions withdrawn small = omega (arith, small)
 
 -- ---- where they stand in the file
 
@@ -104,14 +110,15 @@ records_begin label first last n =
     omega arith
 
 -- so the places of the items are the offsets of the rows
-pub places_are : (label : Label) (versions : List Parts) → All (IsSound (length versions)) (records_of label versions)
-    → places_in (tag 0x0004 0x1220) (head_text (meta_of label)) (directory_set label versions)
+pub places_are : (label : Label) (versions : List Parts) (withdrawn : List (List ℕ))
+    → All (IsSound (length versions)) (records_of label versions)
+    → places_in (tag 0x0004 0x1220) (head_text (meta_of label)) (directory_set label versions withdrawn)
     ≡ Some (map (at label versions) (tree versions))
-places_are label versions sound =
+places_are label versions withdrawn sound =
     let each = recursion_from_All (IsSound (length versions)) (records_of label versions) sound in
     let parts = items_of (map record_part (map (entries_of versions) (records_of label versions))) in
     let start : first_offset label ≡ end_at label versions [] = omega arith in
-    places_in-sums (tag 0x0004 0x1220) (head_text (meta_of label)) (directory_set label versions)
+    places_in-sums (tag 0x0004 0x1220) (head_text (meta_of label)) (directory_set label versions withdrawn)
     ∙ ap (λ (n : ℕ). Some (starts_from n parts)) (records_begin label (first_root label versions)
     (last_root label versions) (length (items_text parts)) ∙ start)
     ∙ ap (λ (l : List ℕ). Some l) (starts_along label versions [] (tree versions) refl each)
@@ -123,7 +130,7 @@ offsets_rise label versions sound =
     let head = head_text (meta_of label) in
     let starts = map (at label versions) (tree versions) in
     rises_lower (length head) 0 starts (omega arith)
-    (places_rise (tag 0x0004 0x1220) head (directory_set label versions) starts (places_are label versions sound))
+    (places_rise (tag 0x0004 0x1220) head (directory_set label versions []) starts (places_are label versions [] sound))
 
 -- ---- the item at an offset
 

@@ -54,7 +54,8 @@ pub record IsRowOf (label : Label) (versions : List Parts) (x : Path) (v : Parts
   pub set : (node_at label versions x).set ≡ elements_of (record_entries (level_of x)
       (record_at label versions x).next (record_at label versions x).lower (record_at label versions x).file v)
 
-pub row_of : (label : Label) (versions : List Parts) (x : Path) → IsSent label versions → Member x (tree versions)
+pub row_of : {withdrawn : List (List ℕ)} (label : Label) (versions : List Parts) (x : Path)
+    → IsSent label versions withdrawn → Member x (tree versions)
     → (v : Parts) × IsRowOf label versions x v
 row_of label versions x sent i =
     let of = of_version versions x i in
@@ -135,7 +136,8 @@ row_passes label versions (a ∷ b ∷ c ∷ d ∷ []) v level is =
     image_passes n.at n.set r.0 v is.formed r.1 (image_row label versions a b c d v r.0 is r.1 r.2)
 row_passes label versions (a ∷ b ∷ c ∷ d ∷ e ∷ x) v level is = absurd level
 
-pub rows_pass : (label : Label) (versions : List Parts) (rest : List Path) → IsSent label versions
+pub rows_pass : {withdrawn : List (List ℕ)} (label : Label) (versions : List Parts) (rest : List Path)
+    → IsSent label versions withdrawn
     → ((x : Path) → Member x rest → Member x (tree versions)) → AllByRecursion HasLevel rest
     → AllByRecursion (IsPassed (node_at label versions)) rest
 rows_pass label versions [] sent among levels = tt

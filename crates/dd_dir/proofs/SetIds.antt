@@ -28,6 +28,6 @@ ends_unpadded id all front last is =
 clean_id : (id : List ℕ) → IsSetId id → clean_of id ≡ id
 clean_id id is = clean_of-unpadded id (ends_unpadded id is.characters)
 
-pub id_said : (label : Label) (versions : List Parts) → IsSetId label.id
-    → id_in (directory_set label versions) ≡ label.id
-id_said label versions is = clean_of-padded 0x20 label.id refl ∙ clean_id label.id is
+pub id_said : (label : Label) (versions : List Parts) (withdrawn : List (List ℕ)) → IsSetId label.id
+    → id_in (directory_set label versions withdrawn) ≡ label.id
+id_said label versions withdrawn is = clean_of-padded 0x20 label.id refl ∙ clean_id label.id is

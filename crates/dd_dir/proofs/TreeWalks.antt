@@ -17,7 +17,7 @@ use Rattle.dd_layout.specs.Directory.{meta_of}
 use Rattle.dd_layout.specs.Layouts.{IsSound}
 use Rattle.dd_layout.specs.Neighbours.{scan}
 use Rattle.dd_layout.specs.Paths.{Path, parent_of}
-use Rattle.dd_layout.specs.Plans.{at, at_or_none, level_of, path_of, record_at, records_of, size, tree}
+use Rattle.dd_layout.specs.Plans.{at, at_or_none, level_of, path_of, record_at, records_end, records_of, tree}
 use Rattle.dd_layout.specs.Records.{kind_of}
 use Rattle.dd_layout.specs.Tree.{children, first_child, in_order, next_sibling}
 use Rattle.dd_layout.proofs.Blocks.{AllTails}
@@ -30,7 +30,7 @@ use Rattle.dd_dir.specs.Directories.{last_root}
 use Rattle.dd_dir.specs.Keyed.{IsKeyed, IsKeyedBy, IsSent}
 use Rattle.dd_dir.specs.Reading.{Contents, IsDirectoryFile, IsWalk, contents_by, contents_in}
 use Rattle.dd_dir.specs.Reading.{count_unseen, stands_of}
-use Rattle.dd_dir.specs.Saying.{Says, id_in, says_of}
+use Rattle.dd_dir.specs.Saying.{Says, beside_in, says_of}
 use Rattle.dd_dir.specs.Trees.{Walk, places}
 use Rattle.dd_dir.specs.Visits.{Visit, node_at, or_root, visit_at, visits_of}
 use Rattle.dd_dir.specs.Walks.{AreApart, IsChain, Seen, nothing, with, with_all}
@@ -38,7 +38,7 @@ use Rattle.dd_dir.proofs.ChainsAlong.{SaysAlong, chains_along, first_along, last
 use Rattle.dd_dir.proofs.GrownTrees.{grown}
 use Rattle.dd_dir.proofs.KeyedRecords.{clean_key}
 use Rattle.dd_dir.proofs.OwnKeys.{IsOfVersion, least_leads, own_is}
-use Rattle.dd_dir.proofs.PlacesAlong.{at_most, offsets_rise, places_are, sets_are, stands_found}
+use Rattle.dd_dir.proofs.PlacesAlong.{at_most, end_small, offsets_rise, places_are, sets_are, stands_found}
 use Rattle.dd_dir.proofs.RecordsSay.{record_says}
 use Rattle.dd_dir.proofs.VisitsAlong.{IsOwn, at_by, visit_by, visits_along}
 use Rattle.dd_dir.specs.Slots.{Rises}
@@ -52,7 +52,7 @@ at_is label versions (Some x) = refl
 
 -- of a version that was found
 version_says : (label : Label) (versions : List Parts) (x : Path) (v : Parts)
-    → size label versions < 2 ^ 32 → entries_of versions (record_at label versions x)
+    → records_end label versions < 2 ^ 32 → entries_of versions (record_at label versions x)
     ≡ entries_by (record_at label versions x) (Some v)
     → says_of (elements_of (entries_of versions (record_at label versions x)))
     ≡ Some (record {
@@ -70,7 +70,7 @@ version_says label versions x v small found =
 
 -- the record of a row says what stands along the rows behind it
 row_says : (label : Label) (versions : List Parts) (front : List Path) (x : Path) (rest : List Path)
-    → tree versions ≡ front ++ x ∷ rest → size label versions < 2 ^ 32 → IsOfVersion versions x
+    → tree versions ≡ front ++ x ∷ rest → records_end label versions < 2 ^ 32 → IsOfVersion versions x
     → says_of (node_at label versions x).set ≡ Some (says_along (node_at label versions) x rest)
 row_says label versions front x rest is small of =
     let known = rows_are_known (map path_of versions) (paths_have_parts versions) front x rest is in
@@ -84,40 +84,42 @@ row_says label versions front x rest is small of =
 -- ---- what the file says
 
 -- what a directory of these versions says of its records
-abbrev pub contents_at : Label → List Parts → Contents
-contents_at label versions = record {
+abbrev pub contents_at : Label → List Parts → List (List ℕ) → Contents
+contents_at label versions withdrawn = record {
   first = first_root label versions;
   last = last_root label versions;
   starts = map (at label versions) (tree versions);
   sets = map (λ x. (node_at label versions x).set) (tree versions);
-  id = id_in (directory_set label versions);
+  beside = beside_in (directory_set label versions withdrawn);
 }
 
-set_says : (label : Label) (versions : List Parts) → size label versions < 2 ^ 32
+set_says : (label : Label) (versions : List Parts) (withdrawn : List (List ℕ)) → records_end label versions < 2 ^ 32
     → All (IsSound (length versions)) (records_of label versions)
-    → contents_in (head_text (meta_of label)) (directory_set label versions) ≡ Some (contents_at label versions)
+    → contents_in (head_text (meta_of label)) (directory_set label versions withdrawn)
+    ≡ Some (contents_at label versions withdrawn)
 unfolding contents_in
-set_says label versions small sound =
+set_says label versions withdrawn small sound =
     let first = at_most label versions (first_child (tree versions) []) in
     let last = at_most label versions (last_or None (children (tree versions) [])) in
     let one = from_le_bytes-to_le_bytes_4 (first_root label versions) (omega (arith, first, small)) in
     let other = from_le_bytes-to_le_bytes_4 (last_root label versions) (omega (arith, last, small)) in
-    let starts = places_are label versions sound in
+    let starts = places_are label versions withdrawn sound in
     let sets = sets_are versions (record_at label versions) (tree versions) in
-    λ i. contents_by (id_in (directory_set label versions)) (Some (one i)) (Some (other i)) (starts i) (Some (sets i))
+    let beside = beside_in (directory_set label versions withdrawn) in
+    λ i. contents_by beside (Some (one i)) (Some (other i)) (starts i) (Some (sets i))
 
-pub file_says : (label : Label) (versions : List Parts) → IsSent label versions
-    → IsDirectoryFile (directory_of label versions) (contents_at label versions)
-file_says label versions sent =
+pub file_says : (label : Label) (versions : List Parts) (withdrawn : List (List ℕ)) → IsSent label versions withdrawn
+    → IsDirectoryFile (directory_of label versions withdrawn) (contents_at label versions withdrawn)
+file_says label versions withdrawn sent =
     let head = head_text (meta_of label) in
-    let set = directory_set label versions in
+    let set = directory_set label versions withdrawn in
     record {
       meta = meta_of label;
       set = set;
       at = length head;
       is_file = sent.file;
       says = ap (λ (front : List ℕ). contents_in front set) (take_at head (elements_text set) (length head) refl)
-          ∙ set_says label versions sent.small sent.sound;
+          ∙ set_says label versions withdrawn (end_small label versions withdrawn sent.small) sent.sound;
     }
 
 -- ---- offsets that rise are apart, and all of them are seen
@@ -173,28 +175,30 @@ own_along label versions (x ∷ rest) among levels keyed =
     )
 
 -- each stands where the plan says
-found_at : (label : Label) (versions : List Parts) → All (IsSound (length versions)) (records_of label versions)
+found_at : (label : Label) (versions : List Parts) (withdrawn : List (List ℕ))
+    → All (IsSound (length versions)) (records_of label versions)
     → (x : Path) → Member x (tree versions)
-    → stands_of (contents_at label versions) (at label versions x) ≡ Some (node_at label versions x).set
-found_at label versions sound x i =
+    → stands_of (contents_at label versions withdrawn) (at label versions x) ≡ Some (node_at label versions x).set
+found_at label versions withdrawn sound x i =
     stands_found (at label versions) (λ y. (node_at label versions y).set) 0 (tree versions) x
     (offsets_rise label versions sound) i
 
 -- each says what stands along the rows behind it
-says_tails : (label : Label) (versions : List Parts) (front rest : List Path) → tree versions ≡ front ++ rest
-    → size label versions < 2 ^ 32 → All (IsSound (length versions)) (records_of label versions)
+says_tails : (label : Label) (versions : List Parts) (withdrawn : List (List ℕ)) (front rest : List Path)
+    → tree versions ≡ front ++ rest
+    → records_end label versions < 2 ^ 32 → All (IsSound (length versions)) (records_of label versions)
     → ((x : Path) → Member x rest → Member x (tree versions))
-    → AllTails (SaysAlong (stands_of (contents_at label versions)) (node_at label versions)) rest
-says_tails label versions front [] is small sound among = tt
-says_tails label versions front (x ∷ rest) is small sound among =
+    → AllTails (SaysAlong (stands_of (contents_at label versions withdrawn)) (node_at label versions)) rest
+says_tails label versions withdrawn front [] is small sound among = tt
+says_tails label versions withdrawn front (x ∷ rest) is small sound among =
     let i = among x (inl refl) in (
       record {
-        found = found_at label versions sound x i;
+        found = found_at label versions withdrawn sound x i;
         says = row_says label versions front x rest is small (of_version versions x i);
         is = refl;
       },
-      says_tails label versions (front ++ x ∷ []) rest (is ∙ sym (append_assoc front (x ∷ []) rest)) small sound
-          (λ y j. among y (inr j)),
+      says_tails label versions withdrawn (front ++ x ∷ []) rest (is ∙ sym (append_assoc front (x ∷ []) rest)) small
+          sound (λ y j. among y (inr j)),
     )
 
 -- each follows one that its parent leads to
@@ -207,9 +211,9 @@ tree_linked versions =
 -- ---- the walk
 
 -- the trees that grow from the rows
-abbrev pub tree_walk : Label → List Parts → Walk
-tree_walk label versions = record {
-  id = id_in (directory_set label versions);
+abbrev pub tree_walk : Label → List Parts → List (List ℕ) → Walk
+tree_walk label versions withdrawn = record {
+  beside = beside_in (directory_set label versions withdrawn);
   trees = (grown (node_at label versions) (tree versions)).patient;
   unreached = 0;
 }
@@ -227,61 +231,67 @@ visits_at : (label : Label) (versions : List Parts) (rest : List Path)
 visits_at label versions [] = refl
 visits_at label versions (x ∷ rest) = ap (λ (l : List ℕ). at label versions x ∷ l) (visits_at label versions rest)
 
-grown_visits : (label : Label) (versions : List Parts) → IsSent label versions
-    → visits_of (tree_walk label versions) ≡ map (visit_by (node_at label versions)) (tree versions)
-grown_visits label versions sent =
+grown_visits : (label : Label) (versions : List Parts) (withdrawn : List (List ℕ)) → IsSent label versions withdrawn
+    → visits_of (tree_walk label versions withdrawn) ≡ map (visit_by (node_at label versions)) (tree versions)
+grown_visits label versions withdrawn sent =
     visits_along (node_at label versions) [] (tree versions) (all_have_levels versions) (tree_linked versions)
     (own_along label versions (tree versions) (λ x i. i) (all_have_levels versions) sent.keyed)
 
-pub tree_visits : (label : Label) (versions : List Parts) → IsSent label versions
-    → visits_of (tree_walk label versions) ≡ map (visit_at label versions) (tree versions)
-tree_visits label versions sent = grown_visits label versions sent ∙ visits_same label versions (tree versions)
+pub tree_visits : (label : Label) (versions : List Parts) (withdrawn : List (List ℕ)) → IsSent label versions withdrawn
+    → visits_of (tree_walk label versions withdrawn) ≡ map (visit_at label versions) (tree versions)
+tree_visits label versions withdrawn sent =
+    grown_visits label versions withdrawn sent ∙ visits_same label versions (tree versions)
 
-tree_places : (label : Label) (versions : List Parts) → IsSent label versions
-    → places (tree_walk label versions).trees ≡ map (at label versions) (tree versions)
-tree_places label versions sent =
-    sym (visits_places [] 0 (tree_walk label versions).trees)
-    ∙ ap (λ (l : List Visit). map (λ visit. visit.node.at) l) (grown_visits label versions sent)
+tree_places : (label : Label) (versions : List Parts) (withdrawn : List (List ℕ)) → IsSent label versions withdrawn
+    → places (tree_walk label versions withdrawn).trees ≡ map (at label versions) (tree versions)
+tree_places label versions withdrawn sent =
+    sym (visits_places [] 0 (tree_walk label versions withdrawn).trees)
+    ∙ ap (λ (l : List Visit). map (λ visit. visit.node.at) l) (grown_visits label versions withdrawn sent)
     ∙ visits_at label versions (tree versions)
 
-tree_chain : (label : Label) (versions : List Parts) → IsSent label versions
-    → IsChain (stands_of (contents_at label versions)) (first_root label versions) 0
-    (tree_walk label versions).trees
-tree_chain label versions sent =
+tree_chain : (label : Label) (versions : List Parts) (withdrawn : List (List ℕ)) → IsSent label versions withdrawn
+    → IsChain (stands_of (contents_at label versions withdrawn)) (first_root label versions) 0
+    (tree_walk label versions withdrawn).trees
+tree_chain label versions withdrawn sent =
     let node = node_at label versions in
     let levels = all_have_levels versions in
-    let stands = stands_of (contents_at label versions) in
+    let stands = stands_of (contents_at label versions withdrawn) in
     let chains = chains_along stands node (tree versions) levels
-    (says_tails label versions [] (tree versions) refl sent.small sent.sound (λ x i. i)) in
+    (says_tails label versions withdrawn [] (tree versions) refl (end_small label versions withdrawn sent.small)
+    sent.sound (λ x i. i)) in
     let first : first_root label versions ≡ at_by node (scan 1 (tree versions)) =
     at_is label versions (first_child (tree versions) []) ∙ ap (at_by node) (first_along node (tree versions) levels) in
-    subst (λ (p : ℕ). IsChain stands p 0 (tree_walk label versions).trees) (sym first) chains.patient
+    subst (λ (p : ℕ). IsChain stands p 0 (tree_walk label versions withdrawn).trees) (sym first) chains.patient
 
-tree_apart : (label : Label) (versions : List Parts) → IsSent label versions
-    → AreApart nothing (places (tree_walk label versions).trees)
-tree_apart label versions sent =
-    subst (AreApart nothing) (sym (tree_places label versions sent))
+tree_apart : (label : Label) (versions : List Parts) (withdrawn : List (List ℕ)) → IsSent label versions withdrawn
+    → AreApart nothing (places (tree_walk label versions withdrawn).trees)
+tree_apart label versions withdrawn sent =
+    subst (AreApart nothing) (sym (tree_places label versions withdrawn sent))
     (rise_apart 0 nothing (map (at label versions) (tree versions)) (λ q above. refl)
     (offsets_rise label versions sent.sound))
 
-tree_reached : (label : Label) (versions : List Parts) → IsSent label versions
-    → 0 ≡ count_unseen (with_all (places (tree_walk label versions).trees) nothing)
+tree_reached : (label : Label) (versions : List Parts) (withdrawn : List (List ℕ)) → IsSent label versions withdrawn
+    → 0 ≡ count_unseen (with_all (places (tree_walk label versions withdrawn).trees) nothing)
     (map (at label versions) (tree versions))
-tree_reached label versions sent =
+tree_reached label versions withdrawn sent =
     let ps = map (at label versions) (tree versions) in
-    sym (ap (λ (qs : List ℕ). count_unseen (with_all qs nothing) ps) (tree_places label versions sent)
+    sym (ap (λ (qs : List ℕ). count_unseen (with_all qs nothing) ps) (tree_places label versions withdrawn sent)
     ∙ none_unseen (with_all ps nothing) ps (λ q i. all_seen ps nothing q i))
 
-pub tree_is_walked : (label : Label) (versions : List Parts) → IsSent label versions
-    → IsWalk (directory_of label versions) (tree_walk label versions)
-tree_is_walked label versions sent = record {
-  contents = contents_at label versions;
-  is_directory = file_says label versions sent;
+pub tree_is_walked : (label : Label) (versions : List Parts) (withdrawn : List (List ℕ))
+    → IsSent label versions withdrawn
+    → IsWalk (directory_of label versions withdrawn) (tree_walk label versions withdrawn)
+tree_is_walked label versions withdrawn sent = record {
+  contents = contents_at label versions withdrawn;
+  is_directory = file_says label versions withdrawn sent;
   is_walk = record {
-    trees = record { chain = tree_chain label versions sent; apart = tree_apart label versions sent };
+    trees = record {
+      chain = tree_chain label versions withdrawn sent;
+      apart = tree_apart label versions withdrawn sent;
+    };
     ends = last_along (node_at label versions) None (tree versions) (all_have_levels versions)
         ∙ sym (at_is label versions (last_or None (children (tree versions) [])));
-    id = refl;
-    unreached = tree_reached label versions sent;
+    beside = refl;
+    unreached = tree_reached label versions withdrawn sent;
   };
 }

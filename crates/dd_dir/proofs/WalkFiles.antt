@@ -71,8 +71,8 @@ file_or_fault file meta set at fault h e =
 
 -- ---- one walk of what a directory says
 
-same_walk : (a b : Walk) → a.id ≡ b.id → a.trees ≡ b.trees → a.unreached ≡ b.unreached → a ≡ b
-same_walk a b x y z = λ i. record { id = x i; trees = y i; unreached = z i }
+same_walk : (a b : Walk) → a.beside ≡ b.beside → a.trees ≡ b.trees → a.unreached ≡ b.unreached → a ≡ b
+same_walk a b x y z = λ i. record { beside = x i; trees = y i; unreached = z i }
 
 module _ (contents : Contents) (empty : stands_of contents 0 ≡ None) where
   pub trees_one : (trees other : Trees) → AreTrees contents trees → AreTrees contents other → other ≡ trees
@@ -83,7 +83,7 @@ module _ (contents : Contents) (empty : stands_of contents 0 ≡ None) where
   walk_one walk other a b =
       let trees : other.trees ≡ walk.trees = trees_one walk.trees other.trees a.trees b.trees in
       let left : Trees → ℕ = λ t. count_unseen (with_all (places t) nothing) contents.starts in
-      same_walk other walk (b.id ∙ sym a.id) trees (b.unreached ∙ ap left trees ∙ sym a.unreached)
+      same_walk other walk (b.beside ∙ sym a.beside) trees (b.unreached ∙ ap left trees ∙ sym a.unreached)
 
   -- trees, and a stop
   pub trees_or_stop : (trees : Trees) (fault : DirFault) → AreTrees contents trees → BreaksOff contents fault → ⊥
@@ -230,14 +230,14 @@ grown file contents h grows =
     elim (cases_eq (last_root_or 0 grows.trees) contents.last) [
       | inl is ↦ inl (
         record {
-          id = contents.id;
+          beside = contents.beside;
           trees = grows.trees;
           unreached = count_unseen (with_all (places grows.trees) nothing) contents.starts;
         },
         record {
           contents = contents;
           is_directory = h;
-          is_walk = record { trees = trees; ends = is; id = refl; unreached = refl };
+          is_walk = record { trees = trees; ends = is; beside = refl; unreached = refl };
         },
       )
       | inr not ↦ inr (

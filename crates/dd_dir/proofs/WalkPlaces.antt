@@ -16,7 +16,8 @@ use Rattle.dd_part10.specs.File.{IsFile, prefix, group_length_text}
 use Rattle.dd_layout.specs.Entries.{tag}
 use Rattle.dd_dir.specs.Reading.{Contents, contents_by, contents_in, contents_of, is_directory_meta}
 use Rattle.dd_dir.specs.Reading.{stands_in, stands_of, IsDirectoryFile}
-use Rattle.dd_dir.specs.Saying.{id_in, first_in, last_in, records_in}
+use Rattle.dd_dir.specs.Saying.{beside_in, first_in, last_in, records_in}
+use Rattle.dd_dir.specs.Trees.{Beside}
 use Rattle.dd_dir.specs.Slots.{Rises}
 
 pub rises_lower : (low least : ℕ) (ps : List ℕ) → least ≤ low → Rises low ps → Rises least ps
@@ -83,9 +84,9 @@ places_rise wanted front (element t vr content rest) starts e =
 -- ---- what a directory says
 
 -- of parts of which each is there
-pub record Named (contents : Contents) (id : List ℕ) (first last : Option ℕ) (starts : Option (List ℕ))
+pub record Named (contents : Contents) (beside : Beside) (first last : Option ℕ) (starts : Option (List ℕ))
     (sets : Option (List Elements)) : Type 0 where
-  pub id_is : id ≡ contents.id
+  pub beside_is : beside ≡ contents.beside
   pub first_is : first ≡ Some contents.first
   pub last_is : last ≡ Some contents.last
   pub starts_are : starts ≡ Some contents.starts
@@ -94,18 +95,18 @@ pub record Named (contents : Contents) (id : List ℕ) (first last : Option ℕ)
 same_contents : (a b : Contents) → ◌≡◌ {A = Option Contents} (Some a) (Some b) → a ≡ b
 same_contents a b e = cc
 
-pub contents_named : (contents : Contents) (id : List ℕ) (first last : Option ℕ) (starts : Option (List ℕ))
-    (sets : Option (List Elements)) → contents_by id first last starts sets ≡ Some contents
-    → Named contents id first last starts sets
-contents_named c id None last starts sets e = absurd cc
-contents_named c id (Some first) None starts sets e = absurd cc
-contents_named c id (Some first) (Some last) None sets e = absurd cc
-contents_named c id (Some first) (Some last) (Some starts) None e = absurd cc
-contents_named c id (Some first) (Some last) (Some starts) (Some sets) e =
-    let made : Contents = record { first = first; last = last; starts = starts; sets = sets; id = id } in
+pub contents_named : (contents : Contents) (beside : Beside) (first last : Option ℕ) (starts : Option (List ℕ))
+    (sets : Option (List Elements)) → contents_by beside first last starts sets ≡ Some contents
+    → Named contents beside first last starts sets
+contents_named c beside None last starts sets e = absurd cc
+contents_named c beside (Some first) None starts sets e = absurd cc
+contents_named c beside (Some first) (Some last) None sets e = absurd cc
+contents_named c beside (Some first) (Some last) (Some starts) None e = absurd cc
+contents_named c beside (Some first) (Some last) (Some starts) (Some sets) e =
+    let made : Contents = record { first = first; last = last; starts = starts; sets = sets; beside = beside } in
     let is : made ≡ c = same_contents made c e in
     record {
-      id_is = ap (λ (x : Contents). x.id) is;
+      beside_is = ap (λ (x : Contents). x.beside) is;
       first_is = ap (λ (x : Contents). Some x.first) is;
       last_is = ap (λ (x : Contents). Some x.last) is;
       starts_are = ap (λ (x : Contents). Some x.starts) is;
@@ -120,13 +121,13 @@ chosen_contents false o contents e = absurd cc
 -- of a file that is a directory
 pub contents_parts : (file : List ℕ) (meta : Meta) (set : Elements) (at : ℕ) (contents : Contents)
     → contents_of file meta set at ≡ Some contents → (is_directory_meta meta ≡ true)
-    × Named contents (id_in set) (first_in set) (last_in set) (places_in (tag 0x0004 0x1220) (take at file) set)
+    × Named contents (beside_in set) (first_in set) (last_in set) (places_in (tag 0x0004 0x1220) (take at file) set)
     (records_in set)
 unfolding contents_in
 contents_parts file meta set at contents e =
     let chosen = chosen_contents (is_directory_meta meta) (contents_in (take at file) set) contents e in (
       chosen.0,
-      contents_named contents (id_in set) (first_in set) (last_in set)
+      contents_named contents (beside_in set) (first_in set) (last_in set)
           (places_in (tag 0x0004 0x1220) (take at file) set) (records_in set) chosen.1,
     )
 

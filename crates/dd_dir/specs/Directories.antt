@@ -3,18 +3,21 @@ use Rattle.std.specs.Prelude.{◌<◌, ℕ, List, [], ◌++◌, All, length, map
 use Rattle.std.specs.List.{last_or}
 use Rattle.dd_catalogue.specs.Harmony.{harmonised}
 use Rattle.dd_elem.specs.Digests.{uid_of_digest}
+use Rattle.dd_elem.specs.declared.vr.Vr.TheVariants.{SQ}
 use Rattle.dd_keys.specs.declared.parts.Parts.{Parts}
 use Rattle.dd_part10.specs.File.{IsFile}
 use Rattle.dd_part10.specs.Head.{head_text}
 use Rattle.dd_set.specs.Elements.{Elements, Entry, elements_of}
-use Rattle.dd_set.specs.Spelling.{elements_text}
+use Rattle.dd_set.specs.Spelling.{elements_text, header_text}
 use Rattle.dd_layout.specs.declared.label.Label.{Label}
 use Rattle.dd_layout.specs.declared.record.PlanRecord.{PlanRecord}
-use Rattle.dd_layout.specs.Directory.{directory_entries, meta_of}
+use Rattle.dd_layout.specs.Directory.{directory_entries, front_entries, meta_of}
+use Rattle.dd_layout.specs.Entries.{tag}
 use Rattle.dd_layout.specs.Layouts.{StandsWithin}
 use Rattle.dd_layout.specs.Plans.{at_or_none, records_of, tree}
 use Rattle.dd_layout.specs.Records.{record_entries, record_part}
 use Rattle.dd_layout.specs.Tree.{children, first_child}
+use Rattle.dd_layout.specs.Withdrawals.{withdrawal_entries}
 use Rattle.sha2.specs.Sha256.{sha256}
 
 -- the offset of the first root record, and of the last, where there are records: the roots are those whose path has one
@@ -40,28 +43,37 @@ entries_by row (Some version) = record_entries row.level row.next row.lower row.
 abbrev pub entries_of : List Parts → PlanRecord → List Entry
 entries_of versions row = entries_by row (slice_get versions row.of)
 
--- the elements of the directory of these versions, which are in harmony
-abbrev pub directory_set : Label → List Parts → Elements
-directory_set label versions = elements_of (directory_entries label.id (first_root label versions)
-    (last_root label versions) (map record_part (map (entries_of versions) (records_of label versions))))
+-- the elements of the directory of these versions, which are in harmony, and of these withdrawn UIDs
+abbrev pub directory_set : Label → List Parts → List (List ℕ) → Elements
+directory_set label versions withdrawn = elements_of (directory_entries label.id (first_root label versions)
+    (last_root label versions) (map record_part (map (entries_of versions) (records_of label versions)))
+    ++ withdrawal_entries withdrawn)
 
 -- its bytes: the head of the file and the elements
-abbrev pub directory_of : Label → List Parts → List ℕ
-directory_of label versions = head_text (meta_of label) ++ elements_text (directory_set label versions)
+abbrev pub directory_of : Label → List Parts → List (List ℕ) → List ℕ
+directory_of label versions withdrawn =
+    head_text (meta_of label) ++ elements_text (directory_set label versions withdrawn)
+
+-- the bytes before its records, which take this many bytes together: the head of the file, the elements before the
+-- sequence of the records, and its header
+abbrev pub opening_text : Label → List Parts → ℕ → List ℕ
+opening_text label versions count = head_text (meta_of label) ++ (
+    elements_text (elements_of (front_entries label.id (first_root label versions) (last_root label versions)))
+    ++ header_text (tag 0x0004 0x1220) (Some SQ) count)
 
 -- they are a file of the class of directories, whose data set has these elements
-abbrev pub IsDirectory : Label → List Parts → Type 0
-IsDirectory label versions = IsFile (directory_of label versions) (meta_of label) (directory_set label versions)
-    (length (head_text (meta_of label)))
+abbrev pub IsDirectory : Label → List Parts → List (List ℕ) → Type 0
+IsDirectory label versions withdrawn = IsFile (directory_of label versions withdrawn) (meta_of label)
+    (directory_set label versions withdrawn) (length (head_text (meta_of label)))
 
--- the directory of the versions of a catalogue
-abbrev pub directory : Label → List Parts → List ℕ
-directory label m = directory_of label (harmonised m)
+-- the directory of the versions and the withdrawn UIDs of a catalogue
+abbrev pub directory : Label → List Parts → List (List ℕ) → List ℕ
+directory label m withdrawn = directory_of label (harmonised m) withdrawn
 
 -- the label of a file-set with this ID that has no UID of its own
 abbrev pub unnamed_label : List ℕ → Label
 unnamed_label id = record { id = id; uid = codes "2.25.0" }
 
 -- the UID that such a file-set gets: that of the digest of its directory under this label
-abbrev pub derived : List ℕ → List Parts → List ℕ
-derived id m = uid_of_digest (sha256 (directory (unnamed_label id) m))
+abbrev pub derived : List ℕ → List Parts → List (List ℕ) → List ℕ
+derived id m withdrawn = uid_of_digest (sha256 (directory (unnamed_label id) m withdrawn))

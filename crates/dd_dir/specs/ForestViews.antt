@@ -1,10 +1,11 @@
 -- The trees that a `Forest` stands for.
-use Rattle.std.specs.Prelude.{List, [], ◌∷◌, map}
+use Rattle.std.specs.Prelude.{ℕ, List, [], ◌∷◌, map, Option, option_map}
+use Rattle.std.specs.Borrow.{Bor}
 use Rattle.dd_set.specs.Views.{set_view}
 use Rattle.dd_dir.specs.declared.forest.Forest.{Forest}
 use Rattle.dd_dir.specs.declared.forest.Tree.{Tree, fold-Tree}
 use Rattle.dd_dir.specs.declared.forest.Tree.TheOpen.{Tree-F}
-use Rattle.dd_dir.specs.Trees.{Node, Trees, Walk, no_trees, tree}
+use Rattle.dd_dir.specs.Trees.{Beside, Node, Trees, Walk, no_trees, tree}
 
 -- a record with the trees below it
 pub record Branch : Type 0 where
@@ -29,5 +30,12 @@ tree_view = fold-Tree Branch tree_step
 abbrev pub trees_view : List Tree → Trees
 trees_view ts = trees_of (map tree_view ts)
 
+abbrev pub beside_view : Bor (List ℕ) → Option (Bor (List ℕ)) → Beside
+beside_view id withdrawn = record { id = id.now; withdrawn = option_map (λ value. value.now) withdrawn }
+
 abbrev pub walk_view : Forest → Walk
-walk_view f = record { id = f.id.now; trees = trees_view f.trees.items; unreached = f.unreached }
+walk_view f = record {
+  beside = beside_view f.id f.withdrawn;
+  trees = trees_view f.trees.items;
+  unreached = f.unreached;
+}

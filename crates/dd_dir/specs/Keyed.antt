@@ -1,5 +1,5 @@
 -- Records of versions whose parts are well formed, so that they are read back from them.
-use Rattle.std.specs.Prelude.{◌<◌, ◌^◌, List, length, All, Option, Some, None, slice_get}
+use Rattle.std.specs.Prelude.{ℕ, ◌<◌, ◌^◌, List, length, All, Option, Some, None, slice_get}
 use Rattle.std.specs.List.{AllByRecursion}
 use Rattle.dd_elem.specs.SetId.{IsSetId}
 use Rattle.dd_keys.specs.declared.parts.Parts.{Parts}
@@ -19,9 +19,9 @@ abbrev pub IsKeyed : List Parts → PlanRecord → Type 0
 IsKeyed versions row = IsKeyedBy row (slice_get versions row.of)
 
 -- what is known of a directory that was sent whole
-pub record IsSent (label : Label) (versions : List Parts) : Type 0 where
-  pub file : IsDirectory label versions
+pub record IsSent (label : Label) (versions : List Parts) (withdrawn : List (List ℕ)) : Type 0 where
+  pub file : IsDirectory label versions withdrawn
   pub id : IsSetId label.id
-  pub small : size label versions < 2 ^ 32
+  pub small : size label versions withdrawn < 2 ^ 32
   pub sound : All (IsSound (length versions)) (records_of label versions)
   pub keyed : AllByRecursion (IsKeyed versions) (records_of label versions)

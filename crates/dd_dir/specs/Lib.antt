@@ -14,3 +14,4 @@ pub mod Trees
 pub mod Visits
 pub mod Walks
 pub mod WellFormed
+pub mod Withdrawn

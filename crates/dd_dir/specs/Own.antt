@@ -16,13 +16,13 @@ use Rattle.dd_layout.specs.declared.level.Level.{Level}
 use Rattle.dd_layout.specs.declared.level.Level.TheVariants.{Patient, Study, Series, Image}
 use Rattle.dd_layout.specs.declared.table.Row.{Row}
 use Rattle.dd_layout.specs.Entries.{tag}
-use Rattle.dd_layout.specs.Records.{kind_of, private_creator}
+use Rattle.dd_layout.specs.Records.{kind_of}
 use Rattle.dd_layout.specs.Tables.{table_of}
 use Rattle.dd_part10.specs.Syntaxes.{syntax_of}
 use Rattle.dd_set.specs.Elements.{Elements}
 use Rattle.dd_dir.specs.declared.own_fault.OwnFault.{OwnFault}
 use Rattle.dd_dir.specs.declared.own_fault.OwnFault.TheVariants.{NoDigest, ForeignRecord, RecordKey}
-use Rattle.dd_dir.specs.Saying.{value_of}
+use Rattle.dd_dir.specs.Saying.{is_creator, value_of}
 use Rattle.dd_dir.specs.Trees.{Node, Trees, no_trees, tree, Walk}
 
 -- ---- where a record stands
@@ -56,11 +56,6 @@ below in_image set = in_image
 -- a value of 32 bytes
 abbrev pub sized : List ℕ → Option (List ℕ)
 sized v = if length v == 32 then Some v else None
-
--- the creator of the private elements in which the digest stands
-abbrev pub is_creator : Option (List ℕ) → Bool
-is_creator None = false
-is_creator (Some v) = bytes_eq v private_creator
 
 -- the digest of the file of a record, in the block of private elements of that creator (PS3.5 section 7.8.1)
 abbrev pub digest_in : Elements → Option (List ℕ)

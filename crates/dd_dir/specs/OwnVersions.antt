@@ -1,5 +1,5 @@
 -- What a directory that is written here says of the images that it lists: their versions, and where their files are.
-use Rattle.std.specs.Prelude.{◌≡◌, ℕ, List, [], map, unwrap_or, Result, Ok, Err}
+use Rattle.std.specs.Prelude.{◌≡◌, ◌≢◌, ◌⊎◌, ℕ, List, [], map, unwrap_or, Result, Ok, Err}
 use Rattle.dd_keys.specs.declared.keys.PatientKeys.{PatientKeys}
 use Rattle.dd_keys.specs.declared.keys.SeriesKeys.{SeriesKeys}
 use Rattle.dd_keys.specs.declared.keys.StudyKeys.{StudyKeys}
@@ -9,10 +9,11 @@ use Rattle.dd_set.specs.Elements.{Elements}
 use Rattle.dd_dir.specs.declared.own.Own.{Own}
 use Rattle.dd_dir.specs.declared.own.Place.{Place}
 use Rattle.dd_dir.specs.declared.own_fault.OwnFault.{OwnFault}
-use Rattle.dd_dir.specs.declared.own_fault.OwnFault.TheVariants.{Memory}
+use Rattle.dd_dir.specs.declared.own_fault.OwnFault.TheVariants.{BadWithdrawal, Memory}
 use Rattle.dd_dir.specs.Own.{Listed, ListsFirst, digest_in, own, root}
 use Rattle.dd_dir.specs.Saying.{key_of}
 use Rattle.dd_dir.specs.Trees.{Walk}
+use Rattle.dd_dir.specs.Withdrawn.{AreRisingUids, withdrawn_of}
 
 abbrev pub digest_of : Elements → List ℕ
 digest_of set = unwrap_or (digest_in set) []
@@ -77,10 +78,11 @@ place_view place = record { uid = place.uid; digest = place.digest; file = place
 
 -- ---- answers
 
--- it tells of these images their versions, and where their files are
-pub record Tells (images : List Listed) (told : Own) : Type 0 where
+-- it tells of these images their versions, and where their files are, and has these withdrawn UIDs
+pub record Tells (uids : List (List ℕ)) (images : List Listed) (told : Own) : Type 0 where
   pub versions : told.versions.items ≡ map version_of images
   pub places : map place_view told.places.items ≡ map place_of images
+  pub withdrawn : told.withdrawn.items ≡ uids
 
 -- The answer where the records list these images, or fail by this fault: what the images give, or the fault. Memory
 -- runs out only where it is wanted.
@@ -90,6 +92,21 @@ Answers all IsWanted IsAnswer (Ok value) = (images : List Listed) × (all ≡ Ok
 Answers all IsWanted IsAnswer (Err Memory) = IsWanted
 Answers all IsWanted IsAnswer (Err fault) = all ≡ Err fault
 
--- The answer to a walk. Memory is wanted only where an image is listed before any record fails.
-abbrev pub AnswersWalk : {B : Type 0} → Walk → (List Listed → B → Type 0) → Result B OwnFault → Type 0
-AnswersWalk walk IsAnswer result = Answers (own walk) (ListsFirst root walk.trees) IsAnswer result
+-- an image is listed before any record fails
+abbrev pub ListsSome : Walk → Type 0
+ListsSome walk = ListsFirst root walk.trees
+
+-- or a UID is withdrawn
+abbrev pub NamesSome : Walk → Type 0
+NamesSome walk = ListsSome walk ⊎ (withdrawn_of walk ≢ [])
+
+-- The answer to a walk, where memory is wanted only so. What names the withdrawn UIDs is checked before all records.
+abbrev pub AnswersWalk : {B : Type 0} → Walk → Type 0 → (List Listed → B → Type 0) → Result B OwnFault → Type 0
+AnswersWalk walk IsWanted IsAnswer (Err BadWithdrawal) = AreRisingUids (withdrawn_of walk) → ⊥
+AnswersWalk walk IsWanted IsAnswer result =
+    AreRisingUids (withdrawn_of walk) × Answers (own walk) IsWanted IsAnswer result
+
+-- why the records of a walk, or what names its withdrawn UIDs, are not those that are written here
+abbrev pub FailsOwn : Walk → OwnFault → Type 0
+FailsOwn walk BadWithdrawal = AreRisingUids (withdrawn_of walk) → ⊥
+FailsOwn walk fault = AreRisingUids (withdrawn_of walk) × (own walk ≡ Err fault)

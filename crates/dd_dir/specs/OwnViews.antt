@@ -11,8 +11,9 @@ use Rattle.dd_dir.specs.declared.listing.Listed.{Listed as ListedValue}
 use Rattle.dd_dir.specs.declared.own_fault.OwnFault.{OwnFault}
 use Rattle.dd_dir.specs.ForestViews.{Branch}
 use Rattle.dd_dir.specs.Own.{Above, root, in_patient, in_study, in_series, in_image, Listed, ListsFirst, ListsWith}
-use Rattle.dd_dir.specs.Own.{below, digest_in, is_bad, listed_in, listed_with}
-use Rattle.dd_dir.specs.OwnVersions.{Answers}
+use Rattle.dd_dir.specs.Own.{below, digest_in, is_bad, listed_in, listed_with, own}
+use Rattle.dd_dir.specs.OwnVersions.{Answers, ListsSome}
+use Rattle.dd_dir.specs.Trees.{Walk}
 
 abbrev pub above_view : AboveValue → Above
 above_view values.Root = root
@@ -48,6 +49,11 @@ ListsOneFirst above branch =
 abbrev pub Adds : {F : Type 0} → List Listed → List Listed → Result (List Listed) OwnFault → Type 0
     → Result F OwnFault → Type 0
 Adds {F} old new to_come IsWanted result = Answers to_come IsWanted (λ images (done : F). new ≡ old ++ images) result
+
+-- The answer where the records of a walk list images, or fail. Memory is wanted only where an image is listed before
+-- any of them fails.
+abbrev pub AnswersRecords : {B : Type 0} → Walk → (List Listed → B → Type 0) → Result B OwnFault → Type 0
+AnswersRecords walk IsAnswer result = Answers (own walk) (ListsSome walk) IsAnswer result
 
 -- ---- records that were checked
 

@@ -10,7 +10,7 @@ use Rattle.dd_dir.specs.declared.fault.DirFault.{DirFault}
 use Rattle.dd_dir.specs.declared.fault.DirFault.TheVariants.{File, NotDirectory, Memory}
 use Rattle.dd_dir.specs.declared.forest.Tree.{Tree}
 use Rattle.dd_dir.specs.declared.said.Said.{Said}
-use Rattle.dd_dir.specs.ForestViews.{Branch, tree_view, trees_view}
+use Rattle.dd_dir.specs.ForestViews.{Branch, beside_view, tree_view, trees_view}
 use Rattle.dd_dir.specs.Reading.{Contents, stands_in}
 use Rattle.dd_dir.specs.Saying.{Says, sets_of}
 use Rattle.dd_dir.specs.Slots.{AreLeft, reached}
@@ -33,7 +33,7 @@ directory_view held = record {
   last = held.last;
   starts = held.starts.items;
   sets = sets_of (items_view held.items.items);
-  id = held.id.now;
+  beside = beside_view held.id held.withdrawn;
 }
 
 -- What was answered is what there is. Memory is wanted only where there are records.

@@ -12,36 +12,36 @@ use Rattle.dd_layout.specs.Directory.{directory_class, directory_syntax}
 use Rattle.dd_layout.specs.Entries.{tag}
 use Rattle.dd_dir.specs.declared.fault.DirFault.{DirFault}
 use Rattle.dd_dir.specs.declared.fault.DirFault.TheVariants as faults
-use Rattle.dd_dir.specs.Saying.{records_in, first_in, last_in, id_in}
-use Rattle.dd_dir.specs.Trees.{Trees, Walk, places, last_root_or}
+use Rattle.dd_dir.specs.Saying.{records_in, first_in, last_in, beside_in}
+use Rattle.dd_dir.specs.Trees.{Beside, Trees, Walk, places, last_root_or}
 use Rattle.dd_dir.specs.Walks.{IsChain, AreApart, nothing, with_all, Stops}
 
 -- ---- what a file says
 
 -- the offsets of the first and of the last root record, where the items start that may be records, counted from the
--- first byte of the file, their data sets, and the File-set ID
+-- first byte of the file, their data sets, and what stands beside them
 pub record Contents : Type 0 where
   pub first : ℕ
   pub last : ℕ
   pub starts : List ℕ
   pub sets : List Elements
-  pub id : List ℕ
+  pub beside : Beside
 
 -- the class of directories and the transfer syntax that they are in
 abbrev pub is_directory_meta : Meta → Bool
 is_directory_meta meta = bytes_eq meta.class directory_class && bytes_eq meta.transfer directory_syntax
 
-abbrev pub contents_by : List ℕ → Option ℕ → Option ℕ → Option (List ℕ) → Option (List Elements) → Option Contents
-contents_by id None last starts sets = None
-contents_by id (Some first) None starts sets = None
-contents_by id (Some first) (Some last) None sets = None
-contents_by id (Some first) (Some last) (Some starts) None = None
-contents_by id (Some first) (Some last) (Some starts) (Some sets) =
-    Some (record { first = first; last = last; starts = starts; sets = sets; id = id })
+abbrev pub contents_by : Beside → Option ℕ → Option ℕ → Option (List ℕ) → Option (List Elements) → Option Contents
+contents_by beside None last starts sets = None
+contents_by beside (Some first) None starts sets = None
+contents_by beside (Some first) (Some last) None sets = None
+contents_by beside (Some first) (Some last) (Some starts) None = None
+contents_by beside (Some first) (Some last) (Some starts) (Some sets) =
+    Some (record { first = first; last = last; starts = starts; sets = sets; beside = beside })
 
 -- of a data set that stands behind the bytes `front`: none where an offset is missing or the records are no items
 unfoldable pub contents_in : List ℕ → Elements → Option Contents
-contents_in front set = contents_by (id_in set) (first_in set) (last_in set)
+contents_in front set = contents_by (beside_in set) (first_in set) (last_in set)
     (places_in (tag 0x0004 0x1220) front set) (records_in set)
 
 -- of a file with this meta information and this data set, which starts at this byte
@@ -81,7 +81,7 @@ pub record AreTrees (contents : Contents) (trees : Trees) : Type 0 where
 pub record IsWalkOf (contents : Contents) (walk : Walk) : Type 0 where
   pub trees : AreTrees contents walk.trees
   pub ends : last_root_or 0 walk.trees ≡ contents.last
-  pub id : walk.id ≡ contents.id
+  pub beside : walk.beside ≡ contents.beside
   pub unreached : walk.unreached ≡ count_unseen (with_all (places walk.trees) nothing) contents.starts
 
 pub record IsWalk (file : List ℕ) (walk : Walk) : Type 0 where

@@ -1,6 +1,7 @@
 -- What the elements of a directory and of its records say (PS3.3 sections F.3.2.1 and F.3.2.2).
-use Rattle.std.specs.Prelude.{ℕ, Bool, ◌==◌, List, [], ◌∷◌, length, Option, Some, None, option_and_then, unwrap_or}
-use Rattle.std.specs.Prelude.{if◌then◌else◌}
+use Rattle.std.specs.Prelude.{ℕ, Bool, false, ◌==◌, List, [], ◌∷◌, length, Option, Some, None, option_and_then}
+use Rattle.std.specs.Prelude.{option_map, unwrap_or, if◌then◌else◌}
+use Rattle.std.specs.Str.{bytes_eq}
 use Rattle.std.specs.Int.{w16, w32, from_le_bytes}
 use Rattle.dd_elem.specs.Clean.{clean_of}
 use Rattle.dd_elem.specs.declared.tag.Tag.{Tag}
@@ -8,6 +9,8 @@ use Rattle.dd_keys.specs.Values.{value_at}
 use Rattle.dd_set.specs.Elements.{Elements, Content, bytes, items, fragments, Entry, Items, no_items, item}
 use Rattle.dd_set.specs.Find.{find_in}
 use Rattle.dd_layout.specs.Entries.{tag}
+use Rattle.dd_layout.specs.Records.{private_creator}
+use Rattle.dd_dir.specs.Trees.{Beside}
 
 -- ---- values
 
@@ -24,6 +27,11 @@ value_of wanted set = option_and_then (λ (e : Entry). bytes_of e.content) (find
 -- its bytes without their padding, and nothing where there are none
 abbrev pub key_of : Tag → Elements → List ℕ
 key_of wanted set = unwrap_or (value_at wanted set) []
+
+-- a value names the creator of the private elements that are written here
+abbrev pub is_creator : Option (List ℕ) → Bool
+is_creator None = false
+is_creator (Some v) = bytes_eq v private_creator
 
 -- the number that 4 bytes are, and whether 2 bytes are FFFFH
 abbrev pub number_of : List ℕ → Option ℕ
@@ -86,3 +94,14 @@ last_in set = option_and_then number_of (value_of (tag 0x0004 0x1202) set)
 -- the File-set ID without its padding, and nothing where there is none
 abbrev pub id_in : Elements → List ℕ
 id_in set = key_of (tag 0x0004 0x1130) set
+
+-- the value that names the withdrawn UIDs, without its padding, in the block of private elements of that creator (PS3.5
+-- section 7.8.1): none where it is not there or does not hold bytes
+abbrev pub withdrawn_in : Elements → Option (List ℕ)
+withdrawn_in set =
+    if is_creator (value_at (tag 0x0009 0x0010) set) then option_map clean_of (value_of (tag 0x0009 0x1002) set)
+    else None
+
+-- what it says beside its records
+abbrev pub beside_in : Elements → Beside
+beside_in set = record { id = id_in set; withdrawn = withdrawn_in set }

@@ -1,4 +1,5 @@
--- What a directory says of itself: the versions of a catalogue in harmony, and where their files are.
+-- What a directory says of itself: the versions of a catalogue in harmony, where their files are, and which UIDs are
+-- withdrawn.
 use Rattle.std.specs.Prelude.{◌≡◌, ℕ, Bool, true, false, List, [], ◌∷◌, map, filter, Ok}
 use Rattle.dd_catalogue.specs.Best.{SameMembers}
 use Rattle.dd_catalogue.specs.Harmony.{harmonised}
@@ -11,6 +12,7 @@ use Rattle.dd_dir.specs.Own.{Listed, own}
 use Rattle.dd_dir.specs.OwnVersions.{Located, place_of, version_of}
 use Rattle.dd_dir.specs.Reading.{IsWalk}
 use Rattle.dd_dir.specs.Trees.{Walk}
+use Rattle.dd_dir.specs.Withdrawn.{AreRisingUids, withdrawn_of}
 
 -- the path of an image: it has four parts
 abbrev pub is_of_image : Path → Bool
@@ -24,7 +26,8 @@ place_in versions v =
 
 -- The bytes have one walk, and no record in it fails a check. Its images are the versions of the set in harmony, in the
 -- order of their paths: each says all keys of its version and its place, and the best of them is the set in harmony.
-pub record SaysItself (m : List Parts) (file : List ℕ) : Type 0 where
+-- The directory names these withdrawn UIDs, which rise.
+pub record SaysItself (m : List Parts) (withdrawn : List (List ℕ)) (file : List ℕ) : Type 0 where
   pub walk : Walk
   pub is_walk : IsWalk file walk
   pub only : (other : Walk) → IsWalk file other → other ≡ walk
@@ -34,3 +37,5 @@ pub record SaysItself (m : List Parts) (file : List ℕ) : Type 0 where
   pub versions : SameMembers (map version_of images) (harmonised m)
   pub best : best_of (map version_of images) ≡ harmonised m
   pub places : map place_of images ≡ map (place_in (harmonised m)) (map version_of images)
+  pub names : withdrawn_of walk ≡ withdrawn
+  pub rising : AreRisingUids withdrawn

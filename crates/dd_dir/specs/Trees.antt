@@ -1,5 +1,5 @@
 -- Records as trees: each with those below it and those that come after it (PS3.3 section F.4).
-use Rattle.std.specs.Prelude.{ℕ, Bool, List, [], ◌∷◌, ◌++◌}
+use Rattle.std.specs.Prelude.{ℕ, Bool, List, [], ◌∷◌, ◌++◌, Option}
 use Rattle.dd_set.specs.Elements.{Elements}
 
 -- a record: its offset, its type, whether it is in use, and its elements
@@ -24,8 +24,15 @@ abbrev pub last_root_or : ℕ → Trees → ℕ
 last_root_or before no_trees = before
 last_root_or before (tree node below after) = last_root_or node.at after
 
--- what following the offsets of a directory gives: its File-set ID, the records reached, and how many were not reached
-pub record Walk : Type 0 where
+-- what a directory says beside its records: its File-set ID, and the value that names its withdrawn UIDs, where it has
+-- one
+pub record Beside : Type 0 where
   pub id : List ℕ
+  pub withdrawn : Option (List ℕ)
+
+-- what following the offsets of a directory gives: what it says beside its records, the records reached, and how many
+-- were not reached
+pub record Walk : Type 0 where
+  pub beside : Beside
   pub trees : Trees
   pub unreached : ℕ

@@ -83,7 +83,7 @@ pub record Realises (label : Label) (m : List Parts) (file : List ℕ) : Type 0 
   pub walk : Walk
   pub is_walk : IsWalk file walk
   pub only : (other : Walk) → IsWalk file other → other ≡ walk
-  pub id : walk.id ≡ label.id
+  pub id : walk.beside.id ≡ label.id
   pub visits : visits_of walk ≡ map (visit_at label (harmonised m)) (tree (harmonised m))
   pub reached : walk.unreached ≡ 0
   pub each : VisitsEachOnce m (map (λ visit. visit.path) (visits_of walk))

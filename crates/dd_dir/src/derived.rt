@@ -14,7 +14,7 @@ use std::alloc::Global;
 /// The UID under which the directory is hashed that a UID is derived from.
 const UNNAMED: &[u8] = b"2.25.0";
 
-/// The UID of the SHA-256 of the directory of these versions under this ID and the UID 2.25.0. The
+/// The UID of the SHA-256 of the directory of this catalogue under this ID and the UID 2.25.0. The
 /// directory is hashed as it is sent, and never held in memory. Refused as `lay_out` refuses under that
 /// label, and as Memory where the writer that hashes fails, which is where a count of its calls is at
 /// its last value.
@@ -24,10 +24,11 @@ pub fn derived_uid(
     id: &SetId,
     limits: Limits,
 ) -> Result<Uid, PlanFault>
-    ensures uid { IfOk result (λ uid. uid ≡ derived id.now catalogue.now.versions) }
-    ensures allowed { IsOk result → refusal (unnamed_label id.now) limits catalogue.now.versions ≡ None }
+    ensures uid { IfOk result (λ uid. uid ≡ derived id.now catalogue.now.versions catalogue.now.withdrawn) }
+    ensures allowed { IsOk result → refusal (unnamed_label id.now) limits catalogue.now.versions
+        catalogue.now.withdrawn ≡ None }
     ensures refused { IfErr result (λ fault. (fault ≡ PlanFault.Memory)
-        ⊎ (refusal (unnamed_label id.now) limits catalogue.now.versions ≡ Some fault)) }
+        ⊎ (refusal (unnamed_label id.now) limits catalogue.now.versions catalogue.now.withdrawn ≡ Some fault)) }
 {
     let plan = lay_out(alloc, catalogue, &unnamed_label(id), limits)?;
     let mut digester = Digester::new();

@@ -1,27 +1,32 @@
 //! What a directory says of its records.
 
-ghost use Rattle.std.specs.Prelude.{◌≡◌, ◌+◌, ◌<◌, ◌^◌, EachIndex, List, ℕ, length, map, slice_index};
+ghost use Rattle.std.specs.Prelude.{◌≡◌, ◌+◌, ◌<◌, ◌^◌, EachIndex, List, ℕ, length, map, slice_index, option_map};
 ghost use Rattle.dd_set.specs.declared.syntax.Syntax.TheVariants.{Explicit};
 ghost use Rattle.dd_set.specs.Spelling.{Spells, elements_text};
 ghost use Rattle.dd_set.specs.Views.{set_view};
 ghost use Rattle.dd_dir.specs.ReadAnswers.{TellsContents};
 ghost use Rattle.dd_dir.specs.Reading.{is_directory_meta, contents_in};
-ghost use Rattle.dd_dir.specs.Saying.{id_in};
+ghost use Rattle.dd_dir.specs.Saying.{id_in, withdrawn_in};
 
 use crate::fault::DirFault;
 use crate::slots::items_of;
-use crate::values::number_at;
+use crate::values::{clean_at, number_at};
 use dd_keys::value_at;
-use dd_layout::{DIRECTORY_CLASS, DIRECTORY_SYNTAX, FIRST_ROOT, LAST_ROOT, RECORDS, SET_ID};
+use dd_layout::table::CREATOR;
+use dd_layout::{
+    DIRECTORY_CLASS, DIRECTORY_SYNTAX, FIRST_ROOT, LAST_ROOT, PRIVATE_CREATOR, RECORDS, SET_ID,
+    WITHDRAWN,
+};
 use dd_part10::Meta;
 use dd_set::{DataSet, Item, Syntax};
 use std::alloc::Global;
 
-/// What a directory says: its File-set ID, the places of the first and of the last root record, and
-/// where the items start that may be records.
+/// What a directory says: its File-set ID, the value that names its withdrawn UIDs, the places of the
+/// first and of the last root record, and where the items start that may be records.
 #[derive(Debug, Drop)]
 pub(crate) struct Directory<'a> {
     pub(crate) id: &'a [u8],
+    pub(crate) withdrawn: Option<&'a [u8]>,
     pub(crate) first: u32,
     pub(crate) last: u32,
     pub(crate) starts: Vec<u64>,
@@ -57,11 +62,13 @@ pub(crate) fn directory_of<'a>(
     };
     shift(&mut starts, at);
     let id = id_of(&set);
+    let withdrawn = withdrawn_of(&set);
     let Some(items) = items_of(set, RECORDS) else {
         return Err(DirFault::NotDirectory);
     };
     Ok(Directory {
         id,
+        withdrawn,
         first,
         last,
         starts,
@@ -74,6 +81,17 @@ fn id_of<'a>(set: &DataSet<'a>) -> &'a [u8]
     ensures { result.now ≡ id_in (set_view set.now) }
 {
     value_at(set, SET_ID).unwrap_or(&[])
+}
+
+/// The value that names the withdrawn UIDs, without its padding: None where it does not stand in the
+/// block of private elements of its creator (PS3.5 section 7.8.1), is a sequence, or is not there.
+fn withdrawn_of<'a>(set: &DataSet<'a>) -> Option<&'a [u8]>
+    ensures { option_map (λ value. value.now) result ≡ withdrawn_in (set_view set.now) }
+{
+    if value_at(set, CREATOR.tag)? != PRIVATE_CREATOR {
+        return None;
+    }
+    clean_at(set, WITHDRAWN)
 }
 
 /// Moves these places by a number of bytes.

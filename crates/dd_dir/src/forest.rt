@@ -8,6 +8,9 @@ use dd_set::DataSet;
 pub struct Forest<'a> {
     /// The File-set ID without its padding; empty where there is none.
     pub id: &'a [u8],
+    /// The value that names the withdrawn SOP Instance UIDs, without its padding: None where there is no
+    /// such value in the block of private elements of its creator (PS3.5 section 7.8.1).
+    pub withdrawn: Option<&'a [u8]>,
     /// The root records, in the order of their offsets.
     pub trees: Vec<Tree<'a>>,
     /// How many items no offset reaches.

@@ -1,6 +1,6 @@
 //! What holds of every directory.
 
-ghost use Rattle.std.specs.Prelude.{◌≡◌, All, List, length};
+ghost use Rattle.std.specs.Prelude.{◌≡◌, ℕ, All, List, length};
 ghost use Rattle.dd_catalogue.specs.Contents.{SameContents, held_of};
 ghost use Rattle.dd_catalogue.specs.Harmony.{harmonised};
 ghost use Rattle.dd_catalogue.specs.Histories.{taken};
@@ -15,8 +15,9 @@ ghost use Rattle.dd_dir.specs.Directories.{directory, directory_of, first_root, 
 /// A directory has as many bytes as are planned, where each record is of a version and has a File ID
 /// where it is of an image. This states a law, and does nothing.
 pub fn directory_is_as_long_as_planned()
-    ensures { (label : Label) (versions : List Parts) → All (IsSound (length versions)) (records_of label versions)
-        → length (directory_of label versions) ≡ size label versions }
+    ensures { (label : Label) (versions : List Parts) (withdrawn : List (List ℕ))
+        → All (IsSound (length versions)) (records_of label versions)
+        → length (directory_of label versions withdrawn) ≡ size label versions withdrawn }
 {}
 
 /// The offsets of the first and the last root record of the directory of four images of two patients.
@@ -28,7 +29,8 @@ pub fn four_images_have_two_roots()
 
 /// A catalogue in harmony has the directory of the one that it comes from. This states a law, and does nothing.
 pub fn harmony_keeps_the_directory()
-    ensures { (label : Label) (m : List Parts) → directory label (harmonised m) ≡ directory label m }
+    ensures { (label : Label) (m : List Parts) (withdrawn : List (List ℕ))
+        → directory label (harmonised m) withdrawn ≡ directory label m withdrawn }
 {}
 
 /// Histories in which the same versions were taken and the same instances withdrawn, in any order, with
@@ -36,5 +38,6 @@ pub fn harmony_keeps_the_directory()
 /// law, and does nothing.
 pub fn same_versions_same_directory()
     ensures { (label : Label) (h g : History) → SameContents (taken h) (taken g)
-        → directory label (held_of (taken h)).versions ≡ directory label (held_of (taken g)).versions }
+        → directory label (held_of (taken h)).versions (held_of (taken h)).withdrawn
+        ≡ directory label (held_of (taken g)).versions (held_of (taken g)).withdrawn }
 {}

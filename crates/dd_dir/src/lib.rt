@@ -24,6 +24,8 @@ mod values;
 mod walk;
 mod walk_laws;
 mod well_formed;
+mod withdrawals;
+mod withdrawn;
 mod writing;
 
 pub use derived::derived_uid;

@@ -1,15 +1,18 @@
 //! What a directory that is written here says of the images that it lists.
 
-ghost use Rattle.std.specs.Prelude.{◌≡◌, ◌≢◌, [], map, All, IfOk, OnErr};
-ghost use Rattle.dd_catalogue.specs.Versions.{best_of};
+ghost use Rattle.std.specs.Prelude.{◌≡◌, ◌≢◌, ◌⊎◌, [], map, option_map, All, IfOk, OnErr};
+ghost use Rattle.dd_catalogue.specs.Contents.{held_of};
 ghost use Rattle.dd_dir.specs.ForestViews.{walk_view};
-ghost use Rattle.dd_dir.specs.OwnVersions.{AnswersWalk, Tells, place_of, place_view, version_of};
-ghost use Rattle.dd_dir.specs.OwnViews.{IsListed, listed_view};
+ghost use Rattle.dd_dir.specs.OwnVersions.{AnswersWalk, ListsSome, NamesSome, Tells};
+ghost use Rattle.dd_dir.specs.OwnVersions.{place_of, place_view, version_of};
+ghost use Rattle.dd_dir.specs.OwnViews.{AnswersRecords, IsListed, listed_view};
+ghost use Rattle.dd_dir.specs.Withdrawn.{AreRisingUids, pieces_in, withdrawn_of};
 
 use crate::forest::Forest;
 use crate::listing::{Above, Listed, list};
 use crate::own_fault::OwnFault;
 use crate::own_keys::{digest, held, uid, version_of};
+use crate::withdrawn::{check_withdrawn, withdrawn_uids};
 use dd_catalogue::Catalogue;
 use dd_elem::{Memory, Uid};
 use dd_keys::Version;
@@ -28,13 +31,15 @@ pub struct Place<'a> {
 }
 
 /// What a directory that is written here says of the images that it lists, in the order of their records,
-/// depth first.
+/// depth first, and which instances it withdraws.
 #[derive(Debug)]
 pub struct Own<'a> {
     /// The version of each.
     pub versions: Vec<Version>,
     /// Where the file of each is.
     pub places: Vec<Place<'a>>,
+    /// The SOP Instance UIDs that are withdrawn, rising.
+    pub withdrawn: Vec<Uid>,
 }
 
 // By hand, so that dropping it is one call.
@@ -43,6 +48,7 @@ impl Drop for Own<'_> {
         let Own {
             versions: _versions,
             places: _places,
+            withdrawn: _withdrawn,
         } = self;
     }
 }
@@ -50,56 +56,75 @@ impl Drop for Own<'_> {
 /// What a directory says whose records are those that are written here; its records are gone over once.
 /// Refused as `catalogue_of` refuses.
 pub fn own_of<'a>(alloc: Global, forest: &Forest<'a>) -> Result<Own<'a>, OwnFault>
-    ensures { AnswersWalk (walk_view forest.now) Tells result }
+    ensures { AnswersWalk (walk_view forest.now) (NamesSome (walk_view forest.now))
+        (Tells (withdrawn_of (walk_view forest.now))) result }
 {
+    check_withdrawn(forest.withdrawn)?;
     let images = listed(alloc, forest)?;
-    Ok(told(alloc, &images)?)
+    Ok(told(alloc, forest.withdrawn, &images)?)
 }
 
 /// The best of the versions of the images that a directory lists whose records are those that are
-/// written here, with nothing withdrawn. Otherwise the first check that a record fails, depth first: it is
-/// not in use or its type is not the one of its level, it is of an image without a digest, or the first of
-/// its elements in the order of tags is not what it must be. Memory where a growth was refused, which wants
-/// an image before the first such record.
+/// written here, without those that it withdraws, and the UIDs that it withdraws. Otherwise the first check
+/// that fails: BadWithdrawal, or that of a record, depth first: it is not in use or its type is not the one
+/// of its level, it is of an image without a digest, or the first of its elements in the order of tags is
+/// not what it must be. Memory where a growth was refused, which wants an image before the first such
+/// record, or a withdrawn UID.
 pub fn catalogue_of(alloc: Global, forest: &Forest<'_>) -> Result<Catalogue, OwnFault>
-    ensures { AnswersWalk (walk_view forest.now)
-        (λ images catalogue. (catalogue.versions ≡ best_of (map version_of images)) × (catalogue.withdrawn ≡ []))
-        result }
+    ensures { AnswersWalk (walk_view forest.now) (NamesSome (walk_view forest.now))
+        (λ images catalogue. catalogue ≡ held_of (record {
+          versions = map version_of images;
+          withdrawn = withdrawn_of (walk_view forest.now);
+        })) result }
 {
+    check_withdrawn(forest.withdrawn)?;
     let images = listed(alloc, forest)?;
     let versions = versions(alloc, &images)?;
-    Ok(Catalogue::from_versions(alloc, &versions)?)
+    let withdrawn = withdrawn_uids(alloc, forest.withdrawn)?;
+    Ok(Catalogue::from_parts(alloc, &versions, &withdrawn)?)
 }
 
-/// Where the files of those images are, in the order of their records, depth first. Refused as
-/// `catalogue_of` refuses.
+/// Where the files of the images are that the directory lists, in the order of their records, depth first.
+/// Refused as `catalogue_of` refuses, but Memory wants an image before the first record that fails.
 pub fn places_of<'a>(alloc: Global, forest: &Forest<'a>) -> Result<Vec<Place<'a>>, OwnFault>
-    ensures { AnswersWalk (walk_view forest.now)
+    ensures { AnswersWalk (walk_view forest.now) (ListsSome (walk_view forest.now))
         (λ images places. map place_view places.items ≡ map place_of images) result }
 {
+    check_withdrawn(forest.withdrawn)?;
     let images = listed(alloc, forest)?;
     Ok(places(alloc, &images)?)
 }
 
 /// The images of a directory, depth first.
 fn listed<'f, 'a>(alloc: Global, forest: &'f Forest<'a>) -> Result<Vec<Listed<'f, 'a>>, OwnFault>
-    ensures { AnswersWalk (walk_view forest.now)
-        (λ images found. map listed_view found.items ≡ images) result }
+    ensures { AnswersRecords (walk_view forest.now) (λ images found. map listed_view found.items ≡ images) result }
 {
     let mut images = Vec::new(alloc);
     list(&forest.trees, Above::Root, &mut images)?;
     Ok(images)
 }
 
-/// What is told of these images.
-fn told<'a>(alloc: Global, images: &[Listed<'_, 'a>]) -> Result<Own<'a>, Memory>
-    requires { All (λ image. IsListed (listed_view image)) images.now }
-    ensures all { IfOk result (λ own. Tells (map listed_view images.now) own) }
-    ensures some { OnErr result (images.now ≢ []) }
+/// What is said of these images, and the UIDs that this value names.
+fn told<'a>(
+    alloc: Global,
+    named: Option<&'a [u8]>,
+    images: &[Listed<'_, 'a>],
+) -> Result<Own<'a>, Memory>
+    requires listed { All (λ image. IsListed (listed_view image)) images.now }
+    requires named { AreRisingUids (pieces_in (option_map (λ value. value.now) named)) }
+    ensures all { IfOk result (λ own.
+        Tells (pieces_in (option_map (λ value. value.now) named.entry)) (map listed_view images.now) own) }
+    ensures some { OnErr result ((images.now ≢ [])
+        ⊎ (pieces_in (option_map (λ value. value.now) named.entry) ≢ [])) }
 {
     let versions = versions(alloc, images)?;
     let places = places(alloc, images)?;
-    Ok(Own { versions, places })
+    let withdrawn = withdrawn_uids(alloc, named)?;
+    Ok(Own {
+        versions,
+        places,
+        withdrawn,
+    })
 }
 
 /// The versions of these images.

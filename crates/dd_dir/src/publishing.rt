@@ -9,14 +9,15 @@ ghost use Rattle.dd_dir.specs.Directories.{IsDirectory, OffsetsWithin, directory
 ghost use Rattle.dd_dir.specs.SaysItself.{SaysItself};
 ghost use Rattle.dd_dir.specs.Visits.{Realises};
 
-use crate::well_formed::versions_rise;
+use crate::well_formed::catalogue_is_held;
 use crate::writing::write_directory;
 use dd_catalogue::{Catalogue, History, build};
 use dd_elem::Sink;
 use dd_layout::{Label, Limits, PlanFault, lay_out};
 use std::alloc::Global;
 
-/// The bytes of the directory of these versions, in harmony, under this label (PS3.10 section 8.6).
+/// The bytes of the directory of these versions, in harmony, and of these withdrawn UIDs, under this label
+/// (PS3.10 section 8.6).
 /// Refused as `lay_out` refuses, and as Memory where the bytes find no room, or where the count of the
 /// sink's own calls is at its end.
 pub fn publish(
@@ -25,17 +26,19 @@ pub fn publish(
     label: &Label,
     limits: Limits,
 ) -> Result<Vec<u8>, PlanFault>
-    ensures bytes { IfOk result (λ bytes. bytes.items ≡ directory label.now catalogue.now.versions) }
-    ensures file { IsOk result → IsDirectory label.now (harmonised catalogue.now.versions) }
+    ensures bytes { IfOk result (λ bytes. bytes.items ≡ directory label.now catalogue.now.versions
+        catalogue.now.withdrawn) }
+    ensures file { IsOk result → IsDirectory label.now (harmonised catalogue.now.versions)
+        catalogue.now.withdrawn }
     ensures within { IfOk result (λ bytes. OffsetsWithin (length bytes.items) label.now
         (harmonised catalogue.now.versions)) }
     ensures realised { IfOk result (λ bytes. Realises label.now catalogue.now.versions bytes.items) }
-    ensures own { IfOk result (λ bytes. SaysItself catalogue.now.versions bytes.items) }
-    ensures allowed { IsOk result → refusal label.now limits catalogue.now.versions ≡ None }
+    ensures own { IfOk result (λ bytes. SaysItself catalogue.now.versions catalogue.now.withdrawn bytes.items) }
+    ensures allowed { IsOk result → refusal label.now limits catalogue.now.versions catalogue.now.withdrawn ≡ None }
     ensures refused { IfErr result (λ fault. (fault ≡ PlanFault.Memory)
-        ⊎ (refusal label.now limits catalogue.now.versions ≡ Some fault)) }
+        ⊎ (refusal label.now limits catalogue.now.versions catalogue.now.withdrawn ≡ Some fault)) }
 {
-    versions_rise(catalogue);
+    catalogue_is_held(catalogue);
     let plan = lay_out(alloc, catalogue, label, limits)?;
     let mut sink = Sink::new(alloc, None);
     sink.reserve(plan.size() as usize)?;
@@ -46,23 +49,28 @@ pub fn publish(
 }
 
 /// The bytes of the directory of the best of all versions that were taken in a history and whose instances
-/// were not withdrawn in it, in harmony, under this label. Refused as `publish` refuses that catalogue, and
-/// as Memory where the catalogue finds no room.
+/// were not withdrawn in it, in harmony, and of the UIDs that were withdrawn in it, under this label.
+/// Refused as `publish` refuses that catalogue, and as Memory where the catalogue finds no room.
 pub fn assemble(
     alloc: Global,
     history: &History,
     label: &Label,
     limits: Limits,
 ) -> Result<Vec<u8>, PlanFault>
-    ensures bytes { IfOk result (λ bytes. bytes.items ≡ directory label.now (held_of (taken history.now)).versions) }
-    ensures file { IsOk result → IsDirectory label.now (harmonised (held_of (taken history.now)).versions) }
+    ensures bytes { IfOk result (λ bytes. bytes.items ≡ directory label.now (held_of (taken history.now)).versions
+        (held_of (taken history.now)).withdrawn) }
+    ensures file { IsOk result → IsDirectory label.now (harmonised (held_of (taken history.now)).versions)
+        (held_of (taken history.now)).withdrawn }
     ensures within { IfOk result (λ bytes. OffsetsWithin (length bytes.items) label.now
         (harmonised (held_of (taken history.now)).versions)) }
     ensures realised { IfOk result (λ bytes. Realises label.now (held_of (taken history.now)).versions bytes.items) }
-    ensures own { IfOk result (λ bytes. SaysItself (held_of (taken history.now)).versions bytes.items) }
-    ensures allowed { IsOk result → refusal label.now limits (held_of (taken history.now)).versions ≡ None }
+    ensures own { IfOk result (λ bytes. SaysItself (held_of (taken history.now)).versions
+        (held_of (taken history.now)).withdrawn bytes.items) }
+    ensures allowed { IsOk result → refusal label.now limits (held_of (taken history.now)).versions
+        (held_of (taken history.now)).withdrawn ≡ None }
     ensures refused { IfErr result (λ fault. (fault ≡ PlanFault.Memory)
-        ⊎ (refusal label.now limits (held_of (taken history.now)).versions ≡ Some fault)) }
+        ⊎ (refusal label.now limits (held_of (taken history.now)).versions
+        (held_of (taken history.now)).withdrawn ≡ Some fault)) }
 {
     let catalogue = build(alloc, history)?;
     publish(alloc, &catalogue, label, limits)

@@ -73,6 +73,7 @@ fn walked<'a>(alloc: Global, directory: Directory<'a>) -> Result<Forest<'a>, Dir
 {
     let Directory {
         id,
+        withdrawn,
         first,
         last,
         starts,
@@ -85,6 +86,7 @@ fn walked<'a>(alloc: Global, directory: Directory<'a>) -> Result<Forest<'a>, Dir
     }
     Ok(Forest {
         id,
+        withdrawn,
         trees,
         unreached: count_left(&slots),
     })

@@ -1,6 +1,7 @@
 //! Values of elements, by their tags.
 
 ghost use Rattle.std.specs.Prelude.{◌≡◌, option_and_then, option_map};
+ghost use Rattle.dd_elem.specs.Clean.{clean_of};
 ghost use Rattle.dd_set.specs.Views.{set_view};
 ghost use Rattle.dd_dir.specs.Saying.{value_of, number_of, flag_of, text_of};
 
@@ -44,6 +45,13 @@ fn flag_of(value: &[u8]) -> Option<bool>
 {
     let bytes = <[u8; 2]>::try_from(value).ok()?;
     Some(u16::from_le_bytes(bytes) == FLAG_IN_USE)
+}
+
+/// The value of an element without its padding, where it is there and holds bytes.
+pub(crate) fn clean_at<'a>(set: &DataSet<'a>, tag: Tag) -> Option<&'a [u8]>
+    ensures { option_map (λ value. value.now) result ≡ option_map clean_of (value_of tag (set_view set.now)) }
+{
+    Some(clean(value_of(set, tag)?))
 }
 
 /// The text of an element without its padding, where something is left.

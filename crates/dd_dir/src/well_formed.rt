@@ -1,7 +1,8 @@
 //! What the types of the parts of a version say of them. Only lending a key or a UID tells it.
 
 ghost use Rattle.std.specs.Prelude.{◌≡◌, length};
-ghost use Rattle.dd_catalogue.specs.Versions.{IsCatalogue};
+ghost use Rattle.std.specs.List.{AllByRecursion};
+ghost use Rattle.dd_catalogue.specs.Contents.{IsHeld};
 ghost use Rattle.dd_elem.specs.Key.{IsKey};
 ghost use Rattle.dd_elem.specs.SetId.{IsSetId};
 ghost use Rattle.dd_elem.specs.Uid.{IsUid};
@@ -25,11 +26,21 @@ pub(crate) fn parts_of(version: &Version) -> &Parts
     parts
 }
 
-/// The versions of a catalogue rise by instance. This states a law, and does nothing.
-pub(crate) fn versions_rise(catalogue: &Catalogue)
-    ensures { IsCatalogue catalogue.now.versions }
+/// The versions of a catalogue rise by instance, and its withdrawn UIDs rise. This states a law, and does nothing.
+pub(crate) fn catalogue_is_held(catalogue: &Catalogue)
+    ensures { IsHeld catalogue.now }
 {
     catalogue.versions();
+}
+
+/// Withdrawn UIDs are UIDs. This states a law, and does nothing.
+pub(crate) fn withdrawn_are_uids(mut withdrawn: &[Uid])
+    ensures { AllByRecursion IsUid withdrawn.entry.now }
+{
+    while let [uid, rest @ ..] = withdrawn {
+        uid_is_valid(uid);
+        withdrawn = rest;
+    }
 }
 
 /// The ID of a file-set is one. This states a law, and does nothing.

@@ -1,49 +1,82 @@
 //! Directories sent to a writer.
 
-ghost use Rattle.std.specs.Prelude.{◌≡◌, List, IfOk, IsOk};
+ghost use Rattle.std.specs.Prelude.{◌≡◌, ◌-◌, ◌<◌, ◌^◌, List, IfOk, IsOk, length};
+ghost use Rattle.dd_catalogue.specs.Best.{IsRising};
 ghost use Rattle.dd_catalogue.specs.Harmony.{harmonised};
 ghost use Rattle.dd_catalogue.specs.Versions.{IsCatalogue};
+ghost use Rattle.dd_elem.specs.Ordered.{bytes_cmp};
+ghost use Rattle.dd_elem.specs.Uid.{IsUid};
 ghost use Rattle.dd_keys.specs.declared.parts.Parts.{Parts};
-ghost use Rattle.dd_layout.specs.Plans.{size};
+ghost use Rattle.dd_layout.specs.Directory.{first_offset};
+ghost use Rattle.dd_layout.specs.Plans.{records_end, size};
 ghost use Rattle.dd_set.specs.Sends.{SendsTo};
-ghost use Rattle.dd_dir.specs.Directories.{IsDirectory, OffsetsWithin, directory_of};
+ghost use Rattle.dd_dir.specs.Directories.{IsDirectory, OffsetsWithin, directory_of, opening_text};
 ghost use Rattle.dd_dir.specs.SaysItself.{SaysItself};
 ghost use Rattle.dd_dir.specs.Visits.{Realises};
 
 use crate::cells::send_cells;
 use crate::records::send_records;
 use crate::roots::{first_root, last_root};
-use crate::well_formed::set_id_is_valid;
+use crate::well_formed::{set_id_is_valid, withdrawn_are_uids};
+use crate::withdrawals::send_withdrawals;
 use dd_elem::{Vr, Write};
-use dd_layout::{Plan, RECORDS, directory_meta, first_offset, front_cells};
+use dd_layout::{Plan, RECORDS, directory_meta, first_offset, front_cells, withdrawals_size};
 use dd_part10::write_head;
 use dd_set::{WriteFault, send_header};
 
 /// Sends the bytes of the directory, and answers how many they are (PS3.3 section F.3.2, PS3.10 section
 /// 8.6). 12 Write where the writer failed, with how many of the bytes went before.
 pub fn write_directory<W: Write>(plan: &Plan, writer: &mut W) -> Result<u64, WriteFault>
-    ensures sends { let text = directory_of plan.now.label plan.now.versions
+    ensures sends { let text = directory_of plan.now.label plan.now.versions plan.now.withdrawn
         in SendsTo W.contents W.rest W.failures text 0 result writer.old writer.new }
 
     // Where the bytes were sent whole, they are as many as the plan says, and a file of the class of directories. All
     // offsets in them are smaller than their number.
-    ensures size { IfOk result (λ n. n ≡ size plan.now.label plan.now.versions) }
-    ensures file { IsOk result → IsDirectory plan.now.label plan.now.versions }
+    ensures size { IfOk result (λ n. n ≡ size plan.now.label plan.now.versions plan.now.withdrawn) }
+    ensures file { IsOk result → IsDirectory plan.now.label plan.now.versions plan.now.withdrawn }
     ensures within { IfOk result (λ n. OffsetsWithin n plan.now.label plan.now.versions) }
 
-    // Where they are those of a catalogue in harmony, they realise its tree, and say its versions.
+    // Where they are those of a catalogue in harmony, they realise its tree, and say its versions and its withdrawn
+    // UIDs, where these rise.
     ensures realised { IsOk result → (m : List Parts) → IsCatalogue m → plan.now.versions ≡ harmonised m
-        → Realises plan.now.label m (directory_of plan.now.label plan.now.versions) }
+        → Realises plan.now.label m (directory_of plan.now.label plan.now.versions plan.now.withdrawn) }
     ensures own { IsOk result → (m : List Parts) → IsCatalogue m → plan.now.versions ≡ harmonised m
-        → SaysItself m (directory_of plan.now.label plan.now.versions) }
+        → IsRising (λ uid. uid) bytes_cmp plan.now.withdrawn → SaysItself m plan.now.withdrawn
+        (directory_of plan.now.label plan.now.versions plan.now.withdrawn) }
 {
     let label = plan.label();
     set_id_is_valid(&label.id);
+    let withdrawn = plan.withdrawn();
+    withdrawn_are_uids(withdrawn);
+    let records = plan.records();
+    let count = records_size(plan);
+    let sent = send_opening(plan, count, writer)?;
+    let sent = send_records(records, plan.versions(), writer, sent)?;
+    send_withdrawals(withdrawn, writer, sent)
+}
+
+/// How many bytes the records have together.
+fn records_size(plan: &Plan) -> u32
+    ensures exact { result ≡ records_end plan.now.label plan.now.versions - first_offset plan.now.label }
+    ensures small { size plan.now.label plan.now.versions plan.now.withdrawn < 2 ^ 32 }
+    ensures uid { IsUid plan.now.label.uid }
+{
+    let end = u128::from(plan.size()) - withdrawals_size(plan.withdrawn());
+    let count = end - u128::from(first_offset(plan.label()));
+    count as u32
+}
+
+/// Sends what stands before the records, which have `count` bytes together: the head of the file, the
+/// elements before the sequence of the records, and its header.
+fn send_opening<W: Write>(plan: &Plan, count: u32, writer: &mut W) -> Result<u64, WriteFault>
+    requires { length (opening_text plan.now.label plan.now.versions count) < 2 ^ 64 }
+    ensures { let text = opening_text plan.now.label plan.now.versions count
+        in SendsTo W.contents W.rest W.failures text 0 result writer.old writer.new }
+{
+    let label = plan.label();
     let records = plan.records();
     let front = front_cells(label, first_root(records), last_root(records));
-    let count = u64::from(plan.size()) - first_offset(label);
     let sent = write_head(&directory_meta(label), writer)?;
     let sent = send_cells(&front, writer, sent)?;
-    let sent = send_header(RECORDS, Vr::SQ, count as u32, writer, sent)?;
-    send_records(records, plan.versions(), writer, sent)
+    send_header(RECORDS, Vr::SQ, count, writer, sent)
 }

@@ -6,9 +6,9 @@ use Rattle.dd_engine.specs.declared.merge_fault.MergeFault.{MergeFault}
 use Rattle.dd_engine.specs.declared.merge_fault.MergeFault.TheVariants.{Dir, Own, Plan, Memory}
 use Rattle.dd_engine.specs.Merging.{IsNamedSet, Merges}
 
-pub fault_at : (choice : Choice) (limits : Bounds) (sets : List (List ℕ)) (fault : MergeFault)
-    → Merges choice limits sets (Err fault) → IsNamedSet (length sets) fault
-fault_at choice limits sets (Dir at fault) merges = merges.below
-fault_at choice limits sets (Own at fault) merges = merges.below
-fault_at choice limits sets (Plan fault) merges = tt
-fault_at choice limits sets Memory merges = tt
+pub fault_at : (choice : Choice) (limits : Bounds) (given sets : List (List ℕ)) (fault : MergeFault)
+    → Merges choice limits given sets (Err fault) → IsNamedSet (length sets) fault
+fault_at choice limits given sets (Dir at fault) merges = merges.below
+fault_at choice limits given sets (Own at fault) merges = merges.below
+fault_at choice limits given sets (Plan fault) merges = tt
+fault_at choice limits given sets Memory merges = tt

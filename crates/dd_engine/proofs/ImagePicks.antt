@@ -159,23 +159,29 @@ among (first ∷ versions) version other e (inr there) = by_test (is_one (file_o
     (λ f. rw f (λ none. cc none))
     (λ f. rw f (among versions version other e there))
 
-each_held : (versions : List Parts)
-    → AreHeld (map (λ v. file_of v) versions) (harmonised (best_of versions))
-each_held versions k d below =
-    let m = best_of versions in
+each_held : (versions left : List Parts) → ((v : Parts) → Member v left → Member v versions)
+    → AreHeld (map (λ v. file_of v) versions) (harmonised (best_of left))
+each_held versions left among_them k d below =
+    let m = best_of left in
     let within : k < length m = omega (arith, below, length-map m (agreed m)) in
     let version = get_or m k d in
     let there : Contains m version = (k, within, get_or_default m k version d within) in
-    let from = ((best_is_best versions_ordered versions).each version).0 there in
+    let from = ((best_is_best versions_ordered left).each version).0 there in
     subst (λ other. filter (λ file. is_one file (file_of other)) (map (λ v. file_of v) versions) ≢ [])
     (sym (get_or-map (agreed m) m k d d within))
-    (among versions version (agreed m version) (own_file version) (member_of version versions from.member))
+    (among versions version (agreed m version) (own_file version)
+    (among_them version (member_of version left from.member)))
+
+pub held_of_left : (versions left planned : List Parts) (files : List FileKey)
+    → ((v : Parts) → Member v left → Member v versions) → planned ≡ harmonised (best_of left)
+    → files ≡ map (λ v. file_of v) versions → AreHeld files planned
+held_of_left versions left planned files among_them is all =
+    subst (λ l. AreHeld l planned) (sym all)
+    (subst (λ l. AreHeld (map (λ v. file_of v) versions) l) (sym is) (each_held versions left among_them))
 
 pub held : (versions planned : List Parts) (files : List FileKey) → planned ≡ harmonised (best_of versions)
     → files ≡ map (λ v. file_of v) versions → AreHeld files planned
-held versions planned files is all =
-    subst (λ l. AreHeld l planned) (sym all)
-    (subst (λ l. AreHeld (map (λ v. file_of v) versions) l) (sym is) (each_held versions))
+held versions planned files is all = held_of_left versions versions planned files (λ v i. i) is all
 
 -- and it is held where the files of each version stay
 pub held_too : (files others : List FileKey) (planned : List Parts) → AreHeld others planned

@@ -2,6 +2,7 @@ mod Answering
 pub mod FaultsNamed
 mod FirstMarks
 mod ImagePicks
+mod KeptImages
 mod Lending
 mod MergePlans
 mod MergedMaps

@@ -149,15 +149,15 @@ module _ (choice : Choice) (limits : Bounds) where
       → IsIndexed choice limits two second → AreSamePlans first.plan second.plan
   plans_agree one two first second best is also =
       let plans : first.plan ≡ second.plan =
-      is.plan ∙ ap (λ (m : List Parts). layout_of (label_for choice m) m) best ∙ sym also.plan in
-      record { plan = plans; directory = ap (λ (l : Layout). directory_of l.label l.versions) plans }
+      is.plan ∙ ap (λ (m : List Parts). layout_of (label_for choice m []) m []) best ∙ sym also.plan in
+      record { plan = plans; directory = ap (λ (l : Layout). directory_of l.label l.versions l.withdrawn) plans }
 
   refusals_agree : (one two : List Answer) (first second : Option PlanFault)
       → best_of_sources (accepted one) ≡ best_of_sources (accepted two)
-      → refusal_for choice limits (best_of_sources (accepted one)) ≡ first
-      → refusal_for choice limits (best_of_sources (accepted two)) ≡ second → first ≡ second
+      → refusal_for choice limits (best_of_sources (accepted one)) [] ≡ first
+      → refusal_for choice limits (best_of_sources (accepted two)) [] ≡ second → first ≡ second
   refusals_agree one two first second best is also =
-      sym is ∙ ap (λ (m : List Parts). refusal_for choice limits m) best ∙ also
+      sym is ∙ ap (λ (m : List Parts). refusal_for choice limits m []) best ∙ also
 
   pub agree : (limit : ℕ) (told other : ℕ → Option (List ℕ)) (sources others : ℕ)
       (first second : Result Indexed EngineFault) → IndexesTold choice limits limit told sources first

@@ -11,7 +11,8 @@ use Rattle.dd_engine.specs.declared.choice.Choice.{Choice}
 use Rattle.dd_engine.specs.declared.merge.Merged.{Merged}
 use Rattle.dd_engine.specs.declared.merge_fault.MergeFault.{MergeFault}
 use Rattle.dd_engine.specs.Choosing.{label_for}
-use Rattle.dd_engine.specs.Merging.{AreOwn, Merges, best_in, numbered, pick_view, places_in, stands_at}
+use Rattle.dd_engine.specs.Merging.{AreOwn, Merges, SetListing, held_in, numbered, pick_view, places_in, stands_at}
+use Rattle.dd_engine.specs.Merging.{stands_in}
 use Rattle.dd_engine.proofs.ImagePicks.{holds_of_picks}
 
 -- the numbers of these images are below this one
@@ -26,11 +27,12 @@ one_below : (n at : ℕ) (images : List Listed) → at < n → AreBelow n (map (
 one_below n at [] below = tt
 one_below n at (image ∷ images) below = (below, one_below n at images below)
 
-numbered_below : (n at : ℕ) (images : List (List Listed)) → at + length images ≤ n → AreBelow n (numbered at images)
+numbered_below : (n at : ℕ) (listings : List SetListing) → at + length listings ≤ n
+    → AreBelow n (numbered at listings)
 numbered_below n at [] within = tt
-numbered_below n at (first ∷ images) within =
-    below_append n (map (λ image. (at, image)) first) (numbered (suc at) images) (one_below n at first (omega arith))
-    (numbered_below n (suc at) images (omega arith))
+numbered_below n at (first ∷ listings) within =
+    below_append n (map (λ image. (at, image)) first.images) (numbered (suc at) listings)
+    (one_below n at first.images (omega arith)) (numbered_below n (suc at) listings (omega arith))
 
 -- and so are those of their places
 places_below : (n : ℕ) (images : List (ℕ × Listed)) → AreBelow n images
@@ -38,26 +40,27 @@ places_below : (n : ℕ) (images : List (ℕ × Listed)) → AreBelow n images
 places_below n [] below = tt
 places_below n (image ∷ images) below = (below.0, places_below n images below.1)
 
-many_own : (sets : List (List ℕ)) (images : List (List Listed)) → AreOwn sets images → length images ≡ length sets
+many_own : (sets : List (List ℕ)) (listings : List SetListing) → AreOwn sets listings
+    → length listings ≡ length sets
 many_own [] [] own = refl
-many_own [] (first ∷ images) own = absurd own
+many_own [] (first ∷ listings) own = absurd own
 many_own (set ∷ sets) [] own = absurd own
-many_own (set ∷ sets) (first ∷ images) own = ap suc (many_own sets images own.1)
+many_own (set ∷ sets) (first ∷ listings) own = ap suc (many_own sets listings own.1)
 
 -- what holds of what they are told as holds of them
 unmapped : {A B : Type 0} (P : B → Type 0) (f : A → B) (xs : List A) → All P (map f xs) → All (λ x. P (f x)) xs
 unmapped P f xs all k d below =
     subst P (get_or-map f xs k d (f d) below) (all k (f d) (omega (arith, below, length-map xs f)))
 
-pub picks_within : (choice : Choice) (limits : Bounds) (sets : List (List ℕ)) (result : Result Merged MergeFault)
-    → Merges choice limits sets result
+pub picks_within : (choice : Choice) (limits : Bounds) (given sets : List (List ℕ))
+    (result : Result Merged MergeFault) → Merges choice limits given sets result
     → IfOk result (λ merged. All (λ pick. pick.set < length sets) merged.picks.items)
-picks_within choice limits sets (Ok merged) (images, own, is) =
-    let all = numbered 0 images in
-    let versions = harmonised (best_in all) in
-    let below = numbered_below (length sets) 0 images (omega (arith, many_own sets images own)) in
+picks_within choice limits given sets (Ok merged) (listings, own, is) =
+    let h = held_in given listings in
+    let versions = harmonised h.versions in
+    let below = numbered_below (length sets) 0 listings (omega (arith, many_own sets listings own)) in
     unmapped (λ (pick : ℕ × List ℕ). pick.0 < length sets) (λ pick. pick_view pick) merged.picks.items
-    (holds_of_picks (λ (pick : ℕ × List ℕ). pick.0 < length sets) (map (λ place. stands_at place) (places_in all))
-    versions (records_of (label_for choice (best_in all)) versions) (map (λ pick. pick_view pick) merged.picks.items)
-    (places_below (length sets) all below) is.picks)
-picks_within choice limits sets (Err fault) merges = tt
+    (holds_of_picks (λ (pick : ℕ × List ℕ). pick.0 < length sets) (stands_in listings) versions
+    (records_of (label_for choice h.versions h.withdrawn) versions) (map (λ pick. pick_view pick) merged.picks.items)
+    (places_below (length sets) (numbered 0 listings) below) is.picks)
+picks_within choice limits given sets (Err fault) merges = tt

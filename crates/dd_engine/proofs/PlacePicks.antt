@@ -1,17 +1,23 @@
 -- The places of the images of a plan, found by marks.
-use Rattle.std.specs.Prelude.{◌≡◌, ℕ, List, [], ◌∷◌, map}
+use Rattle.std.specs.Prelude.{◌≡◌, ℕ, Bool, List, [], ◌∷◌, filter, map}
 use Rattle.std.specs.List.{zip}
-use Rattle.std.proofs.Common.{refl, sym, ◌∙◌, ap, ap₂}
+use Rattle.std.proofs.Common.{refl, sym, ◌∙◌, ap, ap₂, inl, inr}
+use Rattle.dd_catalogue.specs.Contents.{kept_of, left_of}
+use Rattle.dd_catalogue.specs.Free.{is_free}
 use Rattle.dd_catalogue.specs.Harmony.{harmonised}
+use Rattle.dd_catalogue.specs.Rising.{by_test}
+use Rattle.dd_catalogue.specs.Versions.{instance_of}
+use Rattle.dd_catalogue.proofs.Members.{Member}
 use Rattle.dd_dir.specs.Own.{Listed}
 use Rattle.dd_dir.specs.OwnVersions.{version_of}
+use Rattle.dd_elem.specs.Ordered.{bytes_cmp}
 use Rattle.dd_keys.specs.declared.parts.Parts.{Parts}
 use Rattle.dd_layout.specs.declared.record.PlanRecord.{PlanRecord}
 use Rattle.dd_engine.specs.declared.marks.Mark.{Mark}
 use Rattle.dd_engine.specs.declared.merge.Pick.{Pick}
-use Rattle.dd_engine.specs.Merging.{best_in, pick_view, place_key, place_pick, places_in, stands_at, versions_in}
+use Rattle.dd_engine.specs.Merging.{pick_view, place_key, place_pick, places_in, stands_at, versions_in}
 use Rattle.dd_engine.specs.Picking.{AreHeld, ArePicked, FileKey, file_of, files_of, found_of, key_of, mark_view}
-use Rattle.dd_engine.proofs.ImagePicks.{held, picks_told, twice}
+use Rattle.dd_engine.proofs.ImagePicks.{held_of_left, picks_told, twice}
 use Rattle.dd_engine.proofs.SourcePicks.{files_viewed}
 
 -- ---- the files of versions and their places, side by side
@@ -48,6 +54,20 @@ side_by_side images versions picks v p =
     (ap (map (λ version. file_of version)) v ∙ files_placed images)
     ∙ zip_same (λ place. place_pick place) (λ place. place_key place.1) (places_in images)
 
+-- ---- versions that are left
+
+filter_member : {V : Type 0} (test : V → Bool) (v : V) (s : List V) → Member v (filter test s) → Member v s
+filter_member test v [] i = absurd i
+filter_member test v (w ∷ s) i = by_test (test w)
+    (λ e. let j = rw e at i in elim j [
+      | inl is ↦ inl is
+      | inr more ↦ inr (filter_member test v s more)
+    ])
+    (λ e. let j = rw e at i in inr (filter_member test v s j))
+
+pub left_member : (s : List Parts) (uids : List (List ℕ)) (v : Parts) → Member v (left_of s uids) → Member v s
+left_member s uids v i = filter_member (λ (w : Parts). is_free bytes_cmp uids (instance_of w)) v s i
+
 -- ---- what is found by their marks
 
 pub places_found : (images : List (ℕ × Listed)) (marks : List (Mark Pick)) (files : List (Pick × FileKey))
@@ -60,11 +80,12 @@ places_found images marks files versions rows picks m s is =
     ∙ ap (λ l. found_of l versions rows) (ap (map told) m ∙ s)
 
 pub places_held : (images : List (ℕ × Listed)) (marks : List (Mark Pick)) (files : List (Pick × FileKey))
-    (planned : List Parts) → planned ≡ harmonised (best_in images) → map (λ mark. mark_view mark) marks ≡ files
-    → map told files ≡ map (λ place. stands_at place) (places_in images)
+    (uids : List (List ℕ)) (planned : List Parts) → planned ≡ harmonised (kept_of (versions_in images) uids)
+    → map (λ mark. mark_view mark) marks ≡ files → map told files ≡ map (λ place. stands_at place) (places_in images)
     → AreHeld (map (λ mark. key_of mark) marks) planned
-places_held images marks files planned is m s =
-    held (versions_in images) planned (map (λ mark. key_of mark) marks) is
+places_held images marks files uids planned is m s =
+    held_of_left (versions_in images) (left_of (versions_in images) uids) planned (map (λ mark. key_of mark) marks)
+    (λ v i. left_member (versions_in images) uids v i) is
     (files_viewed marks ∙ ap (map (λ mark. mark.1)) m
     ∙ sym (twice (λ (place : (ℕ × List ℕ) × FileKey). place.1) told files)
     ∙ ap (map (λ (place : (ℕ × List ℕ) × FileKey). place.1)) s

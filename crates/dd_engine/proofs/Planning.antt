@@ -35,21 +35,22 @@ pub best_is : (sources : List Sourced) (versions m : List Parts) → m ≡ best_
 best_is sources versions m b v = b ∙ ap best_of v
 
 -- the versions of the plan, as the picks want them
-pub planned_versions : (sources zips : List Sourced) (choice : Choice) (m : List Parts) (plan : Layout)
-    → m ≡ best_of_sources sources → zips ≡ sources → plan ≡ layout_of (label_for choice m) m
+pub planned_versions : (sources zips : List Sourced) (choice : Choice) (m : List Parts) (w : List (List ℕ))
+    (plan : Layout) → m ≡ best_of_sources sources → zips ≡ sources → plan ≡ layout_of (label_for choice m w) m w
     → plan.versions ≡ harmonised (best_of_sources zips)
-planned_versions sources zips choice m plan b z p =
+planned_versions sources zips choice m w plan b z p =
     ap (λ (l : Layout). l.versions) p ∙ ap harmonised (b ∙ ap best_of_sources (sym z))
 
 -- the picks of the plan
-pub planned_picks : (sources zips : List Sourced) (choice : Choice) (m : List Parts) (plan : Layout) (picks : List ℕ)
-    → m ≡ best_of_sources sources → zips ≡ sources → plan ≡ layout_of (label_for choice m) m
+pub planned_picks : (sources zips : List Sourced) (choice : Choice) (m : List Parts) (w : List (List ℕ))
+    (plan : Layout) (picks : List ℕ) → m ≡ best_of_sources sources → w ≡ [] → zips ≡ sources
+    → plan ≡ layout_of (label_for choice m w) m w
     → ArePicked (files_of zips) plan.versions (records_of plan.label plan.versions) picks
     → (let n = best_of_sources sources in
-    ArePicked (files_of sources) (harmonised n) (records_of (label_for choice n) (harmonised n)) picks)
-planned_picks sources zips choice m plan picks b z p is =
+    ArePicked (files_of sources) (harmonised n) (records_of (label_for choice n []) (harmonised n)) picks)
+planned_picks sources zips choice m w plan picks b e z p is =
     is ∙ ap₂ (λ (s : List Sourced) (l : Layout). found_of (files_of s) l.versions (records_of l.label l.versions)) z
-    (p ∙ ap (λ (n : List Parts). layout_of (label_for choice n) n) b)
+    (p ∙ ap₂ (λ (n : List Parts) (u : List (List ℕ)). layout_of (label_for choice n u) n u) b e)
 
 -- ---- numbers of sources
 

@@ -9,12 +9,13 @@ use Rattle.dd_engine.specs.declared.choice.Choice.{Choice}
 use Rattle.dd_dir.specs.Directories.{derived, unnamed_label}
 
 -- the UID that is asked for, or else the one derived from the directory
-abbrev pub uid_by : Option (List ℕ) → List ℕ → List Parts → List ℕ
-uid_by None id m = derived id m
-uid_by (Some uid) id m = uid
+abbrev pub uid_by : Option (List ℕ) → List ℕ → List Parts → List (List ℕ) → List ℕ
+uid_by None id m withdrawn = derived id m withdrawn
+uid_by (Some uid) id m withdrawn = uid
 
-abbrev pub label_for : Choice → List Parts → Label
-label_for choice m = record { id = choice.id; uid = uid_by choice.uid choice.id m }
+-- the label of a catalogue of these versions and withdrawn UIDs
+abbrev pub label_for : Choice → List Parts → List (List ℕ) → Label
+label_for choice m withdrawn = record { id = choice.id; uid = uid_by choice.uid choice.id m withdrawn }
 
 -- the first refusal of two
 abbrev pub either : Option PlanFault → Option PlanFault → Option PlanFault
@@ -22,10 +23,10 @@ either None other = other
 either (Some fault) other = Some fault
 
 -- where no UID is asked for, deriving one comes first
-abbrev pub derivation : Option (List ℕ) → List ℕ → Bounds → List Parts → Option PlanFault
-derivation None id limits m = refusal (unnamed_label id) limits m
-derivation (Some uid) id limits m = None
+abbrev pub derivation : Option (List ℕ) → List ℕ → Bounds → List Parts → List (List ℕ) → Option PlanFault
+derivation None id limits m withdrawn = refusal (unnamed_label id) limits m withdrawn
+derivation (Some uid) id limits m withdrawn = None
 
-abbrev pub refusal_for : Choice → Bounds → List Parts → Option PlanFault
-refusal_for choice limits m =
-    either (derivation choice.uid choice.id limits m) (refusal (label_for choice m) limits m)
+abbrev pub refusal_for : Choice → Bounds → List Parts → List (List ℕ) → Option PlanFault
+refusal_for choice limits m withdrawn = either (derivation choice.uid choice.id limits m withdrawn)
+    (refusal (label_for choice m withdrawn) limits m withdrawn)

@@ -1,5 +1,5 @@
 -- What an index of a supply of sources answers.
-use Rattle.std.specs.Prelude.{◌≡◌, ◌<◌, ℕ, List, All, length, Option, None, Some, Result, Ok, Err}
+use Rattle.std.specs.Prelude.{◌≡◌, ◌<◌, ℕ, List, [], All, length, Option, None, Some, Result, Ok, Err}
 use Rattle.dd_catalogue.specs.Harmony.{harmonised}
 use Rattle.dd_layout.specs.declared.fault.PlanFault.{PlanFault}
 use Rattle.dd_layout.specs.declared.fault.PlanFault.TheVariants as plans
@@ -23,19 +23,19 @@ as_engine (plans.TooMany level) = Plan (plans.TooMany level)
 as_engine plans.TooLarge = Plan plans.TooLarge
 
 -- where these are the answers for the sources: the best of their versions is laid out under the label that is asked
--- for, the others are skipped, and each image is picked from the first source that has its file
+-- for, with nothing withdrawn, the others are skipped, and each image is picked from the first source that has its file
 pub record IsIndexed (choice : Choice) (limits : Bounds) (answers : List Answer) (indexed : Indexed) : Type 0 where
-  pub plan : let m = best_of_sources (accepted answers) in indexed.plan ≡ layout_of (label_for choice m) m
-  pub allowed : refusal_for choice limits (best_of_sources (accepted answers)) ≡ None
+  pub plan : let m = best_of_sources (accepted answers) in indexed.plan ≡ layout_of (label_for choice m []) m []
+  pub allowed : refusal_for choice limits (best_of_sources (accepted answers)) [] ≡ None
   pub skipped : indexed.skipped.items ≡ skipped answers
   pub picks : let m = best_of_sources (accepted answers) in ArePicked (files_of (accepted answers)) (harmonised m)
-      (records_of (label_for choice m) (harmonised m)) indexed.picks.items
+      (records_of (label_for choice m []) (harmonised m)) indexed.picks.items
 
 -- the answer where these are the answers for the sources
 abbrev pub Indexes : Choice → Bounds → List Answer → Result Indexed EngineFault → Type 0
 Indexes choice limits answers (Ok indexed) = IsIndexed choice limits answers indexed
 Indexes choice limits answers (Err (Plan fault)) =
-    refusal_for choice limits (best_of_sources (accepted answers)) ≡ Some fault
+    refusal_for choice limits (best_of_sources (accepted answers)) [] ≡ Some fault
 Indexes choice limits answers (Err Memory) = Unit {0}
 Indexes choice limits answers (Err (Absent at)) = ⊥
 Indexes choice limits answers (Err (Unread at)) = ⊥
@@ -52,12 +52,12 @@ AnswersSupply choice limits limit told sources (Ok indexed) = (answers : List An
 
 -- ---- numbers of sources
 
--- the sources that are skipped, and those that images are copied from, are some of these
+-- each skipped source, and each that an image is copied from, has a number below the count of sources
 pub record IsWithin (sources : ℕ) (indexed : Indexed) : Type 0 where
   pub skipped : All (λ skip. skip.0 < sources) indexed.skipped.items
   pub picks : All (λ at. at < sources) indexed.picks.items
 
--- a source that a fault names is one of these
+-- the source that a fault names has a number below the count of sources
 abbrev pub IsNamed : ℕ → EngineFault → Type 0
 IsNamed sources Memory = Unit {0}
 IsNamed sources (Absent at) = at < sources

@@ -1,5 +1,5 @@
 -- What the steps of a merge answer.
-use Rattle.std.specs.Prelude.{◌≡◌, ℕ, List, map, Some, Result, Ok, Err}
+use Rattle.std.specs.Prelude.{◌≡◌, ◌++◌, ℕ, List, map, Some, Result, Ok, Err}
 use Rattle.dd_dir.specs.declared.own_fault.OwnFault.{OwnFault}
 use Rattle.dd_dir.specs.declared.own_fault.OwnFault.TheVariants as owns
 use Rattle.dd_dir.specs.Own.{Listed}
@@ -13,8 +13,8 @@ use Rattle.dd_engine.specs.declared.merge.Merged.{Merged}
 use Rattle.dd_engine.specs.declared.merge_fault.MergeFault.{MergeFault}
 use Rattle.dd_engine.specs.declared.merge_fault.MergeFault.TheVariants.{Dir, Own, Plan, Memory}
 use Rattle.dd_engine.specs.Choosing.{refusal_for}
-use Rattle.dd_engine.specs.Merging.{AreOwn, IsFirst, IsForeign, IsMerged, IsOwn, best_in, numbered, pick_view}
-use Rattle.dd_engine.specs.Merging.{place_pick, places_in, versions_in}
+use Rattle.dd_engine.specs.Merging.{AreOwn, IsFirst, IsForeign, IsMerged, IsOwn, SetListing, held_in, numbered}
+use Rattle.dd_engine.specs.Merging.{pick_view, place_pick, places_in, versions_in, withdrawn_in}
 
 -- ---- faults in the words of a merge: want of memory is its own
 
@@ -29,6 +29,7 @@ own_fault at owns.Memory = Memory
 own_fault at (owns.NoDigest place) = Own at (owns.NoDigest place)
 own_fault at (owns.ForeignRecord place) = Own at (owns.ForeignRecord place)
 own_fault at (owns.RecordKey place tag) = Own at (owns.RecordKey place tag)
+own_fault at owns.BadWithdrawal = Own at owns.BadWithdrawal
 
 -- ---- one set
 
@@ -39,31 +40,37 @@ FailsAt at set (Own n fault) = (n ≡ at) × IsForeign set fault
 FailsAt at set (Plan fault) = ⊥
 FailsAt at set Memory = Unit {0}
 
--- it lists images, of which this is given, or it fails
-abbrev pub AnswersSet : {A : Type 0} → (List Listed → A → Type 0) → ℕ → List ℕ → Result A MergeFault → Type 0
-AnswersSet Gives at set (Ok given) = (images : List Listed) × IsOwn set images × Gives images given
+-- it lists something, of which this is given, or it fails
+abbrev pub AnswersSet : {A : Type 0} → (SetListing → A → Type 0) → ℕ → List ℕ → Result A MergeFault → Type 0
+AnswersSet Gives at set (Ok given) = (listing : SetListing) × IsOwn set listing × Gives listing given
 AnswersSet Gives at set (Err fault) = FailsAt at set fault
 
 -- ---- all sets
 
--- what was gathered is of these images: their versions, and where the files are
-pub record Gathers (images : List (ℕ × Listed)) (gathered : Gathered) : Type 0 where
+-- what was gathered is of these images, their versions and where the files are, and of these withdrawn UIDs
+pub record Gathers (images : List (ℕ × Listed)) (uids : List (List ℕ)) (gathered : Gathered) : Type 0 where
   pub versions : gathered.versions.items ≡ versions_in images
   pub picks : map (λ pick. pick_view pick) gathered.picks.items ≡ map (λ place. place_pick place) (places_in images)
+  pub withdrawn : gathered.withdrawn.items ≡ uids
+
+-- it is of all that the sets list, and of these withdrawn UIDs
+abbrev pub GathersOf : List (List ℕ) → List SetListing → Gathered → Type 0
+GathersOf given listings gathered = Gathers (numbered 0 listings) (given ++ withdrawn_in listings) gathered
 
 -- what was gathered of all sets, or why not
-abbrev pub GathersAll : List (List ℕ) → Result Gathered MergeFault → Type 0
-GathersAll sets (Ok gathered) = (images : List (List Listed))
-    × AreOwn sets images × Gathers (numbered 0 images) gathered
-GathersAll sets (Err (Dir at fault)) = IsFirst (λ set. Refuses set fault) sets at
-GathersAll sets (Err (Own at fault)) = IsFirst (λ set. IsForeign set fault) sets at
-GathersAll sets (Err (Plan fault)) = ⊥
-GathersAll sets (Err Memory) = Unit {0}
+abbrev pub GathersAll : List (List ℕ) → List (List ℕ) → Result Gathered MergeFault → Type 0
+GathersAll given sets (Ok gathered) = (listings : List SetListing)
+    × AreOwn sets listings × GathersOf given listings gathered
+GathersAll given sets (Err (Dir at fault)) = IsFirst (λ set. Refuses set fault) sets at
+GathersAll given sets (Err (Own at fault)) = IsFirst (λ set. IsForeign set fault) sets at
+GathersAll given sets (Err (Plan fault)) = ⊥
+GathersAll given sets (Err Memory) = Unit {0}
 
--- the answer where these are the images of all sets
-abbrev pub MergesAs : Choice → Bounds → List (ℕ × Listed) → Result Merged MergeFault → Type 0
-MergesAs choice limits images (Ok merged) = IsMerged choice limits images merged
-MergesAs choice limits images (Err (Plan fault)) = refusal_for choice limits (best_in images) ≡ Some fault
-MergesAs choice limits images (Err Memory) = Unit {0}
-MergesAs choice limits images (Err (Dir at fault)) = ⊥
-MergesAs choice limits images (Err (Own at fault)) = ⊥
+-- the answer where the sets list this and these UIDs are withdrawn as well
+abbrev pub MergesAs : Choice → Bounds → List (List ℕ) → List SetListing → Result Merged MergeFault → Type 0
+MergesAs choice limits given listings (Ok merged) = IsMerged choice limits given listings merged
+MergesAs choice limits given listings (Err (Plan fault)) =
+    let h = held_in given listings in refusal_for choice limits h.versions h.withdrawn ≡ Some fault
+MergesAs choice limits given listings (Err Memory) = Unit {0}
+MergesAs choice limits given listings (Err (Dir at fault)) = ⊥
+MergesAs choice limits given listings (Err (Own at fault)) = ⊥

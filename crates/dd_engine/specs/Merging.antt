@@ -1,14 +1,16 @@
--- What merging directories answers: the walks of their bytes, the images that these list, the best of all their
--- versions laid out, and for each image the file that it is copied from.
+-- What merging directories answers: the walks of their bytes, the images that these list and the UIDs that they
+-- withdraw, what is kept of all together laid out, and for each image the file that it is copied from.
 use Rattle.std.specs.Prelude.{◌≡◌, ◌<◌, ℕ, suc, List, [], ◌∷◌, ◌++◌, length, map, take, get_or, None, Some, Result, Ok}
 use Rattle.std.specs.Prelude.{Err}
+use Rattle.dd_catalogue.specs.Contents.{Contents, held_of}
 use Rattle.dd_catalogue.specs.Harmony.{harmonised}
-use Rattle.dd_catalogue.specs.Versions.{best_of}
+use Rattle.dd_catalogue.specs.Histories.{together}
 use Rattle.dd_dir.specs.declared.own_fault.OwnFault.{OwnFault}
 use Rattle.dd_dir.specs.Own.{Listed, own}
-use Rattle.dd_dir.specs.OwnVersions.{Located, place_of, version_of}
+use Rattle.dd_dir.specs.OwnVersions.{FailsOwn, Located, place_of, version_of}
 use Rattle.dd_dir.specs.Reading.{IsWalk, Refuses}
 use Rattle.dd_dir.specs.Trees.{Walk}
+use Rattle.dd_dir.specs.Withdrawn.{AreRisingUids, withdrawn_of}
 use Rattle.dd_keys.specs.declared.parts.Parts.{Parts}
 use Rattle.dd_layout.specs.Bounds.{Bounds}
 use Rattle.dd_layout.specs.Layouts.{layout_of}
@@ -23,36 +25,51 @@ use Rattle.dd_engine.specs.Picking.{ArePicked, FileKey}
 
 -- ---- what the sets list
 
--- the bytes are a directory whose records are those that are written here, and list these images
-pub record IsOwn (set : List ℕ) (images : List Listed) : Type 0 where
+-- the images that a set lists, and the SOP Instance UIDs (PS3.3 section C.12.1) that it withdraws
+pub record SetListing : Type 0 where
+  pub images : List Listed
+  pub withdrawn : List (List ℕ)
+
+-- the bytes are a directory whose records are those that are written here, and list this
+pub record IsOwn (set : List ℕ) (listing : SetListing) : Type 0 where
   pub walk : Walk
   pub is_walk : IsWalk set walk
-  pub lists : own walk ≡ Ok images
+  pub names : withdrawn_of walk ≡ listing.withdrawn
+  pub rising : AreRisingUids listing.withdrawn
+  pub lists : own walk ≡ Ok listing.images
 
--- they are a directory, of which a record fails its checks
+-- they are a directory that is not written here: what names the withdrawn UIDs fails its check, or a record does
 pub record IsForeign (set : List ℕ) (fault : OwnFault) : Type 0 where
   pub walk : Walk
   pub is_walk : IsWalk set walk
-  pub fails : own walk ≡ Err fault
+  pub fails : FailsOwn walk fault
 
--- of each of these sets the images that it lists
-abbrev pub AreOwn : List (List ℕ) → List (List Listed) → Type 0
+-- of each of these sets what it lists
+abbrev pub AreOwn : List (List ℕ) → List SetListing → Type 0
 AreOwn [] [] = Unit {0}
-AreOwn [] (images ∷ more) = ⊥
+AreOwn [] (listing ∷ more) = ⊥
 AreOwn (set ∷ sets) [] = ⊥
-AreOwn (set ∷ sets) (images ∷ more) = IsOwn set images × AreOwn sets more
+AreOwn (set ∷ sets) (listing ∷ more) = IsOwn set listing × AreOwn sets more
+
+-- ---- all together
 
 -- the images of all sets in a row, each with the number of its set; the first set has this number
-abbrev pub numbered : ℕ → List (List Listed) → List (ℕ × Listed)
+abbrev pub numbered : ℕ → List SetListing → List (ℕ × Listed)
 numbered at [] = []
-numbered at (images ∷ more) = map (λ image. (at, image)) images ++ numbered (suc at) more
+numbered at (listing ∷ more) = map (λ image. (at, image)) listing.images ++ numbered (suc at) more
 
--- the versions of all images, and the best of them
+-- the versions of all images
 abbrev pub versions_in : List (ℕ × Listed) → List Parts
 versions_in images = map (λ image. version_of image.1) images
 
-abbrev pub best_in : List (ℕ × Listed) → List Parts
-best_in images = best_of (versions_in images)
+-- the UIDs that the sets withdraw
+abbrev pub withdrawn_in : List SetListing → List (List ℕ)
+withdrawn_in listings = together (map (λ listing. listing.withdrawn) listings)
+
+-- what a catalogue holds of all this, where these UIDs are withdrawn as well
+abbrev pub held_in : List (List ℕ) → List SetListing → Contents
+held_in given listings =
+    held_of (record { versions = versions_in (numbered 0 listings); withdrawn = given ++ withdrawn_in listings })
 
 -- ---- where an image is copied from
 
@@ -73,34 +90,42 @@ stands_at place = (place_pick place, place_key place.1)
 abbrev pub pick_view : Pick → ℕ × List ℕ
 pick_view pick = (pick.set, pick.file.now)
 
+-- the places of the files of all images that the sets list
+abbrev pub stands_in : List SetListing → List ((ℕ × List ℕ) × FileKey)
+stands_in listings = map (λ place. stands_at place) (places_in (numbered 0 listings))
+
 -- ---- the answer
 
--- where the sets list these images: the best of all versions is laid out under the label that is asked for, and each
--- image is picked from the first place with its file
-pub record IsMerged (choice : Choice) (limits : Bounds) (images : List (ℕ × Listed)) (merged : Merged) : Type 0 where
-  pub plan : let m = best_in images in merged.plan ≡ layout_of (label_for choice m) m
-  pub allowed : refusal_for choice limits (best_in images) ≡ None
-  pub picks : let m = best_in images in ArePicked (map (λ place. stands_at place) (places_in images)) (harmonised m)
-      (records_of (label_for choice m) (harmonised m)) (map (λ pick. pick_view pick) merged.picks.items)
+-- where the sets list this and these UIDs are withdrawn as well: what is held then is laid out under the label that is
+-- asked for, and each image is picked from the first place with its file
+pub record IsMerged (choice : Choice) (limits : Bounds) (given : List (List ℕ)) (listings : List SetListing)
+    (merged : Merged) : Type 0 where
+  pub plan : let h = held_in given listings in
+      merged.plan ≡ layout_of (label_for choice h.versions h.withdrawn) h.versions h.withdrawn
+  pub allowed : let h = held_in given listings in refusal_for choice limits h.versions h.withdrawn ≡ None
+  pub picks : let h = held_in given listings in ArePicked (stands_in listings) (harmonised h.versions)
+      (records_of (label_for choice h.versions h.withdrawn) (harmonised h.versions))
+      (map (λ pick. pick_view pick) merged.picks.items)
 
 -- it fails, and no set before it does
 pub record IsFirst (Fails : List ℕ → Type 0) (sets : List (List ℕ)) (at : ℕ) : Type 0 where
   pub below : at < length sets
   pub fails : Fails (get_or sets at [])
-  pub before : (images : List (List Listed)) × AreOwn (take at sets) images
+  pub before : (listings : List SetListing) × AreOwn (take at sets) listings
 
-abbrev pub Merges : Choice → Bounds → List (List ℕ) → Result Merged MergeFault → Type 0
-Merges choice limits sets (Ok merged) = (images : List (List Listed))
-    × AreOwn sets images × IsMerged choice limits (numbered 0 images) merged
-Merges choice limits sets (Err (Dir at fault)) = IsFirst (λ set. Refuses set fault) sets at
-Merges choice limits sets (Err (Own at fault)) = IsFirst (λ set. IsForeign set fault) sets at
-Merges choice limits sets (Err (Plan fault)) = (images : List (List Listed))
-    × AreOwn sets images × (refusal_for choice limits (best_in (numbered 0 images)) ≡ Some fault)
-Merges choice limits sets (Err Memory) = Unit {0}
+-- the answer for the bytes of these sets, where these UIDs are withdrawn as well
+abbrev pub Merges : Choice → Bounds → List (List ℕ) → List (List ℕ) → Result Merged MergeFault → Type 0
+Merges choice limits given sets (Ok merged) = (listings : List SetListing)
+    × AreOwn sets listings × IsMerged choice limits given listings merged
+Merges choice limits given sets (Err (Dir at fault)) = IsFirst (λ set. Refuses set fault) sets at
+Merges choice limits given sets (Err (Own at fault)) = IsFirst (λ set. IsForeign set fault) sets at
+Merges choice limits given sets (Err (Plan fault)) = (listings : List SetListing) × AreOwn sets listings
+    × (let h = held_in given listings in refusal_for choice limits h.versions h.withdrawn ≡ Some fault)
+Merges choice limits given sets (Err Memory) = Unit {0}
 
 -- ---- numbers of sets
 
--- a set that a fault names is one of these
+-- the set that a fault names has a number below the count of sets
 abbrev pub IsNamedSet : ℕ → MergeFault → Type 0
 IsNamedSet sets (Dir at fault) = at < sets
 IsNamedSet sets (Own at fault) = at < sets

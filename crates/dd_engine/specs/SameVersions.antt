@@ -34,7 +34,8 @@ pub record IndexesTold (choice : Choice) (limits : Bounds) (limit : ℕ) (told :
 -- two plans are the same, and the bytes of their directories
 pub record AreSamePlans (one other : Layout) : Type 0 where
   pub plan : one ≡ other
-  pub directory : directory_of one.label one.versions ≡ directory_of other.label other.versions
+  pub directory : directory_of one.label one.versions one.withdrawn
+      ≡ directory_of other.label other.versions other.withdrawn
 
 -- two answers have the same plan, or the same refusal of a plan, unless a source failed or memory ran out
 abbrev pub Agree : Result Indexed EngineFault → Result Indexed EngineFault → Type 0

@@ -19,7 +19,7 @@ pub struct Choice {
     pub uid: Option<Uid>,
 }
 
-/// The plan of the directory of these versions under the label that is asked for. Refused as `lay_out`
+/// Plans the directory of what the catalogue holds under the label that is asked for. Refused as `lay_out`
 /// refuses; where a UID is to be derived, the refusal of that comes first.
 pub(crate) fn plan_for(
     alloc: Global,
@@ -28,10 +28,12 @@ pub(crate) fn plan_for(
     limits: Limits,
 ) -> Result<Plan, PlanFault>
     ensures planned { IfOk result (λ plan. plan
-        ≡ layout_of (label_for choice.now catalogue.now.versions) catalogue.now.versions) }
-    ensures allowed { IsOk result → refusal_for choice.now limits catalogue.now.versions ≡ None }
+        ≡ layout_of (label_for choice.now catalogue.now.versions catalogue.now.withdrawn)
+        catalogue.now.versions catalogue.now.withdrawn) }
+    ensures allowed { IsOk result
+        → refusal_for choice.now limits catalogue.now.versions catalogue.now.withdrawn ≡ None }
     ensures refused { IfErr result (λ fault. (fault ≡ PlanFault.Memory)
-        ⊎ (refusal_for choice.now limits catalogue.now.versions ≡ Some fault)) }
+        ⊎ (refusal_for choice.now limits catalogue.now.versions catalogue.now.withdrawn ≡ Some fault)) }
 {
     let uid = uid_for(alloc, catalogue, choice, limits)?;
     let label = Label { id: choice.id, uid };
@@ -45,10 +47,13 @@ fn uid_for(
     choice: &Choice,
     limits: Limits,
 ) -> Result<Uid, PlanFault>
-    ensures chosen { IfOk result (λ uid. uid ≡ uid_by choice.now.uid choice.now.id catalogue.now.versions) }
-    ensures allowed { IsOk result → derivation choice.now.uid choice.now.id limits catalogue.now.versions ≡ None }
+    ensures chosen { IfOk result (λ uid. uid
+        ≡ uid_by choice.now.uid choice.now.id catalogue.now.versions catalogue.now.withdrawn) }
+    ensures allowed { IsOk result → derivation choice.now.uid choice.now.id limits
+        catalogue.now.versions catalogue.now.withdrawn ≡ None }
     ensures refused { IfErr result (λ fault. (fault ≡ PlanFault.Memory)
-        ⊎ (derivation choice.now.uid choice.now.id limits catalogue.now.versions ≡ Some fault)) }
+        ⊎ (derivation choice.now.uid choice.now.id limits
+        catalogue.now.versions catalogue.now.withdrawn ≡ Some fault)) }
 {
     match choice.uid {
         Some(uid) => Ok(uid),

@@ -1,6 +1,6 @@
 //! What directories list, gathered.
 
-ghost use Rattle.std.specs.Prelude.{◌≡◌, ◌⊎◌, ◌++◌, List, [], ℕ, map, OnOk};
+ghost use Rattle.std.specs.Prelude.{◌≡◌, ◌⊎◌, ◌++◌, List, [], ℕ, map, IfOk, OnOk};
 ghost use Rattle.dd_dir.specs.ReadAnswers.{SaysMemory};
 ghost use Rattle.dd_dir.specs.Own.{Listed};
 ghost use Rattle.dd_dir.specs.OwnVersions.{Tells, place_view};
@@ -11,7 +11,7 @@ ghost use Rattle.dd_engine.specs.MergeSteps.{AnswersSet, FailsAt, Gathers, Gathe
 use crate::merge::Pick;
 use crate::merge_fault::MergeFault;
 use dd_dir::{DirFault, Own, OwnFault, Place, own_of, read_directory};
-use dd_elem::Memory;
+use dd_elem::{Memory, Uid};
 use dd_keys::Version;
 use std::alloc::Global;
 
@@ -21,6 +21,8 @@ pub(crate) struct Gathered<'a> {
     pub(crate) versions: Vec<Version>,
     /// Where their files are.
     pub(crate) picks: Vec<Pick<'a>>,
+    /// The SOP Instance UIDs that are withdrawn.
+    pub(crate) withdrawn: Vec<Uid>,
 }
 
 // By hand, so that dropping it is one call.
@@ -29,19 +31,21 @@ impl Drop for Gathered<'_> {
         let Gathered {
             versions: _versions,
             picks: _picks,
+            withdrawn: _withdrawn,
         } = self;
     }
 }
 
 impl<'a> Gathered<'a> {
-    /// Of no set.
-    fn new(alloc: Global) -> Gathered<'a>
-        ensures { Gathers [] result }
+    /// Gathers of no set, with these UIDs withdrawn.
+    fn new(alloc: Global, given: &[Uid]) -> Result<Gathered<'a>, Memory>
+        ensures { IfOk result (Gathers [] given.now) }
     {
-        Gathered {
+        Ok(Gathered {
             versions: Vec::new(alloc),
             picks: Vec::new(alloc),
-        }
+            withdrawn: given.to_vec(alloc)?,
+        })
     }
 
     /// Adds what the set of this number lists.
@@ -50,17 +54,25 @@ impl<'a> Gathered<'a> {
         ensures picks { OnOk result (map (λ pick. pick_view pick) self.new.picks.items
             ≡ map (λ pick. pick_view pick) self.old.picks.items
             ++ map (λ place. place_pick (at, place_view place)) own.entry.places.items) }
+        ensures withdrawn { OnOk result (self.new.withdrawn.items
+            ≡ self.old.withdrawn.items ++ own.entry.withdrawn.items) }
     {
         self.versions.append(&mut own.versions)?;
+        self.withdrawn.append(&mut own.withdrawn)?;
         add_picks(&mut self.picks, at, &own.places)
     }
 }
 
-/// What all these sets list. The first that is no directory that is written here is named.
-pub(crate) fn gather<'a>(alloc: Global, sets: &[&'a [u8]]) -> Result<Gathered<'a>, MergeFault>
-    ensures { GathersAll (map (λ set. set.now) sets.now) result }
+/// Gathers what all these sets list, and withdraws these UIDs as well. The first set that is no directory
+/// that is written here is named.
+pub(crate) fn gather<'a>(
+    alloc: Global,
+    sets: &[&'a [u8]],
+    given: &[Uid],
+) -> Result<Gathered<'a>, MergeFault>
+    ensures { GathersAll given.now (map (λ set. set.now) sets.now) result }
 {
-    let mut gathered = Gathered::new(alloc);
+    let mut gathered = Gathered::new(alloc, given)?;
     for at in 0..sets.len() {
         add_set(alloc, at, sets[at], &mut gathered)?;
     }
@@ -74,9 +86,9 @@ fn add_set<'a>(
     set: &'a [u8],
     gathered: &mut Gathered<'a>,
 ) -> Result<(), MergeFault>
-    ensures { (before : List (ℕ × Listed)) → Gathers before gathered.old
-        → AnswersSet (λ images done. Gathers (before ++ map (λ image. (at, image)) images) gathered.new)
-        at set.now result }
+    ensures { (before : List (ℕ × Listed)) (uids : List (List ℕ)) → Gathers before uids gathered.old
+        → AnswersSet (λ listing done. Gathers (before ++ map (λ image. (at, image)) listing.images)
+        (uids ++ listing.withdrawn) gathered.new) at set.now result }
 {
     let own = own_set(alloc, at, set)?;
     gathered.keep(at, own)?;
@@ -85,7 +97,7 @@ fn add_set<'a>(
 
 /// What this set lists, which has this number.
 fn own_set<'a>(alloc: Global, at: usize, set: &'a [u8]) -> Result<Own<'a>, MergeFault>
-    ensures { AnswersSet Tells at set.now result }
+    ensures { AnswersSet (λ listing own. Tells listing.withdrawn listing.images own) at set.now result }
 {
     let forest = match read_directory(alloc, set) {
         Ok(forest) => forest,
@@ -108,7 +120,7 @@ fn dir_fault(at: usize, fault: DirFault) -> MergeFault
     }
 }
 
-/// The fault of the records of the set of this number, as a merge's.
+/// Turns the fault of the set of this number, which is a directory, into a merge's.
 fn own_fault(at: usize, fault: OwnFault) -> MergeFault
     ensures { result ≡ own_fault at fault }
 {

@@ -1,7 +1,7 @@
 //! The engines: from sources, or from directories, to the plan of the directory of the best versions of all
 //! their images (PS3.3 annex F).
 //!
-//! What it promises stands at `index_engine` and `merge_engine`.
+//! What it promises stands at `index_engine`, `merge_engine` and `withdraw_engine`.
 #![tactic(auto)]
 
 mod choice;
@@ -16,6 +16,7 @@ mod place_picks;
 mod reading;
 mod source_picks;
 mod supply;
+mod withdraw;
 
 pub use choice::Choice;
 pub use engine::{Indexed, index_engine};
@@ -24,3 +25,4 @@ pub use laws::same_versions_have_one_plan;
 pub use merge::{Merged, Pick, merge_engine};
 pub use merge_fault::MergeFault;
 pub use supply::Supply;
+pub use withdraw::withdraw_engine;

@@ -1,25 +1,24 @@
 //! From directories to the plan of the directory of all their images.
 
-ghost use Rattle.std.specs.Prelude.{◌<◌, All, IfOk, List, ℕ, length, map};
-ghost use Rattle.dd_catalogue.specs.Agreement.{AllAgree};
-ghost use Rattle.dd_dir.specs.Own.{Listed};
-ghost use Rattle.dd_keys.specs.declared.parts.Parts.{Parts};
-ghost use Rattle.dd_engine.specs.Merging.{Merges};
-ghost use Rattle.dd_engine.specs.MergeSteps.{Gathers, MergesAs};
-ghost use Rattle.dd_engine.specs.Published.{ArePublished, MergesMaps};
+ghost use Rattle.std.specs.Prelude.{◌<◌, All, IfOk, List, [], ℕ, length, map};
+ghost use Rattle.dd_catalogue.specs.Contents.{Contents};
+ghost use Rattle.dd_engine.specs.Merging.{Merges, SetListing};
+ghost use Rattle.dd_engine.specs.MergeSteps.{GathersOf, MergesAs};
+ghost use Rattle.dd_engine.specs.Published.{ArePublished, MapsAgree, MergesMaps, NoneWithdrawn, PlansImages, joined};
 
 use crate::choice::{Choice, plan_for};
 use crate::gathering::{Gathered, gather};
 use crate::merge_fault::MergeFault;
 use crate::place_picks::place_picks;
 use dd_catalogue::Catalogue;
+use dd_elem::Uid;
 use dd_layout::{Limits, Plan};
 use std::alloc::Global;
 
 /// What a merge of directories has.
 #[derive(Debug)]
 pub struct Merged<'a> {
-    /// The plan of the directory of the best versions of all sets.
+    /// The plan of the directory of what is kept of all sets.
     pub plan: Plan,
     /// For each image of the plan, in the order of its records, the first place that has its file.
     pub picks: Vec<Pick<'a>>,
@@ -45,24 +44,46 @@ impl Drop for Merged<'_> {
 }
 
 /// Reads the directories of all sets, each from its bytes, and plans the directory of the best of the
-/// versions that they list under the label that is asked for.
+/// versions that they list and of which no set withdraws the instance, with all that they withdraw, under the
+/// label that is asked for.
 ///
 /// Dir and Own name the first set that is no directory, or none that is written here; a Plan fault is
 /// the refusal of these versions; Memory where a growth was refused. Where the sets are the directories of
-/// catalogues that agree in pairs, the plan is that of the best of these, whatever labels they were
-/// published under.
+/// catalogues that agree in pairs, the plan has the images of the catalogue that joins these, whatever labels
+/// they were published under. It is the plan of that catalogue where none of them withdraws an instance of
+/// another.
 pub fn merge_engine<'a>(
     alloc: Global,
     sets: &'a [&'a [u8]],
     choice: &Choice,
     limits: Limits,
 ) -> Result<Merged<'a>, MergeFault>
-    ensures merges { Merges choice.now limits (map (λ set. set.now) sets.now) result }
+    ensures merges { Merges choice.now limits [] (map (λ set. set.now) sets.now) result }
     ensures within { IfOk result (λ merged. All (λ pick. pick.set < length sets.now) merged.picks.items) }
-    ensures published { (maps : List (List Parts)) → ArePublished (map (λ set. set.now) sets.now) maps → AllAgree maps
-        → MergesMaps choice.now limits maps result }
+    ensures published { (maps : List Contents) → ArePublished (map (λ set. set.now) sets.now) maps → MapsAgree maps
+        → NoneWithdrawn [] maps → MergesMaps choice.now limits (joined [] maps) result }
+    ensures withdrawn { (maps : List Contents) → ArePublished (map (λ set. set.now) sets.now) maps → MapsAgree maps
+        → IfOk result (λ merged. PlansImages (joined [] maps) merged.plan) }
 {
-    let gathered = gather(alloc, sets)?;
+    merge_sets(alloc, sets, &[], choice, limits)
+}
+
+/// Plans the directory of what all these sets list where these instances are withdrawn as well.
+pub(crate) fn merge_sets<'a>(
+    alloc: Global,
+    sets: &[&'a [u8]],
+    given: &[Uid],
+    choice: &Choice,
+    limits: Limits,
+) -> Result<Merged<'a>, MergeFault>
+    ensures merges { Merges choice.now limits given.now (map (λ set. set.now) sets.now) result }
+    ensures within { IfOk result (λ merged. All (λ pick. pick.set < length sets.now) merged.picks.items) }
+    ensures published { (maps : List Contents) → ArePublished (map (λ set. set.now) sets.now) maps → MapsAgree maps
+        → NoneWithdrawn given.now maps → MergesMaps choice.now limits (joined given.now maps) result }
+    ensures withdrawn { (maps : List Contents) → ArePublished (map (λ set. set.now) sets.now) maps → MapsAgree maps
+        → IfOk result (λ merged. PlansImages (joined given.now maps) merged.plan) }
+{
+    let gathered = gather(alloc, sets, given)?;
     planned(alloc, &gathered, choice, limits)
 }
 
@@ -73,11 +94,11 @@ fn planned<'a>(
     choice: &Choice,
     limits: Limits,
 ) -> Result<Merged<'a>, MergeFault>
-    requires { (images : List (ℕ × Listed)) × Gathers images gathered.now }
-    ensures { (images : List (ℕ × Listed)) → Gathers images gathered.now
-        → MergesAs choice.now limits images result }
+    requires { (given : List (List ℕ)) × (listings : List SetListing) × GathersOf given listings gathered.now }
+    ensures { (given : List (List ℕ)) (listings : List SetListing) → GathersOf given listings gathered.now
+        → MergesAs choice.now limits given listings result }
 {
-    let catalogue = Catalogue::from_versions(alloc, &gathered.versions)?;
+    let catalogue = Catalogue::from_parts(alloc, &gathered.versions, &gathered.withdrawn)?;
     let plan = plan_for(alloc, &catalogue, choice, limits)?;
     let picks = place_picks(alloc, &plan, gathered)?;
     Ok(Merged { plan, picks })

@@ -13,7 +13,8 @@ pub enum MergeFault {
     /// The set of this number is no directory that can be read.
     #[error("{1}")]
     Dir(usize, DirFault),
-    /// The directory of this number has a record that is not as those that are written here.
+    /// The directory of this number was not written here: what names its withdrawn UIDs fails its check, or a
+    /// record does.
     #[error("{1}")]
     Own(usize, OwnFault),
     /// The versions have no place in a directory.

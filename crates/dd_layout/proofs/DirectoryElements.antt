@@ -1,5 +1,6 @@
 -- How long a directory is, and that its elements are those of a set.
-use Rattle.std.proofs.Common.{◌≡◌, ℕ, ◌+◌, ◌<◌, ◌≤◌, List, [], ◌∷◌, length, map, Some, refl, sum_by, arith}
+use Rattle.std.proofs.Common.{◌≡◌, ℕ, ◌+◌, ◌<◌, ◌≤◌, List, [], ◌∷◌, ◌++◌, length, map, Some, refl, sum_by}
+use Rattle.std.proofs.Common.{arith}
 use Rattle.std.specs.List.{All, AllByRecursion}
 use Rattle.std.proofs.lemmas.List.Elements.{recursion_from_All}
 use Rattle.std.proofs.lemmas.List.Sums.{sum_by-cons}
@@ -17,8 +18,10 @@ use Rattle.dd_layout.specs.Directory.{directory_entries, first_offset, meta_of, 
 use Rattle.dd_layout.specs.Entries.{tag, padded, long_entry, short_entry}
 use Rattle.dd_layout.specs.Records.{IsRecord, record_part}
 use Rattle.dd_layout.specs.Sizes.{entries_size, record_size}
-use Rattle.dd_layout.proofs.Lengths.{length-padded, short_more}
+use Rattle.dd_layout.specs.Withdrawals.{withdrawal_entries, withdrawals_size}
+use Rattle.dd_layout.proofs.Lengths.{length-padded, short_more, size-append}
 use Rattle.dd_layout.proofs.Valid.{one_valid, short_number}
+use Rattle.dd_layout.proofs.WithdrawalElements.{withdrawals_valid}
 
 -- ---- lengths
 
@@ -47,14 +50,16 @@ directory_length id first last parts =
     let f = length-items (Some SQ) Defined (items_of parts) in
     omega arith
 
-pub length_is_of_records : (label : Label) (first last : ℕ) (records : List (List Entry))
+pub length_is_of_records : (label : Label) (first last : ℕ) (records : List (List Entry)) (withdrawn : List (List ℕ))
     → length (head_text (meta_of label))
-    + entries_size (directory_entries label.id first last (map record_part records))
-    ≡ first_offset label + sum_by record_size records
-length_is_of_records label first last records =
+    + entries_size (directory_entries label.id first last (map record_part records) ++ withdrawal_entries withdrawn)
+    ≡ first_offset label + sum_by record_size records + withdrawals_size withdrawn
+length_is_of_records label first last records withdrawn =
     let a = directory_length label.id first last (map record_part records) in
     let b = directory_length label.id 0 0 [] in
     let c = items_length records in
+    let d = size-append (directory_entries label.id first last (map record_part records))
+    (withdrawal_entries withdrawn) in
     omega arith
 
 -- ---- elements of a set
@@ -67,17 +72,19 @@ items_valid (es ∷ more) valid below =
     let a = sum_by-cons record_size es more in
     (valid.0, omega arith, items_valid more valid.1 (omega arith))
 
-directory_valid : (id : List ℕ) (first last : ℕ) (parts : List Part) → length id ≤ max_set_id_length
-    → AreItems Explicit max_levels (items_of parts) → length (items_text (items_of parts)) < undefined_length
-    → AreElements Explicit max_levels 0 (elements_of (directory_entries id first last parts))
-directory_valid id first last parts few valid below =
-    let records : List Entry = records_entry parts ∷ [] in
+directory_valid : (id : List ℕ) (first last : ℕ) (parts : List Part) (behind : List Entry)
+    → length id ≤ max_set_id_length → AreItems Explicit max_levels (items_of parts)
+    → length (items_text (items_of parts)) < undefined_length
+    → AreElements Explicit max_levels 0x00041221 (elements_of behind)
+    → AreElements Explicit max_levels 0 (elements_of (directory_entries id first last parts ++ behind))
+directory_valid id first last parts behind few valid below rest =
+    let records : List Entry = records_entry parts ∷ behind in
     let flag : List Entry = short_entry (tag 0x0004 0x1212) 0x0000 ∷ records in
     let lasts : List Entry = long_entry (tag 0x0004 0x1202) last ∷ flag in
     let firsts : List Entry = long_entry (tag 0x0004 0x1200) first ∷ lasts in
     let e = length-padded 0x20 id in
     let a : AreElements Explicit max_levels 0x00041213 (elements_of records) =
-    (omega arith, omega arith, omega arith, (λ e. omega arith), (valid, below), tt, tt) in
+    (omega arith, omega arith, omega arith, (λ e. omega arith), (valid, below), tt, rest) in
     let b : AreElements Explicit max_levels 0x00041203 (elements_of flag) =
     one_valid max_levels 0x00041203 (tag 0x0004 0x1212) (Some US) (bytes (little_bytes 2 0x0000))
     (elements_of records) tt tt (refl, omega arith) a in
@@ -90,10 +97,13 @@ directory_valid id first last parts few valid below =
     one_valid max_levels 0 (tag 0x0004 0x1130) (Some CS) (bytes (padded 0x20 id)) (elements_of firsts) tt tt
     (omega arith, omega arith) d
 
-pub elements_are_valid : (id : List ℕ) (first last : ℕ) (records : List (List Entry)) → length id ≤ max_set_id_length
-    → All IsRecord records → sum_by record_size records < undefined_length
-    → AreElements Explicit max_levels 0 (elements_of (directory_entries id first last (map record_part records)))
-elements_are_valid id first last records few valid below =
+pub elements_are_valid : (id : List ℕ) (first last : ℕ) (records : List (List Entry)) (withdrawn : List (List ℕ))
+    → length id ≤ max_set_id_length → All IsRecord records → sum_by record_size records < undefined_length
+    → withdrawals_size withdrawn < undefined_length
+    → AreElements Explicit max_levels 0 (elements_of
+    (directory_entries id first last (map record_part records) ++ withdrawal_entries withdrawn))
+elements_are_valid id first last records withdrawn few valid below small =
     let a = items_length records in
-    directory_valid id first last (map record_part records) few
+    directory_valid id first last (map record_part records) (withdrawal_entries withdrawn) few
     (items_valid records (recursion_from_All IsRecord records valid) below) (omega arith)
+    (withdrawals_valid withdrawn small)

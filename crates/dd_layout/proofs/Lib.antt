@@ -28,4 +28,5 @@ pub mod TreeRows
 pub mod Trees
 pub mod Valid
 pub mod Walked
+pub mod WithdrawalElements
 pub mod WorkedOffsets

@@ -10,7 +10,7 @@ use Rattle.dd_layout.specs.declared.label.Label.{Label}
 use Rattle.dd_layout.specs.declared.record.PlanRecord.{PlanRecord}
 use Rattle.dd_layout.specs.Directory.{first_offset}
 use Rattle.dd_layout.specs.Paths.{Path}
-use Rattle.dd_layout.specs.Plans.{path_of, tree, record_size_at, at, size}
+use Rattle.dd_layout.specs.Plans.{path_of, tree, record_size_at, at, records_end}
 use Rattle.dd_layout.specs.Records.{IsFileOf, record_entries}
 use Rattle.dd_layout.specs.Sizes.{record_size}
 use Rattle.dd_layout.specs.Stages.{numbered_at, placed_at}
@@ -34,7 +34,7 @@ sum_is versions (x ∷ paths) =
 
 pub size_is : (label : Label) (versions : List Parts) (rows : List PlanRecord)
     → rows ≡ map (numbered_at versions) (tree versions)
-    → first_offset label + sum_by (weight versions) rows ≡ size label versions
+    → first_offset label + sum_by (weight versions) rows ≡ records_end label versions
 size_is label versions rows is =
     ap (λ (n : ℕ). first_offset label + n) (ap (sum_by (weight versions)) is ∙ sum_is versions (tree versions))
 
@@ -104,18 +104,18 @@ size_of_turn versions rows now n at d version parts one is files h now_is read s
 
 -- ---- the end of a pass
 
--- no end passes the size
+-- no end passes that of the records
 pub end_within : (label : Label) (versions : List Parts) (rows : List PlanRecord) (n end : ℕ)
     → rows ≡ map (numbered_at versions) (tree versions)
-    → end ≡ end_of (weight versions) n (first_offset label) rows → end ≤ size label versions
+    → end ≡ end_of (weight versions) n (first_offset label) rows → end ≤ records_end label versions
 end_within label versions rows n end is end_is =
     let most = end_at_most (weight versions) n (first_offset label) rows in
     let sum = size_is label versions rows is in
     omega arith
 
--- the last is the size
+-- the last is that of the records
 pub end_known : (label : Label) (versions : List Parts) (rows : List PlanRecord) (n end : ℕ)
     → rows ≡ map (numbered_at versions) (tree versions) → length rows ≤ n
-    → end ≡ end_of (weight versions) n (first_offset label) rows → end ≡ size label versions
+    → end ≡ end_of (weight versions) n (first_offset label) rows → end ≡ records_end label versions
 end_known label versions rows n end is long end_is =
     end_is ∙ end_at_last (weight versions) n (first_offset label) rows long ∙ size_is label versions rows is

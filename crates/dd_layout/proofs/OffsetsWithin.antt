@@ -15,7 +15,8 @@ use Rattle.dd_keys.specs.declared.parts.Parts.{Parts}
 use Rattle.dd_layout.specs.declared.label.Label.{Label}
 use Rattle.dd_layout.specs.Layouts.{StandsWithin}
 use Rattle.dd_layout.specs.Paths.{Path, is_before}
-use Rattle.dd_layout.specs.Plans.{at, at_or_none, least_below, record_at, record_size_at, records_of, size, size_of, tree}
+use Rattle.dd_layout.specs.Plans.{at, at_or_none, least_below, record_at, record_size_at, records_end, records_of, size}
+use Rattle.dd_layout.specs.Plans.{size_of, tree}
 use Rattle.dd_layout.proofs.DirectoryElements.{directory_length}
 use Rattle.dd_layout.proofs.Leasts.{least_in}
 use Rattle.dd_layout.proofs.RowsByWalk.{path_total}
@@ -88,18 +89,18 @@ record_has_bytes versions x c =
     let there = version_there versions (least_below versions x) (least_in versions x c) in
     has_bytes (tree versions) x (slice_get versions (least_below versions x)) there.0 there.1
 
-pub directory_has_bytes : (label : Label) (versions : List Parts) → 0 < size label versions
+pub directory_has_bytes : (label : Label) (versions : List Parts) → 0 < records_end label versions
 directory_has_bytes label versions =
     let front = directory_length label.id 0 0 [] in
     omega (arith, front)
 
--- ---- so all offsets are within the size
+-- ---- so all offsets are within the size, whatever stands behind the records
 
 itself_not_before : (x : Path) → not (is_before x x) ≡ true
 itself_not_before x = ap (λ r. not (is_lt r)) (tied_itself path_total x)
 
 pub at_within : (label : Label) (versions : List Parts) (x : Path) → Contains (tree versions) x
-    → at label versions x < size label versions
+    → at label versions x < records_end label versions
 at_within label versions x c =
     let both = sum_by-filter_both (λ y. is_before y x) (λ y. not (is_before y x)) (λ y. refl)
     (record_size_at versions) (tree versions) in
@@ -108,18 +109,18 @@ at_within label versions x c =
     let some = record_has_bytes versions x c in
     omega (arith, both, own, some)
 
-pub named_within : (label : Label) (versions : List Parts) (x : Option Path)
-    → IfSome x (λ path. Contains (tree versions) path) → at_or_none label versions x < size label versions
-named_within label versions None c = directory_has_bytes label versions
-named_within label versions (Some x) c = at_within label versions x c
+pub named_within : (label : Label) (versions : List Parts) (withdrawn : List (List ℕ)) (x : Option Path)
+    → IfSome x (λ path. Contains (tree versions) path) → at_or_none label versions x < size label versions withdrawn
+named_within label versions withdrawn None c = omega (arith, directory_has_bytes label versions)
+named_within label versions withdrawn (Some x) c = omega (arith, at_within label versions x c)
 
-pub records_within : (label : Label) (versions : List Parts)
-    → All (StandsWithin (size label versions)) (records_of label versions)
-records_within label versions =
-    All-map (StandsWithin (size label versions)) (record_at label versions) (tree versions) (λ k d h.
+pub records_within : (label : Label) (versions : List Parts) (withdrawn : List (List ℕ))
+    → All (StandsWithin (size label versions withdrawn)) (records_of label versions)
+records_within label versions withdrawn =
+    All-map (StandsWithin (size label versions withdrawn)) (record_at label versions) (tree versions) (λ k d h.
     let x = slice_index_or (tree versions) k d in
     record {
-      at = at_within label versions x (Contains-get_or (tree versions) k d h);
-      next = named_within label versions _ (found_there _ (tree versions));
-      lower = named_within label versions _ (found_there _ (tree versions));
+      at = named_within label versions withdrawn (Some x) (Contains-get_or (tree versions) k d h);
+      next = named_within label versions withdrawn _ (found_there _ (tree versions));
+      lower = named_within label versions withdrawn _ (found_there _ (tree versions));
     })

@@ -1,5 +1,5 @@
 -- Harmony keeps the path of each version, and so the tree.
-use Rattle.std.specs.Prelude.{◌≡◌, List, [], ◌∷◌, map}
+use Rattle.std.specs.Prelude.{◌≡◌, ℕ, List, [], ◌∷◌, map}
 use Rattle.std.proofs.Common.{refl, ◌∙◌, ap, inl, inr}
 use Rattle.dd_catalogue.specs.Agreement.{IsSameImage}
 use Rattle.dd_catalogue.specs.Clash.{clash}
@@ -26,9 +26,10 @@ same_paths f (v ∷ m) h =
 pub same_tree : (m : List Parts) → tree (harmonised m) ≡ tree m
 same_tree m = ap tree_of (same_paths (agreed m) m (λ v i. agreed_image m v i))
 
-pub refused_by_the_tree : (label : Label) (limits : Bounds) (m : List Parts) → refusal label limits m
+pub refused_by_the_tree : (label : Label) (limits : Bounds) (m : List Parts) (withdrawn : List (List ℕ))
+    → refusal label limits m withdrawn
     ≡ conflict_or (clash m) (crowding_or (crowded limits.per_level (tree m))
-    (oversize limits.bytes (size label (harmonised m))))
-refused_by_the_tree label limits m =
+    (oversize limits.bytes (size label (harmonised m) withdrawn)))
+refused_by_the_tree label limits m withdrawn =
     ap (λ t. conflict_or (clash m) (crowding_or (crowded limits.per_level t)
-    (oversize limits.bytes (size label (harmonised m))))) (same_tree m)
+    (oversize limits.bytes (size label (harmonised m) withdrawn)))) (same_tree m)

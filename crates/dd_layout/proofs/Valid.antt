@@ -1,5 +1,5 @@
 -- Short values whose tags rise are elements of a set in Explicit VR; the tags of each record do.
-use Rattle.std.proofs.Common.{ℕ, ◌+◌, ◌<◌, ◌≤◌, ◌≢◌, ◌^◌, Bool, true, false, cond, ◌&&◌, T, eqb, ltb, leb}
+use Rattle.std.proofs.Common.{◌≡◌, ℕ, ◌+◌, ◌%◌, ◌<◌, ◌≤◌, ◌≢◌, ◌^◌, Bool, true, false, cond, ◌&&◌, T, eqb, ltb, leb}
 use Rattle.std.proofs.Common.{ltb→lt, leb→le, List, [], ◌∷◌, ◌++◌, length, Option, Some, None, refl, subst, arith}
 use Rattle.std.specs.List.{AllByRecursion}
 use Rattle.byteorder.specs.Endian.{little_bytes}
@@ -53,13 +53,12 @@ short_fits vr v short = go (is_long_of vr) where
 no_sequence : (vr : Vr) → T (holds (Some vr)) → vr ≢ SQ
 no_sequence vr h e = subst (λ (v : Vr). T (holds (Some v))) e h
 
-pub one_valid : (levels low : ℕ) (t : Tag) (vr : Option Vr) (c : Content) (rest : Elements) → T (may_follow low t)
-    → T (holds vr) → IsShortContent c
-    → AreElements Explicit levels (number_of t + 1) rest → AreElements Explicit levels low (element t vr c rest)
-one_valid levels low t None c rest follows h short valid = absurd h
-one_valid levels low t (Some vr) (items form parts) rest follows h short valid = absurd short
-one_valid levels low t (Some vr) (fragments fs) rest follows h short valid = absurd short
-one_valid levels low t (Some vr) (bytes v) rest follows h short valid =
+-- a value of even length that its header has room for
+pub value_valid : (levels low : ℕ) (t : Tag) (vr : Vr) (v : List ℕ) (rest : Elements) → T (may_follow low t)
+    → T (holds (Some vr)) → length v % 2 ≡ 0 → length v < length_limit (Some vr)
+    → AreElements Explicit levels (number_of t + 1) rest
+    → AreElements Explicit levels low (element t (Some vr) (bytes v) rest)
+value_valid levels low t vr v rest follows h even fits valid =
     let a = both (leb low (number_of t)) (ltb t.group delimiter_group && ltb t.element (2 ^ 16)) follows in
     let b = both (ltb t.group delimiter_group) (ltb t.element (2 ^ 16)) a.1 in
     let group : t.group < delimiter_group = ltb→lt t.group delimiter_group b.0 in (
@@ -67,10 +66,20 @@ one_valid levels low t (Some vr) (bytes v) rest follows h short valid =
       omega arith,
       ltb→lt t.element (2 ^ 16) b.1,
       (λ e. omega arith),
-      (no_sequence vr h, short.0, short_fits vr v short.1),
+      (no_sequence vr h, even, fits),
       tt,
       valid,
     )
+
+-- a short value
+pub one_valid : (levels low : ℕ) (t : Tag) (vr : Option Vr) (c : Content) (rest : Elements) → T (may_follow low t)
+    → T (holds vr) → IsShortContent c
+    → AreElements Explicit levels (number_of t + 1) rest → AreElements Explicit levels low (element t vr c rest)
+one_valid levels low t None c rest follows h short valid = absurd h
+one_valid levels low t (Some vr) (items form parts) rest follows h short valid = absurd short
+one_valid levels low t (Some vr) (fragments fs) rest follows h short valid = absurd short
+one_valid levels low t (Some vr) (bytes v) rest follows h short valid =
+    value_valid levels low t vr v rest follows h short.0 (short_fits vr v short.1) valid
 
 pub entries_valid : (levels low : ℕ) (es : List Entry) → T (in_order low es) → AllByRecursion IsShortEntry es
     → AreElements Explicit levels low (elements_of es)

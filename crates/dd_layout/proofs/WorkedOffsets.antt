@@ -6,7 +6,7 @@ use Rattle.dd_elem.specs.FileId.{ranks_of, text_of}
 use Rattle.dd_part10.specs.Head.{head_text, group_text}
 use Rattle.dd_layout.specs.declared.level.Level.TheVariants.{Patient, Study, Series, Image}
 use Rattle.dd_layout.specs.Plans.{at, records_of, size}
-use Rattle.dd_layout.specs.Worked.{row, eleven_records, four_images, unnamed}
+use Rattle.dd_layout.specs.Worked.{row, eleven_records, four_images, one_withdrawn, two_withdrawn, unnamed}
 
 pub at_first_patient : at unnamed four_images (codes "P1" ∷ []) ≡ 320
 unfolding text_of head_text group_text digits
@@ -56,9 +56,17 @@ pub at_fourth_image : at unnamed four_images
 unfolding text_of head_text group_text digits
 at_fourth_image = refl
 
-pub size_is : size unnamed four_images ≡ 2032
+pub size_is : size unnamed four_images [] ≡ 2032
 unfolding text_of head_text group_text digits
 size_is = refl
+
+pub size_with_one : size unnamed four_images one_withdrawn ≡ 2074
+unfolding text_of head_text group_text digits
+size_with_one = refl
+
+pub size_with_two : size unnamed four_images two_withdrawn ≡ 2084
+unfolding text_of head_text group_text digits
+size_with_two = refl
 
 pub records_are : records_of unnamed four_images ≡ eleven_records
 records_are = λ i.

@@ -21,7 +21,7 @@ front_entries id first last =
 abbrev pub records_entry : List Part → Entry
 records_entry records = record { tag = tag 0x0004 0x1220; vr = Some SQ; content = items Defined (items_of records) }
 
--- the elements of a directory
+-- the elements of a directory up to its records
 abbrev pub directory_entries : List ℕ → ℕ → ℕ → List Part → List Entry
 directory_entries id first last records = front_entries id first last ++ (records_entry records ∷ [])
 

@@ -1,4 +1,4 @@
--- A plan: the label and the versions in harmony, from which all else follows.
+-- A plan: the label, the versions in harmony and the withdrawn UIDs, from which all else follows.
 use Rattle.std.specs.Prelude.{◌≡◌, ◌<◌, ℕ, List, All, length}
 use Rattle.dd_catalogue.specs.Harmony.{harmonised}
 use Rattle.dd_keys.specs.declared.parts.Parts.{Parts}
@@ -10,6 +10,7 @@ use Rattle.dd_layout.specs.Records.{IsFileOf}
 pub record Layout : Type 0 where
   pub label : Label
   pub versions : List Parts
+  pub withdrawn : List (List ℕ)
 
 -- a record is of one of so many versions, and has a File ID where it is of an image
 abbrev pub IsSound : ℕ → PlanRecord → Type 0
@@ -21,12 +22,13 @@ pub record StandsWithin (bytes : ℕ) (row : PlanRecord) : Type 0 where
   pub next : row.next < bytes
   pub lower : row.lower < bytes
 
--- the records and the size are those that the versions have under the label
-pub record IsLaidOut (label : Label) (versions : List Parts) (rows : List PlanRecord) (bytes : ℕ) : Type 0 where
+-- the records are those that the versions have under the label, and the size is that with the withdrawn UIDs
+pub record IsLaidOut (label : Label) (versions : List Parts) (withdrawn : List (List ℕ)) (rows : List PlanRecord)
+    (bytes : ℕ) : Type 0 where
   pub records : rows ≡ records_of label versions
-  pub size : bytes ≡ size label versions
+  pub size : bytes ≡ size label versions withdrawn
   pub sound : All (IsSound (length versions)) rows
 
--- what the versions of a catalogue are laid out as
-abbrev pub layout_of : Label → List Parts → Layout
-layout_of label m = record { label = label; versions = harmonised m }
+-- what the versions and the withdrawn UIDs of a catalogue are laid out as
+abbrev pub layout_of : Label → List Parts → List (List ℕ) → Layout
+layout_of label m withdrawn = record { label = label; versions = harmonised m; withdrawn = withdrawn }

@@ -17,4 +17,5 @@ pub mod Tables
 pub mod Tree
 pub mod Walk
 pub mod WalkedRecords
+pub mod Withdrawals
 pub mod Worked

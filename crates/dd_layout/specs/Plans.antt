@@ -12,6 +12,7 @@ use Rattle.dd_layout.specs.Paths.{Path, leads_to}
 use Rattle.dd_layout.specs.Records.{record_entries}
 use Rattle.dd_layout.specs.Sizes.{record_size}
 use Rattle.dd_layout.specs.Tree.{tree_of, ranks_along, offset, next_sibling, first_child}
+use Rattle.dd_layout.specs.Withdrawals.{withdrawals_size}
 
 -- ---- versions as paths
 
@@ -81,6 +82,10 @@ record_at label versions x = record {
 abbrev pub records_of : Label → List Parts → List PlanRecord
 records_of label versions = map (record_at label versions) (tree versions)
 
--- the size of the directory
-abbrev pub size : Label → List Parts → ℕ
-size label versions = first_offset label + sum_by (record_size_at versions) (tree versions)
+-- the bytes up to the end of its records
+abbrev pub records_end : Label → List Parts → ℕ
+records_end label versions = first_offset label + sum_by (record_size_at versions) (tree versions)
+
+-- the size of the directory, which names these withdrawn UIDs behind its records
+abbrev pub size : Label → List Parts → List (List ℕ) → ℕ
+size label versions withdrawn = records_end label versions + withdrawals_size withdrawn

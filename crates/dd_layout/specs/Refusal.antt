@@ -44,11 +44,11 @@ abbrev pub conflict_or : Option (List ℕ × List ℕ) → Option PlanFault → 
 conflict_or None other = other
 conflict_or (Some pair) other = Some (Conflict pair.0 pair.1)
 
--- of versions in harmony, under this label: too many children, or too many bytes
-abbrev pub excess : Label → Bounds → List Parts → Option PlanFault
-excess label limits versions =
-    crowding_or (crowded limits.per_level (tree versions)) (oversize limits.bytes (size label versions))
+-- of versions in harmony and withdrawn UIDs, under this label: too many children, or too many bytes
+abbrev pub excess : Label → Bounds → List Parts → List (List ℕ) → Option PlanFault
+excess label limits versions withdrawn =
+    crowding_or (crowded limits.per_level (tree versions)) (oversize limits.bytes (size label versions withdrawn))
 
--- of a catalogue of these versions, under this label
-abbrev pub refusal : Label → Bounds → List Parts → Option PlanFault
-refusal label limits m = conflict_or (clash m) (excess label limits (harmonised m))
+-- of a catalogue of these versions and withdrawn UIDs, under this label
+abbrev pub refusal : Label → Bounds → List Parts → List (List ℕ) → Option PlanFault
+refusal label limits m withdrawn = conflict_or (clash m) (excess label limits (harmonised m) withdrawn)

@@ -36,6 +36,13 @@ four_images =
     ∷ image (codes "P2") (codes "ROE^JANE") (codes "1.2.9") (codes "1.2.9.1") (codes "1") (codes "1.2.9.1.1")
     ∷ []
 
+-- withdrawn UIDs
+abbrev pub one_withdrawn : List (List ℕ)
+one_withdrawn = codes "1.2.3.4.7" ∷ []
+
+abbrev pub two_withdrawn : List (List ℕ)
+two_withdrawn = codes "1.2.3.4.7" ∷ codes "1.2.3.4.8" ∷ []
+
 -- no File-set ID, and this UID
 abbrev pub unnamed : Label
 unnamed = record { id = []; uid = codes "2.25.0" }

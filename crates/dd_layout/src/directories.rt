@@ -1,6 +1,6 @@
 //! What holds of every directory.
 
-ghost use Rattle.std.specs.Prelude.{◌≡◌, ◌+◌, ◌<◌, ◌≤◌, ℕ, List, All, length, map, sum_by};
+ghost use Rattle.std.specs.Prelude.{◌≡◌, ◌+◌, ◌<◌, ◌≤◌, ◌++◌, ℕ, List, All, length, map, sum_by};
 ghost use Rattle.dd_elem.specs.SetId.{max_set_id_length};
 ghost use Rattle.dd_part10.specs.Head.{head_text};
 ghost use Rattle.dd_set.specs.Elements.{Entry, elements_of};
@@ -10,21 +10,26 @@ ghost use Rattle.dd_layout.specs.declared.label.Label.{Label};
 ghost use Rattle.dd_layout.specs.Directory.{directory_entries, first_offset, meta_of};
 ghost use Rattle.dd_layout.specs.Records.{IsRecord, record_part};
 ghost use Rattle.dd_layout.specs.Sizes.{entries_size, record_size};
+ghost use Rattle.dd_layout.specs.Withdrawals.{withdrawal_entries, withdrawals_size};
 
-/// A directory has as many bytes as stand before its first record and its records take together,
-/// whatever its offsets are. This states a law, and does nothing.
+/// A directory has as many bytes as stand before its first record and its records and the elements with
+/// the withdrawn UIDs take together, whatever its offsets are. This states a law, and does nothing.
 pub fn directory_is_as_long_as_its_records()
-    ensures { (label : Label) (first last : ℕ) (records : List (List Entry))
+    ensures { (label : Label) (first last : ℕ) (records : List (List Entry)) (withdrawn : List (List ℕ))
         → length (head_text (meta_of label))
-        + entries_size (directory_entries label.id first last (map record_part records))
-        ≡ first_offset label + sum_by record_size records }
+        + entries_size (directory_entries label.id first last (map record_part records)
+        ++ withdrawal_entries withdrawn)
+        ≡ first_offset label + sum_by record_size records + withdrawals_size withdrawn }
 {}
 
-/// The elements of a directory are those of a data set, where those of each record are and the records
-/// take fewer bytes than the mark of an undefined length. This states a law, and does nothing.
+/// The elements of a directory are those of a data set, where those of each record are, and the records,
+/// and the elements with the withdrawn UIDs, take fewer bytes than the mark of an undefined length. This
+/// states a law, and does nothing.
 pub fn directory_is_a_data_set()
-    ensures { (id : List ℕ) (first last : ℕ) (records : List (List Entry))
+    ensures { (id : List ℕ) (first last : ℕ) (records : List (List Entry)) (withdrawn : List (List ℕ))
         → length id ≤ max_set_id_length
         → All IsRecord records → sum_by record_size records < undefined_length
-        → AreElements Explicit max_levels 0 (elements_of (directory_entries id first last (map record_part records))) }
+        → withdrawals_size withdrawn < undefined_length
+        → AreElements Explicit max_levels 0 (elements_of
+        (directory_entries id first last (map record_part records) ++ withdrawal_entries withdrawn)) }
 {}

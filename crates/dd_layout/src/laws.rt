@@ -1,6 +1,6 @@
 //! What holds of every tree, and a worked example of a plan.
 
-ghost use Rattle.std.specs.Prelude.{◌≡◌, ◌≢◌, ◌<◌, ◌∷◌, ◌++◌, List, [], All, Contains, Option, IfSome};
+ghost use Rattle.std.specs.Prelude.{◌≡◌, ◌≢◌, ◌<◌, ◌∷◌, ◌++◌, ℕ, List, [], All, Contains, Option, IfSome};
 ghost use Rattle.dd_catalogue.specs.Best.{IsRising};
 ghost use Rattle.dd_catalogue.specs.Clash.{clash};
 ghost use Rattle.dd_catalogue.specs.Harmony.{harmonised};
@@ -14,7 +14,7 @@ ghost use Rattle.dd_layout.specs.Plans.{at_or_none, records_of, size, tree};
 ghost use Rattle.dd_layout.specs.Refusal.{conflict_or, crowded, crowding_or, oversize, refusal};
 ghost use Rattle.dd_layout.specs.Tree.{IsTree, tree_of};
 ghost use Rattle.dd_layout.specs.Walk.{rows_from};
-ghost use Rattle.dd_layout.specs.Worked.{eleven_records, four_images, unnamed};
+ghost use Rattle.dd_layout.specs.Worked.{eleven_records, four_images, one_withdrawn, two_withdrawn, unnamed};
 
 /// All paths have a tree. This states a law, and does nothing.
 pub fn tree_is_tree()
@@ -43,24 +43,28 @@ pub fn rows_are_known()
 /// there, as the next one, the first one below, and the first and the last root: its offset, or 0. This states a law,
 /// and does nothing.
 pub fn offsets_are_within()
-    ensures named { (label : Label) (versions : List Parts) (x : Option Path)
-        → IfSome x (λ path. Contains (tree versions) path) → at_or_none label versions x < size label versions }
-    ensures records { (label : Label) (versions : List Parts)
-        → All (StandsWithin (size label versions)) (records_of label versions) }
+    ensures named { (label : Label) (versions : List Parts) (withdrawn : List (List ℕ)) (x : Option Path)
+        → IfSome x (λ path. Contains (tree versions) path)
+        → at_or_none label versions x < size label versions withdrawn }
+    ensures records { (label : Label) (versions : List Parts) (withdrawn : List (List ℕ))
+        → All (StandsWithin (size label versions withdrawn)) (records_of label versions) }
 {}
 
 /// The tree of a catalogue in harmony is the tree of the catalogue. So whether records have too many children may be
 /// asked of the catalogue itself, and only the size needs its harmony. This states a law, and does nothing.
 pub fn harmony_keeps_the_tree()
     ensures tree { (m : List Parts) → tree (harmonised m) ≡ tree m }
-    ensures refusal { (label : Label) (limits : Bounds) (m : List Parts) → refusal label limits m
+    ensures refusal { (label : Label) (limits : Bounds) (m : List Parts) (withdrawn : List (List ℕ))
+        → refusal label limits m withdrawn
         ≡ conflict_or (clash m) (crowding_or (crowded limits.per_level (tree m))
-        (oversize limits.bytes (size label (harmonised m)))) }
+        (oversize limits.bytes (size label (harmonised m) withdrawn))) }
 {}
 
-/// The plan of four images of two patients: where its eleven records stand and what they name, and its size.
-/// This states a law, and does nothing.
+/// The plan of four images of two patients: where its eleven records stand and what they name, and its size, with no
+/// withdrawn UID, with one and with two. This states a law, and does nothing.
 pub fn four_images_are_planned()
     ensures records { records_of unnamed four_images ≡ eleven_records }
-    ensures size { size unnamed four_images ≡ 2032 }
+    ensures size { size unnamed four_images [] ≡ 2032 }
+    ensures withdrawn { size unnamed four_images one_withdrawn ≡ 2074 }
+    ensures more { size unnamed four_images two_withdrawn ≡ 2084 }
 {}

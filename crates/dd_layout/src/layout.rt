@@ -16,54 +16,69 @@ use crate::places::place;
 use crate::plan::Plan;
 use crate::ranks::number;
 use crate::record::PlanRecord;
+use crate::withdrawals::withdrawals_size;
 use dd_catalogue::Catalogue;
+use dd_elem::Uid;
 use dd_keys::Version;
 use std::alloc::Global;
 
-/// Lays out the directory of these versions, in harmony, under this label. Refused, in this order, as
-/// Conflict where two of them conflict, with the first pair; as TooMany where one record or the root has
-/// more children than the limits allow, with the topmost level of such children; as TooLarge where the
-/// file has more bytes than they allow; and as Memory where a growth was refused, which never is where
-/// there are no versions and nothing is withdrawn.
+/// Lays out the directory of these versions, in harmony, and of what is withdrawn, under this label.
+/// Refused, in this order, as Conflict where two versions conflict, with the first pair; as TooMany where
+/// one record or the root has more children than the limits allow, with the topmost level of such
+/// children; as TooLarge where the file has more bytes than they allow; and as Memory where a growth was
+/// refused, which never is where there are neither versions nor withdrawn UIDs.
 pub fn lay_out(
     alloc: Global,
     catalogue: &Catalogue,
     label: &Label,
     limits: Limits,
 ) -> Result<Plan, PlanFault>
-    ensures planned { IfOk result (λ plan. plan ≡ layout_of label.now catalogue.now.versions) }
-    ensures allowed { IsOk result → refusal label.now limits catalogue.now.versions ≡ None }
+    ensures planned { IfOk result (λ plan. plan ≡ layout_of label.now catalogue.now.versions catalogue.now.withdrawn) }
+    ensures allowed { IsOk result
+        → refusal label.now limits catalogue.now.versions catalogue.now.withdrawn ≡ None }
     ensures refused { IfErr result (λ fault. ((fault ≡ PlanFault.Memory) × (catalogue.now ≢ nothing))
-        ⊎ (refusal label.now limits catalogue.now.versions ≡ Some fault)) }
+        ⊎ (refusal label.now limits catalogue.now.versions catalogue.now.withdrawn ≡ Some fault)) }
 {
     if let Some((one, other)) = catalogue.conflict()? {
         return Err(PlanFault::Conflict(one, other));
     }
     let versions = catalogue.harmonise()?;
     let mut records = nodes(alloc, versions.versions())?;
-    let size = fill(&mut records, versions.versions(), label, limits)?;
+    let size = fill(
+        &mut records,
+        versions.versions(),
+        versions.withdrawn(),
+        label,
+        limits,
+    )?;
     Ok(Plan::of(*label, versions, records, size))
 }
 
-/// Gives the records of these versions all that they hold, and answers the size of the directory. TooMany
-/// where one parent has more children than the limits allow; else TooLarge where the file has more bytes.
+/// Gives the records of these versions all that they hold, and answers the size of the directory that names
+/// these withdrawn UIDs. TooMany where one parent has more children than the limits allow; else TooLarge
+/// where the file has more bytes.
 fn fill(
     records: &mut [PlanRecord],
     versions: &[Version],
+    withdrawn: &[Uid],
     label: &Label,
     limits: Limits,
 ) -> Result<u32, PlanFault>
     requires { records.old ≡ map (bare_at versions.now) (tree versions.now) }
-    ensures full { IfOk result (λ bytes. IsLaidOut label.now versions.now records.new bytes) }
-    ensures allowed { IsOk result → excess label.now limits versions.now ≡ None }
-    ensures refused { IfErr result (λ fault. excess label.now limits versions.now ≡ Some fault) }
+    ensures full { IfOk result (λ bytes. IsLaidOut label.now versions.now withdrawn.now records.new bytes) }
+    ensures allowed { IsOk result → excess label.now limits versions.now withdrawn.now ≡ None }
+    ensures refused { IfErr result (λ fault. excess label.now limits versions.now withdrawn.now ≡ Some fault) }
 {
     if let Some(level) = number(records, limits.per_level) {
         return Err(PlanFault::TooMany(level));
     }
-    let Some(size) = place(records, versions, label, limits.bytes) else {
+    let behind = withdrawals_size(withdrawn);
+    let Some(most) = u128::from(limits.bytes).checked_sub(behind) else {
+        return Err(PlanFault::TooLarge);
+    };
+    let Some(end) = place(records, versions, label, most as u32) else {
         return Err(PlanFault::TooLarge);
     };
     link(records);
-    Ok(size)
+    Ok(end + behind as u32)
 }

@@ -21,6 +21,7 @@ mod ranks;
 mod record;
 mod sizes;
 pub mod table;
+mod withdrawals;
 
 pub use cell::{Cell, CellValue};
 pub use directories::{directory_is_a_data_set, directory_is_as_long_as_its_records};
@@ -40,3 +41,4 @@ pub use plan::Plan;
 pub use record::PlanRecord;
 pub use sizes::record_size;
 pub use table::{Row, rows};
+pub use withdrawals::{WITHDRAWN, creator_cell, withdrawals_size, withdrawn_length};

@@ -1,7 +1,7 @@
 //! The offsets of records.
 
 ghost use Rattle.std.specs.Prelude.{◌≡◌, ◌≤◌, All, map, IsSome, SomeIff};
-ghost use Rattle.dd_layout.specs.Plans.{size, tree};
+ghost use Rattle.dd_layout.specs.Plans.{records_end, tree};
 ghost use Rattle.dd_layout.specs.Records.{IsFileOf};
 ghost use Rattle.dd_layout.specs.Stages.{numbered_at, placed_at};
 
@@ -11,7 +11,8 @@ use crate::record::PlanRecord;
 use crate::sizes::record_size;
 use dd_keys::Version;
 
-/// Gives each record its offset, and answers the size of the directory: None where that is above `most`.
+/// Gives each record its offset, and answers how many bytes there are up to the end of the last one: None
+/// where they are more than `most`.
 pub(crate) fn place(
     records: &mut [PlanRecord],
     versions: &[Version],
@@ -20,7 +21,7 @@ pub(crate) fn place(
 ) -> Option<u32>
     requires rows { records.old ≡ map (numbered_at versions.now) (tree versions.now) }
     requires files { All (λ row. IsFileOf row.level row.file) records.old }
-    ensures fits { SomeIff result (size label.now versions.now ≤ most) (size label.now versions.now) }
+    ensures fits { SomeIff result (records_end label.now versions.now ≤ most) (records_end label.now versions.now) }
     ensures placed { IsSome result → records.new ≡ map (placed_at label.now versions.now) (tree versions.now) }
 {
     let most = u64::from(most);

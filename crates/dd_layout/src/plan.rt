@@ -1,16 +1,20 @@
 //! The plan of a directory.
 
 ghost use Rattle.std.specs.Prelude.{◌≡◌, All, length};
+ghost use Rattle.dd_catalogue.specs.Best.{IsRising};
+ghost use Rattle.dd_elem.specs.Ordered.{bytes_cmp};
 ghost use Rattle.dd_layout.specs.Layouts.{IsLaidOut, IsSound, StandsWithin};
 ghost use Rattle.dd_layout.specs.Plans.{records_of, size};
 
 use crate::label::Label;
 use crate::record::PlanRecord;
 use dd_catalogue::Catalogue;
+use dd_elem::Uid;
 use dd_keys::Version;
 use std::marker::Model;
 
-/// Where each record of a directory stands, and how long the file is. Only `lay_out` makes one.
+/// Where each record of a directory stands, which instances are withdrawn, and how long the file is. Only
+/// `lay_out` makes one.
 #[derive(Debug)]
 pub struct Plan {
     label: Label,
@@ -24,12 +28,17 @@ impl Model for Plan {
 
     ghost Value = { Layout };
 
-    ghost view = { λ plan. record { label = plan.label; versions = plan.catalogue.versions } };
+    ghost view = { λ plan. record {
+      label = plan.label;
+      versions = plan.catalogue.versions;
+      withdrawn = plan.catalogue.withdrawn;
+    } };
 
-    ghost invariant = { λ plan. IsLaidOut plan.label plan.catalogue.versions plan.records.items plan.size };
+    ghost invariant = { λ plan.
+        IsLaidOut plan.label plan.catalogue.versions plan.catalogue.withdrawn plan.records.items plan.size };
 }
 
-// By hand, so that dropping a plan is one call.
+// By hand, so that letting go of a plan is one call.
 impl Drop for Plan {
     fn drop(self) {
         let Plan {
@@ -49,8 +58,8 @@ impl Plan {
         records: Vec<PlanRecord>,
         size: u32,
     ) -> Plan
-        requires { IsLaidOut label catalogue.versions records.items size }
-        ensures { result ≡ record { label = label; versions = catalogue.versions } }
+        requires { IsLaidOut label catalogue.versions catalogue.withdrawn records.items size }
+        ensures { result ≡ record { label = label; versions = catalogue.versions; withdrawn = catalogue.withdrawn } }
     {
         Plan {
             label,
@@ -74,9 +83,17 @@ impl Plan {
         self.catalogue.versions()
     }
 
+    /// The SOP Instance UIDs that are withdrawn, rising.
+    pub fn withdrawn(&self) -> &[Uid]
+        ensures all { result.now ≡ self.now.withdrawn }
+        ensures rising { IsRising (λ uid. uid) bytes_cmp self.now.withdrawn }
+    {
+        self.catalogue.withdrawn()
+    }
+
     /// The size of the file, in bytes.
     pub fn size(&self) -> u32
-        ensures { result ≡ size self.now.label self.now.versions }
+        ensures { result ≡ size self.now.label self.now.versions self.now.withdrawn }
     {
         self.size
     }
@@ -86,7 +103,7 @@ impl Plan {
     pub fn records(&self) -> &[PlanRecord]
         ensures all { result.now ≡ records_of self.now.label self.now.versions }
         ensures sound { All (IsSound (length self.now.versions)) result.now }
-        ensures within { All (StandsWithin (size self.now.label self.now.versions)) result.now }
+        ensures within { All (StandsWithin (size self.now.label self.now.versions self.now.withdrawn)) result.now }
     {
         &self.records
     }

@@ -24,12 +24,12 @@ use Rattle.clap.specs.Walk.{long_met, long_or_other, next}
 use Rattle.clap.specs.Walk.{nothing_held, option, plain, plain_word, positional, refused, short_or_plain, stop_after}
 use Rattle.clap.specs.Walk.{subcommand, subcommand_met, subcommand_or_other, to_positional, trailing, value, waits}
 use Rattle.clap.specs.Walk.{rows_after, walk, walk_from, walked}
-use Rattle.dd_line.specs.Line.{GivesOneSet, NamesCommand, OnlyReads, dicomdir_app}
+use Rattle.dd_line.specs.Line.{GivesInstances, GivesOneSet, IsEnoughFor, NamesCommand, OnlyReads, dicomdir_app}
 use Rattle.dd_line.specs.Line.{given_for, given_paths, index_app, merge_app, reading_app}
 use Rattle.dd_line.specs.Line.{least_paths, some_paths, verb_name}
-use Rattle.dd_line.specs.Line.{writing_app}
+use Rattle.dd_line.specs.Line.{withdraw_app, writing_app}
 use Rattle.dd_line.specs.declared.line.Verb.{Verb}
-use Rattle.dd_line.specs.declared.line.Verb.TheVariants.{Index, Merge, Check, List as ListSet}
+use Rattle.dd_line.specs.declared.line.Verb.TheVariants.{Index, Merge, Withdraw, Check, List as ListSet}
 use Rattle.dd_line.proofs.LineLimit.{FitsLimit, level_limit, limit_fits}
 use Rattle.dd_line.proofs.LinePaths.{HasOne, HasOneAlone, IsAbsent, joined, level_absent, level_values}
 use Rattle.dd_line.proofs.LinePaths.{one_fits, some_fits}
@@ -207,15 +207,13 @@ help_serves s named none name met other words fault = go (bytes_eq s.name name) 
 verb_serves : (verb : Verb) (s : Shape) → s.name ≡ verb_name verb → s.args_override_self ≡ false
     → Each FitsLimit s.rules
     → ((words : List Text) → level_fault s [] nothing_held words false [] ≡ []
-    → (least_paths verb ≤ length (given_paths (rows_after s.rules [] words)))
-    × (OnlyReads verb → GivesOneSet (rows_after s.rules [] words))) → Serves s
+    → IsEnoughFor verb (rows_after s.rules [] words)) → Serves s
 verb_serves verb s named once fits right name met other words none = (
   verb,
   rows_after s.rules [] words,
   rw named refl,
   level_limit s words fits once none,
-  (right words none).0,
-  (right words none).1,
+  right words none,
 )
 
 -- how many paths a command was given
@@ -237,6 +235,7 @@ record IsLast (last : Text) : Type 0 where
   limit : bytes_eq (codes "max-bytes") last ≡ false
   out : bytes_eq (codes "out") last ≡ false
   help : bytes_eq (codes "help") last ≡ false
+  instance : bytes_eq last (codes "instance") ≡ false
   after_limit : bytes_eq last (codes "max-bytes") ≡ false
   after_out : bytes_eq last (codes "out") ≡ false
 
@@ -265,18 +264,106 @@ writing_lasts verb last is = each_of_six (FitsPath last) _ _ _ _ _ _ (other_fits
     (other_fits _ _ _ _ is.uid refl) (other_fits _ _ _ _ is.limit refl) (other_fits _ _ _ _ is.out refl)
     (some_fits _ _ joined refl refl refl) (other_fits _ _ _ _ is.help refl)
 
-writing_serves : (verb : Verb) (last : Text) → IsLast last → (OnlyReads verb → ⊥)
+-- and none gives it images
+writing_images : (verb : Verb) (last : Text) → IsLast last → (words : List Text)
+    → level_fault (writing verb last) [] nothing_held words false [] ≡ []
+    → given_for (codes "instance") (rows_after (writing verb last).rules [] words) ≡ []
+writing_images verb last is words none =
+    let absent = level_absent (codes "instance") IsAbsent (writing verb last) words
+    (each_of_six (Fits (codes "instance") AsWritten IsAbsent) _ _ _ _ _ _ (other_fits _ _ _ _ refl refl)
+    (other_fits _ _ _ _ refl refl) (other_fits _ _ _ _ refl refl) (other_fits _ _ _ _ refl refl)
+    (other_fits _ _ _ _ is.instance refl) (other_fits _ _ _ _ refl refl)) refl none (λ values never. never) in
+    rw absent refl
+
+writing_serves : (verb : Verb) (last : Text) → IsLast last → (OnlyReads verb → ⊥) → (verb ≡ Withdraw → ⊥)
     → ((given : List Row) → 1 ≤ length (given_for (codes "out") given) → 1 ≤ length (given_for last given)
     → least_paths verb ≤ length (given_paths given)) → Serves (writing verb last)
-writing_serves verb last is writes enough = verb_serves verb (writing verb last) refl refl (writing_limits verb last is)
+writing_serves verb last is writes keeps enough =
+    verb_serves verb (writing verb last) refl refl (writing_limits verb last is)
     (λ words none.
-    let given = level_given (writing verb last) [] words [] none refl in (
-      enough (rows_after (writing verb last).rules [] words)
+    let given = level_given (writing verb last) [] words [] none refl in
+    record {
+      paths = enough (rows_after (writing verb last).rules [] words)
           (level_values (codes "out") HasOne (writing verb last) words (writing_outs verb last is) refl none
           given.1.1.1.0)
-          (level_values last HasOne (writing verb last) words (writing_lasts verb last is) refl none given.1.1.1.1.0),
-      λ reads. absurd (writes reads),
-    ))
+          (level_values last HasOne (writing verb last) words (writing_lasts verb last is) refl none given.1.1.1.1.0);
+      set = λ reads. absurd (writes reads);
+      withdraw = λ withdraws. absurd (keeps withdraws);
+      uids = λ _. writing_images verb last is words none;
+    })
+
+-- ---- the command that withdraws images
+
+abbrev withdrawing : Shape
+withdrawing = built_leaf withdraw_app.top
+
+-- its rules, the one of `-h` among them
+each_of_seven : (P : Rule → Type 0) (id uid limit out set last help : Rule) → P id → P uid → P limit → P out → P set
+    → P last → P help → Each P (id ∷ uid ∷ limit ∷ out ∷ set ∷ last ∷ help ∷ [])
+each_of_seven P id uid limit out set last help a b c d e f g = (a, (b, (c, (d, (e, (f, (g, tt)))))))
+
+withdrawing_limits : Each FitsLimit withdrawing.rules
+withdrawing_limits = each_of_seven FitsLimit _ _ _ _ _ _ _ (other_fits _ _ _ _ refl refl)
+    (other_fits _ _ _ _ refl refl) (limit_fits _ refl refl refl refl refl) (other_fits _ _ _ _ refl refl)
+    (other_fits _ _ _ _ refl refl) (other_fits _ _ _ _ refl refl) (other_fits _ _ _ _ refl refl)
+
+-- the rule gives this argument a path alone
+abbrev FitsOne : Text → Rule → Type 0
+FitsOne name = Fits name AsWritten HasOneAlone
+
+withdrawing_outs : Each (FitsOne (codes "out")) withdrawing.rules
+withdrawing_outs = each_of_seven (FitsOne (codes "out")) _ _ _ _ _ _ _ (other_fits _ _ _ _ refl refl)
+    (other_fits _ _ _ _ refl refl) (other_fits _ _ _ _ refl refl) (one_fits _ _ tt refl refl refl refl)
+    (other_fits _ _ _ _ refl refl) (other_fits _ _ _ _ refl refl) (other_fits _ _ _ _ refl refl)
+
+withdrawing_sets : Each (FitsOne (codes "set")) withdrawing.rules
+withdrawing_sets = each_of_seven (FitsOne (codes "set")) _ _ _ _ _ _ _ (other_fits _ _ _ _ refl refl)
+    (other_fits _ _ _ _ refl refl) (other_fits _ _ _ _ refl refl) (other_fits _ _ _ _ refl refl)
+    (one_fits _ _ tt refl refl refl refl) (other_fits _ _ _ _ refl refl) (other_fits _ _ _ _ refl refl)
+
+withdrawing_images : Each (FitsPath (codes "instance")) withdrawing.rules
+withdrawing_images = each_of_seven (FitsPath (codes "instance")) _ _ _ _ _ _ _ (other_fits _ _ _ _ refl refl)
+    (other_fits _ _ _ _ refl refl) (other_fits _ _ _ _ refl refl) (other_fits _ _ _ _ refl refl)
+    (other_fits _ _ _ _ refl refl) (some_fits _ _ joined refl refl refl) (other_fits _ _ _ _ refl refl)
+
+-- none gives it the sources of an index
+withdrawing_sources : Each (Fits (codes "source") AsWritten IsAbsent) withdrawing.rules
+withdrawing_sources = each_of_seven (Fits (codes "source") AsWritten IsAbsent) _ _ _ _ _ _ _
+    (other_fits _ _ _ _ refl refl) (other_fits _ _ _ _ refl refl) (other_fits _ _ _ _ refl refl)
+    (other_fits _ _ _ _ refl refl) (other_fits _ _ _ _ refl refl) (other_fits _ _ _ _ refl refl)
+    (other_fits _ _ _ _ refl refl)
+
+-- what it was given
+withdrawing_given : (words : List Text) → level_fault withdrawing [] nothing_held words false [] ≡ []
+    → GivesInstances (rows_after withdrawing.rules [] words)
+withdrawing_given words none =
+    let rows = rows_after withdrawing.rules [] words in
+    let given = level_given withdrawing [] words [] none refl in
+    let out : length (given_for (codes "out") rows) ≡ 1 =
+    level_values (codes "out") HasOneAlone withdrawing words withdrawing_outs refl none given.1.1.1.0 in
+    let set : length (given_for (codes "set") rows) ≡ 1 =
+    level_values (codes "set") HasOneAlone withdrawing words withdrawing_sets refl none given.1.1.1.1.0 in
+    let absent = level_absent (codes "source") IsAbsent withdrawing words withdrawing_sources refl none
+    (λ values never. never) in
+    let source : length (given_for (codes "source") rows) ≡ 0 = rw absent refl in
+    let all = paths_length rows in
+    record {
+      paths = omega arith;
+      instances = level_values (codes "instance") HasOne withdrawing words withdrawing_images refl none
+          given.1.1.1.1.1.0;
+    }
+
+withdraw_serves : Serves withdrawing
+withdraw_serves = verb_serves Withdraw withdrawing refl refl withdrawing_limits
+    (λ words none.
+    let given = withdrawing_given words none in
+    let paths = given.paths in
+    record {
+      paths = omega arith;
+      set = λ reads. absurd reads;
+      withdraw = λ _. given;
+      uids = λ keeps. absurd (keeps refl);
+    })
 
 -- ---- commands that read one file-set
 
@@ -315,13 +402,18 @@ reading_given verb words none =
       paths = rw (out, source) one;
     }
 
-reading_serves : (verb : Verb) → least_paths verb ≡ 1 → Serves (reading verb)
-reading_serves verb least = verb_serves verb (reading verb) refl refl
+reading_serves : (verb : Verb) → least_paths verb ≡ 1 → (verb ≡ Withdraw → ⊥) → Serves (reading verb)
+reading_serves verb least keeps = verb_serves verb (reading verb) refl refl
     (other_fits _ _ _ _ refl refl, (other_fits _ _ _ _ refl refl, tt))
     (λ words none.
     let given = reading_given verb words none in
     let paths = given.paths in
-    (omega arith, λ reads. given))
+    record {
+      paths = omega arith;
+      set = λ reads. given;
+      withdraw = λ withdraws. absurd (keeps withdraws);
+      uids = λ _. rw (reading_absent verb (codes "instance") refl refl words none) refl;
+    })
 
 -- ---- the commands of the program
 
@@ -332,9 +424,10 @@ index_serves = writing_serves Index (codes "source") (record {
   limit = refl;
   out = refl;
   help = refl;
+  instance = refl;
   after_limit = refl;
   after_out = refl;
-}) (λ reads. reads) (λ given out source. let all = paths_length given in omega arith)
+}) (λ reads. reads) (λ is. cc) (λ given out source. let all = paths_length given in omega arith)
 
 merge_serves : Serves (built_leaf merge_app.top)
 merge_serves = writing_serves Merge (codes "set") (record {
@@ -343,9 +436,10 @@ merge_serves = writing_serves Merge (codes "set") (record {
   limit = refl;
   out = refl;
   help = refl;
+  instance = refl;
   after_limit = refl;
   after_out = refl;
-}) (λ reads. reads) (λ given out set. let all = paths_length given in omega arith)
+}) (λ reads. reads) (λ is. cc) (λ given out set. let all = paths_length given in omega arith)
 
 -- words with no fault name a command
 pub names_command : (words : List Text) → fault_of dicomdir_app words ≡ []
@@ -364,8 +458,11 @@ names_command words none =
       (
         merge_serves,
         (
-          reading_serves Check refl,
-          (reading_serves ListSet refl, (help_serves _ refl refl, tt)),
+          withdraw_serves,
+          (
+            reading_serves Check refl (λ is. cc),
+            (reading_serves ListSet refl (λ is. cc), (help_serves _ refl refl, tt)),
+          ),
         ),
       ),
     ) in

@@ -2,10 +2,11 @@
 --
 --   dicomdir index [--id ID] [--uid UID] [--max-bytes N] OUT SRC...
 --   dicomdir merge [--id ID] [--uid UID] [--max-bytes N] OUT SET...
+--   dicomdir withdraw [--id ID] [--uid UID] [--max-bytes N] OUT SET UID...
 --   dicomdir check SET
 --   dicomdir list SET
 use Rattle.std.specs.Prelude.{◌≡◌, ◌≢◌, ◌++◌, [], ℕ, List, Option, Some, None, map, string_bytes, String}
-use Rattle.std.specs.Prelude.{codes, length, option_map, pos, ◌≤◌, true, false, unwrap_or}
+use Rattle.std.specs.Prelude.{Contains, codes, length, option_map, pos, ◌≤◌, true, false, unwrap_or}
 use Rattle.std.specs.Str.Parse.{IsNumeral, signed_digits_value, without_leading_sign}
 use Rattle.clap.specs.Words.{App, IsSignedIn, Row, Rule, Text, all_of, app_of, first_of, kind_of}
 use Rattle.clap.specs.Words.{new_app, new_rule, one_of, rule_of, with_rule, without_minus}
@@ -23,7 +24,7 @@ use Rattle.dd_line.specs.declared.line.Asked.{Asked}
 use Rattle.dd_line.specs.declared.line.LineFault.{LineFault}
 use Rattle.dd_line.specs.declared.line.LineFault.TheVariants.{Refused, Memory}
 use Rattle.dd_line.specs.declared.line.Verb.{Verb}
-use Rattle.dd_line.specs.declared.line.Verb.TheVariants.{Index, Merge, Check, List as ListSet}
+use Rattle.dd_line.specs.declared.line.Verb.TheVariants.{Index, Merge, Withdraw, Check, List as ListSet}
 
 -- ---- the arguments and commands
 
@@ -47,10 +48,15 @@ source_name = codes "source"
 abbrev pub set_name : Text
 set_name = codes "set"
 
+-- the name of the images, each by its SOP Instance UID
+abbrev pub instance_name : Text
+instance_name = codes "instance"
+
 -- the command's name in the line
 abbrev pub verb_name : Verb → Text
 verb_name Index = codes "index"
 verb_name Merge = codes "merge"
+verb_name Withdraw = codes "withdraw"
 verb_name Check = codes "check"
 verb_name ListSet = codes "list"
 
@@ -70,7 +76,7 @@ number_option name = record (text_option name) { parser = Some (Signed (pos 0) (
 abbrev pub one_path : Text → Rule
 one_path name = record (new_rule name) { value_names = 1; required = true }
 
--- one path or more
+-- one path or more, or other words that have to be given
 abbrev pub some_paths : Text → Rule
 some_paths name = record (one_path name) {
   range = Some (record { start_inclusive = 1; end_inclusive = 18446744073709551615 });
@@ -96,6 +102,11 @@ index_app = with_rule (writing_app (verb_name Index)) (some_paths source_name)
 abbrev pub merge_app : App
 merge_app = with_rule (writing_app (verb_name Merge)) (some_paths set_name)
 
+-- `withdraw [--id ID] [--uid UID] [--max-bytes N] OUT SET UID...`
+abbrev pub withdraw_app : App
+withdraw_app =
+    with_rule (with_rule (writing_app (verb_name Withdraw)) (one_path set_name)) (some_paths instance_name)
+
 -- a command that reads one file-set: its name, and then SET
 abbrev pub reading_app : Text → App
 reading_app name = with_rule (new_app name) (one_path set_name)
@@ -106,10 +117,11 @@ with_command_required a = record a { top = record a.top { subcommand_required = 
 
 -- the program with its commands
 abbrev pub dicomdir_app : App
-dicomdir_app = with_subcommand (with_subcommand (with_subcommand (with_subcommand
+dicomdir_app = with_subcommand (with_subcommand (with_subcommand (with_subcommand (with_subcommand
     (with_command_required (new_app (codes "dicomdir")))
     index_app.top)
     merge_app.top)
+    withdraw_app.top)
     (reading_app (verb_name Check)).top)
     (reading_app (verb_name ListSet)).top
 
@@ -132,6 +144,7 @@ given_paths given = given_for out_name given
 abbrev pub least_paths : Verb → ℕ
 least_paths Index = 2
 least_paths Merge = 2
+least_paths Withdraw = 2
 least_paths Check = 1
 least_paths ListSet = 1
 
@@ -139,6 +152,7 @@ least_paths ListSet = 1
 abbrev pub OnlyReads : Verb → Type 0
 OnlyReads Index = ⊥
 OnlyReads Merge = ⊥
+OnlyReads Withdraw = ⊥
 OnlyReads Check = Unit {0}
 OnlyReads ListSet = Unit {0}
 
@@ -155,6 +169,7 @@ pub record Asks (a : Asked) (command : Text) (given : List Row) : Type 0 where
   pub uid : option_map string_bytes a.uid ≡ first_of uid_name given
   pub max_bytes : IsLimit (first_of max_bytes_name given) a.max_bytes
   pub paths : words_of a.paths.items ≡ given_paths given
+  pub uids : words_of a.uids.items ≡ given_for instance_name given
 
 -- the path of one file-set, no ID, no UID, and the limit that stands where none is given
 pub record AsksForOneSet (a : Asked) : Type 0 where
@@ -162,6 +177,12 @@ pub record AsksForOneSet (a : Asked) : Type 0 where
   pub uid : a.uid ≡ None
   pub max_bytes : a.max_bytes ≡ most_bytes
   pub paths : length a.paths.items ≡ 1
+  pub uids : a.uids.items ≡ []
+
+-- the folder that is written to, one file-set, and one image at least
+pub record AsksToWithdraw (a : Asked) : Type 0 where
+  pub paths : length a.paths.items ≡ 2
+  pub uids : 1 ≤ length a.uids.items
 
 -- the command and the values are those of the command that the words name
 abbrev pub IsAsked : Asked → Option (Text × List Row) → Type 0
@@ -181,10 +202,22 @@ pub record GivesOneSet (given : List Row) : Type 0 where
   pub max_bytes : first_of max_bytes_name given ≡ None
   pub paths : length (given_paths given) ≡ 1
 
+-- the folder that is written to was given, one file-set, and one image at least
+pub record GivesInstances (given : List Row) : Type 0 where
+  pub paths : length (given_paths given) ≡ 2
+  pub instances : 1 ≤ length (given_for instance_name given)
+
+-- a command of this kind was given what it needs, and images only where it withdraws them
+pub record IsEnoughFor (verb : Verb) (given : List Row) : Type 0 where
+  pub paths : least_paths verb ≤ length (given_paths given)
+  pub set : OnlyReads verb → GivesOneSet given
+  pub withdraw : verb ≡ Withdraw → GivesInstances given
+  pub uids : verb ≢ Withdraw → given_for instance_name given ≡ []
+
 -- the words name a command, and give it what it needs
 abbrev pub NamesCommand : Option (Text × List Row) → Type 0
 NamesCommand found = (verb : Verb) × (given : List Row) × (found ≡ Some (verb_name verb, given)) × HasLimit given
-    × (least_paths verb ≤ length (given_paths given)) × (OnlyReads verb → GivesOneSet given)
+    × IsEnoughFor verb given
 
 -- the command that they name is `check`
 abbrev pub IsCheck : Option (Text × List Row) → Type 0
@@ -196,15 +229,22 @@ abbrev pub GivesOption : Text → Option (Text × List Row) → Text → Type 0
 GivesOption name None value = ⊥
 GivesOption name (Some (command, given)) value = first_of name given ≡ Some value
 
--- the words give an ID or a UID that is none
+-- the words give this among the UIDs of images
+abbrev pub GivesInstance : Option (Text × List Row) → Text → Type 0
+GivesInstance None uid = ⊥
+GivesInstance (Some (command, given)) uid = Contains (given_for instance_name given) uid
+
+-- the words give an ID or a UID that is none, of the file-set or of an image
 abbrev pub HasBadName : Option (Text × List Row) → Type 0
 HasBadName found = ((id : Text) × GivesOption id_name found id × ¬ IsSetId id)
-    ⊎ ((uid : Text) × GivesOption uid_name found uid × ¬ IsUid uid)
+    ⊎ (((uid : Text) × GivesOption uid_name found uid × ¬ IsUid uid)
+    ⊎ ((uid : Text) × GivesInstance found uid × ¬ IsUid uid))
 
 -- the same of what a line asks for
 abbrev pub AsksBadName : Asked → Type 0
 AsksBadName a = ((id : Text) × (option_map string_bytes a.id ≡ Some id) × ¬ IsSetId id)
-    ⊎ ((uid : Text) × (option_map string_bytes a.uid ≡ Some uid) × ¬ IsUid uid)
+    ⊎ (((uid : Text) × (option_map string_bytes a.uid ≡ Some uid) × ¬ IsUid uid)
+    ⊎ ((uid : Text) × Contains (words_of a.uids.items) uid × ¬ IsUid uid))
 
 -- a refusal is for want of memory, or has one of the kinds
 abbrev pub IsRefusedFor : Kinds → LineFault → Type 0

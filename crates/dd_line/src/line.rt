@@ -1,13 +1,13 @@
 //! The command line: which command its words name, with its values.
-ghost use Rattle.std.specs.Prelude.{◌≡◌, ◌++◌, [], string_bytes, true};
+ghost use Rattle.std.specs.Prelude.{◌≡◌, ◌≢◌, ◌++◌, [], string_bytes, true};
 ghost use Rattle.std.specs.Prelude.{IfErr, IfOk, IsOk, MatchResult, codes, length, option_map, ◌≤◌};
 ghost use Rattle.clap.specs.Words.{fault_of, first_of, found_of, rows_of, takes};
 ghost use Rattle.clap.specs.Words.{subcommand_of, subcommand_rows_of};
 ghost use Rattle.dd_line.specs.Line.{Asks, HasApp, HasLimit, HasRule, IsAsked, IsLimit, IsRefusedFor, NamesCommand};
 ghost use Rattle.dd_line.specs.Line.{dicomdir_app, given_for, given_paths, index_app, labelled_app, least_paths};
 ghost use Rattle.dd_line.specs.Line.{number_option, one_path, some_paths, text_option, verb_name, words_of};
-ghost use Rattle.dd_line.specs.Line.{AsksForOneSet, GivesOneSet, OnlyReads, merge_app, reading_app};
-ghost use Rattle.dd_line.specs.Line.{max_bytes_name, writing_app};
+ghost use Rattle.dd_line.specs.Line.{AsksForOneSet, AsksToWithdraw, IsEnoughFor, OnlyReads, merge_app, reading_app};
+ghost use Rattle.dd_line.specs.Line.{instance_name, max_bytes_name, withdraw_app, writing_app};
 
 use clap::error::ErrorKind;
 use clap::{Arg, ArgMatches, Command, value_parser};
@@ -28,6 +28,9 @@ const SOURCE: &str = "source";
 
 const SET: &str = "set";
 
+// The name of the images, each by its SOP Instance UID.
+const INSTANCE: &str = "instance";
+
 /// A command of the program.
 #[derive(Clone, Copy, Debug, PartialEq, Eq)]
 pub enum Verb {
@@ -35,14 +38,16 @@ pub enum Verb {
     Index,
     /// Makes a file-set of other file-sets likewise: `merge OUT SET...`.
     Merge,
+    /// Makes such a file-set of one file-set without some of its images, for good: `withdraw OUT SET UID...`.
+    Withdraw,
     /// Compares the files of a file-set with its directory: `check SET`.
     Check,
     /// Lists the records of a directory: `list SET`.
     List,
 }
 
-/// What a command line asks for. `check` and `list` have one path alone, no ID, no UID, and 4294967295 as
-/// the most bytes.
+/// What a command line asks for. `withdraw` has two paths, and one SOP Instance UID at least. `check` and `list`
+/// have one path alone, no ID, no UID, and 4294967295 as the most bytes.
 #[derive(Debug, Drop)]
 pub struct Asked {
     /// The command.
@@ -56,6 +61,8 @@ pub struct Asked {
     /// The paths of the line: the folder that the command writes to, if it does, then those that it reads,
     /// in their order.
     pub paths: Vec<String>,
+    /// The SOP Instance UIDs of the line, as it spells them, in their order: none but for `withdraw`.
+    pub uids: Vec<String>,
 }
 
 /// Why a command line asks for nothing.
@@ -119,7 +126,7 @@ fn path<'a>(alloc: Global, name: &'a str, value_name: &'a str, help: &'a str) ->
         .help(help)
 }
 
-/// Paths, at least one.
+/// Paths, at least one, or other words of that number.
 fn paths<'a>(alloc: Global, name: &'a str, value_name: &'a str, help: &'a str) -> Arg<'a>
     ensures { HasRule (some_paths name.entry.now) result }
 {
@@ -191,6 +198,26 @@ fn merge_command<'a>(alloc: Global) -> Result<Command<'a>, AllocError>
     ))
 }
 
+/// The command `withdraw`.
+fn withdraw_command<'a>(alloc: Global) -> Result<Command<'a>, AllocError>
+    ensures { IfOk result (HasApp withdraw_app) }
+{
+    let about = "Makes a file-set of one without some images, which no merge brings back";
+    writing(alloc, "withdraw", about)?
+        .arg(path(
+            alloc,
+            SET,
+            "SET",
+            "Folder with a DICOMDIR of this program; it is only read",
+        ))?
+        .arg(paths(
+            alloc,
+            INSTANCE,
+            "UID",
+            "SOP Instance UIDs of the images; one that the file-set lacks is withdrawn too",
+        ))
+}
+
 /// A command that reads one file-set.
 fn reading<'a>(alloc: Global, name: &'a str, about: &'a str) -> Result<Command<'a>, AllocError>
     ensures { IfOk result (HasApp (reading_app name.entry.now)) }
@@ -230,10 +257,13 @@ fn program<'a>(alloc: Global) -> Result<Command<'a>, AllocError>
     ensures { IfOk result (HasApp dicomdir_app) }
 {
     Command::new(alloc, "dicomdir")
-        .about("Makes, merges, checks and lists DICOM file-sets with their DICOMDIR")
+        .about(
+            "Makes, merges, checks and lists DICOM file-sets with their DICOMDIR, and withdraws images",
+        )
         .subcommand_required(true)
         .subcommand(index_command(alloc)?)?
         .subcommand(merge_command(alloc)?)?
+        .subcommand(withdraw_command(alloc)?)?
         .subcommand(check_command(alloc)?)?
         .subcommand(list_command(alloc)?)
 }
@@ -262,14 +292,14 @@ fn append_values(
     alloc: Global,
     given: &ArgMatches<'_>,
     name: &str,
-    paths: &mut Vec<String>,
+    words: &mut Vec<String>,
 ) -> Result<(), AllocError>
-    ensures { IsOk result → words_of paths.new.items
-        ≡ words_of paths.old.items ++ given_for name.now (rows_of (found_of given.now)) }
+    ensures { IsOk result → words_of words.new.items
+        ≡ words_of words.old.items ++ given_for name.now (rows_of (found_of given.now)) }
 {
     let values = given.get_strs(name).unwrap_or(&[]);
     for value in values {
-        paths.push(String::from_str(alloc, value)?)?;
+        words.push(String::from_str(alloc, value)?)?;
     }
     Ok(())
 }
@@ -285,14 +315,24 @@ fn paths_of(alloc: Global, given: &ArgMatches<'_>) -> Result<Vec<String>, AllocE
     Ok(paths)
 }
 
+/// The SOP Instance UIDs of the images.
+fn uids_of(alloc: Global, given: &ArgMatches<'_>) -> Result<Vec<String>, AllocError>
+    ensures { IfOk result (λ uids. words_of uids.items ≡ given_for instance_name (rows_of (found_of given.now))) }
+{
+    let mut uids = Vec::new(alloc);
+    append_values(alloc, given, INSTANCE, &mut uids)?;
+    Ok(uids)
+}
+
 /// What the command asks for with its values.
 fn asked_by(alloc: Global, verb: Verb, given: &ArgMatches<'_>) -> Result<Asked, AllocError>
     requires limit { HasLimit (rows_of (found_of given.now)) }
-    requires paths { least_paths verb ≤ length (given_paths (rows_of (found_of given.now))) }
-    requires set { OnlyReads verb → GivesOneSet (rows_of (found_of given.now)) }
+    requires enough { IsEnoughFor verb (rows_of (found_of given.now)) }
     ensures values { IfOk result (λ asked. Asks asked (verb_name verb) (rows_of (found_of given.now))) }
     ensures paths { IfOk result (λ asked. least_paths asked.verb ≤ length asked.paths.items) }
     ensures set { IfOk result (λ asked. OnlyReads asked.verb → AsksForOneSet asked) }
+    ensures withdraw { IfOk result (λ asked. asked.verb ≡ Verb.Withdraw → AsksToWithdraw asked) }
+    ensures uids { IfOk result (λ asked. asked.verb ≢ Verb.Withdraw → asked.uids.items ≡ []) }
 {
     Ok(Asked {
         verb,
@@ -300,6 +340,7 @@ fn asked_by(alloc: Global, verb: Verb, given: &ArgMatches<'_>) -> Result<Asked, 
         uid: value_of(alloc, given, UID)?,
         max_bytes: limit_of(given),
         paths: paths_of(alloc, given)?,
+        uids: uids_of(alloc, given)?,
     })
 }
 
@@ -309,10 +350,13 @@ fn asked_of(alloc: Global, found: &ArgMatches<'_>) -> Result<Asked, AllocError>
     ensures values { IfOk result (λ asked. IsAsked asked (subcommand_rows_of found.now)) }
     ensures paths { IfOk result (λ asked. least_paths asked.verb ≤ length asked.paths.items) }
     ensures set { IfOk result (λ asked. OnlyReads asked.verb → AsksForOneSet asked) }
+    ensures withdraw { IfOk result (λ asked. asked.verb ≡ Verb.Withdraw → AsksToWithdraw asked) }
+    ensures uids { IfOk result (λ asked. asked.verb ≢ Verb.Withdraw → asked.uids.items ≡ []) }
 {
     match found.subcommand() {
         Some(("index", given)) => asked_by(alloc, Verb::Index, given),
         Some(("merge", given)) => asked_by(alloc, Verb::Merge, given),
+        Some(("withdraw", given)) => asked_by(alloc, Verb::Withdraw, given),
         Some(("check", given)) => asked_by(alloc, Verb::Check, given),
         Some(("list", given)) => asked_by(alloc, Verb::List, given),
         _ => unreachable!(),
@@ -341,6 +385,8 @@ pub fn read_words(alloc: Global, words: &[String]) -> Result<Asked, LineFault>
         IsAsked asked (subcommand_of dicomdir_app (words_of words.now))) }
     ensures paths { IfOk result (λ asked. least_paths asked.verb ≤ length asked.paths.items) }
     ensures set { IfOk result (λ asked. OnlyReads asked.verb → AsksForOneSet asked) }
+    ensures withdraw { IfOk result (λ asked. asked.verb ≡ Verb.Withdraw → AsksToWithdraw asked) }
+    ensures uids { IfOk result (λ asked. asked.verb ≢ Verb.Withdraw → asked.uids.items ≡ []) }
     ensures passes { IfErr result (λ fault.
         takes dicomdir_app (words_of words.now) ≡ true
         → fault ≡ LineFault.Memory) }

@@ -2,3 +2,4 @@ mod GoingOn
 mod ListedLines
 mod TextLemmas
 mod ToldTrees
+mod WithdrawnLines

@@ -9,12 +9,12 @@ use Rattle.dd_dir.specs.declared.forest.Tree.{Tree, out-Tree, the_lemmas}
 use Rattle.dd_dir.specs.declared.forest.Forest.{Forest}
 use Rattle.dd_dir.specs.ForestViews.{tree_view, trees_view, walk_view}
 use Rattle.dd_dir.specs.Trees.{places}
+use Rattle.dd_dir.specs.Withdrawn.{withdrawn_of}
 use Rattle.dd_report.specs.Listing.{branch_lines, flag_of, label_of, lines_of, listing_text, record_line, spaced}
-use Rattle.dd_report.specs.Listing.{totals_line}
+use Rattle.dd_report.specs.Listing.{totals_line, withdrawn_lines}
 use Rattle.dd_report.specs.Telling.{Fails, GoesOn, Tells, Way, shown_line, way}
 use Rattle.dd_report.specs.Text.{FailsAmid, TakesAll}
-use Rattle.dd_report.proofs.TextLemmas.{on_err}
-use Rattle.dd_report.proofs.GoingOn.{all_goes, fails_behind, fails_front, fails_of_none, goes_then, none_goes}
+use Rattle.dd_report.proofs.GoingOn.{all_goes, fails_behind, fails_front, none_goes}
 use Rattle.dd_report.proofs.GoingOn.{one_more, tells_err, tells_then}
 
 -- ---- lines
@@ -73,49 +73,54 @@ line_goes r level t at kind label flag a b c at_is kind_is label_is flag_is inde
 
 -- ---- a directory
 
-pub listing_goes : (forest : Forest) (trees : List Tree) (a b c : Way) → trees ≡ forest.trees.items
-    → GoesOn (lines_of 0 (trees_view trees)) a b → GoesOn (totals_line (walk_view forest)) b c
-    → GoesOn (listing_text (walk_view forest)) a c
-listing_goes forest trees a b c is lines totals =
-    goes_then (lines_of 0 (trees_view forest.trees.items)) (totals_line (walk_view forest)) a b c
-    (subst (λ (ts : List Tree). GoesOn (lines_of 0 (trees_view ts)) a b) is lines) totals
+-- the lines of the records, those of what is withdrawn, and the last one
+pub all_listed : {T E : Type 0} (r : Result T E) (forest : Forest) (trees : List Tree) (a b c d : Way)
+    → trees ≡ forest.trees.items → GoesOn (lines_of 0 (trees_view trees)) a b
+    → GoesOn (withdrawn_lines (withdrawn_of (walk_view forest))) b c → Tells r (totals_line (walk_view forest)) c d
+    → Tells r (listing_text (walk_view forest)) a d
+all_listed r forest trees a b c d is records withdrawn totals =
+    let lines = withdrawn_lines (withdrawn_of (walk_view forest)) in
+    let last = totals_line (walk_view forest) in
+    tells_then r (lines_of 0 (trees_view forest.trees.items)) (lines ++ last) a b d
+    (subst (λ (ts : List Tree). GoesOn (lines_of 0 (trees_view ts)) a b) is records)
+    (tells_then r lines last b c d withdrawn totals)
 
-pub listing_fails : (forest : Forest) (trees : List Tree) (a b c : Way) → trees ≡ forest.trees.items
-    → GoesOn (lines_of 0 (trees_view trees)) a b → Fails (totals_line (walk_view forest)) b c
-    → Fails (listing_text (walk_view forest)) a c
-listing_fails forest trees a b c is lines totals =
-    fails_behind (lines_of 0 (trees_view forest.trees.items)) (totals_line (walk_view forest)) a b c
-    (subst (λ (ts : List Tree). GoesOn (lines_of 0 (trees_view ts)) a b) is lines) totals
+-- the writer failed in those of what is withdrawn
+pub withdrawn_fails : {T E : Type 0} (r : Result T E) (forest : Forest) (trees : List Tree) (a b c : Way) → IsErr r
+    → trees ≡ forest.trees.items → GoesOn (lines_of 0 (trees_view trees)) a b
+    → Fails (withdrawn_lines (withdrawn_of (walk_view forest))) b c → Tells r (listing_text (walk_view forest)) a c
+withdrawn_fails r forest trees a b c err is records failed =
+    let lines = withdrawn_lines (withdrawn_of (walk_view forest)) in
+    let last = totals_line (walk_view forest) in
+    tells_err r (listing_text (walk_view forest)) a c err
+    (fails_behind (lines_of 0 (trees_view forest.trees.items)) (lines ++ last) a b c
+    (subst (λ (ts : List Tree). GoesOn (lines_of 0 (trees_view ts)) a b) is records)
+    (fails_front lines last b c failed))
+
+-- or in those of the records
+pub records_fail : {T E : Type 0} (r : Result T E) (forest : Forest) (trees : List Tree) (a b : Way) → IsErr r
+    → trees ≡ forest.trees.items → Fails (lines_of 0 (trees_view trees)) a b
+    → Tells r (listing_text (walk_view forest)) a b
+records_fail r forest trees a b err is failed =
+    let rest = withdrawn_lines (withdrawn_of (walk_view forest)) ++ totals_line (walk_view forest) in
+    tells_err r (listing_text (walk_view forest)) a b err
+    (fails_front (lines_of 0 (trees_view forest.trees.items)) rest a b
+    (subst (λ (ts : List Tree). Fails (lines_of 0 (trees_view ts)) a b) is failed))
 
 -- all that waits then goes, or the writer fails
-pub listing_sent : {T E : Type 0} (r : Result T E) (forest : Forest) (trees : List Tree) (start one two : List ℕ)
-    (a b c d : Option (List ℕ)) (f g h k : ℕ) → start ≡ [] → trees ≡ forest.trees.items
-    → GoesOn (lines_of 0 (trees_view trees)) (way start a f) (way one b g)
-    → GoesOn (totals_line (walk_view forest)) (way one b g) (way two c h)
-    → OnOk r (TakesAll c d h k two) → OnOk r (TakesAll a d f k (listing_text (walk_view forest)))
-listing_sent (Ok done) forest trees start one two a b c d f g h k none is lines totals took =
-    all_goes (listing_text (walk_view forest)) (way start a f) (way two c h) d k none
-    (listing_goes forest trees (way start a f) (way one b g) (way two c h) is lines totals) took
-listing_sent (Err fault) forest trees start one two a b c d f g h k none is lines totals took = tt
+pub listing_sent : {T E : Type 0} (r : Result T E) (text start rest : List ℕ) (a b c : Option (List ℕ)) (f g h : ℕ)
+    → start ≡ [] → GoesOn text (way start a f) (way rest b g) → OnOk r (TakesAll b c g h rest)
+    → OnOk r (TakesAll a c f h text)
+listing_sent (Ok done) text start rest a b c f g h none lines took =
+    all_goes text (way start a f) (way rest b g) c h none lines took
+listing_sent (Err fault) text start rest a b c f g h none lines took = tt
 
-pub listing_unsent : {T E : Type 0} (r : Result T E) (forest : Forest) (trees : List Tree) (start one two : List ℕ)
-    (a b c d : Option (List ℕ)) (f g h k : ℕ) → start ≡ [] → trees ≡ forest.trees.items
-    → GoesOn (lines_of 0 (trees_view trees)) (way start a f) (way one b g)
-    → GoesOn (totals_line (walk_view forest)) (way one b g) (way two c h)
-    → OnErr r (FailsAmid c d h k two) → OnErr r (FailsAmid a d f k (listing_text (walk_view forest)))
-listing_unsent (Ok done) forest trees start one two a b c d f g h k none is lines totals failed = tt
-listing_unsent (Err fault) forest trees start one two a b c d f g h k none is lines totals failed =
-    none_goes (listing_text (walk_view forest)) (way start a f) (way two c h) d k none
-    (listing_goes forest trees (way start a f) (way one b g) (way two c h) is lines totals) failed
-
-pub totals_unsent : {T E : Type 0} (r : Result T E) (forest : Forest) (trees : List Tree) (start one two : List ℕ)
-    (a b c : Option (List ℕ)) (f g h : ℕ) → start ≡ [] → trees ≡ forest.trees.items
-    → GoesOn (lines_of 0 (trees_view trees)) (way start a f) (way one b g)
-    → Fails (totals_line (walk_view forest)) (way one b g) (way two c h)
-    → OnErr r (FailsAmid a c f h (listing_text (walk_view forest)))
-totals_unsent r forest trees start one two a b c f g h none is lines failed =
-    on_err r (fails_of_none (listing_text (walk_view forest)) (way start a f) (way two c h) none
-    (listing_fails forest trees (way start a f) (way one b g) (way two c h) is lines failed))
+pub listing_unsent : {T E : Type 0} (r : Result T E) (text start rest : List ℕ) (a b c : Option (List ℕ)) (f g h : ℕ)
+    → start ≡ [] → GoesOn text (way start a f) (way rest b g) → OnErr r (FailsAmid b c g h rest)
+    → OnErr r (FailsAmid a c f h text)
+listing_unsent (Ok done) text start rest a b c f g h none lines failed = tt
+listing_unsent (Err fault) text start rest a b c f g h none lines failed =
+    none_goes text (way start a f) (way rest b g) c h none lines failed
 
 -- ---- counts
 

@@ -1,8 +1,8 @@
--- What a listing of a directory's records says (PS3.3 section F.3).
+-- What a listing of a directory says of its records (PS3.3 section F.3) and of what is withdrawn.
 use Rattle.std.specs.Prelude.{ℕ, min, List, [], ◌∷◌, ◌++◌, length, Option, None, Some, codes}
 use Rattle.std.specs.Prelude.{if◌then◌else◌}
 use Rattle.std.specs.Fmt.{decimal}
-use Rattle.std.specs.List.{repeat}
+use Rattle.std.specs.List.{flat_map, repeat}
 use Rattle.std.specs.Str.{bytes_eq}
 use Rattle.dd_elem.specs.declared.tag.Tag.{Tag}
 use Rattle.dd_elem.specs.Device.{counted, last_count}
@@ -12,6 +12,7 @@ use Rattle.dd_layout.specs.Entries.{tag}
 use Rattle.dd_layout.specs.Records.{kind_of}
 use Rattle.dd_dir.specs.ForestViews.{Branch}
 use Rattle.dd_dir.specs.Trees.{Node, Trees, Walk, no_trees, places, tree}
+use Rattle.dd_dir.specs.Withdrawn.{withdrawn_of}
 use Rattle.dd_report.specs.Telling.{shown_line}
 
 -- ---- the line of a record
@@ -59,6 +60,17 @@ lines_of level (tree node below after) =
 abbrev pub branch_lines : ℕ → Branch → List ℕ
 branch_lines level branch = record_line level branch.node ++ lines_of (counted level) branch.below
 
+-- ---- the lines of what is withdrawn
+
+-- a piece of the value that names the withdrawn UIDs
+abbrev pub withdrawn_line : List ℕ → List ℕ
+withdrawn_line piece = shown_line (codes "WITHDRAWN " ∷ or_dash (Some piece) ∷ [])
+
+abbrev pub withdrawn_lines : List (List ℕ) → List ℕ
+withdrawn_lines pieces = flat_map withdrawn_line pieces
+
+-- ---- the whole listing
+
 -- how many records there are, as a count
 abbrev pub record_count : Trees → ℕ
 record_count trees = min (length (places trees)) last_count
@@ -68,4 +80,4 @@ totals_line walk = shown_line (
     decimal (record_count walk.trees) ∷ codes " records, " ∷ decimal walk.unreached ∷ codes " unreached" ∷ [])
 
 abbrev pub listing_text : Walk → List ℕ
-listing_text walk = lines_of 0 walk.trees ++ totals_line walk
+listing_text walk = lines_of 0 walk.trees ++ (withdrawn_lines (withdrawn_of walk) ++ totals_line walk)

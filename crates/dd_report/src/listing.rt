@@ -1,9 +1,11 @@
-//! The records of a directory as lines.
-ghost use Rattle.std.specs.Prelude.{◌≡◌, OnErr, OnOk};
+//! The records of a directory, and what is withdrawn, as lines.
+ghost use Rattle.std.specs.Prelude.{◌≡◌, ◌∷◌, OnErr, OnOk, option_map};
 ghost use Rattle.dd_dir.specs.ForestViews.{tree_view, trees_view, walk_view};
+ghost use Rattle.dd_dir.specs.Withdrawn.{pieces_in, pieces_of};
 ghost use Rattle.dd_elem.specs.Device.{counted};
 ghost use Rattle.dd_report.specs.Listing.{branch_lines, flag_of, label_of, label_tag, lines_of, listing_text};
-ghost use Rattle.dd_report.specs.Listing.{record_count, record_line, spaced, totals_line};
+ghost use Rattle.dd_report.specs.Listing.{or_dash, record_count, record_line, spaced, totals_line};
+ghost use Rattle.dd_report.specs.Listing.{withdrawn_line, withdrawn_lines};
 ghost use Rattle.dd_report.specs.Telling.{Tells, shown_line, way};
 ghost use Rattle.dd_report.specs.Text.{FailsAmid, TakesAll};
 
@@ -16,8 +18,9 @@ use dd_layout::table::{FILE, PATIENT_ID, SERIES_UID, STUDY_UID};
 use itoa::Buffer;
 use std::fmt;
 
-/// Lists the records of a directory: a line for each, depth first, and how many they are. It fails only
-/// where the output does, and takes no memory.
+/// Lists a directory: a line for each record, depth first, one for each piece of the value that names the
+/// withdrawn SOP Instance UIDs, and how many records there are. It fails only where the output does, and takes
+/// no memory.
 pub fn list_records<W: Write>(forest: &Forest<'_>, to: &mut W) -> fmt::Result
     ensures sent { OnOk result (TakesAll (W.contents to.old) (W.contents to.new)
         (W.failures to.old) (W.failures to.new) (listing_text (walk_view forest.now))) }
@@ -25,9 +28,19 @@ pub fn list_records<W: Write>(forest: &Forest<'_>, to: &mut W) -> fmt::Result
         (W.failures to.old) (W.failures to.new) (listing_text (walk_view forest.now))) }
 {
     let mut lines = LineBuffer::new();
-    list_trees(&forest.trees, 0, &mut lines, to)?;
-    list_totals(forest, &mut lines, to)?;
+    list_forest(forest, &mut lines, to)?;
     lines.flush(to)
+}
+
+/// Lists the records, what is withdrawn, and how many records there are.
+fn list_forest<W: Write>(forest: &Forest<'_>, lines: &mut LineBuffer, to: &mut W) -> fmt::Result
+    ensures { Tells result (listing_text (walk_view forest.now))
+        (way lines.old (W.contents to.old) (W.failures to.old))
+        (way lines.new (W.contents to.new) (W.failures to.new)) }
+{
+    list_trees(&forest.trees, 0, lines, to)?;
+    list_withdrawn(forest.withdrawn, lines, to)?;
+    list_totals(forest, lines, to)
 }
 
 /// Lists these records of a level, and those below them.
@@ -101,7 +114,14 @@ fn add_words<W: Write>(
 fn label_of<'t>(tree: &'t Tree<'_>) -> &'t [u8]
     ensures { result.now ≡ label_of (tree_view tree.now).node }
 {
-    match value_at(&tree.set, label_tag(tree.kind)) {
+    or_dash(value_at(&tree.set, label_tag(tree.kind)))
+}
+
+/// A value, and `-` where there is none or no byte of it.
+fn or_dash<'v>(value: Option<&'v [u8]>) -> &'v [u8]
+    ensures { result.now ≡ or_dash (option_map (λ value. value.now) value.entry) }
+{
+    match value {
         None | Some([]) => b"-",
         Some(value) => value,
     }
@@ -127,6 +147,52 @@ fn flag_of<'t>(tree: &'t Tree<'_>) -> &'t [u8]
     ensures { result.now ≡ flag_of (tree_view tree.now).node }
 {
     if tree.in_use { b"" } else { b" inactive" }
+}
+
+/// Lists what is withdrawn: nothing where there is no value that names it.
+fn list_withdrawn<W: Write>(value: Option<&[u8]>, lines: &mut LineBuffer, to: &mut W) -> fmt::Result
+    ensures { Tells result (withdrawn_lines (pieces_in (option_map (λ value. value.now) value.entry)))
+        (way lines.old (W.contents to.old) (W.failures to.old))
+        (way lines.new (W.contents to.new) (W.failures to.new)) }
+{
+    match value {
+        None => Ok(()),
+        Some(value) => list_pieces(value, lines, to),
+    }
+}
+
+/// Lists the pieces of the value that names what is withdrawn.
+fn list_pieces<W: Write>(value: &[u8], lines: &mut LineBuffer, to: &mut W) -> fmt::Result
+    ensures { Tells result (withdrawn_lines (pieces_of value.now))
+        (way lines.old (W.contents to.old) (W.failures to.old))
+        (way lines.new (W.contents to.new) (W.failures to.new)) }
+{
+    let mut rest = Some(value);
+    while let Some(value) = rest {
+        let (piece, behind) = first_piece(value);
+        list_piece(piece, lines, to)?;
+        rest = behind;
+    }
+    Ok(())
+}
+
+/// The first piece of the value, and what stands behind the `\` that ends it, if one does.
+fn first_piece(value: &[u8]) -> (&[u8], Option<&[u8]>)
+    ensures { pieces_of value.now ≡ result.0.now ∷ pieces_in (option_map (λ rest. rest.now) result.1) }
+{
+    match value.iter().position(|byte| *byte == b'\\') {
+        Some(at) => (&value[..at], Some(&value[at + 1..])),
+        None => (value, None),
+    }
+}
+
+/// Lists this piece, an empty one as `-`.
+fn list_piece<W: Write>(piece: &[u8], lines: &mut LineBuffer, to: &mut W) -> fmt::Result
+    ensures { Tells result (withdrawn_line piece.now)
+        (way lines.old (W.contents to.old) (W.failures to.old))
+        (way lines.new (W.contents to.new) (W.failures to.new)) }
+{
+    lines.add_line(&[b"WITHDRAWN ", or_dash(Some(piece))], to)
 }
 
 /// Lists how many records there are, and how many items no offset reaches.

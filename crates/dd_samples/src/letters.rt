@@ -1,7 +1,7 @@
 //! The versions that tests take, each with a letter.
 
 use dd_catalogue::Catalogue;
-use dd_elem::Key;
+use dd_elem::{Key, Uid};
 use dd_keys::{Parts, Version, version_of};
 use dd_vectors::{bytes_of, text_of, v1, v1_with};
 use std::alloc::Global;
@@ -31,6 +31,7 @@ B 170 'B '1.2.3.4.5~
 Z 170 'Z '1.2.3.4.5~
 W 170 'A_DESCRIPTION_THAT_WANTS_MEMORY '1.2.3.4.5~
 C 170 'B '1.2.3.4.6~
+D 170 'A '1.2.3.4.6~
 L 170 'A '1.2.3.4.6~; 0008,0030 TM '101600
 x 1 'Z '1.2.3.4.5~
 y 1 'A '1.2.3.4.6~
@@ -99,6 +100,17 @@ pub fn taken(alloc: Global, letters: &str) -> Result<Catalogue, Fail> {
         if catalogue.take(image(alloc, letter)?).is_err() {
             return Err("no memory".into());
         }
+    }
+    Ok(catalogue)
+}
+
+/// The catalogue that took the versions with these letters, and withdrew then the instances behind them,
+/// before each of which a `/` stands.
+pub fn catalogue_of(alloc: Global, words: &str) -> Result<Catalogue, Fail> {
+    let mut words = words.split('/');
+    let mut catalogue = taken(alloc, words.next().unwrap_or(""))?;
+    for uid in words {
+        catalogue.withdraw(Uid::new(uid.as_bytes())?)?;
     }
     Ok(catalogue)
 }

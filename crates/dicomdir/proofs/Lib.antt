@@ -1,2 +1,3 @@
+mod BadUids
 mod EmptyWords
 mod Publishing

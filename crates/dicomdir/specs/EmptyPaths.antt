@@ -1,5 +1,6 @@
 -- Paths that are empty.
-use Rattle.std.specs.Prelude.{◌≡◌, ◌<◌, List, ℕ, [], Option, None, Some, String, length, slice_index_or, string_bytes, Contains}
+use Rattle.std.specs.Prelude.{◌≡◌, ◌<◌, List, ℕ, [], Option, None, Some, String, Contains, length, slice_index_or}
+use Rattle.std.specs.Prelude.{string_bytes}
 use Rattle.std.specs.declared.alloc.Global.{Global}
 use Rattle.clap.specs.Words.{Row, Text}
 use Rattle.dd_line.specs.Line.{given_paths}

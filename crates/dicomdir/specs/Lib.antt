@@ -1,6 +1,7 @@
 pub mod Done
 pub mod EmptyPaths
 pub mod FileSupply
+pub mod Names
 pub mod Refusal
 pub use Rattle.dd_engine.specs.Choosing
 pub use Rattle.dd_engine.specs.Indexed

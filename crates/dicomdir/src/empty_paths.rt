@@ -34,8 +34,12 @@ pub(crate) fn empty_path(verb: Verb, at: usize) -> Refusal
         → IsOfWork sources result }
 {
     match verb {
-        Verb::Index | Verb::Merge if at == 0 => Refusal::of(Subject::Folder, ProgramFault::Folder),
-        Verb::Index | Verb::Merge => Refusal::of(Subject::Source(at - 1), ProgramFault::Absent),
+        Verb::Index | Verb::Merge | Verb::Withdraw if at == 0 => {
+            Refusal::of(Subject::Folder, ProgramFault::Folder)
+        }
+        Verb::Index | Verb::Merge | Verb::Withdraw => {
+            Refusal::of(Subject::Source(at - 1), ProgramFault::Absent)
+        }
         Verb::Check | Verb::List => Refusal::of(Subject::Source(at), ProgramFault::Absent),
     }
 }

@@ -68,7 +68,8 @@ fn publish<F: Files>(path: &str, plan: &Plan, files: &mut F) -> Result<(), Progr
 
     // Where the files tell what they hold, the file at that path is the directory, and no other file changed.
     ensures holds { IsOk result → F.held files.new
-        ≡ option_map (published path.now (directory_of plan.now.label plan.now.versions)) (F.held files.old) }
+        ≡ option_map (published path.now (directory_of plan.now.label plan.now.versions plan.now.withdrawn))
+        (F.held files.old) }
 {
     start_directory(path, files)?;
     send_directory(plan, files)?;
@@ -92,7 +93,7 @@ fn send_directory<F: Files>(plan: &Plan, files: &mut F) -> Result<(), ProgramFau
     ensures unsent { IsErr result → HasFailed (F.Write.failures files.old) (F.Write.failures files.new) }
     ensures fault { IfErr result (λ fault. fault ≡ ProgramFault.Unsent) }
     ensures holds { IsOk result → F.held files.new
-        ≡ option_map (grown (directory_of plan.now.label plan.now.versions)) (F.held files.old) }
+        ≡ option_map (grown (directory_of plan.now.label plan.now.versions plan.now.withdrawn)) (F.held files.old) }
 {
     match write_directory(plan, files) {
         Ok(_) => Ok(()),

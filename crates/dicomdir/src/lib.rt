@@ -12,6 +12,7 @@ mod file_supply;
 mod image_path;
 mod index;
 mod merging;
+mod names;
 mod origins;
 mod program;
 mod refusal;
@@ -20,6 +21,7 @@ mod source_counts;
 
 pub use dd_engine::{
     Choice, EngineFault, Indexed, MergeFault, Merged, Pick, Supply, index_engine, merge_engine,
+    withdraw_engine,
 };
 pub use dd_files::{CopyFault, DIRECTORY, Files, NotDone, NotThere, copy_image, digest_text};
 pub use dd_line::{Asked, LineFault, Verb, read_words};

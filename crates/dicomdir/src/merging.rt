@@ -4,10 +4,11 @@ ghost use Rattle.dd_engine.specs.Merging.{IsNamedSet};
 ghost use Rattle.dicomdir.specs.Refusal.{IsOfWork};
 
 use crate::file_set::{limits_of, refuse_taken};
+use crate::names::Names;
 use crate::refusal::{ProgramFault, Refusal, Subject};
 use crate::set_directory::read_directories;
 use dd_elem::Memory;
-use dd_engine::{Choice, MergeFault, Merged, merge_engine};
+use dd_engine::{Choice, MergeFault, Merged, merge_engine, withdraw_engine};
 use dd_files::Files;
 use std::alloc::Global;
 
@@ -38,6 +39,24 @@ pub(crate) fn plan_merge<'a>(
     ensures within { IfOk result (λ merged. All (λ pick. pick.set < length sets.now) merged.picks.items) }
 {
     match merge_engine(alloc, sets, choice, limits_of(max_bytes)) {
+        Ok(merged) => Ok(merged),
+        Err(fault) => Err(refusal_of(fault)),
+    }
+}
+
+/// Plans the directory of what a set lists, which has the bytes of its directory, with the instances
+/// withdrawn that the line names. It may have `max_bytes` bytes.
+pub(crate) fn plan_withdrawal<'a>(
+    alloc: Global,
+    set: &'a [u8],
+    names: &Names,
+    max_bytes: u32,
+) -> Result<Merged<'a>, Refusal>
+    ensures refusal { (sets : ℕ) → 0 < sets → IfErr result (IsOfWork sets) }
+    ensures within { (sets : ℕ) → 0 < sets → IfOk result (λ merged. All (λ pick. pick.set < sets) merged.picks.items) }
+{
+    let limits = limits_of(max_bytes);
+    match withdraw_engine(alloc, set, &names.withdrawn, &names.choice, limits) {
         Ok(merged) => Ok(merged),
         Err(fault) => Err(refusal_of(fault)),
     }

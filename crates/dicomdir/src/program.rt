@@ -13,13 +13,14 @@ ghost use Rattle.dicomdir.specs.Refusal.{IsBadLine, IsOfWork};
 use crate::empty_paths::{empty_path, first_empty};
 use crate::file_set::write_file_set;
 use crate::index::plan_index;
-use crate::merging::{plan_merge, read_sets, slices};
+use crate::merging::{plan_merge, plan_withdrawal, read_sets, slices};
+use crate::names::{Names, names_of};
 use crate::origins::{SetFiles, SourceFiles};
 use crate::refusal::{Paths, ProgramFault, Refusal, Words, tell};
 use crate::set_directory::{directory_bytes, refusal_of};
 use dd_dir::{DirFault, read_directory};
-use dd_elem::{SetId, Uid, Write};
-use dd_engine::Choice;
+use dd_elem::Write;
+use dd_engine::{Choice, Merged};
 use dd_files::Files;
 use dd_keys::KeyFault;
 use dd_layout::Plan;
@@ -43,11 +44,15 @@ use std::fmt;
 /// file-sets, each a folder with the DICOMDIR that was written here. All these are read before the first
 /// is looked at, and the plan stands before the first image is copied.
 ///
+/// `withdraw [--id ID] [--uid UID] [--max-bytes N] OUT SET UID...` makes one as `merge OUT SET` does, with
+/// these instances withdrawn as well: the directory names them and lists no record of them, and a merge
+/// with it leaves them out.
+///
 /// A path that is empty is refused before any file is opened: OUT as a folder that is not made, any other
 /// as a file that is not there.
 ///
 /// `check SET` compares the files of a file-set with its directory, of any producer, and prints what it
-/// finds, or `OK <n> records`. `list SET` prints its records.
+/// finds, or `OK <n> records`. `list SET` prints its records and the instances that it withdraws.
 pub fn run<F: Files, O: Write, E: Write>(
     alloc: Global,
     words: Vec<String>,
@@ -102,8 +107,8 @@ fn run_asked<F: Files, O: Write, E: Write>(
         → (1 ≤ result) × (files.new ≡ files.old) × (out.new ≡ out.old) }
     ensures done { result ≡ 0 → err.new ≡ err.old }
 {
-    let choice = match choice_of(asked) {
-        Ok(choice) => choice,
+    let names = match names_of(alloc, asked) {
+        Ok(names) => names,
         Err(fault) => return tell(&Refusal::general(fault), Paths::none(), err),
     };
     match first_empty(asked.paths.as_slice()) {
@@ -111,7 +116,7 @@ fn run_asked<F: Files, O: Write, E: Write>(
         None => {}
     }
     let (folder, sources) = paths_of(asked);
-    match run_verb(alloc, asked, folder, sources, &choice, files, out) {
+    match run_verb(alloc, asked, folder, sources, &names, files, out) {
         Ok(status) => status,
         Err(refusal) => {
             let unstored = files.unstored();
@@ -140,29 +145,6 @@ fn tell_empty<E: Write>(asked: &Asked, at: usize, err: &mut E) -> u8
     tell(&empty_path(asked.verb, at), paths, err)
 }
 
-/// The label that the line asks for: the ID is looked at before the UID.
-fn choice_of(asked: &Asked) -> Result<Choice, ProgramFault>
-    ensures line { IfErr result IsBadLine }
-    ensures bad { IsErr result → AsksBadName asked.now }
-    ensures good { IsOk result → ¬ AsksBadName asked.now }
-{
-    let id = match &asked.id {
-        None => SetId::new(b"").unwrap(),
-        Some(id) => match SetId::new(id.as_bytes()) {
-            Ok(id) => id,
-            Err(bad) => return Err(ProgramFault::SetId(bad)),
-        },
-    };
-    let uid = match &asked.uid {
-        None => None,
-        Some(uid) => match Uid::new(uid.as_bytes()) {
-            Ok(uid) => Some(uid),
-            Err(bad) => return Err(ProgramFault::Uid(bad)),
-        },
-    };
-    Ok(Choice { id, uid })
-}
-
 /// The folder that the command writes to, if it does, and the paths that it reads.
 fn paths_of(asked: &Asked) -> (&str, &[String])
     requires { least_paths asked.now.verb ≤ length asked.now.paths.items }
@@ -172,7 +154,7 @@ fn paths_of(asked: &Asked) -> (&str, &[String])
 {
     let paths = asked.paths.as_slice();
     match asked.verb {
-        Verb::Index | Verb::Merge => (paths[0].as_str(), &paths[1..]),
+        Verb::Index | Verb::Merge | Verb::Withdraw => (paths[0].as_str(), &paths[1..]),
         Verb::Check | Verb::List => ("", paths),
     }
 }
@@ -183,7 +165,7 @@ fn run_verb<F: Files, O: Write>(
     asked: &Asked,
     folder: &str,
     paths: &[String],
-    choice: &Choice,
+    names: &Names,
     files: &mut F,
     out: &mut O,
 ) -> Result<u8, Refusal>
@@ -191,9 +173,11 @@ fn run_verb<F: Files, O: Write>(
     ensures refusal { IfErr result (IsOfWork (length paths.now)) }
     ensures status { IfOk result (λ status. (status ≤ 1) ⊎ ((status ≡ 3) × (asked.now.verb ≡ Verb.Check))) }
 {
+    let max_bytes = asked.max_bytes;
     match asked.verb {
-        Verb::Index => run_index(alloc, folder, paths, choice, asked.max_bytes, files, out),
-        Verb::Merge => run_merge(alloc, folder, paths, choice, asked.max_bytes, files, out),
+        Verb::Index => run_index(alloc, folder, paths, &names.choice, max_bytes, files, out),
+        Verb::Merge => run_merge(alloc, folder, paths, &names.choice, max_bytes, files, out),
+        Verb::Withdraw => run_withdraw(alloc, folder, paths, names, max_bytes, files, out),
         Verb::Check => run_check(alloc, paths[0].as_str(), files, out),
         Verb::List => run_list(alloc, paths[0].as_str(), files, out),
     }
@@ -244,6 +228,41 @@ fn run_merge<F: Files, O: Write>(
     let directories = read_sets(alloc, folder, sets, files)?;
     let slices = slices(alloc, &directories)?;
     let merged = plan_merge(alloc, &slices, choice, max_bytes)?;
+    write_merged(alloc, folder, sets, &merged, files, out)
+}
+
+/// Runs `withdraw` on the first of these file-sets.
+fn run_withdraw<F: Files, O: Write>(
+    alloc: Global,
+    folder: &str,
+    sets: &[String],
+    names: &Names,
+    max_bytes: u32,
+    files: &mut F,
+    out: &mut O,
+) -> Result<u8, Refusal>
+    requires { 0 < length sets.now }
+    ensures refusal { IfErr result (IsOfWork (length sets.now)) }
+    ensures status { IfOk result (λ status. status ≤ 1) }
+{
+    let directories = read_sets(alloc, folder, sets, files)?;
+    let merged = plan_withdrawal(alloc, &directories[0], names, max_bytes)?;
+    write_merged(alloc, folder, sets, &merged, files, out)
+}
+
+/// Writes what a merge of these file-sets planned, and answers the status.
+fn write_merged<F: Files, O: Write>(
+    alloc: Global,
+    folder: &str,
+    sets: &[String],
+    merged: &Merged<'_>,
+    files: &mut F,
+    out: &mut O,
+) -> Result<u8, Refusal>
+    requires { All (λ pick. pick.set < length sets.now) merged.now.picks.items }
+    ensures refusal { IfErr result (IsOfWork (length sets.now)) }
+    ensures status { IfOk result (λ status. status ≤ 1) }
+{
     let origins = SetFiles { folders: sets };
     write_file_set(alloc, folder, &merged.plan, &origins, &merged.picks, files)?;
     Ok(tell_done(&merged.plan, out))
@@ -328,7 +347,7 @@ fn tell_done<O: Write>(plan: &Plan, out: &mut O) -> u8
     ensures status { (result ≡ 0) ⊎ (result ≡ 1) }
     ensures done { result ≡ 0 → TakesAll (O.contents out.old) (O.contents out.new)
         (O.failures out.old) (O.failures out.new)
-        (done_text (length plan.now.versions) (size plan.now.label plan.now.versions)) }
+        (done_text (length plan.now.versions) (size plan.now.label plan.now.versions plan.now.withdrawn)) }
     ensures failed { result ≡ 1 → HasFailed (O.failures out.old) (O.failures out.new) }
 {
     let (mut count, mut size) = (Buffer::new(), Buffer::new());

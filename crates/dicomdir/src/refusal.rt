@@ -10,6 +10,7 @@ use dd_elem::{BadSetId, BadUid, FileId, Memory, Write};
 use dd_files::{DIRECTORY, is_joined_by_slash};
 use dd_layout::PlanFault;
 use dd_report::print_line;
+use std::alloc::AllocError;
 use std::fmt::InlineText;
 use thiserror::Error;
 
@@ -55,6 +56,14 @@ pub enum ProgramFault {
     /// The file is not what it was when it was read before.
     #[error("97 Changed")]
     Changed,
+}
+
+impl From<AllocError> for ProgramFault {
+    ghost from_gives = { λ _ fault. fault ≡ faults.Memory };
+
+    fn from(_error: AllocError) -> ProgramFault {
+        ProgramFault::Memory
+    }
 }
 
 /// What a fault concerns.

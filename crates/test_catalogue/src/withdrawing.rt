@@ -93,7 +93,7 @@ fn described(alloc: Global, catalogue: &Catalogue) -> Result<String, Fail> {
 #[test]
 fn a_published_version_leaves_its_keys(rt: HostRuntime) -> Result<(), Fail> {
     let alloc = rt.alloc();
-    let mut sources = taken(alloc, "By")?;
+    let mut sources = taken(alloc, "BD")?;
     let mut published = sources.harmonise()?;
     sources.merge(&without(alloc, "1.2.3.4.5")?)?;
     published.merge(&without(alloc, "1.2.3.4.5")?)?;
@@ -102,7 +102,8 @@ fn a_published_version_leaves_its_keys(rt: HostRuntime) -> Result<(), Fail> {
     Ok(())
 }
 
-/// Merges the catalogue of these letters, without these instances, into that of the others, and counts.
+/// Withdraws these instances in the right catalogue, and merges it into the left one. Answers the count of the
+/// merge, and how many versions are left.
 fn counted(alloc: Global, left: &str, right: &str, gone: &[&str]) -> Result<(u64, usize), Fail> {
     let mut catalogue = taken(alloc, left)?;
     let mut other = taken(alloc, right)?;

@@ -1,6 +1,6 @@
 //! Cases: what each asks, and that the answer is right.
 
-use crate::{cuts, derivation, fields, own, publishing, sending, walks};
+use crate::{cuts, derivation, fields, own, publishing, sending, walks, withdrawals};
 use dd_vectors::{answered, question};
 use std::alloc::Global;
 use std::process::Abort;
@@ -22,6 +22,8 @@ pub(crate) enum Ask {
     ReadDeep,
     Cut,
     Offset,
+    EndLimited,
+    EndSent,
 }
 
 /// The answer to a question.
@@ -40,6 +42,8 @@ fn answer(alloc: Global, ask: Ask, question: &str) -> Result<String, Fail> {
         Ask::ReadDeep => walks::read_deep(alloc, question),
         Ask::Cut => cuts::cut(alloc, question),
         Ask::Offset => cuts::offset(alloc, question),
+        Ask::EndLimited => withdrawals::limited(alloc, question),
+        Ask::EndSent => withdrawals::sent(alloc, question),
     }
 }
 
@@ -63,6 +67,7 @@ pub(crate) enum Claim {
     HasElements,
     SaysItself,
     HaveFour,
+    EndsSo,
 }
 
 /// Is the claim right of this case?
@@ -71,6 +76,7 @@ fn is_right(alloc: Global, claim: Claim, case: &str) -> Result<bool, Fail> {
         Claim::HasElements => fields::has_elements(alloc, case),
         Claim::SaysItself => fields::says_itself(alloc, case),
         Claim::HaveFour => publishing::have_four(alloc, case),
+        Claim::EndsSo => withdrawals::ends_so(alloc, case),
     }
 }
 

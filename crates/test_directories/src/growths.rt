@@ -84,7 +84,7 @@ fn assemble_refused(alloc: Global, chosen: u32) -> Result<bool, Fail> {
     };
     require(
         bytes == published(alloc, "1234")?,
-        "the directory is that of the four images",
+        "the directory lists the four images",
     )?;
     Ok(refused)
 }
@@ -107,7 +107,7 @@ fn derived_uid_refused(alloc: Global, chosen: u32) -> Result<bool, Fail> {
         Ok(uid) => uid,
         Err(_) => derived_uid(alloc, &catalogue, &id, limits)?,
     };
-    require(uid.as_bytes() == UID, "the UID is that of V1")?;
+    require(uid.as_bytes() == UID, "the UID belongs to V1")?;
     Ok(refused)
 }
 
@@ -141,27 +141,30 @@ fn growths_of_write_directory(rt: HostRuntime) -> Result<(), Fail> {
     refuse_each(rt.alloc(), Call::WriteDirectory)
 }
 
-/// How many images the directory of the four has, and the instance and the File ID of each.
+/// Four images, and an instance that is withdrawn.
+const FOUR: &str = "1234/1.2.3.4.7";
+
+/// How many images their directory has, and the instance and the File ID of each.
 const FILES: &str = "4 \
 1.2.3.4.5 PT000001\\ST000001\\SE000001\\IM000001 1.2.3.4.6 PT000001\\ST000001\\SE000001\\IM000002 \
 1.2.3.5.1 PT000001\\ST000001\\SE000002\\IM000001 1.2.9.1.1 PT000002\\ST000001\\SE000001\\IM000001";
 
-/// Fails where the files are not those of the four images.
+/// Fails where the places do not name the files of the four images.
 fn require_files(alloc: Global, places: &[Place<'_>]) -> Result<(), Fail> {
     require(
         files(alloc, places)?.as_str() == FILES,
-        "the files are those of the four images",
+        "the places name the files of the four images",
     )
 }
 
-/// Fails where the directory that was read is not that of the four images.
+/// Fails where the directory that was read does not list the four images.
 fn require_forest(alloc: Global, forest: &Forest<'_>) -> Result<(), Fail> {
     require(forest.unreached == 0, "all records are reached")?;
     require_files(alloc, &places_of(alloc, forest)?)
 }
 
 fn read_directory_refused(alloc: Global, chosen: u32) -> Result<bool, Fail> {
-    let bytes = published(alloc, "1234")?;
+    let bytes = published(alloc, FOUR)?;
     refuse_growth(alloc, chosen)?;
     let answer = read_directory(alloc, &bytes);
     let wants_memory = matches!(&answer, Err(fault) if fault.is_want_of_memory());
@@ -179,7 +182,7 @@ fn growths_of_read_directory(rt: HostRuntime) -> Result<(), Fail> {
 }
 
 fn places_of_refused(alloc: Global, chosen: u32) -> Result<bool, Fail> {
-    let bytes = published(alloc, "1234")?;
+    let bytes = published(alloc, FOUR)?;
     let forest = read_directory(alloc, &bytes)?;
     refuse_growth(alloc, chosen)?;
     let answer = places_of(alloc, &forest);
@@ -196,13 +199,14 @@ fn growths_of_places_of(rt: HostRuntime) -> Result<(), Fail> {
     refuse_each(rt.alloc(), Call::PlacesOf)
 }
 
-/// How many images the directory of the four has, and the first byte of the digest, the description, the instance
-/// and the File ID of each.
+/// How many images it has, the first byte of the digest, the description, the instance and the File ID of each,
+/// and the withdrawn instance.
 const IMAGES: &str = "4, \
 170 ' 1.2.3.4.5 PT000001\\ST000001\\SE000001\\IM000001, 170 ' 1.2.3.4.6 PT000001\\ST000001\\SE000001\\IM000002, \
-170 ' 1.2.3.5.1 PT000001\\ST000001\\SE000002\\IM000001, 170 ' 1.2.9.1.1 PT000002\\ST000001\\SE000001\\IM000001";
+170 ' 1.2.3.5.1 PT000001\\ST000001\\SE000002\\IM000001, 170 ' 1.2.9.1.1 PT000002\\ST000001\\SE000001\\IM000001, \
+-1.2.3.4.7";
 
-/// Fails where the images are not the four.
+/// Fails where the images are not the four, or another instance is withdrawn.
 fn require_images(alloc: Global, own: &Own<'_>) -> Result<(), Fail> {
     require(
         images(alloc, own)?.as_str() == IMAGES,
@@ -211,7 +215,7 @@ fn require_images(alloc: Global, own: &Own<'_>) -> Result<(), Fail> {
 }
 
 fn own_of_refused(alloc: Global, chosen: u32) -> Result<bool, Fail> {
-    let bytes = published(alloc, "1234")?;
+    let bytes = published(alloc, FOUR)?;
     let forest = read_directory(alloc, &bytes)?;
     refuse_growth(alloc, chosen)?;
     let answer = own_of(alloc, &forest);
@@ -228,16 +232,17 @@ fn growths_of_own_of(rt: HostRuntime) -> Result<(), Fail> {
     refuse_each(rt.alloc(), Call::OwnOf)
 }
 
-/// Fails where the catalogue has not these versions.
+/// Fails where the catalogue does not hold the four images and the withdrawn instance.
 fn require_instances(alloc: Global, catalogue: &Catalogue) -> Result<(), Fail> {
     require(
-        instances(alloc, catalogue)?.as_str() == "4 1.2.3.4.5 1.2.3.4.6 1.2.3.5.1 1.2.9.1.1",
-        "the catalogue is that of the four images",
+        instances(alloc, catalogue)?.as_str()
+            == "4 1.2.3.4.5 1.2.3.4.6 1.2.3.5.1 1.2.9.1.1 -1.2.3.4.7",
+        "the catalogue holds the four images and the withdrawn instance",
     )
 }
 
 fn catalogue_of_refused(alloc: Global, chosen: u32) -> Result<bool, Fail> {
-    let bytes = published(alloc, "1234")?;
+    let bytes = published(alloc, FOUR)?;
     let forest = read_directory(alloc, &bytes)?;
     refuse_growth(alloc, chosen)?;
     let answer = catalogue_of(alloc, &forest);

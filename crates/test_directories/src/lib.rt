@@ -19,3 +19,5 @@ mod publishing;
 mod sending;
 #[cfg(test)]
 mod walks;
+#[cfg(test)]
+mod withdrawals;

@@ -4,16 +4,31 @@ use crate::cases::{Ask, ask_all};
 use crate::walks::changed;
 use dd_catalogue::Catalogue;
 use dd_dir::{Own, Place, catalogue_of, own_of, places_of, read_directory};
+use dd_elem::Uid;
 use dd_samples::told;
 use std::alloc::{AllocError, Global};
 use std::test::Fail;
 
-/// A directory (`v2`, `v3`, `one` or letters of images) and what is put into its bytes at a place; and the
-/// instances of its catalogue, or why it is refused.
+/// A directory (`v2`, `v3`, `one`, or letters of images with the withdrawn instances) and what is put into its bytes
+/// at a place; and the instances of its catalogue, with `-` before each that is withdrawn, or why it is refused.
 const CATALOGUES: &str = "\
 v2 > 0
 one > 1 1.2.3.4.5
 1234 > 4 1.2.3.4.5 1.2.3.4.6 1.2.3.5.1 1.2.9.1.1
+1/1.2.3.4.6 > 1 1.2.3.4.5 -1.2.3.4.6
+1/1.2.3.4.7/1.2.3.4.6 > 1 1.2.3.4.5 -1.2.3.4.6 -1.2.3.4.7
+/1.2.3.4.5 > 0 -1.2.3.4.5
+1/1.2.3.4.6 916 '5 > 0 -1.2.3.4.5
+1/1.2.3.4.6 884 'E > 1 1.2.3.4.5
+1/1.2.3.4.6 896 09000310 > 1 1.2.3.4.5
+1/1.2.3.4.6 908 '. > 65 BadWithdrawal
+1/1.2.3.4.6 908 '__________ > 65 BadWithdrawal
+1/1.2.3.4.6 908 '_ > 65 BadWithdrawal
+1/1.2.3.4.6 917 '\\ > 65 BadWithdrawal
+1/1.2.3.4.6/1.2.3.4.7 916 '8 > 65 BadWithdrawal
+1/1.2.3.4.6/1.2.3.4.7 916 '7 > 65 BadWithdrawal
+1/1.2.3.4.6 402 2020 > 63 RecordKey 320 (0010,0020)
+1/1.2.3.4.6 402 2020 908 '. > 65 BadWithdrawal
 v3 > 62 ForeignRecord 646
 v3 674 ffff > 61 NoDigest 646
 one 348 0000 > 62 ForeignRecord 320
@@ -31,6 +46,9 @@ one 514 '. > 63 RecordKey 404 (0020,000D)";
 /// of their records, or why it is refused.
 const PLACES: &str = "\
 v2 > 0
+1/1.2.3.4.6 > 1 1.2.3.4.5 PT000001\\ST000001\\SE000001\\IM000001
+1/1.2.3.4.6 916 '5 > 1 1.2.3.4.5 PT000001\\ST000001\\SE000001\\IM000001
+1/1.2.3.4.6 348 0000 908 '. > 65 BadWithdrawal
 one > 1 1.2.3.4.5 PT000001\\ST000001\\SE000001\\IM000001
 1234 > 4 1.2.3.4.5 PT000001\\ST000001\\SE000001\\IM000001 \
 1.2.3.4.6 PT000001\\ST000001\\SE000001\\IM000002 \
@@ -45,6 +63,9 @@ one 402 2020 > 63 RecordKey 320 (0010,0020)";
 /// and the File ID of each image, in the order of their records, or why it is refused.
 const IMAGES: &str = "\
 v2 > 0
+1/1.2.3.4.6 > 1, 170 ' 1.2.3.4.5 PT000001\\ST000001\\SE000001\\IM000001, -1.2.3.4.6
+/1.2.3.4.5/1.2.3.4.6 > 0, -1.2.3.4.5 -1.2.3.4.6
+1/1.2.3.4.6 348 0000 908 '. > 65 BadWithdrawal
 12 > 2, 170 ' 1.2.3.4.5 PT000001\\ST000001\\SE000001\\IM000001, \
 170 ' 1.2.3.4.6 PT000001\\ST000001\\SE000001\\IM000002
 12 1026 '5 > 2, 170 ' 1.2.3.4.5 PT000001\\ST000001\\SE000001\\IM000001, \
@@ -58,7 +79,15 @@ v3 674 ffff > 61 NoDigest 646
 one 348 0000 > 62 ForeignRecord 320
 one 402 2020 > 63 RecordKey 320 (0010,0020)";
 
-/// How many versions a catalogue has, and their instances.
+/// Puts the withdrawn instances behind the text, with `-` before each.
+fn push_withdrawn(text: &mut String, withdrawn: &[Uid]) -> Result<(), AllocError> {
+    for uid in withdrawn {
+        write!(text, " -{uid}")?;
+    }
+    Ok(())
+}
+
+/// How many versions a catalogue has, their instances, and those that are withdrawn.
 pub(crate) fn instances(alloc: Global, catalogue: &Catalogue) -> Result<String, AllocError> {
     let count = catalogue.len();
     let mut text = format!(in alloc; "{count}")?;
@@ -66,6 +95,7 @@ pub(crate) fn instances(alloc: Global, catalogue: &Catalogue) -> Result<String, 
         let instance = version.parts().instance;
         write!(text, " {instance}")?;
     }
+    push_withdrawn(&mut text, catalogue.withdrawn())?;
     Ok(text)
 }
 
@@ -108,7 +138,7 @@ fn files_of_directories(rt: HostRuntime) -> Result<(), Fail> {
     ask_all(&rt, rt.alloc(), Ask::Places, PLACES)
 }
 
-/// How many images there are, and what is told of the version of each, with its File ID.
+/// How many images there are, the version of each with its File ID, and the instances that are withdrawn.
 pub(crate) fn images(alloc: Global, own: &Own<'_>) -> Result<String, Fail> {
     let count = own.places.len();
     let mut text = format!(in alloc; "{count}")?;
@@ -116,6 +146,10 @@ pub(crate) fn images(alloc: Global, own: &Own<'_>) -> Result<String, Fail> {
         let (version, file) = (told(alloc, version)?, str::from_utf8(place.file)?);
         write!(text, ", {version} {file}")?;
     }
+    if !own.withdrawn.is_empty() {
+        text.push(',')?;
+    }
+    push_withdrawn(&mut text, &own.withdrawn)?;
     Ok(text)
 }
 

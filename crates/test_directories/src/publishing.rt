@@ -6,7 +6,7 @@ use dd_catalogue::History;
 use dd_dir::{assemble, publish};
 use dd_elem::{FileId, SetId, Uid};
 use dd_layout::{Label, Limits};
-use dd_samples::{images, taken};
+use dd_samples::{catalogue_of, images, taken};
 use dd_vectors::{bytes_of, first_directory, v2};
 use std::alloc::Global;
 use std::test::Fail;
@@ -63,13 +63,14 @@ pub(crate) fn limits_of(bytes: &str) -> Result<Limits, Fail> {
     Ok(Limits::new(bytes, FileId::MAX_RANK).ok_or("no limits")?)
 }
 
-/// The directory of the images with these letters, under this File-set ID.
+/// The directory of the images with these letters and of the instances that are withdrawn, each behind a `/`, under
+/// this File-set ID.
 pub(crate) fn named(alloc: Global, id: &str, letters: &str) -> Result<Vec<u8>, Fail> {
-    let catalogue = taken(alloc, letters)?;
+    let catalogue = catalogue_of(alloc, letters)?;
     Ok(publish(alloc, &catalogue, &label_of(id)?, limits_of("")?)?)
 }
 
-/// The directory of the images with these letters.
+/// The directory of these, without an ID.
 pub(crate) fn published(alloc: Global, letters: &str) -> Result<Vec<u8>, Fail> {
     named(alloc, "", letters)
 }

@@ -100,18 +100,27 @@ fn plan_of_four(alloc: Global) -> Result<Plan, Fail> {
 }
 
 /// What comes of all these writers, or of the first of which something else comes.
-pub(crate) fn four_sent(alloc: Global, question: &str) -> Result<String, Fail> {
+pub(crate) fn outcomes(
+    alloc: Global,
+    plan: &Plan,
+    bytes: &[u8],
+    question: &str,
+) -> Result<String, Fail> {
     let (first, last) = question.split_once(' ').ok_or("no last")?;
     let (first, last): (u64, u64) = (first.parse()?, last.parse()?);
-    let (plan, bytes) = (plan_of_four(alloc)?, published(alloc, "1234")?);
-    let common = outcome(alloc, &plan, &bytes, first)?;
+    let common = outcome(alloc, plan, bytes, first)?;
     for after in first..=last {
-        let said = outcome(alloc, &plan, &bytes, after)?;
+        let said = outcome(alloc, plan, bytes, after)?;
         if said.as_str() != common.as_str() {
             return Ok(format!(in alloc; "{said} at {after}")?);
         }
     }
     Ok(common)
+}
+
+pub(crate) fn four_sent(alloc: Global, question: &str) -> Result<String, Fail> {
+    let (plan, bytes) = (plan_of_four(alloc)?, published(alloc, "1234")?);
+    outcomes(alloc, &plan, &bytes, question)
 }
 
 #[test]

@@ -1,6 +1,6 @@
 //! Cases: what each asks, and that the answer is right.
 
-use crate::{keys, picks};
+use crate::{keys, picks, withdrawals};
 use dd_vectors::{answered, question};
 use std::alloc::Global;
 use std::process::Abort;
@@ -12,6 +12,7 @@ pub(crate) enum Ask {
     Catalogues,
     ReadBack,
     Picked,
+    Withdrawn,
 }
 
 /// The answer to a question.
@@ -20,6 +21,7 @@ fn answer(alloc: Global, ask: Ask, question: &str) -> Result<String, Fail> {
         Ask::Catalogues => keys::catalogues(alloc, question),
         Ask::ReadBack => keys::read_back(alloc, question),
         Ask::Picked => picks::picked(alloc, question),
+        Ask::Withdrawn => withdrawals::planned(alloc, question),
     }
 }
 

@@ -3,7 +3,7 @@
 use dd_dir::publish;
 use dd_elem::{FileId, SetId, Uid};
 use dd_layout::{Label, Limits};
-use dd_samples::taken;
+use dd_samples::catalogue_of;
 use dd_vectors::{first_directory, put_words, v2, v3};
 use std::alloc::{AllocError, Global};
 use std::test::Fail;
@@ -21,13 +21,14 @@ pub(crate) fn label() -> Result<Label, Fail> {
     })
 }
 
-/// The directory with this name: `first`, `empty`, `v3` or the letters of images.
+/// The directory with this name: `first`, `empty`, `v3`, or the letters of images with the instances that are
+/// withdrawn, each behind a `/`.
 fn named(alloc: Global, name: &str) -> Result<Vec<u8>, Fail> {
     match name {
         "first" => first_directory(alloc),
         "empty" => v2(alloc),
         "v3" => v3(alloc),
-        letters => Ok(publish(alloc, &taken(alloc, letters)?, &label()?, widest()?)?),
+        letters => Ok(publish(alloc, &catalogue_of(alloc, letters)?, &label()?, widest()?)?),
     }
 }
 

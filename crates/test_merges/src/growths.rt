@@ -2,70 +2,74 @@
 
 use crate::directories::{directories, label, slices, widest};
 use crate::picks::told;
+use crate::withdrawals::uids_of;
 use dd_elem::{SetId, Uid};
 use dd_vectors::{growth_numbers, refuse_growth, require, was_refused};
-use dicomdir::{Choice, MergeFault, Merged, merge_engine};
+use dicomdir::{Choice, MergeFault, Merged, merge_engine, withdraw_engine};
 use std::alloc::Global;
 use std::test::Fail;
 
-/// The UID of what is merged.
+/// The calls that can want memory.
 #[derive(Clone, Copy)]
 enum Call {
     Derived,
     Named,
+    Withdraw,
+}
+
+/// Makes the call with the chosen growth refused, and answers whether one was.
+fn is_refused(alloc: Global, call: Call, chosen: u32) -> Result<bool, Fail> {
+    match call {
+        Call::Derived => merge_refused(alloc, None, chosen),
+        Call::Named => merge_refused(alloc, Some(label()?.uid), chosen),
+        Call::Withdraw => withdraw_refused(alloc, chosen),
+    }
 }
 
 /// Makes the call with each of its growths refused in turn.
 fn refuse_each(alloc: Global, call: Call) -> Result<(), Fail> {
     for chosen in growth_numbers() {
-        if !merge_refused(alloc, call, chosen)? {
+        if !is_refused(alloc, call, chosen)? {
             return Ok(());
         }
     }
     Err("the call has more growths than are refused".into())
 }
 
-/// The directories that are merged.
-const SETS: &str = "12 34 1234";
+/// The directories that are merged: another withdraws one of the first's images.
+const SETS: &str = "12 34 1234/1.2.3.4.6";
 
-/// For each image of all the number of its set, and its File ID there.
+/// For each image that is kept the number of its set, and its File ID there.
 const PICKED: &str = " \
-0 PT000001\\ST000001\\SE000001\\IM000001 0 PT000001\\ST000001\\SE000001\\IM000002 \
+0 PT000001\\ST000001\\SE000001\\IM000001 \
 1 PT000001\\ST000001\\SE000001\\IM000001 1 PT000002\\ST000001\\SE000001\\IM000001";
 
-/// The UID that is asked for: none where it is derived.
-fn uid_of(call: Call) -> Result<Option<Uid>, Fail> {
-    Ok(match call {
-        Call::Derived => None,
-        Call::Named => Some(label()?.uid),
-    })
-}
-
 /// Fails where other files are picked.
-fn require_picked(alloc: Global, merged: &Merged<'_>) -> Result<(), Fail> {
+fn require_picked(alloc: Global, merged: &Merged<'_>, picked: &str) -> Result<(), Fail> {
     require(
-        told(alloc, merged)?.as_str().ends_with(PICKED),
+        told(alloc, merged)?.as_str().ends_with(picked),
         "these files are picked",
     )
 }
 
 /// Fails where a merge of these sets does not pick these files.
-fn require_merged(alloc: Global, call: Call, sets: &[&[u8]]) -> Result<(), Fail> {
-    let (id, uid) = (SetId::new(b"")?, uid_of(call)?);
+fn require_merged(alloc: Global, uid: Option<Uid>, sets: &[&[u8]]) -> Result<(), Fail> {
+    let id = SetId::new(b"")?;
     let merged = merge_engine(alloc, sets, &Choice { id, uid }, widest()?)?;
-    require_picked(alloc, &merged)
+    require_picked(alloc, &merged, PICKED)
 }
 
-fn merge_refused(alloc: Global, call: Call, chosen: u32) -> Result<bool, Fail> {
+/// Merges the sets under this UID, or a derived one.
+fn merge_refused(alloc: Global, uid: Option<Uid>, chosen: u32) -> Result<bool, Fail> {
     let sets = directories(alloc, SETS)?;
     let sets = slices(alloc, &sets)?;
-    let (id, uid, limits) = (SetId::new(b"")?, uid_of(call)?, widest()?);
+    let (id, limits) = (SetId::new(b"")?, widest()?);
     refuse_growth(alloc, chosen)?;
     let answer = merge_engine(alloc, &sets, &Choice { id, uid }, limits);
     let refused = was_refused(alloc, matches!(&answer, Err(MergeFault::Memory)))?;
     match &answer {
-        Ok(merged) => require_picked(alloc, merged)?,
-        Err(_) => require_merged(alloc, call, &sets)?,
+        Ok(merged) => require_picked(alloc, merged, PICKED)?,
+        Err(_) => require_merged(alloc, uid, &sets)?,
     }
     Ok(refused)
 }
@@ -78,4 +82,36 @@ fn growths_of_merge_engine(rt: HostRuntime) -> Result<(), Fail> {
 #[test]
 fn growths_of_merge_engine_with_a_derived_uid(rt: HostRuntime) -> Result<(), Fail> {
     refuse_each(rt.alloc(), Call::Derived)
+}
+
+/// The size of the directory of one image of two, of which the other is withdrawn, and the File ID that the image
+/// had.
+const LEFT: &str = "928 0 PT000001\\ST000001\\SE000001\\IM000002";
+
+/// Fails where the image that is left is not picked once these are withdrawn.
+fn require_left(alloc: Global, set: &[u8], uids: &[Uid]) -> Result<(), Fail> {
+    let (id, uid) = (SetId::new(b"")?, Some(label()?.uid));
+    let merged = withdraw_engine(alloc, set, uids, &Choice { id, uid }, widest()?)?;
+    require_picked(alloc, &merged, LEFT)
+}
+
+/// Withdraws an image and an instance that is not there.
+fn withdraw_refused(alloc: Global, chosen: u32) -> Result<bool, Fail> {
+    let sets = directories(alloc, "12")?;
+    let set = sets.first().ok_or("no directory")?;
+    let uids = uids_of(alloc, "1.2.3.4.7 1.2.3.4.5")?;
+    let (id, uid, limits) = (SetId::new(b"")?, Some(label()?.uid), widest()?);
+    refuse_growth(alloc, chosen)?;
+    let answer = withdraw_engine(alloc, set, &uids, &Choice { id, uid }, limits);
+    let refused = was_refused(alloc, matches!(&answer, Err(MergeFault::Memory)))?;
+    match &answer {
+        Ok(merged) => require_picked(alloc, merged, LEFT)?,
+        Err(_) => require_left(alloc, set, &uids)?,
+    }
+    Ok(refused)
+}
+
+#[test]
+fn growths_of_withdraw_engine(rt: HostRuntime) -> Result<(), Fail> {
+    refuse_each(rt.alloc(), Call::Withdraw)
 }

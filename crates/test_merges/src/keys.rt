@@ -6,25 +6,32 @@ use dd_dir::write_directory;
 use dd_elem::Sink;
 use dd_keys::Version;
 use dd_layout::{Label, lay_out};
-use dd_samples::{taken, told};
+use dd_samples::{catalogue_of, told};
 use dicomdir::{Choice, merge_engine};
 use std::alloc::Global;
 use std::test::Fail;
 
 /// Images of two catalogues; and each image in their join: the first byte of its digest, the description of its
-/// study, and its instance. Before the join nothing of one study replaces the rest.
+/// study, and its instance. Before the join nothing of one study replaces the rest; an image that is withdrawn gives
+/// its study nothing then.
 const CATALOGUES: &str = "\
 xy z > 2 'B 1.2.3.4.5, 1 'B 1.2.3.4.6
 z xy > 2 'B 1.2.3.4.5, 1 'B 1.2.3.4.6
-1 C > 170 'B 1.2.3.4.5, 170 'B 1.2.3.4.6";
+1 C > 170 'B 1.2.3.4.5, 170 'B 1.2.3.4.6
+BD /1.2.3.4.5 > 170 'A 1.2.3.4.6
+/1.2.3.4.5 BD > 170 'A 1.2.3.4.6";
 
-/// Directories, and the same of each image of all. In a directory each study has one description.
+/// Directories, and the same of each image of all. In a directory each study has one description, which stays where
+/// the image that gave it is withdrawn by another.
 const DIRECTORIES: &str = "\
 xy z > 2 'Z 1.2.3.4.5, 1 'Z 1.2.3.4.6
 z xy > 2 'Z 1.2.3.4.5, 1 'Z 1.2.3.4.6
 z > 2 'B 1.2.3.4.5
 AC > 170 'B 1.2.3.4.5, 170 'B 1.2.3.4.6
-1 C > 170 'B 1.2.3.4.5, 170 'B 1.2.3.4.6";
+1 C > 170 'B 1.2.3.4.5, 170 'B 1.2.3.4.6
+BD /1.2.3.4.5 > 170 'B 1.2.3.4.6
+/1.2.3.4.5 BD > 170 'B 1.2.3.4.6
+BD/1.2.3.4.5 1 > 170 'A 1.2.3.4.6";
 
 /// The versions of a plan, each told.
 fn all_told(alloc: Global, versions: &[Version]) -> Result<String, Fail> {
@@ -40,8 +47,8 @@ fn all_told(alloc: Global, versions: &[Version]) -> Result<String, Fail> {
 
 /// The images of the join of two catalogues.
 fn joined(alloc: Global, one: &str, other: &str) -> Result<String, Fail> {
-    let mut catalogue = taken(alloc, one)?;
-    catalogue.merge(&taken(alloc, other)?)?;
+    let mut catalogue = catalogue_of(alloc, one)?;
+    catalogue.merge(&catalogue_of(alloc, other)?)?;
     let plan = lay_out(alloc, &catalogue, &label()?, widest()?)?;
     all_told(alloc, plan.versions())
 }
@@ -76,7 +83,7 @@ fn directories_are_merged_as_they_are_written(rt: HostRuntime) -> Result<(), Fai
 }
 
 /// Directories.
-const ALONE: &str = "empty first 1 12 1234 AC xy";
+const ALONE: &str = "empty first 1 12 1234 AC xy 1/1.2.3.4.6 /1.2.3.4.5/1.2.3.4.6";
 
 /// Does a merge of this directory alone write it again?
 fn is_written_again(alloc: Global, name: &str) -> Result<bool, Fail> {

@@ -11,3 +11,5 @@ mod growths;
 mod keys;
 #[cfg(test)]
 mod picks;
+#[cfg(test)]
+mod withdrawals;

@@ -18,17 +18,24 @@ const PICKS: &str = "\
 1130 2 2 12 > 1130 1 PT000001\\ST000001\\SE000001\\IM000001 0 PT000001\\ST000001\\SE000001\\IM000001
 2032 2 12 34 1234 > 2032 0 PT000001\\ST000001\\SE000001\\IM000001 0 PT000001\\ST000001\\SE000001\\IM000002 \
 1 PT000001\\ST000001\\SE000001\\IM000001 1 PT000002\\ST000001\\SE000001\\IM000001
+920 2 BD /1.2.3.4.5 > 920 0 PT000001\\ST000001\\SE000001\\IM000002
+920 2 /1.2.3.4.5 BD > 920 1 PT000001\\ST000001\\SE000001\\IM000002
+362 1 1 /1.2.3.4.5 1 > 362
+928 1 1/1.2.3.4.6 /1.2.3.4.7/1.2.3.4.6 > 928 0 PT000001\\ST000001\\SE000001\\IM000001
 876 1 12,1026,'5 > 876 0 PT000001\\ST000001\\SE000001\\IM000001
 876 1 first,686,'X first > 876 0 XT000001\\ST000001\\SE000001\\IM000001
+361 1 1 /1.2.3.4.5 1 > Plan: 43 TooLarge
 875 1 first first > Plan: 43 TooLarge
 876 1 1 2 > Plan: 42 TooMany Image
 2032 1 12 34 > Plan: 42 TooMany Patient
 0 0 5 1 > Plan: 41 Conflict 1.2.3.4.5 1.2.8.4.1
+0 0 1 /1.2.8.4.1 5 > Plan: 42 TooMany Patient
 876 1 first,336,40010000 > Dir 0: 55 Twice 320
 0 0 first first,294,41010000 v3 > Dir 1: 56 LastRoot
 0 0 1 5 first,128,'4 > Dir 2: 51 File 21 NotPart10
 0 0 first v3 first,294,41010000 > Own 1: 62 ForeignRecord 646
 0 0 v3,674,ffff v3 > Own 0: 61 NoDigest 646
+0 0 1 1/1.2.3.4.6,402,2020,908,'. v3 > Own 1: 65 BadWithdrawal
 0 0 5 1 first,402,2020 > Own 2: 63 RecordKey 320 (0010,0020)";
 
 /// The size of a merge, and what is picked.
@@ -43,7 +50,7 @@ pub(crate) fn told(alloc: Global, merged: &Merged<'_>) -> Result<String, Fail> {
 }
 
 /// The refusal of a merge, with the number of the set.
-fn refused(alloc: Global, fault: MergeFault) -> Result<String, Fail> {
+pub(crate) fn refused(alloc: Global, fault: MergeFault) -> Result<String, Fail> {
     Ok(match fault {
         MergeFault::Dir(at, fault) => format!(in alloc; "Dir {at}: {fault}")?,
         MergeFault::Own(at, fault) => format!(in alloc; "Own {at}: {fault}")?,

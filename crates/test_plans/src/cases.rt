@@ -1,6 +1,6 @@
 //! Cases: what each asks, and that the answer is right.
 
-use crate::{limits, records};
+use crate::{limits, records, withdrawals};
 use dd_vectors::{answered, question};
 use std::alloc::Global;
 use std::process::Abort;
@@ -10,7 +10,9 @@ use std::test::Fail;
 #[derive(Clone, Copy)]
 pub(crate) enum Ask {
     Limited,
+    Size,
     TooMany,
+    Uids,
     Versions,
 }
 
@@ -18,7 +20,9 @@ pub(crate) enum Ask {
 fn answer(alloc: Global, ask: Ask, question: &str) -> Result<String, Fail> {
     match ask {
         Ask::Limited => limits::limited(alloc, question),
+        Ask::Size => withdrawals::size(alloc, question),
         Ask::TooMany => limits::too_many(alloc, question),
+        Ask::Uids => withdrawals::uids(alloc, question),
         Ask::Versions => records::versions(alloc, question),
     }
 }

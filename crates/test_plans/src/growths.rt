@@ -4,7 +4,7 @@ use crate::plans::label_of;
 use crate::records::{PLANS, lines};
 use dd_elem::FileId;
 use dd_layout::{Limits, Plan, PlanFault, lay_out};
-use dd_samples::taken;
+use dd_samples::{catalogue_of, taken};
 use dd_vectors::{growth_numbers, refuse_growth, require, was_refused};
 use std::alloc::Global;
 use std::test::Fail;
@@ -15,6 +15,7 @@ enum Call {
     Four,
     Nothing,
     One,
+    Withdrawn,
 }
 
 /// Makes the call with the chosen growth refused, and answers whether one was.
@@ -23,6 +24,7 @@ fn is_refused(alloc: Global, call: Call, chosen: u32) -> Result<bool, Fail> {
         Call::Four => lay_out_refused(alloc, "1234", chosen),
         Call::Nothing => nothing_refused(alloc, chosen),
         Call::One => lay_out_refused(alloc, "1", chosen),
+        Call::Withdrawn => withdrawn_refused(alloc, chosen),
     }
 }
 
@@ -105,4 +107,27 @@ fn nothing_refused(alloc: Global, chosen: u32) -> Result<bool, Fail> {
 #[test]
 fn no_growths_of_lay_out_of_nothing(rt: HostRuntime) -> Result<(), Fail> {
     refuse_each(rt.alloc(), Call::Nothing)
+}
+
+/// Lays out no image and one withdrawn instance.
+fn withdrawn_refused(alloc: Global, chosen: u32) -> Result<bool, Fail> {
+    let (label, limits) = (label_of("")?, widest()?);
+    let catalogue = catalogue_of(alloc, "/1.2.3.4.5")?;
+    refuse_growth(alloc, chosen)?;
+    let answer = lay_out(alloc, &catalogue, &label, limits);
+    let refused = was_refused(alloc, wants_memory(&answer))?;
+    let plan = match answer {
+        Ok(plan) => plan,
+        Err(_) => lay_out(alloc, &catalogue, &label, limits)?,
+    };
+    require(
+        plan.withdrawn() == catalogue.withdrawn() && plan.size() == 362,
+        "the plan has the withdrawn instance",
+    )?;
+    Ok(refused)
+}
+
+#[test]
+fn growths_of_lay_out_of_what_is_withdrawn(rt: HostRuntime) -> Result<(), Fail> {
+    refuse_each(rt.alloc(), Call::Withdrawn)
 }

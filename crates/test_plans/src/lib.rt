@@ -11,3 +11,5 @@ mod limits;
 mod plans;
 #[cfg(test)]
 mod records;
+#[cfg(test)]
+mod withdrawals;

@@ -7,14 +7,15 @@ use dicomdir::{CopyFault, EngineFault, MergeFault, ProgramFault};
 use std::test::Fail;
 
 /// Faults of the program, in words.
-const PROGRAM: &str = "39 FileTooLong, 43 TooLarge, 56 LastRoot, 61 NoDigest 646, 71 BadUid, \
+const PROGRAM: &str =
+    "39 FileTooLong, 43 TooLarge, 56 LastRoot, 61 NoDigest 646, 65 BadWithdrawal, 71 BadUid, \
                        72 BadSetId, 91 Memory, 92 Absent, 93 Unread, 94 Create, 95 Folder, \
                        96 Unsent, 97 Changed";
 
 /// Faults of an index, of a merge and of a copy.
 const ENGINE: &str = "43 TooLarge, 91 Memory, 92 Absent, 93 Unread";
 
-const MERGE: &str = "43 TooLarge, 56 LastRoot, 61 NoDigest 646, 91 Memory";
+const MERGE: &str = "43 TooLarge, 56 LastRoot, 61 NoDigest 646, 65 BadWithdrawal, 91 Memory";
 
 const COPY: &str = "93 Unread, 96 Unsent, 97 Changed";
 
@@ -25,6 +26,7 @@ fn fault_of(words: &str) -> Option<ProgramFault> {
         "43 TooLarge" => Some(ProgramFault::Plan(PlanFault::TooLarge)),
         "56 LastRoot" => Some(ProgramFault::Dir(DirFault::LastRoot)),
         "61 NoDigest 646" => Some(ProgramFault::Own(OwnFault::NoDigest(646))),
+        "65 BadWithdrawal" => Some(ProgramFault::Own(OwnFault::BadWithdrawal)),
         "71 BadUid" => Some(ProgramFault::Uid(BadUid)),
         "72 BadSetId" => Some(ProgramFault::SetId(BadSetId)),
         "91 Memory" => Some(ProgramFault::Memory),
@@ -53,6 +55,7 @@ fn merge_fault_of(words: &str) -> Option<MergeFault> {
         "43 TooLarge" => Some(MergeFault::Plan(PlanFault::TooLarge)),
         "56 LastRoot" => Some(MergeFault::Dir(7, DirFault::LastRoot)),
         "61 NoDigest 646" => Some(MergeFault::Own(7, OwnFault::NoDigest(646))),
+        "65 BadWithdrawal" => Some(MergeFault::Own(7, OwnFault::BadWithdrawal)),
         "91 Memory" => Some(MergeFault::Memory),
         _ => None,
     }

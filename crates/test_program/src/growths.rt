@@ -19,6 +19,7 @@ enum Call {
     IndexEngine,
     ReadIndex,
     ReadMerge,
+    ReadWithdraw,
     ReadMistake,
 }
 
@@ -29,6 +30,7 @@ fn is_refused(alloc: Global, call: Call, chosen: u32) -> Result<bool, Fail> {
         Call::IndexEngine => index_refused(alloc, chosen),
         Call::ReadIndex => read_words_refused(alloc, INDEX, chosen),
         Call::ReadMerge => read_words_refused(alloc, MERGE, chosen),
+        Call::ReadWithdraw => read_words_refused(alloc, WITHDRAW, chosen),
         Call::ReadMistake => read_mistake_refused(alloc, chosen),
     }
 }
@@ -85,6 +87,10 @@ dicomdir index --id DISC1 --uid 2.25.1 --max-bytes 1000 set image.dcm > Index DI
 const MERGE: &str = "\
 dicomdir merge --id DISC1 set b a b --uid 2.25.1 > Merge DISC1 2.25.1 4294967295 set b a b";
 
+/// The same of a withdrawal.
+const WITHDRAW: &str = "\
+dicomdir withdraw --id DISC1 set a 1.2 1.3 > Withdraw DISC1 - 4294967295 set a without 1.2 1.3";
+
 /// A line with an option that is none, its status, and whether its text is for the error output.
 const MISTAKE: &str = "dicomdir index --out set image.dcm > 2 true";
 
@@ -119,6 +125,11 @@ fn growths_of_read_words(rt: HostRuntime) -> Result<(), Fail> {
 #[test]
 fn growths_of_read_words_of_a_merge(rt: HostRuntime) -> Result<(), Fail> {
     refuse_each(rt.alloc(), Call::ReadMerge)
+}
+
+#[test]
+fn growths_of_read_words_of_a_withdrawal(rt: HostRuntime) -> Result<(), Fail> {
+    refuse_each(rt.alloc(), Call::ReadWithdraw)
 }
 
 /// Reads a line with a mistake. A comparison of words takes less room where it is refused some, so that the mistake

@@ -6,8 +6,9 @@ use dicomdir::{Asked, LineFault, read_words};
 use std::alloc::Global;
 use std::test::Fail;
 
-/// Lines, and what they ask for: the command, the ID and the UID (`-` where none is given), the most bytes
-/// and the paths. Or, where they are refused, the exit status and whether the text is for the error output.
+/// Lines, and what they ask for: the command, the ID and the UID (`-` where none is given), the most bytes, the
+/// paths, and the UIDs of images, if any, behind `without`. Or, where they are refused, the exit status and whether
+/// the text is for the error output.
 const LINES: &str = "\
 dicomdir index set image.dcm > Index - - 4294967295 set image.dcm
 dicomdir index --id DISC1 --uid 2.25.1 --max-bytes 1000 set image.dcm > Index DISC1 2.25.1 1000 set image.dcm
@@ -29,6 +30,10 @@ dicomdir index --max-bytes=-0 set image.dcm > Index - - 0 set image.dcm
 dicomdir merge set a > Merge - - 4294967295 set a
 dicomdir merge --id DISC1 set b a b --uid 2.25.1 > Merge DISC1 2.25.1 4294967295 set b a b
 dicomdir merge --max-bytes 7 set check > Merge - - 7 set check
+dicomdir withdraw set old 1.2.840 > Withdraw - - 4294967295 set old without 1.2.840
+dicomdir withdraw --id A --uid 2.25.1 --max-bytes 7 out set 1.2 1.3 > Withdraw A 2.25.1 7 out set without 1.2 1.3
+dicomdir withdraw set old 1.2 --uid 2.25.1 1.3 1.2 > Withdraw - 2.25.1 4294967295 set old without 1.2 1.3 1.2
+dicomdir withdraw -- set old --uid '' withdraw > Withdraw - - 4294967295 set old without --uid '' withdraw
 dicomdir check set > Check - - 4294967295 set
 dicomdir check -- --id > Check - - 4294967295 --id
 dicomdir list set > List - - 4294967295 set
@@ -54,6 +59,12 @@ dicomdir index set image.dcm --max-bytes > 2 true
 dicomdir merge > 2 true
 dicomdir merge out > 2 true
 dicomdir merge --max-bytes 4294967296 out set > 2 true
+dicomdir withdraw > 2 true
+dicomdir withdraw out > 2 true
+dicomdir withdraw out set > 2 true
+dicomdir withdraw --uid 2.25.1 out set > 2 true
+dicomdir withdraw --instance 1.2 out set > 2 true
+dicomdir withdraw --max-bytes 4294967296 out set 1.2 > 2 true
 dicomdir check > 2 true
 dicomdir check a b > 2 true
 dicomdir check --uid 2.25.1 a > 2 true
@@ -69,6 +80,7 @@ dicomdir help index > 0 false
 dicomdir index --help > 0 false
 dicomdir index -h > 0 false
 dicomdir merge -h > 0 false
+dicomdir withdraw -h > 0 false
 dicomdir check --help > 0 false
 dicomdir help list > 0 false";
 
@@ -76,6 +88,13 @@ dicomdir help list > 0 false";
 fn push_word(text: &mut String, word: &str) -> Result<(), Fail> {
     text.push(' ')?;
     text.push_str(if word.is_empty() { "''" } else { word })?;
+    Ok(())
+}
+
+fn push_words(text: &mut String, words: &[String]) -> Result<(), Fail> {
+    for word in words {
+        push_word(text, word.as_str())?;
+    }
     Ok(())
 }
 
@@ -93,9 +112,11 @@ fn told(alloc: Global, asked: &Asked) -> Result<String, Fail> {
     push_option(&mut text, asked.uid.as_ref())?;
     let number = format!(in alloc; "{max_bytes}")?;
     push_word(&mut text, number.as_str())?;
-    for path in asked.paths.iter() {
-        push_word(&mut text, path.as_str())?;
+    push_words(&mut text, &asked.paths)?;
+    if !asked.uids.is_empty() {
+        push_word(&mut text, "without")?;
     }
+    push_words(&mut text, &asked.uids)?;
     Ok(text)
 }
 

@@ -19,3 +19,5 @@ mod merges;
 mod runs;
 #[cfg(test)]
 mod scripts;
+#[cfg(test)]
+mod withdrawals;

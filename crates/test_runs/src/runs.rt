@@ -68,6 +68,7 @@ const TEXTS: &str = "\
 - - dicomdir index out a.dcm --uid 2.25.0 --max-bytes 4294967296 > 2 to the error output
 - - dicomdir burn out a.dcm --uid 2.25.0 > 2 to the error output
 - - dicomdir merge out > 2 to the error output
+- - dicomdir withdraw out full > 2 to the error output
 - - dicomdir merge out full --max-bytes 4294967296 > 2 to the error output
 - - dicomdir check > 2 to the error output
 - - dicomdir list full full > 2 to the error output
@@ -76,6 +77,7 @@ const TEXTS: &str = "\
 - - dicomdir --help > 0 to the output
 - - dicomdir help index > 0 to the output
 - - dicomdir merge --help > 0 to the output
+- - dicomdir withdraw --help > 0 to the output
 - - dicomdir check --help > 0 to the output
 - - dicomdir help list > 0 to the output
 - 0 dicomdir index -h > 0 to the output

@@ -15,9 +15,12 @@ fn disc_after(alloc: Global, steps: &str) -> Result<MemFiles, Fail> {
     Ok(files)
 }
 
+/// How the lines begin that steps run.
+const RUNS: [&str; 3] = ["index ", "merge ", "withdraw "];
+
 /// Runs a line, which must be done, or puts files.
 fn take_step(alloc: Global, step: &str, files: &mut MemFiles) -> Result<(), Fail> {
-    if !step.starts_with("index ") && !step.starts_with("merge ") {
+    if !RUNS.iter().any(|run| step.starts_with(run)) {
         return put_files(alloc, files, step);
     }
     if !end_by(alloc, step, files)?.as_str().starts_with("0 ") {

@@ -9,7 +9,8 @@ use Rattle.dd_set.specs.Views.{set_view, items_view}
 use Rattle.dd_layout.specs.Entries.{tag}
 use Rattle.dd_dir.specs.declared.fault.DirFault.TheVariants.{Memory}
 use Rattle.dd_dir.specs.Reading.{Contents}
-use Rattle.dd_dir.specs.Saying.{sets_of, id_in}
+use Rattle.dd_dir.specs.Saying.{sets_of, beside_in}
+use Rattle.dd_dir.specs.Trees.{Beside}
 use Rattle.dd_dir.proofs.Contents.{without_starts, with_all_there, wanted_there}
 use Rattle.dd_dir.proofs.Moved.{places_within}
 use Rattle.dd_dir.proofs.directory.directory_of.Goals as goal
@@ -52,15 +53,15 @@ returns c = λ front long.
     let written : (with_items c.in-Some-2.starts c.shift.new.starts).items ≡ c.shift.new.starts =
     with_items_is c.in-Some-2.starts c.shift.new.starts many in
     let sets = sets_of (items_view c.in-Some-items_of.items.items) in
-    let made : List ℕ → List ℕ → Contents = λ starts id. record {
+    let made : List ℕ → Beside → Contents = λ starts beside. record {
       first = c.in-Some.first;
       last = c.in-Some-number_at.last;
       starts = starts;
       sets = sets;
-      id = id;
+      beside = beside;
     } in
     with_all_there front c.args.at (set_view c.args.set) c.in-Some.first c.in-Some-number_at.last ns sets long
     (sym c.in-Some.ensures) (sym c.in-Some-number_at.ensures) are (sym c.in-Some-items_of.ensures)
-    ∙ ap (λ (starts : List ℕ). Some (made starts (id_in (set_view c.args.set)))) (sym moved ∙ sym written)
-    ∙ ap (λ (id : List ℕ). Some (made (with_items c.in-Some-2.starts c.shift.new.starts).items id))
-    (sym c.id_of-id.ensures)
+    ∙ ap (λ (starts : List ℕ). Some (made starts (beside_in (set_view c.args.set)))) (sym moved ∙ sym written)
+    ∙ ap (λ (beside : Beside). Some (made (with_items c.in-Some-2.starts c.shift.new.starts).items beside))
+    (λ i. record { id = sym c.id_of-id.ensures i; withdrawn = sym c.withdrawn_of-withdrawn.ensures i })

@@ -1,4 +1,4 @@
-use Rattle.std.proofs.Common.{[], ◌++◌, ◌∙◌, ap, map, sym, subst, rules, tests}
+use Rattle.std.proofs.Common.{◌++◌, ◌∙◌, ap, map, sym, subst, rules, tests}
 use Rattle.std.proofs.lemmas.Iterator.{YieldsList-from_map_by, YieldsList-from_slice, items_from_drains}
 use Rattle.std.proofs.lemmas.Iterator.Adapters.{serves_from_places}
 use Rattle.std.proofs.lemmas.Iterator.Consumers.{YieldsList-at}

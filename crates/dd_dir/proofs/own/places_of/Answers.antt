@@ -1,13 +1,35 @@
 use Rattle.std.proofs.Common.{◌≡◌, List, map, ap, sym, ◌∙◌, subst}
-use Rattle.std.specs.Prelude.{All}
+use Rattle.std.specs.Prelude.{All, Vec}
+use Rattle.std.specs.declared.alloc.Global.{Global}
 use Rattle.std.proofs.lemmas.Result.{err_from_is_err_and}
+use Rattle.dd_dir.specs.declared.own.Place.{Place}
 use Rattle.dd_dir.specs.ForestViews.{walk_view}
 use Rattle.dd_dir.specs.Own.{Listed}
+use Rattle.dd_dir.specs.OwnVersions.{ListsSome, place_of, place_view}
 use Rattle.dd_dir.specs.OwnViews.{IsListed, listed_view}
 use Rattle.dd_dir.proofs.CheckedRecords.{listed_sound}
 use Rattle.dd_dir.proofs.ListedFirst.{walk_lists}
 use Rattle.dd_dir.proofs.ListedImages.{each_listed}
+use Rattle.dd_dir.proofs.OwnAnswers.{answers_bad, answers_fault}
 use Rattle.dd_dir.proofs.own.places_of.Goals as goal
+
+abbrev ArePlacesOf : List Listed → Vec Place Global → Type 0
+ArePlacesOf images places = map place_view places.items ≡ map place_of images
+
+pub returns-in_err-check_withdrawn : goal.returns-in_err-check_withdrawn
+returns-in_err-check_withdrawn c =
+    let walk = walk_view c.args.forest.now in
+    let p = err_from_is_err_and c.from_residual.result
+    c.from_residual.ensures.1 in
+    rw (p.1, p.2) (answers_bad walk (ListsSome walk) ArePlacesOf c.in_err-check_withdrawn.field-0.0
+    c.in_err-check_withdrawn.ensures.err)
+
+pub returns-in_err-images : goal.returns-in_err-images
+returns-in_err-images c =
+    let walk = walk_view c.args.forest.now in
+    let p = err_from_is_err_and c.from_residual-in_err-images.result c.from_residual-in_err-images.ensures.1 in
+    rw (p.1, p.2) (answers_fault walk (ListsSome walk) ArePlacesOf c.in_err-images.field-0.0
+    c.in_ok-check_withdrawn.ensures.ok (λ some. some) c.in_err-images.ensures)
 
 pub places-requires : goal.places-requires
 places-requires c =
@@ -18,8 +40,9 @@ places-requires c =
 
 pub returns-in_err-places : goal.returns-in_err-places
 returns-in_err-places c =
+    let walk = walk_view c.args.forest.now in
     let e = c.in_ok-images.ensures in
     let seen : map listed_view c.deref.result.now ≡ e.0 = ap (λ s. map listed_view s) c.deref.ensures.value ∙ e.2 in
     let p = err_from_is_err_and c.from_residual-in_err-places.result c.from_residual-in_err-places.ensures.1 in
-    rw (p.1, p.2) (walk_lists (walk_view c.args.forest.now) e.0 c.deref.result.now e.1 seen
-    c.in_err-places.ensures.some)
+    rw (p.1, p.2)
+    (c.in_ok-check_withdrawn.ensures.ok, walk_lists walk e.0 c.deref.result.now e.1 seen c.in_err-places.ensures.some)

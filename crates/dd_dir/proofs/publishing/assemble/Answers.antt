@@ -12,13 +12,14 @@ same_versions same = ap (λ (x : Contents). x.versions) same
 
 pub returns-clause-bytes : goal.returns-clause-bytes
 returns-clause-bytes c =
-    subst (λ (m : List Parts). IfOk c.publish.result (λ bytes. bytes.items ≡ directory c.args.label.now m))
-    (same_versions c.in_ok-catalogue.ensures.best) c.publish.ensures.bytes
+    subst (λ (x : Contents). IfOk c.publish.result
+    (λ bytes. bytes.items ≡ directory c.args.label.now x.versions x.withdrawn))
+    c.in_ok-catalogue.ensures.best c.publish.ensures.bytes
 
 pub returns-clause-file : goal.returns-clause-file
 returns-clause-file c = λ ok.
-    subst (λ (m : List Parts). IsDirectory c.args.label.now (harmonised m))
-    (same_versions c.in_ok-catalogue.ensures.best) (c.publish.ensures.file ok)
+    subst (λ (x : Contents). IsDirectory c.args.label.now (harmonised x.versions) x.withdrawn)
+    c.in_ok-catalogue.ensures.best (c.publish.ensures.file ok)
 
 pub returns-clause-within : goal.returns-clause-within
 returns-clause-within c =
@@ -32,5 +33,5 @@ returns-clause-realised c =
 
 pub returns-clause-own : goal.returns-clause-own
 returns-clause-own c =
-    subst (λ (m : List Parts). IfOk c.publish.result (λ bytes. SaysItself m bytes.items))
-    (same_versions c.in_ok-catalogue.ensures.best) c.publish.ensures.own
+    subst (λ (x : Contents). IfOk c.publish.result (λ bytes. SaysItself x.versions x.withdrawn bytes.items))
+    c.in_ok-catalogue.ensures.best c.publish.ensures.own

@@ -70,7 +70,7 @@ returns-clause-walk c =
     let many : length contents.starts ≡ length new =
     c.requires.each ∙ sym filled ∙ sym (ap length c.deref_mut.ensures.value) ∙ sym same
     ∙ sym (length-map c.chain.new.slots (λ (slot : Option DataSet). option_map set_view slot)) in
-    walk_of contents slots new trees contents.id c.count_left.result full c.requires.rise many
+    walk_of contents slots new trees contents.beside c.count_left.result full c.requires.rise many
     (subst (λ (starts : List ℕ). Follows starts contents.sets contents.first 0 slots new trees)
     c.deref.ensures.value follows)
     ends refl count

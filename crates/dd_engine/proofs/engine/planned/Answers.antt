@@ -1,4 +1,4 @@
-use Rattle.std.proofs.Common.{◌<◌, All, List, ap, arith, length, refl, subst, sym, ◌∙◌, ℕ}
+use Rattle.std.proofs.Common.{◌<◌, All, List, [], ap, ap₂, arith, length, refl, subst, sym, ◌∙◌, ℕ}
 use Rattle.dd_catalogue.specs.Harmony.{harmonised}
 use Rattle.dd_keys.specs.declared.parts.Parts.{Parts}
 use Rattle.dd_layout.specs.Layouts.{layout_of}
@@ -20,8 +20,8 @@ source_picks-requires c =
     (c.deref-2.ensures.value ∙ ap (λ p. p.0.items) parts ∙ held.versions) in
     let best = best_is sources c.deref.result.now c.in_ok-catalogue.catalogue.versions c.in_ok-catalogue.ensures.best
     (c.deref.ensures.value ∙ ap (λ p. p.0.items) parts ∙ held.versions) in
-    planned_versions sources _ c.args.choice.now c.in_ok-catalogue.catalogue.versions c.in_ok-plan.plan best zips
-    c.in_ok-plan.ensures.planned
+    planned_versions sources _ c.args.choice.now c.in_ok-catalogue.catalogue.versions
+    c.in_ok-catalogue.catalogue.withdrawn c.in_ok-plan.plan best zips c.in_ok-plan.ensures.planned
 
 pub returns-clause-indexes : goal.returns-clause-indexes
 returns-clause-indexes c = λ answers held.
@@ -33,13 +33,16 @@ returns-clause-indexes c = λ answers held.
     let best = best_is sources c.deref.result.now c.in_ok-catalogue.catalogue.versions c.in_ok-catalogue.ensures.best
     (c.deref.ensures.value ∙ ap (λ p. p.0.items) parts ∙ held.versions) in
     let choice = c.args.choice.now in
+    let none = c.in_ok-catalogue.ensures.withdrawn in
     record {
-      plan = c.in_ok-plan.ensures.planned ∙ ap (λ (m : List Parts). layout_of (label_for choice m) m) best;
-      allowed = ap (λ (m : List Parts). refusal_for choice c.args.limits m) (sym best)
-          ∙ c.in_ok-plan.ensures.allowed refl;
+      plan = c.in_ok-plan.ensures.planned
+          ∙ ap₂ (λ (m : List Parts) (w : List (List ℕ)). layout_of (label_for choice m w) m w) best none;
+      allowed = ap₂ (λ (m : List Parts) (w : List (List ℕ)). refusal_for choice c.args.limits m w) (sym best)
+          (sym none) ∙ c.in_ok-plan.ensures.allowed refl;
       skipped = ap (λ p. p.2.items) parts ∙ held.skips;
-      picks = planned_picks sources _ choice c.in_ok-catalogue.catalogue.versions c.in_ok-plan.plan
-          c.in_ok-picks.picks.items best zips c.in_ok-plan.ensures.planned c.in_ok-picks.ensures.all;
+      picks = planned_picks sources _ choice c.in_ok-catalogue.catalogue.versions c.in_ok-catalogue.catalogue.withdrawn
+          c.in_ok-plan.plan c.in_ok-picks.picks.items best none zips c.in_ok-plan.ensures.planned
+          c.in_ok-picks.ensures.all;
     }
 
 pub returns-clause-within : goal.returns-clause-within
@@ -51,6 +54,6 @@ returns-clause-within c = λ answers held.
       picks =
           let m = best_of_sources (accepted answers) in
           holds_of_picks (λ (at : ℕ). at < length answers) (files_of (accepted answers)) (harmonised m)
-          (records_of (label_for c.args.choice.now m) (harmonised m)) _
+          (records_of (label_for c.args.choice.now m []) (harmonised m)) _
           (accepted_below (length answers) 0 answers (omega arith)) indexed.picks;
     }

@@ -1,29 +1,36 @@
-use Rattle.std.proofs.Common.{List, ap, refl, sym, ◌∙◌}
-use Rattle.dd_catalogue.specs.Versions.{best_of}
-use Rattle.dd_keys.specs.declared.parts.Parts.{Parts}
+use Rattle.std.proofs.Common.{ap, refl, sym, ◌∙◌, ◌++◌}
+use Rattle.dd_catalogue.specs.Contents.{Contents}
 use Rattle.dd_layout.specs.Layouts.{layout_of}
 use Rattle.dd_engine.specs.Choosing.{label_for, refusal_for}
-use Rattle.dd_engine.proofs.MergePlans.{picked_of, planned_of}
+use Rattle.dd_engine.specs.Merging.{held_in, numbered, stands_in, withdrawn_in}
+use Rattle.dd_engine.proofs.MergePlans.{held_all, picked_of, planned_of}
 use Rattle.dd_engine.proofs.merge.planned.Goals as goal
 
 pub place_picks-requires : goal.place_picks-requires
 place_picks-requires c =
-    let held = c.requires.1 in
-    let best = c.in_ok-catalogue.ensures.best ∙ ap best_of (c.deref.ensures.value ∙ held.versions) in (
-      c.requires.0,
-      planned_of c.requires.0 c.args.choice.now c.in_ok-catalogue.catalogue.versions c.in_ok-plan.plan best
+    let given = c.requires.0 in
+    let listings = c.requires.1 in
+    let gathers = c.requires.2 in
+    let is = c.in_ok-catalogue.ensures.held
+    ∙ held_all _ _ _ _ (c.deref.ensures.value ∙ gathers.versions) (c.deref-2.ensures.value ∙ gathers.withdrawn) in (
+      numbered 0 listings,
+      given ++ withdrawn_in listings,
+      planned_of c.args.choice.now (held_in given listings) c.in_ok-catalogue.catalogue c.in_ok-plan.plan is
           c.in_ok-plan.ensures.planned,
-      held,
+      gathers,
     )
 
 pub returns : goal.returns
-returns c = λ images held.
-    let best = c.in_ok-catalogue.ensures.best ∙ ap best_of (c.deref.ensures.value ∙ held.versions) in
+returns c = λ given listings gathers.
+    let is = c.in_ok-catalogue.ensures.held
+    ∙ held_all _ _ _ _ (c.deref.ensures.value ∙ gathers.versions) (c.deref-2.ensures.value ∙ gathers.withdrawn) in
     let choice = c.args.choice.now in
     record {
-      plan = c.in_ok-plan.ensures.planned ∙ ap (λ (m : List Parts). layout_of (label_for choice m) m) best;
-      allowed = ap (λ (m : List Parts). refusal_for choice c.args.limits m) (sym best)
+      plan = c.in_ok-plan.ensures.planned
+          ∙ ap (λ (d : Contents). layout_of (label_for choice d.versions d.withdrawn) d.versions d.withdrawn) is;
+      allowed = ap (λ (d : Contents). refusal_for choice c.args.limits d.versions d.withdrawn) (sym is)
           ∙ c.in_ok-plan.ensures.allowed refl;
-      picks = picked_of images choice c.in_ok-catalogue.catalogue.versions c.in_ok-plan.plan c.in_ok-picks.picks.items
-          best c.in_ok-plan.ensures.planned (c.in_ok-picks.ensures images held);
+      picks = picked_of (stands_in listings) choice (held_in given listings) c.in_ok-catalogue.catalogue
+          c.in_ok-plan.plan c.in_ok-picks.picks.items is c.in_ok-plan.ensures.planned
+          (c.in_ok-picks.ensures (numbered 0 listings) (given ++ withdrawn_in listings) gathers);
     }

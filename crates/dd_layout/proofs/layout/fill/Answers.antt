@@ -1,5 +1,5 @@
 use Rattle.std.specs.Prelude.{All, length}
-use Rattle.std.proofs.Common.{refl, sym, subst}
+use Rattle.std.proofs.Common.{refl, sym, subst, arith}
 use Rattle.dd_layout.specs.Layouts.{IsSound}
 use Rattle.dd_layout.specs.Records.{IsFileOf}
 use Rattle.dd_layout.proofs.Leasts.{sound}
@@ -14,7 +14,7 @@ returns-clause-full c =
     let linked = c.link.ensures label versions (c.in-Some-place.ensures.placed refl) in
     record {
       records = linked;
-      size = c.in-Some-place.ensures.fits.1;
+      size = omega (arith, c.in-Some-place.ensures.fits.1, c.withdrawals_size-behind.ensures);
       sound = subst (λ rows. All (IsSound (length versions)) rows) (sym linked)
           (sound label versions (subst (λ rows. All (λ row. IsFileOf row.level row.file) rows) numbered files));
     }

@@ -54,7 +54,7 @@ loop-record-preserved c = record {
   fits = c.if-end-most-2.false;
 }
 
--- the last end is the size
+-- the last end is that of the records
 pub returns-clause-fits : goal.returns-clause-fits
 returns-clause-fits c =
     let end = end_known c.args.label.now c.args.versions.now c.args.records.now c.loop-record.record-index

@@ -12,4 +12,4 @@ returns c =
     let given = values_or_none c.get_strs.result _ c.unwrap_or-values.result _ c.unwrap_or-values.ensures refl
     (c.get_strs.ensures ∙ raw_values-rows (found_of c.args.given.now) c.args.name.now) in
     let all = take_all c.loop-value.value-index c.unwrap_or-values.result.now c.loop-value-test.false in
-    λ _. c.loop-value.invariant ∙ ap (λ xs. words_of c.args.paths.now.items ++ xs) (ap (map (λ x. x.now)) all ∙ given)
+    λ _. c.loop-value.invariant ∙ ap (λ xs. words_of c.args.words.now.items ++ xs) (ap (map (λ x. x.now)) all ∙ given)

@@ -4,4 +4,4 @@ use Rattle.dd_line.proofs.line.append_values.Given as goal
 
 abbrev pub invariant-loop-value : goal.invariant-loop-value
 invariant-loop-value l =
-    words_of l.paths.items ≡ words_of l.initial.paths.items ++ map (λ v. v.now) (take l.value-index l.values)
+    words_of l.words.items ≡ words_of l.initial.words.items ++ map (λ v. v.now) (take l.value-index l.values)

@@ -12,6 +12,7 @@ returns c =
     record { app = search rules; local = search rules } in
     let index = with_sub _ _ _ _ _ start c.in_ok-index_command.ensures c.in_ok-subcommand.ensures in
     let merge = with_sub _ _ _ _ _ index c.in_ok-merge_command.ensures c.in_ok-subcommand-2.ensures in
-    let check = with_sub _ _ _ _ _ merge c.in_ok-check_command.ensures c.in_ok-subcommand-3.ensures in
-    IfOk-weaker c.subcommand-4.result _ _
-    (λ m adds. with_sub _ _ _ _ _ check c.in_ok-list_command.ensures adds) c.subcommand-4.ensures
+    let withdraw = with_sub _ _ _ _ _ merge c.in_ok-withdraw_command.ensures c.in_ok-subcommand-3.ensures in
+    let check = with_sub _ _ _ _ _ withdraw c.in_ok-check_command.ensures c.in_ok-subcommand-4.ensures in
+    IfOk-weaker c.subcommand-5.result _ _
+    (λ m adds. with_sub _ _ _ _ _ check c.in_ok-list_command.ensures adds) c.subcommand-5.ensures

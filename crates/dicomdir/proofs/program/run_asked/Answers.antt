@@ -8,7 +8,7 @@ returns-in-Ok-run_verb-clause-empty g c = λ has.
     absurd (c.in-None.ensures.none refl has.0 (subst (λ paths. IsEmptyAt paths has.0) (sym c.as_slice.ensures.value)
     has.1))
 
-pub returns-in-Err-run_verb-clause-empty : goal.returns-in-Err-run_verb-clause-empty
-returns-in-Err-run_verb-clause-empty g c = λ has.
+pub returns-clause-empty : goal.returns-clause-empty
+returns-clause-empty g c = λ has.
     absurd (c.in-None.ensures.none refl has.0 (subst (λ paths. IsEmptyAt paths has.0) (sym c.as_slice.ensures.value)
     has.1))

@@ -9,5 +9,6 @@ pub returns-clause-within : goal.returns-clause-within
 returns-clause-within c =
     let label = c.self.inside.label in
     let versions = c.self.inside.catalogue.versions in
-    rw (← c.self.view_is) (subst (λ rows. All (StandsWithin (size label versions)) rows)
-    (sym (c.deref.ensures.value ∙ c.self.invariant.records)) (records_within label versions))
+    let withdrawn = c.self.inside.catalogue.withdrawn in
+    rw (← c.self.view_is) (subst (λ rows. All (StandsWithin (size label versions withdrawn)) rows)
+    (sym (c.deref.ensures.value ∙ c.self.invariant.records)) (records_within label versions withdrawn))

@@ -1,0 +1,63 @@
+//! The elements that name the withdrawn instances, behind the records of a directory.
+
+ghost use Rattle.std.specs.Prelude.{◌≡◌, ◌+◌, ◌*◌, ◌≤◌, length, sum_by};
+ghost use Rattle.dd_layout.specs.Cells.{IsShort, cell_entry, even_value};
+ghost use Rattle.dd_layout.specs.Withdrawals.{creator_entry, withdrawals_size, withdrawn_value};
+
+use crate::cell::{Cell, CellValue, header_size};
+use crate::field::PRIVATE_CREATOR;
+use crate::table::CREATOR;
+use dd_elem::{Tag, Uid, Vr};
+
+/// The tag of the withdrawn SOP Instance UIDs, a private element of `PRIVATE_CREATOR` (PS3.5 section
+/// 7.8.1).
+pub const WITHDRAWN: Tag = Tag {
+    group: 0x0009,
+    element: 0x1002,
+};
+
+/// The creator of the block of private elements that the withdrawn UIDs stand in (PS3.5 section 7.8.1).
+pub fn creator_cell() -> Cell<'static>
+    ensures exact { cell_entry result ≡ creator_entry }
+    ensures short { IsShort (even_value result.value) }
+{
+    Cell {
+        tag: CREATOR.tag,
+        vr: CREATOR.vr,
+        value: CellValue::Text(PRIVATE_CREATOR),
+    }
+}
+
+/// How many bytes the elements take that name these UIDs: none where no UID is withdrawn.
+pub fn withdrawals_size(withdrawn: &[Uid]) -> u128
+    ensures { result ≡ withdrawals_size withdrawn.now }
+{
+    if withdrawn.is_empty() {
+        return 0;
+    }
+    let headers = creator_cell().size() + header_size(Vr::UC);
+    u128::from(headers) + withdrawn_length(withdrawn)
+}
+
+/// How many bytes the value of the element has that names these UIDs: they are joined by `\` and padded
+/// to even length (PS3.5 sections 6.2 and 6.4).
+pub fn withdrawn_length(withdrawn: &[Uid]) -> u128
+    ensures exact { result ≡ length (withdrawn_value withdrawn.now) }
+    ensures few { result ≤ 65 * length withdrawn.now }
+{
+    let length = closed_length(withdrawn);
+    length - length % 2
+}
+
+/// How many bytes these UIDs have, each with one byte behind it, so at most 65 for each.
+fn closed_length(mut withdrawn: &[Uid]) -> u128
+    ensures exact { result ≡ sum_by (λ uid. length uid + 1) withdrawn.entry.now }
+    ensures few { result ≤ 65 * length withdrawn.entry.now }
+{
+    let mut length = 0;
+    while let [uid, rest @ ..] = withdrawn {
+        length += uid.as_bytes().len() as u128 + 1;
+        withdrawn = rest;
+    }
+    length
+}

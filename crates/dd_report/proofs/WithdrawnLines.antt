@@ -1,0 +1,103 @@
+-- The lines of what is withdrawn: the first piece of a value, and the pieces that went so far.
+use Rattle.std.proofs.Common.{◌≡◌, ◌∙◌, ◌==◌, ℕ, Bool, true, false, cond, List, [], ◌∷◌, ◌++◌, ◌+◌, ◌-◌, ◌<◌, ◌≤◌}
+use Rattle.std.proofs.Common.{Option, Some, None, Result, length, take, drop, ap, sym, subst, refl, arith}
+use Rattle.std.proofs.Common.{append_assoc, append-nil, length-drop, nat_lt}
+use Rattle.std.specs.Prelude.{IsErr, option_map}
+use Rattle.std.specs.Borrow.{Bor}
+use Rattle.std.specs.List.{position, position_or_len}
+use Rattle.std.proofs.lemmas.Bool.Decides.{nat_tests}
+use Rattle.std.proofs.lemmas.List.{take_all}
+use Rattle.std.proofs.lemmas.List.Splits.{slice_split_first, slice_split_none}
+use Rattle.std.proofs.lemmas.List.Sums.{fails_before_first}
+use Rattle.std.proofs.lemmas.Grind.{flat_map-append}
+use Rattle.std.proofs.lemmas.Option.{same_Some}
+use Rattle.dd_dir.specs.Withdrawn.{pieces_in, pieces_of}
+use Rattle.dd_report.specs.Listing.{withdrawn_line, withdrawn_lines}
+use Rattle.dd_report.specs.Telling.{Fails, GoesOn, Tells, Way}
+use Rattle.dd_report.proofs.GoingOn.{fails_behind, fails_front, goes_none, goes_then, tells_err}
+
+-- ---- the first piece
+
+-- where the first separator stands
+abbrev at_first : List ℕ → ℕ
+at_first value = position_or_len (λ byte. byte == 92) value
+
+found_is : (value : List ℕ) (at : ℕ) → Some at ≡ position (λ byte. byte == 92) value
+    → (at_first value < length value) × (at_first value ≡ at)
+found_is value at is = go (nat_lt (at_first value) (length value)) refl is
+  where
+    go : (t : Bool) → nat_lt (at_first value) (length value) ≡ t → Some at ≡ cond t (Some (at_first value)) None
+        → (at_first value < length value) × (at_first value ≡ at)
+    go true t is = (search (arith, nat_tests, t), same_Some (at_first value) at (sym is))
+    go false t is = absurd (cc)
+
+-- there is a separator, and behind it the other pieces
+pub some_behind : (value : List ℕ) (at : ℕ) → Some at ≡ position (λ byte. byte == 92) value
+    → pieces_of value ≡ take at value ∷ pieces_of (take (length value - (at + 1)) (drop (at + 1) value))
+some_behind value at is =
+    let found = found_is value at is in
+    let rest = take_all (length value - (at + 1)) (drop (at + 1) value) (omega (arith, length-drop (at + 1) value)) in
+    slice_split_first (λ byte. byte == 92) value 0 found.0
+    ∙ ap (λ (n : ℕ). take n value ∷ pieces_of (drop (n + 1) value)) found.1
+    ∙ ap (λ (xs : List ℕ). take at value ∷ pieces_of xs) (sym rest)
+
+-- there is none, and the value is the one piece
+pub none_behind : (value : List ℕ) → None ≡ position (λ byte. byte == 92) value → pieces_of value ≡ value ∷ []
+none_behind value is = go (nat_lt (at_first value) (length value)) refl is
+  where
+    go : (t : Bool) → nat_lt (at_first value) (length value) ≡ t → None ≡ cond t (Some (at_first value)) None
+        → pieces_of value ≡ value ∷ []
+    go true t is = absurd (cc)
+    go false t is =
+        let past : length value ≤ at_first value = search (arith, nat_tests, t) in
+        slice_split_none (λ byte. byte == 92) value
+        (λ k d within. fails_before_first (λ byte. byte == 92) value k d (omega (arith, within, past)))
+
+-- ---- the pieces so far
+
+-- what stands behind the pieces that went
+abbrev pub left : Option (Bor (List ℕ)) → List (List ℕ)
+left rest = pieces_in (option_map (λ value. value.now) rest)
+
+-- some pieces went, and these are left
+pub record PiecesWent (value : List ℕ) (rest : List (List ℕ)) (old new : Way) : Type 0 where
+  pub gone : List (List ℕ)
+  pub all : pieces_of value ≡ gone ++ rest
+  pub went : GoesOn (withdrawn_lines gone) old new
+
+pub none_went : (value : List ℕ) (w : Way) → PiecesWent value (pieces_of value) w w
+none_went value w = record { gone = []; all = refl; went = goes_none w }
+
+one_line : (piece : List ℕ) → withdrawn_lines (piece ∷ []) ≡ withdrawn_line piece
+one_line piece = append-nil (withdrawn_line piece)
+
+pub piece_went : (value piece : List ℕ) (rest behind : List (List ℕ)) (a b c : Way) → rest ≡ piece ∷ behind
+    → PiecesWent value rest a b → GoesOn (withdrawn_line piece) b c → PiecesWent value behind a c
+piece_went value piece rest behind a b c is so_far next = record {
+  gone = so_far.gone ++ piece ∷ [];
+  all = so_far.all ∙ ap (λ (xs : List (List ℕ)). so_far.gone ++ xs) is
+      ∙ sym (append_assoc so_far.gone (piece ∷ []) behind);
+  went = subst (λ (text : List ℕ). GoesOn text a c)
+      (sym (flat_map-append withdrawn_line so_far.gone (piece ∷ [])
+      ∙ ap (λ (xs : List ℕ). withdrawn_lines so_far.gone ++ xs) (one_line piece)))
+      (goes_then (withdrawn_lines so_far.gone) (withdrawn_line piece) a b c so_far.went next);
+}
+
+pub pieces_went : (value : List ℕ) (rest : List (List ℕ)) (a b : Way) → rest ≡ [] → PiecesWent value rest a b
+    → GoesOn (withdrawn_lines (pieces_of value)) a b
+pieces_went value rest a b none so_far =
+    subst (λ (pieces : List (List ℕ)). GoesOn (withdrawn_lines pieces) a b)
+    (sym (so_far.all ∙ ap (λ (xs : List (List ℕ)). so_far.gone ++ xs) none ∙ append-nil so_far.gone)) so_far.went
+
+-- the writer failed in the next one
+pub piece_fails : {T E : Type 0} (r : Result T E) (value piece : List ℕ) (rest behind : List (List ℕ)) (a b c : Way)
+    → IsErr r → rest ≡ piece ∷ behind → PiecesWent value rest a b → Fails (withdrawn_line piece) b c
+    → Tells r (withdrawn_lines (pieces_of value)) a c
+piece_fails r value piece rest behind a b c err is so_far failed =
+    let all : withdrawn_lines (pieces_of value)
+    ≡ withdrawn_lines so_far.gone ++ (withdrawn_line piece ++ withdrawn_lines behind) =
+    ap withdrawn_lines (so_far.all ∙ ap (λ (xs : List (List ℕ)). so_far.gone ++ xs) is)
+    ∙ flat_map-append withdrawn_line so_far.gone (piece ∷ behind) in
+    tells_err r (withdrawn_lines (pieces_of value)) a c err (subst (λ (text : List ℕ). Fails text a c) (sym all)
+    (fails_behind (withdrawn_lines so_far.gone) (withdrawn_line piece ++ withdrawn_lines behind) a b c so_far.went
+    (fails_front (withdrawn_line piece) (withdrawn_lines behind) b c failed)))

@@ -1,0 +1,19 @@
+-- Behind the lines of the records those of what is withdrawn, and then their number.
+use Rattle.dd_report.proofs.ListedLines.{all_listed, records_fail, withdrawn_fails}
+use Rattle.dd_report.proofs.listing.list_forest.Goals as goal
+
+pub returns-in_err-list_trees : goal.returns-in_err-list_trees
+returns-in_err-list_trees g c =
+    records_fail c.from_residual.result c.args.forest.now c.deref.result.now _ _ c.from_residual.ensures.0
+    c.deref.ensures.value c.in_err-list_trees.ensures
+
+pub returns-in_err-list_withdrawn : goal.returns-in_err-list_withdrawn
+returns-in_err-list_withdrawn g c =
+    withdrawn_fails c.from_residual-in_err-list_withdrawn.result c.args.forest.now c.deref.result.now _ _ _
+    c.from_residual-in_err-list_withdrawn.ensures.0 c.deref.ensures.value c.in_ok-list_trees.ensures
+    c.in_err-list_withdrawn.ensures
+
+pub returns : goal.returns
+returns g c =
+    all_listed c.list_totals.result c.args.forest.now c.deref.result.now _ _ _ _ c.deref.ensures.value
+    c.in_ok-list_trees.ensures c.in_ok-list_withdrawn.ensures c.list_totals.ensures

@@ -1,0 +1,15 @@
+-- The line of a piece more went, or the writer failed in it.
+use Rattle.std.proofs.Common.{◌∙◌, ap}
+use Rattle.dd_report.proofs.WithdrawnLines.{left, piece_fails, piece_went}
+use Rattle.dd_report.proofs.listing.list_pieces.Goals as goal
+
+pub returns-in_err-list_piece : goal.returns-in_err-list_piece
+returns-in_err-list_piece g c =
+    piece_fails c.from_residual.result c.args.value.now c.first_piece.result.0.now (left c.loop-rest.rest)
+    (left c.first_piece.result.1) _ _ _ c.from_residual.ensures.0 (ap left c.in-Some.is ∙ c.first_piece.ensures)
+    c.loop-rest.invariant c.in_err-list_piece.ensures
+
+pub loop-rest-preserved : goal.loop-rest-preserved
+loop-rest-preserved g c =
+    piece_went c.args.value.now c.first_piece.result.0.now (left c.loop-rest.rest) (left c.first_piece.result.1) _ _ _
+    (ap left c.in-Some.is ∙ c.first_piece.ensures) c.loop-rest.invariant c.in_ok-list_piece.ensures
