@@ -1,9 +1,8 @@
 -- A table has each study or series that is filed under two owners; a version whose study and series are not in it
 -- conflicts with none.
-use Rattle.std.specs.Prelude.{◌≡◌, ◌<◌, ℕ, ◌-◌, length, get_or, take, drop, Bool, true, false, not, ◌&&◌, ◌||◌, List}
+use Rattle.std.specs.Prelude.{◌≡◌, ◌<◌, ℕ, length, get_or, Bool, true, false, not, ◌&&◌, ◌||◌, List}
 use Rattle.std.specs.Prelude.{[], ◌∷◌, map, filter, find, Option, Some, None, is_some, unwrap_or}
 use Rattle.std.proofs.Common.{refl, sym, ◌∙◌, ap, subst, inl, inr, arith}
-use Rattle.std.proofs.lemmas.List.{take_all}
 use Rattle.std.proofs.lemmas.Map.Lookups.{exact_bytes}
 use Rattle.std.proofs.lemmas.Option.{none-some}
 use Rattle.dd_elem.specs.Ordered.{bytes_cmp}
@@ -17,6 +16,7 @@ use Rattle.dd_catalogue.proofs.BestMembers.{absorbed, one_itself}
 use Rattle.dd_catalogue.specs.Clash.{same, splits, conflicts, pair_or, clash}
 use Rattle.dd_catalogue.specs.Owners.{Filing, uid_of, owner_of, filing_cmp, filing_total, filing_apart}
 use Rattle.dd_catalogue.specs.Owners.{is_of_another_owner, HasThoseOfTwoOwners, study_filing, series_filing}
+use Rattle.dd_catalogue.proofs.FirstAndRest.{first_and_rest, rest_of}
 use Rattle.dd_catalogue.proofs.Places.{by_key}
 use Rattle.dd_elem.proofs.Sameness.{same_bytes}
 
@@ -145,17 +145,6 @@ clash_alone v rest e =
     by_option (find (conflicts v) rest) (λ f. rw f refl) (λ w f. let is = rw f at e in absurd (none-some _ (sym is)))
 
 -- ---- the versions that are left, and all but the first of them
-
-abbrev pub rest_of : List Parts → List Parts
-rest_of m = take (length m - 1) (drop 1 m)
-
-rest_is : (v : Parts) (m : List Parts) → rest_of (v ∷ m) ≡ m
-rest_is v m = let less : length (v ∷ m) - 1 ≡ length m = omega arith in
-    ap (λ n. take n m) less ∙ take_all (length m) m (omega arith)
-
-first_and_rest : (m : List Parts) (x : Parts) → 0 < length m → x ≡ get_or m 0 x → m ≡ x ∷ rest_of m
-first_and_rest [] x below read = absurd (omega arith)
-first_and_rest (v ∷ m) x below read = ap (λ y. y ∷ m) (sym read) ∙ ap (λ r. x ∷ r) (sym (rest_is v m))
 
 pub later_within : (all m : List Parts) (x : Parts) → 0 < length m → x ≡ get_or m 0 x
     → ((v : Parts) → Member v m → Member v all)

@@ -204,10 +204,10 @@ impl Catalogue {
         self.withdrawn.has(instance.as_bytes())
     }
 
-    /// Takes a version. It is kept where its instance is not withdrawn and none of its instance is there,
-    /// or one that is smaller, which is handed back; else it is handed back itself. Refused where a growth
-    /// was: the version is handed back and nothing has changed. No memory is taken where the instance is
-    /// held or withdrawn.
+    /// Takes a version. It is kept where its instance is not withdrawn, and the catalogue has no version of
+    /// that instance, or a smaller one, which is handed back; else it is handed back itself. Refused where a
+    /// growth was: the version is handed back and nothing has changed. No memory is taken where the instance
+    /// is held or withdrawn.
     pub fn take(&mut self, version: Version) -> Result<Took, Refused>
         ensures ok { OnOk result (self.new ≡ held_of (and_version version self.old)) }
         ensures took { IfOk result (λ took. took ≡ took_of self.old version) }

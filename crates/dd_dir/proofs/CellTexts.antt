@@ -41,7 +41,7 @@ cell_at cells i d within =
     at_drop_more (λ cs. elements_text (elements_of (map cell_entry cs))) cells i d within
     ∙ entry_first (cell_entry (get_or cells i d)) (elements_of (map cell_entry (drop (i + 1) cells)))
 
--- those behind it are short where those that are left are
+-- the cells behind the first one are short where all remaining cells are
 pub rest_short : (cells : List Cell) (i : ℕ) → AllByRecursion IsShortEntry (map cell_entry (drop i cells))
     → AllByRecursion IsShortEntry (map cell_entry (drop (i + 1) cells))
 rest_short [] zero short = tt

@@ -1,12 +1,12 @@
 -- The text of the elements with the withdrawn UIDs as the pieces that are sent.
 use Rattle.std.proofs.Common.{◌≡◌, ℕ, ◌+◌, ◌-◌, ◌<◌, ◌^◌, ◌%◌, ◌==◌, Bool, true, false, List, [], ◌∷◌, ◌++◌, length}
-use Rattle.std.proofs.Common.{take, drop, get_or, Some, if◌then◌else◌}
+use Rattle.std.proofs.Common.{get_or, Some, if◌then◌else◌}
 use Rattle.std.proofs.Common.{refl, sym, ap, ◌∙◌, arith, append_assoc, append-nil}
 use Rattle.std.specs.List.{join_with_byte}
-use Rattle.std.proofs.lemmas.List.{take_all}
 use Rattle.dd_elem.specs.declared.vr.Vr.TheVariants.{UC}
 use Rattle.dd_set.specs.Elements.{Entry}
 use Rattle.dd_set.specs.Spelling.{header_text, shape_text, tag_text}
+use Rattle.dd_catalogue.proofs.FirstAndRest.{first_and_rest, rest_of}
 use Rattle.dd_layout.specs.Entries.{bytes_entry, tag}
 use Rattle.dd_layout.specs.Withdrawals.{creator_entry, withdrawal_entries, withdrawals_size, withdrawn_value}
 use Rattle.dd_layout.proofs.Lengths.{length-padded}
@@ -17,7 +17,8 @@ use Rattle.dd_dir.proofs.RowTexts.{text-append, text-one, text_of}
 abbrev pub withdrawn_header : ℕ → List ℕ
 withdrawn_header count = header_text (tag 0x0009 0x1002) (Some UC) count
 
--- the elements are sent as that of the creator, the header of the other, and its value
+-- three pieces are sent one after the other: the element with the creator, then the header of the element with the
+-- UIDs, then its value
 pub withdrawal_parts : (withdrawn : List (List ℕ)) (count : ℕ) → 0 < length withdrawn
     → count ≡ length (withdrawn_value withdrawn)
     → text_of (creator_entry ∷ []) ++ (withdrawn_header count ++ withdrawn_value withdrawn)
@@ -32,7 +33,7 @@ withdrawal_parts (uid ∷ withdrawn) count some is =
     ∙ sym (text-one entry))
     ∙ sym (text-append (creator_entry ∷ []) (entry ∷ []))
 
--- the text of the creator as that of its cell
+-- the creator's element has the same text as its cell
 pub creator_text : (entry : Entry) → entry ≡ creator_entry → text_of (entry ∷ []) ≡ text_of (creator_entry ∷ [])
 creator_text entry is = ap (λ (e : Entry). text_of (e ∷ [])) is
 
@@ -48,7 +49,7 @@ none_withdrawn (uid ∷ withdrawn) none = absurd (omega (arith, none))
 
 -- ---- the value
 
--- it is sent as the joined UIDs and the padding
+-- the value is the joined UIDs, and then the padding
 pad_behind : (even : Bool) (v : List ℕ) → v ++ (if even then [] else 0x20 ∷ []) ≡ (if even then v else v ++ 0x20 ∷ [])
 pad_behind true v = append-nil v
 pad_behind false v = refl
@@ -71,22 +72,7 @@ joined_fits withdrawn sent fits =
 
 -- ---- the joined UIDs
 
--- the UIDs that are left, but for the first of them
-abbrev pub rest_of : List (List ℕ) → List (List ℕ)
-rest_of uids = take (length uids - 1) (drop 1 uids)
-
-rest_is : (uid : List ℕ) (uids : List (List ℕ)) → rest_of (uid ∷ uids) ≡ uids
-rest_is uid uids =
-    let less : length (uid ∷ uids) - 1 ≡ length uids = omega arith in
-    ap (λ n. take n uids) less ∙ take_all (length uids) uids (omega arith)
-
-pub first_and_rest : (uids : List (List ℕ)) (uid : List ℕ) → 0 < length uids → uid ≡ get_or uids 0 uid
-    → uids ≡ uid ∷ rest_of uids
-first_and_rest [] uid some read = absurd (omega (arith, some))
-first_and_rest (x ∷ uids) uid some read =
-    ap (λ y. y ∷ uids) (sym read) ∙ ap (λ r. uid ∷ r) (sym (rest_is x uids))
-
--- what stands behind a UID, where these stand behind it
+-- what follows a UID in the joined text, where these UIDs come next
 abbrev pub joined_behind : List (List ℕ) → List ℕ
 joined_behind [] = []
 joined_behind (uid ∷ uids) = 0x5c ∷ join_with_byte 0x5c (uid ∷ uids)
@@ -95,14 +81,14 @@ joined_more : (uid : List ℕ) (uids : List (List ℕ)) → join_with_byte 0x5c 
 joined_more uid [] = sym (append-nil uid)
 joined_more uid (x ∷ uids) = refl
 
--- the UIDs that are left are sent as the first of them and what stands behind it
+-- UIDs that remain are joined as the first of them, and then what follows it
 pub joined_at : (uids : List (List ℕ)) (uid seen : List ℕ) → 0 < length uids → uid ≡ get_or uids 0 uid → seen ≡ uid
     → join_with_byte 0x5c uids ≡ seen ++ joined_behind (rest_of uids)
 joined_at uids uid seen some read same =
     ap (λ us. join_with_byte 0x5c us) (first_and_rest uids uid some read) ∙ joined_more uid (rest_of uids)
     ∙ ap (λ v. v ++ joined_behind (rest_of uids)) (sym same)
 
--- which is a mark and the others
+-- what follows a UID is a mark, and then the other UIDs
 pub joined_by : (uids : List (List ℕ)) (uid seen mark : List ℕ) → 0 < length uids → uid ≡ get_or uids 0 uid
     → seen ≡ uid → ((u : List ℕ) → join_with_byte 0x5c (u ∷ rest_of uids)
     ≡ u ++ (mark ++ join_with_byte 0x5c (rest_of uids)))

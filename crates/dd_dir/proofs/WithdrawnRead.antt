@@ -93,7 +93,7 @@ written_pieces first others each =
     ap pieces_of (clean_of-padded 0x20 (join_with_byte 92 (first ∷ others)) refl ∙ joined_clean (first ∷ others) each)
     ∙ joined_pieces first others each
 
--- so a directory names those that it is written with
+-- so what is read from a directory is the list of UIDs that was written into it
 pub withdrawn_read : (label : Label) (versions : List Parts) (withdrawn : List (List ℕ))
     → AllByRecursion IsUid withdrawn → pieces_in (withdrawn_in (directory_set label versions withdrawn)) ≡ withdrawn
 withdrawn_read label versions [] each = refl

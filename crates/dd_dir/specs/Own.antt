@@ -1,5 +1,5 @@
--- Which images a directory lists whose records are those that are written here (PS3.3 sections F.3 to F.5): the IMAGE
--- records, each with those above it; or the first check that a record fails, depth first.
+-- Which images a directory that this crate wrote lists (PS3.3 sections F.3 to F.5): the IMAGE records, each with the
+-- records above it; or the first check that a record fails, depth first.
 use Rattle.std.specs.Prelude.{◌≡◌, ◌≢◌, ◌⊎◌, ℕ, Bool, true, false, not, ◌&&◌, ◌==◌, nat_le, List, [], ◌∷◌, ◌++◌}
 use Rattle.std.specs.Prelude.{length, find, Option, Some, None, is_some, option_and_then, option_map, Result, Ok, Err}
 use Rattle.std.specs.Prelude.{if◌then◌else◌}

@@ -106,7 +106,8 @@ AnswersWalk walk IsWanted IsAnswer (Err BadWithdrawal) = AreRisingUids (withdraw
 AnswersWalk walk IsWanted IsAnswer result =
     AreRisingUids (withdrawn_of walk) × Answers (own walk) IsWanted IsAnswer result
 
--- why the records of a walk, or what names its withdrawn UIDs, are not those that are written here
+-- why this crate would not have written the directory: its withdrawn UIDs are no rising list of UIDs, or a record fails
+-- a check
 abbrev pub FailsOwn : Walk → OwnFault → Type 0
 FailsOwn walk BadWithdrawal = AreRisingUids (withdrawn_of walk) → ⊥
 FailsOwn walk fault = AreRisingUids (withdrawn_of walk) × (own walk ≡ Err fault)

@@ -10,7 +10,7 @@ use Rattle.dd_dir.specs.Trees.{Walk}
 abbrev pub pieces_of : List ℕ → List (List ℕ)
 pieces_of value = slice_split (λ byte. byte == 92) value
 
--- those of the value that names the withdrawn UIDs, where there is one
+-- the pieces of the value that names the withdrawn UIDs; no pieces where the directory has no such value
 abbrev pub pieces_in : Option (List ℕ) → List (List ℕ)
 pieces_in None = []
 pieces_in (Some value) = pieces_of value

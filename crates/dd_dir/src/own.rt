@@ -53,8 +53,8 @@ impl Drop for Own<'_> {
     }
 }
 
-/// What a directory says whose records are those that are written here; its records are gone over once.
-/// Refused as `catalogue_of` refuses.
+/// Reads what a directory that this crate wrote lists and withdraws, in one pass over its records. Refused as
+/// `catalogue_of` refuses.
 pub fn own_of<'a>(alloc: Global, forest: &Forest<'a>) -> Result<Own<'a>, OwnFault>
     ensures { AnswersWalk (walk_view forest.now) (NamesSome (walk_view forest.now))
         (Tells (withdrawn_of (walk_view forest.now))) result }
@@ -64,12 +64,12 @@ pub fn own_of<'a>(alloc: Global, forest: &Forest<'a>) -> Result<Own<'a>, OwnFaul
     Ok(told(alloc, forest.withdrawn, &images)?)
 }
 
-/// The best of the versions of the images that a directory lists whose records are those that are
-/// written here, without those that it withdraws, and the UIDs that it withdraws. Otherwise the first check
-/// that fails: BadWithdrawal, or that of a record, depth first: it is not in use or its type is not the one
-/// of its level, it is of an image without a digest, or the first of its elements in the order of tags is
-/// not what it must be. Memory where a growth was refused, which wants an image before the first such
-/// record, or a withdrawn UID.
+/// Makes the catalogue of a directory that this crate wrote: the best of the versions of the images that it
+/// lists and does not withdraw, and the UIDs that it withdraws. Otherwise the first check that fails:
+/// BadWithdrawal, or a check of a record, depth first: the record is not in use or its type is not the one of
+/// its level, it is of an image without a digest, or the first of its elements in the order of tags is not
+/// what it must be. Memory where a growth was refused, which wants an image before the first such record, or
+/// a withdrawn UID.
 pub fn catalogue_of(alloc: Global, forest: &Forest<'_>) -> Result<Catalogue, OwnFault>
     ensures { AnswersWalk (walk_view forest.now) (NamesSome (walk_view forest.now))
         (λ images catalogue. catalogue ≡ held_of (record {

@@ -7,8 +7,8 @@ use dd_elem::Tag;
 use std::alloc::{AllocError, AllocFailed};
 use thiserror::Error;
 
-/// The first check that a directory fails as one that is written here: that of its withdrawn UIDs, or of
-/// its records, depth first. The offset is that of the record, from the first byte of the file.
+/// Says why this crate would not have written a directory: the first check that fails, of its withdrawn UIDs
+/// or of a record, depth first. An offset says where the record starts, from the first byte of the file.
 #[derive(Debug, Clone, Copy, PartialEq, Eq, Error)]
 pub enum OwnFault {
     /// The IMAGE record has no digest of its file.
@@ -20,7 +20,7 @@ pub enum OwnFault {
     /// The element with this tag is not what the record must have there.
     #[error("63 RecordKey {0} {1}")]
     RecordKey(u32, Tag),
-    /// A piece of the value that names the withdrawn UIDs is no UID, or the pieces do not rise.
+    /// The value that names the withdrawn UIDs has a piece that is not a UID, or its pieces do not rise.
     #[error("65 BadWithdrawal")]
     BadWithdrawal,
     /// A growth was refused.

@@ -69,8 +69,8 @@ fn send_joined<W: Write>(
     Ok(sent)
 }
 
-/// What stands behind a UID, where these stand behind it: `\`, or nothing where there are none (PS3.5
-/// section 6.4).
+/// What is sent between a UID and the UIDs that follow it: `\`, or nothing behind the last UID (PS3.5 section
+/// 6.4).
 fn separator(rest: &[Uid]) -> &'static [u8]
     ensures { (uid : List ℕ) → join_with_byte 0x5c (uid ∷ rest.now)
         ≡ uid ++ (result.now ++ join_with_byte 0x5c rest.now) }

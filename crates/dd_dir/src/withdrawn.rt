@@ -15,8 +15,8 @@ use std::alloc::Global;
 /// What stands between the UIDs of a value (PS3.5 section 6.4).
 const SEPARATOR: u8 = b'\\';
 
-/// BadWithdrawal where a piece of the value is no UID, or where they do not rise strictly. Right where
-/// there is no value.
+/// Checks the value that names the withdrawn UIDs. BadWithdrawal where a piece of it is not a UID, or where
+/// the pieces do not rise strictly. A directory without such a value passes.
 pub(crate) fn check_withdrawn(value: Option<&[u8]>) -> Result<(), OwnFault>
     ensures ok { OnOk result (AreRisingUids (pieces_in (option_map (λ value. value.now) value.entry))) }
     ensures err { IfErr result (λ fault. (fault ≡ BadWithdrawal)
@@ -76,7 +76,7 @@ fn is_below(one: &[u8], other: &[u8]) -> bool
     one.cmp(other).is_lt()
 }
 
-/// The pieces of the value, which are UIDs: none where there is no value.
+/// The UIDs that the pieces of the value are, and an empty list where the directory has no such value.
 pub(crate) fn withdrawn_uids(alloc: Global, value: Option<&[u8]>) -> Result<Vec<Uid>, Memory>
     requires { AreRisingUids (pieces_in (option_map (λ value. value.now) value)) }
     ensures all { IfOk result (λ uids. uids.items ≡ pieces_in (option_map (λ value. value.now) value.entry)) }

@@ -36,8 +36,8 @@ pub fn write_directory<W: Write>(plan: &Plan, writer: &mut W) -> Result<u64, Wri
     ensures file { IsOk result → IsDirectory plan.now.label plan.now.versions plan.now.withdrawn }
     ensures within { IfOk result (λ n. OffsetsWithin n plan.now.label plan.now.versions) }
 
-    // Where they are those of a catalogue in harmony, they realise its tree, and say its versions and its withdrawn
-    // UIDs, where these rise.
+    // Where the plan's versions are a catalogue in harmony, the bytes realise its tree, and say its versions; they
+    // also say the plan's withdrawn UIDs, where these rise.
     ensures realised { IsOk result → (m : List Parts) → IsCatalogue m → plan.now.versions ≡ harmonised m
         → Realises plan.now.label m (directory_of plan.now.label plan.now.versions plan.now.withdrawn) }
     ensures own { IsOk result → (m : List Parts) → IsCatalogue m → plan.now.versions ≡ harmonised m

@@ -1,4 +1,4 @@
--- What is kept of sets and of their harmonies: the same images, and in harmony the same where nothing of them is
+-- What is kept of versions and of their harmonies: the same images; and in harmony the same versions, where none is
 -- withdrawn.
 use Rattle.std.specs.Prelude.{◌≡◌, ℕ, Bool, List, [], ◌∷◌, Contains, filter, map}
 use Rattle.std.proofs.Common.{refl, sym, ◌∙◌, ap, subst, inl, inr}

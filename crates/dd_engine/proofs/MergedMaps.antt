@@ -87,7 +87,7 @@ lists_withdrawn : (m : Contents) (set : List ℕ) (listing : SetListing) → Say
 lists_withdrawn m set listing says listed =
     sym listed.names ∙ ap withdrawn_of (says.only listed.walk listed.is_walk) ∙ says.names
 
--- the versions of the images of each set, and those of each catalogue
+-- the versions of the images of each set, and the versions of each catalogue
 abbrev versions_by_set : List SetListing → List (List Parts)
 versions_by_set listings = map (λ listing. map version_of listing.images) listings
 
@@ -140,7 +140,7 @@ best_together (set ∷ sets) =
     ∙ ap (λ (l : List Parts). best_of (set ++ l)) (best_together sets)
     ∙ best_right versions_ordered set (together sets)
 
--- the best of all that the sets list is that of all harmonies
+-- the best of all that the sets list is the best of all harmonies
 listed_best : (sets : List (List ℕ)) (maps : List Contents) (listings : List SetListing)
     → ArePublished sets maps → AreOwn sets listings
     → best_of (versions_in (numbered 0 listings)) ≡ best_of (together (map harmonised (versions_by_map maps)))

@@ -99,7 +99,7 @@ picks_more before at images old new added was is views =
 
 -- ---- the answer of one set
 
--- its records are those that are written here
+-- dd_dir would have written the set: it lists these images, and withdraws what its walk names
 pub own_listing : (set : List ℕ) (walk : Walk) (images : List Listed) → IsWalk set walk
     → AreRisingUids (withdrawn_of walk) → own walk ≡ Ok images
     → IsOwn set (record { images = images; withdrawn = withdrawn_of walk })

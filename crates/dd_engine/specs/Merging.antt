@@ -30,7 +30,7 @@ pub record SetListing : Type 0 where
   pub images : List Listed
   pub withdrawn : List (List ℕ)
 
--- the bytes are a directory whose records are those that are written here, and list this
+-- the bytes are a directory as dd_dir writes one, and this is what it lists and withdraws
 pub record IsOwn (set : List ℕ) (listing : SetListing) : Type 0 where
   pub walk : Walk
   pub is_walk : IsWalk set walk
@@ -38,7 +38,7 @@ pub record IsOwn (set : List ℕ) (listing : SetListing) : Type 0 where
   pub rising : AreRisingUids listing.withdrawn
   pub lists : own walk ≡ Ok listing.images
 
--- they are a directory that is not written here: what names the withdrawn UIDs fails its check, or a record does
+-- the bytes are a directory that dd_dir would not have written: its withdrawn UIDs or one of its records fail a check
 pub record IsForeign (set : List ℕ) (fault : OwnFault) : Type 0 where
   pub walk : Walk
   pub is_walk : IsWalk set walk

@@ -63,8 +63,8 @@ impl<'a> Gathered<'a> {
     }
 }
 
-/// Gathers what all these sets list, and withdraws these UIDs as well. The first set that is no directory
-/// that is written here is named.
+/// Gathers what all these sets list, and withdraws these UIDs as well. Refused by the first set that is not a
+/// directory as dd_dir writes one.
 pub(crate) fn gather<'a>(
     alloc: Global,
     sets: &[&'a [u8]],

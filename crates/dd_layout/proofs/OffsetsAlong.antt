@@ -104,7 +104,7 @@ size_of_turn versions rows now n at d version parts one is files h now_is read s
 
 -- ---- the end of a pass
 
--- no end passes that of the records
+-- the end of each record is at most the end of all records
 pub end_within : (label : Label) (versions : List Parts) (rows : List PlanRecord) (n end : ℕ)
     → rows ≡ map (numbered_at versions) (tree versions)
     → end ≡ end_of (weight versions) n (first_offset label) rows → end ≤ records_end label versions
@@ -113,7 +113,7 @@ end_within label versions rows n end is end_is =
     let sum = size_is label versions rows is in
     omega arith
 
--- the last is that of the records
+-- the end of the last record is the end of all records
 pub end_known : (label : Label) (versions : List Parts) (rows : List PlanRecord) (n end : ℕ)
     → rows ≡ map (numbered_at versions) (tree versions) → length rows ≤ n
     → end ≡ end_of (weight versions) n (first_offset label) rows → end ≡ records_end label versions

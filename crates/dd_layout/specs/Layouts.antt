@@ -22,7 +22,7 @@ pub record StandsWithin (bytes : ℕ) (row : PlanRecord) : Type 0 where
   pub next : row.next < bytes
   pub lower : row.lower < bytes
 
--- the records are those that the versions have under the label, and the size is that with the withdrawn UIDs
+-- under this label the versions have these records, and together with the withdrawn UIDs the directory has this size
 pub record IsLaidOut (label : Label) (versions : List Parts) (withdrawn : List (List ℕ)) (rows : List PlanRecord)
     (bytes : ℕ) : Type 0 where
   pub records : rows ≡ records_of label versions

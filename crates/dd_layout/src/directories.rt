@@ -22,9 +22,9 @@ pub fn directory_is_as_long_as_its_records()
         ≡ first_offset label + sum_by record_size records + withdrawals_size withdrawn }
 {}
 
-/// The elements of a directory are those of a data set, where those of each record are, and the records,
-/// and the elements with the withdrawn UIDs, take fewer bytes than the mark of an undefined length. This
-/// states a law, and does nothing.
+/// The elements of a directory are a data set, where the elements of each record are one, and where the
+/// records, and the elements with the withdrawn UIDs, take fewer bytes than the mark of an undefined length.
+/// This states a law, and does nothing.
 pub fn directory_is_a_data_set()
     ensures { (id : List ℕ) (first last : ℕ) (records : List (List Entry)) (withdrawn : List (List ℕ))
         → length id ≤ max_set_id_length

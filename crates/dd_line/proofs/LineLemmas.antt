@@ -86,7 +86,7 @@ pub asked_check : (a : Asked) (found : Option (Text × List Row)) → IsAsked a 
 asked_check a None h is = absurd h
 asked_check a (Some (command, given)) h is = sym h.verb ∙ ap verb_name is
 
--- a name that is none is one that the words give
+-- a name of the wrong form is one that the words give
 pub asked_bad : (a : Asked) (found : Option (Text × List Row)) → IsAsked a found → AsksBadName a → HasBadName found
 asked_bad a found h (inl (id, is, bad)) = inl (id, asked_id a found id h is, bad)
 asked_bad a found h (inr (inl (uid, is, bad))) = inr (inl (uid, asked_uid a found uid h is, bad))

@@ -234,7 +234,7 @@ abbrev pub GivesInstance : Option (Text × List Row) → Text → Type 0
 GivesInstance None uid = ⊥
 GivesInstance (Some (command, given)) uid = Contains (given_for instance_name given) uid
 
--- the words give an ID or a UID that is none, of the file-set or of an image
+-- the words give an ID or a UID of the wrong form, of the file-set or of an image
 abbrev pub HasBadName : Option (Text × List Row) → Type 0
 HasBadName found = ((id : Text) × GivesOption id_name found id × ¬ IsSetId id)
     ⊎ (((uid : Text) × GivesOption uid_name found uid × ¬ IsUid uid)

@@ -73,7 +73,7 @@ line_goes r level t at kind label flag a b c at_is kind_is label_is flag_is inde
 
 -- ---- a directory
 
--- the lines of the records, those of what is withdrawn, and the last one
+-- the lines of the records, the lines of what is withdrawn, and the last line
 pub all_listed : {T E : Type 0} (r : Result T E) (forest : Forest) (trees : List Tree) (a b c d : Way)
     → trees ≡ forest.trees.items → GoesOn (lines_of 0 (trees_view trees)) a b
     → GoesOn (withdrawn_lines (withdrawn_of (walk_view forest))) b c → Tells r (totals_line (walk_view forest)) c d
@@ -85,7 +85,7 @@ all_listed r forest trees a b c d is records withdrawn totals =
     (subst (λ (ts : List Tree). GoesOn (lines_of 0 (trees_view ts)) a b) is records)
     (tells_then r lines last b c d withdrawn totals)
 
--- the writer failed in those of what is withdrawn
+-- the writer failed in the lines of what is withdrawn
 pub withdrawn_fails : {T E : Type 0} (r : Result T E) (forest : Forest) (trees : List Tree) (a b c : Way) → IsErr r
     → trees ≡ forest.trees.items → GoesOn (lines_of 0 (trees_view trees)) a b
     → Fails (withdrawn_lines (withdrawn_of (walk_view forest))) b c → Tells r (listing_text (walk_view forest)) a c
@@ -97,7 +97,7 @@ withdrawn_fails r forest trees a b c err is records failed =
     (subst (λ (ts : List Tree). GoesOn (lines_of 0 (trees_view ts)) a b) is records)
     (fails_front lines last b c failed))
 
--- or in those of the records
+-- the writer failed in the lines of the records
 pub records_fail : {T E : Type 0} (r : Result T E) (forest : Forest) (trees : List Tree) (a b : Way) → IsErr r
     → trees ≡ forest.trees.items → Fails (lines_of 0 (trees_view trees)) a b
     → Tells r (listing_text (walk_view forest)) a b

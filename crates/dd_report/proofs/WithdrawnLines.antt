@@ -41,7 +41,7 @@ some_behind value at is =
     ∙ ap (λ (n : ℕ). take n value ∷ pieces_of (drop (n + 1) value)) found.1
     ∙ ap (λ (xs : List ℕ). take at value ∷ pieces_of xs) (sym rest)
 
--- there is none, and the value is the one piece
+-- where the value has no separator, it is one piece
 pub none_behind : (value : List ℕ) → None ≡ position (λ byte. byte == 92) value → pieces_of value ≡ value ∷ []
 none_behind value is = go (nat_lt (at_first value) (length value)) refl is
   where

@@ -117,7 +117,7 @@ fn label_of<'t>(tree: &'t Tree<'_>) -> &'t [u8]
     or_dash(value_at(&tree.set, label_tag(tree.kind)))
 }
 
-/// A value, and `-` where there is none or no byte of it.
+/// The value, or `-` where it is absent or empty.
 fn or_dash<'v>(value: Option<&'v [u8]>) -> &'v [u8]
     ensures { result.now ≡ or_dash (option_map (λ value. value.now) value.entry) }
 {
@@ -149,7 +149,7 @@ fn flag_of<'t>(tree: &'t Tree<'_>) -> &'t [u8]
     if tree.in_use { b"" } else { b" inactive" }
 }
 
-/// Lists what is withdrawn: nothing where there is no value that names it.
+/// Lists what is withdrawn, a line for each piece of the value; no lines where the value is absent.
 fn list_withdrawn<W: Write>(value: Option<&[u8]>, lines: &mut LineBuffer, to: &mut W) -> fmt::Result
     ensures { Tells result (withdrawn_lines (pieces_in (option_map (λ value. value.now) value.entry)))
         (way lines.old (W.contents to.old) (W.failures to.old))

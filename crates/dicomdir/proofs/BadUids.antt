@@ -1,27 +1,12 @@
--- Where one of several texts is no UID.
-use Rattle.std.proofs.Common.{◌≡◌, ◌-◌, ◌<◌, ◌∙◌, zero, suc, List, [], ◌∷◌, String, Result, Ok, Err, IfErr, ap, arith, drop}
-use Rattle.std.proofs.Common.{get_or, length, refl, string_bytes, subst, sym, take}
-use Rattle.std.proofs.lemmas.List.{take_all}
+-- Where one of several texts is not a UID.
+use Rattle.std.proofs.Common.{◌≡◌, ◌<◌, zero, suc, List, [], ◌∷◌, String, Result, Ok, Err, IfErr, arith}
+use Rattle.std.proofs.Common.{get_or, length, refl, string_bytes, subst, sym}
 use Rattle.std.specs.declared.alloc.Global.{Global}
+use Rattle.dd_catalogue.proofs.FirstAndRest.{first_and_rest, rest_of}
 use Rattle.dd_elem.specs.Uid.{IsUid}
 use Rattle.dicomdir.specs.Names.{HasBadUid}
 use Rattle.dicomdir.specs.Refusal.{IsBadLine}
 use Rattle.dicomdir.specs.declared.refusal.ProgramFault.{ProgramFault}
-
--- the texts but for the first
-abbrev pub rest_of : List (String Global) → List (String Global)
-rest_of texts = take (length texts - 1) (drop 1 texts)
-
-rest_is : (text : String Global) (texts : List (String Global)) → rest_of (text ∷ texts) ≡ texts
-rest_is text texts =
-    let less : length (text ∷ texts) - 1 ≡ length texts = omega arith in
-    ap (λ n. take n texts) less ∙ take_all (length texts) texts (omega arith)
-
-first_and_rest : (texts : List (String Global)) (text : String Global) → 0 < length texts → text ≡ get_or texts 0 text
-    → texts ≡ text ∷ rest_of texts
-first_and_rest [] text some read = absurd (omega (arith, some))
-first_and_rest (x ∷ texts) text some read =
-    ap (λ y. y ∷ texts) (sym read) ∙ ap (λ r. text ∷ r) (sym (rest_is x texts))
 
 first_bad : (text : String Global) (texts : List (String Global)) → ¬ IsUid (string_bytes text)
     → HasBadUid (text ∷ texts)

@@ -1,4 +1,4 @@
--- The names that a command line gives: those that have not the form of their kind.
+-- Names of a command line that have the wrong form: File-set IDs (PS3.3 section F.3.2.1) and UIDs (PS3.5 section 9.1).
 use Rattle.std.specs.Prelude.{◌≡◌, ◌⊎◌, List, Some, String, Contains, option_map, string_bytes}
 use Rattle.std.specs.declared.alloc.Global.{Global}
 use Rattle.clap.specs.Words.{Text}
@@ -12,6 +12,6 @@ abbrev pub HasBadLabel : Asked → Type 0
 HasBadLabel a = ((id : Text) × (option_map string_bytes a.id ≡ Some id) × ¬ IsSetId id)
     ⊎ ((uid : Text) × (option_map string_bytes a.uid ≡ Some uid) × ¬ IsUid uid)
 
--- one of these texts is no UID
+-- one of these texts is not a UID
 abbrev pub HasBadUid : List (String Global) → Type 0
 HasBadUid texts = (uid : Text) × Contains (words_of texts) uid × ¬ IsUid uid

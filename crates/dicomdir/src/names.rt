@@ -20,8 +20,8 @@ pub(crate) struct Names {
     pub(crate) withdrawn: Vec<Uid>,
 }
 
-/// Reads the names that the line spells: the ID, then the UID, then those of the instances, in their order.
-/// Refused by the first that has not the form of its kind, or as Memory where a growth was refused.
+/// Reads the names that the line spells: the ID, then the UID, then the UIDs to withdraw, in their order.
+/// Refused by the first name of the wrong form, or as Memory where a growth was refused.
 pub(crate) fn names_of(alloc: Global, asked: &Asked) -> Result<Names, ProgramFault>
     ensures bad { IfErr result (λ fault. IsBadLine fault → AsksBadName asked.now) }
     ensures good { IsOk result → ¬ AsksBadName asked.now }
@@ -50,7 +50,7 @@ fn choice_of(asked: &Asked) -> Result<Choice, ProgramFault>
     Ok(Choice { id, uid })
 }
 
-/// Reads these UIDs. Refused by the first that is no UID, or as Memory where a growth was refused.
+/// Reads these UIDs. Refused by the first text that is not a UID, or as Memory where a growth was refused.
 fn uids_of(alloc: Global, mut texts: &[String]) -> Result<Vec<Uid>, ProgramFault>
     ensures bad { IfErr result (λ fault. IsBadLine fault → HasBadUid texts.entry.now) }
     ensures good { IsOk result → ¬ HasBadUid texts.entry.now }

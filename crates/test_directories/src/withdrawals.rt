@@ -22,8 +22,8 @@ const ENDS: &str = "\
 1/1.2/1.3/1.4 > 09001000 4c4f 0c00 'DD_FILESET_1 09000210 5543 0000 0c000000 '1.2\\1.3\\1.4_
 /1.2.3.4.5 > 09001000 4c4f 0c00 'DD_FILESET_1 09000210 5543 0000 0a000000 '1.2.3.4.5_";
 
-/// The most bytes of the directory of one image and one withdrawn instance, and how many it has or why there
-/// is none.
+/// The most bytes of the directory of one image and one withdrawn instance, and how many it has or why it is
+/// refused.
 const LIMITS: &str = "\
 918 > 918
 917 > 43 TooLarge

@@ -42,7 +42,7 @@ fn refuse_each(alloc: Global, call: Call) -> Result<(), Fail> {
     Err("the call has more growths than are refused".into())
 }
 
-/// V1, and what is told of it.
+/// V1, and what is read of it.
 const FILE: &str = "\
 v1 > 454 276 1.2.840.10008.5.1.4.1.1.2 1.2.3.4.5 1.2.840.10008.1.2.1 12";
 
@@ -115,7 +115,7 @@ fn read_file_refused(alloc: Global, bytes: &[u8], chosen: u32) -> Result<bool, F
     };
     require(
         streaming::told(alloc, answer, &meta)?.as_str() == "as parsed; (0010,0020) 'P1 2",
-        "the file is told as it was parsed",
+        "the file is read as it was parsed",
     )?;
     Ok(refused)
 }

@@ -40,7 +40,7 @@ const SYNTAXES: &str = "\
 1.2.840.10008.1.2.4 > None
 1.2.840.10008.1.2.5.1 > None";
 
-/// What is told of a file of this many bytes.
+/// What is read of a file of this many bytes.
 pub(crate) fn told(alloc: Global, size: usize, file: &DicomFile<'_>) -> Result<String, Fail> {
     let (place, count) = (file.set_at, file.set.elements.len());
     let (class, instance) = (file.meta.class, file.meta.instance);

@@ -37,7 +37,7 @@ as parsed; (0008,0016) '1.2.840.10008.5.1.4.1.1.2 25; (0020,0013) '1 1
 276 02 44 454 276 0010,0020 > 14 Read
 276 02 44 453 - 0010,0020 > 15 TooLong";
 
-/// Files, and what is told of their Directory Record Sequence, Referenced Image Sequence, Pixel Data and Patient
+/// Files, and what is read of their Directory Record Sequence, Referenced Image Sequence, Pixel Data and Patient
 /// ID, which the directory holds in an item alone.
 const FILES: &str = "\
 v1 > as parsed; (0010,0020) 'P1 2
@@ -47,7 +47,7 @@ v2 > as parsed; (0004,1220) items
 first directory > as parsed; (0004,1220) items";
 
 /// V1 with private information in group 0002: the length of the group, and how many bytes that information
-/// has; and the size of the file, the place of its data set and what is told of it. A group of up to 1,024
+/// has; and the size of the file, the place of its data set and what is read of it. A group of up to 1,024
 /// bytes is read into less room than one that is longer.
 const LONG_GROUPS: &str = "\
 1024 862 > 1346 1168 as parsed; (0010,0020) 'P1 2

@@ -10,7 +10,7 @@ use std::alloc::Global;
 use std::test::Fail;
 
 /// The most bytes of a directory, the directory, and the instances that are withdrawn; and the size of the new
-/// directory, and for each of its images the File ID that it had, or why there is none.
+/// directory, and for each of its images the File ID that it had, or why the withdrawal is refused.
 const WITHDRAWALS: &str = "\
 362 first 1.2.3.4.5 > 362
 361 first 1.2.3.4.5 > Plan: 43 TooLarge

@@ -1,7 +1,7 @@
 use Rattle.std.proofs.Common.{◌≡◌, ◌<◌, ℕ, List, [], ◌∷◌, length, get_or, sym, subst, arith}
 use Rattle.std.specs.List.{AllByRecursion}
 use Rattle.dd_elem.specs.Uid.{IsUid}
-use Rattle.dd_dir.proofs.WithdrawalTexts.{first_and_rest, rest_of}
+use Rattle.dd_catalogue.proofs.FirstAndRest.{first_and_rest, rest_of}
 use Rattle.dd_dir.proofs.well_formed.withdrawn_are_uids.Goals as goal
 
 one_more : (uids : List (List ℕ)) (uid : List ℕ) → 0 < length uids → uid ≡ get_or uids 0 uid → IsUid uid

@@ -37,7 +37,7 @@ end_turned c =
     c.record_size-size.result c.requires.rows c.requires.files c.loop-record-test.true c.loop-record.invariant.rows
     c.index-versions-record.is c.parts.ensures.value c.record_size-size.ensures.exact)
 
--- an end above the limit is one of a directory above it
+-- a directory with an end above the limit is itself above it
 pub returns-then-end-most-2-clause-fits : goal.returns-then-end-most-2-clause-fits
 returns-then-end-most-2-clause-fits c = λ fits.
     let within = end_within c.args.label.now c.args.versions.now c.args.records.now (c.loop-record.record-index + 1)
@@ -54,7 +54,7 @@ loop-record-preserved c = record {
   fits = c.if-end-most-2.false;
 }
 
--- the last end is that of the records
+-- the end of the last record is the end of all records
 pub returns-clause-fits : goal.returns-clause-fits
 returns-clause-fits c =
     let end = end_known c.args.label.now c.args.versions.now c.args.records.now c.loop-record.record-index

@@ -1,4 +1,4 @@
--- The first separator is found, or there is none.
+-- The value has a first separator, or no separator at all.
 use Rattle.std.proofs.Common.{rules, ◌==◌, ◌∙◌, sym}
 use borrow.Author.Tests.{tests}
 use Rattle.std.proofs.lemmas.Iterator.{YieldsList-from_slice}

@@ -1,4 +1,4 @@
--- Behind the lines of the records those of what is withdrawn, and then their number.
+-- The lines of the records come first, then the lines of what is withdrawn, then the number of records.
 use Rattle.dd_report.proofs.ListedLines.{all_listed, records_fail, withdrawn_fails}
 use Rattle.dd_report.proofs.listing.list_forest.Goals as goal
 
