@@ -5,12 +5,14 @@ import os
 
 from rooms import DIRECTORY, OUTPUT, count_kinds, harm, result_of, tell_standing
 
-FIRST_IMAGE = "OUT/PT000001/ST000001/SE000001/IM000001"
+# It is opened first, in the place of a standard descriptor that is closed.
+NULL = "/dev/null"
 
 # The errors that the calls fail with. EACCES and EINVAL are what a system says that can't store a folder, EMFILE is
 # what it says where the process has no more descriptors.
 ERRORS = {
     "statx": ("EIO", "EACCES", "EINTR"),
+    "fstat": ("EIO", "EACCES", "EINTR"),
     "open": ("EIO", "EACCES", "EMFILE", "EINTR"),
     "create": ("EIO", "ENOSPC", "EMFILE", "EINTR"),
     "read": ("EIO", "EINTR"),
@@ -54,12 +56,9 @@ def open_copies(calls, at):
 
 
 def of_look(case, call, lasts):
-    """The look whether OUT has a directory fails: it counts as none."""
-    if call.answer < 0:
-        return None
-    # It has one, and the run ends at the first name that is taken, or before, where each later look fails too.
-    source = case.command.words.split()[2]
-    return f"{source}: 92 Absent" if lasts else f"{FIRST_IMAGE}: 94 Create"
+    """The look whether OUT has a directory fails, or its opening: it is looked for again, in all spellings."""
+    # It has one. Where each later call fails too, it counts as none, and so does the first source.
+    return case.command.words.split()[2] + ": 92 Absent" if lasts else None
 
 
 def of_folder(case, at, error):
@@ -73,9 +72,17 @@ def of_folder(case, at, error):
 
 def of_reading(case, at, error, lasts):
     """A look at what is there, its opening, or a read of it fails."""
-    call = case.right.calls[at]
+    calls = case.right.calls
+    call = calls[at]
+    # What is not there may be looked for in vain.
+    if call.name == "statx" and call.answer < 0:
+        return None
+    if call.path == NULL:
+        return "error: /dev/null can't be opened"
     if call.path == DIRECTORY:
         return of_look(case, call, lasts)
+    if is_on_the_way(calls, at):
+        return of_reading(case, next_opened(calls, at), error, lasts)
     if is_folder(case, call.path):
         return of_folder(case, at, error)
     if case.command.words.startswith("check") and not call.path.endswith("/DICOMDIR"):
@@ -87,6 +94,18 @@ def of_reading(case, at, error, lasts):
 def is_folder(case, path):
     """Is it a folder that is made, or in which something is made?"""
     return path == "." or (path in case.right.left and case.right.left[path] is None)
+
+
+def is_on_the_way(calls, at):
+    """Is it a look at a folder of a file-set, on the way to a file?"""
+    call = calls[at]
+    is_given = call.path.split("/")[0] != "OUT"
+    return call.name == "statx" and is_given and calls[at + 1].path.startswith(call.path + "/")
+
+
+def next_opened(calls, at):
+    """The place of the look at the file that is opened next."""
+    return next(place for place in range(at, len(calls)) if calls[place].name == "open") - 1
 
 
 def consequence(case, at, error, lasts):
@@ -126,7 +145,7 @@ def is_as_failed(case, run, task):
         if found.startswith(("MISSING", "UNREADABLE")):
             findings.append(found)
             continue
-        line = "" if found == OUTPUT else f"FAULT {found}\n"
+        line = "" if found == OUTPUT else f"{found}\n" if found.startswith("error") else f"FAULT {found}\n"
         return (run.status, run.err) == (1, line) and case.right.out.startswith(run.out)
     if findings:
         return (run.status, run.out, run.err) == (3, "".join(f"{found}\n" for found in findings), "")

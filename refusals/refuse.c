@@ -212,11 +212,13 @@ int open(const char *path, int flags, ...)
     return answer(name, path, error ? 0 : syscall(SYS_openat, AT_FDCWD, path, flags, mode), error);
 }
 
+/* A look at an open file is told as `fstat`, with its descriptor. */
 int statx(int folder, const char *restrict path, int flags, unsigned int mask, struct statx *restrict found)
 {
-    int error = error_of("statx");
+    int is_open = flags & AT_EMPTY_PATH, error = error_of(is_open ? "fstat" : "statx");
+    long result = error ? 0 : syscall(SYS_statx, folder, path, flags, mask, found);
 
-    return answer("statx", path, error ? 0 : syscall(SYS_statx, folder, path, flags, mask, found), error);
+    return is_open ? answer_of("fstat", folder, result, error) : answer("statx", path, result, error);
 }
 
 int mkdir(const char *path, mode_t mode)

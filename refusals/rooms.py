@@ -110,7 +110,7 @@ def calls_of(log):
     calls, paths = [], {"1": OUTPUT}
     for line in log.splitlines():
         name, answer, of = line.lstrip("!").split(" ", 2)
-        path = paths[of] if name in ("read", "write", "fsync", "close") else of
+        path = paths[of] if name in ("fstat", "read", "write", "fsync", "close") else of
         if name in ("open", "create") and int(answer) >= 0:
             paths[answer] = path
         calls.append(Call(name, int(answer), path, line.startswith("!")))

@@ -50,8 +50,39 @@ pub trait Files: Write {
         ensures kept { held self.new ≡ held self.old }
         ensures bytes { IsErr result → Self.contents self.new ≡ Self.contents self.old };
 
+    /// Opens a file of a file-set for reading: the one at this path, which stands below the folder `set` as the
+    /// directory of the file-set records it. A system may show the names below `set` otherwise.
+    fn member(&mut self, set: &str, path: &str) -> Result<Self::In, NotThere>
+        ensures worked { IsOk result → HasWorked (refusals self.old) (refusals self.new) }
+        ensures refused { IsErr result → refusals self.new ≡ counted (refusals self.old) }
+
+        // The reader is as new, and what it has left are the bytes of the file.
+        ensures fresh { IfOk result (λ reader. (Self.In.calls reader ≡ 0)
+            × (Self.In.failures reader ≡ 0) × Self.In.has_given reader []) }
+        ensures left { IfOk result (λ reader. IfSome (held self.old) (λ files.
+            IsSome (files.bytes_at path.now)
+            × (Self.In.remaining reader ≡ files.bytes_at path.now))) }
+
+        // What stays.
+        ensures counts { (Self.calls self.new ≡ Self.calls self.old)
+            × (Self.failures self.new ≡ Self.failures self.old) }
+        ensures kept { held self.new ≡ held self.old }
+        ensures bytes { IsErr result → Self.contents self.new ≡ Self.contents self.old };
+
     /// Makes a folder with its parents. One that is there is right.
     fn folder(&mut self, path: &str) -> Result<(), NotDone>
+        ensures worked { IsOk result → HasWorked (refusals self.old) (refusals self.new) }
+        ensures refused { IsErr result → refusals self.new ≡ counted (refusals self.old) }
+
+        // What stays.
+        ensures counts { (Self.calls self.new ≡ Self.calls self.old)
+            × (Self.failures self.new ≡ Self.failures self.old) }
+        ensures kept { held self.new ≡ held self.old }
+        ensures bytes { Self.contents self.new ≡ Self.contents self.old };
+
+    /// Makes a folder that stands below the folder `out`, with its parents. One that is there is right, but for a
+    /// link to one below `out`: nothing is made behind it.
+    fn folder_in(&mut self, out: &str, path: &str) -> Result<(), NotDone>
         ensures worked { IsOk result → HasWorked (refusals self.old) (refusals self.new) }
         ensures refused { IsErr result → refusals self.new ≡ counted (refusals self.old) }
 

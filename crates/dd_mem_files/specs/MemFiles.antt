@@ -89,7 +89,7 @@ refused s = record (called s) { refusals = counted s.refusals }
 pub record Opens (old new : Stored) (path : List ℕ) : Type 0 where
   pub files : Gets old.files new.files path (due old.later path)
   pub later : new.later ≡ opened path old.later
-  pub planned : new.planned ≡ after_opening path (after_call old.planned)
+  pub planned : new.planned ≡ after_opening path old.planned
   pub others : new ≡ record old { files = new.files; later = new.later; planned = new.planned }
 
 -- a new reader of these bytes, which fails after the first `n` of them where `fails` is `Some n`

@@ -3,6 +3,7 @@
 //! Its promise: they are `Files` that tell what they hold, and that change only as these say.
 #![tactic(auto)]
 
+mod as_files;
 mod contents;
 mod later;
 mod mem_files;

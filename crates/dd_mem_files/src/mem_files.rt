@@ -1,15 +1,13 @@
 //! Files in memory.
-ghost use Rattle.std.specs.Prelude.{◌≡◌, IsSome, is_ok, IfSome, ◌↔◌, [], length, None, Some, IsOk, IsErr, take};
-ghost use Rattle.std.specs.Prelude.{IsTrue, ◌<◌, codes, IfOk, OnOk, OnErr, option_map, option_copied, string_bytes};
-ghost use Rattle.std.specs.Prelude.{false};
+ghost use Rattle.std.specs.Prelude.{◌≡◌, IsSome, is_ok, IfSome, ◌↔◌, [], length, None, Some, IsOk, take, false};
+ghost use Rattle.std.specs.Prelude.{IsTrue, IfOk, OnOk, OnErr, option_map, option_copied, string_bytes};
 ghost use Rattle.std.specs.Io.{WritesAtMost};
 ghost use Rattle.std.specs.Io.KnownBytes.{WriteAppends};
 ghost use Rattle.dd_elem.specs.Counts.{counts_after};
-ghost use Rattle.dd_elem.specs.Device.{counted, last_count, HasWorked, IsBeforeFail, IsLive, passing};
-ghost use Rattle.dd_mem_files.specs.MemFiles.{Stored, Unwritten, listed, bytes_at, change_of, told_of, unread};
-ghost use Rattle.dd_mem_files.specs.MemFiles.{unwritten, written_of, SetsFile, GrowsWritten, MayCall, called, refused};
+ghost use Rattle.dd_elem.specs.Device.{counted, IsBeforeFail, IsLive, passing};
+ghost use Rattle.dd_mem_files.specs.MemFiles.{Stored, Unwritten, listed, bytes_at, change_of, unread, unwritten};
+ghost use Rattle.dd_mem_files.specs.MemFiles.{written_of, SetsFile, GrowsWritten, MayCall, called};
 ghost use Rattle.dd_mem_files.specs.MemFiles.{KeepsFiles, Gets, Opens, due};
-ghost use Rattle.dd_mem_files.specs.MemLaws.{held_grows, refusals_stay, told_contents};
 ghost use Rattle.dd_mem_files.specs.PlannedFaults.{after_write, fails_at, nothing_planned};
 
 use crate::contents::{append, set};
@@ -17,7 +15,7 @@ use crate::later::{Later, count_opening, due_bytes};
 use crate::mem_reader::MemReader;
 use crate::planned_faults::PlannedFaults;
 use dd_elem::{Counts, Memory, Write};
-use dd_files::{Files, NotDone, NotThere};
+use dd_files::NotDone;
 use std::alloc::Global;
 use std::collections::BTreeMap;
 use std::io;
@@ -29,9 +27,9 @@ use std::marker::Model;
 pub struct MemFiles {
     alloc: Global,
     files: BTreeMap<String, Vec<u8>>,
-    current: Option<String>,
+    pub(crate) current: Option<String>,
     counts: Counts,
-    refusals: u64,
+    pub(crate) refusals: u64,
     later: Option<Later>,
     planned: PlannedFaults,
 }
@@ -122,8 +120,9 @@ impl MemFiles {
         self.planned.fail_write(after);
     }
 
-    /// Makes the files refuse the n-th of the next calls of `source`, `folder`, `create` and `finish`, counted
-    /// together. The next call is number 1; with 0 no call is refused. A later `fail_call` replaces this one.
+    /// Makes the files refuse the n-th of the next calls of `source`, `folder`, `folder_in`, `create` and `finish`,
+    /// counted together. The next call is number 1; with 0 no call is refused. A later `fail_call` replaces this
+    /// one.
     pub fn fail_call(&mut self, n: u32)
         ensures { self.new ≡ record self.old { planned = record self.old.planned { call = n } } }
     {
@@ -185,8 +184,23 @@ impl MemFiles {
         }
     }
 
-    // Starts an empty file at the path, to which later writes go.
-    fn start(&mut self, path: &str) -> Result<(), Memory>
+    /// Opens the file at the path. None where there is no such file or a growth is refused, and then nothing has
+    /// changed.
+    pub(crate) fn open(&mut self, path: &str) -> Option<MemReader>
+        ensures gives { IfSome result (λ reader. bytes_at self.new.files path.now ≡ Some reader.left) }
+        ensures new { IfSome result (λ reader. reader
+            ≡ unread reader.left (fails_at self.old.planned.reader path.now)) }
+        ensures opens { IsSome result → Opens self.old self.new path.now }
+        ensures none { result ≡ None → self.new ≡ self.old }
+    {
+        let copy = self.copy(path)?;
+        let copy = self.reopen(path, copy)?;
+        count_opening(&mut self.later, path);
+        Some(MemReader::new(copy, self.planned.open(path)))
+    }
+
+    /// Starts an empty file at the path, to which later writes go.
+    pub(crate) fn start(&mut self, path: &str) -> Result<(), Memory>
         ensures ok { OnOk result (SetsFile self.old.files self.new.files path.now []) }
         ensures started { OnOk result (self.new.current ≡ Some path.now) }
         ensures err { OnErr result (self.new ≡ self.old) }
@@ -198,8 +212,8 @@ impl MemFiles {
         Ok(())
     }
 
-    // Counts a call. May it be done? Not where it is to be refused, or the refusals are at their last value.
-    fn begin(&mut self) -> bool
+    /// Counts a call. May it be done? Not where it is to be refused, or the refusals are at their last value.
+    pub(crate) fn begin(&mut self) -> bool
         ensures may { IsTrue result ↔ MayCall self.old }
         ensures same { self.new ≡ called self.old }
     {
@@ -207,8 +221,8 @@ impl MemFiles {
         !is_refused && self.refusals < u64::MAX
     }
 
-    // Counts a refusal.
-    fn refuse(&mut self)
+    /// Counts a refusal.
+    pub(crate) fn refuse(&mut self)
         ensures { self.new ≡ record self.old { refusals = counted self.old.refusals } }
     {
         self.refusals = self.refusals.saturating_add(1);
@@ -282,117 +296,4 @@ impl Write for MemFiles {
             }
         }
     }
-}
-
-impl Files for MemFiles {
-    type In = MemReader;
-
-    ghost refusals = { λ s. s.refusals };
-
-    ghost held = { told_of };
-
-    /// Gives a reader of a copy of the file's bytes; a file that changes later has its new bytes from its
-    /// second opening on. NotThere where the call is to be refused, there is no such file, a growth is refused or
-    /// the refusals are at their last value; the files are then as they were, and it is no opening.
-    fn source(&mut self, path: &str) -> Result<MemReader, NotThere>
-        ensures worked { IsOk result → HasWorked self.old.refusals self.new.refusals }
-        ensures refused { IsErr result → self.new.refusals ≡ counted self.old.refusals }
-        ensures may { IsOk result → MayCall self.old }
-        ensures gives { IfOk result (λ reader. bytes_at self.new.files path.now ≡ Some reader.left) }
-        ensures new { IfOk result (λ reader. reader
-            ≡ unread reader.left (fails_at self.old.planned.reader path.now)) }
-        ensures opens { OnOk result (Opens self.old self.new path.now) }
-        ensures err { OnErr result (self.new ≡ refused self.old) }
-    {
-        if self.begin() {
-            if let Some(copy) = self.copy(path) {
-                if let Some(copy) = self.reopen(path, copy) {
-                    count_opening(&mut self.later, path);
-                    return Ok(MemReader::new(copy, self.planned.open(path)));
-                }
-            }
-        }
-        self.refuse();
-        Err(NotThere)
-    }
-
-    /// Every folder is there. NotDone only where the call is to be refused or the refusals are at their last
-    /// value.
-    fn folder(&mut self, _path: &str) -> Result<(), NotDone>
-        ensures worked { IsOk result → HasWorked self.old.refusals self.new.refusals }
-        ensures refused { IsErr result → self.new.refusals ≡ counted self.old.refusals }
-        ensures done { IsOk result ↔ MayCall self.old }
-        ensures ok { OnOk result (self.new ≡ called self.old) }
-        ensures err { OnErr result (self.new ≡ refused self.old) }
-    {
-        if self.begin() {
-            return Ok(());
-        }
-        self.refuse();
-        Err(NotDone)
-    }
-
-    /// Starts an empty file at the path. NotDone where the call is to be refused, the path is there, a growth is
-    /// refused or the refusals are at their last value; the files are then as they were.
-    fn create(&mut self, path: &str) -> Result<(), NotDone>
-        ensures worked { IsOk result → HasWorked self.old.refusals self.new.refusals }
-        ensures refused { IsErr result → self.new.refusals ≡ counted self.old.refusals }
-        ensures may { IsOk result → MayCall self.old }
-        ensures free { OnOk result (bytes_at self.old.files path.now ≡ None) }
-        ensures ok { OnOk result (SetsFile self.old.files self.new.files path.now []) }
-        ensures started { OnOk result (self.new.current ≡ Some path.now) }
-        ensures err { OnErr result (self.new ≡ refused self.old) }
-        ensures same { OnOk result (self.new
-            ≡ record (called self.old) { files = self.new.files; current = self.new.current }) }
-    {
-        if self.begin() && self.bytes(path).is_none() && self.start(path).is_ok() {
-            return Ok(());
-        }
-        self.refuse();
-        Err(NotDone)
-    }
-
-    /// Ends the file that is being written; later writes fail until the next is started. NotDone only where the
-    /// call is to be refused or the refusals are at their last value, and then it goes on.
-    fn finish(&mut self) -> Result<(), NotDone>
-        ensures worked { IsOk result → HasWorked self.old.refusals self.new.refusals }
-        ensures refused { IsErr result → self.new.refusals ≡ counted self.old.refusals }
-        ensures done { IsOk result ↔ MayCall self.old }
-        ensures ok { OnOk result (self.new ≡ record (called self.old) { current = None }) }
-        ensures err { OnErr result (self.new ≡ refused self.old) }
-    {
-        if !self.begin() {
-            self.refuse();
-            return Err(NotDone);
-        }
-        self.current = None;
-        Ok(())
-    }
-
-    /// All is stored as soon as it is made. NotDone only where the refusals are at their last value.
-    fn store(&mut self) -> Result<(), NotDone>
-        ensures worked { IsOk result → HasWorked self.old.refusals self.new.refusals }
-        ensures refused { IsErr result → self.new.refusals ≡ counted self.old.refusals }
-        ensures done { IsOk result ↔ (self.old.refusals < last_count) }
-        ensures same { self.new ≡ self.old }
-    {
-        if self.refusals < u64::MAX {
-            Ok(())
-        } else {
-            Err(NotDone)
-        }
-    }
-
-    /// The current folder: all is stored.
-    fn unstored(&self) -> &str
-        ensures { result.now ≡ codes "." }
-    {
-        "."
-    }
-
-    ghost same_refusals = { refusals_stay };
-
-    ghost same_contents = { told_contents };
-
-    ghost written_grows = { held_grows };
 }

@@ -210,7 +210,7 @@ fn finding_in<F: Files>(
         return Ok(unopened(tree));
     };
     let path = file_path(alloc, folder, file)?;
-    match files.source(path.as_str()) {
+    match files.member(folder, path.as_str()) {
         Ok(mut reader) => Ok(finding_of(tree, Some(&mut reader), SOURCE_LIMIT)),
         Err(_) => Ok(unopened(tree)),
     }

@@ -58,7 +58,11 @@ fn copy_one<F: Files, O: Origins>(
 {
     let path = origins.path(alloc, pick)?;
     let origin = origins.subject(pick);
-    let Ok(mut reader) = files.source(path.as_str()) else {
+    let opened = match origins.set(pick) {
+        Some(set) => files.member(set, path.as_str()),
+        None => files.source(path.as_str()),
+    };
+    let Ok(mut reader) = opened else {
         return Err(Refusal::of(origin, ProgramFault::Absent));
     };
     start_copy(alloc, folder, image.file, files)?;
@@ -83,7 +87,7 @@ fn start_copy<F: Files>(
 {
     let below = ImagePathText::of(&ImageFolder(file));
     let path = path_in(alloc, folder, below.as_str())?;
-    if files.folder(path.as_str()).is_err() {
+    if files.folder_in(folder, path.as_str()).is_err() {
         return Err(Refusal::of(Subject::ImageFolder(file), ProgramFault::Folder));
     }
     let name = ImagePathText::of(&ImagePath(file));

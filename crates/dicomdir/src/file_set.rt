@@ -20,7 +20,8 @@ pub(crate) fn limits_of(max_bytes: u32) -> Limits {
     Limits::new(max_bytes, FileId::MAX_RANK).unwrap()
 }
 
-/// Refuses a folder whose directory can be opened.
+/// Refuses a folder whose directory can be opened, also where the system shows it under another spelling of its
+/// name.
 pub(crate) fn refuse_taken<F: Files>(
     alloc: Global,
     folder: &str,
@@ -29,10 +30,10 @@ pub(crate) fn refuse_taken<F: Files>(
     ensures { (paths : ℕ) → IfErr result (IsOfWork paths) }
 {
     let path = path_in(alloc, folder, DIRECTORY)?;
-    match files.source(path.as_str()) {
-        Ok(_) => Err(Refusal::of(Subject::Directory, ProgramFault::Create)),
-        Err(_) => Ok(()),
+    if files.source(path.as_str()).is_ok() || files.member(folder, path.as_str()).is_ok() {
+        return Err(Refusal::of(Subject::Directory, ProgramFault::Create));
     }
+    Ok(())
 }
 
 /// Copies each image of the plan into the folder, from where it is picked, and then writes the directory

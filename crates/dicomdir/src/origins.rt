@@ -34,6 +34,10 @@ pub(crate) trait Origins {
         requires { has self.now pick }
         ensures { IfOk result (λ path. stands_at self.now pick (string_bytes path)) };
 
+    /// The folder of the file-set that the file is of, if it is of one.
+    fn set(&self, pick: Self::Pick) -> Option<&str>
+        requires { has self.now pick };
+
     /// What a refusal concerns that comes of the file.
     fn subject(&self, pick: Self::Pick) -> Subject
         requires { has self.now pick }
@@ -63,6 +67,10 @@ impl Origins for SourceFiles<'_> {
         Ok(String::from_str(alloc, self.paths[at].as_str())?)
     }
 
+    fn set(&self, _at: usize) -> Option<&str> {
+        None
+    }
+
     fn subject(&self, at: usize) -> Subject {
         Subject::Source(at)
     }
@@ -90,6 +98,10 @@ impl<'a> Origins for SetFiles<'a> {
 
     fn path(&self, alloc: Global, pick: Pick<'a>) -> Result<String, Memory> {
         file_path(alloc, self.folders[pick.set].as_str(), pick.file)
+    }
+
+    fn set(&self, pick: Pick<'a>) -> Option<&str> {
+        Some(self.folders[pick.set].as_str())
     }
 
     fn subject(&self, pick: Pick<'a>) -> Subject {

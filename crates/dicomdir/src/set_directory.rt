@@ -37,7 +37,7 @@ pub(crate) fn directory_bytes<F: Files>(
     ensures { (paths : ℕ) → at < paths → IfErr result (IsOfWork paths) }
 {
     let path = path_in(alloc, folder, DIRECTORY)?;
-    let Ok(mut reader) = files.source(path.as_str()) else {
+    let Ok(mut reader) = files.member(folder, path.as_str()) else {
         return Err(Refusal::of(Subject::SetDirectory(at), ProgramFault::Absent));
     };
     match read_whole(alloc, &mut reader, SOURCE_LIMIT) {

@@ -9,9 +9,14 @@ use dd_elem::Write;
 use dicomdir::{print_line, run};
 use dicomdir_host::{Counted, HostFiles};
 use std::env;
-use std::io::ErrorKind;
+use std::fs::{self, File};
+use std::io::{self, ErrorKind};
+use std::os::fd::{AsRawFd, IntoRawFd};
 use std::process::ExitCode;
 use words::{Number, bad_word};
+
+// How many standard descriptors there are: input, output and error output.
+const STANDARD: i32 = 3;
 
 // Tells why there are no words, and which one is not text, and answers the status.
 fn refuse_words<E: Write>(kind: ErrorKind, bad: Option<usize>, err: &mut E) -> u8
@@ -39,11 +44,31 @@ fn refuse_words<E: Write>(kind: ErrorKind, bad: Option<usize>, err: &mut E) -> u
     2
 }
 
+// Opens /dev/null for reading in place of each standard descriptor that is closed, so that no file of a run becomes
+// one of them. A write to an output that was closed still fails.
+fn fill_standard<R: fs::Files>(rt: &R) -> io::Result<()>
+where
+    R::File: AsRawFd + IntoRawFd,
+{
+    for _ in 0..=STANDARD {
+        let null = File::open(rt, "/dev/null")?;
+        if null.as_raw_fd() >= STANDARD {
+            return Ok(());
+        }
+        let _ = null.into_raw_fd();
+    }
+    Err(io::Error::other("the standard descriptors stay closed"))
+}
+
 fn main(rt: HostRuntime) -> ExitCode {
     let alloc = rt.alloc();
+    let mut err = Counted::new(rt.stderr());
+    if fill_standard(&rt).is_err() {
+        let _ = print_line(&["error: /dev/null can't be opened"], &mut err);
+        return ExitCode::from(1);
+    }
     let mut files = HostFiles::new(alloc, &rt);
     let mut out = Counted::new(rt.stdout());
-    let mut err = Counted::new(rt.stderr());
     let status = match env::args(&rt) {
         Ok(words) => match words.collect(alloc) {
             Ok(words) => run(alloc, words, &mut files, &mut out, &mut err),

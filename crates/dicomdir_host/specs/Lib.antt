@@ -1,3 +1,4 @@
 pub mod Directory
 pub mod Folders
+pub mod Spellings
 pub mod Storing

@@ -5,11 +5,13 @@ ghost use Rattle.dd_elem.specs.Device.{HasWorked, counted, last_count};
 ghost use Rattle.dicomdir_host.specs.Directory.{IsDirectoryPath};
 ghost use Rattle.dicomdir_host.specs.Storing.{IsStored, Names};
 
-use crate::again::{is_folder, make_folder};
+use crate::again::{Links, is_folder, look, make_folder};
 use crate::counted::Counted;
+use crate::members::Members;
+use crate::opening::{Input, open_seen};
 use crate::output::{self, Output};
 use crate::paths::{before_slash, folder_of};
-use crate::storing::{self, Unstored};
+use crate::storing::Unstored;
 use dd_elem::Write;
 use dd_files::{DIRECTORY, Files, NotDone, NotThere};
 use std::alloc::Global;
@@ -34,7 +36,12 @@ const NO_MORE: [i32; 2] = [24, 23];
 /// made again.
 ///
 /// A source is a file or a folder, also behind links: a pipe, a socket or a device is taken for not
-/// there, since to open it could wait. A folder opens, and its read fails.
+/// there, since to open it could wait. A folder opens, and its read fails. What was opened is looked at again,
+/// and is taken for not there where it is not what was looked at before. A plain file whose size is said to be 0
+/// is taken for empty.
+///
+/// A file of a file-set is such a file that is found in any of the spellings in which systems show a disc. Below
+/// the folder of the file-set no link is followed, and none below the folder that is written to.
 pub struct HostFiles<'a, R: fs::Files> {
     rt: &'a R,
     alloc: Global,
@@ -44,8 +51,10 @@ pub struct HostFiles<'a, R: fs::Files> {
     unstored: Unstored<R::File>,
     // Is all to be stored at the next call?
     is_due: bool,
-    // The folder that was made last.
+    // The folder that was made last, and how much of its path may lead over links.
     folder: String,
+    out_len: usize,
+    members: Members,
     refusals: u64,
 }
 
@@ -60,6 +69,8 @@ impl<R: fs::Files> Drop for HostFiles<'_, R> {
             unstored: _unstored,
             is_due: _,
             folder: _folder,
+            out_len: _,
+            members: _members,
             refusals: _,
         } = self;
     }
@@ -96,6 +107,8 @@ impl<'a, R: fs::Files> HostFiles<'a, R> {
             unstored: Unstored::new(alloc),
             is_due: true,
             folder: String::new(alloc),
+            out_len: 0,
+            members: Members::new(),
             refusals: 0,
         }
     }
@@ -131,12 +144,25 @@ impl<'a, R: fs::Files> HostFiles<'a, R> {
     }
 
     // The file or the folder at the path, opened for reading.
-    fn open(&mut self, path: &str) -> io::Result<R::File>
+    fn open(&mut self, path: &str) -> io::Result<Input<R::File>>
         ensures same { self.new ≡ record self.old { unstored = self.new.unstored } }
     {
-        let answer = storing::open(self.rt, path);
+        let seen = look(self.rt, path, Links::Followed)?;
+        let answer = open_seen(self.rt, path, &seen);
         if self.makes_room(&answer) {
-            return storing::open(self.rt, path);
+            return open_seen(self.rt, path, &seen);
+        }
+        answer
+    }
+
+    // The file at the path below the folder `set`, opened for reading.
+    fn open_member(&mut self, set: &str, path: &str) -> io::Result<Input<R::File>>
+        ensures same { self.new ≡ record self.old { unstored = self.new.unstored; members = self.new.members } }
+    {
+        let seen = self.members.find(self.rt, set, path)?;
+        let answer = open_seen(self.rt, self.members.place(), &seen);
+        if self.makes_room(&answer) {
+            return open_seen(self.rt, self.members.place(), &seen);
         }
         answer
     }
@@ -154,44 +180,52 @@ impl<'a, R: fs::Files> HostFiles<'a, R> {
         answer
     }
 
-    // Makes a folder, unless it is there.
-    fn make_one(&mut self, path: &str) -> io::Result<()>
+    // Makes a folder, unless it is there. It may be a link where its path has no more than `out_len` bytes.
+    fn make_one(&mut self, path: &str, out_len: usize) -> io::Result<()>
         ensures same { self.new ≡ record self.old { unstored = self.new.unstored } }
     {
+        let links = if path.len() > out_len {
+            Links::Kept
+        } else {
+            Links::Followed
+        };
         let folder = self.unstored.room(folder_of(path))?;
-        match make_folder(self.rt, path) {
+        match make_folder(self.rt, path, links) {
             Ok(()) => Ok(self.unstored.name(folder)?),
-            Err(_) if is_folder(self.rt, path) => Ok(()),
+            Err(_) if is_folder(self.rt, path, links) => Ok(()),
             Err(error) => Err(error),
         }
     }
 
     // Makes the folders above one, unless they are there.
-    fn make_above(&mut self, path: &str) -> io::Result<()>
+    fn make_above(&mut self, path: &str, out_len: usize) -> io::Result<()>
         ensures same { self.new ≡ record self.old { unstored = self.new.unstored } }
     {
         for at in 1..path.len() {
             if let Some(folder) = before_slash(path, at) {
-                self.make_one(folder)?;
+                self.make_one(folder, out_len)?;
             }
         }
         Ok(())
     }
 
-    // Makes a folder with its parents, unless it was made last. The empty path is the current folder.
-    fn make(&mut self, path: &str) -> io::Result<()>
+    // Makes a folder with its parents, unless it was made last. The empty path is the current folder. A name behind
+    // the first `out_len` bytes of the path must not be a link.
+    fn make(&mut self, path: &str, out_len: usize) -> io::Result<()>
         ensures same { self.new ≡ record self.old {
           folder = self.new.folder;
+          out_len = self.new.out_len;
           unstored = self.new.unstored;
         } }
     {
-        if path.is_empty() || self.folder.as_str() == path {
+        if path.is_empty() || (self.folder.as_str() == path && self.out_len == out_len) {
             return Ok(());
         }
         let made = String::from_str(self.alloc, path)?;
-        self.make_above(path)?;
-        self.make_one(path)?;
+        self.make_above(path, out_len)?;
+        self.make_one(path, out_len)?;
         self.folder = made;
+        self.out_len = out_len;
         Ok(())
     }
 
@@ -281,13 +315,13 @@ impl<R: fs::Files> Write for HostFiles<'_, R> {
 }
 
 impl<R: fs::Files> Files for HostFiles<'_, R> {
-    type In = Counted<R::File>;
+    type In = Counted<Input<R::File>>;
 
     ghost refusals = { λ s. s.refusals };
 
     ghost held = { λ _. None };
 
-    fn source(&mut self, path: &str) -> Result<Counted<R::File>, NotThere> {
+    fn source(&mut self, path: &str) -> Result<Counted<Input<R::File>>, NotThere> {
         if self.refusals < u64::MAX {
             if let Ok(file) = self.open(path) {
                 return Ok(Counted::new(file));
@@ -297,8 +331,23 @@ impl<R: fs::Files> Files for HostFiles<'_, R> {
         Err(NotThere)
     }
 
+    fn member(&mut self, set: &str, path: &str) -> Result<Counted<Input<R::File>>, NotThere> {
+        if self.refusals < u64::MAX {
+            if let Ok(file) = self.open_member(set, path) {
+                return Ok(Counted::new(file));
+            }
+        }
+        self.refusals = self.refusals.saturating_add(1);
+        Err(NotThere)
+    }
+
     fn folder(&mut self, path: &str) -> Result<(), NotDone> {
-        let is_done = self.refusals < u64::MAX && self.make(path).is_ok();
+        let is_done = self.refusals < u64::MAX && self.make(path, path.len()).is_ok();
+        self.answer(is_done)
+    }
+
+    fn folder_in(&mut self, out: &str, path: &str) -> Result<(), NotDone> {
+        let is_done = self.refusals < u64::MAX && self.make(path, out.len()).is_ok();
         self.answer(is_done)
     }
 

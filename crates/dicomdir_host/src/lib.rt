@@ -7,8 +7,12 @@
 mod again;
 mod counted;
 mod host_files;
+mod members;
+mod opening;
 mod output;
+mod path_buffer;
 mod paths;
+mod spelling;
 mod storing;
 #[cfg(test)]
 mod tests;

@@ -3,7 +3,7 @@ ghost use Rattle.std.specs.Prelude.{◌≡◌, ◌↔◌, ◌++◌, ◌∷◌, [
 ghost use Rattle.std.specs.Prelude.{IfOk, IfSome, IsErr, IsOk, IsSome};
 ghost use Rattle.dicomdir_host.specs.Storing.{IsStored};
 
-use crate::again::look;
+use crate::again::{Links, look};
 use std::alloc::{AllocError, Global};
 use std::fs::{self, File, OpenFile};
 use std::io::{self, ErrorKind};
@@ -167,12 +167,10 @@ impl<F: OpenFile + Drop> Unstored<F> {
     }
 }
 
-/// The file or the folder at the path, opened for reading. Anything else is refused, since to open it could
-/// wait.
-pub(crate) fn open<R: fs::Files>(rt: &R, path: &str) -> io::Result<R::File> {
-    let found = look(rt, path)?;
-    if !found.is_file() && !found.is_dir() {
-        return Err(io::Error::other("no file and no folder"));
+// The folder at the path, opened for reading. Anything else is refused, since to open it could wait.
+fn open_folder<R: fs::Files>(rt: &R, path: &str) -> io::Result<R::File> {
+    if !look(rt, path, Links::Followed)?.is_dir() {
+        return Err(io::Error::other("no folder"));
     }
     File::open(rt, path)
 }
@@ -180,7 +178,7 @@ pub(crate) fn open<R: fs::Files>(rt: &R, path: &str) -> io::Result<R::File> {
 // Has the system store the names in a folder. A folder that may not be opened is passed over, and one that
 // its system can't store.
 fn store_folder<R: fs::Files>(rt: &R, path: &str) -> io::Result<()> {
-    let folder = match open(rt, path) {
+    let folder = match open_folder(rt, path) {
         Ok(folder) => folder,
         Err(error) if error.kind() == ErrorKind::PermissionDenied => return Ok(()),
         Err(error) => return Err(error),

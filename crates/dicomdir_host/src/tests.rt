@@ -4,6 +4,7 @@
 mod cuts;
 mod disc;
 mod disc_file;
+mod names;
 mod power_cut;
 
 use crate::HostFiles;
@@ -82,6 +83,8 @@ fn call_of(name: &str) -> Option<Call> {
         "store" => Some(Call::Store),
         "look" => Some(Call::Look),
         "made" => Some(Call::Made),
+        "seen" => Some(Call::LookAtOpen),
+        "stay" => Some(Call::Stay),
         _ => None,
     }
 }
@@ -92,15 +95,22 @@ fn prepare(disc: &RefCell<Disc>, verb: &str, what: &str) -> Result<bool, Fail> {
         return Err("the disc is in use".into());
     };
     match verb {
-        "file" => {
-            let place = disc.put(what, Kind::File)?;
-            disc.add(place, b"old")?;
+        "file" | "also" | "silent" => {
+            let kind = if verb == "silent" {
+                Kind::Silent
+            } else {
+                Kind::File
+            };
+            let place = disc.put(what, kind)?;
+            disc.add(place, if verb == "also" { b"two" } else { b"old" })?;
         }
-        "pipe" => {
-            disc.put(what, Kind::Pipe)?;
-        }
-        "dir" => {
-            disc.put(what, Kind::Folder)?;
+        "pipe" | "dir" | "link" => {
+            let kind = match verb {
+                "pipe" => Kind::Pipe,
+                "dir" => Kind::Folder,
+                _ => Kind::Link,
+            };
+            disc.put(what, kind)?;
         }
         "spill" => disc.spill(what)?,
         "limit" => disc.open_at_most(what.parse().map_err(|_| "no number")?),
@@ -133,6 +143,10 @@ fn is_done(files: &mut HostFiles<'_, DiscFiles<'_>>, verb: &str, what: &str) -> 
     match verb {
         "create" => files.create(what).is_ok(),
         "folder" => files.folder(what).is_ok(),
+        "make" => {
+            let (out, path) = named(what);
+            files.folder_in(out, path).is_ok()
+        }
         "write" => write_all(files, what.as_bytes()),
         "store" => files.store().is_ok(),
         // More than the buffer takes.
@@ -155,14 +169,29 @@ fn all_of<R: Read>(alloc: Global, reader: &mut R) -> Result<Option<Vec<u8>>, Fai
     Err("a reader with no end".into())
 }
 
-// Adds what a source gives.
+// The folder of a path with a mark between its folder and what stands below that, and the path.
+fn named(what: &str) -> (&str, &str) {
+    match what.split_once(": ") {
+        Some(both) => both,
+        None => ("", what),
+    }
+}
+
+// Adds what a source gives, or a file of a file-set.
 fn read(
     alloc: Global,
     files: &mut HostFiles<'_, DiscFiles<'_>>,
-    path: &str,
+    verb: &str,
+    what: &str,
     said: &mut String,
 ) -> Result<(), Fail> {
-    let Ok(mut reader) = files.source(path) else {
+    let opened = if verb == "find" {
+        let (set, path) = named(what);
+        files.member(set, path)
+    } else {
+        files.source(what)
+    };
+    let Ok(mut reader) = opened else {
         return Ok(said.push('-')?);
     };
     match all_of(alloc, &mut reader)? {
@@ -181,7 +210,7 @@ fn tell(
 ) -> Result<(), Fail> {
     let (verb, what) = call.split_once(' ').unwrap_or((call, ""));
     match verb {
-        "read" => return read(alloc, files, what, said),
+        "read" | "find" => return read(alloc, files, verb, what, said),
         "unstored" => return Ok(said.push_str(files.unstored())?),
         _ => {}
     }

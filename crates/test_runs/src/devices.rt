@@ -7,6 +7,9 @@ use dicomdir::MemFiles;
 use std::alloc::Global;
 use std::test::Fail;
 
+/// An index of V1.
+const INDEX: &str = "index out a.dcm --uid 2.25.0";
+
 /// After how many bytes at least and at most writes fail in an index of V1, which has 454 bytes, and how each such run
 /// ends: the status, what both outputs hold, and what is there of the image and of the directory. A `front` has
 /// what was written of it.
@@ -15,8 +18,8 @@ const UNSENT: &str = "\
 454 1329 > 1 [] [FAULT out/DICOMDIR: 96 Unsent|] whole front
 1330 1340 > 0 [DONE 1 instances, 876 bytes|] [] whole whole";
 
-/// Which call is refused in an index of V1, and how the run ends. A directory that cannot be opened at first counts
-/// as absent.
+/// Which call is refused in an index of V1, or in another run, and how it ends. A directory that cannot be opened at
+/// first counts as absent. Openings of files of a file-set are not counted.
 const REFUSED: &str = "\
 0 > 0 [DONE 1 instances, 876 bytes|] [] whole whole
 1 > 0 [DONE 1 instances, 876 bytes|] [] whole whole
@@ -28,7 +31,16 @@ const REFUSED: &str = "\
 7 > 1 [] [FAULT out: 95 Folder|] whole none
 8 > 1 [] [FAULT out/DICOMDIR: 94 Create|] whole none
 9 > 1 [] [FAULT out/DICOMDIR: 96 Unsent|] whole whole
-10 > 0 [DONE 1 instances, 876 bytes|] [] whole whole";
+10 > 0 [DONE 1 instances, 876 bytes|] [] whole whole
+1: merge o2 d1 --uid 2.25.0 > 0 [DONE 1 instances, 876 bytes|] [] whole whole
+2: merge o2 d1 --uid 2.25.0 > 1 [] [FAULT o2/PT000001/ST000001/SE000001: 95 Folder|] none none
+3: merge o2 d1 --uid 2.25.0 > 1 [] [FAULT o2/PT000001/ST000001/SE000001/IM000001: 94 Create|] none none
+4: merge o2 d1 --uid 2.25.0 > 1 [] [FAULT o2/PT000001/ST000001/SE000001/IM000001: 96 Unsent|] whole none
+5: merge o2 d1 --uid 2.25.0 > 1 [] [FAULT o2: 95 Folder|] whole none
+6: merge o2 d1 --uid 2.25.0 > 1 [] [FAULT o2/DICOMDIR: 94 Create|] whole none
+7: merge o2 d1 --uid 2.25.0 > 1 [] [FAULT o2/DICOMDIR: 96 Unsent|] whole whole
+8: merge o2 d1 --uid 2.25.0 > 0 [DONE 1 instances, 876 bytes|] [] whole whole
+1: check d1 > 0 [OK 4 records|] [] whole whole";
 
 /// A file, at which opening of it the reader fails and after how many bytes at least and at most, the line, and how
 /// each such run ends, with what is in its folder then. A `front` has at most as many bytes as were read.
@@ -133,7 +145,7 @@ fn indexed(
     files: &mut MemFiles,
     after: u64,
 ) -> Result<String, Fail> {
-    let end = end_by(alloc, "index out a.dcm --uid 2.25.0", files)?;
+    let end = end_by(alloc, INDEX, files)?;
     let fronts = (exactly(after), exactly(after.saturating_sub(454)));
     let left = left(alloc, sample, (files, "out"), fronts)?;
     Ok(format!(in alloc; "{end} {left}")?)
@@ -166,10 +178,14 @@ fn writes_fail_after_each_byte(rt: HostRuntime) -> Result<(), Fail> {
 }
 
 pub(crate) fn refused(alloc: Global, question: &str) -> Result<String, Fail> {
+    let (number, line) = question.split_once(": ").unwrap_or((question, INDEX));
     let sample = made_sample(alloc)?;
     let mut files = disc_of(alloc, &sample)?;
-    files.fail_call(question.parse()?);
-    indexed(alloc, &sample, &mut files, 0)
+    files.fail_call(number.parse()?);
+    let end = end_by(alloc, line, &mut files)?;
+    let fronts = (exactly(0), exactly(0));
+    let left = left(alloc, &sample, (&files, folder_of(line)?), fronts)?;
+    Ok(format!(in alloc; "{end} {left}")?)
 }
 
 #[test]

@@ -7,7 +7,7 @@ use dd_vectors::{
     ends_refused, first_directory, growth_numbers, refuse_growth, require, v1, was_refused,
     words_of,
 };
-use dicomdir::{Files, MemFiles, run};
+use dicomdir::{Files, MemFiles, MemReader, NotThere, run};
 use std::alloc::Global;
 use std::test::Fail;
 
@@ -18,6 +18,7 @@ enum Call {
     FailRead,
     FolderFinishStore,
     Index,
+    Member,
     Put,
     PutLater,
     Source,
@@ -33,7 +34,7 @@ fn is_refused(alloc: Global, call: Call, chosen: u32) -> Result<bool, Fail> {
         Call::Index => index_refused(alloc, chosen),
         Call::Put => put_refused(alloc, chosen),
         Call::PutLater => put_later_refused(alloc, chosen),
-        Call::Source => source_refused(alloc, chosen),
+        Call::Member | Call::Source => opening_refused(alloc, call, chosen),
         Call::Write => write_refused(alloc, chosen),
     }
 }
@@ -135,14 +136,22 @@ fn growths_of_fail_read(rt: HostRuntime) -> Result<(), Fail> {
     refuse_each(rt.alloc(), Call::FailRead)
 }
 
-fn source_refused(alloc: Global, chosen: u32) -> Result<bool, Fail> {
+/// Opens the text as a source, or as a file of a file-set.
+fn open(files: &mut MemFiles, call: Call) -> Result<MemReader, NotThere> {
+    match call {
+        Call::Member => files.member("", "note.txt"),
+        _ => files.source("note.txt"),
+    }
+}
+
+fn opening_refused(alloc: Global, call: Call, chosen: u32) -> Result<bool, Fail> {
     let mut files = disc(alloc)?;
     refuse_growth(alloc, chosen)?;
-    let answer = files.source("note.txt");
+    let answer = open(&mut files, call);
     let refused = was_refused(alloc, answer.is_err())?;
     let mut reader = match answer {
         Ok(reader) => reader,
-        Err(_) => files.source("note.txt")?,
+        Err(_) => open(&mut files, call)?,
     };
     let mut bytes = [0; 8];
     require(
@@ -156,6 +165,11 @@ fn source_refused(alloc: Global, chosen: u32) -> Result<bool, Fail> {
 #[test]
 fn growths_of_source(rt: HostRuntime) -> Result<(), Fail> {
     refuse_each(rt.alloc(), Call::Source)
+}
+
+#[test]
+fn growths_of_member(rt: HostRuntime) -> Result<(), Fail> {
+    refuse_each(rt.alloc(), Call::Member)
 }
 
 fn create_refused(alloc: Global, chosen: u32) -> Result<bool, Fail> {
@@ -203,7 +217,8 @@ fn folder_finish_store_refused(alloc: Global, chosen: u32) -> Result<bool, Fail>
     let mut files = disc(alloc)?;
     files.create("new.txt")?;
     refuse_growth(alloc, chosen)?;
-    let are_done = files.folder("new").is_ok() && files.finish().is_ok() && files.store().is_ok();
+    let are_folders = files.folder("new").is_ok() && files.folder_in("new", "new/a").is_ok();
+    let are_done = are_folders && files.finish().is_ok() && files.store().is_ok();
     was_refused(alloc, !are_done)
 }
 

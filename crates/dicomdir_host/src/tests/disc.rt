@@ -21,19 +21,24 @@ pub(super) enum Call {
     Write,
     Store,
     Look,
+    /// A look at an open file.
+    LookAtOpen,
+    /// A file that stays what it was when it is opened.
+    Stay,
     /// A folder that is made by then.
     Made,
 }
 
 /// The disc: what stands there, in the order in which it was made, the next call that fails, which files and
-/// folders were to be made and which were stored, in this order, how many files are open and may be, and
-/// after how many calls a power cut would have left a whole directory without its images.
+/// folders were to be made and which were stored, in this order, what was looked at, how many files are open and may
+/// be, and after how many calls a power cut would have left a whole directory without its images.
 pub(super) struct Disc {
     alloc: Global,
     entries: Vec<Entry>,
     failing: Option<Call>,
     kind: ErrorKind,
     log: String,
+    looks: String,
     pub(super) open: usize,
     most_open: usize,
     broken: usize,
@@ -48,6 +53,7 @@ impl Drop for Disc {
             failing: _,
             kind: _,
             log: _log,
+            looks: _looks,
             open: _,
             most_open: _,
             broken: _,
@@ -64,6 +70,7 @@ impl Disc {
             failing: None,
             kind: ErrorKind::Other,
             log: String::new(alloc),
+            looks: String::new(alloc),
             open: 0,
             most_open: usize::MAX,
             broken: 0,
@@ -90,6 +97,11 @@ impl Disc {
     /// What was made and stored, in order.
     pub(super) fn log(&self) -> &str {
         self.log.as_str()
+    }
+
+    /// What was looked at by its path, in order, but for links that were followed.
+    pub(super) fn looks(&self) -> &str {
+        self.looks.as_str()
     }
 
     fn note(&mut self, what: &str, path: &str) -> io::Result<()> {
@@ -190,6 +202,42 @@ impl Disc {
         Some(self.entries.get(self.find(path)?)?.kind)
     }
 
+    /// What stands at the place.
+    pub(super) fn metadata(&self, place: usize) -> io::Result<Metadata> {
+        let Some(entry) = self.entries.get(place) else {
+            return Err(io::Error::from(ErrorKind::NotFound));
+        };
+        Ok(match entry.kind {
+            Kind::File => Metadata::of_file(entry.bytes.len() as u64),
+            Kind::Silent => Metadata::of_file(0),
+            Kind::Folder => Metadata::of_dir(),
+            // Of what is no file and no folder, this alone can be made.
+            Kind::Pipe | Kind::Link => Metadata::of_symlink(0),
+        })
+    }
+
+    // What stands at the path.
+    fn look_at(&mut self, path: &str) -> io::Result<Metadata> {
+        self.pass(Call::Look)?;
+        if !self.looks.is_empty() {
+            self.looks.push_str(", ")?;
+        }
+        self.looks.push_str(path)?;
+        match self.find(path) {
+            Some(place) => self.metadata(place),
+            None => Err(io::Error::from(ErrorKind::NotFound)),
+        }
+    }
+
+    // The file at the place becomes a pipe, where it is not to stay what it was.
+    fn swap(&mut self, place: usize) {
+        if self.pass(Call::Stay).is_err() {
+            if let Some(entry) = self.entries.get_mut(place) {
+                entry.kind = Kind::Pipe;
+            }
+        }
+    }
+
     pub(super) fn pass(&mut self, call: Call) -> io::Result<()> {
         if self.failing == Some(call) {
             self.failing = None;
@@ -224,7 +272,7 @@ impl Disc {
             return Ok(());
         };
         match self.kind(parent) {
-            Some(Kind::Folder) => Ok(()),
+            Some(Kind::Folder | Kind::Link) => Ok(()),
             Some(_) => Err(io::Error::from(ErrorKind::NotADirectory)),
             None => Err(io::Error::from(ErrorKind::NotFound)),
         }
@@ -276,6 +324,7 @@ impl<'a> Files for DiscFiles<'a> {
             return Err(io::Error::from_raw_os_error(24));
         }
         let place = disc.open(how, path)?;
+        disc.swap(place);
         disc.open = disc.open.saturating_add(1);
         Ok(DiscFile {
             disc: self.0,
@@ -286,13 +335,9 @@ impl<'a> Files for DiscFiles<'a> {
 
     fn metadata(&self, path: &str) -> io::Result<Metadata> {
         let mut disc = self.0.try_borrow_mut().map_err(|_| in_use())?;
-        disc.pass(Call::Look)?;
         match disc.kind(path) {
-            Some(Kind::File) => Ok(Metadata::of_file(0)),
-            Some(Kind::Folder) => Ok(Metadata::of_dir()),
-            // Of what is no file and no folder, this alone can be made.
-            Some(Kind::Pipe) => Ok(Metadata::of_symlink(0)),
-            None => Err(io::Error::from(ErrorKind::NotFound)),
+            Some(Kind::Link) => Ok(Metadata::of_dir()),
+            _ => disc.look_at(path),
         }
     }
 
@@ -310,7 +355,8 @@ impl<'a> Files for DiscFiles<'a> {
     }
 
     fn symlink_metadata(&self, path: &str) -> io::Result<Metadata> {
-        self.metadata(path)
+        let mut disc = self.0.try_borrow_mut().map_err(|_| in_use())?;
+        disc.look_at(path)
     }
 
     fn copy(&self, _from: &str, _to: &str) -> io::Result<u64> {

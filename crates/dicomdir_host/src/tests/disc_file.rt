@@ -67,7 +67,9 @@ impl OpenFile for DiscFile<'_> {
     }
 
     fn metadata(&self) -> io::Result<Metadata> {
-        Err(io::Error::from(ErrorKind::Unsupported))
+        let mut disc = self.disc.try_borrow_mut().map_err(|_| in_use())?;
+        disc.pass(Call::LookAtOpen)?;
+        disc.metadata(self.place)
     }
 
     fn set_len(&self, _size: u64) -> io::Result<()> {

@@ -7,6 +7,10 @@ pub(super) enum Kind {
     File,
     Folder,
     Pipe,
+    /// A link to a folder.
+    Link,
+    /// A file that says that it has no bytes.
+    Silent,
 }
 
 /// What was made, and how much of it lasts.

@@ -1,0 +1,153 @@
+//! Files in memory as the files of a program.
+ghost use Rattle.std.specs.Prelude.{◌≡◌, ◌↔◌, ◌<◌, [], None, Some, IfOk, IsErr, IsOk, OnErr, OnOk, codes};
+ghost use Rattle.dd_elem.specs.Device.{HasWorked, counted, last_count};
+ghost use Rattle.dd_mem_files.specs.MemFiles.{MayCall, Opens, SetsFile, bytes_at, called, refused, told_of, unread};
+ghost use Rattle.dd_mem_files.specs.MemLaws.{held_grows, refusals_stay, told_contents};
+ghost use Rattle.dd_mem_files.specs.PlannedFaults.{fails_at};
+
+use crate::mem_files::MemFiles;
+use crate::mem_reader::MemReader;
+use dd_files::{Files, NotDone, NotThere};
+
+impl Files for MemFiles {
+    type In = MemReader;
+
+    ghost refusals = { λ s. s.refusals };
+
+    ghost held = { told_of };
+
+    /// Gives a reader of a copy of the file's bytes; a file that changes later has its new bytes from its
+    /// second opening on. NotThere where the call is to be refused, there is no such file, a growth is refused or
+    /// the refusals are at their last value; the files are then as they were, and it is no opening.
+    fn source(&mut self, path: &str) -> Result<MemReader, NotThere>
+        ensures worked { IsOk result → HasWorked self.old.refusals self.new.refusals }
+        ensures refused { IsErr result → self.new.refusals ≡ counted self.old.refusals }
+        ensures may { IsOk result → MayCall self.old }
+        ensures gives { IfOk result (λ reader. bytes_at self.new.files path.now ≡ Some reader.left) }
+        ensures new { IfOk result (λ reader. reader
+            ≡ unread reader.left (fails_at self.old.planned.reader path.now)) }
+        ensures opens { OnOk result (Opens (called self.old) self.new path.now) }
+        ensures err { OnErr result (self.new ≡ refused self.old) }
+    {
+        if self.begin() {
+            if let Some(reader) = self.open(path) {
+                return Ok(reader);
+            }
+        }
+        self.refuse();
+        Err(NotThere)
+    }
+
+    /// Gives such a reader of the file at the path, which is named there as it is recorded. NotThere where
+    /// there is no such file, a growth is refused or the refusals are at their last value; the files are then as
+    /// they were, and it is no opening. It is not one of the calls that `fail_call` counts.
+    fn member(&mut self, _set: &str, path: &str) -> Result<MemReader, NotThere>
+        ensures worked { IsOk result → HasWorked self.old.refusals self.new.refusals }
+        ensures refused { IsErr result → self.new.refusals ≡ counted self.old.refusals }
+        ensures may { IsOk result → self.old.refusals < last_count }
+        ensures gives { IfOk result (λ reader. bytes_at self.new.files path.now ≡ Some reader.left) }
+        ensures new { IfOk result (λ reader. reader
+            ≡ unread reader.left (fails_at self.old.planned.reader path.now)) }
+        ensures opens { OnOk result (Opens self.old self.new path.now) }
+        ensures err { OnErr result (self.new ≡ record self.old { refusals = counted self.old.refusals }) }
+    {
+        if self.refusals < u64::MAX {
+            if let Some(reader) = self.open(path) {
+                return Ok(reader);
+            }
+        }
+        self.refuse();
+        Err(NotThere)
+    }
+
+    /// Every folder is there. NotDone only where the call is to be refused or the refusals are at their last
+    /// value.
+    fn folder(&mut self, _path: &str) -> Result<(), NotDone>
+        ensures worked { IsOk result → HasWorked self.old.refusals self.new.refusals }
+        ensures refused { IsErr result → self.new.refusals ≡ counted self.old.refusals }
+        ensures done { IsOk result ↔ MayCall self.old }
+        ensures ok { OnOk result (self.new ≡ called self.old) }
+        ensures err { OnErr result (self.new ≡ refused self.old) }
+    {
+        if self.begin() {
+            return Ok(());
+        }
+        self.refuse();
+        Err(NotDone)
+    }
+
+    /// The same: no link is kept.
+    fn folder_in(&mut self, _out: &str, path: &str) -> Result<(), NotDone>
+        ensures worked { IsOk result → HasWorked self.old.refusals self.new.refusals }
+        ensures refused { IsErr result → self.new.refusals ≡ counted self.old.refusals }
+        ensures done { IsOk result ↔ MayCall self.old }
+        ensures ok { OnOk result (self.new ≡ called self.old) }
+        ensures err { OnErr result (self.new ≡ refused self.old) }
+    {
+        self.folder(path)
+    }
+
+    /// Starts an empty file at the path. NotDone where the call is to be refused, the path is there, a growth is
+    /// refused or the refusals are at their last value; the files are then as they were.
+    fn create(&mut self, path: &str) -> Result<(), NotDone>
+        ensures worked { IsOk result → HasWorked self.old.refusals self.new.refusals }
+        ensures refused { IsErr result → self.new.refusals ≡ counted self.old.refusals }
+        ensures may { IsOk result → MayCall self.old }
+        ensures free { OnOk result (bytes_at self.old.files path.now ≡ None) }
+        ensures ok { OnOk result (SetsFile self.old.files self.new.files path.now []) }
+        ensures started { OnOk result (self.new.current ≡ Some path.now) }
+        ensures err { OnErr result (self.new ≡ refused self.old) }
+        ensures same { OnOk result (self.new
+            ≡ record (called self.old) { files = self.new.files; current = self.new.current }) }
+    {
+        if self.begin() && self.bytes(path).is_none() && self.start(path).is_ok() {
+            return Ok(());
+        }
+        self.refuse();
+        Err(NotDone)
+    }
+
+    /// Ends the file that is being written; later writes fail until the next is started. NotDone only where the
+    /// call is to be refused or the refusals are at their last value, and then it goes on.
+    fn finish(&mut self) -> Result<(), NotDone>
+        ensures worked { IsOk result → HasWorked self.old.refusals self.new.refusals }
+        ensures refused { IsErr result → self.new.refusals ≡ counted self.old.refusals }
+        ensures done { IsOk result ↔ MayCall self.old }
+        ensures ok { OnOk result (self.new ≡ record (called self.old) { current = None }) }
+        ensures err { OnErr result (self.new ≡ refused self.old) }
+    {
+        if !self.begin() {
+            self.refuse();
+            return Err(NotDone);
+        }
+        self.current = None;
+        Ok(())
+    }
+
+    /// All is stored as soon as it is made. NotDone only where the refusals are at their last value.
+    fn store(&mut self) -> Result<(), NotDone>
+        ensures worked { IsOk result → HasWorked self.old.refusals self.new.refusals }
+        ensures refused { IsErr result → self.new.refusals ≡ counted self.old.refusals }
+        ensures done { IsOk result ↔ (self.old.refusals < last_count) }
+        ensures same { self.new ≡ self.old }
+    {
+        if self.refusals < u64::MAX {
+            Ok(())
+        } else {
+            Err(NotDone)
+        }
+    }
+
+    /// The current folder: all is stored.
+    fn unstored(&self) -> &str
+        ensures { result.now ≡ codes "." }
+    {
+        "."
+    }
+
+    ghost same_refusals = { refusals_stay };
+
+    ghost same_contents = { told_contents };
+
+    ghost written_grows = { held_grows };
+}

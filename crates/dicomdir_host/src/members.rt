@@ -1,0 +1,105 @@
+//! The files of file-sets, looked for as systems show them.
+
+use crate::again::{Links, look};
+use crate::path_buffer::PathBuffer;
+use crate::spelling::spellings;
+use std::fs::{self, Metadata};
+use std::io::{self, ErrorKind};
+
+/// Where a file of a file-set was looked for last.
+#[derive(Drop)]
+pub(crate) struct Members {
+    /// How many bytes the path of the file-set's folder has. No path has `usize::MAX`: no folder is kept then.
+    set_len: usize,
+    /// The folder as it is recorded, with the `/` behind it.
+    recorded: PathBuffer,
+    /// The folder as it is shown, and behind it the name that was looked for.
+    place: PathBuffer,
+    /// How many bytes of the place are the folder.
+    folder_len: usize,
+}
+
+impl Members {
+    /// No file was looked for.
+    pub(crate) fn new() -> Self {
+        Members {
+            set_len: usize::MAX,
+            recorded: PathBuffer::new(),
+            place: PathBuffer::new(),
+            folder_len: 0,
+        }
+    }
+
+    /// Where the file stands that was found last.
+    pub(crate) fn place(&self) -> &str {
+        self.place.as_str()
+    }
+
+    /// Finds the file at this path below the folder `set`, and answers what stands at its place. Each name below the
+    /// folder may be shown in any spelling, of which the first that is there is taken; a symbolic link counts as
+    /// not there.
+    pub(crate) fn find<R: fs::Files>(
+        &mut self,
+        rt: &R,
+        set: &str,
+        path: &str,
+    ) -> io::Result<Metadata> {
+        let (folder, name) = split_name(path);
+        if self.set_len != set.len() || self.recorded.as_str() != folder {
+            self.enter(rt, set, folder)?;
+        }
+        self.place.truncate(self.folder_len);
+        find_name(rt, name, &mut self.place)
+    }
+
+    /// Finds the folder that is recorded so below the folder `set`.
+    fn enter<R: fs::Files>(&mut self, rt: &R, set: &str, folder: &str) -> io::Result<()> {
+        self.set_len = usize::MAX;
+        self.recorded.truncate(0);
+        self.place.truncate(0);
+        let (above, below) = split_set(set, folder);
+        self.place.push(above)?;
+        for name in below.split_terminator('/') {
+            find_name(rt, name, &mut self.place)?;
+            self.place.push("/")?;
+        }
+        self.folder_len = self.place.len();
+        self.recorded.push(folder)?;
+        self.set_len = set.len();
+        Ok(())
+    }
+}
+
+/// Splits a path behind its last `/`.
+fn split_name(path: &str) -> (&str, &str) {
+    match path.rfind('/') {
+        Some(at) => path
+            .split_at_checked(at.saturating_add(1))
+            .unwrap_or(("", path)),
+        None => ("", path),
+    }
+}
+
+/// Splits a path below the folder `set` behind that folder and the `/` that follows it.
+fn split_set<'a>(set: &str, path: &'a str) -> (&'a str, &'a str) {
+    let Some(below) = path.strip_prefix(set) else {
+        return (path, "");
+    };
+    let below = below.strip_prefix('/').unwrap_or(below);
+    let above = path.len().saturating_sub(below.len());
+    path.split_at_checked(above).unwrap_or((path, ""))
+}
+
+/// Finds a name in the folder at this place, adds it there as it is shown, and answers what stands there.
+fn find_name<R: fs::Files>(rt: &R, name: &str, place: &mut PathBuffer) -> io::Result<Metadata> {
+    let folder_len = place.len();
+    for spelling in spellings() {
+        place.truncate(folder_len);
+        place.push_spelled(name, spelling)?;
+        match look(rt, place.as_str(), Links::Kept) {
+            Ok(found) if !found.is_symlink() => return Ok(found),
+            _ => {}
+        }
+    }
+    Err(io::Error::from(ErrorKind::NotFound))
+}

@@ -1,0 +1,103 @@
+//! A path that is put together, without memory.
+ghost use Rattle.std.specs.Prelude.{◌≡◌, ◌≤◌, ◌⊎◌, ◌++◌, ℕ, List, [], IsErr, IsOk, length, take};
+ghost use Rattle.dicomdir_host.specs.Spellings.{in_small_letters, spelled};
+
+use crate::spelling::Spelling;
+use std::io::{self, ErrorKind};
+use std::marker::Model;
+use std::str::from_utf8;
+
+/// The most bytes of a path. The system takes 4,095 (PATH_MAX, which counts the NUL behind them).
+const MOST: usize = 4096;
+
+/// A path that is put together, of at most 4,096 bytes.
+#[derive(Drop)]
+pub(crate) struct PathBuffer {
+    bytes: [u8; MOST],
+    len: usize,
+    ghost within: { len ≤ length bytes },
+}
+
+impl Model for PathBuffer {
+    ghost Value = { List ℕ };
+
+    ghost view = { λ s. take s.len s.bytes };
+}
+
+impl PathBuffer {
+    /// The empty path.
+    pub(crate) fn new() -> Self
+        ensures { result ≡ [] }
+    {
+        PathBuffer {
+            bytes: [0; MOST],
+            len: 0,
+        }
+    }
+
+    /// How many bytes it has.
+    pub(crate) fn len(&self) -> usize
+        ensures { result ≡ length self.now }
+    {
+        self.len
+    }
+
+    /// Takes away what stands behind the first `len` bytes.
+    pub(crate) fn truncate(&mut self, len: usize)
+        ensures { self.new ≡ take len self.old }
+    {
+        self.len = self.len.min(len);
+    }
+
+    /// Adds this text. Refused where the path gets too long, and then nothing has changed.
+    pub(crate) fn push(&mut self, text: &str) -> io::Result<()>
+        ensures ok { IsOk result → self.new ≡ self.old ++ text.now }
+        ensures err { IsErr result → self.new ≡ self.old }
+    {
+        if text.len() > self.bytes.len() - self.len {
+            return Err(io::Error::from(ErrorKind::InvalidInput));
+        }
+        let end = self.len + text.len();
+        self.bytes[self.len..end].copy_from_slice(text.as_bytes());
+        self.len = end;
+        Ok(())
+    }
+
+    /// Adds this text in small letters. Refused where the path gets too long, and then nothing has changed.
+    fn push_small(&mut self, text: &str) -> io::Result<()>
+        ensures ok { IsOk result → self.new ≡ self.old ++ in_small_letters text.now }
+        ensures err { IsErr result → self.new ≡ self.old }
+    {
+        if text.len() > self.bytes.len() - self.len {
+            return Err(io::Error::from(ErrorKind::InvalidInput));
+        }
+        let end = self.len + text.len();
+        let place = &mut self.bytes[self.len..end];
+        place.copy_from_slice(text.as_bytes());
+        place.make_ascii_lowercase();
+        self.len = end;
+        Ok(())
+    }
+
+    /// Adds a name in this spelling. Refused where the path gets too long.
+    pub(crate) fn push_spelled(&mut self, name: &str, spelling: Spelling) -> io::Result<()>
+        ensures { IsOk result → self.new ≡ self.old ++ spelled spelling name.now }
+    {
+        if spelling.is_small {
+            self.push_small(name)?;
+        } else {
+            self.push(name)?;
+        }
+        self.push(spelling.ending)
+    }
+
+    /// Its text.
+    pub(crate) fn as_str(&self) -> &str
+        ensures { (result.now ≡ self.now) ⊎ (result.now ≡ []) }
+    {
+        match from_utf8(&self.bytes[..self.len]) {
+            Ok(text) => text,
+            Err(_) => "",
+        }
+    }
+}

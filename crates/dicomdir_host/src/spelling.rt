@@ -1,0 +1,50 @@
+//! How systems show the names of a disc.
+ghost use Rattle.std.specs.Prelude.{◌≡◌, ◌++◌, ℕ, List, map};
+ghost use Rattle.dicomdir_host.specs.Spellings.{in_small_letters, shown, spelled};
+
+/// A spelling of a recorded name.
+#[derive(Clone, Copy)]
+pub(crate) struct Spelling {
+    /// Is it in small letters?
+    pub(crate) is_small: bool,
+    /// What stands behind the letters.
+    pub(crate) ending: &'static str,
+}
+
+/// The spellings in which systems show a name of a disc (ISO 9660), in the order in which they are looked for.
+/// A recorded name has no dot and no version number, and its letters are capital ones (PS3.10 section 8.2,
+/// PS3.12).
+pub(crate) fn spellings() -> [Spelling; 8]
+    ensures { (name : List ℕ) → map (λ spelling. spelled spelling name) result ≡ shown name }
+{
+    [
+        capital(""),
+        small(""),
+        capital(".;1"),
+        capital(";1"),
+        capital("."),
+        small(".;1"),
+        small(";1"),
+        small("."),
+    ]
+}
+
+/// As recorded, with this ending.
+fn capital(ending: &'static str) -> Spelling
+    ensures { (name : List ℕ) → spelled result name ≡ name ++ ending.now }
+{
+    Spelling {
+        is_small: false,
+        ending,
+    }
+}
+
+/// In small letters, with this ending.
+fn small(ending: &'static str) -> Spelling
+    ensures { (name : List ℕ) → spelled result name ≡ in_small_letters name ++ ending.now }
+{
+    Spelling {
+        is_small: true,
+        ending,
+    }
+}

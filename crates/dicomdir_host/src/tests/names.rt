@@ -1,0 +1,89 @@
+//! Files of file-sets in the spellings of systems, links, and what was opened.
+
+use super::disc::Disc;
+use super::told;
+use std::alloc::Global;
+use std::cell::RefCell;
+use std::test::Fail;
+
+// In each line calls, and then what they came to. A file or a folder below another one is named by that folder and
+// its path.
+const CASES: &str = "\
+file d/DICOMDIR, find d: d/DICOMDIR > . old
+file d/dicomdir, find d: d/DICOMDIR > . old
+file d/DICOMDIR.;1, find d: d/DICOMDIR > . old
+file d/DICOMDIR;1, find d: d/DICOMDIR > . old
+file d/DICOMDIR., find d: d/DICOMDIR > . old
+file d/dicomdir.;1, find d: d/DICOMDIR > . old
+file d/dicomdir;1, find d: d/DICOMDIR > . old
+file d/dicomdir., find d: d/DICOMDIR > . old
+file d/Dicomdir, find d: d/DICOMDIR > . -
+file d/dicomdir, also d/DICOMDIR, find d: d/DICOMDIR > . . two
+file d/dicomdir.;1, also d/DICOMDIR., find d: d/DICOMDIR > . . two
+file d/pt1/im1, dir d/pt1, find d: d/PT1/IM1 > . . old
+file d/PT1/im1, dir d/PT1, find d: d/PT1/IM1 > . . old
+file d/pt1/IM1, dir d/PT1, dir d/pt1, find d: d/PT1/IM1 > . . . -
+file d//DICOMDIR, find d//: d//DICOMDIR > . old
+file d/dicomdir, find d/: d/DICOMDIR > . old
+file dicomdir, find DICOMDIR > . old
+link d, file d/DICOMDIR, find d: d/DICOMDIR > . . old
+link d/DICOMDIR, find d: d/DICOMDIR > . -
+link d/DICOMDIR, file d/dicomdir, find d: d/DICOMDIR > . . old
+link d/PT1, file d/PT1/IM1, find d: d/PT1/IM1 > . . -
+link d/PT1, file d/PT1/IM1, dir d/pt1, also d/pt1/IM1, find d: d/PT1/IM1 > . . . . two
+link d/B, dir d/b, file d/b/C, also d/B/C, find d: d/B/C, find d/B: d/B/C, find d: d/B/C > . . . . old two old
+find d: d/P/A, dir d/P, file d/P/A, find d: d/P/A > - . . old
+file d/dicomdir, find D: D/DICOMDIR > . -
+file Discs/dicomdir, file discs/dicomdir, find Discs: Discs/DICOMDIR > . . old
+file a.dcm, read A.DCM > . -
+silent a, read a, silent d/A, find d: d/A, read b > .  .  -
+file a, fail stay, read a > . . -
+file d/A, fail stay, find d: d/A > . . -
+file a, fail seen, read a, pause seen, read a > . . - . old
+file d/A, fail look, find d: d/A, pause look, find d: d/A > . . - . old
+dir d, find d: d/A, file d/A, find d: d/A > . - . old
+make d: d/P/S, make d: d/P/S, make d: d/P/T > + + +
+link d, make d: d/P > . +
+dir d, link d/P, make d: d/P > . . -
+dir d, link d/P, make d: d/P/S > . . -
+dir d, link d/P, folder d/P/S, make d: d/P/S > . . + -
+dir d, link d/P, pause folder, make d: d/P > . . . -
+dir d, pause made, make d: d/P > . . +";
+
+// In each line calls, and then the paths that they looked at.
+const LOOKS: &str = "\
+find d: d/PT1/IM1 > d/PT1, d/pt1, d/PT1.;1, d/PT1;1, d/PT1., d/pt1.;1, d/pt1;1, d/pt1.
+dir d/P, file d/P/A, file d/P/B, find d: d/P/A, find d: d/P/B > d/P, d/P/A, d/P/B
+dir d/p, file d/p/a, file d/p/b, find d: d/P/A, find d: d/P/B > d/P, d/p, d/p/A, d/p/a, d/p/B, d/p/b
+dir d/P, file d/P/A, find d: d/P/A, find d: d/P/A, find d: d/Q/A > \
+d/P, d/P/A, d/P/A, d/Q, d/q, d/Q.;1, d/Q;1, d/Q., d/q.;1, d/q;1, d/q.";
+
+fn is_found(alloc: Global, case: &str) -> Result<bool, Fail> {
+    let (calls, wanted) = case.split_once(" > ").ok_or("no answers")?;
+    let disc = RefCell::new(Disc::new(alloc)?);
+    Ok(told(alloc, &disc, calls)?.as_str() == wanted)
+}
+
+fn is_looked_for(alloc: Global, case: &str) -> Result<bool, Fail> {
+    let (calls, wanted) = case.split_once(" > ").ok_or("no looks")?;
+    let disc = RefCell::new(Disc::new(alloc)?);
+    told(alloc, &disc, calls)?;
+    let disc = disc.into_inner();
+    Ok(disc.looks() == wanted)
+}
+
+#[test]
+fn finds_what_systems_show_and_follows_no_link(rt: HostRuntime) -> Result<(), Fail> {
+    for case in CASES.split('\n') {
+        assert!(rt; is_found(rt.alloc(), case)?, "at {case}");
+    }
+    Ok(())
+}
+
+#[test]
+fn looks_no_more_than_it_must(rt: HostRuntime) -> Result<(), Fail> {
+    for case in LOOKS.split('\n') {
+        assert!(rt; is_looked_for(rt.alloc(), case)?, "at {case}");
+    }
+    Ok(())
+}
