@@ -3,6 +3,10 @@ use Rattle.std.specs.Prelude.{ℕ, List, [], ◌∷◌, ◌++◌, codes, map, if
 use Rattle.std.specs.Char.{to_ascii_lowercase}
 use Rattle.dicomdir_host.specs.declared.spelling.Spelling.{Spelling}
 
+-- the most bytes of a path that is looked for: the system takes one less (PATH_MAX)
+abbrev pub most_path : ℕ
+most_path = 4096
+
 -- a name in small letters
 abbrev pub in_small_letters : List ℕ → List ℕ
 in_small_letters name = map to_ascii_lowercase name

@@ -1,6 +1,7 @@
 //! A path that is put together, without memory.
-ghost use Rattle.std.specs.Prelude.{◌≡◌, ◌≤◌, ◌⊎◌, ◌++◌, ℕ, List, [], IsErr, IsOk, length, take};
-ghost use Rattle.dicomdir_host.specs.Spellings.{in_small_letters, spelled};
+ghost use Rattle.std.specs.Prelude.{◌≡◌, ◌≤◌, ◌<◌, ◌+◌, ◌++◌, ℕ, List, [], IsErr, IsOk, length, take};
+ghost use Rattle.std.specs.Str.{IsUtf8};
+ghost use Rattle.dicomdir_host.specs.Spellings.{in_small_letters, most_path, spelled};
 
 use crate::spelling::Spelling;
 use std::io::{self, ErrorKind};
@@ -52,7 +53,7 @@ impl PathBuffer {
     /// Adds this text. Refused where the path gets too long, and then nothing has changed.
     pub(crate) fn push(&mut self, text: &str) -> io::Result<()>
         ensures ok { IsOk result → self.new ≡ self.old ++ text.now }
-        ensures err { IsErr result → self.new ≡ self.old }
+        ensures err { IsErr result → (self.new ≡ self.old) × (most_path < length self.old + length text.now) }
     {
         if text.len() > self.bytes.len() - self.len {
             return Err(io::Error::from(ErrorKind::InvalidInput));
@@ -66,7 +67,7 @@ impl PathBuffer {
     /// Adds this text in small letters. Refused where the path gets too long, and then nothing has changed.
     fn push_small(&mut self, text: &str) -> io::Result<()>
         ensures ok { IsOk result → self.new ≡ self.old ++ in_small_letters text.now }
-        ensures err { IsErr result → self.new ≡ self.old }
+        ensures err { IsErr result → (self.new ≡ self.old) × (most_path < length self.old + length text.now) }
     {
         if text.len() > self.bytes.len() - self.len {
             return Err(io::Error::from(ErrorKind::InvalidInput));
@@ -81,7 +82,8 @@ impl PathBuffer {
 
     /// Adds a name in this spelling. Refused where the path gets too long.
     pub(crate) fn push_spelled(&mut self, name: &str, spelling: Spelling) -> io::Result<()>
-        ensures { IsOk result → self.new ≡ self.old ++ spelled spelling name.now }
+        ensures ok { IsOk result → self.new ≡ self.old ++ spelled spelling name.now }
+        ensures err { IsErr result → most_path < length self.old + length (spelled spelling name.now) }
     {
         if spelling.is_small {
             self.push_small(name)?;
@@ -91,9 +93,10 @@ impl PathBuffer {
         self.push(spelling.ending)
     }
 
-    /// Its text.
+    /// Its text. Bytes that are no text, of which no path is put together, give the empty one.
     pub(crate) fn as_str(&self) -> &str
-        ensures { (result.now ≡ self.now) ⊎ (result.now ≡ []) }
+        ensures text { IsUtf8 self.now → result.now ≡ self.now }
+        ensures none { ¬ IsUtf8 self.now → result.now ≡ [] }
     {
         match from_utf8(&self.bytes[..self.len]) {
             Ok(text) => text,
