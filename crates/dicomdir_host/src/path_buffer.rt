@@ -1,5 +1,6 @@
 //! A path that is put together, without memory.
 ghost use Rattle.std.specs.Prelude.{◌≡◌, ◌≤◌, ◌<◌, ◌+◌, ◌++◌, ℕ, List, [], IsErr, IsOk, length, take};
+ghost use Rattle.std.specs.Prelude.{if◌then◌else◌};
 ghost use Rattle.std.specs.Str.{IsUtf8};
 ghost use Rattle.dicomdir_host.specs.Spellings.{in_small_letters, most_path, spelled};
 
@@ -55,18 +56,13 @@ impl PathBuffer {
         ensures ok { IsOk result → self.new ≡ self.old ++ text.now }
         ensures err { IsErr result → (self.new ≡ self.old) × (most_path < length self.old + length text.now) }
     {
-        if text.len() > self.bytes.len() - self.len {
-            return Err(io::Error::from(ErrorKind::InvalidInput));
-        }
-        let end = self.len + text.len();
-        self.bytes[self.len..end].copy_from_slice(text.as_bytes());
-        self.len = end;
-        Ok(())
+        self.push_letters(text, false)
     }
 
-    /// Adds this text in small letters. Refused where the path gets too long, and then nothing has changed.
-    fn push_small(&mut self, text: &str) -> io::Result<()>
-        ensures ok { IsOk result → self.new ≡ self.old ++ in_small_letters text.now }
+    /// Adds this text, in small letters where these are asked for. Refused as `push`.
+    fn push_letters(&mut self, text: &str, is_small: bool) -> io::Result<()>
+        ensures ok { IsOk result
+            → self.new ≡ self.old ++ (if is_small then in_small_letters text.now else text.now) }
         ensures err { IsErr result → (self.new ≡ self.old) × (most_path < length self.old + length text.now) }
     {
         if text.len() > self.bytes.len() - self.len {
@@ -75,7 +71,9 @@ impl PathBuffer {
         let end = self.len + text.len();
         let place = &mut self.bytes[self.len..end];
         place.copy_from_slice(text.as_bytes());
-        place.make_ascii_lowercase();
+        if is_small {
+            place.make_ascii_lowercase();
+        }
         self.len = end;
         Ok(())
     }
@@ -85,11 +83,7 @@ impl PathBuffer {
         ensures ok { IsOk result → self.new ≡ self.old ++ spelled spelling name.now }
         ensures err { IsErr result → most_path < length self.old + length (spelled spelling name.now) }
     {
-        if spelling.is_small {
-            self.push_small(name)?;
-        } else {
-            self.push(name)?;
-        }
+        self.push_letters(name, spelling.is_small)?;
         self.push(spelling.ending)
     }
 

@@ -87,7 +87,7 @@ fn push_withdrawn(text: &mut String, withdrawn: &[Uid]) -> Result<(), AllocError
     Ok(())
 }
 
-/// How many versions a catalogue has, their instances, and those that are withdrawn.
+/// How many versions a catalogue has, the instances that it keeps, and the instances that it withdraws.
 pub(crate) fn instances(alloc: Global, catalogue: &Catalogue) -> Result<String, AllocError> {
     let count = catalogue.len();
     let mut text = format!(in alloc; "{count}")?;

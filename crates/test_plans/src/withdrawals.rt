@@ -39,7 +39,7 @@ const UIDS: &str = "\
 12/1.2.9/1.2.3.4.5/1.2.10 > 1.2.10 1.2.3.4.5 1.2.9
 /1.2.3.4.5 > 1.2.3.4.5";
 
-/// What comes of laying out the catalogue of these words within so many bytes.
+/// Lays out the catalogue that these words describe, within this many bytes.
 fn planned(alloc: Global, words: &str, bytes: u32) -> Result<Result<Plan, PlanFault>, Fail> {
     let limits = Limits::new(bytes, FileId::MAX_RANK).ok_or("no limits")?;
     let catalogue = catalogue_of(alloc, words)?;
