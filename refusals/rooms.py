@@ -39,6 +39,7 @@ COMMANDS = [
     Command("withdraw of one image of two", "withdraw OUT SETA 1.2.3.1000 1.2.3.1 --uid 2.25.0"),
     Command("list of two images", "list SETA"),
     Command("check of two images", "check SETA"),
+    Command("check of two images and what they say", "check --keys SETA"),
 ]
 
 

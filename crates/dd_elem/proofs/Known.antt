@@ -8,16 +8,16 @@ use Rattle.std.proofs.KnownBytes.{Appends-nil, Appends-trans, Consumes-nil, Cons
 use Rattle.dd_elem.specs.Device.{Gives}
 
 -- no read gave nothing
-pub gives_none : {S : Type 0} (given : S → List ℕ → Type 0) (s : S) → Gives given s s []
-gives_none given s = record { then = λ before h. subst (given s) (sym (append-nil before)) h }
+pub gives_none : {S P : Type 0} (given : S → P → List ℕ → Type 0) (s : S) → Gives given s s []
+gives_none given s = record { then = λ past before h. subst (given s past) (sym (append-nil before)) h }
 
 -- a reader gave some bytes and then more
-pub gives_more : {S : Type 0} (given : S → List ℕ → Type 0) (a b c : S) (xs ys : List ℕ) → Gives given a b xs
+pub gives_more : {S P : Type 0} (given : S → P → List ℕ → Type 0) (a b c : S) (xs ys : List ℕ) → Gives given a b xs
     → Gives given b c ys → Gives given a c (xs ++ ys)
 gives_more given a b c xs ys one two =
     record {
-      then = λ before h. subst (given c) (append_assoc before xs ys)
-          (two.then (before ++ xs) (one.then before h));
+      then = λ past before h. subst (given c past) (append_assoc before xs ys)
+          (two.then past (before ++ xs) (one.then past before h));
     }
 
 -- no read consumed nothing

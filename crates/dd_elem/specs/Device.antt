@@ -27,9 +27,9 @@ abbrev pub read_piece : {E : Type 0} → Result ℕ E → List ℕ → List ℕ
 read_piece (Ok n) buf = take n buf
 read_piece (Err e) buf = []
 
--- a reader that had given some bytes has now given them and then `bytes`
-pub record Gives {S : Type 0} (has_given : S → List ℕ → Type 0) (old new : S) (bytes : List ℕ) : Type 0 where
-  pub then : (before : List ℕ) → has_given old before → has_given new (before ++ bytes)
+-- a reader that had given some bytes has now given them and then `bytes`, whatever it began with
+pub record Gives {S P : Type 0} (has_given : S → P → List ℕ → Type 0) (old new : S) (bytes : List ℕ) : Type 0 where
+  pub then : (past : P) (before : List ℕ) → has_given old past before → has_given new past (before ++ bytes)
 
 -- a write took a byte, or there was none to take
 abbrev pub TakesSome : {E : Type 0} → Result ℕ E → List ℕ → Type 0

@@ -18,8 +18,11 @@ pub trait Read {
     // The bytes that are still to come, where the reader tells them.
     ghost remaining: { Self → Option (List ℕ) };
 
-    // The reader has given these bytes since it was made.
-    ghost has_given: { Self → List ℕ → Type 0 };
+    // What the reader began with, as far as a reader in front of others has to tell.
+    ghost Past: { Type 0 };
+
+    // The reader has given these bytes since it was that.
+    ghost has_given: { Self → Past → List ℕ → Type 0 };
 
     /// Reads at most `buf.len()` bytes to the front of `buf`, and answers how many. 0 says that the
     /// bytes are at their end, unless `buf` is empty.

@@ -1,6 +1,7 @@
 mod Answering
 pub mod FaultsNamed
 mod FirstMarks
+mod FirstSaying
 mod ImagePicks
 mod KeptImages
 mod Lending

@@ -16,7 +16,7 @@ use Rattle.dd_engine.specs.Merging.{stands_in}
 use Rattle.dd_engine.proofs.ImagePicks.{holds_of_picks}
 
 -- the numbers of these images are below this one
-abbrev AreBelow : ℕ → List (ℕ × Listed) → Type 0
+abbrev pub AreBelow : ℕ → List (ℕ × Listed) → Type 0
 AreBelow n images = AllByRecursion (λ image. image.0 < n) images
 
 below_append : (n : ℕ) (xs ys : List (ℕ × Listed)) → AreBelow n xs → AreBelow n ys → AreBelow n (xs ++ ys)
@@ -47,6 +47,12 @@ many_own [] (first ∷ listings) own = absurd own
 many_own (set ∷ sets) [] own = absurd own
 many_own (set ∷ sets) (first ∷ listings) own = ap suc (many_own sets listings own.1)
 
+-- those of all sets are below the count of sets
+pub all_numbered_below : (sets : List (List ℕ)) (listings : List SetListing) → AreOwn sets listings
+    → AreBelow (length sets) (numbered 0 listings)
+all_numbered_below sets listings own =
+    numbered_below (length sets) 0 listings (omega (arith, many_own sets listings own))
+
 -- what holds of what they are told as holds of them
 unmapped : {A B : Type 0} (P : B → Type 0) (f : A → B) (xs : List A) → All P (map f xs) → All (λ x. P (f x)) xs
 unmapped P f xs all k d below =
@@ -58,7 +64,7 @@ pub picks_within : (choice : Choice) (limits : Bounds) (given sets : List (List 
 picks_within choice limits given sets (Ok merged) (listings, own, is) =
     let h = held_in given listings in
     let versions = harmonised h.versions in
-    let below = numbered_below (length sets) 0 listings (omega (arith, many_own sets listings own)) in
+    let below = all_numbered_below sets listings own in
     unmapped (λ (pick : ℕ × List ℕ). pick.0 < length sets) (λ pick. pick_view pick) merged.picks.items
     (holds_of_picks (λ (pick : ℕ × List ℕ). pick.0 < length sets) (stands_in listings) versions
     (records_of (label_for choice h.versions h.withdrawn) versions) (map (λ pick. pick_view pick) merged.picks.items)

@@ -6,4 +6,5 @@ pub mod Merging
 pub mod Picking
 pub mod Published
 pub mod SameVersions
+pub mod Saying
 pub mod Supply

@@ -39,7 +39,7 @@ pub trait Files: Write {
 
         // The reader is as new, and what it has left are the bytes of the file.
         ensures fresh { IfOk result (λ reader. (Self.In.calls reader ≡ 0)
-            × (Self.In.failures reader ≡ 0) × Self.In.has_given reader []) }
+            × (Self.In.failures reader ≡ 0) × ((past : Self.In.Past) → Self.In.has_given reader past [])) }
         ensures left { IfOk result (λ reader. IfSome (held self.old) (λ files.
             IsSome (files.bytes_at path.now)
             × (Self.In.remaining reader ≡ files.bytes_at path.now))) }
@@ -58,7 +58,7 @@ pub trait Files: Write {
 
         // The reader is as new, and what it has left are the bytes of the file.
         ensures fresh { IfOk result (λ reader. (Self.In.calls reader ≡ 0)
-            × (Self.In.failures reader ≡ 0) × Self.In.has_given reader []) }
+            × (Self.In.failures reader ≡ 0) × ((past : Self.In.Past) → Self.In.has_given reader past [])) }
         ensures left { IfOk result (λ reader. IfSome (held self.old) (λ files.
             IsSome (files.bytes_at path.now)
             × (Self.In.remaining reader ≡ files.bytes_at path.now))) }

@@ -1,9 +1,17 @@
-//! A reader that digests what passes.
+//! A reader that digests what passes, and a file that is read through one.
 
+ghost use Rattle.std.specs.Prelude.{◌≡◌, ◌≤◌, ◌+◌, ℕ, List, [], Option};
+ghost use Rattle.std.specs.Io.KnownBytes.{Consumes};
+ghost use Rattle.sha2.specs.Hashers.{Holds256};
+ghost use Rattle.sha2.specs.Sha256.{sha256};
+ghost use Rattle.dd_elem.specs.Device.{Gives};
+ghost use Rattle.dd_part10.specs.Streaming.{IsFileAnswer};
 ghost use Rattle.dd_keys.specs.Carried.{carried};
 
-use dd_elem::Read;
+use dd_elem::{Read, Tag};
+use dd_part10::{Scanned, StreamFault, read_file};
 use sha2::{Digest, Sha256};
+use std::alloc::Global;
 use std::io;
 
 /// A reader in front of another, which takes the SHA-256 (FIPS 180-4) of all bytes that pass.
@@ -16,20 +24,67 @@ pub(crate) struct Digesting<'r, R: Read> {
 }
 
 impl<R: Read> Read for Digesting<'_, R> {
-    ghost use Rattle.sha2.specs.Hashers.{Holds256};
-
     ghost calls = { λ d. R.calls d.reader.now };
 
     ghost failures = { λ d. R.failures d.reader.now };
 
     ghost remaining = { λ d. R.remaining d.reader.now };
 
-    ghost has_given = { λ d bytes. carried d.reader.ghost_name (λ m. Holds256 d.hasher m)
-        (λ m. R.has_given d.reader.now m) bytes };
+    ghost Past = { ℕ × Option R.Past };
+
+    ghost has_given = { λ d past bytes. (d.reader.ghost_name ≡ past.0)
+        × carried (λ m. Holds256 d.hasher m) (λ p m. R.has_given d.reader.now p m) past.1 bytes };
 
     fn read(&mut self, buf: &mut [u8]) -> io::Result<usize> {
         let n = self.reader.read(buf)?;
         self.hasher.update(&buf[..n]);
         Ok(n)
     }
+}
+
+/// What reading a file from a reader answers, and the digest of what the reader gave.
+#[derive(Debug, Drop)]
+pub struct Digested {
+    /// What is told of the file, or why it was not read to its end or is no file.
+    pub file: Result<Scanned, StreamFault>,
+    /// The SHA-256 (FIPS 180-4) of all bytes that the reader gave.
+    pub digest: [u8; 32],
+}
+
+/// Reads a file as `read_file` does, with the same answer, and digests all that the reader gives meanwhile,
+/// whether it is a file or not. It makes at most `limit` + 1 reads.
+pub fn read_digested<R: Read>(alloc: Global, reader: &mut R, wanted: &[Tag], limit: u64) -> Digested
+    ensures gave { (given : List ℕ) × Gives R.has_given reader.old reader.new given
+        × Consumes (R.remaining reader.old) (R.remaining reader.new) given
+        × IsFileAnswer result.file wanted.now limit given (R.remaining reader.new)
+        (R.failures reader.old) (R.failures reader.new)
+        × (result.digest ≡ sha256 given) }
+    ensures calls { R.calls reader.new ≤ R.calls reader.old + limit + 1 }
+{
+    let mut digesting = Digesting {
+        reader,
+        hasher: Sha256::new(),
+    };
+    read_digesting(alloc, &mut digesting, wanted, limit)
+}
+
+/// The same over a reader that digests what passes, of which nothing passed yet.
+fn read_digesting<R: Read>(
+    alloc: Global,
+    digesting: &mut Digesting<'_, R>,
+    wanted: &[Tag],
+    limit: u64,
+) -> Digested
+    requires { Holds256 digesting.old.hasher [] }
+    ensures same { digesting.new.reader.ghost_name ≡ digesting.old.reader.ghost_name }
+    ensures gave { (given : List ℕ) × Gives R.has_given digesting.old.reader.now digesting.new.reader.now given
+        × Consumes (R.remaining digesting.old.reader.now) (R.remaining digesting.new.reader.now) given
+        × IsFileAnswer result.file wanted.now limit given (R.remaining digesting.new.reader.now)
+        (R.failures digesting.old.reader.now) (R.failures digesting.new.reader.now)
+        × (result.digest ≡ sha256 given) }
+    ensures calls { R.calls digesting.new.reader.now ≤ R.calls digesting.old.reader.now + limit + 1 }
+{
+    let file = read_file(alloc, digesting, wanted, limit);
+    let digest = digesting.hasher.finalize_reset();
+    Digested { file, digest }
 }

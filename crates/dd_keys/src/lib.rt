@@ -19,6 +19,7 @@ mod values;
 mod version;
 
 pub use classes::is_image_class;
+pub use digesting::{Digested, read_digested};
 pub use fault::KeyFault;
 pub use keys::{PatientKeys, SeriesKeys, StudyKeys};
 pub use parts::Parts;

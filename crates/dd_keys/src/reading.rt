@@ -2,7 +2,6 @@
 
 ghost use Rattle.std.specs.Prelude.{◌≡◌, ◌<◌, ◌≤◌, ◌+◌, ◌^◌, ℕ, List, [], length, None, IsSome};
 ghost use Rattle.std.specs.Io.KnownBytes.{Consumes};
-ghost use Rattle.sha2.specs.Hashers.{Holds256};
 ghost use Rattle.dd_elem.specs.Device.{Gives};
 ghost use Rattle.dd_set.specs.Bytes.{AreBytes};
 ghost use Rattle.dd_part10.specs.Syntaxes.{syntax_of};
@@ -14,14 +13,14 @@ ghost use Rattle.dd_keys.specs.Versions.{IsVersion};
 
 use crate::checks::table_fault;
 use crate::classes::is_image_class;
-use crate::digesting::Digesting;
+use crate::digesting::{Digested, read_digested};
 use crate::fault::KeyFault;
 use crate::rows::WANTED;
 use crate::told::Values;
 use crate::values::parts_in;
 use crate::version::Version;
 use dd_elem::Read;
-use dd_part10::{Meta, parse_file, read_file};
+use dd_part10::{Meta, parse_file};
 use sha2::{Digest, Sha256};
 use std::alloc::Global;
 
@@ -50,29 +49,8 @@ pub fn ingest<R: Read>(alloc: Global, reader: &mut R, limit: u64) -> Result<Vers
         × AnswersReader limit given (R.remaining reader.new) (R.failures reader.old) (R.failures reader.new) result }
     ensures calls { R.calls reader.new ≤ R.calls reader.old + limit + 1 }
 {
-    let mut digesting = Digesting {
-        reader,
-        hasher: Sha256::new(),
-    };
-    ingest_digesting(alloc, &mut digesting, limit)
-}
-
-/// The same over a reader that digests what passes, of which nothing passed yet.
-fn ingest_digesting<R: Read>(
-    alloc: Global,
-    digesting: &mut Digesting<'_, R>,
-    limit: u64,
-) -> Result<Version, KeyFault>
-    requires { Holds256 digesting.old.hasher [] }
-    ensures same { digesting.new.reader.ghost_name ≡ digesting.old.reader.ghost_name }
-    ensures gave { (given : List ℕ) × Gives R.has_given digesting.old.reader.now digesting.new.reader.now given
-        × Consumes (R.remaining digesting.old.reader.now) (R.remaining digesting.new.reader.now) given
-        × AnswersReader limit given (R.remaining digesting.new.reader.now)
-        (R.failures digesting.old.reader.now) (R.failures digesting.new.reader.now) result }
-    ensures calls { R.calls digesting.new.reader.now ≤ R.calls digesting.old.reader.now + limit + 1 }
-{
-    let scanned = read_file(alloc, digesting, &WANTED, limit)?;
-    let digest = digesting.hasher.finalize_reset();
+    let Digested { file, digest } = read_digested(alloc, reader, &WANTED, limit);
+    let scanned = file?;
     version_from(alloc, &scanned.meta, &scanned.found, digest)
 }
 

@@ -69,13 +69,13 @@ pub given_id : (a : Asked) (found : Option (Text × List Row)) (id : Text) → I
 given_id a None id h gives = absurd h
 given_id a (Some (command, given)) id h gives = h.id ∙ gives
 
--- what a line asks for has the UIDs of images that its words give
+-- the words give each UID of an image that a line asks for
 asked_instance : (a : Asked) (found : Option (Text × List Row)) (uid : Text) → IsAsked a found
     → Contains (words_of a.uids.items) uid → GivesInstance found uid
 asked_instance a None uid h has = absurd h
 asked_instance a (Some (command, given)) uid h has = rw h.uids at has
 
--- and has those that they give
+-- what a line asks for has the UIDs that its words give
 given_instance : (a : Asked) (found : Option (Text × List Row)) (uid : Text) → IsAsked a found
     → GivesInstance found uid → Contains (words_of a.uids.items) uid
 given_instance a None uid h gives = absurd h

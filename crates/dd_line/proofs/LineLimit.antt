@@ -1,6 +1,6 @@
 -- The number of `--max-bytes`, and the values of an argument.
 use Rattle.std.proofs.Common.{◌≡◌, ◌==◌, ◌^◌, ◌<◌, ℕ, Bool, true, cond, false, List, [], ◌∷◌, ◌∙◌, Option, Some, None}
-use Rattle.std.proofs.Common.{Err, Ok, Result, refl, ap, subst, arith, codes, drop, length, map}
+use Rattle.std.proofs.Common.{Err, Ok, Result, inl, refl, ap, subst, arith, codes, drop, length, map}
 use Rattle.std.specs.List.{find}
 use Rattle.std.specs.Option.{option_map, unwrap_or}
 use Rattle.std.specs.Prelude.{IfSome, option_and_then, pos, slice_get}
@@ -27,7 +27,8 @@ use Rattle.clap.specs.declared.builder.value_parser.Reading.TheVariants.{Without
 use Rattle.clap.specs.declared.builder.value_parser.ValueParser.{ValueParser}
 use Rattle.clap.specs.declared.builder.value_parser.ValueParser.TheVariants.{Signed}
 use Rattle.dd_line.specs.Line.{HasLimit, IsLimit}
-use Rattle.dd_line.proofs.LineRows.{Each, Fine, Fits, each_found, first_none, second_none}
+use Rattle.dd_line.proofs.LineEach.{Each, each_found, first_none, second_none}
+use Rattle.dd_line.proofs.LineRows.{Fine, Fits}
 use Rattle.dd_line.proofs.LineWalk.{level_fine}
 
 -- ---- a number of 32 bits
@@ -115,7 +116,7 @@ ArePassed values = values_kinds false limit_parser values ≡ []
 
 -- the rule is another argument's, or that of `--max-bytes`
 abbrev pub FitsLimit : Rule → Type 0
-FitsLimit = Fits (codes "max-bytes") WithoutMinus ArePassed
+FitsLimit = Fits (codes "max-bytes") WithoutMinus (λ _. ArePassed)
 
 pub limit_fits : (a : Rule) → a.action ≡ Some Set → a.parser ≡ Some limit_parser → a.ignore_case ≡ false
     → a.missing ≡ [] → a.defaults ≡ [] → FitsLimit a
@@ -123,7 +124,7 @@ limit_fits a set parser case missing empty = record {
   stores = λ named. rw set tt;
   reading = λ named. rw parser refl;
   passes = λ named again values rows none. passes values rows again none;
-  defaults = empty;
+  defaults = λ named. inl empty;
 }
   where
     passes : (values : List Text) (rows : List Row) (again : Bool) → use_fault again a values rows ≡ []
@@ -157,11 +158,11 @@ level_limit s words fits once none text first = go (find (λ r. bytes_eq r.id (c
     rows : List Row
     rows = rows_after s.rules [] words
 
-    fine : Each (Fine (codes "max-bytes") WithoutMinus ArePassed) rows
-    fine = level_fine (codes "max-bytes") WithoutMinus ArePassed s fits once [] words false [] none
+    fine : Each (Fine (codes "max-bytes") WithoutMinus (λ _. ArePassed)) rows
+    fine = level_fine (codes "max-bytes") WithoutMinus (λ _. ArePassed) s fits once [] words false [] none
 
     go : (o : Option Row)
-        → IfSome o (λ r. Fine (codes "max-bytes") WithoutMinus ArePassed r
+        → IfSome o (λ r. Fine (codes "max-bytes") WithoutMinus (λ _. ArePassed) r
         × (bytes_eq r.id (codes "max-bytes") ≡ true))
         → option_and_then (λ r. slice_get r.values 0) o ≡ Some text
         → (option_and_then row_text o ≡ Some (without_minus text)) × IsSignedIn (pos 0) (pos 4294967295) text

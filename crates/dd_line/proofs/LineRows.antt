@@ -1,17 +1,17 @@
 -- What the rows of a walk with no fault hold of one argument.
 use Rattle.std.proofs.Common.{◌≡◌, ◌&&◌, ℕ, Bool, not, true, false, zero, suc, List, [], ◌∷◌, ◌++◌, Option, Some, None}
-use Rattle.std.proofs.Common.{refl, sym, subst, ap, ◌∙◌, ◌||◌, true≢false, length}
+use Rattle.std.proofs.Common.{◌⊎◌, inl, inr, refl, sym, subst, ◌∙◌, true≢false, length}
 use Rattle.std.proofs.lemmas.List.{append-nil}
 use Rattle.std.specs.List.{find}
 use Rattle.std.specs.Option.{option_map_or}
-use Rattle.std.specs.Prelude.{IfSome, ◌+◌, drop, encode_utf8, if◌then◌else◌, is_some, min, slice_get}
+use Rattle.std.specs.Prelude.{IfSome, ◌+◌, drop, encode_utf8, fold, if◌then◌else◌, is_some, min, slice_get}
 use Rattle.std.specs.Str.{bytes_eq, chars}
 use Rattle.std.proofs.lemmas.Slice.Eq.{bytes_eq-Decides}
 use Rattle.clap.specs.Faults.{bundle_fault, bundle_step_fault, flag_word_fault, flags_fault}
 use Rattle.clap.specs.Faults.{long_fault, option_fault, positional_fault, react_fault, settle_fault}
 use Rattle.clap.specs.Facts.{unwrap_or_range}
 use Rattle.clap.specs.Faults.{repeat_fault, short_fault, use_fault}
-use Rattle.clap.specs.Kinds.{Kinds, or_else, range_kinds}
+use Rattle.clap.specs.Kinds.{Kinds, range_kinds}
 use Rattle.clap.specs.Lexer.{short_of}
 use Rattle.clap.specs.Matches.{count_text}
 use Rattle.clap.specs.declared.builder.value_parser.Reading.{Reading}
@@ -20,116 +20,73 @@ use Rattle.clap.specs.declared.builder.action.ArgAction.TheVariants.{Set, Append
 use Rattle.clap.specs.declared.builder.action.ArgAction.TheVariants.{Count, Help, HelpShort, HelpLong, Version}
 use Rattle.clap.specs.declared.error.kind.ErrorKind.TheVariants.{ArgumentConflict, TooManyValues}
 use Rattle.clap.specs.declared.parser.matches.ValueSource.{ValueSource}
-use Rattle.clap.specs.declared.parser.matches.ValueSource.TheVariants.{CommandLine}
+use Rattle.clap.specs.declared.parser.matches.ValueSource.TheVariants.{CommandLine, DefaultValue}
 use Rattle.clap.specs.Walk.{Held, Outcome, Row, Rule, Text, Waiting, Walk, action_of, after_flag}
-use Rattle.clap.specs.Walk.{arg_by_id, arg_by_long, arg_by_short, at_row, attached_value}
+use Rattle.clap.specs.Walk.{arg_by_id, arg_by_long, arg_by_short, attached_value}
 use Rattle.clap.specs.Walk.{bundle, bundle_met, bundle_step, count_of, counted}
 use Rattle.clap.specs.Walk.{done, flag_met, has_long, has_row, has_short}
 use Rattle.clap.specs.Walk.{idle, is_pending, option_word}
 use Rattle.clap.specs.Walk.{long_met, long_or_other, more_values, most_values, new_count, option, option_met}
 use Rattle.clap.specs.Walk.{plain, plain_word, positional, reacted, reading_by, refused, settled}
-use Rattle.clap.specs.Walk.{settled_rows, short_met, short_or_plain}
+use Rattle.clap.specs.Walk.{default_rows, settled_rows, short_met, short_or_plain, stronger}
 use Rattle.clap.specs.Walk.{takes_several, takes_values, to_positional, used, used_as}
 use Rattle.clap.specs.Walk.{used_by_id, values_or_missing, waits}
-use Rattle.clap.specs.Walk.{with_values, without}
-
--- ---- faults that do not come
-
-pub first_none : (a b : Kinds) → or_else a b ≡ [] → a ≡ []
-first_none [] b none = refl
-first_none (k ∷ ks) b none = none
-
-pub second_none : (a b : Kinds) → or_else a b ≡ [] → b ≡ []
-second_none [] b none = none
-second_none (k ∷ ks) b none = cc
-
--- ---- lists
-
--- P holds of each
-abbrev pub Each : {X : Type 0} → (X → Type 0) → List X → Type 0
-Each P [] = Unit {0}
-Each P (x ∷ xs) = P x × Each P xs
-
-each_join : {X : Type 0} (P : X → Type 0) (xs ys : List X) → Each P xs → Each P ys → Each P (xs ++ ys)
-each_join P [] ys xall yall = yall
-each_join P (x ∷ xs) ys xall yall = (xall.0, each_join P xs ys xall.1 yall)
-
--- what is found is one of them, and passes
-pub each_found : {X : Type 0} (P : X → Type 0) (p : X → Bool) (xs : List X) → Each P xs
-    → IfSome (find p xs) (λ x. P x × (p x ≡ true))
-each_found P p [] all = tt
-each_found P p (x ∷ xs) all = go (p x) refl (each_found P p xs all.1)
-  where
-    go : (t : Bool) → p x ≡ t → IfSome (find p xs) (λ y. P y × (p y ≡ true))
-        → IfSome (find p (x ∷ xs)) (λ y. P y × (p y ≡ true))
-    go true t rest = rw t (all.0, t)
-    go false t rest = rw t rest
-
-at_row_each : (P : Row → Type 0) (id : Text) (change : Row → List Row) (missing rows : List Row)
-    → ((r : Row) → P r → bytes_eq r.id id ≡ true → Each P (change r)) → Each P missing → Each P rows
-    → Each P (at_row id change missing rows)
-at_row_each P id change missing [] changed more all = more
-at_row_each P id change missing (r ∷ rows) changed more all =
-    go (bytes_eq r.id id) refl (at_row_each P id change missing rows changed more all.1)
-  where
-    go : (t : Bool) → bytes_eq r.id id ≡ t → Each P (at_row id change missing rows)
-        → Each P (at_row id change missing (r ∷ rows))
-    go true t rest = rw t (each_join P (change r) rows (changed r all.0 t) all.1)
-    go false t rest = rw t (all.0, rest)
+use Rattle.clap.specs.Walk.{with_default, with_values, without}
+use Rattle.dd_line.proofs.LineEach.{Each, at_row_absent, at_row_each, each_found, each_join, first_none, second_none}
 
 -- ---- the rows of one argument
 
+-- which values are right, by where they come from
+abbrev pub AreRight : Type 1
+AreRight = Option ValueSource → List Text → Type 0
+
 -- the action keeps the values of one use, or of all, which are right together
-abbrev pub Stores : (List Text → Type 0) → ArgAction → Type 0
+abbrev pub Stores : AreRight → ArgAction → Type 0
 Stores ok Set = Unit {0}
-Stores ok Append = (xs ys : List Text) → ok xs → ok ys → ok (xs ++ ys)
+Stores ok SetTrue = Unit {0}
+Stores ok Append = (source : Option ValueSource) (xs ys : List Text) → ok source xs → ok (Some CommandLine) ys
+    → ok (Some (stronger source CommandLine)) (xs ++ ys)
 Stores ok other = ⊥
+
+-- the action keeps the values of one use alone
+abbrev IsOnce : ArgAction → Type 0
+IsOnce x = (x ≡ Set) ⊎ (x ≡ SetTrue)
 
 -- an argument that was not used has no row
 not_used : (a : Rule) (values : List Text) (rows : List Row) → use_fault false a values rows ≡ []
-    → action_of a ≡ Set → has_row a.id rows ≡ false
-not_used a values rows none set =
+    → IsOnce (action_of a) → has_row a.id rows ≡ false
+not_used a values rows none is =
     let acted = second_none (range_kinds (unwrap_or_range a.range).start_inclusive (most_values a) (length values)) _
     none in
-    go (has_row a.id rows) (first_none (repeat_fault false a.id rows) _ (rw set at acted))
+    elim is [
+      | inl set ↦ go (has_row a.id rows) (first_none (repeat_fault false a.id rows) _ (rw set at acted))
+      | inr set ↦ go (has_row a.id rows) (first_none (repeat_fault false a.id rows) _ (rw set at acted))
+    ]
   where
     go : (t : Bool) → (if t && not false then ArgumentConflict ∷ [] else []) ≡ [] → t ≡ false
     go true none = cc
     go false none = refl
 
--- where it has none a use adds one
-at_row_absent : (id : Text) (change : Row → List Row) (missing rows : List Row) → has_row id rows ≡ false
-    → at_row id change missing rows ≡ rows ++ missing
-at_row_absent id change missing [] none = refl
-at_row_absent id change missing (r ∷ rows) none =
-    go (bytes_eq r.id id) refl none (at_row_absent id change missing rows)
-  where
-    go : (t : Bool) → bytes_eq r.id id ≡ t → (bytes_eq r.id id || has_row id rows) ≡ false
-        → (has_row id rows ≡ false → at_row id change missing rows ≡ rows ++ missing)
-        → at_row id change missing (r ∷ rows) ≡ (r ∷ rows) ++ missing
-    go true t none rest = let some = rw t at none in absurd (true≢false some)
-    go false t none rest = rw t (ap (λ (x : List Row). r ∷ x) (rest (rw t at none)))
-
-module _ (name : Text) (how : Reading) (ok : List Text → Type 0) where
+module _ (name : Text) (how : Reading) (ok : AreRight) where
   -- a row of the argument has its reading, and values that are right
   pub record IsRow (r : Row) : Type 0 where
     pub reading : r.reading ≡ how
-    pub values : ok r.values
+    pub values : ok r.source r.values
 
   -- the rule is another argument's, or makes such rows
   pub record Fits (a : Rule) : Type 0 where
     pub stores : bytes_eq a.id name ≡ true → Stores ok (action_of a)
     pub reading : bytes_eq a.id name ≡ true → reading_by a ≡ how
     pub passes : bytes_eq a.id name ≡ true → (again : Bool) (values : List Text) (rows : List Row)
-        → use_fault again a values rows ≡ [] → ok (values_or_missing a values)
-    pub defaults : a.defaults ≡ []
+        → use_fault again a values rows ≡ [] → ok (Some CommandLine) (values_or_missing a values)
+    pub defaults : bytes_eq a.id name ≡ true → (a.defaults ≡ []) ⊎ ok (Some DefaultValue) a.defaults
 
-  pub other_fits : (a : Rule) → bytes_eq a.id name ≡ false → a.defaults ≡ [] → Fits a
-  other_fits a other empty = record {
+  pub other_fits : (a : Rule) → bytes_eq a.id name ≡ false → Fits a
+  other_fits a other = record {
     stores = λ named. absurd (true≢false (sym named ∙ other));
     reading = λ named. absurd (true≢false (sym named ∙ other));
     passes = λ named. absurd (true≢false (sym named ∙ other));
-    defaults = empty;
+    defaults = λ named. absurd (true≢false (sym named ∙ other));
   }
 
   -- the row is another argument's, or right
@@ -142,21 +99,26 @@ module _ (name : Text) (how : Reading) (ok : List Text → Type 0) where
 
   -- ---- one use
 
+  -- values that are right stay so where these are added
+  abbrev Adds : ValueSource → List Text → Type 0
+  Adds s values = (source : Option ValueSource) (xs : List Text) → ok source xs
+      → ok (Some (stronger source s)) (xs ++ values)
+
   more_fine : (id : Text) (s : ValueSource) (values : List Text) (r : Row)
-      → (bytes_eq id name ≡ true → (xs : List Text) → ok xs → ok (xs ++ values))
+      → (bytes_eq id name ≡ true → Adds s values)
       → bytes_eq r.id id ≡ true → Fine r → Each Fine (more_values s values r)
   more_fine id s values r more same fine = (
     λ named.
         let is : r.id ≡ id = (bytes_eq-Decides r.id id).0 same in
         let there : bytes_eq id name ≡ true = subst (λ (x : Text). bytes_eq x name ≡ true) is named in
         let row = fine named in
-        record { reading = row.reading; values = more there r.values row.values },
+        record { reading = row.reading; values = more there r.source r.values row.values },
     tt,
   )
 
   with_values_fine : (id : Text) (r : Reading) (s : ValueSource) (values : List Text) (rows : List Row)
-      → (bytes_eq id name ≡ true → r ≡ how) → (bytes_eq id name ≡ true → ok values)
-      → (bytes_eq id name ≡ true → (xs : List Text) → ok xs → ok (xs ++ values)) → Each Fine rows
+      → (bytes_eq id name ≡ true → r ≡ how) → (bytes_eq id name ≡ true → ok (Some s) values)
+      → (bytes_eq id name ≡ true → Adds s values) → Each Fine rows
       → Each Fine (with_values id r s values rows)
   with_values_fine id r s values rows read right more all = at_row_each Fine id (more_values s values) _ rows
       (λ row fine same. more_fine id s values row more same fine)
@@ -209,24 +171,33 @@ module _ (name : Text) (how : Reading) (ok : List Text → Type 0) where
   used_as_other HelpLong id r values rows other all = all
   used_as_other Version id r values rows other all = all
 
+  -- its first row
+  first_fine : (id : Text) (r : Reading) (s : ValueSource) (values : List Text) (rows : List Row)
+      → has_row id rows ≡ false → r ≡ how → ok (Some s) values → Each Fine rows
+      → Each Fine (with_values id r s values rows)
+  first_fine id r s values rows absent read right all =
+      let added = at_row_absent id (more_values s values) _ rows absent in
+      subst (Each Fine) (sym added)
+      (each_join Fine rows _ all (λ _. record { reading = read; values = right }, tt))
+
   -- its one use
   once_fine : (id : Text) (r : Reading) (s : ValueSource) (values : List Text) (rows : List Row)
-      → has_row id rows ≡ false → r ≡ how → ok values → Each Fine rows
+      → has_row id rows ≡ false → r ≡ how → ok (Some s) values → Each Fine rows
       → Each Fine (with_values id r s values (without id rows))
   once_fine id r s values rows absent read right all =
       let same : without id rows ≡ rows = at_row_absent id (λ _. []) [] rows absent ∙ append-nil rows in
-      let added = at_row_absent id (more_values s values) _ rows absent in
-      subst (λ (x : List Row). Each Fine (with_values id r s values x)) (sym same) (subst (Each Fine) (sym added)
-      (each_join Fine rows _ all (λ _. record { reading = read; values = right }, tt)))
+      subst (λ (x : List Row). Each Fine (with_values id r s values x)) (sym same)
+      (first_fine id r s values rows absent read right all)
 
   used_as_own : (x : ArgAction) (id : Text) (r : Reading) (values : List Text) (rows : List Row)
-      → Stores ok x → (x ≡ Set → has_row id rows ≡ false) → r ≡ how → ok values → Each Fine rows
-      → Each Fine (used_as x id r values rows)
+      → Stores ok x → (IsOnce x → has_row id rows ≡ false) → r ≡ how → ok (Some CommandLine) values
+      → Each Fine rows → Each Fine (used_as x id r values rows)
   used_as_own Set id r values rows stores absent read right all =
-      once_fine id r _ values rows (absent refl) read right all
-  used_as_own Append id r values rows stores absent read right all =
-      with_values_fine id r _ values rows (λ _. read) (λ _. right) (λ _ xs fine. stores xs values fine right) all
-  used_as_own SetTrue id r values rows stores absent read right all = absurd stores
+      once_fine id r _ values rows (absent (inl refl)) read right all
+  used_as_own SetTrue id r values rows stores absent read right all =
+      once_fine id r _ values rows (absent (inr refl)) read right all
+  used_as_own Append id r values rows stores absent read right all = with_values_fine id r _ values rows (λ _. read)
+      (λ _. right) (λ _ source xs fine. stores source xs values fine right) all
   used_as_own SetFalse id r values rows stores absent read right all = absurd stores
   used_as_own Count id r values rows stores absent read right all = absurd stores
   used_as_own Help id r values rows stores absent read right all = absurd stores
@@ -244,6 +215,37 @@ module _ (name : Text) (how : Reading) (ok : List Text → Type 0) where
           (not_used a values rows (rw once at none)) (fits.reading t) (fits.passes t again values rows none) all
       go false t =
           used_as_other (action_of a) a.id (reading_by a) (values_or_missing a values) rows t all
+
+  -- ---- defaults
+
+  default_rows_fine : (id : Text) (r : Reading) (values : List Text) (rows : List Row) → has_row id rows ≡ false
+      → (bytes_eq id name ≡ true → r ≡ how)
+      → (bytes_eq id name ≡ true → (values ≡ []) ⊎ ok (Some DefaultValue) values) → Each Fine rows
+      → Each Fine (default_rows id r values rows)
+  default_rows_fine id r [] rows absent read right all = all
+  default_rows_fine id r (v ∷ vs) rows absent read right all = go (bytes_eq id name) refl
+    where
+      own : (v ∷ vs ≡ []) ⊎ ok (Some DefaultValue) (v ∷ vs) → ok (Some DefaultValue) (v ∷ vs)
+      own (inl none) = cc
+      own (inr fine) = fine
+
+      go : (t : Bool) → bytes_eq id name ≡ t → Each Fine (default_rows id r (v ∷ vs) rows)
+      go true t = first_fine id r DefaultValue (v ∷ vs) rows absent (read t) (own (right t)) all
+      go false t = with_values_other id r DefaultValue (v ∷ vs) rows t all
+
+  with_default_fine : (a : Rule) (rows : List Row) → Fits a → Each Fine rows → Each Fine (with_default rows a)
+  with_default_fine a rows fits all = go (has_row a.id rows) refl
+    where
+      go : (t : Bool) → has_row a.id rows ≡ t → Each Fine (with_default rows a)
+      go true t = rw t all
+      go false t =
+          rw t (default_rows_fine a.id (reading_by a) a.defaults rows t fits.reading fits.defaults all)
+
+  pub defaults_fine : (c : List Rule) (rows : List Row) → Each Fits c → Each Fine rows
+      → Each Fine (fold with_default rows c)
+  defaults_fine [] rows fits all = all
+  defaults_fine (a ∷ c) rows fits all =
+      defaults_fine c (with_default rows a) fits.1 (with_default_fine a rows fits.0 all)
 
   -- ---- the words
 

@@ -1,29 +1,23 @@
 -- What the rows of a level with no fault hold of one argument.
-use Rattle.std.proofs.Common.{◌≡◌, ℕ, Bool, true, false, List, [], ◌∷◌, Option, Some, None}
-use Rattle.std.proofs.Common.{refl, sym, ap, subst, ◌∙◌, ◌&&◌, ◌||◌, not, true≢false}
+use Rattle.std.proofs.Common.{◌≡◌, ℕ, Bool, true, false, List, [], ◌∷◌, Option, Some, None, refl, ◌&&◌, ◌||◌, not}
+use Rattle.std.proofs.Common.{true≢false}
 use Rattle.std.specs.List.{fold, list_any}
-use Rattle.std.specs.Prelude.{if◌then◌else◌}
 use Rattle.std.specs.Str.{bytes_eq}
-use Rattle.clap.specs.Faults.{check_fault, defaults_fault, level_fault}
-use Rattle.clap.specs.Faults.{other_fault, settle_fault}
-use Rattle.clap.specs.Faults.{step_fault, turn_fault, walk_fault}
+use Rattle.clap.specs.Faults.{check_fault, defaults_fault, level_fault, other_fault, settle_fault, step_fault}
+use Rattle.clap.specs.Faults.{turn_fault, walk_fault}
 use Rattle.clap.specs.Kinds.{Kinds, check_kinds, or_else}
 use Rattle.clap.specs.Lexer.{long_of}
 use Rattle.clap.specs.Simple.{Shape}
 use Rattle.clap.specs.Takes.{is_given}
 use Rattle.clap.specs.declared.builder.value_parser.Reading.{Reading}
-use Rattle.clap.specs.Walk.{Held, Names, Row, Rule, Step, Text, Waiting, Walk}
-use Rattle.clap.specs.Walk.{after_step, arg_by_index}
-use Rattle.clap.specs.Walk.{default_rows, has_row}
-use Rattle.clap.specs.Walk.{next, nothing_held}
-use Rattle.clap.specs.Walk.{reading_by, rows_after, settled}
-use Rattle.clap.specs.Walk.{subcommand, subcommand_met}
-use Rattle.clap.specs.Walk.{subcommand_or_other, to_positional, trailing}
-use Rattle.clap.specs.Walk.{value, walk, walk_from, walked, with_default}
-use Rattle.dd_line.proofs.LineRows.{Each, Fine, Fits, Holds, first_none, long_word_fine, second_none}
-use Rattle.dd_line.proofs.LineRows.{settled_fine, to_positional_fine}
+use Rattle.clap.specs.Walk.{Held, Names, Rule, Step, Text, Waiting, Walk, after_step, arg_by_index, next, nothing_held}
+use Rattle.clap.specs.Walk.{rows_after, settled, subcommand, subcommand_met, subcommand_or_other, to_positional}
+use Rattle.clap.specs.Walk.{trailing, value, walk, walk_from, walked}
+use Rattle.dd_line.proofs.LineEach.{Each, first_none, second_none}
+use Rattle.dd_line.proofs.LineRows.{AreRight, Fine, Fits, Holds, defaults_fine, long_word_fine, settled_fine}
+use Rattle.dd_line.proofs.LineRows.{to_positional_fine}
 
-module _ (name : Text) (how : Reading) (ok : List Text → Type 0) (s : Shape)
+module _ (name : Text) (how : Reading) (ok : AreRight) (s : Shape)
     (each : Each (Fits name how ok) s.rules) (once : s.args_override_self ≡ false) where
   met_fine : (met : Option Text) (waiting : Waiting) (position : ℕ) (word : Text) (h : Held)
       → other_fault s met word h ≡ [] → Holds name how ok h
@@ -82,17 +76,6 @@ module _ (name : Text) (how : Reading) (ok : List Text → Type 0) (s : Shape)
       (second_none (turn_fault s names w word) _ none)
       (turn_fine names w.held w.waiting w.position w.is_trailing w.stopped word (first_none _ _ none) all)
 
-  -- defaults
-  no_defaults : (c : List Rule) (rows : List Row) → Each (Fits name how ok) c → fold with_default rows c ≡ rows
-  no_defaults [] rows fits = refl
-  no_defaults (a ∷ c) rows fits =
-      let same : with_default rows a ≡ rows = go (has_row a.id rows) in
-      ap (λ (x : List Row). fold with_default x c) same ∙ no_defaults c rows fits.1
-    where
-      go : (t : Bool) → (if t then rows else default_rows a.id (reading_by a) a.defaults rows) ≡ rows
-      go true = refl
-      go false = rw fits.0.defaults refl
-
   -- the rows of a level with no fault
   pub level_fine : (names : Names) (words : List Text) (has : Bool) (below : Kinds)
       → level_fault s names nothing_held words has below ≡ []
@@ -105,7 +88,7 @@ module _ (name : Text) (how : Reading) (ok : List Text → Type 0) (s : Shape)
       let held = walk_fine names (walk_from nothing_held) words (first_none one _ none) tt in
       let fine = settled_fine name how ok s.rules each s.args_override_self once end
       (first_none _ _ rest) held in
-      subst (Each (Fine name how ok)) (sym (no_defaults s.rules (settled s.rules end).rows each)) fine
+      defaults_fine name how ok s.rules (settled s.rules end).rows each fine
 
 none_passes : {X : Type 0} (p : X → Bool) (xs : List X) → list_any p xs ≡ false → Each (λ x. p x ≡ false) xs
 none_passes p [] none = tt

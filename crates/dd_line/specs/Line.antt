@@ -3,14 +3,16 @@
 --   dicomdir index [--id ID] [--uid UID] [--max-bytes N] OUT SRC...
 --   dicomdir merge [--id ID] [--uid UID] [--max-bytes N] OUT SET...
 --   dicomdir withdraw [--id ID] [--uid UID] [--max-bytes N] OUT SET UID...
---   dicomdir check SET
+--   dicomdir check [--keys] SET
 --   dicomdir list SET
 use Rattle.std.specs.Prelude.{◌≡◌, ◌≢◌, ◌++◌, [], ℕ, List, Option, Some, None, map, string_bytes, String}
-use Rattle.std.specs.Prelude.{Contains, codes, length, option_map, pos, ◌≤◌, true, false, unwrap_or}
+use Rattle.std.specs.Prelude.{Bool, Contains, codes, length, option_map, pos, ◌≤◌, true, false, unwrap_or}
 use Rattle.std.specs.Str.Parse.{IsNumeral, signed_digits_value, without_leading_sign}
+use Rattle.clap.specs.Takes.{is_given}
 use Rattle.clap.specs.Words.{App, IsSignedIn, Row, Rule, Text, all_of, app_of, first_of, kind_of}
 use Rattle.clap.specs.Words.{new_app, new_rule, one_of, rule_of, with_rule, without_minus}
 use Rattle.clap.specs.Words.{IsAmong, Kinds, with_subcommand}
+use Rattle.clap.specs.declared.builder.action.ArgAction.TheVariants.{SetTrue}
 use Rattle.clap.specs.declared.builder.arg.Arg.{Arg}
 use Rattle.clap.specs.declared.builder.command.Command.{Command}
 use Rattle.clap.specs.declared.builder.command.Command.TheViews.{out-Command as fields_of}
@@ -37,6 +39,10 @@ uid_name = codes "uid"
 
 abbrev pub max_bytes_name : Text
 max_bytes_name = codes "max-bytes"
+
+-- the name of the flag
+abbrev pub keys_name : Text
+keys_name = codes "keys"
 
 -- the names of the paths
 abbrev pub out_name : Text
@@ -71,6 +77,10 @@ most_bytes = 4294967295
 -- an option whose value is a number of 32 bits
 abbrev pub number_option : Text → Rule
 number_option name = record (text_option name) { parser = Some (Signed (pos 0) (pos most_bytes)) }
+
+-- a flag `--NAME` that may be left out
+abbrev pub flag : Text → Rule
+flag name = record (new_rule name) { long = Some name; action = Some SetTrue }
 
 -- a path that has to be given
 abbrev pub one_path : Text → Rule
@@ -111,6 +121,10 @@ withdraw_app =
 abbrev pub reading_app : Text → App
 reading_app name = with_rule (new_app name) (one_path set_name)
 
+-- `check [--keys] SET`
+abbrev pub check_app : App
+check_app = with_rule (reading_app (verb_name Check)) (flag keys_name)
+
 -- a command line has to name one of the app's commands
 abbrev pub with_command_required : App → App
 with_command_required a = record a { top = record a.top { subcommand_required = true } }
@@ -122,7 +136,7 @@ dicomdir_app = with_subcommand (with_subcommand (with_subcommand (with_subcomman
     index_app.top)
     merge_app.top)
     withdraw_app.top)
-    (reading_app (verb_name Check)).top)
+    check_app.top)
     (reading_app (verb_name ListSet)).top
 
 -- ---- what a line asks for
@@ -162,7 +176,7 @@ IsLimit None limit = limit ≡ most_bytes
 IsLimit (Some text) limit =
     IsNumeral 10 (without_leading_sign text) × (signed_digits_value 10 text ≡ pos limit)
 
--- the values are those that the named command's arguments were given
+-- the values are those that the named command's arguments were given, and the flag stands where the words give it
 pub record Asks (a : Asked) (command : Text) (given : List Row) : Type 0 where
   pub verb : verb_name a.verb ≡ command
   pub id : option_map string_bytes a.id ≡ first_of id_name given
@@ -170,6 +184,7 @@ pub record Asks (a : Asked) (command : Text) (given : List Row) : Type 0 where
   pub max_bytes : IsLimit (first_of max_bytes_name given) a.max_bytes
   pub paths : words_of a.paths.items ≡ given_paths given
   pub uids : words_of a.uids.items ≡ given_for instance_name given
+  pub keys : a.keys ≡ is_given keys_name given
 
 -- the path of one file-set, no ID, no UID, and the limit that stands where none is given
 pub record AsksForOneSet (a : Asked) : Type 0 where
@@ -195,7 +210,16 @@ HasLimit given = (text : Text) → first_of max_bytes_name given ≡ Some text
     → (one_of max_bytes_name given ≡ Some (without_minus text))
     × IsSignedIn (pos 0) (pos most_bytes) text
 
--- the path of one file-set was given, and no option
+-- the text of a flag that is given is `true`, and that of one that is not is `false`, if it has one
+abbrev pub IsFlagText : Bool → Option Text → Type 0
+IsFlagText true text = text ≡ Some (codes "true")
+IsFlagText false text = (text ≡ None) ⊎ (text ≡ Some (codes "false"))
+
+-- the text of `--keys` says whether the words give it
+abbrev pub HasFlag : List Row → Type 0
+HasFlag given = IsFlagText (is_given keys_name given) (one_of keys_name given)
+
+-- the path of one file-set was given, and no option with a value
 pub record GivesOneSet (given : List Row) : Type 0 where
   pub id : first_of id_name given ≡ None
   pub uid : first_of uid_name given ≡ None
@@ -207,17 +231,18 @@ pub record GivesInstances (given : List Row) : Type 0 where
   pub paths : length (given_paths given) ≡ 2
   pub instances : 1 ≤ length (given_for instance_name given)
 
--- a command of this kind was given what it needs, and images only where it withdraws them
+-- such a command was given what it needs, images only where it withdraws them, and the flag only where it checks
 pub record IsEnoughFor (verb : Verb) (given : List Row) : Type 0 where
   pub paths : least_paths verb ≤ length (given_paths given)
   pub set : OnlyReads verb → GivesOneSet given
   pub withdraw : verb ≡ Withdraw → GivesInstances given
   pub uids : verb ≢ Withdraw → given_for instance_name given ≡ []
+  pub keys : verb ≢ Check → is_given keys_name given ≡ false
 
 -- the words name a command, and give it what it needs
 abbrev pub NamesCommand : Option (Text × List Row) → Type 0
 NamesCommand found = (verb : Verb) × (given : List Row) × (found ≡ Some (verb_name verb, given)) × HasLimit given
-    × IsEnoughFor verb given
+    × HasFlag given × IsEnoughFor verb given
 
 -- the command that they name is `check`
 abbrev pub IsCheck : Option (Text × List Row) → Type 0

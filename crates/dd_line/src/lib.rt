@@ -4,6 +4,7 @@
 //! words.
 #![tactic(auto)]
 
+mod commands;
 mod line;
 
 pub use line::{Asked, LineFault, Verb, read_words};

@@ -1,35 +1,19 @@
 //! The command line: which command its words name, with its values.
-ghost use Rattle.std.specs.Prelude.{◌≡◌, ◌≢◌, ◌++◌, [], string_bytes, true};
-ghost use Rattle.std.specs.Prelude.{IfErr, IfOk, IsOk, MatchResult, codes, length, option_map, ◌≤◌};
+ghost use Rattle.std.specs.Prelude.{◌≡◌, ◌≢◌, ◌++◌, [], false, string_bytes, true};
+ghost use Rattle.std.specs.Prelude.{IfErr, IfOk, IsOk, MatchResult, length, option_map, ◌≤◌};
+ghost use Rattle.clap.specs.Takes.{is_given};
 ghost use Rattle.clap.specs.Words.{fault_of, first_of, found_of, rows_of, takes};
 ghost use Rattle.clap.specs.Words.{subcommand_of, subcommand_rows_of};
-ghost use Rattle.dd_line.specs.Line.{Asks, HasApp, HasLimit, HasRule, IsAsked, IsLimit, IsRefusedFor, NamesCommand};
-ghost use Rattle.dd_line.specs.Line.{dicomdir_app, given_for, given_paths, index_app, labelled_app, least_paths};
-ghost use Rattle.dd_line.specs.Line.{number_option, one_path, some_paths, text_option, verb_name, words_of};
-ghost use Rattle.dd_line.specs.Line.{AsksForOneSet, AsksToWithdraw, IsEnoughFor, OnlyReads, merge_app, reading_app};
-ghost use Rattle.dd_line.specs.Line.{instance_name, max_bytes_name, withdraw_app, writing_app};
+ghost use Rattle.dd_line.specs.Line.{Asks, AsksForOneSet, AsksToWithdraw, HasFlag, HasLimit, IsAsked, IsEnoughFor};
+ghost use Rattle.dd_line.specs.Line.{IsLimit, IsRefusedFor, NamesCommand, OnlyReads, dicomdir_app, given_for};
+ghost use Rattle.dd_line.specs.Line.{given_paths, instance_name, keys_name, least_paths, max_bytes_name, verb_name};
+ghost use Rattle.dd_line.specs.Line.{words_of};
 
+use crate::commands::{ID, INSTANCE, KEYS, MAX_BYTES, OUT, SET, SOURCE, UID, program};
+use clap::ArgMatches;
 use clap::error::ErrorKind;
-use clap::{Arg, ArgMatches, Command, value_parser};
 use std::alloc::{AllocError, Global};
 use thiserror::Error;
-
-// The names of the options.
-const ID: &str = "id";
-
-const UID: &str = "uid";
-
-const MAX_BYTES: &str = "max-bytes";
-
-// The names of the paths.
-const OUT: &str = "out";
-
-const SOURCE: &str = "source";
-
-const SET: &str = "set";
-
-// The name of the images, each by its SOP Instance UID.
-const INSTANCE: &str = "instance";
 
 /// A command of the program.
 #[derive(Clone, Copy, Debug, PartialEq, Eq)]
@@ -40,7 +24,7 @@ pub enum Verb {
     Merge,
     /// Makes such a file-set of one file-set without some of its images, for good: `withdraw OUT SET UID...`.
     Withdraw,
-    /// Compares the files of a file-set with its directory: `check SET`.
+    /// Compares the files of a file-set with its directory: `check [--keys] SET`.
     Check,
     /// Lists the records of a directory: `list SET`.
     List,
@@ -63,6 +47,9 @@ pub struct Asked {
     pub paths: Vec<String>,
     /// The SOP Instance UIDs of the line, as it spells them, in their order: none but for `withdraw`.
     pub uids: Vec<String>,
+    /// Whether what the files say of themselves is compared with their records, too: `check --keys`. False for
+    /// every other command.
+    pub keys: bool,
 }
 
 /// Why a command line asks for nothing.
@@ -99,175 +86,6 @@ impl From<clap::Error> for LineFault {
     }
 }
 
-/// An option `--NAME VALUE` that may be left out.
-fn option<'a>(alloc: Global, name: &'a str, value_name: &'a str, help: &'a str) -> Arg<'a>
-    ensures { HasRule (text_option name.entry.now) result }
-{
-    Arg::new(alloc, name)
-        .long(name)
-        .value_name(value_name)
-        .help(help)
-}
-
-/// An option whose value is a number of `u32`.
-fn number<'a>(alloc: Global, name: &'a str, value_name: &'a str, help: &'a str) -> Arg<'a>
-    ensures { HasRule (number_option name.entry.now) result }
-{
-    option(alloc, name, value_name, help).value_parser(value_parser!(u32))
-}
-
-/// A path that has to be given.
-fn path<'a>(alloc: Global, name: &'a str, value_name: &'a str, help: &'a str) -> Arg<'a>
-    ensures { HasRule (one_path name.entry.now) result }
-{
-    Arg::new(alloc, name)
-        .required(true)
-        .value_name(value_name)
-        .help(help)
-}
-
-/// Paths, at least one, or other words of that number.
-fn paths<'a>(alloc: Global, name: &'a str, value_name: &'a str, help: &'a str) -> Arg<'a>
-    ensures { HasRule (some_paths name.entry.now) result }
-{
-    path(alloc, name, value_name, help).num_args(1..)
-}
-
-/// A command that labels a directory, with the options for that.
-fn labelled<'a>(alloc: Global, name: &'a str, about: &'a str) -> Result<Command<'a>, AllocError>
-    ensures { IfOk result (HasApp (labelled_app name.entry.now)) }
-{
-    Command::new(alloc, name)
-        .about(about)
-        .arg(option(
-            alloc,
-            ID,
-            "ID",
-            "ID of the file-set, such as DISC1; by default empty",
-        ))?
-        .arg(option(
-            alloc,
-            UID,
-            "UID",
-            "UID of the file-set; by default made from its content",
-        ))
-}
-
-/// A command that writes a directory, with its options and the folder that it writes to.
-fn writing<'a>(alloc: Global, name: &'a str, about: &'a str) -> Result<Command<'a>, AllocError>
-    ensures { IfOk result (HasApp (writing_app name.entry.now)) }
-{
-    labelled(alloc, name, about)?
-        .arg(number(
-            alloc,
-            MAX_BYTES,
-            "N",
-            "Most bytes of DICOMDIR; by default 4294967295",
-        ))?
-        .arg(path(
-            alloc,
-            OUT,
-            "OUT",
-            "New folder, or one with no DICOMDIR; no file there is overwritten",
-        ))
-}
-
-/// The command `index`.
-fn index_command<'a>(alloc: Global) -> Result<Command<'a>, AllocError>
-    ensures { IfOk result (HasApp index_app) }
-{
-    let about = "Makes a file-set of image files: copies them, writes its DICOMDIR";
-    writing(alloc, "index", about)?.arg(paths(
-        alloc,
-        SOURCE,
-        "SRC",
-        "DICOM files; one that is no image, or lacks a key, is skipped",
-    ))
-}
-
-/// The command `merge`.
-fn merge_command<'a>(alloc: Global) -> Result<Command<'a>, AllocError>
-    ensures { IfOk result (HasApp merge_app) }
-{
-    let about = "Makes a file-set of others: copies their images, writes its DICOMDIR";
-    writing(alloc, "merge", about)?.arg(paths(
-        alloc,
-        SET,
-        "SET",
-        "Folders with a DICOMDIR of this program each; they are only read",
-    ))
-}
-
-/// The command `withdraw`.
-fn withdraw_command<'a>(alloc: Global) -> Result<Command<'a>, AllocError>
-    ensures { IfOk result (HasApp withdraw_app) }
-{
-    let about = "Makes a file-set of one without some images, which no merge brings back";
-    writing(alloc, "withdraw", about)?
-        .arg(path(
-            alloc,
-            SET,
-            "SET",
-            "Folder with a DICOMDIR of this program; it is only read",
-        ))?
-        .arg(paths(
-            alloc,
-            INSTANCE,
-            "UID",
-            "SOP Instance UIDs of the images; one that the file-set lacks is withdrawn too",
-        ))
-}
-
-/// A command that reads one file-set.
-fn reading<'a>(alloc: Global, name: &'a str, about: &'a str) -> Result<Command<'a>, AllocError>
-    ensures { IfOk result (HasApp (reading_app name.entry.now)) }
-{
-    Command::new(alloc, name).about(about).arg(path(
-        alloc,
-        SET,
-        "SET",
-        "Folder of the file-set; nothing in it is changed",
-    ))
-}
-
-/// The command `check`.
-fn check_command<'a>(alloc: Global) -> Result<Command<'a>, AllocError>
-    ensures { IfOk result (HasApp (reading_app (verb_name Verb.Check))) }
-{
-    reading(
-        alloc,
-        "check",
-        "Tells which files of a file-set are not those that its DICOMDIR names",
-    )
-}
-
-/// The command `list`.
-fn list_command<'a>(alloc: Global) -> Result<Command<'a>, AllocError>
-    ensures { IfOk result (HasApp (reading_app (verb_name Verb.List))) }
-{
-    reading(
-        alloc,
-        "list",
-        "Lists the records of a DICOMDIR, those of other programs too",
-    )
-}
-
-/// The program with its commands.
-fn program<'a>(alloc: Global) -> Result<Command<'a>, AllocError>
-    ensures { IfOk result (HasApp dicomdir_app) }
-{
-    Command::new(alloc, "dicomdir")
-        .about(
-            "Makes, merges, checks and lists DICOM file-sets with their DICOMDIR, and withdraws images",
-        )
-        .subcommand_required(true)
-        .subcommand(index_command(alloc)?)?
-        .subcommand(merge_command(alloc)?)?
-        .subcommand(withdraw_command(alloc)?)?
-        .subcommand(check_command(alloc)?)?
-        .subcommand(list_command(alloc)?)
-}
-
 /// The value of an option, or `None` where it is not given.
 fn value_of(alloc: Global, given: &ArgMatches<'_>, name: &str) -> Result<Option<String>, AllocError>
     ensures { IfOk result (λ value.
@@ -285,6 +103,14 @@ fn limit_of(given: &ArgMatches<'_>) -> u32
     ensures { IsLimit (first_of max_bytes_name (rows_of (found_of given.now))) result }
 {
     given.get_one::<u32>(MAX_BYTES).unwrap_or(u32::MAX)
+}
+
+/// Whether the flag `--keys` is given.
+fn keys_of(given: &ArgMatches<'_>) -> bool
+    requires { HasFlag (rows_of (found_of given.now)) }
+    ensures { result ≡ is_given keys_name (rows_of (found_of given.now)) }
+{
+    given.get_flag(KEYS)
 }
 
 /// Appends the values of an argument.
@@ -327,12 +153,14 @@ fn uids_of(alloc: Global, given: &ArgMatches<'_>) -> Result<Vec<String>, AllocEr
 /// What the command asks for with its values.
 fn asked_by(alloc: Global, verb: Verb, given: &ArgMatches<'_>) -> Result<Asked, AllocError>
     requires limit { HasLimit (rows_of (found_of given.now)) }
+    requires flag { HasFlag (rows_of (found_of given.now)) }
     requires enough { IsEnoughFor verb (rows_of (found_of given.now)) }
     ensures values { IfOk result (λ asked. Asks asked (verb_name verb) (rows_of (found_of given.now))) }
     ensures paths { IfOk result (λ asked. least_paths asked.verb ≤ length asked.paths.items) }
     ensures set { IfOk result (λ asked. OnlyReads asked.verb → AsksForOneSet asked) }
     ensures withdraw { IfOk result (λ asked. asked.verb ≡ Verb.Withdraw → AsksToWithdraw asked) }
     ensures uids { IfOk result (λ asked. asked.verb ≢ Verb.Withdraw → asked.uids.items ≡ []) }
+    ensures keys { IfOk result (λ asked. asked.verb ≢ Verb.Check → asked.keys ≡ false) }
 {
     Ok(Asked {
         verb,
@@ -341,6 +169,7 @@ fn asked_by(alloc: Global, verb: Verb, given: &ArgMatches<'_>) -> Result<Asked, 
         max_bytes: limit_of(given),
         paths: paths_of(alloc, given)?,
         uids: uids_of(alloc, given)?,
+        keys: keys_of(given),
     })
 }
 
@@ -352,6 +181,7 @@ fn asked_of(alloc: Global, found: &ArgMatches<'_>) -> Result<Asked, AllocError>
     ensures set { IfOk result (λ asked. OnlyReads asked.verb → AsksForOneSet asked) }
     ensures withdraw { IfOk result (λ asked. asked.verb ≡ Verb.Withdraw → AsksToWithdraw asked) }
     ensures uids { IfOk result (λ asked. asked.verb ≢ Verb.Withdraw → asked.uids.items ≡ []) }
+    ensures keys { IfOk result (λ asked. asked.verb ≢ Verb.Check → asked.keys ≡ false) }
 {
     match found.subcommand() {
         Some(("index", given)) => asked_by(alloc, Verb::Index, given),
@@ -387,6 +217,7 @@ pub fn read_words(alloc: Global, words: &[String]) -> Result<Asked, LineFault>
     ensures set { IfOk result (λ asked. OnlyReads asked.verb → AsksForOneSet asked) }
     ensures withdraw { IfOk result (λ asked. asked.verb ≡ Verb.Withdraw → AsksToWithdraw asked) }
     ensures uids { IfOk result (λ asked. asked.verb ≢ Verb.Withdraw → asked.uids.items ≡ []) }
+    ensures keys { IfOk result (λ asked. asked.verb ≢ Verb.Check → asked.keys ≡ false) }
     ensures passes { IfErr result (λ fault.
         takes dicomdir_app (words_of words.now) ≡ true
         → fault ≡ LineFault.Memory) }

@@ -77,7 +77,9 @@ impl Read for MemReader {
 
     ghost remaining = { λ s. Some s.left };
 
-    ghost has_given = { λ s bytes. bytes ≡ s.given };
+    ghost Past = { Unit {0} };
+
+    ghost has_given = { λ s _ bytes. bytes ≡ s.given };
 
     /// Gives the next bytes, as many as there is room for and as are left, up to where it fails for good. It
     /// fails there, and where a count is at its last value.
@@ -88,7 +90,7 @@ impl Read for MemReader {
         ensures worked { IsOk result → HasWorked self.old.counts.failures self.new.counts.failures }
         ensures failed { IsErr result → self.new.counts.failures ≡ counted self.old.counts.failures }
         ensures left { ReadConsumes (Some self.old.left) (Some self.new.left) result buf.new }
-        ensures gives { Gives (λ s bytes. bytes ≡ s.given) self.old self.new (read_piece result buf.new) }
+        ensures gives { Gives {P = Unit {0}} (λ s _ bytes. bytes ≡ s.given) self.old self.new (read_piece result buf.new) }
 
         // Exactly when it works, how many bytes come then, and what it is afterwards.
         ensures readable { IsOk result ↔ IsReadable self.old }

@@ -1,5 +1,10 @@
+mod Agreeing
+mod FoundValues
 mod GoingOn
+mod HexDigits
+mod KeyFindings
 mod ListedLines
+pub mod Masking
 mod TextLemmas
 mod ToldTrees
 mod WithdrawnLines

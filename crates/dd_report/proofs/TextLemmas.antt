@@ -3,14 +3,16 @@ use Rattle.std.proofs.Common.{◌≡◌, ◌∙◌, ℕ, List, [], ◌∷◌, �
 use Rattle.std.proofs.Common.{take, drop, get_or}
 use Rattle.std.proofs.Common.{refl, sym, ap, subst, arith, append_assoc, append-nil, length-append, length-drop}
 use Rattle.std.specs.Borrow.{Bor}
-use Rattle.std.specs.Prelude.{OnErr}
+use Rattle.std.specs.Prelude.{OnErr, OnOk}
+use Rattle.std.specs.Str.{IsUtf8}
 use Rattle.std.proofs.KnownBytes.{Appends-trans}
 use Rattle.std.proofs.Math.Seq.{take-append-add}
 use Rattle.std.proofs.lemmas.List.{take_all, take-append-le, drop_all, drop_more}
 use Rattle.std.specs.Io.KnownBytes.{Appends}
 use Rattle.dd_elem.specs.Device.{HasFailed}
 use Rattle.dd_elem.proofs.Known.{appends_more, appends_none}
-use Rattle.dd_report.specs.Text.{FailsAmid, Sent, TakesAll, joined, line_text}
+use Rattle.dd_report.specs.Text.{FailsAmid, Sent, TakesAll, joined, line_text, masked}
+use Rattle.dd_report.proofs.Masking.{masked-append, masked-nil}
 
 -- a writer took the bytes before a place, and then n of those from there on
 pub appends_rest : (a b c : Option (List ℕ)) (bytes : List ℕ) (at n : ℕ) → Appends a b (take at bytes)
@@ -77,6 +79,13 @@ pub sent_front : (front rest : List ℕ) (a b : Option (List ℕ)) (f g : ℕ)
     → TakesAll a b f g front → Sent (front ++ rest) rest a b f g
 sent_front front rest a b f g took = record { gone = front; parts = refl; took = took }
 
+-- of what was still to be sent, more is taken up
+pub sent_on : (text mid left : List ℕ) (a b c : Option (List ℕ)) (f g h : ℕ)
+    → Sent text mid a b f g → Sent mid left b c g h → Sent text left a c f h
+sent_on text mid left a b c f g h so_far next =
+    sent_more text next.gone left a b c f g h
+    (subst (λ (xs : List ℕ). Sent text xs a b f g) next.parts so_far) next.took
+
 -- both went
 pub sent_both : (one two left : List ℕ) (a b c : Option (List ℕ)) (f g h : ℕ)
     → left ≡ [] → TakesAll a b f g one → TakesAll b c g h two → Sent (one ++ two) left a c f h
@@ -113,43 +122,45 @@ fails_then text held part rest a b c f g h so_far failed =
 -- ---- the parts of a line
 
 -- what a line still has from a part on
-line_from : (parts : List (Bor (List ℕ))) (i : ℕ) (d : Bor (List ℕ)) → i < length parts
-    → line_text (drop i parts) ≡ (get_or parts i d).now ++ line_text (drop (i + 1) parts)
-line_from parts i d within =
+line_from : (parts : List (Bor (List ℕ))) (i : ℕ) (d : Bor (List ℕ)) → i < length parts → IsUtf8 (get_or parts i d).now
+    → line_text (drop i parts) ≡ masked (get_or parts i d).now ++ line_text (drop (i + 1) parts)
+line_from parts i d within utf8 =
     ap line_text (drop_more parts i d within)
-    ∙ append_assoc (get_or parts i d).now (joined (drop (i + 1) parts)) (10 ∷ [])
+    ∙ ap (λ (xs : List ℕ). xs ++ 10 ∷ []) (masked-append (get_or parts i d).now (joined (drop (i + 1) parts)) utf8)
+    ∙ append_assoc (masked (get_or parts i d).now) (masked (joined (drop (i + 1) parts))) (10 ∷ [])
 
 -- behind the last part its end
 line_end : (parts : List (Bor (List ℕ))) (i : ℕ) → length parts ≤ i → line_text (drop i parts) ≡ 10 ∷ []
-line_end parts i past = ap line_text (drop_all i parts past)
+line_end parts i past = ap line_text (drop_all i parts past) ∙ ap (λ (xs : List ℕ). xs ++ 10 ∷ []) masked-nil
 
 -- the line is taken up to a part, and `held` of it waits
 abbrev pub SentTo : List (Bor (List ℕ)) → ℕ → List ℕ → Option (List ℕ) → Option (List ℕ) → ℕ → ℕ → Type 0
 SentTo parts i held old new failures_old failures_new =
     Sent (line_text parts) (held ++ line_text (drop i parts)) old new failures_old failures_new
 
-part_next : (parts : List (Bor (List ℕ))) (i : ℕ) (d : Bor (List ℕ)) (part held : List ℕ) (a b : Option (List ℕ))
-    (f g : ℕ) → i < length parts → part ≡ (get_or parts i d).now → SentTo parts i held a b f g
-    → Sent (line_text parts) (held ++ (part ++ line_text (drop (i + 1) parts))) a b f g
-part_next parts i d part held a b f g within is so_far =
-    subst (λ (xs : List ℕ). Sent (line_text parts) (held ++ xs) a b f g)
-    (line_from parts i d within ∙ ap (λ (xs : List ℕ). xs ++ line_text (drop (i + 1) parts)) (sym is)) so_far
+part_next : (parts : List (Bor (List ℕ))) (i : ℕ) (d : Bor (List ℕ)) (held : List ℕ) (a b : Option (List ℕ))
+    (f g : ℕ) → i < length parts → IsUtf8 (get_or parts i d).now → SentTo parts i held a b f g
+    → Sent (line_text parts) (held ++ (masked (get_or parts i d).now ++ line_text (drop (i + 1) parts))) a b f g
+part_next parts i d held a b f g within utf8 so_far =
+    subst (λ (xs : List ℕ). Sent (line_text parts) (held ++ xs) a b f g) (line_from parts i d within utf8) so_far
 
 -- one part more
-pub part_goes : (parts : List (Bor (List ℕ))) (i : ℕ) (d : Bor (List ℕ)) (part held left : List ℕ)
-    (a b c : Option (List ℕ)) (f g h : ℕ) → i < length parts → part ≡ (get_or parts i d).now
-    → SentTo parts i held a b f g → Sent (held ++ part) left b c g h → SentTo parts (i + 1) left a c f h
-part_goes parts i d part held left a b c f g h within is so_far next =
-    sent_then (line_text parts) held part (line_text (drop (i + 1) parts)) left a b c f g h
-    (part_next parts i d part held a b f g within is so_far) next
+pub part_goes : (parts : List (Bor (List ℕ))) (i : ℕ) (d : Bor (List ℕ)) (held left : List ℕ)
+    (a b c : Option (List ℕ)) (f g h : ℕ) → i < length parts → SentTo parts i held a b f g
+    → Sent (held ++ masked (get_or parts i d).now) left b c g h → IsUtf8 (get_or parts i d).now
+    → SentTo parts (i + 1) left a c f h
+part_goes parts i d held left a b c f g h within so_far next utf8 =
+    sent_then (line_text parts) held (masked (get_or parts i d).now) (line_text (drop (i + 1) parts)) left a b c f g h
+    (part_next parts i d held a b f g within utf8 so_far) next
 
 -- the writer failed in a part
-pub part_fails : (parts : List (Bor (List ℕ))) (i : ℕ) (d : Bor (List ℕ)) (part held : List ℕ)
-    (a b c : Option (List ℕ)) (f g h : ℕ) → i < length parts → part ≡ (get_or parts i d).now
-    → SentTo parts i held a b f g → FailsAmid b c g h (held ++ part) → FailsAmid a c f h (line_text parts)
-part_fails parts i d part held a b c f g h within is so_far failed =
-    fails_then (line_text parts) held part (line_text (drop (i + 1) parts)) a b c f g h
-    (part_next parts i d part held a b f g within is so_far) failed
+pub part_fails : (parts : List (Bor (List ℕ))) (i : ℕ) (d : Bor (List ℕ)) (held : List ℕ)
+    (a b c : Option (List ℕ)) (f g h : ℕ) → i < length parts → SentTo parts i held a b f g
+    → FailsAmid b c g h (held ++ masked (get_or parts i d).now) → IsUtf8 (get_or parts i d).now
+    → FailsAmid a c f h (line_text parts)
+part_fails parts i d held a b c f g h within so_far failed utf8 =
+    fails_then (line_text parts) held (masked (get_or parts i d).now) (line_text (drop (i + 1) parts)) a b c f g h
+    (part_next parts i d held a b f g within utf8 so_far) failed
 
 -- behind the last part the end of the line waits
 pub end_next : (parts : List (Bor (List ℕ))) (i : ℕ) (held : List ℕ) (a b : Option (List ℕ)) (f g : ℕ)
@@ -188,3 +199,7 @@ on_err (Err e) is = is
 pub on_err_weaker : {T E X Y : Type 0} (r : Result T E) → (X → Y) → OnErr r X → OnErr r Y
 on_err_weaker (Ok x) weaker is = tt
 on_err_weaker (Err e) weaker is = weaker is
+
+pub on_ok_weaker : {T E X Y : Type 0} (r : Result T E) → (X → Y) → OnOk r X → OnOk r Y
+on_ok_weaker (Ok x) weaker is = weaker is
+on_ok_weaker (Err e) weaker is = tt

@@ -8,12 +8,11 @@ use Rattle.std.specs.Prelude.{◌≢◌, ◌&&◌, ◌||◌, ◌==◌, not, nat_
 use Rattle.std.specs.Io.KnownBytes.{Consumes}
 use Rattle.std.specs.List.{concat, flat_map}
 use Rattle.std.proofs.lemmas.List.{take_all}
-use Rattle.dd_elem.specs.Device.{Gives}
+use Rattle.dd_elem.specs.Device.{Gives, HasWorked}
 use Rattle.dd_elem.specs.FileIdForm.{IsFileId}
 use Rattle.dd_keys.specs.Fitting.{is_empty}
 use Rattle.dd_dir.specs.declared.forest.Tree.{Tree, out-Tree, the_lemmas}
 use Rattle.dd_dir.specs.ForestViews.{tree_view, trees_view, walk_view}
-use Rattle.dd_dir.specs.Own.{digest_in}
 use Rattle.dd_dir.specs.Trees.{Node, Trees, Walk}
 use Rattle.dd_dir.specs.declared.forest.Forest.{Forest}
 use Rattle.dd_files.specs.Files.{Held}
@@ -21,11 +20,15 @@ use Rattle.dd_files.specs.Paths.{IsPathIn, id_path}
 use Rattle.dd_files.proofs.FilePaths.{id_ascii}
 use Rattle.dd_report.specs.Checking.{Checks, ChecksAll, FindsFile, FindsRead, TellsAll, TellsFirst}
 use Rattle.dd_report.specs.Checking.{TellsSome, TellsWalk, end_line, finding_line, finding_parts, is_right}
-use Rattle.dd_report.specs.Checking.{most_read, nodes_of}
+use Rattle.dd_report.specs.Checking.{most_read}
+use Rattle.dd_report.specs.declared.checking.Comparison.{Comparison}
 use Rattle.dd_report.specs.declared.checking.CheckFault.{CheckFault}
 use Rattle.dd_report.specs.declared.checking.CheckFault.TheVariants.{Memory, Unsent}
 use Rattle.dd_report.specs.declared.findings.Finding.{Finding}
-use Rattle.dd_report.specs.Finding.{IsFound, file_in}
+use Rattle.dd_report.specs.declared.agreements.Inherited.{Inherited}
+use Rattle.dd_report.specs.Agreements.{IsInherited, Standing, branch_standings, found_in, standing_below}
+use Rattle.dd_report.specs.Agreements.{standings_below}
+use Rattle.dd_report.specs.Finding.{FindsBy, IsFound, NamesFile, file_in}
 use Rattle.dd_report.specs.Telling.{Fails, GoesOn, Way, shown}
 use Rattle.dd_report.specs.Text.{FailsAmid, TakesAll}
 use Rattle.dd_report.proofs.GoingOn.{all_goes, fails_behind, fails_of_none, goes_none, goes_then, none_goes}
@@ -76,30 +79,36 @@ some_line node finding = not_empty (shown (concat (finding_parts node finding)))
 below_is : (t : Tree) → (tree_view t).below ≡ trees_view (out-Tree t).below.items
 below_is t = search (rules, the_lemmas)
 
-abbrev pub tree_nodes : Tree → List Node
-tree_nodes t = (tree_view t).node ∷ nodes_of (tree_view t).below
+abbrev pub tree_standings : List Node → Tree → List Standing
+tree_standings above t = branch_standings above (tree_view t)
 
-nodes_each : (trees : List Tree) → nodes_of (trees_view trees) ≡ flat_map tree_nodes trees
-nodes_each [] = refl
-nodes_each (t ∷ trees) = ap (λ (xs : List Node). tree_nodes t ++ xs) (nodes_each trees)
+standings_each : (above : List Node) (trees : List Tree)
+    → standings_below above (trees_view trees) ≡ flat_map (tree_standings above) trees
+standings_each above [] = refl
+standings_each above (t ∷ trees) =
+    ap (λ (xs : List Standing). tree_standings above t ++ xs) (standings_each above trees)
 
 -- those of the first trees and of one more
-one_tree_more : (trees : List Tree) (i : ℕ) (t : Tree) → i < length trees → t ≡ get_or trees i t
-    → nodes_of (trees_view (take (i + 1) trees)) ≡ nodes_of (trees_view (take i trees)) ++ tree_nodes t
-one_tree_more trees i t within is =
-    nodes_each (take (i + 1) trees) ∙ one_more tree_nodes trees i t within
-    ∙ ap (λ (xs : List Node). xs ++ tree_nodes (get_or trees i t)) (sym (nodes_each (take i trees)))
-    ∙ ap (λ (x : Tree). nodes_of (trees_view (take i trees)) ++ tree_nodes x) (sym is)
+one_tree_more : (above : List Node) (trees : List Tree) (i : ℕ) (t : Tree) → i < length trees → t ≡ get_or trees i t
+    → standings_below above (trees_view (take (i + 1) trees))
+    ≡ standings_below above (trees_view (take i trees)) ++ tree_standings above t
+one_tree_more above trees i t within is =
+    standings_each above (take (i + 1) trees) ∙ one_more (tree_standings above) trees i t within
+    ∙ ap (λ (xs : List Standing). xs ++ tree_standings above (get_or trees i t))
+    (sym (standings_each above (take i trees)))
+    ∙ ap (λ (x : Tree). standings_below above (trees_view (take i trees)) ++ tree_standings above x) (sym is)
 
 -- and of those behind
-trees_parted : (trees : List Tree) (i : ℕ) (t : Tree) → i < length trees → t ≡ get_or trees i t
-    → nodes_of (trees_view trees)
-    ≡ (nodes_of (trees_view (take i trees)) ++ tree_nodes t) ++ flat_map tree_nodes (drop (i + 1) trees)
-trees_parted trees i t within is =
-    let later = flat_map tree_nodes (drop (i + 1) trees) in
-    nodes_each trees ∙ parted tree_nodes trees i t within
-    ∙ ap (λ (xs : List Node). (xs ++ tree_nodes (get_or trees i t)) ++ later) (sym (nodes_each (take i trees)))
-    ∙ ap (λ (x : Tree). (nodes_of (trees_view (take i trees)) ++ tree_nodes x) ++ later) (sym is)
+trees_parted : (above : List Node) (trees : List Tree) (i : ℕ) (t : Tree) → i < length trees → t ≡ get_or trees i t
+    → standings_below above (trees_view trees)
+    ≡ (standings_below above (trees_view (take i trees)) ++ tree_standings above t)
+    ++ flat_map (tree_standings above) (drop (i + 1) trees)
+trees_parted above trees i t within is =
+    let later = flat_map (tree_standings above) (drop (i + 1) trees) in
+    standings_each above trees ∙ parted (tree_standings above) trees i t within
+    ∙ ap (λ (xs : List Standing). (xs ++ tree_standings above (get_or trees i t)) ++ later)
+    (sym (standings_each above (take i trees)))
+    ∙ ap (λ (x : Tree). (standings_below above (trees_view (take i trees)) ++ tree_standings above x) ++ later) (sym is)
 
 -- ---- the file of a record
 
@@ -111,46 +120,75 @@ stored_given None path given old new there known = tt
 stored_given (Some files) path given old new there known =
     (there.0, subst (λ (o : Option (List ℕ)). Consumes o new given) there.1 known)
 
-module _ {R : Type 0} (has_given : R → List ℕ → Type 0) (remaining : R → Option (List ℕ)) (calls failures : R → ℕ)
-    (held : Option Held) (folder : List ℕ) where
-  pub read_found : (opened path file given : List ℕ) (node : Node) (finding : Option Finding) (fresh left : R)
-      → file ≡ file_in node → IsFileId (file_in node) → opened ≡ path
+module _ {R P : Type 0} (has_given : R → P → List ℕ → Type 0) (remaining : R → Option (List ℕ)) (calls failures : R → ℕ)
+    (held : Option Held) (folder : List ℕ) (comparison : Comparison) where
+  pub read_found : (opened path file given : List ℕ) (standing : Standing) (finding : Option Finding) (fresh left : R)
+      → file ≡ file_in standing.node → IsFileId (file_in standing.node) → opened ≡ path
       → (All (λ (byte : ℕ). byte < 128) file → IsPathIn folder (id_path file) path)
       → IfSome held (λ files. IsSome (files.bytes_at opened) × (remaining fresh ≡ files.bytes_at opened))
-      → has_given fresh [] → calls fresh ≡ 0 → failures fresh ≡ 0 → Gives has_given fresh left given
-      → Consumes (remaining fresh) (remaining left) given → calls left ≤ calls fresh + most_read + 1
-      → IsFound finding (digest_in node.set) most_read given (remaining left) (failures fresh) (failures left)
-      → FindsRead has_given remaining calls failures held folder node finding
-  read_found opened path file given node finding fresh left is id at place there new unread none gives known reads
-      found = record {
+      → ((past : P) → has_given fresh past []) → calls fresh ≡ 0 → failures fresh ≡ 0
+      → Gives has_given fresh left given → Consumes (remaining fresh) (remaining left) given
+      → calls left ≤ calls fresh + most_read + 1
+      → IsFound finding (found_in comparison standing) most_read given (remaining left) (failures fresh)
+      (failures left)
+      → FindsRead has_given remaining calls failures held folder comparison standing finding
+  read_found opened path file given standing finding fresh left is id at place there first unread none gives known
+      reads found = record {
         path = path;
         place = subst (λ (name : List ℕ). IsPathIn folder (id_path name) path) is
             (place (subst (λ (name : List ℕ). All (λ (byte : ℕ). byte < 128) name) (sym is)
-            (id_ascii (file_in node) id)));
+            (id_ascii (file_in standing.node) id)));
         reader = left;
         given = given;
-        gave = gives.then [] new;
+        gave = λ past. gives.then past [] (first past);
         stored = subst (λ (xs : List ℕ). IfSome held (λ files.
             IsSome (files.bytes_at xs) × Consumes (files.bytes_at xs) (remaining left) given)) at
             (stored_given held opened given (remaining fresh) (remaining left) there known);
         reads = subst (λ (n : ℕ). calls left ≤ n + most_read + 1) unread reads;
-        found = subst (λ (n : ℕ). IsFound finding (digest_in node.set) most_read given (remaining left) n
+        found = subst (λ (n : ℕ). IsFound finding (found_in comparison standing) most_read given (remaining left) n
             (failures left)) none found;
       }
 
+  -- the same of what is found wherever the record stands
+  pub file_found : {E : Type 0} (r : Result (Option Finding) E) (said : Inherited) (opened path file : List ℕ)
+      (node : Node) (fresh left : R) (old new : ℕ)
+      → file ≡ file_in node → NamesFile node → IsFileId (file_in node) → opened ≡ path
+      → (All (λ (byte : ℕ). byte < 128) file → IsPathIn folder (id_path file) path)
+      → IfSome held (λ files. IsSome (files.bytes_at opened) × (remaining fresh ≡ files.bytes_at opened))
+      → ((past : P) → has_given fresh past []) → calls fresh ≡ 0 → failures fresh ≡ 0 → HasWorked old new
+      → IfOk r (λ finding. (above : List Node) → IsInherited said (node ∷ above)
+      → FindsBy has_given remaining calls failures most_read (found_in comparison (standing_below above node)) finding
+      fresh left)
+      → IfOk r (λ finding. (above : List Node) → IsInherited said (node ∷ above)
+      → FindsFile has_given remaining calls failures held folder comparison (standing_below above node) old new finding)
+  file_found (Ok finding) said opened path file node fresh left old new is names id at place there first unread none
+      worked finds = λ above inherits. record {
+        unnamed = λ unnamed. absurd (unnamed names);
+        misnamed = λ _ bad. absurd (bad id);
+        named = λ _ _.
+            let by = finds above inherits in
+            inr (
+              worked,
+              read_found opened path file by.given (standing_below above node) finding fresh left is id at place there
+                  first unread none by.gave by.known by.reads by.found,
+            );
+      }
+  file_found (Err fault) said opened path file node fresh left old new is names id at place there first unread none
+      worked finds = tt
+
   -- ---- records
 
-  abbrev Told : List Node → ℕ → ℕ → List ℕ → Type 0
-  Told = TellsAll has_given remaining calls failures held folder
+  abbrev Told : List Standing → ℕ → ℕ → List ℕ → Type 0
+  Told = TellsAll has_given remaining calls failures held folder comparison
 
-  abbrev First : List Node → ℕ → ℕ → List ℕ → Type 0
-  First = TellsFirst has_given remaining calls failures held folder
+  abbrev First : List Standing → ℕ → ℕ → List ℕ → Type 0
+  First = TellsFirst has_given remaining calls failures held folder comparison
 
-  abbrev Checked : List Node → Result Bool CheckFault → ℕ → ℕ → Way → Way → Type 0
-  Checked = Checks has_given remaining calls failures held folder
+  abbrev Checked : List Standing → Result Bool CheckFault → ℕ → ℕ → Way → Way → Type 0
+  Checked = Checks has_given remaining calls failures held folder comparison
 
   -- those of both lists
-  both_told : (xs ys : List Node) (f g h : ℕ) (one two : List ℕ) → Told xs f g one → Told ys g h two
+  both_told : (xs ys : List Standing) (f g h : ℕ) (one two : List ℕ) → Told xs f g one → Told ys g h two
       → Told (xs ++ ys) f h (one ++ two)
   both_told [] ys f g h one two first second =
       subst (λ (n : ℕ). Told ys n h (one ++ two)) first.0
@@ -165,80 +203,82 @@ module _ {R : Type 0} (has_given : R → List ℕ → Type 0) (remaining : R →
   )
 
   -- the first of both lists
-  first_behind : (xs ys : List Node) (f g h : ℕ) (one two : List ℕ) → Told xs f g one → First ys g h two
+  first_behind : (xs ys : List Standing) (f g h : ℕ) (one two : List ℕ) → Told xs f g one → First ys g h two
       → First (xs ++ ys) f h (one ++ two)
   first_behind xs ys f g h one two told first = record {
     first = xs ++ first.first;
     others = first.others;
-    parts = ap (λ (zs : List Node). xs ++ zs) first.parts ∙ sym (append_assoc xs first.first first.others);
+    parts = ap (λ (zs : List Standing). xs ++ zs) first.parts ∙ sym (append_assoc xs first.first first.others);
     told = both_told xs first.first f g h one two told first.told;
   }
 
-  first_front : (xs ys : List Node) (f g : ℕ) (text : List ℕ) → First xs f g text → First (xs ++ ys) f g text
+  first_front : (xs ys : List Standing) (f g : ℕ) (text : List ℕ) → First xs f g text → First (xs ++ ys) f g text
   first_front xs ys f g text first = record {
     first = first.first;
     others = first.others ++ ys;
-    parts = ap (λ (zs : List Node). zs ++ ys) first.parts ∙ append_assoc first.first first.others ys;
+    parts = ap (λ (zs : List Standing). zs ++ ys) first.parts ∙ append_assoc first.first first.others ys;
     told = first.told;
   }
 
   pub none_told : (n : ℕ) (w : Way) → Checked [] (Ok false) n n w w
   none_told n w = ([], (refl, refl), refl, goes_none w)
 
-  -- a record whose file is not asked for yet
-  pub record_cut : (node : Node) (f g : ℕ) (a : Way) → g ≡ f → Checked (node ∷ []) (Err Memory) f g a a
-  record_cut node f g a same =
-      ([], record { first = []; others = node ∷ []; parts = refl; told = (same, refl) }, goes_none a)
+  -- a record of whose file nothing is told
+  pub record_cut : (standing : Standing) (f g : ℕ) (a : Way) → g ≡ f → Checked (standing ∷ []) (Err Memory) f g a a
+  record_cut standing f g a same =
+      ([], record { first = []; others = standing ∷ []; parts = refl; told = (same, refl) }, goes_none a)
 
-  one_told : (node : Node) (f g : ℕ) (finding : Option Finding)
-      → FindsFile has_given remaining calls failures held folder node f g finding
-      → Told (node ∷ []) f g (finding_line node finding)
-  one_told node f g finding finds = (
-    finding_line node finding,
+  one_told : (standing : Standing) (f g : ℕ) (finding : Option Finding)
+      → FindsFile has_given remaining calls failures held folder comparison standing f g finding
+      → Told (standing ∷ []) f g (finding_line standing.node finding)
+  one_told standing f g finding finds = (
+    finding_line standing.node finding,
     [],
     g,
-    sym (append-nil (finding_line node finding)),
+    sym (append-nil (finding_line standing.node finding)),
     record { finding = finding; finds = finds; line = refl },
     (refl, refl),
   )
 
-  pub record_quiet : (node : Node) (f g : ℕ) (finding : Option Finding) (w : Way) → finding ≡ None
-      → FindsFile has_given remaining calls failures held folder node f g finding
-      → Checked (node ∷ []) (Ok false) f g w w
-  record_quiet node f g finding w is finds = (
+  pub record_quiet : (standing : Standing) (f g : ℕ) (finding : Option Finding) (w : Way) → finding ≡ None
+      → FindsFile has_given remaining calls failures held folder comparison standing f g finding
+      → Checked (standing ∷ []) (Ok false) f g w w
+  record_quiet standing f g finding w is finds = (
     [],
-    subst (λ (text : List ℕ). Told (node ∷ []) f g text) (ap (finding_line node) is) (one_told node f g finding finds),
+    subst (λ (text : List ℕ). Told (standing ∷ []) f g text) (ap (finding_line standing.node) is)
+        (one_told standing f g finding finds),
     refl,
     goes_none w,
   )
 
-  pub record_told : (node : Node) (f g : ℕ) (finding : Finding) (found : Option Finding) (a b : Way)
-      → found ≡ Some finding → FindsFile has_given remaining calls failures held folder node f g found
-      → GoesOn (finding_line node (Some finding)) a b → Checked (node ∷ []) (Ok true) f g a b
-  record_told node f g finding found a b is finds goes = (
-    finding_line node (Some finding),
-    subst (λ (o : Option Finding). Told (node ∷ []) f g (finding_line node o)) is (one_told node f g found finds),
-    some_line node finding,
+  pub record_told : (standing : Standing) (f g : ℕ) (finding : Finding) (found : Option Finding) (a b : Way)
+      → found ≡ Some finding → FindsFile has_given remaining calls failures held folder comparison standing f g found
+      → GoesOn (finding_line standing.node (Some finding)) a b → Checked (standing ∷ []) (Ok true) f g a b
+  record_told standing f g finding found a b is finds goes = (
+    finding_line standing.node (Some finding),
+    subst (λ (o : Option Finding). Told (standing ∷ []) f g (finding_line standing.node o)) is
+        (one_told standing f g found finds),
+    some_line standing.node finding,
     goes,
   )
 
-  pub record_unsent : (node : Node) (f g : ℕ) (finding : Finding) (found : Option Finding) (a b : Way)
-      → found ≡ Some finding → FindsFile has_given remaining calls failures held folder node f g found
-      → Fails (finding_line node (Some finding)) a b → Checked (node ∷ []) (Err Unsent) f g a b
-  record_unsent node f g finding found a b is finds failed = (
-    finding_line node (Some finding),
+  pub record_unsent : (standing : Standing) (f g : ℕ) (finding : Finding) (found : Option Finding) (a b : Way)
+      → found ≡ Some finding → FindsFile has_given remaining calls failures held folder comparison standing f g found
+      → Fails (finding_line standing.node (Some finding)) a b → Checked (standing ∷ []) (Err Unsent) f g a b
+  record_unsent standing f g finding found a b is finds failed = (
+    finding_line standing.node (Some finding),
     record {
-      first = node ∷ [];
+      first = standing ∷ [];
       others = [];
       parts = refl;
-      told = subst (λ (o : Option Finding). Told (node ∷ []) f g (finding_line node o)) is
-          (one_told node f g found finds);
+      told = subst (λ (o : Option Finding). Told (standing ∷ []) f g (finding_line standing.node o)) is
+          (one_told standing f g found finds);
     },
     failed,
   )
 
   -- what is told of more records
-  then_told : (xs ys : List Node) (one two found : Bool) (f g h : ℕ) (a b c : Way) → found ≡ (one || two)
+  then_told : (xs ys : List Standing) (one two found : Bool) (f g h : ℕ) (a b c : Way) → found ≡ (one || two)
       → Checked xs (Ok one) f g a b → Checked ys (Ok two) g h b c → Checked (xs ++ ys) (Ok found) f h a c
   then_told xs ys one two found f g h a b c both first second = (
     first.0 ++ second.0,
@@ -248,131 +288,141 @@ module _ {R : Type 0} (has_given : R → List ℕ → Type 0) (remaining : R →
   )
 
   -- a fault in the next of them ends the check
-  ends_told : (xs ys zs nodes : List Node) (fault : CheckFault) (found : Bool) (f g h : ℕ) (a b c : Way)
-      → nodes ≡ (xs ++ ys) ++ zs → Checked xs (Ok found) f g a b → Checked ys (Err fault) g h b c
-      → Checked nodes (Err fault) f h a c
-  ends_told xs ys zs nodes Memory found f g h a b c are first next =
+  ends_told : (xs ys zs all : List Standing) (fault : CheckFault) (found : Bool) (f g h : ℕ) (a b c : Way)
+      → all ≡ (xs ++ ys) ++ zs → Checked xs (Ok found) f g a b → Checked ys (Err fault) g h b c
+      → Checked all (Err fault) f h a c
+  ends_told xs ys zs all Memory found f g h a b c are first next =
       let all : First ((xs ++ ys) ++ zs) f h (first.0 ++ next.0) =
       first_front (xs ++ ys) zs f h (first.0 ++ next.0)
       (first_behind xs ys f g h first.0 next.0 first.1 next.1) in (
         first.0 ++ next.0,
-        subst (λ (ns : List Node). First ns f h (first.0 ++ next.0)) (sym are) all,
+        subst (λ (ns : List Standing). First ns f h (first.0 ++ next.0)) (sym are) all,
         goes_then first.0 next.0 a b c first.3 next.2,
       )
-  ends_told xs ys zs nodes Unsent found f g h a b c are first next =
+  ends_told xs ys zs all Unsent found f g h a b c are first next =
       let all : First ((xs ++ ys) ++ zs) f h (first.0 ++ next.0) =
       first_front (xs ++ ys) zs f h (first.0 ++ next.0)
       (first_behind xs ys f g h first.0 next.0 first.1 next.1) in (
         first.0 ++ next.0,
-        subst (λ (ns : List Node). First ns f h (first.0 ++ next.0)) (sym are) all,
+        subst (λ (ns : List Standing). First ns f h (first.0 ++ next.0)) (sym are) all,
         fails_behind first.0 next.0 a b c first.3 next.2,
       )
 
   -- files that hold the same
-  over : (mid : Option Held) (nodes : List Node) (r : Result Bool CheckFault) (f g : ℕ) (a b : Way) → mid ≡ held
-      → Checks has_given remaining calls failures mid folder nodes r f g a b → Checked nodes r f g a b
-  over mid nodes r f g a b same checks =
-      subst (λ (h : Option Held). Checks has_given remaining calls failures h folder nodes r f g a b) same checks
+  abbrev CheckedOver : Option Held → List Standing → Result Bool CheckFault → ℕ → ℕ → Way → Way → Type 0
+  CheckedOver mid = Checks has_given remaining calls failures mid folder comparison
+
+  over : (mid : Option Held) (all : List Standing) (r : Result Bool CheckFault) (f g : ℕ) (a b : Way) → mid ≡ held
+      → CheckedOver mid all r f g a b → Checked all r f g a b
+  over mid all r f g a b same checks = subst (λ (h : Option Held). CheckedOver h all r f g a b) same checks
 
   -- ---- trees
 
-  pub more_told : (mid : Option Held) (trees : List Tree) (i : ℕ) (t : Tree) (one found new : Bool) (f g h : ℕ)
-      (a b c : Way) → i < length trees → t ≡ get_or trees i t → mid ≡ held → new ≡ (one || found)
-      → Checked (nodes_of (trees_view (take i trees))) (Ok found) f g a b
-      → Checks has_given remaining calls failures mid folder (tree_nodes t) (Ok one) g h b c
-      → Checked (nodes_of (trees_view (take (i + 1) trees))) (Ok new) f h a c
-  more_told mid trees i t one found new f g h a b c within is same both so_far next =
-      subst (λ (ns : List Node). Checked ns (Ok new) f h a c) (sym (one_tree_more trees i t within is))
-      (then_told (nodes_of (trees_view (take i trees))) (tree_nodes t) found one new f g h a b c
-      (both ∙ or_comm one found) so_far (over mid (tree_nodes t) (Ok one) g h b c same next))
+  pub more_told : (above : List Node) (mid : Option Held) (trees : List Tree) (i : ℕ) (t : Tree)
+      (one found new : Bool) (f g h : ℕ) (a b c : Way) → i < length trees → t ≡ get_or trees i t → mid ≡ held
+      → new ≡ (one || found)
+      → Checked (standings_below above (trees_view (take i trees))) (Ok found) f g a b
+      → CheckedOver mid (tree_standings above t) (Ok one) g h b c
+      → Checked (standings_below above (trees_view (take (i + 1) trees))) (Ok new) f h a c
+  more_told above mid trees i t one found new f g h a b c within is same both so_far next =
+      subst (λ (ns : List Standing). Checked ns (Ok new) f h a c) (sym (one_tree_more above trees i t within is))
+      (then_told (standings_below above (trees_view (take i trees))) (tree_standings above t) found one new f g h a b c
+      (both ∙ or_comm one found) so_far (over mid (tree_standings above t) (Ok one) g h b c same next))
 
-  pub all_told : (trees : List Tree) (i : ℕ) (found : Bool) (f g : ℕ) (a b : Way) → length trees ≤ i
-      → Checked (nodes_of (trees_view (take i trees))) (Ok found) f g a b
-      → Checked (nodes_of (trees_view trees)) (Ok found) f g a b
-  all_told trees i found f g a b past so_far =
-      subst (λ (ts : List Tree). Checked (nodes_of (trees_view ts)) (Ok found) f g a b) (take_all i trees past) so_far
+  pub all_told : (above : List Node) (trees : List Tree) (i : ℕ) (found : Bool) (f g : ℕ) (a b : Way)
+      → length trees ≤ i → Checked (standings_below above (trees_view (take i trees))) (Ok found) f g a b
+      → Checked (standings_below above (trees_view trees)) (Ok found) f g a b
+  all_told above trees i found f g a b past so_far =
+      subst (λ (ts : List Tree). Checked (standings_below above (trees_view ts)) (Ok found) f g a b)
+      (take_all i trees past) so_far
 
-  pub trees_end : (mid : Option Held) (trees : List Tree) (i : ℕ) (t : Tree) (r one : Result Bool CheckFault)
-      (fault : CheckFault) (found : Bool) (f g h : ℕ) (a b c : Way) → i < length trees → t ≡ get_or trees i t
-      → mid ≡ held → r ≡ Err fault → one ≡ Err fault
-      → Checked (nodes_of (trees_view (take i trees))) (Ok found) f g a b
-      → Checks has_given remaining calls failures mid folder (tree_nodes t) one g h b c
-      → Checked (nodes_of (trees_view trees)) r f h a c
-  trees_end mid trees i t r one fault found f g h a b c within is same ends was so_far next =
-      rw ends (ends_told (nodes_of (trees_view (take i trees))) (tree_nodes t)
-      (flat_map tree_nodes (drop (i + 1) trees)) (nodes_of (trees_view trees)) fault found f g h a b c
-      (trees_parted trees i t within is) so_far
-      (subst (λ (x : Result Bool CheckFault). Checked (tree_nodes t) x g h b c) was
-      (over mid (tree_nodes t) one g h b c same next)))
+  pub trees_end : (above : List Node) (mid : Option Held) (trees : List Tree) (i : ℕ) (t : Tree)
+      (r one : Result Bool CheckFault) (fault : CheckFault) (found : Bool) (f g h : ℕ) (a b c : Way) → i < length trees
+      → t ≡ get_or trees i t → mid ≡ held → r ≡ Err fault → one ≡ Err fault
+      → Checked (standings_below above (trees_view (take i trees))) (Ok found) f g a b
+      → CheckedOver mid (tree_standings above t) one g h b c
+      → Checked (standings_below above (trees_view trees)) r f h a c
+  trees_end above mid trees i t r one fault found f g h a b c within is same ends was so_far next =
+      rw ends (ends_told (standings_below above (trees_view (take i trees))) (tree_standings above t)
+      (flat_map (tree_standings above) (drop (i + 1) trees)) (standings_below above (trees_view trees)) fault found
+      f g h a b c (trees_parted above trees i t within is) so_far
+      (subst (λ (x : Result Bool CheckFault). Checked (tree_standings above t) x g h b c) was
+      (over mid (tree_standings above t) one g h b c same next)))
 
-  -- a record, and those below it
-  pub branch_told : (mid : Option Held) (t : Tree) (trees : List Tree) (here below found : Bool) (f g h : ℕ)
-      (a b c : Way) → mid ≡ held → trees ≡ (out-Tree t).below.items → found ≡ (here || below)
-      → Checked ((tree_view t).node ∷ []) (Ok here) f g a b
-      → Checks has_given remaining calls failures mid folder (nodes_of (trees_view trees)) (Ok below) g h b c
-      → Checked (tree_nodes t) (Ok found) f h a c
-  branch_told mid t trees here below found f g h a b c same is both first rest =
-      then_told ((tree_view t).node ∷ []) (nodes_of (tree_view t).below) here below found f g h a b c both first
-      (subst (λ (ts : Trees). Checked (nodes_of ts) (Ok below) g h b c) (ap trees_view is ∙ sym (below_is t))
-      (over mid (nodes_of (trees_view trees)) (Ok below) g h b c same rest))
+  -- a record alone, and those below it
+  abbrev alone : List Node → Tree → List Standing
+  alone above t = standing_below above (tree_view t).node ∷ []
 
-  pub branch_ends : (mid : Option Held) (t : Tree) (trees : List Tree) (r one : Result Bool CheckFault)
-      (fault : CheckFault) (here : Bool) (f g h : ℕ) (a b c : Way) → mid ≡ held → trees ≡ (out-Tree t).below.items
-      → r ≡ Err fault → one ≡ Err fault → Checked ((tree_view t).node ∷ []) (Ok here) f g a b
-      → Checks has_given remaining calls failures mid folder (nodes_of (trees_view trees)) one g h b c
-      → Checked (tree_nodes t) r f h a c
-  branch_ends mid t trees r one fault here f g h a b c same is ends was first rest =
-      rw ends (ends_told ((tree_view t).node ∷ []) (nodes_of (tree_view t).below) [] (tree_nodes t) fault here f g h
-      a b c (sym (append-nil (tree_nodes t))) first
-      (subst (λ (ts : Trees). Checked (nodes_of ts) (Err fault) g h b c) (ap trees_view is ∙ sym (below_is t))
-      (subst (λ (x : Result Bool CheckFault). Checked (nodes_of (trees_view trees)) x g h b c) was
-      (over mid (nodes_of (trees_view trees)) one g h b c same rest))))
+  abbrev lower : List Node → Tree → Trees → List Standing
+  lower above t trees = standings_below ((tree_view t).node ∷ above) trees
 
-  pub record_ends : (t : Tree) (r one : Result Bool CheckFault) (fault : CheckFault) (f g : ℕ) (a b : Way)
-      → r ≡ Err fault → one ≡ Err fault → Checked ((tree_view t).node ∷ []) one f g a b
-      → Checked (tree_nodes t) r f g a b
-  record_ends t r one fault f g a b ends was first =
-      rw ends (ends_told [] ((tree_view t).node ∷ []) (nodes_of (tree_view t).below) (tree_nodes t) fault false f f g
-      a a b refl (none_told f a)
-      (subst (λ (x : Result Bool CheckFault). Checked ((tree_view t).node ∷ []) x f g a b) was first))
+  pub branch_told : (above : List Node) (mid : Option Held) (t : Tree) (trees : List Tree) (here below found : Bool)
+      (f g h : ℕ) (a b c : Way) → mid ≡ held → trees ≡ (out-Tree t).below.items → found ≡ (here || below)
+      → Checked (alone above t) (Ok here) f g a b
+      → CheckedOver mid (lower above t (trees_view trees)) (Ok below) g h b c
+      → Checked (tree_standings above t) (Ok found) f h a c
+  branch_told above mid t trees here below found f g h a b c same is both first rest =
+      then_told (alone above t) (lower above t (tree_view t).below) here below found f g h a b c both first
+      (subst (λ (ts : Trees). Checked (lower above t ts) (Ok below) g h b c) (ap trees_view is ∙ sym (below_is t))
+      (over mid (lower above t (trees_view trees)) (Ok below) g h b c same rest))
+
+  pub branch_ends : (above : List Node) (mid : Option Held) (t : Tree) (trees : List Tree)
+      (r one : Result Bool CheckFault) (fault : CheckFault) (here : Bool) (f g h : ℕ) (a b c : Way) → mid ≡ held
+      → trees ≡ (out-Tree t).below.items → r ≡ Err fault → one ≡ Err fault
+      → Checked (alone above t) (Ok here) f g a b → CheckedOver mid (lower above t (trees_view trees)) one g h b c
+      → Checked (tree_standings above t) r f h a c
+  branch_ends above mid t trees r one fault here f g h a b c same is ends was first rest =
+      rw ends (ends_told (alone above t) (lower above t (tree_view t).below) [] (tree_standings above t) fault here
+      f g h a b c (sym (append-nil (tree_standings above t))) first
+      (subst (λ (ts : Trees). Checked (lower above t ts) (Err fault) g h b c) (ap trees_view is ∙ sym (below_is t))
+      (subst (λ (x : Result Bool CheckFault). Checked (lower above t (trees_view trees)) x g h b c) was
+      (over mid (lower above t (trees_view trees)) one g h b c same rest))))
+
+  pub record_ends : (above : List Node) (t : Tree) (r one : Result Bool CheckFault) (fault : CheckFault) (f g : ℕ)
+      (a b : Way) → r ≡ Err fault → one ≡ Err fault → Checked (alone above t) one f g a b
+      → Checked (tree_standings above t) r f g a b
+  record_ends above t r one fault f g a b ends was first =
+      rw ends (ends_told [] (alone above t) (lower above t (tree_view t).below) (tree_standings above t) fault false
+      f f g a a b refl (none_told f a)
+      (subst (λ (x : Result Bool CheckFault). Checked (alone above t) x f g a b) was first))
 
   -- ---- a directory
 
   abbrev CheckedAll : Walk → Result Bool CheckFault → ℕ → ℕ → Way → Way → Type 0
-  CheckedAll = ChecksAll has_given remaining calls failures held folder
+  CheckedAll = ChecksAll has_given remaining calls failures held folder comparison
 
   -- a fault in its trees is one of all
   pub walk_ends : (forest : Forest) (trees : List Tree) (r one : Result Bool CheckFault) (fault : CheckFault) (f g : ℕ)
       (a b : Way) → trees ≡ forest.trees.items → r ≡ Err fault → one ≡ Err fault
-      → Checked (nodes_of (trees_view trees)) one f g a b → CheckedAll (walk_view forest) r f g a b
+      → Checked (standings_below [] (trees_view trees)) one f g a b → CheckedAll (walk_view forest) r f g a b
   walk_ends forest trees r one Memory f g a b is ends was checks =
-      let same : Checked (nodes_of (trees_view forest.trees.items)) (Err Memory) f g a b =
-      subst (λ (ts : List Tree). Checked (nodes_of (trees_view ts)) (Err Memory) f g a b) is
-      (subst (λ (x : Result Bool CheckFault). Checked (nodes_of (trees_view trees)) x f g a b) was checks) in
+      let same : Checked (standings_below [] (trees_view forest.trees.items)) (Err Memory) f g a b =
+      subst (λ (ts : List Tree). Checked (standings_below [] (trees_view ts)) (Err Memory) f g a b) is
+      (subst (λ (x : Result Bool CheckFault). Checked (standings_below [] (trees_view trees)) x f g a b) was checks) in
       rw ends same
   walk_ends forest trees r one Unsent f g a b is ends was checks =
-      let same : Checked (nodes_of (trees_view forest.trees.items)) (Err Unsent) f g a b =
-      subst (λ (ts : List Tree). Checked (nodes_of (trees_view ts)) (Err Unsent) f g a b) is
-      (subst (λ (x : Result Bool CheckFault). Checked (nodes_of (trees_view trees)) x f g a b) was checks) in
+      let same : Checked (standings_below [] (trees_view forest.trees.items)) (Err Unsent) f g a b =
+      subst (λ (ts : List Tree). Checked (standings_below [] (trees_view ts)) (Err Unsent) f g a b) is
+      (subst (λ (x : Result Bool CheckFault). Checked (standings_below [] (trees_view trees)) x f g a b) was checks) in
       rw ends (same.0, inl same.1, same.2)
 
   abbrev Walked : Forest → Bool → ℕ → ℕ → List ℕ → Type 0
-  Walked forest = TellsWalk has_given remaining calls failures held folder (walk_view forest)
+  Walked forest = TellsWalk has_given remaining calls failures held folder comparison (walk_view forest)
 
   walk_told : (forest : Forest) (trees : List Tree) (found some all : Bool) (f g : ℕ) (text : List ℕ)
-      → trees ≡ forest.trees.items → Told (nodes_of (trees_view trees)) f g text → found ≡ not (is_empty text)
+      → trees ≡ forest.trees.items → Told (standings_below [] (trees_view trees)) f g text → found ≡ not (is_empty text)
       → some ≡ not (forest.unreached == 0) → all ≡ (found || some)
       → Walked forest all f g (text ++ end_line text (walk_view forest))
   walk_told forest trees found some all f g text is told one two both = (
     text,
-    subst (λ (ts : List Tree). Told (nodes_of (trees_view ts)) f g text) is told,
+    subst (λ (ts : List Tree). Told (standings_below [] (trees_view ts)) f g text) is told,
     right text (walk_view forest) found some all one two both,
     refl,
   )
 
   -- behind the findings the end
   pub all_checked : (forest : Forest) (trees : List Tree) (found some all : Bool) (f g : ℕ) (a b c : Way)
-      → trees ≡ forest.trees.items → Checked (nodes_of (trees_view trees)) (Ok found) f g a b
+      → trees ≡ forest.trees.items → Checked (standings_below [] (trees_view trees)) (Ok found) f g a b
       → ((findings : List ℕ) → found ≡ not (is_empty findings) → GoesOn (end_line findings (walk_view forest)) b c)
       → some ≡ not (forest.unreached == 0) → all ≡ (found || some)
       → CheckedAll (walk_view forest) (Ok all) f g a c
@@ -385,7 +435,7 @@ module _ {R : Type 0} (has_given : R → List ℕ → Type 0) (remaining : R →
 
   -- the writer failed there
   pub end_unsent : (forest : Forest) (trees : List Tree) (found : Bool) (f g : ℕ) (a b c : Way)
-      → trees ≡ forest.trees.items → Checked (nodes_of (trees_view trees)) (Ok found) f g a b
+      → trees ≡ forest.trees.items → Checked (standings_below [] (trees_view trees)) (Ok found) f g a b
       → ((findings : List ℕ) → found ≡ not (is_empty findings) → Fails (end_line findings (walk_view forest)) b c)
       → CheckedAll (walk_view forest) (Err Unsent) f g a c
   end_unsent forest trees found f g a b c is checked failed =
@@ -401,7 +451,8 @@ module _ {R : Type 0} (has_given : R → List ℕ → Type 0) (remaining : R →
 
   pub walk_went : (walk : Walk) (r : Result Bool CheckFault) (f g : ℕ) (a b : Way) (c : Option (List ℕ)) (h : ℕ)
       → a.waits ≡ [] → CheckedAll walk r f g a b → TakesAll b.holds c b.failures h b.waits
-      → IfOk r (λ found. (text : List ℕ) × TellsWalk has_given remaining calls failures held folder walk found f g text
+      → IfOk r (λ found. (text : List ℕ)
+      × TellsWalk has_given remaining calls failures held folder comparison walk found f g text
       × TakesAll a.holds c a.failures h text)
   walk_went walk (Ok found) f g a b c h none checks took =
       (checks.0, checks.1, all_goes checks.0 a b c h none checks.2 took)
@@ -409,14 +460,14 @@ module _ {R : Type 0} (has_given : R → List ℕ → Type 0) (remaining : R →
 
   pub walk_cut : (walk : Walk) (r : Result Bool CheckFault) (f g : ℕ) (a b : Way) (c : Option (List ℕ)) (h : ℕ)
       → a.waits ≡ [] → CheckedAll walk r f g a b → TakesAll b.holds c b.failures h b.waits → r ≡ Err Memory
-      → (text : List ℕ) × First (nodes_of walk.trees) f g text × TakesAll a.holds c a.failures h text
+      → (text : List ℕ) × First (standings_below [] walk.trees) f g text × TakesAll a.holds c a.failures h text
   walk_cut walk r f g a b c h none checks took is =
       let cut : CheckedAll walk (Err Memory) f g a b =
       subst (λ (x : Result Bool CheckFault). CheckedAll walk x f g a b) is checks in
       (cut.0, cut.1, all_goes cut.0 a b c h none cut.2 took)
 
   abbrev SomeTold : Walk → ℕ → ℕ → List ℕ → Type 0
-  SomeTold = TellsSome has_given remaining calls failures held folder
+  SomeTold = TellsSome has_given remaining calls failures held folder comparison
 
   pub walk_unsent : (walk : Walk) (r : Result Bool CheckFault) (f g : ℕ) (a b : Way) → a.waits ≡ [] → r ≡ Err Unsent
       → CheckedAll walk r f g a b

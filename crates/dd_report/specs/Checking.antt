@@ -6,18 +6,22 @@ use Rattle.std.specs.Io.KnownBytes.{Consumes}
 use Rattle.hex.specs.Hex.{encode_lower}
 use Rattle.dd_elem.specs.Device.{HasWorked, counted}
 use Rattle.dd_elem.specs.FileIdForm.{IsFileId}
+use Rattle.dd_elem.specs.Tag.{text_of}
 use Rattle.dd_keys.specs.Fitting.{is_empty}
-use Rattle.dd_dir.specs.Own.{digest_in}
-use Rattle.dd_dir.specs.Trees.{Node, Trees, Walk, no_trees, tree}
+use Rattle.dd_dir.specs.Trees.{Node, Walk}
 use Rattle.dd_report.specs.declared.checking.CheckFault.{CheckFault}
 use Rattle.dd_report.specs.declared.checking.CheckFault.TheVariants.{Memory, Unsent}
+use Rattle.dd_report.specs.declared.checking.Comparison.{Comparison}
 use Rattle.dd_report.specs.declared.findings.Finding.{Finding}
-use Rattle.dd_report.specs.declared.findings.Finding.TheVariants.{BadId, Differs, Missing, Unreadable}
+use Rattle.dd_report.specs.declared.findings.Finding.TheVariants.{BadId, Differs, Mislabelled, Missing, NoFile}
+use Rattle.dd_report.specs.declared.findings.Finding.TheVariants.{Unreadable}
 use Rattle.dd_files.specs.Files.{Held}
+use Rattle.dd_report.specs.Agreements.{Standing, found_in, standings_below}
 use Rattle.dd_report.specs.Finding.{IsFound, NamesFile, file_in}
 use Rattle.dd_report.specs.Listing.{record_count}
 use Rattle.dd_files.specs.Paths.{IsPathIn, id_path}
 use Rattle.dd_report.specs.Telling.{Fails, GoesOn, Way, shown_line}
+use Rattle.dd_report.specs.Words.{file_words, mislabelled_parts}
 
 -- ---- lines
 
@@ -31,6 +35,8 @@ finding_parts node Missing = codes "MISSING " ∷ file_in node ∷ []
 finding_parts node Unreadable = codes "UNREADABLE " ∷ file_in node ∷ []
 finding_parts node (Differs recorded found) =
     differs_parts (file_in node) (encode_lower recorded) (encode_lower found)
+finding_parts node (Mislabelled tag) = mislabelled_parts (file_in node) (text_of tag)
+finding_parts node (NoFile fault) = mislabelled_parts (file_in node) (codes "31 File " ++ file_words fault)
 
 abbrev pub finding_line : Node → Option Finding → List ℕ
 finding_line node None = []
@@ -51,85 +57,81 @@ end_line findings walk =
 abbrev pub is_right : List ℕ → Walk → Bool
 is_right findings walk = is_empty findings && (walk.unreached == 0)
 
--- the records of trees, depth first
-abbrev pub nodes_of : Trees → List Node
-nodes_of no_trees = []
-nodes_of (tree node below after) = node ∷ (nodes_of below ++ nodes_of after)
-
 -- the most bytes of a file that is read: 4 GiB less one
 abbrev pub most_read : ℕ
 most_read = 4294967295
 
--- ---- what is found in files that hold this, in a folder; their readers say what they gave, what they have left, and
--- how many reads they had and how many of these failed
+-- ---- what is found in files that hold this, in a folder, by this comparison; their readers say what they gave, what
+-- they have left, and how many reads they had and how many of these failed
 
-module _ {R : Type 0} (has_given : R → List ℕ → Type 0) (remaining : R → Option (List ℕ)) (calls failures : R → ℕ)
-    (held : Option Held) (folder : List ℕ) where
+module _ {R P : Type 0} (has_given : R → P → List ℕ → Type 0) (remaining : R → Option (List ℕ)) (calls failures : R → ℕ)
+    (held : Option Held) (folder : List ℕ) (comparison : Comparison) where
   -- The file that a record names was opened for a reader, and this is found by reading it. What the reader gave and
   -- what it has left are the bytes at the file's path, where these are known; it was read at most once for each byte
   -- and once more.
-  pub record FindsRead (node : Node) (finding : Option Finding) : Type 0 where
+  pub record FindsRead (standing : Standing) (finding : Option Finding) : Type 0 where
     pub path : List ℕ
-    pub place : IsPathIn folder (id_path (file_in node)) path
+    pub place : IsPathIn folder (id_path (file_in standing.node)) path
     pub reader : R
     pub given : List ℕ
-    pub gave : has_given reader given
+    pub gave : (past : P) → has_given reader past given
     pub stored : IfSome held (λ files.
         IsSome (files.bytes_at path) × Consumes (files.bytes_at path) (remaining reader) given)
     pub reads : calls reader ≤ most_read + 1
-    pub found : IsFound finding (digest_in node.set) most_read given (remaining reader) 0 (failures reader)
+    pub found : IsFound finding (found_in comparison standing) most_read given (remaining reader) 0 (failures reader)
 
   -- What is found of the file that a record names. The files had refused `old` calls before, and have refused `new`.
-  pub record FindsFile (node : Node) (old new : ℕ) (finding : Option Finding) : Type 0 where
-    pub unnamed : ¬ NamesFile node → (finding ≡ None) × (new ≡ old)
-    pub misnamed : NamesFile node → ¬ IsFileId (file_in node) → (finding ≡ Some BadId) × (new ≡ old)
+  pub record FindsFile (standing : Standing) (old new : ℕ) (finding : Option Finding) : Type 0 where
+    pub unnamed : ¬ NamesFile standing.node → (finding ≡ None) × (new ≡ old)
+    pub misnamed : NamesFile standing.node → ¬ IsFileId (file_in standing.node)
+        → (finding ≡ Some BadId) × (new ≡ old)
     -- it is missing where it was not opened, which is a refusal that counts, and else it is read
-    pub named : NamesFile node → IsFileId (file_in node)
-        → ((finding ≡ Some Missing) × (new ≡ counted old)) ⊎ (HasWorked old new × FindsRead node finding)
+    pub named : NamesFile standing.node → IsFileId (file_in standing.node)
+        → ((finding ≡ Some Missing) × (new ≡ counted old)) ⊎ (HasWorked old new × FindsRead standing finding)
 
   -- what a check says of a record
-  pub record TellsRecord (node : Node) (old new : ℕ) (text : List ℕ) : Type 0 where
+  pub record TellsRecord (standing : Standing) (old new : ℕ) (text : List ℕ) : Type 0 where
     pub finding : Option Finding
-    pub finds : FindsFile node old new finding
-    pub line : text ≡ finding_line node finding
+    pub finds : FindsFile standing old new finding
+    pub line : text ≡ finding_line standing.node finding
 
   -- what it says of records, one after the other
-  abbrev pub TellsAll : List Node → ℕ → ℕ → List ℕ → Type 0
+  abbrev pub TellsAll : List Standing → ℕ → ℕ → List ℕ → Type 0
   TellsAll [] old new text = (new ≡ old) × (text ≡ [])
-  TellsAll (node ∷ nodes) old new text = (here : List ℕ) × (later : List ℕ) × (mid : ℕ)
-      × (text ≡ here ++ later) × TellsRecord node old mid here × TellsAll nodes mid new later
+  TellsAll (standing ∷ others) old new text = (here : List ℕ) × (later : List ℕ) × (mid : ℕ)
+      × (text ≡ here ++ later) × TellsRecord standing old mid here × TellsAll others mid new later
 
   -- what it says of the first of these records, and not of the others
-  pub record TellsFirst (nodes : List Node) (old new : ℕ) (text : List ℕ) : Type 0 where
-    pub first : List Node
-    pub others : List Node
-    pub parts : nodes ≡ first ++ others
+  pub record TellsFirst (all : List Standing) (old new : ℕ) (text : List ℕ) : Type 0 where
+    pub first : List Standing
+    pub others : List Standing
+    pub parts : all ≡ first ++ others
     pub told : TellsAll first old new text
 
   -- what it says of all of a directory, and whether something is found
   abbrev pub TellsWalk : Walk → Bool → ℕ → ℕ → List ℕ → Type 0
-  TellsWalk walk found old new text = (findings : List ℕ) × TellsAll (nodes_of walk.trees) old new findings
+  TellsWalk walk found old new text = (findings : List ℕ) × TellsAll (standings_below [] walk.trees) old new findings
       × (found ≡ not (is_right findings walk)) × (text ≡ findings ++ end_line findings walk)
 
   -- what it says of a directory up to some place: of its first records, or of all of it
   abbrev pub TellsSome : Walk → ℕ → ℕ → List ℕ → Type 0
   TellsSome walk old new text =
-      TellsFirst (nodes_of walk.trees) old new text ⊎ ((found : Bool) × TellsWalk walk found old new text)
+      TellsFirst (standings_below [] walk.trees) old new text ⊎ ((found : Bool) × TellsWalk walk found old new text)
 
   -- ---- the answers of a check
 
   -- What it says of these records went on its way, and the answer says whether something was found. Where memory ran
   -- out it speaks of the first of them, and where the writer failed, it failed in what was to go.
-  abbrev pub Checks : List Node → Result Bool CheckFault → ℕ → ℕ → Way → Way → Type 0
-  Checks nodes (Ok found) old new from to =
-      (text : List ℕ) × TellsAll nodes old new text × (found ≡ not (is_empty text)) × GoesOn text from to
-  Checks nodes (Err Memory) old new from to = (text : List ℕ) × TellsFirst nodes old new text × GoesOn text from to
-  Checks nodes (Err Unsent) old new from to = (text : List ℕ) × TellsFirst nodes old new text × Fails text from to
+  abbrev pub Checks : List Standing → Result Bool CheckFault → ℕ → ℕ → Way → Way → Type 0
+  Checks all (Ok found) old new from to =
+      (text : List ℕ) × TellsAll all old new text × (found ≡ not (is_empty text)) × GoesOn text from to
+  Checks all (Err Memory) old new from to = (text : List ℕ) × TellsFirst all old new text × GoesOn text from to
+  Checks all (Err Unsent) old new from to = (text : List ℕ) × TellsFirst all old new text × Fails text from to
 
   -- the same of a directory
   abbrev pub ChecksAll : Walk → Result Bool CheckFault → ℕ → ℕ → Way → Way → Type 0
   ChecksAll walk (Ok found) old new from to =
       (text : List ℕ) × TellsWalk walk found old new text × GoesOn text from to
   ChecksAll walk (Err Memory) old new from to =
-      (text : List ℕ) × TellsFirst (nodes_of walk.trees) old new text × GoesOn text from to
+      (text : List ℕ) × TellsFirst (standings_below [] walk.trees) old new text × GoesOn text from to
   ChecksAll walk (Err Unsent) old new from to = (text : List ℕ) × TellsSome walk old new text × Fails text from to

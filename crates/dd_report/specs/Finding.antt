@@ -37,28 +37,33 @@ abbrev pub compared : Option (List ℕ) → List ℕ → Option Finding
 compared None found = None
 compared (Some recorded) found = if bytes_eq recorded found then None else Some (Differs recorded found)
 
--- what is found of it
-abbrev pub IsFound : Option Finding → Option (List ℕ) → ℕ → List ℕ → Option (List ℕ) → ℕ → ℕ → Type 0
-IsFound finding recorded limit given left failures after =
-    ((finding ≡ compared recorded (sha256 given)) × Ends Ended limit given left failures after)
+-- what is found of bytes that were read whole, by the digest that the record has
+abbrev pub by_digest : Node → List ℕ → Option Finding
+by_digest node given = compared (digest_in node.set) (sha256 given)
+
+-- what is found of it, where `whole` says what is found of bytes that were read whole
+abbrev pub IsFound : Option Finding → (List ℕ → Option Finding) → ℕ → List ℕ → Option (List ℕ) → ℕ → ℕ → Type 0
+IsFound finding whole limit given left failures after =
+    ((finding ≡ whole given) × Ends Ended limit given left failures after)
     ⊎ ((finding ≡ Some Unreadable) × ReadAmiss limit given left failures after)
 
 -- What is found of it by reading it once, to its end, to a failure or to a byte more than the limit. Readers tell what
 -- they gave, what they have left and what they count.
-pub record FindsBy {R : Type 0} (has_given : R → List ℕ → Type 0) (remaining : R → Option (List ℕ))
-    (calls failures : R → ℕ) (limit : ℕ) (node : Node) (finding : Option Finding) (old new : R) : Type 0 where
+pub record FindsBy {R P : Type 0} (has_given : R → P → List ℕ → Type 0) (remaining : R → Option (List ℕ))
+    (calls failures : R → ℕ) (limit : ℕ) (whole : List ℕ → Option Finding) (finding : Option Finding) (old new : R)
+    : Type 0 where
   pub given : List ℕ
   pub gave : Gives has_given old new given
   pub known : Consumes (remaining old) (remaining new) given
   pub reads : calls new ≤ calls old + limit + 1
-  pub found : IsFound finding (digest_in node.set) limit given (remaining new) (failures old) (failures new)
+  pub found : IsFound finding whole limit given (remaining new) (failures old) (failures new)
 
 -- the same of a file that may be missing, as its reader comes in and as it is left
-abbrev pub FindsIn : {R : Type 0} → (R → List ℕ → Type 0) → (R → Option (List ℕ)) → (R → ℕ) → (R → ℕ) → ℕ → Node
+abbrev pub FindsIn : {R P : Type 0} → (R → P → List ℕ → Type 0) → (R → Option (List ℕ)) → (R → ℕ) → (R → ℕ) → ℕ → Node
     → Option Finding → Option (MutBor R) → Unit {0} ⊎ ((MutBor R × Unit {0}) ⊎ ⊥) → Type 0
 FindsIn has_given remaining calls failures limit node finding None left = finding ≡ Some Missing
 FindsIn has_given remaining calls failures limit node finding (Some file) (inr (inl left)) =
-    FindsBy has_given remaining calls failures limit node finding file.now left.0.now
+    FindsBy has_given remaining calls failures limit (by_digest node) finding file.now left.0.now
 FindsIn has_given remaining calls failures limit node finding (Some file) left = ⊥
 
 -- a file that may be missing is not read: its reader is left as it came in

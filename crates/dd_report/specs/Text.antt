@@ -1,7 +1,10 @@
--- What sending a text to a writer does to the bytes that it holds and to its count of failures.
+-- How a text prints, and what sending it to a writer does to the bytes that it holds and to its count of failures.
 use Rattle.std.specs.Prelude.{◌≡◌, ℕ, ◌<◌, List, [], ◌∷◌, ◌++◌, length, map, take, Option}
+use Rattle.std.specs.Prelude.{if◌then◌else◌}
 use Rattle.std.specs.Borrow.{Bor}
+use Rattle.std.specs.Char.{is_control}
 use Rattle.std.specs.List.{concat}
+use Rattle.std.specs.Str.{chars, encode_utf8_all}
 use Rattle.std.specs.Io.KnownBytes.{Appends}
 use Rattle.dd_elem.specs.Device.{HasFailed}
 
@@ -26,10 +29,18 @@ pub record Sent (bytes rest : List ℕ) (old new : Option (List ℕ)) (failures_
   pub parts : bytes ≡ gone ++ rest
   pub took : TakesAll old new failures_old failures_new gone
 
+-- a character as it prints: `?` for a control character, which is one of U+0000 to U+001F and U+007F to U+009F
+abbrev pub masked_char : ℕ → ℕ
+masked_char c = if is_control c then 63 else c
+
+-- a text as it prints, character by character, in UTF-8
+unfoldable pub masked : List ℕ → List ℕ
+masked text = encode_utf8_all (map masked_char (chars text))
+
 -- the parts of a line, one behind the other
 abbrev pub joined : List (Bor (List ℕ)) → List ℕ
 joined parts = concat (map (λ part. part.now) parts)
 
--- with the end of the line
+-- the line as it prints, with its end
 abbrev pub line_text : List (Bor (List ℕ)) → List ℕ
-line_text parts = joined parts ++ 10 ∷ []
+line_text parts = masked (joined parts) ++ 10 ∷ []

@@ -1,18 +1,26 @@
 //! The files of a file-set, compared with its directory.
 ghost use Rattle.std.specs.Prelude.{◌≡◌, ◌↔◌, ◌∷◌, List, [], ℕ, IfOk, IsErr, IsTrue, not};
 ghost use Rattle.dd_dir.specs.ForestViews.{tree_view, trees_view, walk_view};
+ghost use Rattle.dd_dir.specs.Trees.{Node};
 ghost use Rattle.dd_keys.specs.Fitting.{is_empty};
+ghost use Rattle.dd_report.specs.Agreements.{IsInherited, branch_standings, found_in, is_image, standing_below};
+ghost use Rattle.dd_report.specs.Agreements.{standings_below};
 ghost use Rattle.dd_report.specs.Checking.{Checks, ChecksAll, FindsFile, TellsFirst, TellsSome, TellsWalk};
-ghost use Rattle.dd_report.specs.Checking.{differs_parts, end_line, finding_line, nodes_of};
+ghost use Rattle.dd_report.specs.Checking.{differs_parts, end_line, finding_line};
+ghost use Rattle.dd_report.specs.Checking.{most_read};
+ghost use Rattle.dd_report.specs.Finding.{FindsBy};
 ghost use Rattle.dd_report.specs.Telling.{Tells, shown_line, way};
 ghost use Rattle.dd_report.specs.Text.{FailsAmid, TakesAll};
 
-use crate::findings::{Finding, file_in, finding_of, id_of, unopened};
+use crate::agreements::{Inherited, finding_by_keys};
+use crate::findings::{Finding, file_in, finding_by, id_of, unopened};
 use crate::line_buffer::LineBuffer;
 use crate::listing::record_count;
+use crate::words::{tell_fault, tell_tag};
 use dd_dir::{Forest, Tree};
-use dd_elem::{Memory, Write};
+use dd_elem::{Memory, Read, Write};
 use dd_files::{Files, SOURCE_LIMIT, digest_text, file_path};
+use dd_layout::Level;
 use itoa::Buffer;
 use std::alloc::Global;
 use std::fmt;
@@ -26,36 +34,63 @@ pub enum CheckFault {
     Unsent,
 }
 
-/// Checks the files that the records of a directory name, in this folder, and tells what is found, depth
-/// first. Answers whether something is found. Memory where a growth is refused; Unsent where the output
-/// fails. The findings of the records before that are sent.
+/// What is compared of a record and of the file that it names.
+#[derive(Clone, Copy, Debug, PartialEq, Eq)]
+pub enum Comparison {
+    /// The digest that the record has is compared with that of the file.
+    Digests,
+    /// So is the digest; and where that does not differ, what an IMAGE record and those above it say with
+    /// what the file says of itself: its transfer syntax, class and instance, patient, study and series.
+    Keys,
+}
+
+/// A check that is asked for.
+#[derive(Clone, Copy)]
+struct Check<'a> {
+    /// What takes memory for paths and for what is kept of files.
+    alloc: Global,
+    /// The folder of the file-set.
+    folder: &'a str,
+    /// What is compared.
+    comparison: Comparison,
+}
+
+/// Checks the files that the records of a directory name, in this folder, by this comparison, and tells what
+/// is found, depth first and once for each record. Answers whether something is found. Memory where a growth
+/// is refused; Unsent where the output fails. The findings of the records before that are sent.
 pub fn check_records<F: Files, W: Write>(
     alloc: Global,
     folder: &str,
     forest: &Forest<'_>,
+    comparison: Comparison,
     files: &mut F,
     to: &mut W,
 ) -> Result<bool, CheckFault>
     ensures told { IfOk result (λ found. (text : List ℕ)
-        × TellsWalk F.In.has_given F.In.remaining F.In.calls F.In.failures (F.held files.old) folder.now
+        × TellsWalk F.In.has_given F.In.remaining F.In.calls F.In.failures (F.held files.old) folder.now comparison
         (walk_view forest.now) found (F.refusals files.old) (F.refusals files.new) text
         × TakesAll (W.contents to.old) (W.contents to.new) (W.failures to.old) (W.failures to.new) text) }
 
     // Where memory ran out the findings of the first records are sent; where the output failed, a front of the text.
     ensures cut { result ≡ Err CheckFault.Memory → (text : List ℕ)
-        × TellsFirst F.In.has_given F.In.remaining F.In.calls F.In.failures (F.held files.old) folder.now
-        (nodes_of (walk_view forest.now).trees) (F.refusals files.old) (F.refusals files.new) text
+        × TellsFirst F.In.has_given F.In.remaining F.In.calls F.In.failures (F.held files.old) folder.now comparison
+        (standings_below [] (walk_view forest.now).trees) (F.refusals files.old) (F.refusals files.new) text
         × TakesAll (W.contents to.old) (W.contents to.new) (W.failures to.old) (W.failures to.new) text }
     ensures unsent { result ≡ Err CheckFault.Unsent → (text : List ℕ)
-        × TellsSome F.In.has_given F.In.remaining F.In.calls F.In.failures (F.held files.old) folder.now
+        × TellsSome F.In.has_given F.In.remaining F.In.calls F.In.failures (F.held files.old) folder.now comparison
         (walk_view forest.now) (F.refusals files.old) (F.refusals files.new) text
         × FailsAmid (W.contents to.old) (W.contents to.new) (W.failures to.old) (W.failures to.new) text }
 
     // What stays.
     ensures kept { F.held files.new ≡ F.held files.old }
 {
+    let check = Check {
+        alloc,
+        folder,
+        comparison,
+    };
     let mut lines = LineBuffer::new();
-    let checked = check_forest(alloc, folder, forest, files, &mut lines, to);
+    let checked = check_forest(check, forest, files, &mut lines, to);
     if is_unsent(&checked) {
         return Err(CheckFault::Unsent);
     }
@@ -74,20 +109,20 @@ fn is_unsent(checked: &Result<bool, CheckFault>) -> bool
 
 /// Checks all records, and tells then what is said of all together.
 fn check_forest<F: Files, W: Write>(
-    alloc: Global,
-    folder: &str,
+    check: Check<'_>,
     forest: &Forest<'_>,
     files: &mut F,
     lines: &mut LineBuffer,
     to: &mut W,
 ) -> Result<bool, CheckFault>
-    ensures checks { ChecksAll F.In.has_given F.In.remaining F.In.calls F.In.failures (F.held files.old) folder.now
+    ensures checks { ChecksAll F.In.has_given F.In.remaining F.In.calls F.In.failures (F.held files.old)
+        check.entry.folder.now check.entry.comparison
         (walk_view forest.now) result (F.refusals files.old) (F.refusals files.new)
         (way lines.old (W.contents to.old) (W.failures to.old))
         (way lines.new (W.contents to.new) (W.failures to.new)) }
     ensures kept { F.held files.new ≡ F.held files.old }
 {
-    let found = check_trees(alloc, folder, &forest.trees, files, lines, to)?;
+    let found = check_trees(check, &forest.trees, Inherited::none(), files, lines, to)?;
     match tell_end(forest, found, lines, to) {
         Ok(()) => Ok(found || forest.unreached > 0),
         Err(_) => Err(CheckFault::Unsent),
@@ -119,67 +154,74 @@ fn tell_end<W: Write>(
     lines.add_line(&[b"OK ", records, b" records"], to)
 }
 
-/// Checks the files of these records and of those below them.
+/// Checks the files of these records and of those below them. `inherited` is what the records above say.
 #[cycle(findings)]
-fn check_trees<F: Files, W: Write>(
-    alloc: Global,
-    folder: &str,
-    trees: &[Tree<'_>],
+fn check_trees<'t, F: Files, W: Write>(
+    check: Check<'_>,
+    trees: &[Tree<'t>],
+    inherited: Inherited<'t>,
     files: &mut F,
     lines: &mut LineBuffer,
     to: &mut W,
 ) -> Result<bool, CheckFault>
-    ensures checks { Checks F.In.has_given F.In.remaining F.In.calls F.In.failures (F.held files.old) folder.now
-        (nodes_of (trees_view trees.now)) result (F.refusals files.old) (F.refusals files.new)
+    ensures checks { (above : List Node) → IsInherited inherited.entry above
+        → Checks F.In.has_given F.In.remaining F.In.calls F.In.failures (F.held files.old)
+        check.entry.folder.now check.entry.comparison
+        (standings_below above (trees_view trees.now)) result (F.refusals files.old) (F.refusals files.new)
         (way lines.old (W.contents to.old) (W.failures to.old))
         (way lines.new (W.contents to.new) (W.failures to.new)) }
     ensures kept { F.held files.new ≡ F.held files.old }
 {
     let mut found = false;
     for tree in trees {
-        found = check_tree(alloc, folder, tree, files, lines, to)? || found;
+        found = check_tree(check, tree, inherited, files, lines, to)? || found;
     }
     Ok(found)
 }
 
-/// Checks the file of this record, and those of the records below it.
+/// Checks the file of this record, and those of the records below it. `inherited` is what the records above
+/// say.
 #[cycle(findings)]
-fn check_tree<F: Files, W: Write>(
-    alloc: Global,
-    folder: &str,
-    tree: &Tree<'_>,
+fn check_tree<'t, F: Files, W: Write>(
+    check: Check<'_>,
+    tree: &Tree<'t>,
+    inherited: Inherited<'t>,
     files: &mut F,
     lines: &mut LineBuffer,
     to: &mut W,
 ) -> Result<bool, CheckFault>
-    ensures checks { Checks F.In.has_given F.In.remaining F.In.calls F.In.failures (F.held files.old) folder.now
-        ((tree_view tree.now).node ∷ nodes_of (tree_view tree.now).below) result
-        (F.refusals files.old) (F.refusals files.new)
+    ensures checks { (above : List Node) → IsInherited inherited.entry above
+        → Checks F.In.has_given F.In.remaining F.In.calls F.In.failures (F.held files.old)
+        check.entry.folder.now check.entry.comparison
+        (branch_standings above (tree_view tree.now)) result (F.refusals files.old) (F.refusals files.new)
         (way lines.old (W.contents to.old) (W.failures to.old))
         (way lines.new (W.contents to.new) (W.failures to.new)) }
     ensures kept { F.held files.new ≡ F.held files.old }
 {
-    let here = check_record(alloc, folder, tree, files, lines, to)?;
-    let below = check_trees(alloc, folder, &tree.below, files, lines, to)?;
+    let inherited = inherited.under(tree);
+    let here = check_record(check, tree, inherited, files, lines, to)?;
+    let below = check_trees(check, &tree.below, inherited, files, lines, to)?;
     Ok(here || below)
 }
 
-/// Checks the file of this record, and tells what is found.
+/// Checks the file of this record, and tells what is found. `inherited` is what it and the records above say.
 fn check_record<F: Files, W: Write>(
-    alloc: Global,
-    folder: &str,
+    check: Check<'_>,
     tree: &Tree<'_>,
+    inherited: Inherited<'_>,
     files: &mut F,
     lines: &mut LineBuffer,
     to: &mut W,
 ) -> Result<bool, CheckFault>
-    ensures checks { Checks F.In.has_given F.In.remaining F.In.calls F.In.failures (F.held files.old) folder.now
-        ((tree_view tree.now).node ∷ []) result (F.refusals files.old) (F.refusals files.new)
+    ensures checks { (above : List Node) → IsInherited inherited.entry ((tree_view tree.now).node ∷ above)
+        → Checks F.In.has_given F.In.remaining F.In.calls F.In.failures (F.held files.old)
+        check.entry.folder.now check.entry.comparison
+        (standing_below above (tree_view tree.now).node ∷ []) result (F.refusals files.old) (F.refusals files.new)
         (way lines.old (W.contents to.old) (W.failures to.old))
         (way lines.new (W.contents to.new) (W.failures to.new)) }
     ensures kept { F.held files.new ≡ F.held files.old }
 {
-    let Ok(finding) = finding_in(alloc, folder, tree, files) else {
+    let Ok(finding) = finding_in(check, tree, inherited, files) else {
         return Err(CheckFault::Memory);
     };
     let Some(finding) = finding else {
@@ -191,29 +233,64 @@ fn check_record<F: Files, W: Write>(
     }
 }
 
-/// What is found of the file that the record names in this folder. It is opened only where its name is a
-/// File ID, and read once. Memory where a growth is refused.
+/// What is found of the file that the record names in the folder. It is opened only where its name is a
+/// File ID, and read once. Memory where a growth is refused. `inherited` is what the record and those above
+/// say.
 fn finding_in<F: Files>(
-    alloc: Global,
-    folder: &str,
+    check: Check<'_>,
     tree: &Tree<'_>,
+    inherited: Inherited<'_>,
     files: &mut F,
 ) -> Result<Option<Finding>, Memory>
-    ensures found { IfOk result (FindsFile F.In.has_given F.In.remaining F.In.calls F.In.failures (F.held files.old)
-        folder.now (tree_view tree.now).node (F.refusals files.old) (F.refusals files.new)) }
+    ensures found { IfOk result (λ finding. (above : List Node)
+        → IsInherited inherited.entry ((tree_view tree.now).node ∷ above)
+        → FindsFile F.In.has_given F.In.remaining F.In.calls F.In.failures (F.held files.old)
+        check.entry.folder.now check.entry.comparison
+        (standing_below above (tree_view tree.now).node) (F.refusals files.old) (F.refusals files.new) finding) }
 
-    // Where memory ran out no file was asked for.
-    ensures unasked { IsErr result → F.refusals files.new ≡ F.refusals files.old }
+    // Where memory ran out no call of the files was refused.
+    ensures unrefused { IsErr result → F.refusals files.new ≡ F.refusals files.old }
     ensures kept { F.held files.new ≡ F.held files.old }
 {
     let Some(file) = id_of(tree) else {
         return Ok(unopened(tree));
     };
-    let path = file_path(alloc, folder, file)?;
-    match files.member(folder, path.as_str()) {
-        Ok(mut reader) => Ok(finding_of(tree, Some(&mut reader), SOURCE_LIMIT)),
+    let path = file_path(check.alloc, check.folder, file)?;
+    match files.member(check.folder, path.as_str()) {
+        Ok(mut reader) => finding_of_file(check, tree, inherited, &mut reader),
         Err(_) => Ok(unopened(tree)),
     }
+}
+
+/// What is found of the file by reading it, by what is compared.
+fn finding_of_file<R: Read>(
+    check: Check<'_>,
+    tree: &Tree<'_>,
+    inherited: Inherited<'_>,
+    reader: &mut R,
+) -> Result<Option<Finding>, Memory>
+    ensures found { IfOk result (λ finding. (above : List Node)
+        → IsInherited inherited.entry ((tree_view tree.now).node ∷ above)
+        → FindsBy R.has_given R.remaining R.calls R.failures most_read
+        (found_in check.entry.comparison (standing_below above (tree_view tree.now).node)) finding
+        reader.old reader.new) }
+
+    // By the digest alone it takes no memory.
+    ensures memory { IsErr result → check.entry.comparison ≡ Comparison.Keys }
+{
+    match check.comparison {
+        Comparison::Keys if is_image(tree) => {
+            finding_by_keys(check.alloc, tree, inherited, reader, SOURCE_LIMIT)
+        }
+        _ => Ok(finding_by(tree, reader, SOURCE_LIMIT)),
+    }
+}
+
+/// Is it an IMAGE record?
+fn is_image(tree: &Tree<'_>) -> bool
+    ensures { result ≡ is_image (tree_view tree.now).node }
+{
+    tree.kind == Level::Image.kind()
 }
 
 /// Tells what is found.
@@ -239,6 +316,8 @@ fn tell_finding<W: Write>(
             let (recorded, found) = (digest_text(recorded), digest_text(found));
             tell_digests(file_in(tree), &recorded, &found, lines, to)
         }
+        Finding::Mislabelled(tag) => tell_tag(file_in(tree), *tag, lines, to),
+        Finding::NoFile(fault) => tell_fault(file_in(tree), fault, lines, to),
     }
 }
 

@@ -2,14 +2,16 @@
 ghost use Rattle.std.specs.Prelude.{◌≡◌, IfSome, None, Some};
 ghost use Rattle.dd_elem.specs.FileIdForm.{IsFileId};
 ghost use Rattle.dd_dir.specs.ForestViews.{tree_view};
-ghost use Rattle.dd_report.specs.Finding.{FindsBy, FindsIn, HasFileId, IsUnread, NamesFile, compared};
+ghost use Rattle.dd_dir.specs.Saying.{key_of};
+ghost use Rattle.dd_report.specs.Finding.{FindsBy, FindsIn, HasFileId, IsUnread, NamesFile, by_digest, compared};
 ghost use Rattle.dd_report.specs.Finding.{file_in};
 
 use dd_dir::{Tree, digest_in};
-use dd_elem::{Read, is_file_id};
+use dd_elem::{Read, Tag, is_file_id};
 use dd_files::digest_of;
 use dd_keys::value_at;
 use dd_layout::table::FILE;
+use dd_part10::FileFault;
 
 /// What is wrong with the file that a record names.
 #[derive(Clone, Copy, Debug, PartialEq, Eq)]
@@ -27,6 +29,10 @@ pub enum Finding {
         /// That of the file.
         found: [u8; 32],
     },
+    /// The value at this tag of the file is not the one that the records say.
+    Mislabelled(Tag),
+    /// It is no DICOM file, for this reason.
+    NoFile(FileFault),
 }
 
 /// What is found of the file that a record names: nothing where the record is not in use or names none.
@@ -55,17 +61,24 @@ pub fn finding_of<R: Read>(tree: &Tree<'_>, file: Option<&mut R>, limit: u64) ->
 }
 
 /// The File ID that a record has, without its padding: no bytes where it has none.
-pub(crate) fn file_in<'t>(tree: &'t Tree<'_>) -> &'t [u8]
+pub(crate) fn file_in<'t>(tree: &Tree<'t>) -> &'t [u8]
     ensures { result.now ≡ file_in (tree_view tree.now).node }
 {
-    match value_at(&tree.set, FILE.tag) {
-        Some(id) => id,
+    value_in(tree, FILE.tag)
+}
+
+/// The value that a record has at a tag, without its padding: no bytes where it has none or holds items.
+pub(crate) fn value_in<'t>(tree: &Tree<'t>, tag: Tag) -> &'t [u8]
+    ensures { result.now ≡ key_of tag (tree_view tree.now).node.set }
+{
+    match value_at(&tree.set, tag) {
+        Some(value) => value,
         None => &[],
     }
 }
 
 /// The File ID of the file that a record names, where it is in use and the name is a File ID.
-pub(crate) fn id_of<'t>(tree: &'t Tree<'_>) -> Option<&'t [u8]>
+pub(crate) fn id_of<'t>(tree: &Tree<'t>) -> Option<&'t [u8]>
     ensures some { IfSome result (λ id. HasFileId (tree_view tree.now).node
         × (id.now ≡ file_in (tree_view tree.now).node)) }
     ensures none { result ≡ None → ¬ HasFileId (tree_view tree.now).node }
@@ -105,8 +118,8 @@ fn misnamed(tree: &Tree<'_>) -> Option<Finding>
 }
 
 /// What is found of the file by reading it.
-fn finding_by<R: Read>(tree: &Tree<'_>, reader: &mut R, limit: u64) -> Option<Finding>
-    ensures { FindsBy R.has_given R.remaining R.calls R.failures limit (tree_view tree.now).node result
+pub(crate) fn finding_by<R: Read>(tree: &Tree<'_>, reader: &mut R, limit: u64) -> Option<Finding>
+    ensures { FindsBy R.has_given R.remaining R.calls R.failures limit (by_digest (tree_view tree.now).node) result
         reader.old reader.new }
 {
     match digest_of(reader, limit) {
@@ -116,7 +129,7 @@ fn finding_by<R: Read>(tree: &Tree<'_>, reader: &mut R, limit: u64) -> Option<Fi
 }
 
 /// What is found where the record may have a digest and this is that of the file.
-fn compared(recorded: Option<[u8; 32]>, found: [u8; 32]) -> Option<Finding>
+pub(crate) fn compared(recorded: Option<[u8; 32]>, found: [u8; 32]) -> Option<Finding>
     ensures { result ≡ compared recorded found }
 {
     match recorded {

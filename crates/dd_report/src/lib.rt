@@ -4,13 +4,15 @@
 //! What it promises stands at `list_records`, `check_records`, `finding_of`, `print_line` and `send_text`.
 #![tactic(auto)]
 
+mod agreements;
 mod checking;
 mod findings;
 mod line_buffer;
 mod listing;
 mod text;
+mod words;
 
-pub use checking::{CheckFault, check_records};
+pub use checking::{CheckFault, Comparison, check_records};
 pub use findings::{Finding, finding_of};
 pub use listing::list_records;
 pub use text::{Text, print_line, send_text};

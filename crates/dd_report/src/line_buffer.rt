@@ -2,7 +2,7 @@
 ghost use Rattle.std.specs.Prelude.{◌≡◌, ◌+◌, ◌++◌, ◌≤◌, ◌↔◌, ℕ, List, [], IsTrue, OnErr, OnOk, codes, length, take};
 ghost use Rattle.std.specs.List.{repeat};
 ghost use Rattle.dd_report.specs.Telling.{Tells, parts_of, shown, shown_byte, shown_line, way};
-ghost use Rattle.dd_report.specs.Text.{FailsAmid, Sent, TakesAll};
+ghost use Rattle.dd_report.specs.Text.{FailsAmid, Sent, TakesAll, masked};
 
 use crate::text::send_bytes;
 use dd_elem::Write;
@@ -62,6 +62,24 @@ impl LineBuffer {
         }
         send_bytes(more, to)?;
         Ok(())
+    }
+
+    /// Adds a text to the lines as `add` does, with `?` for each control character. What stands between two of
+    /// them is added at once.
+    pub(crate) fn add_masked<W: Write>(&mut self, text: &str, to: &mut W) -> fmt::Result
+        ensures sent { OnOk result (Sent (self.old ++ masked text.now) self.new
+            (W.contents to.old) (W.contents to.new) (W.failures to.old) (W.failures to.new)) }
+        ensures unsent { OnErr result (FailsAmid (W.contents to.old) (W.contents to.new)
+            (W.failures to.old) (W.failures to.new) (self.old ++ masked text.now)) }
+        ensures rest { W.rest to.new ≡ W.rest to.old }
+    {
+        let mut rest = text;
+        while let Some((front, behind)) = rest.split_once(char::is_control) {
+            self.add(front.as_bytes(), to)?;
+            self.add(b"?", to)?;
+            rest = behind;
+        }
+        self.add(rest.as_bytes(), to)
     }
 
     /// Adds two spaces for each level.

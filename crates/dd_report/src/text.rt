@@ -36,7 +36,8 @@ pub(crate) fn send_bytes<W: Write>(bytes: &[u8], to: &mut W) -> fmt::Result
 }
 
 /// Prints the parts of a line, one behind the other, and the end of the line: all of it or up to where
-/// the writer fails. A line that is not long is one write.
+/// the writer fails. A control character of a part prints as `?`, so that no part ends the line or steers
+/// a terminal. A line that is not long is one write.
 pub fn print_line<W: Write>(parts: &[&str], to: &mut W) -> fmt::Result
     ensures sent { OnOk result (TakesAll (W.contents to.old) (W.contents to.new)
         (W.failures to.old) (W.failures to.new) (line_text parts.now)) }
@@ -46,7 +47,7 @@ pub fn print_line<W: Write>(parts: &[&str], to: &mut W) -> fmt::Result
 {
     let mut line = LineBuffer::new();
     for part in parts {
-        line.add(part.as_bytes(), to)?;
+        line.add_masked(part, to)?;
     }
     line.add(b"\n", to)?;
     line.flush(to)

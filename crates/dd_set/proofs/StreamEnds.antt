@@ -41,7 +41,7 @@ module _ {R : Type 0} (remaining : R → Option (List ℕ)) (failures calls : R 
   turned first last given left now before after end opened shut t = rw shut at (rw opened at t)
 
   -- what was taken is what the reader gave, and the reader says how it ended
-  pub stream_ends : (has_given : R → List ℕ → Type 0) (first last : R) (p r : Place) (taken : List ℕ) (end : End)
+  pub stream_ends : {P : Type 0} (has_given : R → P → List ℕ → Type 0) (first last : R) (p r : Place) (taken : List ℕ) (end : End)
       → (m : Moves remaining failures calls has_given first last p r taken)
       → p.held ≡ [] → p.end ≡ None → r.held ≡ [] → r.end ≡ Some end
       → (m.given ≡ taken) × (Ends end p.left m.given (remaining last) (failures first) (failures last)
@@ -52,8 +52,8 @@ module _ {R : Type 0} (remaining : R → Option (List ℕ)) (failures calls : R 
   )
 
 -- what a reader gave from the start of a stream to its end, what is said of it, and what its counts say
-pub record Whole {R : Type 0} (remaining : R → Option (List ℕ)) (failures calls : R → ℕ)
-    (has_given : R → List ℕ → Type 0) (first last : R) (limit : ℕ) (end : End) (answers : List ℕ → Type 0)
+pub record Whole {R P : Type 0} (remaining : R → Option (List ℕ)) (failures calls : R → ℕ)
+    (has_given : R → P → List ℕ → Type 0) (first last : R) (limit : ℕ) (end : End) (answers : List ℕ → Type 0)
     : Type 0 where
   pub given : List ℕ
   pub gave : Gives has_given first last given
@@ -64,8 +64,8 @@ pub record Whole {R : Type 0} (remaining : R → Option (List ℕ)) (failures ca
   pub few : calls last ≤ calls first + limit + 1
 
 -- a stretch of which this is said whatever comes behind it, and then one to the end of the stream
-pub read_whole : {R : Type 0} (remaining : R → Option (List ℕ)) (failures calls : R → ℕ)
-    (has_given : R → List ℕ → Type 0) (first then last : R) (p q r : Place) (xs ys : List ℕ) (end : End)
+pub read_whole : {R P : Type 0} (remaining : R → Option (List ℕ)) (failures calls : R → ℕ)
+    (has_given : R → P → List ℕ → Type 0) (first then last : R) (p q r : Place) (xs ys : List ℕ) (end : End)
     (answers : List ℕ → Type 0)
     → Moves remaining failures calls has_given first then p q xs
     → Moves remaining failures calls has_given then last q r ys

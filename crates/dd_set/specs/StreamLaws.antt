@@ -44,7 +44,7 @@ module _ {R : Type 0} (remaining : R → Option (List ℕ)) (failures calls : R 
         | inr le ↦ rw (get_or-append_right g h (length g) i 0 refl le) (q (i - length g))
       ]
 
-  module _ (has_given : R → List ℕ → Type 0) where
+  module _ {P : Type 0} (has_given : R → P → List ℕ → Type 0) where
     pub moves_none : (reader : R) (p : Place) → Moves remaining failures calls has_given reader reader p p []
     moves_none reader p = record {
       given = [];

@@ -1,5 +1,5 @@
 -- Where one of several texts is not a UID.
-use Rattle.std.proofs.Common.{◌≡◌, ◌<◌, zero, suc, List, [], ◌∷◌, String, Result, Ok, Err, IfErr, arith}
+use Rattle.std.proofs.Common.{◌≡◌, ◌<◌, zero, suc, List, ◌∷◌, String, Result, Ok, Err, IfErr, arith}
 use Rattle.std.proofs.Common.{get_or, length, refl, string_bytes, subst, sym}
 use Rattle.std.specs.declared.alloc.Global.{Global}
 use Rattle.dd_catalogue.proofs.FirstAndRest.{first_and_rest, rest_of}

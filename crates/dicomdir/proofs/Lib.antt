@@ -1,3 +1,5 @@
 mod BadUids
 mod EmptyWords
+mod ImagesMade
+mod Masking
 mod Publishing

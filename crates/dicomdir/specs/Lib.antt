@@ -1,6 +1,9 @@
+pub mod Claims
 pub mod Done
 pub mod EmptyPaths
 pub mod FileSupply
+pub mod Made
+pub mod MaskedWords
 pub mod Names
 pub mod Refusal
 pub use Rattle.dd_engine.specs.Choosing
@@ -10,6 +13,7 @@ pub use Rattle.dd_engine.specs.MergeSteps
 pub use Rattle.dd_engine.specs.Merging
 pub use Rattle.dd_engine.specs.Picking
 pub use Rattle.dd_engine.specs.Published
+pub use Rattle.dd_engine.specs.Saying
 pub use Rattle.dd_engine.specs.Supply
 pub use Rattle.dd_files.specs.Copying
 pub use Rattle.dd_files.specs.Files

@@ -1,26 +1,23 @@
 //! The images of a file-set, copied into its folder.
-ghost use Rattle.std.specs.Prelude.{◌≡◌, ℕ, All, IfErr, IsErr};
+ghost use Rattle.std.specs.Prelude.{◌≡◌, ◌<◌, ℕ, All, IfErr, IfOk, IsErr, IsOk, length, option_map};
 ghost use Rattle.dd_elem.specs.Device.{counted};
+ghost use Rattle.dd_files.specs.Files.{ended};
+ghost use Rattle.dd_layout.specs.Plans.{records_of};
+ghost use Rattle.dicomdir.specs.Made.{Copies, MakesImage, MakesImages, StartsImage};
 ghost use Rattle.dicomdir.specs.Refusal.{IsAmong, IsOfWork};
 
-use crate::image_path::{ImageFolder, ImagePath, ImagePathText};
+use crate::image_path::{ImageFolder, ImagePathText};
 use crate::origins::Origins;
 use crate::refusal::{ProgramFault, Refusal, Subject};
 use dd_elem::FileId;
-use dd_files::{CopyFault, Files, SOURCE_LIMIT, copy_image, path_in};
-use dd_layout::Plan;
+use dd_files::{Files, SOURCE_LIMIT, file_path, path_in};
+use dd_filing::{Filed, FilingFault, file_image};
+use dd_keys::Version;
+use dd_layout::{Plan, PlanRecord};
 use std::alloc::Global;
 
-/// An image of the file-set.
-#[derive(Clone, Copy)]
-struct Image {
-    /// Its File ID.
-    file: FileId,
-    /// The SHA-256 of the file that it is copied from, when that was read.
-    digest: [u8; 32],
-}
-
-/// Copies each image from its file to its File ID in the folder, in the order of the plan.
+/// Copies each image from its file to its File ID in the folder, in the order of the plan. Each copy must be
+/// a file of the version that is planned there.
 pub(crate) fn copy_images<F: Files, O: Origins>(
     alloc: Global,
     folder: &str,
@@ -30,49 +27,91 @@ pub(crate) fn copy_images<F: Files, O: Origins>(
     files: &mut F,
 ) -> Result<(), Refusal>
     requires { All (O.has origins.now) picks.now }
-    ensures { IfErr result (IsOfWork (O.paths origins.now)) }
+    ensures refusal { IfErr result (IsOfWork (O.paths origins.now)) }
+
+    // Where the files tell what they hold, an image was made for each pick, each a file of its planned version, and
+    // nothing else.
+    ensures made { IsOk result → MakesImages folder.now plan.now.versions
+        (records_of plan.now.label plan.now.versions)
+        (length picks.now) (F.held files.old) (F.held files.new) }
 {
     let versions = plan.versions();
     let mut picks = picks;
     for record in plan.records() {
-        if let (Some(file), [pick, later @ ..]) = (record.file, picks) {
-            let digest = versions[record.of].parts().digest;
-            copy_one(alloc, folder, Image { file, digest }, origins, *pick, files)?;
-            picks = later;
-        }
+        picks = copy_record(alloc, folder, versions, record, origins, picks, files)?;
     }
     Ok(())
 }
 
-/// Copies an image into the folder.
-fn copy_one<F: Files, O: Origins>(
+/// Copies the image of a record, where it has one, from the first of these picks, and answers the others.
+fn copy_record<'p, F: Files, O: Origins>(
     alloc: Global,
     folder: &str,
-    image: Image,
+    versions: &[Version],
+    record: &PlanRecord,
+    origins: &O,
+    picks: &'p [O::Pick],
+    files: &mut F,
+) -> Result<&'p [O::Pick], Refusal>
+    requires has { All (O.has origins.now) picks.now }
+    requires within { record.now.of < length versions.now }
+    ensures refusal { IfErr result (IsOfWork (O.paths origins.now)) }
+    ensures has { IfOk result (λ later. All (O.has origins.now) later.now) }
+    ensures copied { IfOk result (λ later. Copies folder.now versions.now record.now picks.now later.now
+        (F.held files.old) (F.held files.new)) }
+{
+    match (record.file, picks) {
+        (Some(file), [pick, later @ ..]) => {
+            let planned = &versions[record.of];
+            copy_image(alloc, folder, file, planned, origins, *pick, files)?;
+            Ok(later)
+        }
+        _ => Ok(picks),
+    }
+}
+
+/// Copies an image to this File ID in the folder, as a file of its version in the plan.
+fn copy_image<F: Files, O: Origins>(
+    alloc: Global,
+    folder: &str,
+    file: FileId,
+    planned: &Version,
     origins: &O,
     pick: O::Pick,
     files: &mut F,
 ) -> Result<(), Refusal>
     requires { O.has origins.now pick }
-    ensures { IfErr result (IsOfWork (O.paths origins.now)) }
+    ensures refusal { IfErr result (IsOfWork (O.paths origins.now)) }
+    ensures made { IsOk result → MakesImage folder.now file planned.now
+        (F.held files.old) (F.held files.new) }
+{
+    let mut reader = open(alloc, origins, pick, files)?;
+    start_copy(alloc, folder, file, files)?;
+    match file_image(alloc, &mut reader, files, planned, SOURCE_LIMIT) {
+        Ok(filed) => end_copy(alloc, file, planned, filed, origins, pick, files),
+        Err(fault) => Err(refusal_of(fault, file, origins.subject(pick))),
+    }
+}
+
+/// Opens the file that an image is copied from.
+fn open<F: Files, O: Origins>(
+    alloc: Global,
+    origins: &O,
+    pick: O::Pick,
+    files: &mut F,
+) -> Result<F::In, Refusal>
+    requires { O.has origins.now pick }
+    ensures refusal { IfErr result (IsOfWork (O.paths origins.now)) }
+    ensures kept { F.held files.new ≡ F.held files.old }
 {
     let path = origins.path(alloc, pick)?;
-    let origin = origins.subject(pick);
     let opened = match origins.set(pick) {
         Some(set) => files.member(set, path.as_str()),
         None => files.source(path.as_str()),
     };
-    let Ok(mut reader) = opened else {
-        return Err(Refusal::of(origin, ProgramFault::Absent));
-    };
-    start_copy(alloc, folder, image.file, files)?;
-    match copy_image(&mut reader, files, SOURCE_LIMIT) {
-        Ok(digest) => finish_copy(image, origin, digest, files),
-        Err(CopyFault::Unread) => Err(Refusal::of(origin, ProgramFault::Unread)),
-        Err(CopyFault::Changed) => Err(Refusal::of(origin, ProgramFault::Changed)),
-        Err(CopyFault::Unsent) => {
-            Err(Refusal::of(Subject::Image(image.file), ProgramFault::Unsent))
-        }
+    match opened {
+        Ok(reader) => Ok(reader),
+        Err(_) => Err(Refusal::of(origins.subject(pick), ProgramFault::Absent)),
     }
 }
 
@@ -83,38 +122,74 @@ fn start_copy<F: Files>(
     file: FileId,
     files: &mut F,
 ) -> Result<(), Refusal>
-    ensures { (paths : ℕ) → IfErr result (IsOfWork paths) }
+    ensures refusal { (paths : ℕ) → IfErr result (IsOfWork paths) }
+    ensures started { IsOk result → StartsImage folder.now file (F.held files.old) (F.held files.new) }
 {
     let below = ImagePathText::of(&ImageFolder(file));
     let path = path_in(alloc, folder, below.as_str())?;
     if files.folder_in(folder, path.as_str()).is_err() {
         return Err(Refusal::of(Subject::ImageFolder(file), ProgramFault::Folder));
     }
-    let name = ImagePathText::of(&ImagePath(file));
-    let path = path_in(alloc, folder, name.as_str())?;
+    let path = file_path(alloc, folder, &file.text())?;
     match files.create(path.as_str()) {
         Ok(()) => Ok(()),
         Err(_) => Err(Refusal::of(Subject::Image(file), ProgramFault::Create)),
     }
 }
 
-/// Ends the copy of an image, which must have the SHA-256 of the file that it comes from when that was
-/// read, and has it stored with others.
-fn finish_copy<F: Files>(
-    image: Image,
-    origin: Subject,
-    digest: [u8; 32],
+/// Ends the copy of an image, which must be a file of its planned version, and has it stored with others.
+fn end_copy<F: Files, O: Origins>(
+    alloc: Global,
+    file: FileId,
+    planned: &Version,
+    filed: Filed,
+    origins: &O,
+    pick: O::Pick,
     files: &mut F,
 ) -> Result<(), Refusal>
-    ensures { (paths : ℕ) → IsAmong paths origin → IfErr result (IsOfWork paths) }
+    requires { O.has origins.now pick }
+    ensures refusal { IfErr result (IsOfWork (O.paths origins.now)) }
+    ensures planned { IsOk result → filed ≡ Filed.AsPlanned }
+    ensures ended { IsOk result → F.held files.new ≡ option_map ended (F.held files.old) }
 {
     if files.finish().is_err() {
-        return Err(Refusal::of(Subject::Image(image.file), ProgramFault::Unsent));
+        return Err(Refusal::of(Subject::Image(file), ProgramFault::Unsent));
     }
-    if digest != image.digest {
-        return Err(Refusal::of(origin, ProgramFault::Changed));
-    }
+    accept(alloc, planned, filed, origins, pick)?;
     store(files)
+}
+
+/// Refuses a copy that is no file of the planned version. A file of a version with another digest has changed;
+/// any other is not what some record says of it, which is named.
+fn accept<O: Origins>(
+    alloc: Global,
+    planned: &Version,
+    filed: Filed,
+    origins: &O,
+    pick: O::Pick,
+) -> Result<(), Refusal>
+    requires { O.has origins.now pick }
+    ensures refusal { IfErr result (IsOfWork (O.paths origins.now)) }
+    ensures planned { IsOk result → filed ≡ Filed.AsPlanned }
+{
+    let subject = match filed {
+        Filed::AsPlanned => return Ok(()),
+        Filed::OtherVersion => origins.subject(pick),
+        Filed::Mislabelled => origins.claimant(alloc, pick, planned)?,
+    };
+    Err(Refusal::of(subject, ProgramFault::Changed))
+}
+
+/// What a failed copy of an image comes to, which was read from what this subject names.
+fn refusal_of(fault: FilingFault, file: FileId, origin: Subject) -> Refusal
+    ensures { (paths : ℕ) → IsAmong paths origin → IsOfWork paths result }
+{
+    match fault {
+        FilingFault::Memory => Refusal::memory(),
+        FilingFault::Unread => Refusal::of(origin, ProgramFault::Unread),
+        FilingFault::TooLong => Refusal::of(origin, ProgramFault::Changed),
+        FilingFault::Unsent => Refusal::of(Subject::Image(file), ProgramFault::Unsent),
+    }
 }
 
 /// Has stored what was made, or puts that off behind an image.

@@ -37,7 +37,9 @@ impl<R: Read + Drop> Read for CountedReader<R> {
 
     ghost remaining = { λ s. R.remaining s.reader };
 
-    ghost has_given = { λ s bytes. R.has_given s.reader bytes };
+    ghost Past = { R.Past };
+
+    ghost has_given = { λ s past bytes. R.has_given s.reader past bytes };
 
     /// Reads as the reader does. It fails, too, where a count is at its last value.
     fn read(&mut self, buf: &mut [u8]) -> io::Result<usize> {

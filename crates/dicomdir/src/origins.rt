@@ -1,17 +1,20 @@
 //! What the images of a file-set are copied from.
 ghost use Rattle.std.specs.Prelude.{◌≡◌, ◌<◌, ℕ, List, [], All, IfOk, length, map, slice_index_or, string_bytes};
 ghost use Rattle.dd_files.specs.Paths.{IsPathIn, id_path};
+ghost use Rattle.dicomdir.specs.Claims.{IsClaimant};
 ghost use Rattle.dicomdir.specs.Refusal.{IsAmong, IsSetFile, IsSource};
 
 use crate::image_path::{IdPath, PathText};
 use crate::refusal::Subject;
 use dd_elem::Memory;
-use dd_engine::Pick;
+use dd_engine::{MergeFault, Pick, first_saying};
 use dd_files::file_path;
+use dd_keys::Version;
 use std::alloc::Global;
 
 /// Files that images are copied from.
 pub(crate) trait Origins {
+    ghost use Rattle.dd_keys.specs.declared.parts.Parts.{Parts};
     ghost use Rattle.dicomdir.specs.declared.refusal.Subject.{Subject};
 
     /// Says which of the files is meant.
@@ -29,6 +32,9 @@ pub(crate) trait Origins {
     // A refusal that comes of it concerns this.
     ghost is_subject: { Self → Self.Pick → Subject → Type 0 };
 
+    // A refusal concerns this where it is not what the plan says of it.
+    ghost is_claimant: { Self → Self.Pick → Parts → Subject → Type 0 };
+
     /// The path of the file. Memory where a growth is refused.
     fn path(&self, alloc: Global, pick: Self::Pick) -> Result<String, Memory>
         requires { has self.now pick }
@@ -37,6 +43,18 @@ pub(crate) trait Origins {
     /// The folder of the file-set that the file is of, if it is of one.
     fn set(&self, pick: Self::Pick) -> Option<&str>
         requires { has self.now pick };
+
+    /// What a refusal concerns where the file is not what the plan says of it: the file of the first record that
+    /// says so, or the file itself where no record speaks of it. Memory where a growth is refused.
+    fn claimant(
+        &self,
+        alloc: Global,
+        pick: Self::Pick,
+        planned: &Version,
+    ) -> Result<Subject, Memory>
+        requires { has self.now pick }
+        ensures claimed { IfOk result (is_claimant self.now pick planned.now) }
+        ensures among { IfOk result (IsAmong (paths self.now)) };
 
     /// What a refusal concerns that comes of the file.
     fn subject(&self, pick: Self::Pick) -> Subject
@@ -61,6 +79,8 @@ impl Origins for SourceFiles<'_> {
 
     ghost is_subject = { λ _ at subject. IsSource at subject };
 
+    ghost is_claimant = { λ _ at planned subject. IsSource at subject };
+
     ghost paths = { λ s. length s.paths.now };
 
     fn path(&self, alloc: Global, at: usize) -> Result<String, Memory> {
@@ -71,6 +91,10 @@ impl Origins for SourceFiles<'_> {
         None
     }
 
+    fn claimant(&self, _alloc: Global, at: usize, _planned: &Version) -> Result<Subject, Memory> {
+        Ok(Subject::Source(at))
+    }
+
     fn subject(&self, at: usize) -> Subject {
         Subject::Source(at)
     }
@@ -78,21 +102,27 @@ impl Origins for SourceFiles<'_> {
 
 /// Files of file-sets, each by the number of its set and its File ID.
 #[derive(Clone, Copy)]
-pub(crate) struct SetFiles<'a> {
+pub(crate) struct SetFiles<'s, 'a> {
     /// The folders of the file-sets.
-    pub(crate) folders: &'a [String],
+    pub(crate) folders: &'s [String],
+    /// The bytes of their directories.
+    pub(crate) directories: &'s [&'a [u8]],
 }
 
-impl<'a> Origins for SetFiles<'a> {
+impl<'a> Origins for SetFiles<'_, 'a> {
     type Pick = Pick<'a>;
 
-    ghost has = { λ s pick. pick.set < length s.folders.now };
+    ghost has = { λ s pick. (pick.set < length s.folders.now)
+        × (length s.directories.now ≡ length s.folders.now) };
 
     ghost stands_at = { λ s pick path. All (λ byte. byte < 128) pick.file.now
         → IsPathIn (slice_index_or (map (λ folder. string_bytes folder) s.folders.now) pick.set [])
         (id_path pick.file.now) path };
 
     ghost is_subject = { λ _ pick subject. IsSetFile pick.set subject };
+
+    ghost is_claimant = { λ s pick planned subject.
+        IsClaimant planned (map (λ set. set.now) s.directories.now) pick subject };
 
     ghost paths = { λ s. length s.folders.now };
 
@@ -102,6 +132,20 @@ impl<'a> Origins for SetFiles<'a> {
 
     fn set(&self, pick: Pick<'a>) -> Option<&str> {
         Some(self.folders[pick.set].as_str())
+    }
+
+    fn claimant(
+        &self,
+        alloc: Global,
+        pick: Pick<'a>,
+        planned: &Version,
+    ) -> Result<Subject, Memory> {
+        let first = match first_saying(alloc, self.directories, planned) {
+            Ok(Some(first)) => first,
+            Err(MergeFault::Memory) => return Err(Memory),
+            _ => pick,
+        };
+        Ok(self.subject(first))
     }
 
     fn subject(&self, pick: Pick<'a>) -> Subject {

@@ -13,6 +13,7 @@ ghost use Rattle.dicomdir.specs.Refusal.{IsBadLine, IsOfWork};
 use crate::empty_paths::{empty_path, first_empty};
 use crate::file_set::write_file_set;
 use crate::index::plan_index;
+use crate::line_refusal::refuse_line;
 use crate::merging::{plan_merge, plan_withdrawal, read_sets, slices};
 use crate::names::{Names, names_of};
 use crate::origins::{SetFiles, SourceFiles};
@@ -24,8 +25,8 @@ use dd_engine::{Choice, Merged};
 use dd_files::Files;
 use dd_keys::KeyFault;
 use dd_layout::Plan;
-use dd_line::{Asked, LineFault, Verb, read_words};
-use dd_report::{CheckFault, Text, check_records, list_records, print_line};
+use dd_line::{Asked, Verb, read_words};
+use dd_report::{CheckFault, Comparison, check_records, list_records, print_line};
 use itoa::Buffer;
 use std::alloc::Global;
 use std::fmt;
@@ -37,8 +38,8 @@ use std::fmt;
 /// `index [--id ID] [--uid UID] [--max-bytes N] OUT SRC...` copies the images to their File IDs in the
 /// folder OUT and writes OUT/DICOMDIR. It prints `SKIP <path>: <fault>` for each source that has no
 /// version, and `DONE <n> instances, <size> bytes`. A refusal is one line on the error output, `FAULT
-/// <path>: <fault>`, with `-` where it concerns no path; a text about the command line is the parser's.
-/// What is printed to the error output may get lost.
+/// <path>: <fault>`, with `-` where it concerns no path; a text about the command line is the parser's, of
+/// its words with `?` for each control character. What is printed to the error output may get lost.
 ///
 /// `merge [--id ID] [--uid UID] [--max-bytes N] OUT SET...` makes such a file-set of the images of other
 /// file-sets, each a folder with the DICOMDIR that was written here. All these are read before the first
@@ -51,8 +52,9 @@ use std::fmt;
 /// A path that is empty is refused before any file is opened: OUT as a folder that is not made, any other
 /// as a file that is not there.
 ///
-/// `check SET` compares the files of a file-set with its directory, of any producer, and prints what it
-/// finds, or `OK <n> records`. `list SET` prints its records and the instances that it withdraws.
+/// `check [--keys] SET` compares the files of a file-set with its directory, of any producer, and prints
+/// what it finds, or `OK <n> records`; with `--keys` what image files say of themselves with their records,
+/// too. `list SET` prints its records and the instances that it withdraws.
 pub fn run<F: Files, O: Write, E: Write>(
     alloc: Global,
     words: Vec<String>,
@@ -85,7 +87,7 @@ pub fn run<F: Files, O: Write, E: Write>(
 {
     match read_words(alloc, words.as_slice()) {
         Ok(asked) => run_asked(alloc, &asked, files, out, err),
-        Err(fault) => refuse_line(&fault, out, err),
+        Err(fault) => refuse_line(alloc, words.as_slice(), &fault, out, err),
     }
 }
 
@@ -178,7 +180,7 @@ fn run_verb<F: Files, O: Write>(
         Verb::Index => run_index(alloc, folder, paths, &names.choice, max_bytes, files, out),
         Verb::Merge => run_merge(alloc, folder, paths, &names.choice, max_bytes, files, out),
         Verb::Withdraw => run_withdraw(alloc, folder, paths, names, max_bytes, files, out),
-        Verb::Check => run_check(alloc, paths[0].as_str(), files, out),
+        Verb::Check => run_check(alloc, paths[0].as_str(), comparison_of(asked), files, out),
         Verb::List => run_list(alloc, paths[0].as_str(), files, out),
     }
 }
@@ -228,7 +230,11 @@ fn run_merge<F: Files, O: Write>(
     let directories = read_sets(alloc, folder, sets, files)?;
     let slices = slices(alloc, &directories)?;
     let merged = plan_merge(alloc, &slices, choice, max_bytes)?;
-    write_merged(alloc, folder, sets, &merged, files, out)
+    let origins = SetFiles {
+        folders: sets,
+        directories: &slices,
+    };
+    write_merged(alloc, folder, &origins, &merged, files, out)
 }
 
 /// Runs `withdraw` on the first of these file-sets.
@@ -246,32 +252,47 @@ fn run_withdraw<F: Files, O: Write>(
     ensures status { IfOk result (λ status. status ≤ 1) }
 {
     let directories = read_sets(alloc, folder, sets, files)?;
-    let merged = plan_withdrawal(alloc, &directories[0], names, max_bytes)?;
-    write_merged(alloc, folder, sets, &merged, files, out)
+    let slices = slices(alloc, &directories)?;
+    let merged = plan_withdrawal(alloc, slices[0], names, max_bytes)?;
+    let origins = SetFiles {
+        folders: sets,
+        directories: &slices,
+    };
+    write_merged(alloc, folder, &origins, &merged, files, out)
 }
 
 /// Writes what a merge of these file-sets planned, and answers the status.
-fn write_merged<F: Files, O: Write>(
+fn write_merged<'a, F: Files, O: Write>(
     alloc: Global,
     folder: &str,
-    sets: &[String],
-    merged: &Merged<'_>,
+    sets: &SetFiles<'_, 'a>,
+    merged: &Merged<'a>,
     files: &mut F,
     out: &mut O,
 ) -> Result<u8, Refusal>
-    requires { All (λ pick. pick.set < length sets.now) merged.now.picks.items }
-    ensures refusal { IfErr result (IsOfWork (length sets.now)) }
+    requires sets { length sets.now.directories.now ≡ length sets.now.folders.now }
+    requires within { All (λ pick. pick.set < length sets.now.folders.now) merged.now.picks.items }
+    ensures refusal { IfErr result (IsOfWork (length sets.now.folders.now)) }
     ensures status { IfOk result (λ status. status ≤ 1) }
 {
-    let origins = SetFiles { folders: sets };
-    write_file_set(alloc, folder, &merged.plan, &origins, &merged.picks, files)?;
+    write_file_set(alloc, folder, &merged.plan, sets, &merged.picks, files)?;
     Ok(tell_done(&merged.plan, out))
+}
+
+/// What a check compares that the line asks for.
+fn comparison_of(asked: &Asked) -> Comparison {
+    if asked.keys {
+        Comparison::Keys
+    } else {
+        Comparison::Digests
+    }
 }
 
 /// Runs `check` on the file-set in this folder.
 fn run_check<F: Files, O: Write>(
     alloc: Global,
     folder: &str,
+    comparison: Comparison,
     files: &mut F,
     out: &mut O,
 ) -> Result<u8, Refusal>
@@ -284,7 +305,7 @@ fn run_check<F: Files, O: Write>(
         Err(fault) if fault.is_want_of_memory() => return Err(Refusal::memory()),
         Err(fault) => return Ok(tell_broken(&fault, out)),
     };
-    match check_records(alloc, folder, &forest, files, out) {
+    match check_records(alloc, folder, &forest, comparison, files, out) {
         Ok(false) => Ok(0),
         Ok(true) => Ok(3),
         Err(CheckFault::Unsent) => Ok(1),
@@ -354,36 +375,6 @@ fn tell_done<O: Write>(plan: &Plan, out: &mut O) -> u8
     let count = count.format(plan.versions().len());
     let size = size.format(plan.size());
     match print_line(&["DONE ", count, " instances, ", size, " bytes"], out) {
-        Ok(()) => 0,
-        Err(_) => 1,
-    }
-}
-
-/// Tells why a command line asks for nothing, and answers the status.
-fn refuse_line<O: Write, E: Write>(fault: &LineFault, out: &mut O, err: &mut E) -> u8
-    ensures status { result ≤ 2 }
-    ensures memory { fault.now ≡ LineFault.Memory → (result ≡ 1) × (out.new ≡ out.old) }
-    ensures line { result ≡ 2 → out.new ≡ out.old }
-    ensures done { result ≡ 0 → err.new ≡ err.old }
-{
-    match fault {
-        LineFault::Refused(error) => tell_parser(error, out, err),
-        LineFault::Memory => tell(&Refusal::memory(), Paths::none(), err),
-    }
-}
-
-/// Prints the parser's text: a mistake to the error output, with status 2, and help to the output, with
-/// status 0, or 1 where the output failed.
-fn tell_parser<O: Write, E: Write>(error: &clap::Error, out: &mut O, err: &mut E) -> u8
-    ensures status { result ≤ 2 }
-    ensures line { result ≡ 2 → out.new ≡ out.old }
-    ensures done { result ≡ 0 → err.new ≡ err.old }
-{
-    if error.use_stderr() {
-        let _ = fmt::Write::write(&mut Text { to: err }, format_args!("{error}"));
-        return 2;
-    }
-    match fmt::Write::write(&mut Text { to: out }, format_args!("{error}")) {
         Ok(()) => 0,
         Err(_) => 1,
     }

@@ -32,7 +32,9 @@ impl<T: io::Read + Drop> Read for Counted<T> {
 
     ghost remaining = { λ _. None };
 
-    ghost has_given = { λ _ _. Unit {0} };
+    ghost Past = { Unit {0} };
+
+    ghost has_given = { λ _ _ _. Unit {0} };
 
     fn read(&mut self, buf: &mut [u8]) -> io::Result<usize> {
         self.counts.begin()?;

@@ -12,6 +12,7 @@ pub(crate) enum Ask {
     Catalogues,
     ReadBack,
     Picked,
+    First,
     Withdrawn,
 }
 
@@ -21,6 +22,7 @@ fn answer(alloc: Global, ask: Ask, question: &str) -> Result<String, Fail> {
         Ask::Catalogues => keys::catalogues(alloc, question),
         Ask::ReadBack => keys::read_back(alloc, question),
         Ask::Picked => picks::picked(alloc, question),
+        Ask::First => picks::first(alloc, question),
         Ask::Withdrawn => withdrawals::planned(alloc, question),
     }
 }

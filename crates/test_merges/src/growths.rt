@@ -5,7 +5,7 @@ use crate::picks::told;
 use crate::withdrawals::uids_of;
 use dd_elem::{SetId, Uid};
 use dd_vectors::{growth_numbers, refuse_growth, require, was_refused};
-use dicomdir::{Choice, MergeFault, Merged, merge_engine, withdraw_engine};
+use dicomdir::{Choice, MergeFault, Merged, Pick, first_saying, merge_engine, withdraw_engine};
 use std::alloc::Global;
 use std::test::Fail;
 
@@ -13,6 +13,7 @@ use std::test::Fail;
 #[derive(Clone, Copy)]
 enum Call {
     Derived,
+    First,
     Named,
     Withdraw,
 }
@@ -21,6 +22,7 @@ enum Call {
 fn is_refused(alloc: Global, call: Call, chosen: u32) -> Result<bool, Fail> {
     match call {
         Call::Derived => merge_refused(alloc, None, chosen),
+        Call::First => first_refused(alloc, chosen),
         Call::Named => merge_refused(alloc, Some(label()?.uid), chosen),
         Call::Withdraw => withdraw_refused(alloc, chosen),
     }
@@ -114,4 +116,34 @@ fn withdraw_refused(alloc: Global, chosen: u32) -> Result<bool, Fail> {
 #[test]
 fn growths_of_withdraw_engine(rt: HostRuntime) -> Result<(), Fail> {
     refuse_each(rt.alloc(), Call::Withdraw)
+}
+
+/// Fails where it is no file of the third set.
+fn require_third(found: Option<Pick<'_>>) -> Result<(), Fail> {
+    require(
+        found.is_some_and(|pick| pick.set == 2),
+        "the third set says it first",
+    )
+}
+
+/// Seeks the version of an image that the third of three sets lists.
+fn first_refused(alloc: Global, chosen: u32) -> Result<bool, Fail> {
+    let sets = directories(alloc, "empty 34 12")?;
+    let sets = slices(alloc, &sets)?;
+    let (id, uid) = (SetId::new(b"")?, Some(label()?.uid));
+    let merged = merge_engine(alloc, &sets, &Choice { id, uid }, widest()?)?;
+    let planned = merged.plan.versions().first().ok_or("no version")?;
+    refuse_growth(alloc, chosen)?;
+    let answer = first_saying(alloc, &sets, planned);
+    let refused = was_refused(alloc, matches!(&answer, Err(MergeFault::Memory)))?;
+    match answer {
+        Ok(found) => require_third(found)?,
+        Err(_) => require_third(first_saying(alloc, &sets, planned)?)?,
+    }
+    Ok(refused)
+}
+
+#[test]
+fn growths_of_first_saying(rt: HostRuntime) -> Result<(), Fail> {
+    refuse_each(rt.alloc(), Call::First)
 }

@@ -1,9 +1,9 @@
 //! Which files a merge picks, and why there is none.
 
 use crate::cases::{Ask, ask_all};
-use crate::directories::{directories, label, slices};
+use crate::directories::{directories, label, slices, widest};
 use dd_layout::{Label, Limits};
-use dicomdir::{Choice, MergeFault, Merged, merge_engine};
+use dicomdir::{Choice, MergeFault, Merged, first_saying, merge_engine};
 use std::alloc::Global;
 use std::test::Fail;
 
@@ -81,4 +81,41 @@ pub(crate) fn picked(alloc: Global, question: &str) -> Result<String, Fail> {
 #[test]
 fn files_are_picked_or_sets_refused(rt: HostRuntime) -> Result<(), Fail> {
     ask_all(&rt, rt.alloc(), Ask::Picked, PICKS)
+}
+
+/// Directories that are merged, and others among which the first is sought that says of the first instance what the
+/// merge plans; the number of its set and its File ID there, or that there is none, or why one is refused.
+const FIRSTS: &str = "\
+first | first first > 0 PT000001\\ST000001\\SE000001\\IM000001
+first first,402,'P9 | first first,402,'P9,686,'X > 1 XT000001\\ST000001\\SE000001\\IM000001
+first | empty first,402,'P9 first > 2 PT000001\\ST000001\\SE000001\\IM000001
+first | first,386,'ROE^JANE > 0 PT000001\\ST000001\\SE000001\\IM000001
+first | empty first,834,00 first,874,'2 first,754,'4 > none
+first | 12 first,336,40010000 > Dir 1: 55 Twice 320";
+
+/// What is found of the directories behind the bar.
+pub(crate) fn first(alloc: Global, question: &str) -> Result<String, Fail> {
+    let (merged, sought) = question.split_once(" | ").ok_or("no others")?;
+    let sets = directories(alloc, merged)?;
+    let Label { id, uid } = label()?;
+    let uid = Some(uid);
+    let sets = slices(alloc, &sets)?;
+    let Ok(merged) = merge_engine(alloc, &sets, &Choice { id, uid }, widest()?) else {
+        return Err("no plan".into());
+    };
+    let planned = merged.plan.versions().first().ok_or("no version")?;
+    let others = directories(alloc, sought)?;
+    match first_saying(alloc, &slices(alloc, &others)?, planned) {
+        Ok(Some(pick)) => {
+            let (set, file) = (pick.set, str::from_utf8(pick.file)?);
+            Ok(format!(in alloc; "{set} {file}")?)
+        }
+        Ok(None) => Ok(String::from_str(alloc, "none")?),
+        Err(fault) => refused(alloc, fault),
+    }
+}
+
+#[test]
+fn first_records_that_say_it_are_found(rt: HostRuntime) -> Result<(), Fail> {
+    ask_all(&rt, rt.alloc(), Ask::First, FIRSTS)
 }

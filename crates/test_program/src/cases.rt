@@ -1,6 +1,6 @@
 //! Cases: what each asks, and that the answer is right.
 
-use crate::{copies, engine, findings, lines, printing};
+use crate::{copies, engine, filings, findings, lines, printing};
 use dd_vectors::{answered, question};
 use std::alloc::Global;
 use std::process::Abort;
@@ -11,11 +11,13 @@ use std::test::Fail;
 pub(crate) enum Ask {
     CopiedV1,
     CopiedLong,
+    Filed,
     Indexed,
     Found,
     Line,
     Printed,
     PrintedLong,
+    Masked,
 }
 
 /// The answer to a question.
@@ -23,11 +25,13 @@ fn answer(alloc: Global, ask: Ask, question: &str) -> Result<String, Fail> {
     match ask {
         Ask::CopiedV1 => copies::copied_v1(alloc, question),
         Ask::CopiedLong => copies::copied_long(alloc, question),
+        Ask::Filed => filings::filed(alloc, question),
         Ask::Indexed => engine::indexed(alloc, question),
         Ask::Found => findings::found(alloc, question),
         Ask::Line => lines::line(alloc, question),
         Ask::Printed => printing::printed(alloc, question),
         Ask::PrintedLong => printing::printed_long(alloc, question),
+        Ask::Masked => printing::masked(alloc, question),
     }
 }
 

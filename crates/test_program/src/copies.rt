@@ -55,7 +55,7 @@ pub(crate) fn digest_words(alloc: Global, digest: &[u8; 32], wanted: &str) -> Re
 }
 
 /// How many bytes were sent, which must be the first of the image.
-fn sent_of(image: &[u8], sent: &[u8]) -> Result<usize, Fail> {
+pub(crate) fn sent_of(image: &[u8], sent: &[u8]) -> Result<usize, Fail> {
     if !image.starts_with(sent) {
         return Err("other bytes were sent".into());
     }

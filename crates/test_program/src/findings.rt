@@ -85,6 +85,8 @@ fn words(alloc: Global, found: Option<Finding>) -> Result<&'static str, Fail> {
                 "other digests"
             }
         }
+        Some(Finding::Mislabelled(_)) => "Mislabelled",
+        Some(Finding::NoFile(_)) => "NoFile",
     })
 }
 

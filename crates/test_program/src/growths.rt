@@ -2,6 +2,7 @@
 
 use crate::copies::{DIGEST, digest_words};
 use crate::engine::index_refused;
+use crate::filings::filing_refused;
 use crate::lines::said;
 use dd_elem::{ByteSource, Sink};
 use dd_vectors::{
@@ -16,6 +17,7 @@ use std::test::Fail;
 #[derive(Clone, Copy)]
 enum Call {
     CopyImage,
+    FileImage,
     IndexEngine,
     ReadIndex,
     ReadMerge,
@@ -27,6 +29,7 @@ enum Call {
 fn is_refused(alloc: Global, call: Call, chosen: u32) -> Result<bool, Fail> {
     match call {
         Call::CopyImage => copy_image_refused(alloc, chosen),
+        Call::FileImage => filing_refused(alloc, chosen),
         Call::IndexEngine => index_refused(alloc, chosen),
         Call::ReadIndex => read_words_refused(alloc, INDEX, chosen),
         Call::ReadMerge => read_words_refused(alloc, MERGE, chosen),
@@ -72,6 +75,11 @@ fn copy_image_refused(alloc: Global, chosen: u32) -> Result<bool, Fail> {
 #[test]
 fn growths_of_copy_image(rt: HostRuntime) -> Result<(), Fail> {
     refuse_each(rt.alloc(), Call::CopyImage)
+}
+
+#[test]
+fn growths_of_file_image(rt: HostRuntime) -> Result<(), Fail> {
+    refuse_each(rt.alloc(), Call::FileImage)
 }
 
 #[test]

@@ -12,6 +12,8 @@ mod engine;
 #[cfg(test)]
 mod faults;
 #[cfg(test)]
+mod filings;
+#[cfg(test)]
 mod findings;
 #[cfg(test)]
 mod growths;

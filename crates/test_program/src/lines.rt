@@ -7,8 +7,8 @@ use std::alloc::Global;
 use std::test::Fail;
 
 /// Lines, and what they ask for: the command, the ID and the UID (`-` where none is given), the most bytes, the
-/// paths, and the UIDs of images, if any, behind `without`. Or, where they are refused, the exit status and whether
-/// the text is for the error output.
+/// paths, the UIDs of images, if any, behind `without`, and `with keys` where that is asked for. Or, where they are
+/// refused, the exit status and whether the text is for the error output.
 const LINES: &str = "\
 dicomdir index set image.dcm > Index - - 4294967295 set image.dcm
 dicomdir index --id DISC1 --uid 2.25.1 --max-bytes 1000 set image.dcm > Index DISC1 2.25.1 1000 set image.dcm
@@ -36,6 +36,10 @@ dicomdir withdraw set old 1.2 --uid 2.25.1 1.3 1.2 > Withdraw - 2.25.1 429496729
 dicomdir withdraw -- set old --uid '' withdraw > Withdraw - - 4294967295 set old without --uid '' withdraw
 dicomdir check set > Check - - 4294967295 set
 dicomdir check -- --id > Check - - 4294967295 --id
+dicomdir check --keys set > Check - - 4294967295 set with keys
+dicomdir check set --keys > Check - - 4294967295 set with keys
+dicomdir check --keys -- --keys > Check - - 4294967295 --keys with keys
+dicomdir check -- --keys > Check - - 4294967295 --keys
 dicomdir list set > List - - 4294967295 set
 dicomdir list '' > List - - 4294967295 ''
 dicomdir > 2 true
@@ -68,6 +72,15 @@ dicomdir withdraw --max-bytes 4294967296 out set 1.2 > 2 true
 dicomdir check > 2 true
 dicomdir check a b > 2 true
 dicomdir check --uid 2.25.1 a > 2 true
+dicomdir check --keys > 2 true
+dicomdir check --keys --keys a > 2 true
+dicomdir check --keys=true a > 2 true
+dicomdir check -k a > 2 true
+dicomdir --keys check a > 2 true
+dicomdir index --keys out a.dcm > 2 true
+dicomdir merge out --keys set > 2 true
+dicomdir withdraw out set 1.2 --keys > 2 true
+dicomdir list --keys a > 2 true
 dicomdir list > 2 true
 dicomdir list a b > 2 true
 dicomdir list --max-bytes 7 a > 2 true
@@ -117,6 +130,9 @@ fn told(alloc: Global, asked: &Asked) -> Result<String, Fail> {
         push_word(&mut text, "without")?;
     }
     push_words(&mut text, &asked.uids)?;
+    if asked.keys {
+        text.push_str(" with keys")?;
+    }
     Ok(text)
 }
 

@@ -70,6 +70,37 @@ fn long_lines_are_printed_as_far_as_they_go(rt: HostRuntime) -> Result<(), Fail>
     ask_all(&rt, rt.alloc(), Ask::PrintedLong, LONG)
 }
 
+/// Parts of a line, between which a blank stands, and the line as it prints. `|` stands for a line feed. All other
+/// characters than those from U+0000 to U+001F and from U+007F to U+009F print as they are.
+const MASKED: &str = "\
+a b c > abc
+a|DONE b > a?DONEb
+\t\u{0}x\r \u{1f}! > ??x??!
+\u{1b}[2J \u{1b}\u{1b} y > ?[2J??y
+}~\u{7f} \u{80}\u{85} \u{9f}\u{a0} > }~????\u{a0}
+\u{e9}\u{c2}\u{9b}\u{c3} > \u{e9}\u{c2}?\u{c3}
+\u{7ff}\u{800}\u{ffff} \u{10000}| \u{10ffff} > \u{7ff}\u{800}\u{ffff}\u{10000}?\u{10ffff}";
+
+pub(crate) fn masked(alloc: Global, question: &str) -> Result<String, Fail> {
+    let mut sink = Sink::new(alloc, None);
+    let text = question.replace(alloc, '|', "\n")?;
+    let mut parts = Vec::new(alloc);
+    for part in text.as_str().split(' ') {
+        parts.push(part)?;
+    }
+    if print_line(&parts, &mut sink).is_err() {
+        return Err("the line was not printed".into());
+    }
+    let line = str::from_utf8(sink.bytes())?;
+    let line = line.strip_suffix('\n').ok_or("no end of the line")?;
+    Ok(String::from_str(alloc, line)?)
+}
+
+#[test]
+fn control_characters_print_as_question_marks(rt: HostRuntime) -> Result<(), Fail> {
+    ask_all(&rt, rt.alloc(), Ask::Masked, MASKED)
+}
+
 #[test]
 fn an_empty_text_does_not_fail(rt: HostRuntime) {
     let mut sink = Sink::new(rt.alloc(), Some(0));

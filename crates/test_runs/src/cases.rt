@@ -1,6 +1,6 @@
 //! Cases: what each asks, and that the answer is right.
 
-use crate::{devices, runs, scripts};
+use crate::{devices, names, runs, scripts};
 use dd_vectors::{answered, question};
 use std::alloc::Global;
 use std::process::Abort;
@@ -15,6 +15,7 @@ pub(crate) enum Ask {
     Unsent,
     Refused,
     Unread,
+    Shown,
 }
 
 /// The answer to a question.
@@ -26,6 +27,7 @@ fn answer(alloc: Global, ask: Ask, question: &str) -> Result<String, Fail> {
         Ask::Unsent => devices::unsent(alloc, question),
         Ask::Refused => devices::refused(alloc, question),
         Ask::Unread => devices::unread(alloc, question),
+        Ask::Shown => names::shown(alloc, question),
     }
 }
 

@@ -57,3 +57,59 @@ d/DICOMDIR=first: - 0 dicomdir check d > 3 [MISSING PT000001\\ST000001\\SE000001
 fn sets_are_checked(rt: HostRuntime) -> Result<(), Fail> {
     ask_all(&rt, rt.alloc(), Ask::Ran, CHECKS)
 }
+
+/// The same with what the files say of themselves: sets as they should be, of this program and of another; each tag
+/// that is compared; a file that is none; the digest first; records that are not compared; and several findings.
+const KEYS: &str = "\
+d=set: - - dicomdir check --keys d > 0 [OK 4 records|] [] kept
+d/DICOMDIR=empty: - - dicomdir check d --keys > 0 [OK 0 records|] [] kept
+index d a.dcm d.dcm: - - dicomdir check --keys d > 0 [OK 5 records|] [] kept
+index d f.dcm: - - dicomdir check --keys d > 0 [OK 4 records|] [] kept
+index d n.dcm: - - dicomdir check --keys d > 0 [OK 4 records|] [] kept
+d/DICOMDIR=v3,674,ffff d/IMAGES/IM1=c.dcm d/IMAGES/SR1=note.txt: - - dicomdir check --keys d > \
+0 [OK 5 records|] [] kept
+d=set d/DICOMDIR=first,754,'4: - - dicomdir check --keys d > \
+3 [MISLABELLED PT000001\\ST000001\\SE000001\\IM000001 (0002,0002)|] [] kept
+d=set d/DICOMDIR=first,772,'6: - - dicomdir check --keys d > \
+3 [MISLABELLED PT000001\\ST000001\\SE000001\\IM000001 (0002,0003)|] [] kept
+d=set d/DICOMDIR=first,772,'6,800,'2: - - dicomdir check --keys d > \
+3 [MISLABELLED PT000001\\ST000001\\SE000001\\IM000001 (0002,0003)|] [] kept
+d=set d/DICOMDIR=first,800,'2: - - dicomdir check --keys d > \
+3 [MISLABELLED PT000001\\ST000001\\SE000001\\IM000001 (0002,0010)|] [] kept
+d=set d/DICOMDIR=first,402,'P9: - - dicomdir check --keys d > \
+3 [MISLABELLED PT000001\\ST000001\\SE000001\\IM000001 (0010,0020)|] [] kept
+d=set d/DICOMDIR=first,402,'P9,518,'4: - - dicomdir check --keys d > \
+3 [MISLABELLED PT000001\\ST000001\\SE000001\\IM000001 (0010,0020)|] [] kept
+d=set d/DICOMDIR=first,518,'4: - - dicomdir check --keys d > \
+3 [MISLABELLED PT000001\\ST000001\\SE000001\\IM000001 (0020,000D)|] [] kept
+d=set d/DICOMDIR=first,610,'5: - - dicomdir check --keys d > \
+3 [MISLABELLED PT000001\\ST000001\\SE000001\\IM000001 (0020,000E)|] [] kept
+d=set d/DICOMDIR=first,402,'P9: - - dicomdir check d > 0 [OK 4 records|] [] kept
+d=set d/DICOMDIR=first,402,'P9,650,0000: - - dicomdir check --keys d > 0 [OK 4 records|] [] kept
+d=set d/DICOMDIR=first,386,'ROE^JANE,874,'2: - - dicomdir check --keys d > 0 [OK 4 records|] [] kept
+d=set d/DICOMDIR=first,402,'P9 d/PT000001/ST000001/SE000001/IM000001=e.dcm: - - dicomdir check --keys d > \
+3 [DIFFERS PT000001\\ST000001\\SE000001\\IM000001 900e75e1c153f87b21e09f9db68aef627f2dd320eb3afb1f2574594e6c862a92 \
+3701174b5ad976c7de170363bdf11977a0101e4fa19672b64e1cb1470846b2ca|] [] kept
+d/DICOMDIR=first: - - dicomdir check --keys d > 3 [MISSING PT000001\\ST000001\\SE000001\\IM000001|] [] kept
+d/PT000001/ST000001/SE000001/IM000001=note.txt \
+d/DICOMDIR=first,834,453361fd925712bb2f4ef496dfa3480f0d7a1e22fc15dc69e72aeb8086c135ce: - - dicomdir check --keys d > \
+3 [MISLABELLED PT000001\\ST000001\\SE000001\\IM000001 31 File 21 NotPart10|] [] kept
+d/DICOMDIR=v3,674,ffff d/IMAGES/IM1=part.dcm d/IMAGES/SR1=note.txt: - - dicomdir check --keys d > \
+3 [MISLABELLED IMAGES\\IM1 31 File 27 Set 1 Truncated|] [] kept
+d/DICOMDIR=v3,674,ffff d/IMAGES/IM1=d.dcm: - - dicomdir check --keys d > \
+3 [MISLABELLED IMAGES\\IM1 (0002,0003)|MISSING IMAGES\\SR1|] [] kept
+d/DICOMDIR=v3,674,ffff d/IMAGES/IM1=n.dcm d/IMAGES/SR1=a.dcm: - - dicomdir check --keys d > \
+3 [MISLABELLED IMAGES\\IM1 (0010,0020)|] [] kept
+d/DICOMDIR=v3,674,ffff d/IMAGES/IM1=x.dcm d/IMAGES/SR1=a.dcm: - - dicomdir check --keys d > \
+3 [MISLABELLED IMAGES\\IM1 (0002,0010)|] [] kept
+index s a.dcm d.dcm --uid 2.25.0; d/DICOMDIR=s/DICOMDIR,402,'P9 d/PT000001/ST000001/SE000001/IM000001=a.dcm \
+d/PT000001/ST000001/SE000001/IM000002=d.dcm: - - dicomdir check --keys d > \
+3 [MISLABELLED PT000001\\ST000001\\SE000001\\IM000001 (0010,0020)|\
+MISLABELLED PT000001\\ST000001\\SE000001\\IM000002 (0010,0020)|] [] kept
+d/DICOMDIR=note.txt: - - dicomdir check --keys d > 3 [BROKEN 51 File 21 NotPart10|] [] kept
+d=set d/DICOMDIR=first,402,'P9: 13 - dicomdir check --keys d > 1 [MISLABELLED P] [] kept";
+
+#[test]
+fn files_are_compared_with_their_records(rt: HostRuntime) -> Result<(), Fail> {
+    ask_all(&rt, rt.alloc(), Ask::Ran, KEYS)
+}

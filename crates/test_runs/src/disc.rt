@@ -7,13 +7,15 @@ use std::test::Fail;
 
 /// Images: the path of each, and how it differs from V1. The class of b.dcm is no image's. c.dcm and
 /// e.dcm are other versions of V1, and c.dcm has a greater digest than V1, e.dcm a smaller one. d.dcm is
-/// another instance.
+/// another instance. n.dcm has no Patient ID, and the transfer syntax of x.dcm is not read.
 const IMAGES: &str = "\
 a.dcm none
 b.dcm 0002,0000 UL 88000000; 0002,0002 UI '1.2.840.10008.5.1.4.1.1.88.11~
 c.dcm 0010,0010 PN 'DOE^JUDY
 d.dcm 0002,0003 UI '1.2.3.4.6~; 0008,0018 UI '1.2.3.4.6~
-e.dcm 0010,0010 PN 'DOE^JANE";
+e.dcm 0010,0010 PN 'DOE^JANE
+n.dcm 0010,0020 LO
+x.dcm 0002,0010 UI '1.2.840.10008.1.2.2~";
 
 /// The path of the first image in its file-set.
 pub(crate) const FIRST_IMAGE: &str = "out/PT000001/ST000001/SE000001/IM000001";

@@ -19,6 +19,7 @@ enum Call {
     FolderFinishStore,
     Index,
     Member,
+    Mistake,
     Put,
     PutLater,
     Source,
@@ -32,6 +33,7 @@ fn is_refused(alloc: Global, call: Call, chosen: u32) -> Result<bool, Fail> {
         Call::FailRead => fail_read_refused(alloc, chosen),
         Call::FolderFinishStore => folder_finish_store_refused(alloc, chosen),
         Call::Index => index_refused(alloc, chosen),
+        Call::Mistake => mistake_refused(alloc, chosen),
         Call::Put => put_refused(alloc, chosen),
         Call::PutLater => put_later_refused(alloc, chosen),
         Call::Member | Call::Source => opening_refused(alloc, call, chosen),
@@ -270,4 +272,28 @@ fn index_refused(alloc: Global, chosen: u32) -> Result<bool, Fail> {
 #[test]
 fn growths_of_a_run(rt: HostRuntime) -> Result<(), Fail> {
     refuse_each(rt.alloc(), Call::Index)
+}
+
+/// Runs a line with a mistake and a control character: the status is that of a line at fault, or of want of memory.
+fn mistake_refused(alloc: Global, chosen: u32) -> Result<bool, Fail> {
+    let mut files = disc(alloc)?;
+    let words = words_of(alloc, "dicomdir list a b\u{1b}")?;
+    let (mut out, mut err) = (Sink::new(alloc, None), Sink::new(alloc, None));
+    refuse_growth(alloc, chosen)?;
+    let status = run(alloc, words, &mut files, &mut out, &mut err);
+    let refused = ends_refused(alloc)?;
+    require(
+        status == 2 || (refused && status == 1),
+        "the line is at fault, or memory is wanted",
+    )?;
+    require(
+        out.bytes().is_empty() && !err.bytes().contains(&0x1b),
+        "no control character is told",
+    )?;
+    Ok(refused)
+}
+
+#[test]
+fn growths_of_a_mistake(rt: HostRuntime) -> Result<(), Fail> {
+    refuse_each(rt.alloc(), Call::Mistake)
 }

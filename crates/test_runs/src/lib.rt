@@ -16,6 +16,10 @@ mod lists;
 #[cfg(test)]
 mod merges;
 #[cfg(test)]
+mod mistakes;
+#[cfg(test)]
+mod names;
+#[cfg(test)]
 mod runs;
 #[cfg(test)]
 mod scripts;

@@ -46,6 +46,27 @@ d1=set d2/DICOMDIR=first,772,'6: - - dicomdir merge o d2/ d1 > \
 1 [] [FAULT d2/PT000001/ST000001/SE000001/IM000001: 92 Absent|] changed
 d1=set d1/PT000001/ST000001/SE000001/IM000001=c.dcm: - - dicomdir merge o d1 > \
 1 [] [FAULT d1/PT000001/ST000001/SE000001/IM000001: 97 Changed|] changed
+d1=set d2/DICOMDIR=first,402,'P9: - - dicomdir merge o d1 d2 > \
+1 [] [FAULT d2/PT000001/ST000001/SE000001/IM000001: 97 Changed|] changed
+d1=set d2/DICOMDIR=first,402,'P9: - - dicomdir merge o d2 d1 > \
+1 [] [FAULT d2/PT000001/ST000001/SE000001/IM000001: 92 Absent|] kept
+d1=set d2=set d2/DICOMDIR=first,402,'P9: - - dicomdir merge o d1 d2 > \
+1 [] [FAULT d2/PT000001/ST000001/SE000001/IM000001: 97 Changed|] changed
+d1=set d2=set d2/DICOMDIR=first,402,'P9: - - dicomdir merge o d2 d1 > \
+1 [] [FAULT d2/PT000001/ST000001/SE000001/IM000001: 97 Changed|] changed
+d1=set d2=set d3/DICOMDIR=first,402,'P9,686,'XT: - - dicomdir merge o d1 d2 d3 > \
+1 [] [FAULT d3/XT000001/ST000001/SE000001/IM000001: 97 Changed|] changed
+d1=set d2/DICOMDIR=first,874,'2: - - dicomdir merge o d1 d2 > \
+1 [] [FAULT d2/PT000001/ST000001/SE000001/IM000001: 97 Changed|] changed
+d1=set d2=set d2/DICOMDIR=first,402,'P0: - - dicomdir merge o d2 d1 --uid 2.25.0 > \
+0 [DONE 1 instances, 876 bytes|] [] changed
+d1/PT000001/ST000001/SE000001/IM000001=note.txt \
+d1/DICOMDIR=first,834,453361fd925712bb2f4ef496dfa3480f0d7a1e22fc15dc69e72aeb8086c135ce: - - dicomdir merge o d1 > \
+1 [] [FAULT d1/PT000001/ST000001/SE000001/IM000001: 97 Changed|] changed
+d1=set d1/PT000001/ST000001/SE000001/IM000001=note.txt: - - dicomdir merge o d1 > \
+1 [] [FAULT d1/PT000001/ST000001/SE000001/IM000001: 97 Changed|] changed
+d1=set d1/DICOMDIR=first,402,'P9: - - dicomdir withdraw o d1 1.2.3 > \
+1 [] [FAULT d1/PT000001/ST000001/SE000001/IM000001: 97 Changed|] changed
 d1=set: - - dicomdir merge full nowhere --uid 1.02 > 2 [] [FAULT -: 71 BadUid|] kept
 d1=set: - - dicomdir merge full nowhere --id bad --uid 1.02 > 2 [] [FAULT -: 72 BadSetId|] kept
 d1=set: 0 - dicomdir merge o d1 --uid 2.25.0 > 1 [] [] changed
@@ -77,6 +98,8 @@ index d1 a.dcm; index d2 d.dcm; index d3 c.dcm: merge o d1 d2 d3 > merge o d2 d1
 index d1 a.dcm; index d2 d.dcm; index d3 c.dcm: merge o d1 d2 d3 > merge o d2 d3 d1
 index d1 a.dcm; index d2 d.dcm; index d3 c.dcm: merge o d1 d2 d3 > merge o d3 d1 d2
 index d1 a.dcm; index d2 d.dcm; index d3 c.dcm: merge o d1 d2 d3 > merge o d3 d2 d1
+d1=set d2=set d2/DICOMDIR=first,402,'P0: merge o d2 d1 --uid 2.25.0 > o=set
+d1=set d2/DICOMDIR=first,402,'P9: merge o d1 d2 > o/PT000001/ST000001/SE000001/IM000001=a.dcm
 d1=set d2/DICOMDIR=first,772,'6: merge o d1 d2 > o/PT000001/ST000001/SE000001/IM000001=a.dcm
 d1=set d1/PT000001/ST000001/SE000001/IM000001=c.dcm: merge o d1 > \
 o/PT000001/ST000001/SE000001/IM000001=c.dcm";

@@ -72,6 +72,7 @@ const TEXTS: &str = "\
 - - dicomdir merge out full --max-bytes 4294967296 > 2 to the error output
 - - dicomdir check > 2 to the error output
 - - dicomdir list full full > 2 to the error output
+- - dicomdir list --keys full > 2 to the error output
 0 - dicomdir burn out a.dcm --uid 2.25.0 > 2 to the error output
 - 0 dicomdir burn out a.dcm --uid 2.25.0 > 2 to none
 - - dicomdir --help > 0 to the output

@@ -1,28 +1,36 @@
 -- A line goes part by part.
-use Rattle.std.proofs.Common.{◌≤◌, length, ◌∙◌, arith}
-use Rattle.dd_report.proofs.TextLemmas.{end_fails, end_goes, on_err, on_err_weaker, part_fails, part_goes, rest_fails}
+use Rattle.std.proofs.Common.{◌≤◌, length, ◌∙◌, arith, rules}
+use Rattle.dd_report.proofs.TextLemmas.{end_fails, end_goes, on_err, on_err_weaker, on_ok_weaker, part_fails, part_goes}
+use Rattle.dd_report.proofs.TextLemmas.{rest_fails, sent_last}
 use Rattle.dd_report.proofs.text.print_line.Goals as goal
 
 pub loop-part-preserved : goal.loop-part-preserved
 loop-part-preserved g c = record {
-  sent = part_goes _ _ _ _ _ _ _ _ _ _ _ _ c.loop-part-test.true c.as_bytes.ensures.value c.loop-part.invariant.sent
-      c.in_ok-add.ensures.sent;
-  stays = c.in_ok-add.ensures.rest ∙ c.loop-part.invariant.stays;
+  sent = part_goes _ _ _ _ _ _ _ _ _ _ _ c.loop-part-test.true c.loop-part.invariant.sent
+      c.in_ok-add_masked.ensures.sent (search rules);
+  stays = c.in_ok-add_masked.ensures.rest ∙ c.loop-part.invariant.stays;
 }
+
+pub returns-in_err-add_masked-clause-unsent : goal.returns-in_err-add_masked-clause-unsent
+returns-in_err-add_masked-clause-unsent g c =
+    on_err _ (part_fails _ _ _ _ _ _ _ _ _ _ c.loop-part-test.true c.loop-part.invariant.sent
+    c.in_err-add_masked.ensures.unsent (search rules))
 
 pub returns-in_err-add-clause-unsent : goal.returns-in_err-add-clause-unsent
 returns-in_err-add-clause-unsent g c =
-    on_err _ (part_fails _ _ _ _ _ _ _ _ _ _ _ c.loop-part-test.true c.as_bytes.ensures.value
-    c.loop-part.invariant.sent c.in_err-add.ensures.unsent)
-
-pub returns-in_err-add-2-clause-unsent : goal.returns-in_err-add-2-clause-unsent
-returns-in_err-add-2-clause-unsent g c =
     let past : length c.args.parts.now ≤ c.loop-part.part-index = omega arith in
-    on_err _ (end_fails _ _ _ _ _ _ _ _ _ past c.loop-part.invariant.sent c.in_err-add-2.ensures.unsent)
+    on_err _ (end_fails _ _ _ _ _ _ _ _ _ past c.loop-part.invariant.sent c.in_err-add.ensures.unsent)
+
+pub returns-clause-sent : goal.returns-clause-sent
+returns-clause-sent g c =
+    let past : length c.args.parts.now ≤ c.loop-part.part-index = omega arith in
+    on_ok_weaker c.flush.result (λ sent. sent_last _ _ _ _ _ _ _ _
+    (end_goes _ _ _ _ _ _ _ _ _ _ past c.loop-part.invariant.sent c.in_ok-add.ensures.sent) sent)
+    c.flush.ensures.sent
 
 pub returns-clause-unsent : goal.returns-clause-unsent
 returns-clause-unsent g c =
     let past : length c.args.parts.now ≤ c.loop-part.part-index = omega arith in
     on_err_weaker _ (λ failed. rest_fails _ _ _ _ _ _ _ _
-    (end_goes _ _ _ _ _ _ _ _ _ _ past c.loop-part.invariant.sent c.in_ok-add-2.ensures.sent) failed)
+    (end_goes _ _ _ _ _ _ _ _ _ _ past c.loop-part.invariant.sent c.in_ok-add.ensures.sent) failed)
     c.flush.ensures.unsent

@@ -26,7 +26,7 @@ returns-in-Some-clause-left c =
 pub returns-in-Some-clause-gives : goal.returns-in-Some-clause-gives
 returns-in-Some-clause-gives c =
     let more = take-add c.self.inside.at c.in-Some.n c.self.inside.bytes.now in
-    rw (← c.self.view_is) (record { then = λ before h. grind (arith, common_steps) })
+    rw (← c.self.view_is) (record { then = λ _ before h. grind (arith, common_steps) })
 
 pub returns-in-Some-clause-after : goal.returns-in-Some-clause-after
 returns-in-Some-clause-after c =

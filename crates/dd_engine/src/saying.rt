@@ -1,0 +1,44 @@
+//! Which record says of an image what a plan says of it.
+
+ghost use Rattle.std.specs.Prelude.{◌≡◌, ◌<◌, ℕ, IfOk, IfSome, None, length, map};
+ghost use Rattle.dd_engine.specs.Saying.{AnswersSaying, IsFiledAt, IsFirstFiled};
+
+use crate::gathering::gather;
+use crate::merge::Pick;
+use crate::merge_fault::MergeFault;
+use dd_filing::is_filed_as;
+use dd_keys::{Parts, Version};
+use std::alloc::Global;
+
+/// Finds the first record, over all sets in order and in each depth first, that says of an image what this
+/// version says of it, and answers where the file of the image is: its digest, and the keys that
+/// `is_filed_as` compares. None where no record says that.
+///
+/// Refused as `merge_engine` refuses these sets, but for their plan.
+pub fn first_saying<'a>(
+    alloc: Global,
+    sets: &[&'a [u8]],
+    planned: &Version,
+) -> Result<Option<Pick<'a>>, MergeFault>
+    ensures answer { AnswersSaying planned.now (map (λ set. set.now) sets.now) result }
+    ensures within { IfOk result (λ found. IfSome found (λ pick. pick.set < length sets.now)) }
+{
+    let gathered = gather(alloc, sets, &[])?;
+    match first_filed(&gathered.versions, planned.parts()) {
+        Some(at) => Ok(Some(gathered.picks[at])),
+        None => Ok(None),
+    }
+}
+
+/// The number of the first of these versions that is filed as the planned one.
+fn first_filed(versions: &[Version], planned: &Parts) -> Option<usize>
+    ensures first { IfSome result (IsFirstFiled planned.now versions.now) }
+    ensures none { result ≡ None → (at : ℕ) → ¬ IsFiledAt planned.now versions.now at }
+{
+    for (at, version) in versions.iter().enumerate() {
+        if is_filed_as(version.parts(), planned) {
+            return Some(at);
+        }
+    }
+    None
+}

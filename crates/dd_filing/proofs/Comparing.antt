@@ -1,0 +1,60 @@
+-- Which of the three a file is, from the version that was read of it.
+use Rattle.std.proofs.Common.{◌≡◌, ℕ, List, Option, None, Some, Ok, refl, sym, ◌∙◌, subst}
+use Rattle.dd_keys.specs.declared.parts.Parts.{Parts}
+use Rattle.dd_keys.specs.Versions.{IsVersion}
+use Rattle.dd_filing.specs.declared.agreeing.Filed.{Filed}
+use Rattle.dd_filing.specs.declared.agreeing.Filed.TheVariants.{AsPlanned, OtherVersion, Mislabelled}
+use Rattle.dd_filing.specs.Filing.{IsCopyOfVersion, IsFileAs, IsFiled, IsVersionAs, IsVersionOrNone}
+
+-- a file has one version at most, so it is of the three what that is
+version_as : (planned version : Parts) (filed : Filed) (file : List ℕ)
+    → ((file : List ℕ) (one other : Parts) → IsVersion file one → IsVersion file other → one ≡ other)
+    → IsVersion file version → IsVersionAs planned filed version → IsFileAs planned filed file
+version_as planned version AsPlanned file one is same = (version, (is, same))
+version_as planned version OtherVersion file one is same = (version, (is, same))
+version_as planned version Mislabelled file one is same =
+    λ other its. subst (IsVersionAs planned Mislabelled) (one file version other is its) same
+
+-- a version was copied
+pub version_filed : {R : Type 0} (planned version : Parts) (filed : Filed) (limit : ℕ) (given : List ℕ)
+    (left : Option (List ℕ)) (read_old read_new : ℕ) (old new : Option (List ℕ) × R) (f g : ℕ)
+    → ((file : List ℕ) (one other : Parts) → IsVersion file one → IsVersion file other → one ≡ other)
+    → (found : Option Parts) → found ≡ Some version
+    → IsCopyOfVersion (Ok found) limit given left read_old read_new old new f g
+    → IsVersionAs planned filed version
+    → IsFiled planned (Ok filed) limit given left read_old read_new old new f g
+version_filed planned version filed limit given left read_old read_new old new f g one found some h same =
+    let is : IsVersion given version = subst (λ (v : Option Parts). IsVersionOrNone given v) some h.0 in
+    (version_as planned version filed given one is same, h.1)
+
+-- none was
+pub none_filed : {R : Type 0} (planned : Parts) (limit : ℕ) (given : List ℕ)
+    (left : Option (List ℕ)) (read_old read_new : ℕ) (old new : Option (List ℕ) × R) (f g : ℕ)
+    → (found : Option Parts) → found ≡ None
+    → IsCopyOfVersion (Ok found) limit given left read_old read_new old new f g
+    → IsFiled planned (Ok Mislabelled) limit given left read_old read_new old new f g
+none_filed planned limit given left read_old read_new old new f g found none h =
+    let no : (version : Parts) → ¬ IsVersion given version =
+    subst (λ (v : Option Parts). IsVersionOrNone given v) none h.0 in
+    (λ version is. absurd (no version is), h.1)
+
+-- ---- a file is one of the three only
+
+-- a file has one digest
+same_digest : (file : List ℕ) (one other : Parts) → IsVersion file one → IsVersion file other
+    → one.digest ≡ other.digest
+same_digest file one other is its = is.digest ∙ sym its.digest
+
+pub one_filed : (planned : Parts) (file : List ℕ) (filed other : Filed) → IsFileAs planned filed file
+    → IsFileAs planned other file → filed ≡ other
+one_filed planned file AsPlanned AsPlanned a b = refl
+one_filed planned file AsPlanned OtherVersion a b =
+    absurd (b.1.1 (same_digest file b.0 a.0 b.1.0 a.1.0 ∙ a.1.1.digest))
+one_filed planned file AsPlanned Mislabelled a b = absurd ((b a.0 a.1.0).1 a.1.1)
+one_filed planned file OtherVersion AsPlanned a b =
+    absurd (a.1.1 (same_digest file a.0 b.0 a.1.0 b.1.0 ∙ b.1.1.digest))
+one_filed planned file OtherVersion OtherVersion a b = refl
+one_filed planned file OtherVersion Mislabelled a b = absurd (a.1.1 (b a.0 a.1.0).0)
+one_filed planned file Mislabelled AsPlanned a b = absurd ((a b.0 b.1.0).1 b.1.1)
+one_filed planned file Mislabelled OtherVersion a b = absurd (b.1.1 (a b.0 b.1.0).0)
+one_filed planned file Mislabelled Mislabelled a b = refl

@@ -1,0 +1,4 @@
+mod Comparing
+mod Copied
+mod Passing
+mod Sending

@@ -1,0 +1,44 @@
+-- What passed a tee, its facts apart.
+use Rattle.std.proofs.Common.{◌≡◌, ◌⊎◌, ℕ, List, [], Option, None, inl, inr, refl, sym, subst}
+use Rattle.dd_elem.specs.Device.{Gives}
+use Rattle.dd_set.proofs.Going.{goes_none}
+use Rattle.dd_filing.specs.Sent.{IsCounted, IsSent, went_or_given}
+use Rattle.dd_filing.specs.declared.tee.Tee.{Tee}
+
+module _ {R W P S : Type 0} (has_given : R → P → List ℕ → Type 0) (contents : W → Option (List ℕ)) (rest : W → S)
+    (failures : W → ℕ) (calls : R → ℕ) where
+  -- it has the same reader and the same writer; the reader gave these bytes, and the writer took them or failed
+  pub record Passed (old new : Tee R W) (given : List ℕ) : Type 0 where
+    pub same_reader : new.reader.ghost_name ≡ old.reader.ghost_name
+    pub same_writer : new.writer.ghost_name ≡ old.writer.ghost_name
+    pub gave : Gives has_given old.reader.now new.reader.now given
+    pub sent : IsSent new.late given (contents old.writer.now, rest old.writer.now)
+        (contents new.writer.now, rest new.writer.now) (failures old.writer.now) (failures new.writer.now)
+    pub counted : IsCounted new.late (calls new.reader.now)
+
+  pub passed : (old new : Tee R W) (given : List ℕ)
+      → Gives {P = ℕ × (ℕ × (((Option (List ℕ) × S) × ℕ) ⊎ P))}
+      (λ t past bytes. (t.reader.ghost_name ≡ past.0) × ((t.writer.ghost_name ≡ past.1.0)
+      × went_or_given (λ start m. IsSent t.late m start.0 (contents t.writer.now, rest t.writer.now)
+      start.1 (failures t.writer.now) × IsCounted t.late (calls t.reader.now))
+      (λ p m. has_given t.reader.now p m) past.1.1 bytes)) old new given
+      → old.late ≡ None → Passed old new given
+  passed old new given h none =
+      let before : Option (List ℕ) × S = (contents old.writer.now, rest old.writer.now) in
+      let begun : IsSent old.late [] before before (failures old.writer.now) (failures old.writer.now) =
+      subst (λ (late : Option ℕ). IsSent late [] before before (failures old.writer.now) (failures old.writer.now))
+      (sym none) (goes_none before (failures old.writer.now)) in
+      let uncounted : IsCounted old.late (calls old.reader.now) =
+      subst (λ (late : Option ℕ). IsCounted late (calls old.reader.now)) (sym none) tt in
+      let sent = h.then (old.reader.ghost_name, (old.writer.ghost_name, inl (before, failures old.writer.now))) []
+      (refl, (refl, (begun, uncounted))) in
+      record {
+        same_reader = sent.0;
+        same_writer = sent.1.0;
+        gave = record {
+          then = λ past bytes k. (h.then (old.reader.ghost_name, (old.writer.ghost_name, inr past)) bytes
+              (refl, (refl, k))).1.1;
+        };
+        sent = sent.1.1.0;
+        counted = sent.1.1.1;
+      }

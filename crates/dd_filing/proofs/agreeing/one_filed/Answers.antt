@@ -1,0 +1,6 @@
+-- A file is one of the three only.
+use Rattle.dd_filing.proofs.Comparing.{one_filed}
+use Rattle.dd_filing.proofs.agreeing.one_filed.Goals as goal
+
+pub returns : goal.returns
+returns c = one_filed

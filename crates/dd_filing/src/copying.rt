@@ -1,0 +1,140 @@
+//! An image copied, and read as it passes.
+
+ghost use Rattle.std.specs.Prelude.{◌≡◌, ◌≤◌, ◌+◌, ℕ, List, None};
+ghost use Rattle.std.specs.Io.KnownBytes.{Consumes};
+ghost use Rattle.dd_elem.specs.Device.{Gives};
+ghost use Rattle.dd_filing.specs.Filing.{IsCopyAnswer, IsCopyOfVersion, IsFiled, IsFilingFault};
+
+use crate::agreeing::Filed;
+use crate::tee::Tee;
+use dd_elem::{Read, Write};
+use dd_keys::{KeyFault, Version, ingest, one_version};
+use std::alloc::Global;
+use thiserror::Error;
+
+/// Why an image was not copied, or could not be read as a version.
+#[derive(Clone, Copy, Debug, PartialEq, Eq, Error)]
+pub enum FilingFault {
+    /// A growth was refused.
+    #[error("91 Memory")]
+    Memory,
+    /// The reader failed.
+    #[error("93 Unread")]
+    Unread,
+    /// The writer failed.
+    #[error("96 Unsent")]
+    Unsent,
+    /// The reader gave more bytes than the limit, so the image is not what it was.
+    #[error("97 Changed")]
+    TooLong,
+}
+
+/// Copies what a reader gives to its end, of which there may be `limit` bytes, and answers the version
+/// whose file it is, or None where it is that of none.
+///
+/// Unsent where the writer fails, which then holds a front of what the reader gave. In the other cases it
+/// holds all that the reader gave: Unread where the reader fails, TooLong where it gives `limit` bytes and
+/// one more, and Memory where reading the copied bytes as a file wants memory that is refused. It makes at
+/// most `limit` + 1 reads.
+pub fn copy_version<R: Read, W: Write>(
+    alloc: Global,
+    reader: &mut R,
+    writer: &mut W,
+    limit: u64,
+) -> Result<Option<Version>, FilingFault>
+    ensures copied { (given : List ℕ) × Gives R.has_given reader.old reader.new given
+        × Consumes (R.remaining reader.old) (R.remaining reader.new) given
+        × IsCopyOfVersion result limit given (R.remaining reader.new)
+        (R.failures reader.old) (R.failures reader.new)
+        (W.contents writer.old, W.rest writer.old) (W.contents writer.new, W.rest writer.new)
+        (W.failures writer.old) (W.failures writer.new) }
+    ensures calls { R.calls reader.new ≤ R.calls reader.old + limit + 1 }
+{
+    let mut tee = Tee {
+        reader,
+        writer,
+        late: None,
+    };
+    copy_through(alloc, &mut tee, limit)
+}
+
+/// The same through a reader that sends what passes, of which nothing passed yet.
+fn copy_through<R: Read, W: Write>(
+    alloc: Global,
+    tee: &mut Tee<'_, R, W>,
+    limit: u64,
+) -> Result<Option<Version>, FilingFault>
+    requires { tee.old.late ≡ None }
+    ensures same_reader { tee.new.reader.ghost_name ≡ tee.old.reader.ghost_name }
+    ensures same_writer { tee.new.writer.ghost_name ≡ tee.old.writer.ghost_name }
+    ensures copied { (given : List ℕ) × Gives R.has_given tee.old.reader.now tee.new.reader.now given
+        × Consumes (R.remaining tee.old.reader.now) (R.remaining tee.new.reader.now) given
+        × IsCopyOfVersion result limit given (R.remaining tee.new.reader.now)
+        (R.failures tee.old.reader.now) (R.failures tee.new.reader.now)
+        (W.contents tee.old.writer.now, W.rest tee.old.writer.now)
+        (W.contents tee.new.writer.now, W.rest tee.new.writer.now)
+        (W.failures tee.old.writer.now) (W.failures tee.new.writer.now) }
+    ensures calls { R.calls tee.new.reader.now ≤ R.calls tee.old.reader.now + limit + 1 }
+{
+    let answer = ingest(alloc, tee, limit);
+    match tee.late {
+        Some(_) => Err(FilingFault::Unsent),
+        None => copy_answer(answer),
+    }
+}
+
+/// What a copy answers by what reading it answered, where no write failed.
+fn copy_answer(answer: Result<Version, KeyFault>) -> Result<Option<Version>, FilingFault>
+    ensures { IsCopyAnswer answer result }
+{
+    match answer {
+        Ok(version) => Ok(Some(version)),
+        Err(fault) => match filing_fault(&fault) {
+            Some(fault) => Err(fault),
+            None => Ok(None),
+        },
+    }
+}
+
+/// What a fault of reading a version comes to, where no write failed. None where the bytes were read to
+/// their end and are a file of no version.
+fn filing_fault(fault: &KeyFault) -> Option<FilingFault>
+    ensures { IsFilingFault fault.now result }
+{
+    match fault {
+        KeyFault::Read => Some(FilingFault::Unread),
+        KeyFault::FileTooLong => Some(FilingFault::TooLong),
+        other => {
+            if other.is_want_of_memory() {
+                Some(FilingFault::Memory)
+            } else {
+                None
+            }
+        }
+    }
+}
+
+/// Copies what a reader gives to its end, of which there may be `limit` bytes, and answers which of the
+/// three it is beside the planned version. The faults are those of `copy_version`.
+pub fn file_image<R: Read, W: Write>(
+    alloc: Global,
+    reader: &mut R,
+    writer: &mut W,
+    planned: &Version,
+    limit: u64,
+) -> Result<Filed, FilingFault>
+    ensures filed { (given : List ℕ) × Gives R.has_given reader.old reader.new given
+        × Consumes (R.remaining reader.old) (R.remaining reader.new) given
+        × IsFiled planned.now result limit given (R.remaining reader.new)
+        (R.failures reader.old) (R.failures reader.new)
+        (W.contents writer.old, W.rest writer.old) (W.contents writer.new, W.rest writer.new)
+        (W.failures writer.old) (W.failures writer.new) }
+    ensures calls { R.calls reader.new ≤ R.calls reader.old + limit + 1 }
+{
+    one_version();
+    match copy_version(alloc, reader, writer, limit) {
+        Ok(Some(found)) => Ok(Filed::of(found.parts(), planned.parts())),
+        Ok(None) => Ok(Filed::Mislabelled),
+        Err(fault) => Err(fault),
+    }
+}

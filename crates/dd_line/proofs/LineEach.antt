@@ -1,0 +1,64 @@
+-- Lists of which all members have a property, and the rows under one id.
+use Rattle.std.proofs.Common.{◌≡◌, Bool, true, false, List, [], ◌∷◌, ◌++◌, refl, ap, ◌||◌, true≢false}
+use Rattle.std.specs.List.{find}
+use Rattle.std.specs.Prelude.{IfSome}
+use Rattle.std.specs.Str.{bytes_eq}
+use Rattle.clap.specs.Kinds.{Kinds, or_else}
+use Rattle.clap.specs.Walk.{Row, Text, at_row, has_row}
+
+-- ---- faults that do not come
+
+pub first_none : (a b : Kinds) → or_else a b ≡ [] → a ≡ []
+first_none [] b none = refl
+first_none (k ∷ ks) b none = none
+
+pub second_none : (a b : Kinds) → or_else a b ≡ [] → b ≡ []
+second_none [] b none = none
+second_none (k ∷ ks) b none = cc
+
+-- ---- lists
+
+-- P holds of each
+abbrev pub Each : {X : Type 0} → (X → Type 0) → List X → Type 0
+Each P [] = Unit {0}
+Each P (x ∷ xs) = P x × Each P xs
+
+pub each_join : {X : Type 0} (P : X → Type 0) (xs ys : List X) → Each P xs → Each P ys → Each P (xs ++ ys)
+each_join P [] ys xall yall = yall
+each_join P (x ∷ xs) ys xall yall = (xall.0, each_join P xs ys xall.1 yall)
+
+-- what is found is one of them, and passes
+pub each_found : {X : Type 0} (P : X → Type 0) (p : X → Bool) (xs : List X) → Each P xs
+    → IfSome (find p xs) (λ x. P x × (p x ≡ true))
+each_found P p [] all = tt
+each_found P p (x ∷ xs) all = go (p x) refl (each_found P p xs all.1)
+  where
+    go : (t : Bool) → p x ≡ t → IfSome (find p xs) (λ y. P y × (p y ≡ true))
+        → IfSome (find p (x ∷ xs)) (λ y. P y × (p y ≡ true))
+    go true t rest = rw t (all.0, t)
+    go false t rest = rw t rest
+
+pub at_row_each : (P : Row → Type 0) (id : Text) (change : Row → List Row) (missing rows : List Row)
+    → ((r : Row) → P r → bytes_eq r.id id ≡ true → Each P (change r)) → Each P missing → Each P rows
+    → Each P (at_row id change missing rows)
+at_row_each P id change missing [] changed more all = more
+at_row_each P id change missing (r ∷ rows) changed more all =
+    go (bytes_eq r.id id) refl (at_row_each P id change missing rows changed more all.1)
+  where
+    go : (t : Bool) → bytes_eq r.id id ≡ t → Each P (at_row id change missing rows)
+        → Each P (at_row id change missing (r ∷ rows))
+    go true t rest = rw t (each_join P (change r) rows (changed r all.0 t) all.1)
+    go false t rest = rw t (all.0, rest)
+
+-- where it has none a use adds one
+pub at_row_absent : (id : Text) (change : Row → List Row) (missing rows : List Row) → has_row id rows ≡ false
+    → at_row id change missing rows ≡ rows ++ missing
+at_row_absent id change missing [] none = refl
+at_row_absent id change missing (r ∷ rows) none =
+    go (bytes_eq r.id id) refl none (at_row_absent id change missing rows)
+  where
+    go : (t : Bool) → bytes_eq r.id id ≡ t → (bytes_eq r.id id || has_row id rows) ≡ false
+        → (has_row id rows ≡ false → at_row id change missing rows ≡ rows ++ missing)
+        → at_row id change missing (r ∷ rows) ≡ (r ∷ rows) ++ missing
+    go true t none rest = let some = rw t at none in absurd (true≢false some)
+    go false t none rest = rw t (ap (λ (x : List Row). r ∷ x) (rest (rw t at none)))

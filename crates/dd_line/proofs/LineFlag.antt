@@ -1,0 +1,102 @@
+-- What the rows hold of `--keys`: its text is `true` where the words give it.
+use Rattle.std.proofs.Common.{◌≡◌, ◌==◌, ◌∷◌, ℕ, Bool, true, false, List, [], Option, Some, None}
+use Rattle.std.proofs.Common.{codes, eqb-true, inl, inr, length, refl, sym}
+use Rattle.std.specs.List.{find}
+use Rattle.std.specs.Option.{option_map, option_map_or}
+use Rattle.std.specs.Prelude.{IfSome, if◌then◌else◌, option_and_then, slice_get}
+use Rattle.std.specs.Str.{bytes_eq}
+use Rattle.clap.specs.Facts.{explicit_source, unwrap_or_range}
+use Rattle.clap.specs.Faults.{level_fault}
+use Rattle.clap.specs.Kinds.{range_kinds}
+use Rattle.clap.specs.Simple.{Shape}
+use Rattle.clap.specs.Takes.{is_given}
+use Rattle.clap.specs.Walk.{Row, Rule, Text, action_of, most_values, nothing_held, reading_by, row_text, rows_after}
+use Rattle.clap.specs.Walk.{values_or_missing}
+use Rattle.clap.specs.declared.builder.action.ArgAction.TheVariants.{SetTrue}
+use Rattle.clap.specs.declared.builder.value_parser.Reading.TheVariants.{AsWritten}
+use Rattle.clap.specs.declared.error.kind.ErrorKind.TheVariants.{WrongNumberOfValues}
+use Rattle.clap.specs.declared.parser.matches.ValueSource.{ValueSource}
+use Rattle.clap.specs.declared.parser.matches.ValueSource.TheVariants.{CommandLine, DefaultValue}
+use Rattle.dd_line.specs.Line.{HasFlag, IsFlagText}
+use Rattle.dd_line.proofs.LineEach.{Each, each_found, first_none}
+use Rattle.dd_line.proofs.LinePaths.{FitsValues, IsAbsent, level_absent}
+use Rattle.dd_line.proofs.LineRows.{Fine, Fits}
+use Rattle.dd_line.proofs.LineWalk.{level_fine}
+
+-- the values of a flag that is given, and of one that is not
+abbrev IsFlag : Option ValueSource → List Text → Type 0
+IsFlag (Some CommandLine) values = values ≡ codes "true" ∷ []
+IsFlag (Some DefaultValue) values = values ≡ codes "false" ∷ []
+IsFlag None values = ⊥
+
+-- the rule is another argument's, or that of `--keys`
+abbrev pub FitsFlag : Rule → Type 0
+FitsFlag = Fits (codes "keys") AsWritten IsFlag
+
+none_given : (n : ℕ) → range_kinds 0 0 n ≡ [] → n ≡ 0
+none_given n none = go (0 == n) refl none
+  where
+    go : (same : Bool) → (0 == n) ≡ same → (if same then [] else (WrongNumberOfValues ∷ [])) ≡ [] → n ≡ 0
+    go true e none = sym (eqb-true 0 n e)
+    go false e none = cc
+
+pub flag_fits : (a : Rule) → action_of a ≡ SetTrue → reading_by a ≡ AsWritten
+    → (unwrap_or_range a.range).start_inclusive ≡ 0 → most_values a ≡ 0
+    → a.missing ≡ codes "true" ∷ [] → a.defaults ≡ codes "false" ∷ [] → FitsFlag a
+flag_fits a set read least most missing defaults = record {
+  stores = λ named. rw set tt;
+  reading = λ named. read;
+  passes = λ named again values rows none. passes values (first_none _ _ none);
+  defaults = λ named. inr defaults;
+}
+  where
+    passes : (values : List Text)
+        → range_kinds (unwrap_or_range a.range).start_inclusive (most_values a) (length values) ≡ []
+        → values_or_missing a values ≡ codes "true" ∷ []
+    passes [] range = missing
+    passes (v ∷ vs) range =
+        let some : length (v ∷ vs) ≡ 0 = none_given (length (v ∷ vs)) (rw (least, most) at range) in
+        cc
+
+-- the text by where it comes from
+flag_text : (source : Option ValueSource) (values : List Text) → IsFlag source values
+    → IsFlagText (explicit_source source) (option_map (λ (t : Text). t) (slice_get values 0))
+flag_text (Some CommandLine) values is = rw is refl
+flag_text (Some DefaultValue) values is = rw is (inr refl)
+flag_text None values is = absurd is
+
+-- a level with no fault that has no such flag does not give it
+pub level_no_flag : (s : Shape) (words : List Text) → Each (FitsValues (codes "keys") IsAbsent) s.rules
+    → s.args_override_self ≡ false → level_fault s [] nothing_held words false [] ≡ []
+    → HasFlag (rows_after s.rules [] words) × (is_given (codes "keys") (rows_after s.rules [] words) ≡ false)
+level_no_flag s words fits once none =
+    let absent = level_absent (codes "keys") IsAbsent s words fits once none (λ values never. never) in
+    rw absent (inl refl, refl)
+
+-- a level with no fault whose rules fit says by the text whether the flag is given
+pub level_flag : (s : Shape) (words : List Text) → Each FitsFlag s.rules → s.args_override_self ≡ false
+    → level_fault s [] nothing_held words false [] ≡ [] → HasFlag (rows_after s.rules [] words)
+level_flag s words fits once none =
+    go (find (λ r. bytes_eq r.id (codes "keys")) rows) (each_found _ (λ r. bytes_eq r.id (codes "keys")) rows fine)
+  where
+    rows : List Row
+    rows = rows_after s.rules [] words
+
+    fine : Each (Fine (codes "keys") AsWritten IsFlag) rows
+    fine = level_fine (codes "keys") AsWritten IsFlag s fits once [] words false [] none
+
+    go : (o : Option Row)
+        → IfSome o (λ r. Fine (codes "keys") AsWritten IsFlag r × (bytes_eq r.id (codes "keys") ≡ true))
+        → IsFlagText (option_map_or (λ r. explicit_source r.source) o false) (option_and_then row_text o)
+    go None h = inl refl
+    go (Some r) h =
+        let row = h.0 h.1 in
+        rw row.reading (flag_text r.source r.values row.values)
+
+-- what is read of the text is whether the flag is given
+pub flag_read : (given : Bool) (text : Option Text) (read : Bool) → IsFlagText given text
+    → (text ≡ None → read ≡ false) → (text ≡ Some (codes "true") → read ≡ true)
+    → (text ≡ Some (codes "false") → read ≡ false) → read ≡ given
+flag_read true text read is none given other = given is
+flag_read false text read (inl is) none given other = none is
+flag_read false text read (inr is) none given other = other is

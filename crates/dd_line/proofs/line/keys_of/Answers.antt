@@ -1,0 +1,15 @@
+-- The flag is read of the text that its row has.
+use Rattle.std.proofs.Common.{◌∙◌, codes}
+use Rattle.clap.specs.Takes.{is_given}
+use Rattle.clap.specs.Words.{found_of, one_of, rows_of}
+use Rattle.clap.proofs.WalkLemmas.{one_text-rows}
+use Rattle.dd_line.proofs.LineFlag.{flag_read}
+use Rattle.dd_line.proofs.line.keys_of.Goals as goal
+
+pub returns : goal.returns
+returns c =
+    let rows = rows_of (found_of c.args.given.now) in
+    let read = one_text-rows (found_of c.args.given.now) (codes "keys") in
+    flag_read (is_given (codes "keys") rows) (one_of (codes "keys") rows) c.get_flag.result c.requires
+    (λ none. c.get_flag.ensures.none (read ∙ none)) (λ is. c.get_flag.ensures.value (read ∙ is))
+    (λ is. c.get_flag.ensures.other (read ∙ is))

@@ -1,0 +1,209 @@
+//! The commands of the program, as the parser is told of them.
+ghost use Rattle.std.specs.Prelude.{IfOk};
+ghost use Rattle.dd_line.specs.Line.{HasApp, HasRule, check_app, dicomdir_app, flag, index_app, labelled_app};
+ghost use Rattle.dd_line.specs.Line.{merge_app, number_option, one_path, reading_app, some_paths, text_option};
+ghost use Rattle.dd_line.specs.Line.{verb_name, withdraw_app, writing_app};
+ghost use Rattle.dd_line.specs.declared.line.Verb.{Verb};
+
+use clap::{Arg, ArgAction, Command, value_parser};
+use std::alloc::{AllocError, Global};
+
+// The names of the options.
+pub(crate) const ID: &str = "id";
+
+pub(crate) const UID: &str = "uid";
+
+pub(crate) const MAX_BYTES: &str = "max-bytes";
+
+// The name of the flag.
+pub(crate) const KEYS: &str = "keys";
+
+// The names of the paths.
+pub(crate) const OUT: &str = "out";
+
+pub(crate) const SOURCE: &str = "source";
+
+pub(crate) const SET: &str = "set";
+
+// The name of the images, each by its SOP Instance UID.
+pub(crate) const INSTANCE: &str = "instance";
+
+/// An option `--NAME VALUE` that may be left out.
+fn option<'a>(alloc: Global, name: &'a str, value_name: &'a str, help: &'a str) -> Arg<'a>
+    ensures { HasRule (text_option name.entry.now) result }
+{
+    Arg::new(alloc, name)
+        .long(name)
+        .value_name(value_name)
+        .help(help)
+}
+
+/// An option whose value is a number of `u32`.
+fn number<'a>(alloc: Global, name: &'a str, value_name: &'a str, help: &'a str) -> Arg<'a>
+    ensures { HasRule (number_option name.entry.now) result }
+{
+    option(alloc, name, value_name, help).value_parser(value_parser!(u32))
+}
+
+/// A flag `--NAME` that may be left out.
+fn flag<'a>(alloc: Global, name: &'a str, help: &'a str) -> Arg<'a>
+    ensures { HasRule (flag name.entry.now) result }
+{
+    Arg::new(alloc, name)
+        .long(name)
+        .action(ArgAction::SetTrue)
+        .help(help)
+}
+
+/// A path that has to be given.
+fn path<'a>(alloc: Global, name: &'a str, value_name: &'a str, help: &'a str) -> Arg<'a>
+    ensures { HasRule (one_path name.entry.now) result }
+{
+    Arg::new(alloc, name)
+        .required(true)
+        .value_name(value_name)
+        .help(help)
+}
+
+/// Paths, at least one, or other words of that number.
+fn paths<'a>(alloc: Global, name: &'a str, value_name: &'a str, help: &'a str) -> Arg<'a>
+    ensures { HasRule (some_paths name.entry.now) result }
+{
+    path(alloc, name, value_name, help).num_args(1..)
+}
+
+/// A command that labels a directory, with the options for that.
+fn labelled<'a>(alloc: Global, name: &'a str, about: &'a str) -> Result<Command<'a>, AllocError>
+    ensures { IfOk result (HasApp (labelled_app name.entry.now)) }
+{
+    Command::new(alloc, name)
+        .about(about)
+        .arg(option(
+            alloc,
+            ID,
+            "ID",
+            "ID of the file-set, such as DISC1; by default empty",
+        ))?
+        .arg(option(
+            alloc,
+            UID,
+            "UID",
+            "UID of the file-set; by default made from its content",
+        ))
+}
+
+/// A command that writes a directory, with its options and the folder that it writes to.
+fn writing<'a>(alloc: Global, name: &'a str, about: &'a str) -> Result<Command<'a>, AllocError>
+    ensures { IfOk result (HasApp (writing_app name.entry.now)) }
+{
+    labelled(alloc, name, about)?
+        .arg(number(
+            alloc,
+            MAX_BYTES,
+            "N",
+            "Most bytes of DICOMDIR; by default 4294967295",
+        ))?
+        .arg(path(
+            alloc,
+            OUT,
+            "OUT",
+            "New folder, or one with no DICOMDIR; no file there is overwritten",
+        ))
+}
+
+/// The command `index`.
+fn index_command<'a>(alloc: Global) -> Result<Command<'a>, AllocError>
+    ensures { IfOk result (HasApp index_app) }
+{
+    let about = "Makes a file-set of image files: copies them, writes its DICOMDIR";
+    writing(alloc, "index", about)?.arg(paths(
+        alloc,
+        SOURCE,
+        "SRC",
+        "DICOM files; one that is no image, or lacks a key, is skipped",
+    ))
+}
+
+/// The command `merge`.
+fn merge_command<'a>(alloc: Global) -> Result<Command<'a>, AllocError>
+    ensures { IfOk result (HasApp merge_app) }
+{
+    let about = "Makes a file-set of others: copies their images, writes its DICOMDIR";
+    writing(alloc, "merge", about)?.arg(paths(
+        alloc,
+        SET,
+        "SET",
+        "Folders with a DICOMDIR of this program each; they are only read",
+    ))
+}
+
+/// The command `withdraw`.
+fn withdraw_command<'a>(alloc: Global) -> Result<Command<'a>, AllocError>
+    ensures { IfOk result (HasApp withdraw_app) }
+{
+    let about = "Makes a file-set of one without some images, which no merge brings back";
+    writing(alloc, "withdraw", about)?
+        .arg(path(
+            alloc,
+            SET,
+            "SET",
+            "Folder with a DICOMDIR of this program; it is only read",
+        ))?
+        .arg(paths(
+            alloc,
+            INSTANCE,
+            "UID",
+            "SOP Instance UIDs of the images; one that the file-set lacks is withdrawn too",
+        ))
+}
+
+/// A command that reads one file-set.
+fn reading<'a>(alloc: Global, name: &'a str, about: &'a str) -> Result<Command<'a>, AllocError>
+    ensures { IfOk result (HasApp (reading_app name.entry.now)) }
+{
+    Command::new(alloc, name).about(about).arg(path(
+        alloc,
+        SET,
+        "SET",
+        "Folder of the file-set; nothing in it is changed",
+    ))
+}
+
+/// The command `check`.
+fn check_command<'a>(alloc: Global) -> Result<Command<'a>, AllocError>
+    ensures { IfOk result (HasApp check_app) }
+{
+    let about = "Tells which files of a file-set are not those that its DICOMDIR names";
+    reading(alloc, "check", about)?.arg(flag(
+        alloc,
+        KEYS,
+        "Also compares what each image file says of itself with its record",
+    ))
+}
+
+/// The command `list`.
+fn list_command<'a>(alloc: Global) -> Result<Command<'a>, AllocError>
+    ensures { IfOk result (HasApp (reading_app (verb_name Verb.List))) }
+{
+    reading(
+        alloc,
+        "list",
+        "Lists the records of a DICOMDIR, those of other programs too",
+    )
+}
+
+/// The program with its commands.
+pub(crate) fn program<'a>(alloc: Global) -> Result<Command<'a>, AllocError>
+    ensures { IfOk result (HasApp dicomdir_app) }
+{
+    Command::new(alloc, "dicomdir")
+        .about(
+            "Makes, merges, checks and lists DICOM file-sets with their DICOMDIR, and withdraws images",
+        )
+        .subcommand_required(true)
+        .subcommand(index_command(alloc)?)?
+        .subcommand(merge_command(alloc)?)?
+        .subcommand(withdraw_command(alloc)?)?
+        .subcommand(check_command(alloc)?)?
+        .subcommand(list_command(alloc)?)
+}

@@ -1,0 +1,284 @@
+//! What a file says of itself, compared with what the records of a directory say of it.
+ghost use Rattle.std.specs.Prelude.{◌≡◌, ◌↔◌, ◌∷◌, ℕ, List, [], Err, IfOk, IsErr, None, OnErr, find, map, true};
+ghost use Rattle.std.specs.Option.{option_copied};
+ghost use Rattle.dd_elem.specs.Device.{Gives};
+ghost use Rattle.dd_set.specs.Elements.{Elements};
+ghost use Rattle.dd_set.specs.Find.{same_tag};
+ghost use Rattle.dd_set.specs.Scan.{found_hit, hits_of, is_wanted};
+ghost use Rattle.dd_part10.specs.declared.fault.FileFault.{FileFault};
+ghost use Rattle.dd_part10.specs.Faults.{SaysMemory};
+ghost use Rattle.dd_part10.specs.Memory.{IsRefused};
+ghost use Rattle.dd_part10.specs.Reading.{FileParts};
+ghost use Rattle.dd_part10.specs.Taking.{IsScanned};
+ghost use Rattle.dd_layout.specs.Entries.{tag};
+ghost use Rattle.dd_dir.specs.ForestViews.{tree_view};
+ghost use Rattle.dd_dir.specs.Saying.{key_of};
+ghost use Rattle.dd_dir.specs.Trees.{Node};
+ghost use Rattle.dd_report.specs.Agreements.{IsInherited, Shows, agree, agreement, agreements, by_keys, compared_tags};
+ghost use Rattle.dd_report.specs.Agreements.{first_wrong, mislabelled, nearest, patient_id, standing_below};
+ghost use Rattle.dd_report.specs.Agreements.{syntax_agreement};
+ghost use Rattle.dd_report.specs.Finding.{FindsBy, by_digest};
+
+use crate::findings::{Finding, compared, value_in};
+use dd_dir::{Tree, digest_in};
+use dd_elem::{Key, Memory, Read, Tag, Uid, tags};
+use dd_keys::{Digested, read_digested};
+use dd_layout::table::{CLASS, INSTANCE, TRANSFER};
+use dd_part10::{self, FileFault, Scanned, StreamFault};
+use dd_set::{Found, FoundValue};
+use std::alloc::Global;
+
+/// The tags of a file's data set that are compared, rising.
+const COMPARED: [Tag; 5] = [
+    tags::SOP_CLASS_UID,
+    tags::SOP_INSTANCE_UID,
+    tags::PATIENT_ID,
+    tags::STUDY_INSTANCE_UID,
+    tags::SERIES_INSTANCE_UID,
+];
+
+/// Media Storage SOP Class UID.
+const FILE_CLASS: Tag = Tag {
+    group: 0x0002,
+    element: 0x0002,
+};
+
+/// Media Storage SOP Instance UID.
+const FILE_INSTANCE: Tag = Tag {
+    group: 0x0002,
+    element: 0x0003,
+};
+
+/// What stands for an empty Patient ID in a record that is written here.
+const NO_ID: &[u8] = b"NOID";
+
+/// What the records above a record say of it: for each element the value of the nearest one that has it, and
+/// no bytes where none has.
+#[derive(Clone, Copy)]
+pub(crate) struct Inherited<'a> {
+    /// Patient ID.
+    pub patient_id: &'a [u8],
+    /// Study Instance UID.
+    pub study: &'a [u8],
+    /// Series Instance UID.
+    pub series: &'a [u8],
+}
+
+impl<'a> Inherited<'a> {
+    /// What none says, where there is none.
+    pub(crate) fn none() -> Inherited<'a>
+        ensures { IsInherited result [] }
+    {
+        Inherited {
+            patient_id: b"",
+            study: b"",
+            series: b"",
+        }
+    }
+
+    /// What these and this record say of the records below it.
+    pub(crate) fn under(self, tree: &Tree<'a>) -> Inherited<'a>
+        ensures { (above : List Node) → IsInherited self.entry above
+            → IsInherited result ((tree_view tree.now).node ∷ above) }
+    {
+        Inherited {
+            patient_id: value_or(tree, tags::PATIENT_ID, self.patient_id),
+            study: value_or(tree, tags::STUDY_INSTANCE_UID, self.study),
+            series: value_or(tree, tags::SERIES_INSTANCE_UID, self.series),
+        }
+    }
+}
+
+/// The value that the record has at a tag, or the one above where it has no such element.
+fn value_or<'a>(tree: &Tree<'a>, tag: Tag, above: &'a [u8]) -> &'a [u8]
+    ensures { (nodes : List Node) → above.now ≡ nearest tag nodes
+        → result.now ≡ nearest tag ((tree_view tree.now).node ∷ nodes) }
+{
+    if tree.set.find(tag).is_some() {
+        value_in(tree, tag)
+    } else {
+        above
+    }
+}
+
+/// What is compared of a value.
+#[derive(Clone, Copy)]
+pub(crate) struct Shown<'a> {
+    /// The first 1,024 of its bytes.
+    pub front: &'a [u8],
+    /// How many it has.
+    pub length: u64,
+}
+
+impl<'a> Shown<'a> {
+    /// What is compared of this value.
+    fn of(value: &'a [u8]) -> Shown<'a>
+        ensures { Shows result value.now }
+    {
+        Shown {
+            front: &value[..Key::MAX_LEN.min(value.len())],
+            length: value.len() as u64,
+        }
+    }
+
+    /// What is compared of the value at a tag of a data set in which these elements were found: of no bytes
+    /// where it has no such element or that holds none.
+    fn found(found: &'a [Found], tag: Tag) -> Shown<'a>
+        ensures { (set : Elements) → map found_hit found.now ≡ hits_of compared_tags set
+            → is_wanted compared_tags tag ≡ true → Shows result (key_of tag set) }
+    {
+        let Some(found) = find_in(found, tag) else {
+            return Shown::of(b"");
+        };
+        match &found.value {
+            FoundValue::Items | FoundValue::Fragments => Shown::of(b""),
+            FoundValue::Bytes { front, length } => Shown {
+                front: front.as_slice(),
+                length: *length,
+            },
+        }
+    }
+
+    /// What is compared of a Patient ID.
+    fn or_no_id(self, is_own: bool) -> Shown<'a>
+        ensures { (value : List ℕ) → Shows self.entry value → Shows result (patient_id is_own value) }
+    {
+        if is_own && self.length == 0 {
+            Shown::of(NO_ID)
+        } else {
+            self
+        }
+    }
+
+    /// Do the values agree?
+    fn agrees(self, other: Shown<'_>) -> bool
+        ensures { (one two : List ℕ) → Shows self.entry one → Shows other.entry two → result ≡ agree one two }
+    {
+        self.length == other.length && self.front == other.front
+    }
+}
+
+/// The first of the found elements with this tag.
+fn find_in(found: &[Found], tag: Tag) -> Option<&Found>
+    ensures { option_copied result ≡ find (λ found. same_tag found.tag tag) found.now }
+{
+    found.iter().find(|found| found.tag == tag)
+}
+
+/// A tag of a file, and whether the value there agrees with what the records say.
+type Agreement = (Tag, bool);
+
+/// Whether a UID of group 0002 agrees with what the record says.
+fn uid_agreement(tag: Tag, uid: &Uid, recorded: &[u8]) -> Agreement
+    ensures { result ≡ agreement tag uid.now recorded.now }
+{
+    let in_file = Shown::of(uid.as_bytes());
+    (tag, in_file.agrees(Shown::of(recorded)))
+}
+
+/// Whether the transfer syntax of a file agrees with what the record says.
+fn syntax_agreement(tree: &Tree<'_>, transfer: &Uid) -> Agreement
+    ensures { (above : List Node)
+        → result ≡ syntax_agreement (standing_below above (tree_view tree.now).node) transfer.now }
+{
+    uid_agreement(dd_part10::TRANSFER, transfer, value_in(tree, TRANSFER.tag))
+}
+
+/// Whether a value of a data set in which these elements were found agrees with what the records say.
+fn value_agreement(found: &[Found], tag: Tag, recorded: &[u8]) -> Agreement
+    ensures { (set : Elements) → map found_hit found.now ≡ hits_of compared_tags set
+        → is_wanted compared_tags tag ≡ true → result ≡ agreement tag (key_of tag set) recorded.now }
+{
+    let in_file = Shown::found(found, tag);
+    (tag, in_file.agrees(Shown::of(recorded)))
+}
+
+/// Whether its Patient ID does.
+fn patient_agreement(found: &[Found], is_own: bool, recorded: &[u8]) -> Agreement
+    ensures { (set : Elements) → map found_hit found.now ≡ hits_of compared_tags set
+        → result ≡ agreement (tag 0x0010 0x0020) (patient_id is_own (key_of (tag 0x0010 0x0020) set))
+        (patient_id is_own recorded.now) }
+{
+    let in_file = Shown::found(found, tags::PATIENT_ID).or_no_id(is_own);
+    let recorded = Shown::of(recorded).or_no_id(is_own);
+    (tags::PATIENT_ID, in_file.agrees(recorded))
+}
+
+/// Whether what a file says of itself agrees with what the records say, in the order of its tags. `inherited` is
+/// what the record and those above it say.
+fn agreements(tree: &Tree<'_>, inherited: Inherited<'_>, scanned: &Scanned) -> [Agreement; 8]
+    ensures { (above : List Node) (file : FileParts)
+        → IsInherited inherited.entry ((tree_view tree.now).node ∷ above)
+        → IsScanned compared_tags scanned.now file
+        → result ≡ agreements (standing_below above (tree_view tree.now).node) file }
+{
+    let meta = &scanned.meta;
+    let found = scanned.found.as_slice();
+    let class = value_in(tree, CLASS.tag);
+    let instance = value_in(tree, INSTANCE.tag);
+    let is_own = digest_in(&tree.set).is_some();
+    [
+        uid_agreement(FILE_CLASS, &meta.class, class),
+        uid_agreement(FILE_INSTANCE, &meta.instance, instance),
+        syntax_agreement(tree, &meta.transfer),
+        value_agreement(found, tags::SOP_CLASS_UID, class),
+        value_agreement(found, tags::SOP_INSTANCE_UID, instance),
+        patient_agreement(found, is_own, inherited.patient_id),
+        value_agreement(found, tags::STUDY_INSTANCE_UID, inherited.study),
+        value_agreement(found, tags::SERIES_INSTANCE_UID, inherited.series),
+    ]
+}
+
+/// What is found where these are all that are compared: the first whose values do not agree.
+fn first_wrong(all: &[Agreement]) -> Option<Finding>
+    ensures { result ≡ first_wrong all.now }
+{
+    all.iter()
+        .find(|(_, agrees)| !*agrees)
+        .map(|(tag, _)| Finding::Mislabelled(*tag))
+}
+
+/// What is found of an IMAGE record whose file is none for this reason: Memory where a growth was refused.
+fn found_of_none(tree: &Tree<'_>, fault: FileFault) -> Result<Option<Finding>, Memory>
+    ensures found { IfOk result (λ finding. (above : List Node)
+        → finding ≡ mislabelled (standing_below above (tree_view tree.now).node) (Err fault)) }
+    ensures memory { IsErr result ↔ SaysMemory fault }
+{
+    if fault.is_want_of_memory() {
+        return Err(Memory);
+    }
+    match fault {
+        FileFault::OtherSyntax(transfer) => Ok(first_wrong(&[syntax_agreement(tree, &transfer)])),
+        _ => Ok(Some(Finding::NoFile(fault))),
+    }
+}
+
+/// What is found of an IMAGE record and of its file, by reading the file once. `inherited` is what the record
+/// and those above it say.
+///
+/// Memory where a growth is refused while the file is read. It is read to its end nonetheless, and its digest
+/// does not differ.
+pub(crate) fn finding_by_keys<R: Read>(
+    alloc: Global,
+    tree: &Tree<'_>,
+    inherited: Inherited<'_>,
+    reader: &mut R,
+    limit: u64,
+) -> Result<Option<Finding>, Memory>
+    ensures found { IfOk result (λ finding. (above : List Node)
+        → IsInherited inherited.entry ((tree_view tree.now).node ∷ above)
+        → FindsBy R.has_given R.remaining R.calls R.failures limit
+        (by_keys (standing_below above (tree_view tree.now).node)) finding reader.old reader.new) }
+    ensures memory { OnErr result ((given : List ℕ) × (fault : FileFault)
+        × Gives R.has_given reader.old reader.new given × (by_digest (tree_view tree.now).node given ≡ None)
+        × SaysMemory fault × IsRefused compared_tags fault given) }
+{
+    let Digested { file, digest } = read_digested(alloc, reader, &COMPARED, limit);
+    let differs = compared(digest_in(&tree.set), digest);
+    match file {
+        Err(StreamFault::Read | StreamFault::TooLong) => Ok(Some(Finding::Unreadable)),
+        _ if differs.is_some() => Ok(differs),
+        Ok(scanned) => Ok(first_wrong(&agreements(tree, inherited, &scanned))),
+        Err(StreamFault::File(fault)) => found_of_none(tree, fault),
+    }
+}

@@ -1,0 +1,122 @@
+//! The words of tags and of the faults of files, as the program prints them.
+ghost use Rattle.std.specs.Prelude.{◌≡◌, ◌++◌, ◌<◌, ◌^◌, codes, true};
+ghost use Rattle.std.specs.Fmt.{digit_glyph};
+ghost use Rattle.dd_elem.specs.Tag.{four_digits, text_of};
+ghost use Rattle.dd_report.specs.Telling.{Tells, shown_line, way};
+ghost use Rattle.dd_report.specs.Words.{file_words, mislabelled_parts, set_words};
+
+use crate::line_buffer::LineBuffer;
+use dd_elem::{Tag, Write};
+use dd_part10::FileFault;
+use dd_set::SetFault;
+use std::fmt;
+
+/// Tells the tag of a file whose value is not the one that the records say.
+pub(crate) fn tell_tag<W: Write>(
+    file: &[u8],
+    tag: Tag,
+    lines: &mut LineBuffer,
+    to: &mut W,
+) -> fmt::Result
+    ensures { Tells result (shown_line (mislabelled_parts file.now (text_of tag)))
+        (way lines.old (W.contents to.old) (W.failures to.old))
+        (way lines.new (W.contents to.new) (W.failures to.new)) }
+{
+    lines.add_line(&[b"MISLABELLED ", file, b" ", &tag_text(tag)[..]], to)
+}
+
+/// Tells why what a record names is no DICOM file.
+pub(crate) fn tell_fault<W: Write>(
+    file: &[u8],
+    fault: &FileFault,
+    lines: &mut LineBuffer,
+    to: &mut W,
+) -> fmt::Result
+    ensures { Tells result (shown_line (mislabelled_parts file.now (codes "31 File " ++ file_words fault.now)))
+        (way lines.old (W.contents to.old) (W.failures to.old))
+        (way lines.new (W.contents to.new) (W.failures to.new)) }
+{
+    match fault {
+        FileFault::NotPart10 => tell_words(file, b"21 NotPart10", b"", lines, to),
+        FileFault::GroupLength => tell_words(file, b"22 GroupLength", b"", lines, to),
+        FileFault::MetaMissing(tag) => {
+            tell_words(file, b"23 MetaMissing ", &tag_text(*tag)[..], lines, to)
+        }
+        FileFault::MetaUid(tag) => {
+            tell_words(file, b"24 MetaUid ", &tag_text(*tag)[..], lines, to)
+        }
+        FileFault::OtherSyntax(uid) => {
+            tell_words(file, b"25 OtherSyntax ", uid.as_bytes(), lines, to)
+        }
+        FileFault::Meta(fault) => tell_words(file, b"26 Meta ", set_words(*fault), lines, to),
+        FileFault::Set(fault) => tell_words(file, b"27 Set ", set_words(*fault), lines, to),
+    }
+}
+
+/// Tells these words and what they are of.
+fn tell_words<W: Write>(
+    file: &[u8],
+    words: &[u8],
+    of: &[u8],
+    lines: &mut LineBuffer,
+    to: &mut W,
+) -> fmt::Result
+    ensures { Tells result (shown_line (mislabelled_parts file.now (codes "31 File " ++ (words.now ++ of.now))))
+        (way lines.old (W.contents to.old) (W.failures to.old))
+        (way lines.new (W.contents to.new) (W.failures to.new)) }
+{
+    lines.add_line(&[b"MISLABELLED ", file, b" ", b"31 File ", words, of], to)
+}
+
+/// The words of a fault of a data set.
+fn set_words(fault: SetFault) -> &'static [u8]
+    ensures { result.now ≡ set_words fault }
+{
+    match fault {
+        SetFault::Truncated => b"1 Truncated",
+        SetFault::Order => b"2 Order",
+        SetFault::BadVr => b"3 BadVr",
+        SetFault::Reserved => b"4 Reserved",
+        SetFault::OddLength => b"5 OddLength",
+        SetFault::UndefinedLength => b"6 UndefinedLength",
+        SetFault::UnexpectedTag => b"7 UnexpectedTag",
+        SetFault::BadDelimiter => b"8 BadDelimiter",
+        SetFault::Overrun => b"9 Overrun",
+        SetFault::TooDeep => b"10 TooDeep",
+        SetFault::Memory => b"91 Memory",
+    }
+}
+
+/// The text of a tag.
+fn tag_text(tag: Tag) -> [u8; 11]
+    ensures { result ≡ text_of tag }
+{
+    let [a, b, c, d] = four_digits(tag.group);
+    let [e, f, g, h] = four_digits(tag.element);
+    [b'(', a, b, c, d, b',', e, f, g, h, b')']
+}
+
+/// The four hexadecimal digits of a number, in upper case.
+fn four_digits(number: u16) -> [u8; 4]
+    ensures { result ≡ four_digits number }
+{
+    [
+        digit(number / 4096),
+        digit(number / 256 % 16),
+        digit(number / 16 % 16),
+        digit(number % 16),
+    ]
+}
+
+/// A hexadecimal digit, in upper case.
+fn digit(value: u16) -> u8
+    requires { value < 16 }
+    ensures { result ≡ digit_glyph true value }
+{
+    let value = value as u8;
+    if value < 10 {
+        b'0' + value
+    } else {
+        b'A' + (value - 10)
+    }
+}

@@ -1,0 +1,76 @@
+//! How it is told that a command line asks for nothing.
+ghost use Rattle.std.specs.Prelude.{◌≡◌, ◌≤◌};
+
+use crate::masked_words::{have_control, mask_words};
+use crate::refusal::{Paths, Refusal, tell};
+use dd_elem::Write;
+use dd_line::{LineFault, read_words};
+use dd_report::Text;
+use std::alloc::Global;
+use std::fmt;
+
+/// Tells why these words ask for nothing, and answers the status. No control character of a word is told.
+pub(crate) fn refuse_line<O: Write, E: Write>(
+    alloc: Global,
+    words: &[String],
+    fault: &LineFault,
+    out: &mut O,
+    err: &mut E,
+) -> u8
+    ensures status { result ≤ 2 }
+    ensures memory { fault.now ≡ LineFault.Memory → (result ≡ 1) × (out.new ≡ out.old) }
+    ensures line { result ≡ 2 → out.new ≡ out.old }
+    ensures done { result ≡ 0 → err.new ≡ err.old }
+{
+    match fault {
+        LineFault::Memory => tell(&Refusal::memory(), Paths::none(), err),
+        LineFault::Refused(error) => {
+            if have_control(words) {
+                refuse_masked(alloc, words, out, err)
+            } else {
+                tell_parser(error, out, err)
+            }
+        }
+    }
+}
+
+/// Tells by the parser's text for the words with `?` in place of each control character why they ask for
+/// nothing, and answers the status: 1 where a growth was refused.
+fn refuse_masked<O: Write, E: Write>(
+    alloc: Global,
+    words: &[String],
+    out: &mut O,
+    err: &mut E,
+) -> u8
+    ensures status { result ≤ 2 }
+    ensures line { result ≡ 2 → out.new ≡ out.old }
+    ensures done { result ≡ 0 → err.new ≡ err.old }
+{
+    let Ok(shown) = mask_words(alloc, words) else {
+        return tell(&Refusal::memory(), Paths::none(), err);
+    };
+    match read_words(alloc, shown.as_slice()) {
+        Err(LineFault::Refused(error)) => tell_parser(&error, out, err),
+        Err(LineFault::Memory) => tell(&Refusal::memory(), Paths::none(), err),
+
+        // A line that was not taken is not taken with `?` either: no name and no number has one.
+        Ok(_) => 2,
+    }
+}
+
+/// Prints the parser's text: a mistake to the error output, with status 2, and help to the output, with
+/// status 0, or 1 where the output failed.
+fn tell_parser<O: Write, E: Write>(error: &clap::Error, out: &mut O, err: &mut E) -> u8
+    ensures status { result ≤ 2 }
+    ensures line { result ≡ 2 → out.new ≡ out.old }
+    ensures done { result ≡ 0 → err.new ≡ err.old }
+{
+    if error.use_stderr() {
+        let _ = fmt::Write::write(&mut Text { to: err }, format_args!("{error}"));
+        return 2;
+    }
+    match fmt::Write::write(&mut Text { to: out }, format_args!("{error}")) {
+        Ok(()) => 0,
+        Err(_) => 1,
+    }
+}

@@ -1,0 +1,53 @@
+//! The words of a command line as they are shown.
+ghost use Rattle.std.specs.Prelude.{◌≡◌, IfOk, chars, false, map, string_bytes};
+ghost use Rattle.std.specs.Char.{is_control};
+ghost use Rattle.std.specs.List.{list_any};
+ghost use Rattle.dd_report.specs.Text.{masked, masked_char};
+ghost use Rattle.dicomdir.specs.MaskedWords.{has_control};
+
+use dd_elem::Memory;
+use std::alloc::Global;
+
+/// Whether one of the words has a control character.
+pub(crate) fn have_control(words: &[String]) -> bool
+    ensures { result ≡ list_any (λ word. has_control (string_bytes word)) words.now }
+{
+    words.iter().any(|word| has_control(word.as_str()))
+}
+
+/// Whether the text has a control character.
+fn has_control(text: &str) -> bool
+    ensures { result ≡ has_control text.now }
+{
+    text.chars().any(char::is_control)
+}
+
+/// Copies the words, with `?` for each control character. Memory where a growth is refused.
+pub(crate) fn mask_words(alloc: Global, words: &[String]) -> Result<Vec<String>, Memory>
+    ensures masked { IfOk result (λ shown. map (λ word. string_bytes word) shown.items
+        ≡ map (λ word. masked (string_bytes word)) words.now) }
+
+    // So they have none.
+    ensures none { IfOk result (λ shown. list_any (λ word. has_control (string_bytes word)) shown.items ≡ false) }
+{
+    let mut shown = Vec::with_capacity(alloc, words.len())?;
+    for word in words {
+        shown.push(mask(alloc, word.as_str())?)?;
+    }
+    Ok(shown)
+}
+
+/// Copies a text, with `?` for each control character. Memory where a growth is refused.
+fn mask(alloc: Global, text: &str) -> Result<String, Memory>
+    ensures masked { IfOk result (λ shown. string_bytes shown ≡ masked text.now) }
+    ensures none { IfOk result (λ shown. has_control (string_bytes shown) ≡ false) }
+{
+    Ok(text.chars().map(masked_char).collect(alloc)?)
+}
+
+/// A character as it is shown.
+fn masked_char(c: char) -> char
+    ensures { result ≡ masked_char c }
+{
+    if c.is_control() { '?' } else { c }
+}
