@@ -58,6 +58,39 @@ fn sets_are_checked(rt: HostRuntime) -> Result<(), Fail> {
     ask_all(&rt, rt.alloc(), Ask::Ran, CHECKS)
 }
 
+/// What a set of another program is whose image is a.dcm with other bytes at a place, as `check --keys` tells: each
+/// fault of a file, and those of a data set.
+const FAULTS: &str = "\
+128,'X > 21 NotPart10
+140,ffff0100 > 22 GroupLength
+194,0400 > 23 MetaMissing (0002,0003)
+201,'a > 24 MetaUid (0002,0003)
+148,'ZZ > 26 Meta 3 BadVr
+152,03000000 > 26 Meta 5 OddLength
+450,0400 > 27 Set 1 Truncated
+444,0800 > 27 Set 2 Order
+448,'ZZ > 27 Set 3 BadVr
+388,'OB > 27 Set 4 Reserved
+450,0100 > 27 Set 5 OddLength
+388,4f420000ffffffff > 27 Set 6 UndefinedLength
+444,feff > 27 Set 7 UnexpectedTag
+412,53510000fffffffffeffdde002000000 > 27 Set 8 BadDelimiter
+412,5351000008000000feff00e002000000 > 27 Set 9 Overrun";
+
+#[test]
+fn faults_of_files_are_told(rt: HostRuntime) -> Result<(), Fail> {
+    let alloc = rt.alloc();
+    for case in FAULTS.split('\n') {
+        let (change, words) = case.split_once(" > ").ok_or("no words")?;
+        let case = format!(in alloc;
+            "d/DICOMDIR=v3,674,ffff d/IMAGES/IM1=a.dcm,{change} \
+d/IMAGES/SR1=a.dcm: - - dicomdir check --keys d > 3 [MISLABELLED IMAGES\\IM1 31 File {words}|] [] kept"
+        )?;
+        ask_all(&rt, alloc, Ask::Ran, case.as_str())?;
+    }
+    Ok(())
+}
+
 /// The same with what the files say of themselves: sets as they should be, of this program and of another; each tag
 /// that is compared; a file that is none; the digest first; records that are not compared; and several findings.
 const KEYS: &str = "\
