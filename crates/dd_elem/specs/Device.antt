@@ -1,6 +1,7 @@
 -- How a device counts its calls and its failures, and what one read or write does to it.
 use Rattle.std.specs.Prelude.{◌≡◌, ℕ, ◌+◌, ◌-◌, ◌<◌, ◌≤◌, min, List, [], ◌++◌, length, take, Option, None, Some, Result}
-use Rattle.std.specs.Prelude.{Ok, Err, MatchResult, ⊤}
+use Rattle.std.specs.Prelude.{Ok, Err, MatchResult, ⊤, ◌⊎◌}
+use Rattle.std.proofs.Common.{inl, inr}
 
 -- the value at which a count stays
 abbrev pub last_count : ℕ
@@ -27,9 +28,18 @@ abbrev pub read_piece : {E : Type 0} → Result ℕ E → List ℕ → List ℕ
 read_piece (Ok n) buf = take n buf
 read_piece (Err e) buf = []
 
--- a reader that had given some bytes has now given them and then `bytes`, whatever it began with
+-- a reader that had given some bytes since a past has now given them and then `bytes`, whatever that past is
 pub record Gives {S P : Type 0} (has_given : S → P → List ℕ → Type 0) (old new : S) (bytes : List ℕ) : Type 0 where
   pub then : (past : P) (before : List ℕ) → has_given old past before → has_given new past (before ++ bytes)
+
+-- the same of a reader that tells all bytes that it has given
+abbrev pub GivesTold : {S : Type 0} → (S → List ℕ) → S → S → List ℕ → Type 0
+GivesTold told old new bytes = Gives {P = Unit {0}} (λ s _ all. all ≡ told s) old new bytes
+
+-- one of two facts about bytes: about what happened since the first past, or since the second
+abbrev pub either_fact : {S P : Type 0} → (S → List ℕ → Type 0) → (P → List ℕ → Type 0) → S ⊎ P → List ℕ → Type 0
+either_fact one other (inl past) bytes = one past bytes
+either_fact one other (inr past) bytes = other past bytes
 
 -- a write took a byte, or there was none to take
 abbrev pub TakesSome : {E : Type 0} → Result ℕ E → List ℕ → Type 0

@@ -4,7 +4,7 @@ ghost use Rattle.std.specs.Prelude.{IsSome, IfSome};
 ghost use Rattle.std.specs.Io.{ReadsAtMost};
 ghost use Rattle.std.specs.Io.KnownBytes.{ReadConsumes};
 ghost use Rattle.dd_elem.specs.ByteSource.{Source, IsReadable, next_len, after_read};
-ghost use Rattle.dd_elem.specs.Device.{counted, last_count, HasWorked, Gives, read_piece};
+ghost use Rattle.dd_elem.specs.Device.{counted, last_count, HasWorked, GivesTold, read_piece};
 
 use crate::counts::Counts;
 use crate::device::Read;
@@ -97,7 +97,7 @@ impl Read for ByteSource<'_> {
         ensures worked { IsOk result → HasWorked self.old.counts.failures self.new.counts.failures }
         ensures failed { IsErr result → self.new.counts.failures ≡ counted self.old.counts.failures }
         ensures left { ReadConsumes (Some self.old.left) (Some self.new.left) result buf.new }
-        ensures gives { Gives {P = Unit {0}} (λ s _ bytes. bytes ≡ s.given) self.old self.new (read_piece result buf.new) }
+        ensures gives { GivesTold (λ s. s.given) self.old self.new (read_piece result buf.new) }
 
         // Exactly when it works, how many bytes come then, and what it is afterwards.
         ensures readable { IsOk result ↔ IsReadable self.old }

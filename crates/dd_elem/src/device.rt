@@ -18,10 +18,10 @@ pub trait Read {
     // The bytes that are still to come, where the reader tells them.
     ghost remaining: { Self → Option (List ℕ) };
 
-    // What the reader began with, as far as a reader in front of others has to tell.
+    // An earlier state, from which `has_given` counts bytes. Each reader chooses its form.
     ghost Past: { Type 0 };
 
-    // The reader has given these bytes since it was that.
+    // The reader has given these bytes since that state.
     ghost has_given: { Self → Past → List ℕ → Type 0 };
 
     /// Reads at most `buf.len()` bytes to the front of `buf`, and answers how many. 0 says that the

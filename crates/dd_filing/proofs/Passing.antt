@@ -1,8 +1,8 @@
 -- What passed a tee, its facts apart.
 use Rattle.std.proofs.Common.{◌≡◌, ◌⊎◌, ℕ, List, [], Option, None, inl, inr, refl, sym, subst}
-use Rattle.dd_elem.specs.Device.{Gives}
+use Rattle.dd_elem.specs.Device.{Gives, either_fact}
 use Rattle.dd_set.proofs.Going.{goes_none}
-use Rattle.dd_filing.specs.Sent.{IsCounted, IsSent, went_or_given}
+use Rattle.dd_filing.specs.Sent.{IsCounted, IsSent}
 use Rattle.dd_filing.specs.declared.tee.Tee.{Tee}
 
 module _ {R W P S : Type 0} (has_given : R → P → List ℕ → Type 0) (contents : W → Option (List ℕ)) (rest : W → S)
@@ -19,7 +19,7 @@ module _ {R W P S : Type 0} (has_given : R → P → List ℕ → Type 0) (conte
   pub passed : (old new : Tee R W) (given : List ℕ)
       → Gives {P = ℕ × (ℕ × (((Option (List ℕ) × S) × ℕ) ⊎ P))}
       (λ t past bytes. (t.reader.ghost_name ≡ past.0) × ((t.writer.ghost_name ≡ past.1.0)
-      × went_or_given (λ start m. IsSent t.late m start.0 (contents t.writer.now, rest t.writer.now)
+      × either_fact (λ start m. IsSent t.late m start.0 (contents t.writer.now, rest t.writer.now)
       start.1 (failures t.writer.now) × IsCounted t.late (calls t.reader.now))
       (λ p m. has_given t.reader.now p m) past.1.1 bytes)) old new given
       → old.late ≡ None → Passed old new given

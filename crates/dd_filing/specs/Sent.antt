@@ -1,10 +1,9 @@
 -- What a reader that sends what passes to a writer says of the two.
-use Rattle.std.specs.Prelude.{◌⊎◌, ℕ, ◌+◌, ◌≤◌, min, List, Option, None, Some}
-use Rattle.std.proofs.Common.{inl, inr}
+use Rattle.std.specs.Prelude.{ℕ, ◌+◌, ◌≤◌, min, List, Option, None, Some}
 use Rattle.dd_elem.specs.Device.{last_count}
 use Rattle.dd_set.specs.Sends.{Goes, Stops}
 
--- a count of the reader behind it, and of the calls since a write failed
+-- a count of the reader behind it, with the calls since a write failed
 abbrev pub late_count : ℕ → Option ℕ → ℕ
 late_count n None = n
 late_count n (Some late) = min (n + late) last_count
@@ -18,9 +17,3 @@ IsSent (Some late) bytes old new failures after = (taken : ℕ) × Stops bytes 0
 abbrev pub IsCounted : Option ℕ → ℕ → Type 0
 IsCounted None calls = Unit {0}
 IsCounted (Some late) calls = calls ≤ last_count
-
--- two facts in one relation to bytes: what went since the writer was so, and what the reader behind it has given since
--- a past of that one
-abbrev pub went_or_given : {S P : Type 0} → (S → List ℕ → Type 0) → (P → List ℕ → Type 0) → S ⊎ P → List ℕ → Type 0
-went_or_given went given (inl start) bytes = went start bytes
-went_or_given went given (inr past) bytes = given past bytes

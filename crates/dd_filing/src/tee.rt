@@ -1,7 +1,8 @@
 //! A reader that sends what passes to a writer.
 
 ghost use Rattle.std.specs.Prelude.{◌≡◌, ◌⊎◌, ℕ, List, Option};
-ghost use Rattle.dd_filing.specs.Sent.{IsCounted, IsSent, late_count, went_or_given};
+ghost use Rattle.dd_elem.specs.Device.{either_fact};
+ghost use Rattle.dd_filing.specs.Sent.{IsCounted, IsSent, late_count};
 
 use dd_elem::{Read, Write};
 use dd_set::send;
@@ -29,7 +30,7 @@ impl<R: Read, W: Write> Read for Tee<'_, R, W> {
     ghost Past = { ℕ × (ℕ × (((Option (List ℕ) × W.Rest) × ℕ) ⊎ R.Past)) };
 
     ghost has_given = { λ t past bytes. (t.reader.ghost_name ≡ past.0) × ((t.writer.ghost_name ≡ past.1.0)
-        × went_or_given (λ start m. IsSent t.late m start.0 (W.contents t.writer.now, W.rest t.writer.now)
+        × either_fact (λ start m. IsSent t.late m start.0 (W.contents t.writer.now, W.rest t.writer.now)
         start.1 (W.failures t.writer.now) × IsCounted t.late (R.calls t.reader.now))
         (λ p m. R.has_given t.reader.now p m) past.1.1 bytes) };
 

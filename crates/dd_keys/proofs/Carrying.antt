@@ -1,8 +1,7 @@
 -- What passed a reader that digests, its three facts apart.
-use Rattle.std.proofs.Common.{◌≡◌, ℕ, List, [], Option, None, Some, refl}
+use Rattle.std.proofs.Common.{◌≡◌, ◌⊎◌, ℕ, List, [], inl, inr, refl}
 use Rattle.sha2.specs.Hashers.{Holds256}
-use Rattle.dd_elem.specs.Device.{Gives}
-use Rattle.dd_keys.specs.Carried.{carried}
+use Rattle.dd_elem.specs.Device.{Gives, either_fact}
 use Rattle.dd_keys.specs.declared.digesting.Digesting.{Digesting}
 
 module _ {R P : Type 0} (has_given : R → P → List ℕ → Type 0) where
@@ -13,13 +12,13 @@ module _ {R P : Type 0} (has_given : R → P → List ℕ → Type 0) where
     pub held : Holds256 new.hasher given
 
   pub passed : (old new : Digesting R) (given : List ℕ)
-      → Gives {P = ℕ × Option P} (λ d past bytes. (d.reader.ghost_name ≡ past.0)
-      × carried (λ m. Holds256 d.hasher m) (λ p m. has_given d.reader.now p m) past.1 bytes) old new given
+      → Gives {P = ℕ × (Unit {0} ⊎ P)} (λ d past bytes. (d.reader.ghost_name ≡ past.0)
+      × either_fact (λ _ m. Holds256 d.hasher m) (λ p m. has_given d.reader.now p m) past.1 bytes) old new given
       → Holds256 old.hasher [] → Passed old new given
   passed old new given h none =
-      let digested = h.then (old.reader.ghost_name, None) [] (refl, none) in
+      let digested = h.then (old.reader.ghost_name, inl tt) [] (refl, none) in
       record {
         same = digested.0;
-        gave = record { then = λ past before k. (h.then (old.reader.ghost_name, Some past) before (refl, k)).1 };
+        gave = record { then = λ past before k. (h.then (old.reader.ghost_name, inr past) before (refl, k)).1 };
         held = digested.1;
       }

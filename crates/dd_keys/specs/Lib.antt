@@ -1,5 +1,4 @@
 pub mod Answers
-pub mod Carried
 pub mod Classes
 pub mod Copies
 pub mod Faults

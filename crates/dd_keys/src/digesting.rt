@@ -1,12 +1,11 @@
 //! A reader that digests what passes, and a file that is read through one.
 
-ghost use Rattle.std.specs.Prelude.{◌≡◌, ◌≤◌, ◌+◌, ℕ, List, [], Option};
+ghost use Rattle.std.specs.Prelude.{◌≡◌, ◌⊎◌, ◌≤◌, ◌+◌, ℕ, List, []};
 ghost use Rattle.std.specs.Io.KnownBytes.{Consumes};
 ghost use Rattle.sha2.specs.Hashers.{Holds256};
 ghost use Rattle.sha2.specs.Sha256.{sha256};
-ghost use Rattle.dd_elem.specs.Device.{Gives};
+ghost use Rattle.dd_elem.specs.Device.{Gives, either_fact};
 ghost use Rattle.dd_part10.specs.Streaming.{IsFileAnswer};
-ghost use Rattle.dd_keys.specs.Carried.{carried};
 
 use dd_elem::{Read, Tag};
 use dd_part10::{Scanned, StreamFault, read_file};
@@ -19,7 +18,7 @@ use std::io;
 pub(crate) struct Digesting<'r, R: Read> {
     /// The reader.
     pub reader: &'r mut R,
-    /// What it takes of them.
+    /// The SHA-256 of what passed.
     pub hasher: Sha256,
 }
 
@@ -30,10 +29,10 @@ impl<R: Read> Read for Digesting<'_, R> {
 
     ghost remaining = { λ d. R.remaining d.reader.now };
 
-    ghost Past = { ℕ × Option R.Past };
+    ghost Past = { ℕ × (Unit {0} ⊎ R.Past) };
 
     ghost has_given = { λ d past bytes. (d.reader.ghost_name ≡ past.0)
-        × carried (λ m. Holds256 d.hasher m) (λ p m. R.has_given d.reader.now p m) past.1 bytes };
+        × either_fact (λ _ m. Holds256 d.hasher m) (λ p m. R.has_given d.reader.now p m) past.1 bytes };
 
     fn read(&mut self, buf: &mut [u8]) -> io::Result<usize> {
         let n = self.reader.read(buf)?;
@@ -42,17 +41,17 @@ impl<R: Read> Read for Digesting<'_, R> {
     }
 }
 
-/// What reading a file from a reader answers, and the digest of what the reader gave.
+/// The answer of reading a file from a reader, and the digest of what the reader gave.
 #[derive(Debug, Drop)]
 pub struct Digested {
-    /// What is told of the file, or why it was not read to its end or is no file.
+    /// What the file says, or why it was not read to its end or is no file.
     pub file: Result<Scanned, StreamFault>,
     /// The SHA-256 (FIPS 180-4) of all bytes that the reader gave.
     pub digest: [u8; 32],
 }
 
-/// Reads a file as `read_file` does, with the same answer, and digests all that the reader gives meanwhile,
-/// whether it is a file or not. It makes at most `limit` + 1 reads.
+/// Reads a file as `read_file` does, with the same answer and the same refusals, and digests all bytes that the
+/// reader gives meanwhile, whether they are a file or not. It makes at most `limit` + 1 reads.
 pub fn read_digested<R: Read>(alloc: Global, reader: &mut R, wanted: &[Tag], limit: u64) -> Digested
     ensures gave { (given : List ℕ) × Gives R.has_given reader.old reader.new given
         × Consumes (R.remaining reader.old) (R.remaining reader.new) given
@@ -68,7 +67,7 @@ pub fn read_digested<R: Read>(alloc: Global, reader: &mut R, wanted: &[Tag], lim
     read_digesting(alloc, &mut digesting, wanted, limit)
 }
 
-/// The same over a reader that digests what passes, of which nothing passed yet.
+/// Reads a file so over a reader that digests what passes, and that no byte has passed yet.
 fn read_digesting<R: Read>(
     alloc: Global,
     digesting: &mut Digesting<'_, R>,

@@ -3,7 +3,7 @@ ghost use Rattle.std.specs.Prelude.{◌≡◌, [], ◌≤◌, ◌↔◌, ◌<◌
 ghost use Rattle.std.specs.Prelude.{IsSome, IfSome};
 ghost use Rattle.std.specs.Io.{ReadsAtMost};
 ghost use Rattle.std.specs.Io.KnownBytes.{ReadConsumes};
-ghost use Rattle.dd_elem.specs.Device.{counted, last_count, HasWorked, Gives, read_piece};
+ghost use Rattle.dd_elem.specs.Device.{counted, last_count, HasWorked, GivesTold, read_piece};
 ghost use Rattle.dd_mem_files.specs.MemReader.{Opened, IsReadable, after_read, next_len};
 
 use dd_elem::{Counts, Read};
@@ -90,7 +90,7 @@ impl Read for MemReader {
         ensures worked { IsOk result → HasWorked self.old.counts.failures self.new.counts.failures }
         ensures failed { IsErr result → self.new.counts.failures ≡ counted self.old.counts.failures }
         ensures left { ReadConsumes (Some self.old.left) (Some self.new.left) result buf.new }
-        ensures gives { Gives {P = Unit {0}} (λ s _ bytes. bytes ≡ s.given) self.old self.new (read_piece result buf.new) }
+        ensures gives { GivesTold (λ s. s.given) self.old self.new (read_piece result buf.new) }
 
         // Exactly when it works, how many bytes come then, and what it is afterwards.
         ensures readable { IsOk result ↔ IsReadable self.old }

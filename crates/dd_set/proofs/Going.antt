@@ -98,6 +98,30 @@ stops_before xs ys sent k a b f g one = record {
   stays = one.stays;
 }
 
+-- the same piece, behind some bytes
+stops_behind : {R : Type 0} (piece : List ℕ) (before k : ℕ) (a b : Option (List ℕ) × R) (f g : ℕ)
+    → Stops piece 0 k a b f g → Stops piece (0 + before) (before + k) a b f g
+stops_behind piece before k a b f g stopped = record {
+  front = stopped.front;
+  rest = stopped.rest;
+  parts = stopped.parts;
+  more = stopped.more;
+  count = omega (arith, stopped.count);
+  holds = stopped.holds;
+  failed = stopped.failed;
+  stays = stopped.stays;
+}
+
+-- what went before goes whole, and a part of the next piece does not go
+pub stops_amid : {R : Type 0} (sent piece : List ℕ) (fault : WriteFault) (a b c : Option (List ℕ) × R)
+    (f g h : ℕ) → Goes sent a b f g → StopsBy piece 0 fault b c g h
+    → (taken : ℕ) × Stops (sent ++ piece) 0 taken a c f h
+stops_amid sent piece NotWritable a b c f g h went stopped = absurd stopped
+stops_amid sent piece (Write k) a b c f g h went stopped = (
+  length sent + k,
+  stops_then sent piece 0 (length sent + k) a b c f g h went (stops_behind piece (length sent) k b c g h stopped),
+)
+
 -- ---- a text of which the front is sent
 
 -- Of a whole text the front is sent, which behind `start` bytes makes `sent`, and the rest is not.

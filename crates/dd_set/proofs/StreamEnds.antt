@@ -41,8 +41,8 @@ module _ {R : Type 0} (remaining : R → Option (List ℕ)) (failures calls : R 
   turned first last given left now before after end opened shut t = rw shut at (rw opened at t)
 
   -- what was taken is what the reader gave, and the reader says how it ended
-  pub stream_ends : {P : Type 0} (has_given : R → P → List ℕ → Type 0) (first last : R) (p r : Place) (taken : List ℕ) (end : End)
-      → (m : Moves remaining failures calls has_given first last p r taken)
+  pub stream_ends : {P : Type 0} (has_given : R → P → List ℕ → Type 0) (first last : R) (p r : Place)
+      (taken : List ℕ) (end : End) → (m : Moves remaining failures calls has_given first last p r taken)
       → p.held ≡ [] → p.end ≡ None → r.held ≡ [] → r.end ≡ Some end
       → (m.given ≡ taken) × (Ends end p.left m.given (remaining last) (failures first) (failures last)
       × (calls last ≤ calls first + p.left + 1))

@@ -48,8 +48,8 @@ module _ {R : Type 0} (remaining : R → Option (List ℕ)) (failures calls : R 
   Turns old new given left now (Some end) after = (after ≡ Some end) × (new ≡ old) × (given ≡ [])
 
   -- Between two places of a stream these bytes were taken. Meanwhile its reader gave some.
-  pub record Moves {P : Type 0} (has_given : R → P → List ℕ → Type 0) (old new : R) (before after : Place) (taken : List ℕ)
-      : Type 0 where
+  pub record Moves {P : Type 0} (has_given : R → P → List ℕ → Type 0) (old new : R) (before after : Place)
+      (taken : List ℕ) : Type 0 where
     pub given : List ℕ
     pub gave : Gives has_given old new given
     pub known : Consumes (remaining old) (remaining new) given

@@ -3,7 +3,8 @@ use Rattle.std.proofs.Common.{◌+◌, ◌++◌, take, arith}
 use Rattle.std.proofs.lemmas.Grind.{common_steps}
 use Rattle.dd_elem.proofs.Known.{gives_more, consumes_more}
 use Rattle.dd_set.proofs.Going.{goes_then}
-use Rattle.dd_files.proofs.CopySteps.{front_goes, stops_amid}
+use Rattle.dd_files.proofs.CopySteps.{front_goes}
+use Rattle.dd_set.proofs.Going.{stops_amid}
 use Rattle.dd_files.proofs.copy.copy_image.Goals as goal
 
 pub returns-in-Err-TooLong-clause-copied : goal.returns-in-Err-TooLong-clause-copied

@@ -1,6 +1,7 @@
 -- A piece of which a part went.
 use Rattle.std.proofs.Common.{arith}
-use Rattle.dd_filing.proofs.Sending.{sent_whole, stops_amid, passed_more}
+use Rattle.dd_filing.proofs.Sending.{sent_whole, passed_more}
+use Rattle.dd_set.proofs.Going.{stops_amid}
 use Rattle.dd_filing.proofs.tee.TeeRead.read.Goals as goal
 
 pub returns-in-Err-clause-gives : goal.returns-in-Err-clause-gives
