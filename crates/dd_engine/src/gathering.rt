@@ -14,6 +14,7 @@ use dd_dir::{DirFault, Own, OwnFault, Place, own_of, read_directory};
 use dd_elem::{Memory, Uid};
 use dd_keys::Version;
 use std::alloc::Global;
+use std::mem;
 
 /// What sets list, in their order.
 pub(crate) struct Gathered<'a> {
@@ -58,7 +59,7 @@ impl<'a> Gathered<'a> {
             ≡ self.old.withdrawn.items ++ own.entry.withdrawn.items) }
     {
         self.versions.append(&mut own.versions)?;
-        self.withdrawn.append(&mut own.withdrawn)?;
+        append(&mut self.withdrawn, &mut own.withdrawn)?;
         add_picks(&mut self.picks, at, &own.places)
     }
 }
@@ -128,6 +129,22 @@ fn own_fault(at: usize, fault: OwnFault) -> MergeFault
         OwnFault::Memory => MergeFault::Memory,
         fault => MergeFault::Own(at, fault),
     }
+}
+
+/// Appends these UIDs to the list. Where they are more than it has, its own are moved to them, so that no long
+/// list stands twice.
+fn append(list: &mut Vec<Uid>, uids: &mut Vec<Uid>) -> Result<(), Memory>
+    ensures { OnOk result (list.new.items ≡ list.old.items ++ uids.old.items) }
+{
+    if uids.len() <= list.len() {
+        list.append(uids)?;
+        return Ok(());
+    }
+    mem::swap(list, uids);
+    let moved = uids.len();
+    list.append(uids)?;
+    list.rotate_right(moved);
+    Ok(())
 }
 
 /// Adds where the files of these places are, of the set of this number.
