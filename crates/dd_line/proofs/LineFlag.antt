@@ -1,4 +1,5 @@
--- What the rows hold of `--keys`: its text is `true` where the words give it.
+-- The text that the rows hold for `--keys`: `true` where the words set it, `false` where it is unset, and none where
+-- it is absent, as the command has no such flag.
 use Rattle.std.proofs.Common.{◌≡◌, ◌==◌, ◌∷◌, ℕ, Bool, true, false, List, [], Option, Some, None}
 use Rattle.std.proofs.Common.{codes, eqb-true, inl, inr, length, refl, sym}
 use Rattle.std.specs.List.{find}
@@ -23,7 +24,7 @@ use Rattle.dd_line.proofs.LinePaths.{FitsValues, IsAbsent, level_absent}
 use Rattle.dd_line.proofs.LineRows.{Fine, Fits}
 use Rattle.dd_line.proofs.LineWalk.{level_fine}
 
--- the values of a flag that is given, and of one that is not
+-- the values of a flag that is set, and of one that is unset
 abbrev IsFlag : Option ValueSource → List Text → Type 0
 IsFlag (Some CommandLine) values = values ≡ codes "true" ∷ []
 IsFlag (Some DefaultValue) values = values ≡ codes "false" ∷ []
@@ -65,7 +66,7 @@ flag_text (Some CommandLine) values is = rw is refl
 flag_text (Some DefaultValue) values is = rw is (inr refl)
 flag_text None values is = absurd is
 
--- a level with no fault that has no such flag does not give it
+-- where a level has no fault and no such flag, the flag is absent
 pub level_no_flag : (s : Shape) (words : List Text) → Each (FitsValues (codes "keys") IsAbsent) s.rules
     → s.args_override_self ≡ false → level_fault s [] nothing_held words false [] ≡ []
     → HasFlag (rows_after s.rules [] words) × (is_given (codes "keys") (rows_after s.rules [] words) ≡ false)
@@ -73,7 +74,7 @@ level_no_flag s words fits once none =
     let absent = level_absent (codes "keys") IsAbsent s words fits once none (λ values never. never) in
     rw absent (inl refl, refl)
 
--- a level with no fault whose rules fit says by the text whether the flag is given
+-- where a level has no fault and its rules fit, the text says whether the flag is set
 pub level_flag : (s : Shape) (words : List Text) → Each FitsFlag s.rules → s.args_override_self ≡ false
     → level_fault s [] nothing_held words false [] ≡ [] → HasFlag (rows_after s.rules [] words)
 level_flag s words fits once none =
@@ -93,10 +94,10 @@ level_flag s words fits once none =
         let row = h.0 h.1 in
         rw row.reading (flag_text r.source r.values row.values)
 
--- what is read of the text is whether the flag is given
+-- the text is read as set exactly where the words set the flag
 pub flag_read : (given : Bool) (text : Option Text) (read : Bool) → IsFlagText given text
     → (text ≡ None → read ≡ false) → (text ≡ Some (codes "true") → read ≡ true)
     → (text ≡ Some (codes "false") → read ≡ false) → read ≡ given
-flag_read true text read is none given other = given is
-flag_read false text read (inl is) none given other = none is
-flag_read false text read (inr is) none given other = other is
+flag_read true text read is absent set unset = set is
+flag_read false text read (inl is) absent set unset = absent is
+flag_read false text read (inr is) absent set unset = unset is

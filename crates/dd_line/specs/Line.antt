@@ -154,7 +154,7 @@ abbrev pub given_paths : List Row → List Text
 given_paths given = given_for out_name given
     ++ (given_for source_name given ++ given_for set_name given)
 
--- a command of this kind is given at least so many paths
+-- the least number of paths that a command of this kind is given
 abbrev pub least_paths : Verb → ℕ
 least_paths Index = 2
 least_paths Merge = 2
@@ -176,7 +176,8 @@ IsLimit None limit = limit ≡ most_bytes
 IsLimit (Some text) limit =
     IsNumeral 10 (without_leading_sign text) × (signed_digits_value 10 text ≡ pos limit)
 
--- the values are those that the named command's arguments were given, and the flag stands where the words give it
+-- the line asks for the command that its words name, with the values that they give, and has `keys` exactly where
+-- they set the flag `--keys`
 pub record Asks (a : Asked) (command : Text) (given : List Row) : Type 0 where
   pub verb : verb_name a.verb ≡ command
   pub id : option_map string_bytes a.id ≡ first_of id_name given
@@ -210,12 +211,13 @@ HasLimit given = (text : Text) → first_of max_bytes_name given ≡ Some text
     → (one_of max_bytes_name given ≡ Some (without_minus text))
     × IsSignedIn (pos 0) (pos most_bytes) text
 
--- the text of a flag that is given is `true`, and that of one that is not is `false`, if it has one
+-- the text of a flag is `true` where the flag is set; where it is not set, the text is `false`, or there is no text as
+-- the command has no such flag
 abbrev pub IsFlagText : Bool → Option Text → Type 0
 IsFlagText true text = text ≡ Some (codes "true")
 IsFlagText false text = (text ≡ None) ⊎ (text ≡ Some (codes "false"))
 
--- the text of `--keys` says whether the words give it
+-- the text of `--keys` says whether the words set it
 abbrev pub HasFlag : List Row → Type 0
 HasFlag given = IsFlagText (is_given keys_name given) (one_of keys_name given)
 

@@ -1,4 +1,4 @@
-//! The commands of the program, as the parser is told of them.
+//! The commands of the program, as the parser gets them.
 ghost use Rattle.std.specs.Prelude.{IfOk};
 ghost use Rattle.dd_line.specs.Line.{HasApp, HasRule, check_app, dicomdir_app, flag, index_app, labelled_app};
 ghost use Rattle.dd_line.specs.Line.{merge_app, number_option, one_path, reading_app, some_paths, text_option};
@@ -28,7 +28,7 @@ pub(crate) const SET: &str = "set";
 // The name of the images, each by its SOP Instance UID.
 pub(crate) const INSTANCE: &str = "instance";
 
-/// An option `--NAME VALUE` that may be left out.
+/// Makes an option `--NAME VALUE` that may be left out.
 fn option<'a>(alloc: Global, name: &'a str, value_name: &'a str, help: &'a str) -> Arg<'a>
     ensures { HasRule (text_option name.entry.now) result }
 {
@@ -38,14 +38,14 @@ fn option<'a>(alloc: Global, name: &'a str, value_name: &'a str, help: &'a str) 
         .help(help)
 }
 
-/// An option whose value is a number of `u32`.
+/// Makes an option whose value is a number of `u32`.
 fn number<'a>(alloc: Global, name: &'a str, value_name: &'a str, help: &'a str) -> Arg<'a>
     ensures { HasRule (number_option name.entry.now) result }
 {
     option(alloc, name, value_name, help).value_parser(value_parser!(u32))
 }
 
-/// A flag `--NAME` that may be left out.
+/// Makes a flag `--NAME` that may be left out.
 fn flag<'a>(alloc: Global, name: &'a str, help: &'a str) -> Arg<'a>
     ensures { HasRule (flag name.entry.now) result }
 {
@@ -55,7 +55,7 @@ fn flag<'a>(alloc: Global, name: &'a str, help: &'a str) -> Arg<'a>
         .help(help)
 }
 
-/// A path that has to be given.
+/// Makes a path that has to be given.
 fn path<'a>(alloc: Global, name: &'a str, value_name: &'a str, help: &'a str) -> Arg<'a>
     ensures { HasRule (one_path name.entry.now) result }
 {
@@ -65,14 +65,14 @@ fn path<'a>(alloc: Global, name: &'a str, value_name: &'a str, help: &'a str) ->
         .help(help)
 }
 
-/// Paths, at least one, or other words of that number.
+/// Makes an argument of one or more paths, or of one or more other words.
 fn paths<'a>(alloc: Global, name: &'a str, value_name: &'a str, help: &'a str) -> Arg<'a>
     ensures { HasRule (some_paths name.entry.now) result }
 {
     path(alloc, name, value_name, help).num_args(1..)
 }
 
-/// A command that labels a directory, with the options for that.
+/// Makes a command that labels a directory, with the options for that.
 fn labelled<'a>(alloc: Global, name: &'a str, about: &'a str) -> Result<Command<'a>, AllocError>
     ensures { IfOk result (HasApp (labelled_app name.entry.now)) }
 {
@@ -92,7 +92,7 @@ fn labelled<'a>(alloc: Global, name: &'a str, about: &'a str) -> Result<Command<
         ))
 }
 
-/// A command that writes a directory, with its options and the folder that it writes to.
+/// Makes a command that writes a directory, with its options and the folder that it writes to.
 fn writing<'a>(alloc: Global, name: &'a str, about: &'a str) -> Result<Command<'a>, AllocError>
     ensures { IfOk result (HasApp (writing_app name.entry.now)) }
 {
@@ -111,7 +111,7 @@ fn writing<'a>(alloc: Global, name: &'a str, about: &'a str) -> Result<Command<'
         ))
 }
 
-/// The command `index`.
+/// Makes the command `index`.
 fn index_command<'a>(alloc: Global) -> Result<Command<'a>, AllocError>
     ensures { IfOk result (HasApp index_app) }
 {
@@ -124,7 +124,7 @@ fn index_command<'a>(alloc: Global) -> Result<Command<'a>, AllocError>
     ))
 }
 
-/// The command `merge`.
+/// Makes the command `merge`.
 fn merge_command<'a>(alloc: Global) -> Result<Command<'a>, AllocError>
     ensures { IfOk result (HasApp merge_app) }
 {
@@ -137,7 +137,7 @@ fn merge_command<'a>(alloc: Global) -> Result<Command<'a>, AllocError>
     ))
 }
 
-/// The command `withdraw`.
+/// Makes the command `withdraw`.
 fn withdraw_command<'a>(alloc: Global) -> Result<Command<'a>, AllocError>
     ensures { IfOk result (HasApp withdraw_app) }
 {
@@ -157,7 +157,7 @@ fn withdraw_command<'a>(alloc: Global) -> Result<Command<'a>, AllocError>
         ))
 }
 
-/// A command that reads one file-set.
+/// Makes a command that reads one file-set.
 fn reading<'a>(alloc: Global, name: &'a str, about: &'a str) -> Result<Command<'a>, AllocError>
     ensures { IfOk result (HasApp (reading_app name.entry.now)) }
 {
@@ -169,11 +169,11 @@ fn reading<'a>(alloc: Global, name: &'a str, about: &'a str) -> Result<Command<'
     ))
 }
 
-/// The command `check`.
+/// Makes the command `check`.
 fn check_command<'a>(alloc: Global) -> Result<Command<'a>, AllocError>
     ensures { IfOk result (HasApp check_app) }
 {
-    let about = "Tells which files of a file-set are not those that its DICOMDIR names";
+    let about = "Checks that the files which a DICOMDIR names are there and unchanged";
     reading(alloc, "check", about)?.arg(flag(
         alloc,
         KEYS,
@@ -181,7 +181,7 @@ fn check_command<'a>(alloc: Global) -> Result<Command<'a>, AllocError>
     ))
 }
 
-/// The command `list`.
+/// Makes the command `list`.
 fn list_command<'a>(alloc: Global) -> Result<Command<'a>, AllocError>
     ensures { IfOk result (HasApp (reading_app (verb_name Verb.List))) }
 {
@@ -192,7 +192,7 @@ fn list_command<'a>(alloc: Global) -> Result<Command<'a>, AllocError>
     )
 }
 
-/// The program with its commands.
+/// Makes the program with its commands.
 pub(crate) fn program<'a>(alloc: Global) -> Result<Command<'a>, AllocError>
     ensures { IfOk result (HasApp dicomdir_app) }
 {

@@ -30,8 +30,8 @@ pub enum Verb {
     List,
 }
 
-/// What a command line asks for. `withdraw` has two paths, and one SOP Instance UID at least. `check` and `list`
-/// have one path alone, no ID, no UID, and 4294967295 as the most bytes.
+/// Says what a command line asks for. `withdraw` has two paths, and one SOP Instance UID at least. `check` and
+/// `list` have one path alone, no ID, no UID, and 4294967295 as the most bytes.
 #[derive(Debug, Drop)]
 pub struct Asked {
     /// The command.
@@ -47,12 +47,12 @@ pub struct Asked {
     pub paths: Vec<String>,
     /// The SOP Instance UIDs of the line, as it spells them, in their order: none but for `withdraw`.
     pub uids: Vec<String>,
-    /// Whether what the files say of themselves is compared with their records, too: `check --keys`. False for
-    /// every other command.
+    /// Whether the flag `--keys` is set, by which `check` also compares what each file says of itself with its
+    /// record. False for every other command.
     pub keys: bool,
 }
 
-/// Why a command line asks for nothing.
+/// Says why a command line asks for nothing.
 #[derive(Debug, Drop, Error)]
 pub enum LineFault {
     /// The words are no command line of the program, or ask for help. The text is for the user.
@@ -86,7 +86,7 @@ impl From<clap::Error> for LineFault {
     }
 }
 
-/// The value of an option, or `None` where it is not given.
+/// Copies the value of an option. `None` where it is not given.
 fn value_of(alloc: Global, given: &ArgMatches<'_>, name: &str) -> Result<Option<String>, AllocError>
     ensures { IfOk result (λ value.
         option_map string_bytes value ≡ first_of name.now (rows_of (found_of given.now))) }
@@ -97,7 +97,7 @@ fn value_of(alloc: Global, given: &ArgMatches<'_>, name: &str) -> Result<Option<
     }
 }
 
-/// The number of `--max-bytes`, or the most that there is where it is not given.
+/// Reads the number of `--max-bytes`, which is 4294967295 where it is not given.
 fn limit_of(given: &ArgMatches<'_>) -> u32
     requires { HasLimit (rows_of (found_of given.now)) }
     ensures { IsLimit (first_of max_bytes_name (rows_of (found_of given.now))) result }
@@ -105,7 +105,7 @@ fn limit_of(given: &ArgMatches<'_>) -> u32
     given.get_one::<u32>(MAX_BYTES).unwrap_or(u32::MAX)
 }
 
-/// Whether the flag `--keys` is given.
+/// Says whether the flag `--keys` is set.
 fn keys_of(given: &ArgMatches<'_>) -> bool
     requires { HasFlag (rows_of (found_of given.now)) }
     ensures { result ≡ is_given keys_name (rows_of (found_of given.now)) }
@@ -130,7 +130,7 @@ fn append_values(
     Ok(())
 }
 
-/// The paths: the folder that is written to, if any, and then those that are read.
+/// Lists the paths: the folder that is written to, if any, and then those that are read.
 fn paths_of(alloc: Global, given: &ArgMatches<'_>) -> Result<Vec<String>, AllocError>
     ensures { IfOk result (λ paths. words_of paths.items ≡ given_paths (rows_of (found_of given.now))) }
 {
@@ -141,7 +141,7 @@ fn paths_of(alloc: Global, given: &ArgMatches<'_>) -> Result<Vec<String>, AllocE
     Ok(paths)
 }
 
-/// The SOP Instance UIDs of the images.
+/// Lists the SOP Instance UIDs of the images.
 fn uids_of(alloc: Global, given: &ArgMatches<'_>) -> Result<Vec<String>, AllocError>
     ensures { IfOk result (λ uids. words_of uids.items ≡ given_for instance_name (rows_of (found_of given.now))) }
 {
@@ -150,7 +150,7 @@ fn uids_of(alloc: Global, given: &ArgMatches<'_>) -> Result<Vec<String>, AllocEr
     Ok(uids)
 }
 
-/// What the command asks for with its values.
+/// Reads what the command asks for with its values.
 fn asked_by(alloc: Global, verb: Verb, given: &ArgMatches<'_>) -> Result<Asked, AllocError>
     requires limit { HasLimit (rows_of (found_of given.now)) }
     requires flag { HasFlag (rows_of (found_of given.now)) }
@@ -173,7 +173,7 @@ fn asked_by(alloc: Global, verb: Verb, given: &ArgMatches<'_>) -> Result<Asked, 
     })
 }
 
-/// What the named command asks for.
+/// Reads what the named command asks for.
 fn asked_of(alloc: Global, found: &ArgMatches<'_>) -> Result<Asked, AllocError>
     requires { NamesCommand (subcommand_rows_of found.now) }
     ensures values { IfOk result (λ asked. IsAsked asked (subcommand_rows_of found.now)) }
@@ -193,7 +193,7 @@ fn asked_of(alloc: Global, found: &ArgMatches<'_>) -> Result<Asked, AllocError>
     }
 }
 
-/// What the parser finds in the words.
+/// Parses the words.
 fn parsed<'a>(alloc: Global, words: &'a [String]) -> Result<ArgMatches<'a>, LineFault>
     ensures found { IfOk result (λ found.
         subcommand_rows_of found ≡ subcommand_of dicomdir_app (words_of words.entry.now)) }
@@ -207,7 +207,7 @@ fn parsed<'a>(alloc: Global, words: &'a [String]) -> Result<ArgMatches<'a>, Line
     Ok(program(alloc)?.try_get_matches_from(words)?)
 }
 
-/// What the words of a command line ask for, the first word being the program's name.
+/// Reads what the words of a command line ask for. The first word is the program's name.
 ///
 /// A line that the program does not take, or that asks for help, is `Refused`.
 pub fn read_words(alloc: Global, words: &[String]) -> Result<Asked, LineFault>

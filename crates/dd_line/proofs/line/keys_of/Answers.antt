@@ -1,4 +1,4 @@
--- The flag is read of the text that its row has.
+-- Whether the flag is set is read from the text of its row.
 use Rattle.std.proofs.Common.{◌∙◌, codes}
 use Rattle.clap.specs.Takes.{is_given}
 use Rattle.clap.specs.Words.{found_of, one_of, rows_of}
