@@ -3,7 +3,7 @@ use Rattle.std.specs.Prelude.{ℕ, List, [], ◌++◌, Option, None, Some, bytes
 use Rattle.std.specs.Map.{update}
 use Rattle.std.specs.Option.{option_map, option_and_then}
 
--- files of which all is told
+-- files whose bytes are all known
 pub record Held : Type 0 where
   -- the bytes of the file at each path, where there is one
   pub bytes_at : List ℕ → Option (List ℕ)

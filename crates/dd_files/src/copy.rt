@@ -10,7 +10,7 @@ use dd_set::send;
 use sha2::{Digest, Sha256};
 use thiserror::Error;
 
-/// Why an image was not copied.
+/// Says why an image was not copied.
 #[derive(Clone, Copy, Debug, PartialEq, Eq, Error)]
 pub enum CopyFault {
     /// The reader failed.
@@ -24,12 +24,11 @@ pub enum CopyFault {
     Changed,
 }
 
-/// Copies what a reader gives to its end, of which there may be `limit` bytes, and answers the SHA-256
-/// of it.
+/// Copies what a reader gives to its end, at most `limit` bytes, and answers their SHA-256.
 ///
-/// 93 Unread where the reader fails, 96 Unsent where the writer does, and 97 Changed where the reader
-/// gives `limit` bytes and one more. The writer then holds a front of what the reader gave. It makes at
-/// most `limit` + 1 reads, and takes no memory.
+/// Refuses with 93 Unread where the reader fails, with 96 Unsent where the writer fails, and with 97 Changed
+/// where the reader gives more than `limit` bytes. The writer then holds a first part of what the reader gave.
+/// Makes at most `limit` + 1 reads, and takes no memory.
 pub fn copy_image<R: Read, W: Write>(
     reader: &mut R,
     writer: &mut W,

@@ -9,7 +9,7 @@ use crate::piece::{PIECE, read_piece};
 use dd_elem::Read;
 use sha2::{Digest, Sha256};
 
-/// The digest in hexadecimal, with lower case letters.
+/// Writes the digest in hexadecimal, with lower case letters.
 pub fn digest_text(digest: &[u8; 32]) -> [u8; 64]
     ensures { result ≡ encode_lower digest.now }
 {
@@ -18,8 +18,8 @@ pub fn digest_text(digest: &[u8; 32]) -> [u8; 64]
     text
 }
 
-/// The SHA-256 of what a reader gives to its end, of which there may be `limit` bytes: None where it
-/// fails or gives `limit` bytes and one more. It makes at most `limit` + 1 reads, and takes no memory.
+/// Computes the SHA-256 of what a reader gives to its end, at most `limit` bytes. None where it fails or
+/// gives more than `limit` bytes. Makes at most `limit` + 1 reads, and takes no memory.
 pub fn digest_of<R: Read>(reader: &mut R, limit: u64) -> Option<[u8; 32]>
     ensures digest { (given : List ℕ) × Gives R.has_given reader.old reader.new given
         × Consumes (R.remaining reader.old) (R.remaining reader.new) given

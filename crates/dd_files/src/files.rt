@@ -29,7 +29,7 @@ pub trait Files: Write {
     // How many calls were refused.
     ghost refusals: { Self → ℕ };
 
-    // What the files hold, where they tell it.
+    // What the files hold, where that is known.
     ghost held: { Self → Option Held };
 
     /// Opens a file for reading.
@@ -69,7 +69,7 @@ pub trait Files: Write {
         ensures kept { held self.new ≡ held self.old }
         ensures bytes { IsErr result → Self.contents self.new ≡ Self.contents self.old };
 
-    /// Makes a folder with its parents. One that is there is right.
+    /// Makes a folder with its parents. Succeeds where it is there already.
     fn folder(&mut self, path: &str) -> Result<(), NotDone>
         ensures worked { IsOk result → HasWorked (refusals self.old) (refusals self.new) }
         ensures refused { IsErr result → refusals self.new ≡ counted (refusals self.old) }
@@ -80,8 +80,8 @@ pub trait Files: Write {
         ensures kept { held self.new ≡ held self.old }
         ensures bytes { Self.contents self.new ≡ Self.contents self.old };
 
-    /// Makes a folder that stands below the folder `out`, with its parents. One that is there is right, but for a
-    /// link to one below `out`: nothing is made behind it.
+    /// Makes a folder below the folder `out`, with its parents. Succeeds where it is there already. Refuses a
+    /// symbolic link as a name below `out`, and makes nothing behind such a link.
     fn folder_in(&mut self, out: &str, path: &str) -> Result<(), NotDone>
         ensures worked { IsOk result → HasWorked (refusals self.old) (refusals self.new) }
         ensures refused { IsErr result → refusals self.new ≡ counted (refusals self.old) }
@@ -120,8 +120,8 @@ pub trait Files: Write {
         ensures kept { IsErr result → held self.new ≡ held self.old }
         ensures bytes { IsErr result → Self.contents self.new ≡ Self.contents self.old };
 
-    /// Has stored what was made: the bytes of the files that have ended, and the name of each new file and
-    /// folder. Behind the end of a file that is no directory, a call may put this off to the next one.
+    /// Stores what was made: the bytes of the files that have ended, and the name of each new file and folder.
+    /// Behind the end of a file that is no directory, a call may put this off to the next call.
     fn store(&mut self) -> Result<(), NotDone>
         ensures worked { IsOk result → HasWorked (refusals self.old) (refusals self.new) }
         ensures refused { IsErr result → refusals self.new ≡ counted (refusals self.old) }

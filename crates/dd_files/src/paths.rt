@@ -8,8 +8,8 @@ use std::alloc::Global;
 /// The name of the directory in the folder of its file-set (PS3.10 section 8.6).
 pub const DIRECTORY: &str = "DICOMDIR";
 
-/// The path of a name in a folder: one `/` stands between them, none is added where the folder's text
-/// ends in `/`, and in an empty folder it is the bare name. Memory where a growth is refused.
+/// Gives the path of a name in a folder. One `/` stands between them: none is added where the folder's text
+/// ends in `/`, and behind an empty folder the path is the bare name. Memory where a growth is refused.
 pub fn path_in(alloc: Global, folder: &str, name: &str) -> Result<String, Memory>
     ensures bare { IfOk result (λ path. folder.now ≡ [] → string_bytes path ≡ name.now) }
     ensures ended { IfOk result (λ path. EndsInSlash folder.now
@@ -39,8 +39,8 @@ fn ends_in_slash(text: &str) -> bool
     text.as_bytes().ends_with(b"/")
 }
 
-/// The path of the file with this File ID in the folder of its file-set: the File ID, with `/` between the
-/// components (PS3.10 section 8.2). Memory where a growth is refused.
+/// Gives the path of the file with this File ID in the folder of its file-set: `/` stands between the
+/// components of the File ID (PS3.10 section 8.2). Memory where a growth is refused.
 pub fn file_path(alloc: Global, folder: &str, file: &[u8]) -> Result<String, Memory>
     ensures { IfOk result (λ path. All (λ byte. byte < 128) file.now
         → IsPathIn folder.now (id_path file.now) (string_bytes path)) }
@@ -52,7 +52,7 @@ pub fn file_path(alloc: Global, folder: &str, file: &[u8]) -> Result<String, Mem
     Ok(path)
 }
 
-/// What stands in a path for a character of a File ID: `/` for `\`.
+/// Gives what stands in a path for a character of a File ID: `/` for `\`.
 pub fn slashed(byte: u8) -> char
     ensures { result ≡ slashed byte }
 {

@@ -9,7 +9,7 @@ use dd_elem::Read;
 /// The most bytes of one read.
 pub(crate) const PIECE: usize = 64 * 1024;
 
-/// Why no piece was read.
+/// Says why no piece was read.
 #[derive(Clone, Copy)]
 pub(crate) enum PieceFault {
     /// The reader failed.
@@ -18,8 +18,8 @@ pub(crate) enum PieceFault {
     TooLong,
 }
 
-/// Reads the next piece into the front of the buffer and answers its length, which is 0 at the end.
-/// `left` bytes may still come: TooLong where the reader gives these and one more. It makes one read.
+/// Reads the next piece into the front of the buffer, and answers its length, which is 0 at the end. Refuses
+/// with TooLong where the reader gives more than the `left` bytes that may still come. Makes one read.
 pub(crate) fn read_piece<R: Read>(
     reader: &mut R,
     left: u64,

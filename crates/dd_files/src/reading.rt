@@ -8,7 +8,7 @@ use crate::piece::{PIECE, PieceFault, read_piece};
 use dd_elem::Read;
 use std::alloc::Global;
 
-/// Why a file was not read whole.
+/// Says why a file was not read whole.
 #[derive(Clone, Copy, Debug, PartialEq, Eq)]
 pub enum ReadFault {
     /// A read failed.
@@ -19,10 +19,10 @@ pub enum ReadFault {
     Memory,
 }
 
-/// Reads to the end, and gives the bytes, of which there may be `limit`.
+/// Reads to the end, and gives the bytes, at most `limit`.
 ///
-/// Read where the reader fails, TooLong where it gives `limit` bytes and one more, and Memory
-/// where a growth is refused. It makes at most `limit` + 1 reads.
+/// Refuses with Read where the reader fails, with TooLong where it gives more than `limit` bytes, and with
+/// Memory where a growth is refused. Makes at most `limit` + 1 reads.
 pub fn read_whole<R: Read>(alloc: Global, reader: &mut R, limit: u64) -> Result<Vec<u8>, ReadFault>
     ensures gave { (given : List ℕ) × Gives R.has_given reader.old reader.new given
         × Consumes (R.remaining reader.old) (R.remaining reader.new) given
