@@ -4,7 +4,7 @@ import itertools
 import random
 import struct
 
-from dicom import (CT_CLASS, EXPLICIT, FIRST, ITEM, RLE, SEQUENCE_END, UNDEFINED, delimited, directory, element, head,
+from dicom import (CT_CLASS, EXPLICIT, FIRST, ITEM, SEQUENCE_END, UNDEFINED, delimited, directory, element, head,
                    number_of, record, text)
 
 CREATOR = b"DD FILESET 1"
@@ -16,22 +16,22 @@ LONG_KEY = b"k" * 1024
 # Directories of any form.
 
 def empty_items(count):
-    """So many items without elements."""
+    """This number of items without elements."""
     return delimited(ITEM, b"") * count
 
 
 def empty_elements(count, group=9):
-    """So many elements without a value, from this group on."""
+    """This number of elements without a value, from this group on."""
     return b"".join(struct.pack("<HH2sH", group + number // 65536, number % 65536, b"CS", 0) for number in range(count))
 
 
 def empty_sequences(count):
-    """So many sequences without items, from group 0009 on."""
+    """This number of sequences without items, from group 0009 on."""
     return b"".join(struct.pack("<HH2sxxI", 9 + number // 65536, number % 65536, b"SQ", 0) for number in range(count))
 
 
 def nested_items(levels):
-    """An item that holds a sequence of one item, and so on, this many levels."""
+    """An item that holds a sequence of one item, and so on, down to this number of levels."""
     items = b""
     for _ in range(levels):
         items = delimited(ITEM, element(8, 0x1140, b"SQ", items))
@@ -55,15 +55,15 @@ def with_records(mores, order=None, kind=b"X"):
     return directory(items, places[order[0]], places[order[-1]])
 
 
-def drawn(count):
-    """The numbers below this one in an order that was drawn."""
+def shuffled(count):
+    """The numbers below this one in a random order, which is the same each time."""
     order = list(range(count))
     random.Random(1).shuffle(order)
     return order
 
 
 def chains(count, levels):
-    """A directory with so many records, each below the one before it, down to this many levels."""
+    """A directory with this number of records, each below the one before it, down to this number of levels."""
     size = len(record(0, 0))
     roots = range(0, count - count % levels, levels)
     items = []
@@ -125,38 +125,39 @@ def own(rows, behind=b""):
 
 
 def one_series(count, above=None, key=b"0"):
-    """A directory of so many images of one series, below these three records."""
+    """A directory of this number of images of one series, below these three records."""
     above = [patient(), study(), series()] if above is None else above
     return own([*above, *(listed_image(number, key) for number in range(count))])
 
 
 def long_keys(count):
-    """A directory of so many images of one series, below keys of 1,024 bytes."""
+    """A directory of this number of images of one series, below keys of 1,024 bytes."""
     return one_series(count, [patient(LONG_KEY), study(LONG_KEY), series(LONG_KEY)])
 
 
 def each_of_its_own(count):
-    """A directory of so many images, each of its own patient."""
+    """A directory of this number of images, each of its own patient."""
     rows = ((patient(number=number), study(number=number), series(number=number), listed_image(number))
             for number in range(count))
     return own(list(itertools.chain.from_iterable(rows)))
 
 
 def below_elements(size):
-    """A directory of this size, half of it elements in front of the keys of a STUDY record, which may be
-    1,572,864 bytes, and half of it images below that."""
+    """A directory of this size. Half of it is elements in front of the keys of a STUDY record, of which there is
+    room for 1,572,864 bytes, and half is images below that record."""
     return one_series(size // 2 // 214, [patient(), study(before=empty_elements(size // 16, 5)), series()])
 
 
 def below_padding(size):
-    """A directory of this size, half of it padding behind a character set, and half of it images below that."""
+    """A directory of this size. Half of it is padding, in the place of the character set of a PATIENT record, and half
+    is images below that record."""
     level, kind, keys = patient()
     padded = element(8, 0x0005, b"UT", b" " * (size // 2)) + keys[len(element(8, 0x0005, b"CS", b"")):]
     return one_series(size // 2 // 214, [(level, kind, padded), study(), series()])
 
 
 def parts_of_uids(length):
-    """All texts of so many characters that are UIDs."""
+    """All texts of this length that are UIDs."""
     for first in range(1, length + 1):
         numbers = range(10 ** (first - 1) if first > 1 else 0, 10 ** first)
         if first == length:
@@ -167,13 +168,13 @@ def parts_of_uids(length):
 
 
 def short_uids(count):
-    """So many UIDs of the fewest characters, in their order."""
+    """This number of UIDs, of as few characters as there are, in their order."""
     all_uids = itertools.chain.from_iterable(parts_of_uids(length) for length in itertools.count(1))
     return sorted(itertools.islice(all_uids, count))
 
 
 def withdrawing(value):
-    """A directory without records whose value for withdrawn UIDs is this one."""
+    """A directory without records, with this value in the place of its withdrawn UIDs."""
     return directory(b"", 0, 0, behind=text(9, 0x0010, b"LO", CREATOR) + text(9, 0x1002, b"UC", value))
 
 
@@ -205,10 +206,10 @@ def group_of_items():
 
 
 def fragments(count):
-    """Pixel data in so many fragments without bytes."""
+    """Pixel data in this number of fragments without bytes."""
     return element(0x7FE0, 0x0010, b"OB", b"", UNDEFINED) + empty_items(count) + delimited(SEQUENCE_END, b"")
 
 
 def pixels(size):
-    """Pixel data of so many bytes."""
+    """Pixel data of this number of bytes."""
     return element(0x7FE0, 0x0010, b"OW", bytes(size))

@@ -5,7 +5,7 @@ import os
 
 from rooms import DIRECTORY, OUTPUT, count_kinds, harm, result_of, tell_standing
 
-# It is opened first, in the place of a standard descriptor that is closed.
+# It is opened first. Where a standard descriptor is closed, it stays open in its place.
 NULL = "/dev/null"
 
 # The errors that the calls fail with. EACCES and EINVAL are what a system says that can't store a folder, EMFILE is
@@ -56,8 +56,9 @@ def open_copies(calls, at):
 
 
 def of_look(case, call, lasts):
-    """The look whether OUT has a directory fails, or its opening: it is looked for again, in all spellings."""
-    # It has one. Where each later call fails too, it counts as none, and so does the first source.
+    """The look whether OUT has a directory, or its opening, fails: OUT is looked at again, under all spellings."""
+    # OUT has a directory, which is found then. Where each later call fails too, none is found, and the first source
+    # is not found either.
     return case.command.words.split()[2] + ": 92 Absent" if lasts else None
 
 
@@ -74,7 +75,7 @@ def of_reading(case, at, error, lasts):
     """A look at what is there, its opening, or a read of it fails."""
     calls = case.right.calls
     call = calls[at]
-    # What is not there may be looked for in vain.
+    # Where nothing is there, a look that fails says the same.
     if call.name == "statx" and call.answer < 0:
         return None
     if call.path == NULL:

@@ -40,13 +40,3 @@ pub(crate) fn shown(alloc: Global, question: &str) -> Result<String, Fail> {
 fn lines_show_no_control_character(rt: HostRuntime) -> Result<(), Fail> {
     ask_all(&rt, rt.alloc(), Ask::Shown, LINES)
 }
-
-#[test]
-fn the_parser_shows_no_control_character(rt: HostRuntime) -> Result<(), Fail> {
-    let mut files = disc(rt.alloc())?;
-    let line = "- - dicomdir list a \u{1b}[2J\u{9b}\nb";
-    let end = end_of(rt.alloc(), line, &mut files)?;
-    let begin = "2 [] [error: unexpected argument '?[2J??b' found|";
-    assert!(rt; end.as_str().starts_with(begin), "{end}");
-    Ok(())
-}
