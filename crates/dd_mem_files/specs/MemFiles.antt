@@ -100,7 +100,7 @@ unread bytes fails = record { given = []; left = bytes; fails = fails; counts = 
 abbrev pub held_of : Stored → Held
 held_of s = record { bytes_at = bytes_at s.files; current = s.current }
 
--- what they tell of it: nothing where a file is to change
+-- what their contract says of it: nothing where a file is to change
 abbrev pub told : Option Change → Held → Option Held
 told None held = Some held
 told (Some change) held = None

@@ -49,7 +49,7 @@ parts_grow c d f g bytes is =
     (λ same adds. ap (λ (files : List ℕ → Option (List ℕ)). record { bytes_at = files; current = c })
     (grown_at c f g bytes same adds))
 
--- the same, of what is told
+-- the same, where the contract says what the files hold
 told_grows : (c d : Option Change) (h k : Held) (bytes : List ℕ) → d ≡ c → k ≡ grown bytes h
     → told d k ≡ option_map (grown bytes) (told c h)
 told_grows None d h k bytes is grows = rw is (ap (λ (held : Held). Some held) grows)
@@ -63,7 +63,7 @@ held_grows old new bytes same adds =
     (parts_grow old.current new.current (bytes_at old.files) (bytes_at new.files) bytes
     (ap (λ (s : Unwritten). s.current) same) (ap (λ (s : Unwritten). s.bytes_at) same) adds)
 
--- the bytes that are being written, by what is told
+-- the bytes that are being written, where the contract says what the files hold
 told_written : (later : Option Change) (h : Held) → IfSome (told later h) (λ now. written h ≡ written now)
 told_written None h = refl
 told_written (Some change) h = tt

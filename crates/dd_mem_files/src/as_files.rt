@@ -16,9 +16,9 @@ impl Files for MemFiles {
 
     ghost held = { told_of };
 
-    /// Gives a reader of a copy of the file's bytes; a file that changes later has its new bytes from its
-    /// second opening on. NotThere where the call is to be refused, there is no such file, a growth is refused or
-    /// the refusals are at their last value; the files are then as they were, and it is no opening.
+    /// Opens a copy of the file's bytes for reading. A file that is to change has its new bytes from its second
+    /// opening on. NotThere where the call is to be refused, there is no such file, a growth is refused or the
+    /// refusals are at their last value. The files are then as they were, and it is no opening.
     fn source(&mut self, path: &str) -> Result<MemReader, NotThere>
         ensures worked { IsOk result → HasWorked self.old.refusals self.new.refusals }
         ensures refused { IsErr result → self.new.refusals ≡ counted self.old.refusals }
@@ -38,9 +38,9 @@ impl Files for MemFiles {
         Err(NotThere)
     }
 
-    /// Gives such a reader of the file at the path, which is named there as it is recorded. NotThere where
-    /// there is no such file, a growth is refused or the refusals are at their last value; the files are then as
-    /// they were, and it is no opening. It is not one of the calls that `fail_call` counts.
+    /// Opens the file at the path like `source`; its names are spelled as they are recorded. NotThere where
+    /// there is no such file, a growth is refused or the refusals are at their last value. The files are then as
+    /// they were, and it is no opening. `fail_call` does not count this call.
     fn member(&mut self, _set: &str, path: &str) -> Result<MemReader, NotThere>
         ensures worked { IsOk result → HasWorked self.old.refusals self.new.refusals }
         ensures refused { IsErr result → self.new.refusals ≡ counted self.old.refusals }
@@ -60,8 +60,8 @@ impl Files for MemFiles {
         Err(NotThere)
     }
 
-    /// Every folder is there. NotDone only where the call is to be refused or the refusals are at their last
-    /// value.
+    /// Succeeds, since every folder is there. NotDone only where the call is to be refused or the refusals are at
+    /// their last value.
     fn folder(&mut self, _path: &str) -> Result<(), NotDone>
         ensures worked { IsOk result → HasWorked self.old.refusals self.new.refusals }
         ensures refused { IsErr result → self.new.refusals ≡ counted self.old.refusals }
@@ -76,7 +76,7 @@ impl Files for MemFiles {
         Err(NotDone)
     }
 
-    /// The same: no link is kept.
+    /// Does the same as `folder`, since no path is a link.
     fn folder_in(&mut self, _out: &str, path: &str) -> Result<(), NotDone>
         ensures worked { IsOk result → HasWorked self.old.refusals self.new.refusals }
         ensures refused { IsErr result → self.new.refusals ≡ counted self.old.refusals }
@@ -88,7 +88,7 @@ impl Files for MemFiles {
     }
 
     /// Starts an empty file at the path. NotDone where the call is to be refused, the path is there, a growth is
-    /// refused or the refusals are at their last value; the files are then as they were.
+    /// refused or the refusals are at their last value. The files are then as they were.
     fn create(&mut self, path: &str) -> Result<(), NotDone>
         ensures worked { IsOk result → HasWorked self.old.refusals self.new.refusals }
         ensures refused { IsErr result → self.new.refusals ≡ counted self.old.refusals }
@@ -107,8 +107,8 @@ impl Files for MemFiles {
         Err(NotDone)
     }
 
-    /// Ends the file that is being written; later writes fail until the next is started. NotDone only where the
-    /// call is to be refused or the refusals are at their last value, and then it goes on.
+    /// Ends the file that is being written. Later writes fail until the next file is started. NotDone only where
+    /// the call is to be refused or the refusals are at their last value; the file has then not ended.
     fn finish(&mut self) -> Result<(), NotDone>
         ensures worked { IsOk result → HasWorked self.old.refusals self.new.refusals }
         ensures refused { IsErr result → self.new.refusals ≡ counted self.old.refusals }
@@ -124,7 +124,7 @@ impl Files for MemFiles {
         Ok(())
     }
 
-    /// All is stored as soon as it is made. NotDone only where the refusals are at their last value.
+    /// Does nothing, since all is stored when it is made. NotDone only where the refusals are at their last value.
     fn store(&mut self) -> Result<(), NotDone>
         ensures worked { IsOk result → HasWorked self.old.refusals self.new.refusals }
         ensures refused { IsErr result → self.new.refusals ≡ counted self.old.refusals }
@@ -138,7 +138,7 @@ impl Files for MemFiles {
         }
     }
 
-    /// The current folder: all is stored.
+    /// Names the current folder, since all is stored.
     fn unstored(&self) -> &str
         ensures { result.now ≡ codes "." }
     {

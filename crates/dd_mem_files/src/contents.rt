@@ -24,7 +24,7 @@ pub(crate) fn set(
 }
 
 /// Adds the bytes to the end of the file at the path. NotDone where no file is at the path or its growth
-/// is refused; the files are then as they were.
+/// is refused. The files are then as they were.
 pub(crate) fn append(
     files: &mut BTreeMap<String, Vec<u8>>,
     path: &str,

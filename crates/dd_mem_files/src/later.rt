@@ -21,7 +21,7 @@ impl Drop for Later {
     }
 }
 
-/// The bytes that the path gets at its next opening, where it changes then.
+/// Gives the bytes that the path gets at its next opening, where it changes then.
 pub(crate) fn due_bytes<'a>(later: &'a Option<Later>, path: &str) -> Option<&'a [u8]>
     ensures { option_copied result ≡ due (option_map change_of later.now) path.now }
 {

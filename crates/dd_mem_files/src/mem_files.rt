@@ -21,8 +21,8 @@ use std::collections::BTreeMap;
 use std::io;
 use std::marker::Model;
 
-/// Files in memory, by their paths. Folders are not kept. Where one is to change later, they do not tell
-/// what they hold.
+/// Files in memory, by their paths. They keep no folders. Where a file is to change later, their contract does
+/// not say what they hold.
 #[derive(Debug)]
 pub struct MemFiles {
     alloc: Global,
@@ -63,7 +63,7 @@ impl Model for MemFiles {
 }
 
 impl MemFiles {
-    /// No files.
+    /// Makes an empty set of files.
     pub fn new(alloc: Global) -> Self
         ensures { result ≡ record {
           files = [];
@@ -95,8 +95,8 @@ impl MemFiles {
         set(self.alloc, &mut self.files, path, bytes)
     }
 
-    /// From its second opening on, counted from now, the path has these bytes. The files do not tell any
-    /// more what they hold. Memory where a growth is refused, and then nothing has changed.
+    /// Gives the path these bytes from its second opening on, counted from now. The files' contract then no longer
+    /// says what they hold. Memory where a growth is refused, and then nothing has changed.
     pub fn put_later(&mut self, path: &str, bytes: &[u8]) -> Result<(), Memory>
         ensures ok { OnOk result (self.new ≡ record self.old {
           later = Some (record { path = path.now; bytes = bytes.now; is_opened = false });
@@ -145,7 +145,7 @@ impl MemFiles {
         Ok(())
     }
 
-    /// The bytes of the file at the path, where there is one.
+    /// Gives the bytes of the file at the path, where there is one.
     pub fn bytes(&self, path: &str) -> Option<&[u8]>
         ensures { option_copied result ≡ bytes_at self.now.files path.now }
     {
@@ -212,7 +212,8 @@ impl MemFiles {
         Ok(())
     }
 
-    /// Counts a call. May it be done? Not where it is to be refused, or the refusals are at their last value.
+    /// Counts a call, and says whether it may be done: not where it is to be refused, or the refusals are at their
+    /// last value.
     pub(crate) fn begin(&mut self) -> bool
         ensures may { IsTrue result ↔ MayCall self.old }
         ensures same { self.new ≡ called self.old }
@@ -229,7 +230,7 @@ impl MemFiles {
     }
 
     // Adds what a write takes of the bytes to the end of the file that is being written, and answers how many
-    // these are. NotDone where there is no such file, its growth is refused or writes are to fail; the files are
+    // these are. NotDone where there is no such file, its growth is refused or writes are to fail. The files are
     // then as they were.
     fn append(&mut self, bytes: &[u8]) -> Result<usize, NotDone>
         ensures room { IsOk result → IsBeforeFail self.old.planned.room 0 }
@@ -264,9 +265,9 @@ impl Write for MemFiles {
 
     ghost rest = { unwritten };
 
-    /// Takes the whole piece, or what fits before writes are to fail, to the end of the file that is being
-    /// written. It fails there, where there is no such file, where a count is at its last value and where a
-    /// growth is refused, and then takes nothing.
+    /// Adds the whole piece, or what fits before writes are to fail, to the end of the file that is being
+    /// written. Fails where writes are to fail, where there is no such file, where a count is at its last value
+    /// and where a growth is refused. It then adds nothing.
     fn write(&mut self, bytes: &[u8]) -> io::Result<usize>
         ensures bound { WritesAtMost result bytes.now }
         ensures appends { WriteAppends (written_of self.old) (written_of self.new) result bytes.now }

@@ -51,7 +51,7 @@ impl MemReader {
         }
     }
 
-    /// How many bytes the next read gives, or None where it fails.
+    /// Says how many bytes the next read gives. None where it fails.
     fn next_len(&self, room: usize) -> Option<usize>
         ensures readable { IsSome result ↔ IsReadable self.now }
         ensures len { IfSome result (λ n. n ≡ next_len self.now room) }
@@ -81,8 +81,8 @@ impl Read for MemReader {
 
     ghost has_given = { λ s _ bytes. bytes ≡ s.given };
 
-    /// Gives the next bytes, as many as there is room for and as are left, up to where it fails for good. It
-    /// fails there, and where a count is at its last value.
+    /// Gives the next bytes, as many as there is room for and as are left, up to the place where it fails for
+    /// good. Fails at that place, and where a count is at its last value.
     fn read(&mut self, buf: &mut [u8]) -> io::Result<usize>
         ensures bound { ReadsAtMost result buf.new }
         ensures called { self.new.counts.calls ≡ counted self.old.counts.calls }

@@ -33,7 +33,7 @@ impl Model for PlannedFaults {
 }
 
 impl PlannedFaults {
-    /// Nothing is to fail.
+    /// Plans that nothing fails.
     pub(crate) fn new() -> Self
         ensures { result ≡ nothing_planned }
     {
@@ -71,7 +71,7 @@ impl PlannedFaults {
         });
     }
 
-    /// How many bytes of a piece of this length the next write takes, or None where it fails.
+    /// Says how many bytes of a piece of this length the next write takes. None where it fails.
     pub(crate) fn taken_len(&self, len: usize) -> Option<usize>
         ensures writable { IsSome result ↔ IsBeforeFail self.now.room 0 }
         ensures len { IfSome result (λ n. n ≡ passing self.now.room 0 len) }
@@ -92,7 +92,7 @@ impl PlannedFaults {
         }
     }
 
-    /// Counts a call. Is it to be refused?
+    /// Counts a call, and says whether it is to be refused.
     pub(crate) fn call(&mut self) -> bool
         ensures refuses { IsTrue result ↔ (self.old.call ≡ 1) }
         ensures after { self.new ≡ after_call self.old }
@@ -102,7 +102,7 @@ impl PlannedFaults {
         is_refused
     }
 
-    /// After how many bytes a reader that is opened at this path now is to fail.
+    /// Says after how many bytes a reader that is opened at this path now is to fail.
     fn fails_at(&self, path: &str) -> Option<u64>
         ensures { result ≡ fails_at self.now.reader path.now }
     {
