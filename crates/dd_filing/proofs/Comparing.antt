@@ -1,4 +1,4 @@
--- Which of the three a file is, from the version that was read of it.
+-- What a copied file is, compared with the planned version, from the version that was read of it.
 use Rattle.std.proofs.Common.{◌≡◌, ℕ, List, Option, None, Some, Ok, refl, sym, ◌∙◌, subst}
 use Rattle.dd_keys.specs.declared.parts.Parts.{Parts}
 use Rattle.dd_keys.specs.Versions.{IsVersion}
@@ -6,7 +6,7 @@ use Rattle.dd_filing.specs.declared.agreeing.Filed.{Filed}
 use Rattle.dd_filing.specs.declared.agreeing.Filed.TheVariants.{AsPlanned, OtherVersion, Mislabelled}
 use Rattle.dd_filing.specs.Filing.{IsCopyOfVersion, IsFileAs, IsFiled, IsVersionAs, IsVersionOrNone}
 
--- a file has one version at most, so it is of the three what that is
+-- a file is what its version is, since it has one version at most
 version_as : (planned version : Parts) (filed : Filed) (file : List ℕ)
     → ((file : List ℕ) (one other : Parts) → IsVersion file one → IsVersion file other → one ≡ other)
     → IsVersion file version → IsVersionAs planned filed version → IsFileAs planned filed file
@@ -15,7 +15,7 @@ version_as planned version OtherVersion file one is same = (version, (is, same))
 version_as planned version Mislabelled file one is same =
     λ other its. subst (IsVersionAs planned Mislabelled) (one file version other is its) same
 
--- a version was copied
+-- the copied bytes are a file of a version
 pub version_filed : {R : Type 0} (planned version : Parts) (filed : Filed) (limit : ℕ) (given : List ℕ)
     (left : Option (List ℕ)) (read_old read_new : ℕ) (old new : Option (List ℕ) × R) (f g : ℕ)
     → ((file : List ℕ) (one other : Parts) → IsVersion file one → IsVersion file other → one ≡ other)
@@ -27,18 +27,18 @@ version_filed planned version filed limit given left read_old read_new old new f
     let is : IsVersion given version = subst (λ (v : Option Parts). IsVersionOrNone given v) some h.0 in
     (version_as planned version filed given one is same, h.1)
 
--- none was
-pub none_filed : {R : Type 0} (planned : Parts) (limit : ℕ) (given : List ℕ)
+-- the copied bytes are a file of no version
+pub no_version_filed : {R : Type 0} (planned : Parts) (limit : ℕ) (given : List ℕ)
     (left : Option (List ℕ)) (read_old read_new : ℕ) (old new : Option (List ℕ) × R) (f g : ℕ)
     → (found : Option Parts) → found ≡ None
     → IsCopyOfVersion (Ok found) limit given left read_old read_new old new f g
     → IsFiled planned (Ok Mislabelled) limit given left read_old read_new old new f g
-none_filed planned limit given left read_old read_new old new f g found none h =
+no_version_filed planned limit given left read_old read_new old new f g found none h =
     let no : (version : Parts) → ¬ IsVersion given version =
     subst (λ (v : Option Parts). IsVersionOrNone given v) none h.0 in
     (λ version is. absurd (no version is), h.1)
 
--- ---- a file is one of the three only
+-- ---- a file is only one of these
 
 -- a file has one digest
 same_digest : (file : List ℕ) (one other : Parts) → IsVersion file one → IsVersion file other

@@ -1,4 +1,4 @@
--- What a copy answers, from what was read of it and what went.
+-- The answer of a copy, from the answer of reading the version and from what was written.
 use Rattle.std.proofs.Common.{◌≡◌, ◌≢◌, ℕ, ◌+◌, ◌≤◌, List, length, Option, None, Some, Result, Ok, Err}
 use Rattle.std.proofs.Common.{refl, ap, subst, arith}
 use Rattle.dd_set.specs.Sends.{Goes}
@@ -10,23 +10,24 @@ use Rattle.dd_keys.specs.Faults.{IsWantOfMemory, SaysMemory}
 use Rattle.dd_keys.specs.declared.fault.KeyFault.{KeyFault}
 use Rattle.dd_keys.specs.declared.fault.KeyFault.TheVariants as faults
 use Rattle.dd_keys.specs.declared.parts.Parts.{Parts}
-use Rattle.dd_filing.specs.Filing.{IsCopyAnswer, IsCopyOfVersion, IsFilingFault}
+use Rattle.dd_filing.specs.CopySteps.{IsCopyAnswer, IsFilingFault}
+use Rattle.dd_filing.specs.Filing.{IsCopyOfVersion}
 use Rattle.dd_filing.proofs.Sending.{sent_whole}
 use Rattle.dd_filing.specs.Sent.{IsCounted, IsSent, late_count}
 use Rattle.dd_filing.specs.declared.copying.FilingFault.{FilingFault}
-use Rattle.dd_filing.specs.declared.copying.FilingFault.TheVariants.{Memory, Unread, Unsent, TooLong}
+use Rattle.dd_filing.specs.declared.copying.FilingFault.TheVariants.{Memory, Unread, Unsent, Changed}
 
--- where no write failed the tee's counts are those of its reader
-none_late : (limit : ℕ) (given : List ℕ) (left : Option (List ℕ)) (read_old read_new : ℕ) (was now : Option ℕ)
+-- where no write failed, the counts of the tee are those of its reader
+tee_unfailed : (limit : ℕ) (given : List ℕ) (left : Option (List ℕ)) (read_old read_new : ℕ) (was now : Option ℕ)
     (answer : Result Parts KeyFault) → was ≡ None → now ≡ None
     → AnswersReader limit given left (late_count read_old was) (late_count read_new now) answer
     → AnswersReader limit given left read_old read_new answer
-none_late limit given left read_old read_new was now answer e f h =
+tee_unfailed limit given left read_old read_new was now answer e f h =
     subst (λ (l : Option ℕ). AnswersReader limit given left read_old (late_count read_new l) answer) f
     (subst (λ (l : Option ℕ). AnswersReader limit given left (late_count read_old l) (late_count read_new now) answer)
     e h)
 
--- however it ended, no more came than one byte behind the limit
+-- however the reading ended, the reader gave at most one byte more than the limit
 short : (limit : ℕ) (given : List ℕ) (left : Option (List ℕ)) (old new : ℕ) (answer : Result Parts KeyFault)
     → AnswersReader limit given left old new answer → length given ≤ limit + 1
 short limit given left old new (Ok parts) h = omega (arith, (h.ended (λ e. absurd (cc)) (λ e. absurd (cc))).0)
@@ -34,7 +35,7 @@ short limit given left old new (Err faults.Read) h = omega (arith, (h.read refl)
 short limit given left old new (Err faults.FileTooLong) h = omega (arith, (h.long refl).0)
 short limit given left old new (Err fault) h = omega (arith, (h.ended (λ e. absurd (cc)) (λ e. absurd (cc))).0)
 
--- errors that are one have one fault
+-- equal errors have equal faults
 abbrev refused : KeyFault → Result Parts KeyFault
 refused fault = Err fault
 
@@ -54,7 +55,7 @@ version_read limit given left read_old read_new version old new f g h went =
       ((h.ended unread short), went),
     )
 
--- a fault that says nothing of memory is no want of it
+-- a fault that does not say memory is no want of memory
 no_want : (set_wants : List ℕ → Type 0) (file : List ℕ) (fault : KeyFault) → ¬ SaysMemory fault
     → IsWantOfMemory set_wants file fault → ⊥
 no_want set_wants file faults.Memory silent want = silent tt
@@ -62,20 +63,20 @@ no_want set_wants file (faults.File (Meta parsing.Memory)) silent want = silent 
 no_want set_wants file (faults.File (Set parsing.Memory)) silent want = silent tt
 no_want set_wants file fault silent want = want
 
--- it was read to its end, and there is none
-none_read : {R : Type 0} (limit : ℕ) (given : List ℕ) (left : Option (List ℕ)) (read_old read_new : ℕ)
+-- the bytes were read to their end, and are no file of a version
+no_version_read : {R : Type 0} (limit : ℕ) (given : List ℕ) (left : Option (List ℕ)) (read_old read_new : ℕ)
     (fault : KeyFault) (old new : Option (List ℕ) × R) (f g : ℕ)
     → AnswersReader limit given left read_old read_new (Err fault)
     → IsFilingFault fault None → Goes given old new f g
     → IsCopyOfVersion (Ok None) limit given left read_old read_new old new f g
-none_read limit given left read_old read_new fault old new f g h by went =
+no_version_read limit given left read_old read_new fault old new f g h by went =
     let unread : refused fault ≢ refused faults.Read = λ e. by.0 (err_same fault faults.Read e) in
     let short : refused fault ≢ refused faults.FileTooLong = λ e. by.1.0 (err_same fault faults.FileTooLong e) in (
       λ version is. no_want SetWants given fault by.1.1 ((h.whole unread short by.1.1).only version is),
       ((h.ended unread short), went),
     )
 
--- it came to no end
+-- the copy is refused, though no write failed
 version_refused : {R : Type 0} (limit : ℕ) (given : List ℕ) (left : Option (List ℕ)) (read_old read_new : ℕ)
     (fault : KeyFault) (is : FilingFault) (old new : Option (List ℕ) × R) (f g : ℕ)
     → AnswersReader limit given left read_old read_new (Err fault)
@@ -91,33 +92,33 @@ version_refused limit given left read_old read_new fault Memory old new f g h by
     )
 version_refused limit given left read_old read_new fault Unread old new f g h by went =
     ((h.read (ap (λ e. Err e) by)), went)
-version_refused limit given left read_old read_new fault TooLong old new f g h by went =
+version_refused limit given left read_old read_new fault Changed old new f g h by went =
     ((h.long (ap (λ e. Err e) by)), went)
 version_refused limit given left read_old read_new fault Unsent old new f g h by went = absurd by
 
--- what a copy answers, where no write failed
+-- the answer of a copy, where no write failed
 pub copied : {R : Type 0} (limit : ℕ) (given : List ℕ) (left : Option (List ℕ)) (read_old read_new : ℕ)
     (was now : Option ℕ) (answer : Result Parts KeyFault) (is : Result (Option Parts) FilingFault)
     (old new : Option (List ℕ) × R) (f g : ℕ) → was ≡ None → now ≡ None
     → AnswersReader limit given left (late_count read_old was) (late_count read_new now) answer
     → IsCopyAnswer answer is → IsSent now given old new f g
     → IsCopyOfVersion is limit given left read_old read_new old new f g
-copied limit given left read_old read_new was now (Ok version) is old new f g e none h by sent =
+copied limit given left read_old read_new was now (Ok version) is old new f g e unfailed h by sent =
     rw by (version_read limit given left read_old read_new version old new f g
-    (none_late limit given left read_old read_new was now (Ok version) e none h)
-    (sent_whole now given old new f g none sent))
-copied limit given left read_old read_new was now (Err fault) (Ok (Some version)) old new f g e none h by sent =
+    (tee_unfailed limit given left read_old read_new was now (Ok version) e unfailed h)
+    (sent_whole now given old new f g unfailed sent))
+copied limit given left read_old read_new was now (Err fault) (Ok (Some version)) old new f g e unfailed h by sent =
     absurd by
-copied limit given left read_old read_new was now (Err fault) (Ok None) old new f g e none h by sent =
-    none_read limit given left read_old read_new fault old new f g
-    (none_late limit given left read_old read_new was now (Err fault) e none h) by
-    (sent_whole now given old new f g none sent)
-copied limit given left read_old read_new was now (Err fault) (Err refused) old new f g e none h by sent =
+copied limit given left read_old read_new was now (Err fault) (Ok None) old new f g e unfailed h by sent =
+    no_version_read limit given left read_old read_new fault old new f g
+    (tee_unfailed limit given left read_old read_new was now (Err fault) e unfailed h) by
+    (sent_whole now given old new f g unfailed sent)
+copied limit given left read_old read_new was now (Err fault) (Err refused) old new f g e unfailed h by sent =
     version_refused limit given left read_old read_new fault refused old new f g
-    (none_late limit given left read_old read_new was now (Err fault) e none h) by
-    (sent_whole now given old new f g none sent)
+    (tee_unfailed limit given left read_old read_new was now (Err fault) e unfailed h) by
+    (sent_whole now given old new f g unfailed sent)
 
--- a write failed
+-- the answer of a copy, where a write failed
 pub sent_part : {R : Type 0} (late : Option ℕ) (n : ℕ) (limit : ℕ) (given : List ℕ) (left : Option (List ℕ))
     (read_old read_new c d : ℕ) (answer : Result Parts KeyFault) (old new : Option (List ℕ) × R) (f g : ℕ)
     → late ≡ Some n → IsSent late given old new f g → AnswersReader limit given left c d answer

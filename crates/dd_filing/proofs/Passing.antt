@@ -1,4 +1,4 @@
--- What passed a tee, its facts apart.
+-- What passed a tee: what is known of its reader, of its writer and of their counts.
 use Rattle.std.proofs.Common.{◌≡◌, ◌⊎◌, ℕ, List, [], Option, None, inl, inr, refl, sym, subst}
 use Rattle.dd_elem.specs.Device.{Gives, either_fact}
 use Rattle.dd_set.proofs.Going.{goes_none}
@@ -7,7 +7,7 @@ use Rattle.dd_filing.specs.declared.tee.Tee.{Tee}
 
 module _ {R W P S : Type 0} (has_given : R → P → List ℕ → Type 0) (contents : W → Option (List ℕ)) (rest : W → S)
     (failures : W → ℕ) (calls : R → ℕ) where
-  -- it has the same reader and the same writer; the reader gave these bytes, and the writer took them or failed
+  -- the tee has the same reader and the same writer; the reader gave these bytes, and the writer took them or failed
   pub record Passed (old new : Tee R W) (given : List ℕ) : Type 0 where
     pub same_reader : new.reader.ghost_name ≡ old.reader.ghost_name
     pub same_writer : new.writer.ghost_name ≡ old.writer.ghost_name
@@ -16,6 +16,7 @@ module _ {R W P S : Type 0} (has_given : R → P → List ℕ → Type 0) (conte
         (contents new.writer.now, rest new.writer.now) (failures old.writer.now) (failures new.writer.now)
     pub counted : IsCounted new.late (calls new.reader.now)
 
+  -- this holds of a tee of which no write had failed before
   pub passed : (old new : Tee R W) (given : List ℕ)
       → Gives {P = ℕ × (ℕ × (((Option (List ℕ) × S) × ℕ) ⊎ P))}
       (λ t past bytes. (t.reader.ghost_name ≡ past.0) × ((t.writer.ghost_name ≡ past.1.0)
@@ -23,13 +24,13 @@ module _ {R W P S : Type 0} (has_given : R → P → List ℕ → Type 0) (conte
       start.1 (failures t.writer.now) × IsCounted t.late (calls t.reader.now))
       (λ p m. has_given t.reader.now p m) past.1.1 bytes)) old new given
       → old.late ≡ None → Passed old new given
-  passed old new given h none =
+  passed old new given h unfailed =
       let before : Option (List ℕ) × S = (contents old.writer.now, rest old.writer.now) in
       let begun : IsSent old.late [] before before (failures old.writer.now) (failures old.writer.now) =
       subst (λ (late : Option ℕ). IsSent late [] before before (failures old.writer.now) (failures old.writer.now))
-      (sym none) (goes_none before (failures old.writer.now)) in
+      (sym unfailed) (goes_none before (failures old.writer.now)) in
       let uncounted : IsCounted old.late (calls old.reader.now) =
-      subst (λ (late : Option ℕ). IsCounted late (calls old.reader.now)) (sym none) tt in
+      subst (λ (late : Option ℕ). IsCounted late (calls old.reader.now)) (sym unfailed) tt in
       let sent = h.then (old.reader.ghost_name, (old.writer.ghost_name, inl (before, failures old.writer.now))) []
       (refl, (refl, (begun, uncounted))) in
       record {

@@ -1,15 +1,15 @@
--- What passes a tee goes piece by piece.
+-- A tee sends what passes piece by piece.
 use Rattle.std.proofs.Common.{◌≡◌, ℕ, List, ◌++◌, Option, None, ◌⊎◌, inl, inr, subst}
 use Rattle.dd_elem.specs.Device.{either_fact}
 use Rattle.dd_set.specs.Sends.{Goes}
 use Rattle.dd_filing.specs.Sent.{IsSent}
 
--- what went whole, where no write failed
+-- where no write failed, all that passed was written
 pub sent_whole : {R : Type 0} (late : Option ℕ) (given : List ℕ) (old new : Option (List ℕ) × R) (f g : ℕ)
     → late ≡ None → IsSent late given old new f g → Goes given old new f g
-sent_whole late given old new f g none h = subst (λ (l : Option ℕ). IsSent l given old new f g) none h
+sent_whole late given old new f g unfailed h = subst (λ (l : Option ℕ). IsSent l given old new f g) unfailed h
 
--- each of the two facts goes on by these bytes, so both do
+-- where each of two facts about the bytes before holds with these bytes too, so does the one that is known
 pub passed_more : {S P : Type 0} (went new_went : S → List ℕ → Type 0) (given new_given : P → List ℕ → Type 0)
     (past : S ⊎ P) (before more : List ℕ)
     → ((start : S) → went start before → new_went start (before ++ more))

@@ -1,2 +1,3 @@
+pub mod CopySteps
 pub mod Filing
 pub mod Sent

@@ -1,19 +1,19 @@
--- What a reader that sends what passes to a writer says of the two.
+-- What a tee says of its reader and its writer: it reads from the one, and sends to the other what passes.
 use Rattle.std.specs.Prelude.{ℕ, ◌+◌, ◌≤◌, min, List, Option, None, Some}
 use Rattle.dd_elem.specs.Device.{last_count}
 use Rattle.dd_set.specs.Sends.{Goes, Stops}
 
--- a count of the reader behind it, with the calls since a write failed
+-- a count of the tee: that of its reader, and the reads since a write failed
 abbrev pub late_count : ℕ → Option ℕ → ℕ
 late_count n None = n
 late_count n (Some late) = min (n + late) last_count
 
--- all that passed went to the writer, or a write of it failed
+-- all that passed was written, or a write of it failed
 abbrev pub IsSent : {R : Type 0} → Option ℕ → List ℕ → Option (List ℕ) × R → Option (List ℕ) × R → ℕ → ℕ → Type 0
 IsSent None bytes old new failures after = Goes bytes old new failures after
 IsSent (Some late) bytes old new failures after = (taken : ℕ) × Stops bytes 0 taken old new failures after
 
--- a reader that was called has no count past the last
+-- where a write failed, the reader was called before, so that its count of calls is at most the last count
 abbrev pub IsCounted : Option ℕ → ℕ → Type 0
 IsCounted None calls = Unit {0}
 IsCounted (Some late) calls = calls ≤ last_count

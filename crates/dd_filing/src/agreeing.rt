@@ -1,4 +1,4 @@
-//! Whether a file is that of a planned version.
+//! Compares the version of a copied file with the planned one.
 
 ghost use Rattle.std.specs.Prelude.{◌≡◌, ◌↔◌, ℕ, List, IsTrue};
 ghost use Rattle.dd_keys.specs.declared.parts.Parts.{Parts};
@@ -7,7 +7,7 @@ ghost use Rattle.dd_filing.specs.declared.agreeing.Filed.{Filed};
 
 use dd_keys::Parts;
 
-/// Says which of three a copied file is, compared with the planned version.
+/// Says what a copied file is, compared with the planned version.
 #[derive(Clone, Copy, Debug, PartialEq, Eq)]
 pub enum Filed {
     /// The file is of a version with the planned digest, and the keys that are compared are equal.
@@ -20,7 +20,7 @@ pub enum Filed {
 }
 
 impl Filed {
-    /// Says which of the three a file of the found version is.
+    /// Says what a file of the found version is, compared with the planned version.
     pub(crate) fn of(found: &Parts, planned: &Parts) -> Filed
         ensures { IsVersionAs planned.now result found.now }
     {
@@ -52,7 +52,7 @@ pub fn is_filed_as(found: &Parts, planned: &Parts) -> bool
         && found.series.uid.as_bytes() == planned.series.uid.as_bytes()
 }
 
-/// Law: beside a planned version, a file is one of the three only.
+/// Law: compared with a planned version, a file is one of these only.
 pub fn one_filed()
     ensures { (planned : Parts) (file : List ℕ) (filed other : Filed) → IsFileAs planned filed file
         → IsFileAs planned other file → filed ≡ other }

@@ -1,9 +1,10 @@
-//! An image copied, and read as it passes.
+//! Copies an image, and reads it as a version in the same pass.
 
 ghost use Rattle.std.specs.Prelude.{◌≡◌, ◌≤◌, ◌+◌, ℕ, List, None};
 ghost use Rattle.std.specs.Io.KnownBytes.{Consumes};
 ghost use Rattle.dd_elem.specs.Device.{Gives};
-ghost use Rattle.dd_filing.specs.Filing.{IsCopyAnswer, IsCopyOfVersion, IsFiled, IsFilingFault};
+ghost use Rattle.dd_filing.specs.CopySteps.{IsCopyAnswer, IsFilingFault};
+ghost use Rattle.dd_filing.specs.Filing.{IsCopyOfVersion, IsFiled};
 
 use crate::agreeing::Filed;
 use crate::tee::Tee;
@@ -12,7 +13,7 @@ use dd_keys::{KeyFault, Version, ingest, one_version};
 use std::alloc::Global;
 use thiserror::Error;
 
-/// Why an image was not copied, or could not be read as a version.
+/// Says why a copy was refused.
 #[derive(Clone, Copy, Debug, PartialEq, Eq, Error)]
 pub enum FilingFault {
     /// A growth was refused.
@@ -26,16 +27,16 @@ pub enum FilingFault {
     Unsent,
     /// The reader gave more bytes than the limit, so the image is not what it was.
     #[error("97 Changed")]
-    TooLong,
+    Changed,
 }
 
-/// Copies what a reader gives to its end, of which there may be `limit` bytes, and answers the version
-/// whose file it is, or None where it is that of none.
+/// Copies what a reader gives to its end, at most `limit` bytes, and answers the version whose file the bytes
+/// are. None where they are a file of no version.
 ///
-/// Unsent where the writer fails, which then holds a front of what the reader gave. In the other cases it
-/// holds all that the reader gave: Unread where the reader fails, TooLong where it gives `limit` bytes and
-/// one more, and Memory where reading the copied bytes as a file wants memory that is refused. It makes at
-/// most `limit` + 1 reads.
+/// Refuses with Unsent where the writer fails, which then holds a first part of what the reader gave. In all
+/// other cases the writer holds all that the reader gave. Refuses with Unread where the reader fails, with
+/// Changed where it gives more than `limit` bytes, and with Memory where reading the copied bytes as a file
+/// wants memory that is refused. Makes at most `limit` + 1 reads.
 pub fn copy_version<R: Read, W: Write>(
     alloc: Global,
     reader: &mut R,
@@ -58,7 +59,7 @@ pub fn copy_version<R: Read, W: Write>(
     copy_through(alloc, &mut tee, limit)
 }
 
-/// The same through a reader that sends what passes, of which nothing passed yet.
+/// Copies as `copy_version` does, through a tee of which no write has failed.
 fn copy_through<R: Read, W: Write>(
     alloc: Global,
     tee: &mut Tee<'_, R, W>,
@@ -83,7 +84,7 @@ fn copy_through<R: Read, W: Write>(
     }
 }
 
-/// What a copy answers by what reading it answered, where no write failed.
+/// Turns the answer of reading a version into the answer of its copy, where no write failed.
 fn copy_answer(answer: Result<Version, KeyFault>) -> Result<Option<Version>, FilingFault>
     ensures { IsCopyAnswer answer result }
 {
@@ -96,14 +97,14 @@ fn copy_answer(answer: Result<Version, KeyFault>) -> Result<Option<Version>, Fil
     }
 }
 
-/// What a fault of reading a version comes to, where no write failed. None where the bytes were read to
-/// their end and are a file of no version.
+/// Turns a fault of reading a version into the refusal of its copy, where no write failed. None where the bytes
+/// were read to their end, and are no file of a version.
 fn filing_fault(fault: &KeyFault) -> Option<FilingFault>
     ensures { IsFilingFault fault.now result }
 {
     match fault {
         KeyFault::Read => Some(FilingFault::Unread),
-        KeyFault::FileTooLong => Some(FilingFault::TooLong),
+        KeyFault::FileTooLong => Some(FilingFault::Changed),
         other => {
             if other.is_want_of_memory() {
                 Some(FilingFault::Memory)
@@ -114,8 +115,8 @@ fn filing_fault(fault: &KeyFault) -> Option<FilingFault>
     }
 }
 
-/// Copies what a reader gives to its end, of which there may be `limit` bytes, and answers which of the
-/// three it is beside the planned version. The faults are those of `copy_version`.
+/// Copies what a reader gives to its end, at most `limit` bytes, and says whether the copy is a file of the
+/// planned version. Refuses as `copy_version` does.
 pub fn file_image<R: Read, W: Write>(
     alloc: Global,
     reader: &mut R,

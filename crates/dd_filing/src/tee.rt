@@ -1,4 +1,4 @@
-//! A reader that sends what passes to a writer.
+//! A reader that sends to a writer what passes.
 
 ghost use Rattle.std.specs.Prelude.{◌≡◌, ◌⊎◌, ℕ, List, Option};
 ghost use Rattle.dd_elem.specs.Device.{either_fact};
@@ -8,15 +8,15 @@ use dd_elem::{Read, Write};
 use dd_set::send;
 use std::io;
 
-/// A reader in front of another, which sends what that gives to a writer. Once a write has failed, each
-/// later read of it fails, and it calls neither again.
+/// Reads from a reader, and sends what that gives to a writer. Once a write has failed, each later read of the
+/// tee fails, and it calls neither of the two again.
 #[derive(Drop)]
 pub(crate) struct Tee<'a, R: Read, W: Write> {
     /// The reader.
     pub reader: &'a mut R,
     /// The writer.
     pub writer: &'a mut W,
-    /// How often it was read since a write failed, where one has.
+    /// The number of reads since a write failed, where one has failed.
     pub late: Option<u64>,
 }
 

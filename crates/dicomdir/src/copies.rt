@@ -187,7 +187,7 @@ fn refusal_of(fault: FilingFault, file: FileId, origin: Subject) -> Refusal
     match fault {
         FilingFault::Memory => Refusal::memory(),
         FilingFault::Unread => Refusal::of(origin, ProgramFault::Unread),
-        FilingFault::TooLong => Refusal::of(origin, ProgramFault::Changed),
+        FilingFault::Changed => Refusal::of(origin, ProgramFault::Changed),
         FilingFault::Unsent => Refusal::of(Subject::Image(file), ProgramFault::Unsent),
     }
 }

@@ -1,4 +1,4 @@
--- A file is one of the three only.
+-- Compared with a planned version, a file is one of the answers only.
 use Rattle.dd_filing.proofs.Comparing.{one_filed}
 use Rattle.dd_filing.proofs.agreeing.one_filed.Goals as goal
 

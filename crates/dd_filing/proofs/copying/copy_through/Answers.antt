@@ -1,4 +1,4 @@
--- What passed the tee is what its reader gave and its writer took.
+-- What passed the tee, its reader gave and its writer took.
 use Rattle.dd_filing.proofs.Copied.{copied, fewer_calls, sent_part}
 use Rattle.dd_filing.proofs.Passing.{passed}
 use Rattle.dd_filing.proofs.copying.copy_through.Goals as goal

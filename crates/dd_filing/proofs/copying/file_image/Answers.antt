@@ -1,5 +1,5 @@
--- The copied file is of the three what the version read of it is.
-use Rattle.dd_filing.proofs.Comparing.{none_filed, version_filed}
+-- The copied file is what the version is that was read of it.
+use Rattle.dd_filing.proofs.Comparing.{no_version_filed, version_filed}
 use Rattle.dd_filing.proofs.copying.file_image.Goals as goal
 
 pub returns-in-Ok-Some-clause-filed : goal.returns-in-Ok-Some-clause-filed
@@ -24,7 +24,7 @@ returns-in-Ok-None-clause-filed g c =
       h.0,
       h.1,
       h.2,
-      none_filed c.args.planned.now c.args.limit h.0 (g.R.Read.remaining c.copy_version.new.reader)
+      no_version_filed c.args.planned.now c.args.limit h.0 (g.R.Read.remaining c.copy_version.new.reader)
           (g.R.Read.failures c.args.reader.now) (g.R.Read.failures c.copy_version.new.reader)
           (g.W.Write.contents c.args.writer.now, g.W.Write.rest c.args.writer.now)
           (g.W.Write.contents c.copy_version.new.writer, g.W.Write.rest c.copy_version.new.writer)

@@ -1,4 +1,4 @@
--- A piece of which a part went.
+-- A piece of which a part was written.
 use Rattle.std.proofs.Common.{arith}
 use Rattle.dd_filing.proofs.Sending.{sent_whole, passed_more}
 use Rattle.dd_set.proofs.Going.{stops_amid}
