@@ -1,6 +1,6 @@
 -- What a catalogue holds after each of its steps.
 use Rattle.std.specs.Prelude.{◌≡◌, ◌≤◌, ◌+◌, ◌*◌, ℕ, Bool, true, false, not, ◌&&◌, List, [], ◌∷◌, ◌++◌, Contains}
-use Rattle.std.specs.Prelude.{Result, Ok, Err, is_err, OnOk, filter, length, map}
+use Rattle.std.specs.Prelude.{filter, length, map}
 use Rattle.std.proofs.Common.{refl, sym, ◌∙◌, ap, subst, append-nil, arith, length-append}
 use Rattle.std.proofs.lemmas.List.Elements.{filter_agree, filter_passes, All-contains}
 use Rattle.dd_elem.specs.Ordered.{bytes_cmp}
@@ -153,10 +153,6 @@ pub held_less : (c : Contents) (uid : List ℕ) → IsHeld c
     → record { versions = left_of c.versions (uid ∷ []); withdrawn = uids_of (uid ∷ c.withdrawn) }
     ≡ held_of (and_withdrawn uid c)
 held_less c uid h = same_contents _ (held_of (and_withdrawn uid c)) (sym (kept_less c uid h)) refl
-
-pub on_ok : {A E : Type 0} (r : Result A E) (P : Type 0) → is_err r ≡ false → OnOk r P → P
-on_ok (Ok a) P e p = p
-on_ok (Err x) P e p = let no : true ≡ false = e in cc
 
 -- ---- merges
 

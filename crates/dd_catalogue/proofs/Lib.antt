@@ -6,6 +6,7 @@ pub mod BestOfBests
 pub mod Cases
 pub mod Clashes
 pub mod Counted
+pub mod Distinct
 pub mod FirstAndRest
 pub mod FreeMembers
 pub mod Gathering

@@ -19,3 +19,4 @@ pub mod Taking
 pub mod VersionJoin
 pub mod Versions
 pub mod Weaving
+pub mod Withdrawals

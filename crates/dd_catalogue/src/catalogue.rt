@@ -7,7 +7,7 @@ ghost use Rattle.dd_catalogue.specs.Harmony.{IsHarmonised, harmonised};
 ghost use Rattle.dd_catalogue.specs.Versions.{IsCatalogue, best_of, compared_of, kept};
 ghost use Rattle.dd_catalogue.specs.Best.{IsRising};
 ghost use Rattle.dd_catalogue.specs.Contents.{IsHeld, all_of, and_version, and_withdrawn, held_of};
-ghost use Rattle.dd_catalogue.specs.Contents.{is_withdrawn, nothing};
+ghost use Rattle.dd_catalogue.specs.Contents.{is_withdrawn, kept_of, nothing};
 ghost use Rattle.dd_catalogue.specs.Equal.{are_same_uids};
 ghost use Rattle.dd_catalogue.specs.Taking.{as_took, took_of, withdrew_of};
 ghost use Rattle.dd_elem.specs.Ordered.{bytes_cmp};
@@ -18,6 +18,7 @@ use crate::join::Join;
 use crate::lent::lent;
 use crate::sifting::sift_lent;
 use crate::table::{Table, Taken};
+use crate::withdrawals::{Withdrawals, distinct};
 use dd_elem::{Memory, Uid};
 use dd_keys::Version;
 use std::alloc::Global;
@@ -59,7 +60,7 @@ pub struct Refused {
 #[derive(Debug)]
 pub struct Catalogue {
     table: Table<Version>,
-    withdrawn: Table<Uid>,
+    withdrawn: Withdrawals,
 }
 
 impl Model for Catalogue {
@@ -90,14 +91,14 @@ impl Catalogue {
     {
         Catalogue {
             table: Table::new(alloc),
-            withdrawn: Table::new(alloc),
+            withdrawn: Withdrawals::new(alloc),
         }
     }
 
     /// The best of the versions whose instances are not withdrawn. Each version that is kept is copied once.
     pub(crate) fn of(
         alloc: Global,
-        mut versions: Vec<&Version>,
+        versions: Vec<&Version>,
         withdrawn: Vec<&Uid>,
     ) -> Result<Catalogue, Memory>
         ensures { IfOk result (λ catalogue. catalogue ≡ held_of (record {
@@ -105,9 +106,24 @@ impl Catalogue {
           withdrawn = map (λ uid. uid.now) withdrawn.entry.items;
         })) }
     {
-        let withdrawn = Table::of(alloc, withdrawn)?;
+        Catalogue::without(alloc, versions, Table::of(alloc, withdrawn)?)
+    }
+
+    /// The best of the versions whose instances are not among these withdrawn UIDs, with the UIDs, which copies
+    /// of the catalogue share. Each version that is kept is copied once.
+    fn without(
+        alloc: Global,
+        mut versions: Vec<&Version>,
+        withdrawn: Table<Uid>,
+    ) -> Result<Catalogue, Memory>
+        ensures { IfOk result (λ catalogue. catalogue ≡ record {
+          versions = kept_of (map (λ version. version.now) versions.entry.items) withdrawn;
+          withdrawn = withdrawn;
+        }) }
+    {
         sift_lent(&mut versions, &withdrawn);
         let table = Table::of(alloc, versions)?;
+        let withdrawn = Withdrawals::shared(alloc, withdrawn)?;
         Ok(Catalogue { table, withdrawn })
     }
 
@@ -124,28 +140,29 @@ impl Catalogue {
         }
         Ok(Catalogue {
             table: Table::of(alloc, lent(alloc, versions)?)?,
-            withdrawn: Table::new(alloc),
+            withdrawn: Withdrawals::new(alloc),
         })
     }
 
     /// Makes a catalogue of the best of the versions whose instances are not withdrawn, and of these withdrawn
-    /// UIDs. Both lists are sorted once, and each version and UID that is kept is copied once. Memory where a
-    /// growth was refused, and never where both lists are empty.
+    /// UIDs. The versions are sorted once, and each that is kept is copied once. The list of UIDs is sorted in
+    /// place and kept, and copies of the catalogue share it. Memory where a growth was refused, and never where
+    /// both lists are empty.
     pub fn from_parts(
         alloc: Global,
         versions: &[Version],
-        withdrawn: &[Uid],
+        withdrawn: Vec<Uid>,
     ) -> Result<Catalogue, Memory>
         ensures held { IfOk result (λ catalogue. catalogue ≡ held_of (record {
           versions = versions.now;
-          withdrawn = withdrawn.now;
+          withdrawn = withdrawn.items;
         })) }
-        ensures some { OnErr result ((versions.now ≢ []) ⊎ (withdrawn.now ≢ [])) }
+        ensures some { OnErr result ((versions.now ≢ []) ⊎ (withdrawn.items ≢ [])) }
     {
         if versions.is_empty() && withdrawn.is_empty() {
             return Ok(Catalogue::new(alloc));
         }
-        Catalogue::of(alloc, lent(alloc, versions)?, lent(alloc, withdrawn)?)
+        Catalogue::without(alloc, lent(alloc, versions)?, distinct(withdrawn))
     }
 
     /// How many instances it holds.
@@ -201,7 +218,7 @@ impl Catalogue {
         ensures held { IsHeld self.now }
     {
         self.known();
-        self.withdrawn.has(instance.as_bytes())
+        self.withdrawn.has(instance)
     }
 
     /// Takes a version. It is kept where its instance is not withdrawn, and the catalogue has no version of
@@ -226,9 +243,9 @@ impl Catalogue {
         Ok(told(taken))
     }
 
-    /// Withdraws an instance: no version of it is kept from now on, whatever is taken or merged. Memory
-    /// where a growth was refused; then nothing has changed. No memory is taken where it is withdrawn
-    /// already.
+    /// Withdraws an instance: no version of it is kept from now on, whatever is taken or merged. Withdrawn
+    /// UIDs that copies of the catalogue share are copied first. Memory where a growth was refused; then
+    /// nothing has changed. No memory is taken where it is withdrawn already.
     pub fn withdraw(&mut self, instance: Uid) -> Result<Withdrew, Memory>
         ensures ok { OnOk result (self.new ≡ held_of (and_withdrawn instance self.old)) }
         ensures withdrew { IfOk result (λ withdrew. withdrew ≡ withdrew_of self.old instance) }
@@ -238,9 +255,7 @@ impl Catalogue {
         if self.has_withdrawn(&instance) {
             return Ok(Withdrew::Already);
         }
-        if self.withdrawn.take(instance).is_err() {
-            return Err(Memory);
-        }
+        self.withdrawn.add(instance)?;
         Ok(Withdrew::New(self.table.remove(instance.as_bytes())))
     }
 
@@ -277,11 +292,11 @@ impl Catalogue {
         if other.withdrawn.values().is_empty() {
             return self.merge_versions(other);
         }
-        let mut withdrawn = self.withdrawn.copy()?;
-        let sets = withdrawn.merge(&other.withdrawn)?;
+        let mut withdrawn = self.withdrawn.table().copy()?;
+        let sets = withdrawn.merge(other.withdrawn.table())?;
         let maps = self.table.merge(&other.table)?;
         let sifted = self.table.sift(withdrawn.values());
-        self.withdrawn = withdrawn;
+        self.withdrawn = Withdrawals::own(withdrawn);
         Ok(sets.saturating_add(maps).saturating_add(sifted))
     }
 
@@ -320,8 +335,8 @@ impl Catalogue {
 
     /// The same instances, each with the greatest keys of its patient, its study and its series among
     /// all versions here. The keys of a patient, a study or a series are taken whole. What is withdrawn
-    /// stays withdrawn. Memory where a growth was refused, and never where the catalogue has no version and
-    /// has withdrawn nothing.
+    /// stays withdrawn. The answer shares the withdrawn UIDs as `copy` does. Memory where a growth was refused,
+    /// and never where the catalogue has no version and has withdrawn nothing.
     pub fn harmonise(&self) -> Result<Catalogue, Memory>
         ensures agreed { IfOk result (λ catalogue. IsHarmonised self.now.versions catalogue.versions) }
         ensures whole { IfOk result (λ catalogue. catalogue.versions ≡ harmonised self.now.versions) }
@@ -334,8 +349,9 @@ impl Catalogue {
         Ok(Catalogue { table, withdrawn })
     }
 
-    /// An equal catalogue. Memory where a growth was refused, and never where the catalogue has no version
-    /// and has withdrawn nothing.
+    /// An equal catalogue. It shares the withdrawn UIDs of a catalogue that was made with them, and has a copy
+    /// of those of another. Memory where a growth was refused, and never where the catalogue has no version and
+    /// has withdrawn nothing.
     pub fn copy(&self) -> Result<Catalogue, Memory>
         ensures same { IfOk result (λ catalogue. catalogue ≡ self.now) }
         ensures some { OnErr result (self.now ≢ nothing) }

@@ -20,6 +20,7 @@ mod table;
 mod tuples;
 mod values;
 mod weaving;
+mod withdrawals;
 
 pub use catalogue::{Catalogue, Refused, Took, Withdrew};
 pub use harmony_laws::{

@@ -1,4 +1,4 @@
-use Rattle.std.proofs.Common.{◌≡◌, ◌++◌, ◌∙◌, ap, arith}
+use Rattle.std.proofs.Common.{◌≡◌, ◌++◌, ◌∙◌, ap, arith, refl}
 use Rattle.dd_elem.specs.Ordered.{bytes_cmp}
 use Rattle.dd_catalogue.specs.CatalogueJoin.{same_contents}
 use Rattle.dd_catalogue.specs.Compared.{compared}
@@ -9,28 +9,32 @@ use Rattle.dd_catalogue.proofs.catalogue.Catalogue.merge_counted.Goals as goal
 
 pub invariant_of-self-2 : goal.invariant_of-self-2
 invariant_of-self-2 c =
-    rw (c.sift-sifted.ensures.after, c.values-2.ensures.all) (left_twice c.merge-2.new.self c.merge.new.self)
+    rw (c.sift-sifted.ensures.after, c.values-2.ensures.all, c.own.ensures)
+    (left_twice c.merge-2.new.self c.merge.new.self)
 
 pub returns-clause-ok : goal.returns-clause-ok
 returns-clause-ok c =
     let old : Contents = record { versions = c.self.inside.table; withdrawn = c.self.inside.withdrawn } in
     let other : Contents = record { versions = c.other.inside.table; withdrawn = c.other.inside.withdrawn } in
+    let mine : c.in_ok-withdrawn.withdrawn ≡ c.self.inside.withdrawn =
+    c.in_ok-withdrawn.ensures.equal ∙ c.table.ensures in
     let sets : c.merge.new.self ≡ uids_of (c.self.inside.withdrawn ++ c.other.inside.withdrawn) =
-    c.in_ok-sets.ensures.ok ∙ ap (λ w. uids_of (w ++ c.other.inside.withdrawn)) c.in_ok-withdrawn.ensures.equal in
+    c.in_ok-sets.ensures.ok ∙ rw (mine, c.table-2.ensures) refl in
     let table : c.sift-sifted.new.self ≡ left_of (best_of (c.self.inside.table ++ c.other.inside.table))
     (uids_of (c.self.inside.withdrawn ++ c.other.inside.withdrawn)) = c.sift-sifted.ensures.after
     ∙ ap (λ w. left_of c.merge-2.new.self w) (c.values-2.ensures.all ∙ sets)
     ∙ ap (λ m. left_of m (uids_of (c.self.inside.withdrawn ++ c.other.inside.withdrawn))) c.in_ok-maps.ensures.ok in
-    rw (← c.self.view_is, ← c.other.view_is) (same_contents _ _ table sets ∙ held_of_both old other)
+    rw (← c.self.view_is, ← c.other.view_is) (same_contents _ _ table (c.own.ensures ∙ sets) ∙ held_of_both old other)
 
 pub returns-clause-twice : goal.returns-clause-twice
 returns-clause-twice c =
+    let mine : c.in_ok-withdrawn.withdrawn ≡ c.self.inside.withdrawn =
+    c.in_ok-withdrawn.ensures.equal ∙ c.table.ensures in
     let sets : c.merge.new.self ≡ uids_of (c.self.inside.withdrawn ++ c.other.inside.withdrawn) =
-    c.in_ok-sets.ensures.ok ∙ ap (λ w. uids_of (w ++ c.other.inside.withdrawn)) c.in_ok-withdrawn.ensures.equal in
+    c.in_ok-sets.ensures.ok ∙ rw (mine, c.table-2.ensures) refl in
     let count : c.in_ok-sets.sets
     ≡ compared (λ u. u) bytes_cmp bytes_cmp c.self.inside.withdrawn c.other.inside.withdrawn =
-    c.in_ok-sets.ensures.count ∙ ap (λ w. compared (λ u. u) bytes_cmp bytes_cmp w c.other.inside.withdrawn)
-    c.in_ok-withdrawn.ensures.equal in
+    c.in_ok-sets.ensures.count ∙ rw (mine, c.table-2.ensures) refl in
     rw (← c.self.view_is, ← c.other.view_is) (omega (
       arith,
       c.saturating_add.ensures,

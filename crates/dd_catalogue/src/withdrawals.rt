@@ -1,0 +1,152 @@
+//! The UIDs that a catalogue has withdrawn.
+
+ghost use Rattle.std.specs.Prelude.{◌≡◌, ◌≢◌, [], ◌∷◌, is_some, IfOk, OnOk, OnErr};
+ghost use Rattle.dd_elem.specs.Ordered.{bytes_cmp};
+ghost use Rattle.dd_catalogue.specs.Best.{IsRising, at};
+ghost use Rattle.dd_catalogue.specs.Contents.{uids_of};
+
+use crate::table::Table;
+use dd_elem::{Memory, Uid};
+use std::alloc::Global;
+use std::cmp::Ordering;
+use std::marker::Model;
+use std::sync::Arc;
+
+/// A table of UIDs, alone or with copies that share its memory.
+#[derive(Debug, Drop)]
+enum Holding {
+    /// No copy shares it.
+    Own(Table<Uid>),
+    /// Copies share its memory.
+    Shared(Arc<Table<Uid>>),
+}
+
+/// Withdrawn UIDs, each once, rising. Copies of a list that was made to be shared share its memory, until a
+/// UID is added to one of them.
+#[derive(Debug, Drop)]
+pub(crate) struct Withdrawals {
+    held: Holding,
+}
+
+impl Model for Withdrawals {
+    ghost use Rattle.std.specs.Prelude.{List, ℕ};
+    ghost use Rattle.dd_catalogue.specs.Withdrawals.{SharesSome, uids_in};
+
+    ghost Value = { List (List ℕ) };
+
+    ghost view = { λ withdrawals. uids_in withdrawals.held };
+
+    ghost invariant = { λ withdrawals. SharesSome withdrawals.held };
+}
+
+impl Withdrawals {
+    /// The empty list.
+    pub(crate) fn new(alloc: Global) -> Withdrawals
+        ensures { result ≡ [] }
+    {
+        Withdrawals::own(Table::new(alloc))
+    }
+
+    /// The list of these UIDs, which no copy shares.
+    pub(crate) fn own(uids: Table<Uid>) -> Withdrawals
+        ensures { result ≡ uids }
+    {
+        Withdrawals {
+            held: Holding::Own(uids),
+        }
+    }
+
+    /// The list of these UIDs, which copies can share. Memory where a growth was refused: never where there
+    /// are no UIDs.
+    pub(crate) fn shared(alloc: Global, uids: Table<Uid>) -> Result<Withdrawals, Memory>
+        ensures equal { IfOk result (λ withdrawals. withdrawals ≡ uids) }
+        ensures some { OnErr result (uids ≢ []) }
+    {
+        if uids.values().is_empty() {
+            return Ok(Withdrawals::own(uids));
+        }
+        Ok(Withdrawals {
+            held: Holding::Shared(Arc::new(alloc, uids)?),
+        })
+    }
+
+    /// The table of the UIDs.
+    pub(crate) fn table(&self) -> &Table<Uid>
+        ensures { result.now ≡ self.now }
+    {
+        match &self.held {
+            Holding::Own(uids) => uids,
+            Holding::Shared(uids) => uids,
+        }
+    }
+
+    /// The UIDs, rising.
+    pub(crate) fn values(&self) -> &[Uid]
+        ensures all { result.now ≡ self.now }
+        ensures rising { IsRising (λ uid. uid) bytes_cmp self.now }
+    {
+        self.table().values()
+    }
+
+    /// Is the UID one of them?
+    pub(crate) fn has(&self, uid: &Uid) -> bool
+        ensures { result ≡ is_some (at (λ uid. uid) bytes_cmp self.now uid.now) }
+    {
+        self.table().has(uid.as_bytes())
+    }
+
+    /// An equal list, which shares the memory of this one where copies can. Memory where a growth was refused,
+    /// or no more copies can share it: never where it is empty.
+    pub(crate) fn copy(&self) -> Result<Withdrawals, Memory>
+        ensures equal { IfOk result (λ withdrawals. withdrawals ≡ self.now) }
+        ensures some { OnErr result (self.now ≢ []) }
+    {
+        match &self.held {
+            Holding::Own(uids) => Ok(Withdrawals::own(uids.copy()?)),
+            Holding::Shared(uids) => Ok(Withdrawals {
+                held: Holding::Shared(uids.clone()?),
+            }),
+        }
+    }
+
+    /// Adds a UID. A list that copies share is copied first. Memory where a growth was refused; then nothing
+    /// has changed.
+    pub(crate) fn add(&mut self, uid: Uid) -> Result<(), Memory>
+        ensures ok { OnOk result (self.new ≡ uids_of (uid ∷ self.old)) }
+        ensures err { OnErr result (self.new ≡ self.old) }
+    {
+        match &mut self.held {
+            Holding::Own(uids) => add(uids, uid),
+            Holding::Shared(uids) => {
+                let mut own = uids.copy()?;
+                add(&mut own, uid)?;
+                self.held = Holding::Own(own);
+                Ok(())
+            }
+        }
+    }
+}
+
+/// Adds a UID to the table. Memory where a growth was refused; then nothing has changed.
+fn add(uids: &mut Table<Uid>, uid: Uid) -> Result<(), Memory>
+    ensures ok { OnOk result (uids.new ≡ uids_of (uid ∷ uids.old)) }
+    ensures err { OnErr result (uids.new ≡ uids.old) }
+{
+    match uids.take(uid) {
+        Ok(_) => Ok(()),
+        Err(_) => Err(Memory),
+    }
+}
+
+/// The table of these UIDs, each once. The list is sorted in place, which takes no memory.
+pub(crate) fn distinct(mut uids: Vec<Uid>) -> Table<Uid>
+    ensures { result ≡ uids_of uids.items }
+{
+    uids.sort_unstable_by(
+        |one: &Uid, other: &Uid| -> Ordering
+            ensures { result ≡ bytes_cmp one.now other.now }
+        { one.as_bytes().cmp(other.as_bytes()) },
+    );
+    uids.dedup();
+    Table::rising(uids)
+}
