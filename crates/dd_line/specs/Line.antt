@@ -125,6 +125,10 @@ reading_app name = with_rule (new_app name) (one_path set_name)
 abbrev pub check_app : App
 check_app = with_rule (reading_app (verb_name Check)) (flag keys_name)
 
+-- the app has a version, which `--version` asks for
+abbrev pub with_version : App → App
+with_version a = record a { top = record a.top { has_version = true } }
+
 -- a command line has to name one of the app's commands
 abbrev pub with_command_required : App → App
 with_command_required a = record a { top = record a.top { subcommand_required = true } }
@@ -132,7 +136,7 @@ with_command_required a = record a { top = record a.top { subcommand_required = 
 -- the program with its commands
 abbrev pub dicomdir_app : App
 dicomdir_app = with_subcommand (with_subcommand (with_subcommand (with_subcommand (with_subcommand
-    (with_command_required (new_app (codes "dicomdir")))
+    (with_command_required (with_version (new_app (codes "dicomdir"))))
     index_app.top)
     merge_app.top)
     withdraw_app.top)

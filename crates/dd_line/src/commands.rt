@@ -5,8 +5,12 @@ ghost use Rattle.dd_line.specs.Line.{merge_app, number_option, one_path, reading
 ghost use Rattle.dd_line.specs.Line.{verb_name, withdraw_app, writing_app};
 ghost use Rattle.dd_line.specs.declared.line.Verb.{Verb};
 
+use crate::endings;
 use clap::{Arg, ArgAction, Command, value_parser};
 use std::alloc::{AllocError, Global};
+
+/// The version of the program.
+const VERSION: &str = "1.0.0";
 
 // The names of the options.
 pub(crate) const ID: &str = "id";
@@ -116,7 +120,8 @@ fn index_command<'a>(alloc: Global) -> Result<Command<'a>, AllocError>
     ensures { IfOk result (HasApp index_app) }
 {
     let about = "Makes a file-set of image files: copies them, writes its DICOMDIR";
-    writing(alloc, "index", about)?.arg(paths(
+    let command = writing(alloc, "index", about)?.after_help(endings::INDEX);
+    command.arg(paths(
         alloc,
         SOURCE,
         "SRC",
@@ -129,7 +134,8 @@ fn merge_command<'a>(alloc: Global) -> Result<Command<'a>, AllocError>
     ensures { IfOk result (HasApp merge_app) }
 {
     let about = "Makes a file-set of others: copies their images, writes its DICOMDIR";
-    writing(alloc, "merge", about)?.arg(paths(
+    let command = writing(alloc, "merge", about)?.after_help(endings::MERGE);
+    command.arg(paths(
         alloc,
         SET,
         "SET",
@@ -143,6 +149,7 @@ fn withdraw_command<'a>(alloc: Global) -> Result<Command<'a>, AllocError>
 {
     let about = "Makes a file-set of one without some images, which no merge brings back";
     writing(alloc, "withdraw", about)?
+        .after_help(endings::WITHDRAW)
         .arg(path(
             alloc,
             SET,
@@ -174,7 +181,8 @@ fn check_command<'a>(alloc: Global) -> Result<Command<'a>, AllocError>
     ensures { IfOk result (HasApp check_app) }
 {
     let about = "Checks that the files which a DICOMDIR names are there and unchanged";
-    reading(alloc, "check", about)?.arg(flag(
+    let command = reading(alloc, "check", about)?.after_help(endings::CHECK);
+    command.arg(flag(
         alloc,
         KEYS,
         "Also compares what each image file says of itself with its record",
@@ -185,11 +193,8 @@ fn check_command<'a>(alloc: Global) -> Result<Command<'a>, AllocError>
 fn list_command<'a>(alloc: Global) -> Result<Command<'a>, AllocError>
     ensures { IfOk result (HasApp (reading_app (verb_name Verb.List))) }
 {
-    reading(
-        alloc,
-        "list",
-        "Lists the records of a DICOMDIR, those of other programs too",
-    )
+    let about = "Lists the records of a DICOMDIR, those of other programs too";
+    Ok(reading(alloc, "list", about)?.after_help(endings::LIST))
 }
 
 /// Makes the program with its commands.
@@ -200,6 +205,8 @@ pub(crate) fn program<'a>(alloc: Global) -> Result<Command<'a>, AllocError>
         .about(
             "Makes, merges, checks and lists DICOM file-sets with their DICOMDIR, and withdraws images",
         )
+        .version(VERSION)
+        .after_help(endings::PROGRAM)
         .subcommand_required(true)
         .subcommand(index_command(alloc)?)?
         .subcommand(merge_command(alloc)?)?

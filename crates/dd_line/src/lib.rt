@@ -5,6 +5,7 @@
 #![tactic(auto)]
 
 mod commands;
+mod endings;
 mod line;
 
 pub use line::{Asked, LineFault, Verb, read_words};

@@ -56,6 +56,7 @@ SKIP part.dcm: 31 File 27 Set 1 Truncated|DONE 1 instances, 876 bytes|] [] chang
 - - dicomdir index '' '' none.dcm > 1 [] [FAULT : 95 Folder|] kept
 - - dicomdir index full none.dcm '' '' > 1 [] [FAULT : 92 Absent|] kept
 - - dicomdir index '' '' --uid 2.25.x > 2 [] [FAULT -: 71 BadUid|] kept
+- - dicomdir --version > 0 [dicomdir 1.0.0|] [] kept
 - 6 dicomdir index out none.dcm --uid 2.25.0 > 1 [] [FAULT ] kept
 - 0 dicomdir index out none.dcm --uid 2.25.x > 2 [] [] kept";
 

@@ -1,0 +1,88 @@
+//! What the help of each command ends with.
+
+/// The end of the help of the program.
+pub(crate) const PROGRAM: &str = "\
+Examples:
+  dicomdir index DISC1 images/*         makes the file-set DISC1 of these files
+  dicomdir list DISC1                   shows what its DICOMDIR says
+  dicomdir check DISC1                  compares its files with its DICOMDIR
+  dicomdir merge BOTH DISC1 DISC2       makes one file-set of two
+  dicomdir withdraw NEW DISC1 1.2.3.4   makes one without this image
+
+Status:
+  0  The work is done.
+  1  It was refused: the error output says why, as FAULT <path>: <fault>.
+  2  The command line has a mistake. Nothing was read or made.
+  3  check found something.
+
+'dicomdir COMMAND --help' says more of a command. The manual page dicomdir(1)
+and docs/FAULTS.md explain each fault and what to do about it.";
+
+/// The end of the help of `index`.
+pub(crate) const INDEX: &str = "\
+Example:
+  dicomdir index DISC1 images/* --id DISC1
+
+Lines of the output:
+  SKIP <path>: <fault>            This source is left out. The others go on.
+  DONE <n> instances, <b> bytes   The file-set is whole. Its DICOMDIR has <b>
+                                  bytes. Compare <n> with your images: the
+                                  status is 0 where sources were left out, too.
+
+Sources:
+  Left out is what is no DICOM file, is no image of a class that is taken (CR,
+  DX, CT, MR, US, PET, NM, XA, RF, secondary capture, visible light and more),
+  has a transfer syntax that is not taken (deflated, big endian, MPEG), or
+  lacks a key. A folder is refused: name its files. Of two files with one SOP
+  Instance UID, the one with the greater SHA-256 is kept.
+
+An ID has up to 16 characters of A to Z, 0 to 9 and _.";
+
+/// The end of the help of `merge`.
+pub(crate) const MERGE: &str = "\
+Example:
+  dicomdir merge BOTH DISC1 DISC2
+
+Line of the output:
+  DONE <n> instances, <b> bytes   The file-set is whole. Its DICOMDIR has <b>
+                                  bytes.
+
+Each image is compared with its record while it is copied. The order of the
+file-sets does not matter. Run 'dicomdir check' on each of them first.
+
+An ID has up to 16 characters of A to Z, 0 to 9 and _.";
+
+/// The end of the help of `withdraw`.
+pub(crate) const WITHDRAW: &str = "\
+Example:
+  dicomdir withdraw NEW DISC1 1.2.840.113619.2.1.5
+
+Line of the output:
+  DONE <n> instances, <b> bytes   The file-set is whole. Its DICOMDIR has <b>
+                                  bytes.
+
+Whatever file-set NEW is merged with, no image with these UIDs is kept.
+
+An ID has up to 16 characters of A to Z, 0 to 9 and _.";
+
+/// The end of the help of `check`.
+pub(crate) const CHECK: &str = "\
+Lines of the output:
+  OK <n> records                  Each file is there and unchanged.
+  MISSING <id>                    The file with this File ID is not there.
+  UNREADABLE <id>                 A read of it failed, or it is too long.
+  DIFFERS <id> <digest> <digest>  Its SHA-256 is not the recorded one.
+  MISLABELLED <id> <tag>          It says something else at this tag (--keys).
+  BADID <offset>                  The record there has no proper File ID.
+  UNREACHED <n>                   No offset leads to <n> records.
+  BROKEN <fault>                  The DICOMDIR can't be read.
+
+The status is 0 after OK and 3 after any other line.";
+
+/// The end of the help of `list`.
+pub(crate) const LIST: &str = "\
+Each line has the offset of a record, its type, and what it is known by: its
+Patient ID, Study or Series Instance UID, or File ID. It is indented by level,
+and ends in 'inactive' where the record is not in use. WITHDRAWN lines name the
+instances that no merge brings back. The last line counts the records, and
+those that no offset leads to.";
