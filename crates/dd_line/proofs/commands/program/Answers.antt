@@ -8,8 +8,8 @@ use Rattle.dd_line.proofs.commands.program.Goals as goal
 
 pub returns : goal.returns
 returns c =
-    let start : HasApp (with_command_required (with_version (new_app (codes "dicomdir")))) c.subcommand_required.result =
-    record { app = search rules; local = search rules } in
+    let start : HasApp (with_command_required (with_version (new_app (codes "dicomdir"))))
+    c.subcommand_required.result = record { app = search rules; local = search rules } in
     let index = with_sub _ _ _ _ _ start c.in_ok-index_command.ensures c.in_ok-subcommand.ensures in
     let merge = with_sub _ _ _ _ _ index c.in_ok-merge_command.ensures c.in_ok-subcommand-2.ensures in
     let withdraw = with_sub _ _ _ _ _ merge c.in_ok-withdraw_command.ensures c.in_ok-subcommand-3.ensures in
