@@ -1,0 +1,29 @@
+# Completion of dicomdir(1) for fish.
+
+complete -c dicomdir -f
+complete -c dicomdir -s h -l help -d 'Print help'
+
+set -l first '__fish_use_subcommand; or __fish_seen_subcommand_from help'
+complete -c dicomdir -n $first -a index \
+    -d 'Makes a file-set of image files: copies them, writes its DICOMDIR'
+complete -c dicomdir -n $first -a merge \
+    -d 'Makes a file-set of others: copies their images, writes its DICOMDIR'
+complete -c dicomdir -n $first -a withdraw \
+    -d 'Makes a file-set of one without some images, which no merge brings back'
+complete -c dicomdir -n $first -a check \
+    -d 'Tells which files of a file-set are not those that its DICOMDIR names'
+complete -c dicomdir -n $first -a list \
+    -d 'Lists the records of a DICOMDIR, those of other programs too'
+complete -c dicomdir -n __fish_use_subcommand -a help \
+    -d 'Print this message or the help of the given subcommand(s)'
+
+set -l writing '__fish_seen_subcommand_from index merge withdraw'
+complete -c dicomdir -n $writing -l id -x -d 'ID of the file-set, such as DISC1; by default empty'
+complete -c dicomdir -n $writing -l uid -x -d 'UID of the file-set; by default made from its content'
+complete -c dicomdir -n $writing -l max-bytes -x -d 'Most bytes of DICOMDIR; by default 4294967295'
+complete -c dicomdir -n '__fish_seen_subcommand_from check' -l keys \
+    -d 'Also compares what each image file says of itself with its record'
+
+complete -c dicomdir -n '__fish_seen_subcommand_from index' -F
+complete -c dicomdir -n '__fish_seen_subcommand_from merge withdraw check list' \
+    -a '(__fish_complete_directories)'
