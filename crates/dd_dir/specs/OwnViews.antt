@@ -17,17 +17,17 @@ use Rattle.dd_dir.specs.Trees.{Walk}
 
 abbrev pub above_view : AboveValue → Above
 above_view values.Root = root
-above_view (values.Patient patient) = in_patient (set_view patient.now)
-above_view (values.Study patient study) = in_study (set_view patient.now) (set_view study.now)
+above_view (values.Patient patient) = in_patient (set_view patient.set.now)
+above_view (values.Study patient study) = in_study (set_view patient.set.now) (set_view study.set.now)
 above_view (values.Series patient study series) =
-    in_series (set_view patient.now) (set_view study.now) (set_view series.now)
+    in_series (set_view patient.set.now) (set_view study.set.now) (set_view series.set.now)
 above_view values.Image = in_image
 
 abbrev pub listed_view : ListedValue → Listed
 listed_view listed = record {
-  patient = set_view listed.patient.now;
-  study = set_view listed.study.now;
-  series = set_view listed.series.now;
+  patient = set_view listed.patient.set.now;
+  study = set_view listed.study.set.now;
+  series = set_view listed.series.set.now;
   own = set_view listed.own.now;
 }
 

@@ -16,6 +16,7 @@ mod own_fault;
 mod own_keys;
 mod publishing;
 mod reading;
+mod record_keys;
 mod records;
 mod roots;
 mod said;

@@ -9,6 +9,7 @@ ghost use Rattle.dd_dir.specs.OwnViews.{Adds, ListsOneFirst, above_view, listed_
 use crate::forest::Tree;
 use crate::own_checks::fault_at;
 use crate::own_fault::OwnFault;
+use crate::record_keys::{PatientRecord, SeriesRecord, StudyRecord};
 use dd_layout::Level;
 use dd_set::DataSet;
 
@@ -18,11 +19,11 @@ pub(crate) enum Above<'f, 'a> {
     /// It is at the root.
     Root,
     /// It is below this patient.
-    Patient(&'f DataSet<'a>),
+    Patient(PatientRecord<'f, 'a>),
     /// It is below this study of the patient.
-    Study(&'f DataSet<'a>, &'f DataSet<'a>),
+    Study(PatientRecord<'f, 'a>, StudyRecord<'f, 'a>),
     /// It is below this series of the study of the patient.
-    Series(&'f DataSet<'a>, &'f DataSet<'a>, &'f DataSet<'a>),
+    Series(PatientRecord<'f, 'a>, StudyRecord<'f, 'a>, SeriesRecord<'f, 'a>),
     /// It is below an image.
     Image,
 }
@@ -31,11 +32,11 @@ pub(crate) enum Above<'f, 'a> {
 #[derive(Clone, Copy)]
 pub(crate) struct Listed<'f, 'a> {
     /// The PATIENT record.
-    pub(crate) patient: &'f DataSet<'a>,
+    pub(crate) patient: PatientRecord<'f, 'a>,
     /// The STUDY record.
-    pub(crate) study: &'f DataSet<'a>,
+    pub(crate) study: StudyRecord<'f, 'a>,
     /// The SERIES record.
-    pub(crate) series: &'f DataSet<'a>,
+    pub(crate) series: SeriesRecord<'f, 'a>,
     /// Its own record.
     pub(crate) own: &'f DataSet<'a>,
 }
@@ -58,9 +59,9 @@ fn below<'f, 'a>(above: Above<'f, 'a>, set: &'f DataSet<'a>) -> Above<'f, 'a>
     ensures { above_view result ≡ below (above_view above.entry) (set_view set.now) }
 {
     match above {
-        Above::Root => Above::Patient(set),
-        Above::Patient(patient) => Above::Study(patient, set),
-        Above::Study(patient, study) => Above::Series(patient, study, set),
+        Above::Root => Above::Patient(PatientRecord::of(set)),
+        Above::Patient(patient) => Above::Study(patient, StudyRecord::of(set)),
+        Above::Study(patient, study) => Above::Series(patient, study, SeriesRecord::of(set)),
         Above::Series(_, _, _) | Above::Image => Above::Image,
     }
 }

@@ -11,7 +11,8 @@ ghost use Rattle.dd_dir.specs.Withdrawn.{AreRisingUids, pieces_in, withdrawn_of}
 use crate::forest::Forest;
 use crate::listing::{Above, Listed, list};
 use crate::own_fault::OwnFault;
-use crate::own_keys::{digest, held, uid, version_of};
+use crate::own_keys::{digest, uid, version_of};
+use crate::record_keys::held;
 use crate::withdrawn::{check_withdrawn, withdrawn_uids};
 use dd_catalogue::Catalogue;
 use dd_elem::{Memory, Uid};
@@ -135,7 +136,8 @@ fn versions(alloc: Global, images: &[Listed<'_, '_>]) -> Result<Vec<Version>, Me
 {
     let mut versions = Vec::with_capacity(alloc, images.len())?;
     for image in images {
-        versions.push(version_of(alloc, image)?)?;
+        let version = version_of(alloc, image, versions.last())?;
+        versions.push(version)?;
     }
     Ok(versions)
 }
@@ -160,7 +162,7 @@ fn place_of<'a>(image: &Listed<'_, 'a>) -> Place<'a>
     ensures { place_view result ≡ place_of (listed_view image.now) }
 {
     Place {
-        uid: uid(&INSTANCE, image.own),
+        uid: uid(held(&INSTANCE, image.own)),
         digest: digest(image.own),
         file: held(&FILE, image.own),
     }

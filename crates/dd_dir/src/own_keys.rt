@@ -1,4 +1,7 @@
 //! The version of an image, from the records that list it.
+//!
+//! Copies of a long key share its bytes: where a key is the same as that of the image before, it is copied from
+//! there. So the keys of a record take their memory once, and not anew for each image below it.
 
 ghost use Rattle.std.specs.Prelude.{◌≡◌, true, is_some, IfOk};
 ghost use Rattle.dd_elem.specs.Key.{IsKey};
@@ -8,45 +11,45 @@ ghost use Rattle.dd_set.specs.Views.{set_view};
 ghost use Rattle.dd_dir.specs.Own.{digest_in};
 ghost use Rattle.dd_dir.specs.OwnVersions.{digest_of, patient_in, series_in, study_in, version_of};
 ghost use Rattle.dd_dir.specs.OwnViews.{IsListed, Passes, listed_view};
-ghost use Rattle.dd_dir.specs.Saying.{key_of};
 
 use crate::listing::Listed;
 use crate::own_checks::digest_in;
+use crate::record_keys::{PatientRecord, SeriesRecord, StudyRecord, held};
 use dd_elem::{Key, KeyRefused, Memory, Uid};
-use dd_keys::{Parts, PatientKeys, SeriesKeys, StudyKeys, Version, value_at};
-use dd_layout::Row;
-use dd_layout::table::{
-    ACCESSION, CHARSET, CLASS, DESCRIPTION, INSTANCE, MODALITY, NUMBER, PATIENT_ID, PATIENT_NAME,
-    SERIES_NUMBER, SERIES_UID, STUDY_DATE, STUDY_ID, STUDY_TIME, STUDY_UID, TRANSFER,
-};
+use dd_keys::{Parts, PatientKeys, SeriesKeys, StudyKeys, Version};
+use dd_layout::table::{CLASS, INSTANCE, NUMBER, TRANSFER};
 use dd_set::DataSet;
 use std::alloc::Global;
 
-/// The value of the element of a row without its padding, and nothing where there is none.
-pub(crate) fn held<'a>(row: &Row, set: &DataSet<'a>) -> &'a [u8]
-    ensures { result.now ≡ key_of row.now.tag (set_view set.now) }
+/// The key with these bytes: a copy of this one, where it has the same.
+fn key(alloc: Global, bytes: &[u8], like: Option<&Key>) -> Result<Key, Memory>
+    requires { IsKey bytes.now }
+    ensures { IfOk result (λ key. key ≡ bytes.now) }
 {
-    value_at(set, row.tag).unwrap_or(&[])
+    match like {
+        Some(like) if like.as_bytes() == bytes => like.copy(),
+        Some(_) | None => copy_of(alloc, bytes),
+    }
 }
 
-/// The key of a row.
-fn key(alloc: Global, row: &Row, set: &DataSet<'_>) -> Result<Key, Memory>
-    requires { IsKey (key_of row.now.tag (set_view set.now)) }
-    ensures { IfOk result (λ key. key ≡ key_of row.now.tag (set_view set.now)) }
+/// The key with these bytes.
+fn copy_of(alloc: Global, bytes: &[u8]) -> Result<Key, Memory>
+    requires { IsKey bytes.now }
+    ensures { IfOk result (λ key. key ≡ bytes.now) }
 {
-    match Key::copy_of(alloc, held(row, set)) {
+    match Key::copy_of(alloc, bytes) {
         Ok(key) => Ok(key),
         Err(KeyRefused::Memory) => Err(Memory),
         Err(KeyRefused::TooLong) => unreachable!(),
     }
 }
 
-/// The UID of a row.
-pub(crate) fn uid(row: &Row, set: &DataSet<'_>) -> Uid
-    requires { is_uid (key_of row.now.tag (set_view set.now)) ≡ true }
-    ensures { result ≡ key_of row.now.tag (set_view set.now) }
+/// The UID that these bytes are.
+pub(crate) fn uid(bytes: &[u8]) -> Uid
+    requires { is_uid bytes.now ≡ true }
+    ensures { result ≡ bytes.now }
 {
-    Uid::new(held(row, set)).unwrap()
+    Uid::new(bytes).unwrap()
 }
 
 /// The digest of a record.
@@ -57,68 +60,88 @@ pub(crate) fn digest(set: &DataSet<'_>) -> [u8; 32]
     digest_in(set).unwrap()
 }
 
-/// The keys of the patient of a PATIENT record.
-fn patient_in(alloc: Global, set: &DataSet<'_>) -> Result<PatientKeys, Memory>
-    requires { Passes Patient (set_view set.now) }
-    ensures { IfOk result (λ keys. keys ≡ patient_in (set_view set.now)) }
+/// The keys of the patient of a PATIENT record: copies of these ones, where they are the same.
+fn patient_in(
+    alloc: Global,
+    patient: &PatientRecord<'_, '_>,
+    like: Option<&PatientKeys>,
+) -> Result<PatientKeys, Memory>
+    requires { Passes Patient (set_view patient.now.set.now) }
+    ensures { IfOk result (λ keys. keys ≡ patient_in (set_view patient.now.set.now)) }
 {
     Ok(PatientKeys {
-        id: key(alloc, &PATIENT_ID, set)?,
-        name: key(alloc, &PATIENT_NAME, set)?,
-        charset: key(alloc, &CHARSET, set)?,
+        id: key(alloc, patient.id, like.map(|keys| &keys.id))?,
+        name: key(alloc, patient.name, like.map(|keys| &keys.name))?,
+        charset: key(alloc, patient.charset, like.map(|keys| &keys.charset))?,
     })
 }
 
-/// The keys of the study of a STUDY record.
-fn study_in(alloc: Global, set: &DataSet<'_>) -> Result<StudyKeys, Memory>
-    requires { Passes Study (set_view set.now) }
-    ensures { IfOk result (λ keys. keys ≡ study_in (set_view set.now)) }
+/// The keys of the study of a STUDY record: copies of these ones, where they are the same.
+fn study_in(
+    alloc: Global,
+    study: &StudyRecord<'_, '_>,
+    like: Option<&StudyKeys>,
+) -> Result<StudyKeys, Memory>
+    requires { Passes Study (set_view study.now.set.now) }
+    ensures { IfOk result (λ keys. keys ≡ study_in (set_view study.now.set.now)) }
 {
     Ok(StudyKeys {
-        uid: uid(&STUDY_UID, set),
-        date: key(alloc, &STUDY_DATE, set)?,
-        time: key(alloc, &STUDY_TIME, set)?,
-        accession: key(alloc, &ACCESSION, set)?,
-        description: key(alloc, &DESCRIPTION, set)?,
-        id: key(alloc, &STUDY_ID, set)?,
-        charset: key(alloc, &CHARSET, set)?,
+        uid: uid(study.uid),
+        date: key(alloc, study.date, like.map(|keys| &keys.date))?,
+        time: key(alloc, study.time, like.map(|keys| &keys.time))?,
+        accession: key(alloc, study.accession, like.map(|keys| &keys.accession))?,
+        description: key(alloc, study.description, like.map(|keys| &keys.description))?,
+        id: key(alloc, study.id, like.map(|keys| &keys.id))?,
+        charset: key(alloc, study.charset, like.map(|keys| &keys.charset))?,
     })
 }
 
-/// The keys of the series of a SERIES record.
-fn series_in(alloc: Global, set: &DataSet<'_>) -> Result<SeriesKeys, Memory>
-    requires { Passes Series (set_view set.now) }
-    ensures { IfOk result (λ keys. keys ≡ series_in (set_view set.now)) }
+/// The keys of the series of a SERIES record: copies of these ones, where they are the same.
+fn series_in(
+    alloc: Global,
+    series: &SeriesRecord<'_, '_>,
+    like: Option<&SeriesKeys>,
+) -> Result<SeriesKeys, Memory>
+    requires { Passes Series (set_view series.now.set.now) }
+    ensures { IfOk result (λ keys. keys ≡ series_in (set_view series.now.set.now)) }
 {
     Ok(SeriesKeys {
-        uid: uid(&SERIES_UID, set),
-        modality: key(alloc, &MODALITY, set)?,
-        number: key(alloc, &SERIES_NUMBER, set)?,
+        uid: uid(series.uid),
+        modality: key(alloc, series.modality, like.map(|keys| &keys.modality))?,
+        number: key(alloc, series.number, like.map(|keys| &keys.number))?,
     })
 }
 
-/// What the records of an image say of it.
-fn parts_of(alloc: Global, image: &Listed<'_, '_>) -> Result<Parts, Memory>
+/// What the records of an image say of it: its keys are copies of these ones, where they are the same.
+fn parts_of(alloc: Global, image: &Listed<'_, '_>, like: Option<&Parts>) -> Result<Parts, Memory>
     requires { IsListed (listed_view image.now) }
     ensures { IfOk result (λ parts. parts ≡ version_of (listed_view image.now)) }
 {
     Ok(Parts {
         digest: digest(image.own),
-        patient: patient_in(alloc, image.patient)?,
-        study: study_in(alloc, image.study)?,
-        series: series_in(alloc, image.series)?,
-        number: key(alloc, &NUMBER, image.own)?,
-        class: uid(&CLASS, image.own),
-        transfer: uid(&TRANSFER, image.own),
-        instance: uid(&INSTANCE, image.own),
+        patient: patient_in(alloc, &image.patient, like.map(|parts| &parts.patient))?,
+        study: study_in(alloc, &image.study, like.map(|parts| &parts.study))?,
+        series: series_in(alloc, &image.series, like.map(|parts| &parts.series))?,
+        number: key(
+            alloc,
+            held(&NUMBER, image.own),
+            like.map(|parts| &parts.number),
+        )?,
+        class: uid(held(&CLASS, image.own)),
+        transfer: uid(held(&TRANSFER, image.own)),
+        instance: uid(held(&INSTANCE, image.own)),
     })
 }
 
-/// The version of an image.
-pub(crate) fn version_of(alloc: Global, image: &Listed<'_, '_>) -> Result<Version, Memory>
+/// The version of an image: its keys are copies of those of this other version, where they are the same.
+pub(crate) fn version_of(
+    alloc: Global,
+    image: &Listed<'_, '_>,
+    like: Option<&Version>,
+) -> Result<Version, Memory>
     requires { IsListed (listed_view image.now) }
     ensures { IfOk result (λ version. version ≡ version_of (listed_view image.now)) }
 {
-    let parts = parts_of(alloc, image)?;
+    let parts = parts_of(alloc, image, like.map(|version| version.parts()))?;
     Ok(Version::of(parts).unwrap())
 }

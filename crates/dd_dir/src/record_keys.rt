@@ -1,0 +1,131 @@
+//! The records above an image, with the values of their keys.
+//!
+//! To find a value, the elements of its record are gone through. So the values of a record are taken once, where
+//! the walk passes it, and not anew for each image below it. The time that this takes follows from the bytes of the
+//! directory.
+
+ghost use Rattle.std.specs.Prelude.{◌≡◌};
+ghost use Rattle.dd_layout.specs.Entries.{tag};
+ghost use Rattle.dd_set.specs.Views.{set_view};
+ghost use Rattle.dd_dir.specs.Saying.{key_of};
+
+use dd_keys::value_at;
+use dd_layout::Row;
+use dd_layout::table::{
+    ACCESSION, CHARSET, DESCRIPTION, MODALITY, PATIENT_ID, PATIENT_NAME, SERIES_NUMBER, SERIES_UID,
+    STUDY_DATE, STUDY_ID, STUDY_TIME, STUDY_UID,
+};
+use dd_set::DataSet;
+
+/// A PATIENT record, and the values of its keys without their padding.
+#[derive(Clone, Copy)]
+pub(crate) struct PatientRecord<'f, 'a> {
+    /// Its elements.
+    pub(crate) set: &'f DataSet<'a>,
+    /// Patient ID.
+    pub(crate) id: &'a [u8],
+    /// Patient's Name.
+    pub(crate) name: &'a [u8],
+    /// Specific Character Set.
+    pub(crate) charset: &'a [u8],
+    ghost id_is: { id.now ≡ key_of (tag 0x0010 0x0020) (set_view set.now) },
+    ghost name_is: { name.now ≡ key_of (tag 0x0010 0x0010) (set_view set.now) },
+    ghost charset_is: { charset.now ≡ key_of (tag 0x0008 0x0005) (set_view set.now) },
+}
+
+/// A STUDY record, and the values of its keys without their padding.
+#[derive(Clone, Copy)]
+pub(crate) struct StudyRecord<'f, 'a> {
+    /// Its elements.
+    pub(crate) set: &'f DataSet<'a>,
+    /// Study Instance UID.
+    pub(crate) uid: &'a [u8],
+    /// Study Date.
+    pub(crate) date: &'a [u8],
+    /// Study Time.
+    pub(crate) time: &'a [u8],
+    /// Accession Number.
+    pub(crate) accession: &'a [u8],
+    /// Study Description.
+    pub(crate) description: &'a [u8],
+    /// Study ID.
+    pub(crate) id: &'a [u8],
+    /// Specific Character Set.
+    pub(crate) charset: &'a [u8],
+    ghost uid_is: { uid.now ≡ key_of (tag 0x0020 0x000d) (set_view set.now) },
+    ghost date_is: { date.now ≡ key_of (tag 0x0008 0x0020) (set_view set.now) },
+    ghost time_is: { time.now ≡ key_of (tag 0x0008 0x0030) (set_view set.now) },
+    ghost accession_is: { accession.now ≡ key_of (tag 0x0008 0x0050) (set_view set.now) },
+    ghost description_is: { description.now ≡ key_of (tag 0x0008 0x1030) (set_view set.now) },
+    ghost id_is: { id.now ≡ key_of (tag 0x0020 0x0010) (set_view set.now) },
+    ghost charset_is: { charset.now ≡ key_of (tag 0x0008 0x0005) (set_view set.now) },
+}
+
+/// A SERIES record, and the values of its keys without their padding.
+#[derive(Clone, Copy)]
+pub(crate) struct SeriesRecord<'f, 'a> {
+    /// Its elements.
+    pub(crate) set: &'f DataSet<'a>,
+    /// Series Instance UID.
+    pub(crate) uid: &'a [u8],
+    /// Modality.
+    pub(crate) modality: &'a [u8],
+    /// Series Number.
+    pub(crate) number: &'a [u8],
+    ghost uid_is: { uid.now ≡ key_of (tag 0x0020 0x000e) (set_view set.now) },
+    ghost modality_is: { modality.now ≡ key_of (tag 0x0008 0x0060) (set_view set.now) },
+    ghost number_is: { number.now ≡ key_of (tag 0x0020 0x0011) (set_view set.now) },
+}
+
+impl<'f, 'a> PatientRecord<'f, 'a> {
+    /// The PATIENT record with these elements.
+    pub(crate) fn of(set: &'f DataSet<'a>) -> Self
+        ensures { result.set.now ≡ set.now }
+    {
+        PatientRecord {
+            set,
+            id: held(&PATIENT_ID, set),
+            name: held(&PATIENT_NAME, set),
+            charset: held(&CHARSET, set),
+        }
+    }
+}
+
+impl<'f, 'a> StudyRecord<'f, 'a> {
+    /// The STUDY record with these elements.
+    pub(crate) fn of(set: &'f DataSet<'a>) -> Self
+        ensures { result.set.now ≡ set.now }
+    {
+        StudyRecord {
+            set,
+            uid: held(&STUDY_UID, set),
+            date: held(&STUDY_DATE, set),
+            time: held(&STUDY_TIME, set),
+            accession: held(&ACCESSION, set),
+            description: held(&DESCRIPTION, set),
+            id: held(&STUDY_ID, set),
+            charset: held(&CHARSET, set),
+        }
+    }
+}
+
+impl<'f, 'a> SeriesRecord<'f, 'a> {
+    /// The SERIES record with these elements.
+    pub(crate) fn of(set: &'f DataSet<'a>) -> Self
+        ensures { result.set.now ≡ set.now }
+    {
+        SeriesRecord {
+            set,
+            uid: held(&SERIES_UID, set),
+            modality: held(&MODALITY, set),
+            number: held(&SERIES_NUMBER, set),
+        }
+    }
+}
+
+/// The value of the element of a row without its padding, and nothing where there is none.
+pub(crate) fn held<'a>(row: &Row, set: &DataSet<'a>) -> &'a [u8]
+    ensures { result.now ≡ key_of row.now.tag (set_view set.now) }
+{
+    value_at(set, row.tag).unwrap_or(&[])
+}
