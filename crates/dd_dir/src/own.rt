@@ -82,7 +82,7 @@ pub fn catalogue_of(alloc: Global, forest: &Forest<'_>) -> Result<Catalogue, Own
     let images = listed(alloc, forest)?;
     let versions = versions(alloc, &images)?;
     let withdrawn = withdrawn_uids(alloc, forest.withdrawn)?;
-    Ok(Catalogue::from_parts(alloc, &versions, &withdrawn)?)
+    Ok(Catalogue::from_parts(alloc, &versions, withdrawn)?)
 }
 
 /// Where the files of the images are that the directory lists, in the order of their records, depth first.

@@ -68,6 +68,6 @@ returns-in_err-from_parts c =
             let some : c.deref.result.now ≢ [] = λ none. versions (c.deref-2.ensures.value
             ∙ c.in_ok-versions.ensures.all ∙ ap (λ s. map version_of (map listed_view s)) none) in
             inl (walk_lists (walk_view c.args.forest.now) e.0 c.deref.result.now e.1 seen some))
-        | inr named ↦ inr (λ none. named (c.deref-3.ensures.value ∙ c.in_ok-withdrawn.ensures.all ∙ none))
+        | inr named ↦ inr (λ none. named (c.in_ok-withdrawn.ensures.all ∙ none))
       ],
     )
