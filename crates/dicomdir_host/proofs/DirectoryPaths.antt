@@ -34,7 +34,7 @@ ends_named path front before ends is full one other = (
       ((directory_named path front is).1 named),
 )
 
--- without the name it is none
+-- a path without that name is no path of a directory
 pub unnamed : (path : List ℕ) → ((front : List ℕ) → path ≢ front ++ codes "DICOMDIR") → ¬ IsDirectoryPath path
 unnamed path other (inl bare) = other [] bare
 unnamed path other (inr inside) = other (inside.0 ++ codes "/")

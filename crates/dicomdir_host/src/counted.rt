@@ -5,7 +5,8 @@ ghost use Rattle.std.specs.Io.{ReadsAtMost, WritesAtMost};
 use dd_elem::{Counts, Read, Write};
 use std::io::{self, ErrorKind};
 
-/// A reader or writer of the system, which counts its calls and its failures. It tells no bytes.
+/// A reader or writer of the system, which counts its calls and its failures. Its contract says
+/// nothing of the bytes.
 #[derive(Drop)]
 pub struct Counted<T: Drop> {
     /// The reader or writer.
@@ -14,7 +15,7 @@ pub struct Counted<T: Drop> {
 }
 
 impl<T: Drop> Counted<T> {
-    /// The device, not called yet.
+    /// Wraps the device, with no call counted yet.
     pub fn new(device: T) -> Self
         ensures { result ≡ record { device = device; counts = record { calls = 0; failures = 0 } } }
     {
@@ -75,10 +76,10 @@ impl<T: io::Write + Drop> Write for Counted<T> {
     }
 }
 
-/// How often a call is made again that a signal interrupts.
+/// The most tries of a call that signals interrupt.
 pub(crate) const TRIES: u32 = 1000;
 
-/// One read, made again where a signal interrupts it.
+/// Makes one read, again where a signal interrupts it.
 fn read_again<T: io::Read>(reader: &mut T, buf: &mut [u8]) -> io::Result<usize>
     ensures { ReadsAtMost result buf.new }
 {
@@ -95,7 +96,7 @@ fn read_again<T: io::Read>(reader: &mut T, buf: &mut [u8]) -> io::Result<usize>
     Err(io::Error::from(ErrorKind::Interrupted))
 }
 
-/// One write, made again where a signal interrupts it.
+/// Makes one write, again where a signal interrupts it.
 pub(crate) fn write_again<T: io::Write>(writer: &mut T, bytes: &[u8]) -> io::Result<usize>
     ensures { WritesAtMost result bytes.now }
 {

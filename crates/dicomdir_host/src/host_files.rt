@@ -40,8 +40,8 @@ const NO_MORE: [i32; 2] = [24, 23];
 /// and is taken for not there where it is not what was looked at before. A plain file whose size is said to be 0
 /// is taken for empty.
 ///
-/// A file of a file-set is such a file that is found in any of the spellings in which systems show a disc. Below
-/// the folder of the file-set no link is followed, and none below the folder that is written to.
+/// A file of a file-set is a source that is looked up in each spelling in which systems show a disc. No link
+/// is followed below the folder of a file-set, nor below the folder that is written to.
 pub struct HostFiles<'a, R: fs::Files> {
     rt: &'a R,
     alloc: Global,
@@ -95,7 +95,7 @@ fn has_no_more(error: &io::Error) -> bool {
 }
 
 impl<'a, R: fs::Files> HostFiles<'a, R> {
-    /// The files, with none being written.
+    /// Makes the files of the system, of which none is being written.
     pub fn new(alloc: Global, rt: &'a R) -> Self
         ensures { result.refusals ≡ 0 }
     {
@@ -127,7 +127,7 @@ impl<'a, R: fs::Files> HostFiles<'a, R> {
         Err(NotDone)
     }
 
-    // Is a call to be made again, that had this answer? Where it got no descriptor, the files that wait are
+    // Says whether a call with this answer is to be made again: where it got no descriptor, the files that wait are
     // stored and closed.
     fn makes_room<T>(&mut self, answer: &io::Result<T>) -> bool
         ensures none { self.old.unstored.files.items ≡ [] → self.new.unstored ≡ self.old.unstored }
@@ -143,7 +143,7 @@ impl<'a, R: fs::Files> HostFiles<'a, R> {
         }
     }
 
-    // The file or the folder at the path, opened for reading.
+    // Opens the file or the folder at the path for reading.
     fn open(&mut self, path: &str) -> io::Result<Input<R::File>>
         ensures same { self.new ≡ record self.old { unstored = self.new.unstored } }
     {
@@ -155,7 +155,7 @@ impl<'a, R: fs::Files> HostFiles<'a, R> {
         answer
     }
 
-    // The file at the path below the folder `set`, opened for reading.
+    // Opens the file at the path below the folder `set` for reading.
     fn open_member(&mut self, set: &str, path: &str) -> io::Result<Input<R::File>>
         ensures same { self.new ≡ record self.old { unstored = self.new.unstored; members = self.new.members } }
     {
@@ -167,7 +167,7 @@ impl<'a, R: fs::Files> HostFiles<'a, R> {
         answer
     }
 
-    // A new file at the path.
+    // Opens a new file at the path.
     fn open_new(&mut self, path: &str) -> io::Result<Output<R::File>>
         ensures none { self.old.unstored.files.items ≡ [] → self.new.unstored ≡ self.old.unstored }
         ensures folders { self.new.unstored.folders ≡ self.old.unstored.folders }

@@ -1,4 +1,4 @@
-//! The files of file-sets, looked for as systems show them.
+//! Looks up the files of file-sets by the names that systems show.
 
 use crate::again::{Links, look};
 use crate::path_buffer::PathBuffer;
@@ -6,21 +6,22 @@ use crate::spelling::spellings;
 use std::fs::{self, Metadata};
 use std::io::{self, ErrorKind};
 
-/// Where a file of a file-set was looked for last.
+/// The place at which a file of a file-set was looked up last.
 #[derive(Drop)]
 pub(crate) struct Members {
-    /// How many bytes the path of the file-set's folder has. No path has `usize::MAX`: no folder is kept then.
+    /// The length of the path of the file-set's folder. It is `usize::MAX`, which no path has, while no folder
+    /// is kept.
     set_len: usize,
     /// The folder as it is recorded, with the `/` behind it.
     recorded: PathBuffer,
-    /// The folder as it is shown, and behind it the name that was looked for.
+    /// The folder as it is shown, and behind it the name that was looked up.
     place: PathBuffer,
-    /// How many bytes of the place are the folder.
+    /// The length of the folder in the place.
     folder_len: usize,
 }
 
 impl Members {
-    /// No file was looked for.
+    /// Makes a place at which no file was looked up yet.
     pub(crate) fn new() -> Self {
         Members {
             set_len: usize::MAX,
@@ -30,13 +31,13 @@ impl Members {
         }
     }
 
-    /// Where the file stands that was found last.
+    /// Gives the path of the file that was found last.
     pub(crate) fn place(&self) -> &str {
         self.place.as_str()
     }
 
-    /// Finds the file at this path below the folder `set`, and answers what stands at its place. Each name below the
-    /// folder may be shown in any spelling, of which the first that is there is taken; a symbolic link counts as
+    /// Looks up the file at this path below the folder `set`, and answers what stands there. Each name below the
+    /// folder may be shown in any spelling, of which the first that is there is taken. A symbolic link counts as
     /// not there.
     pub(crate) fn find<R: fs::Files>(
         &mut self,
@@ -52,7 +53,7 @@ impl Members {
         find_name(rt, name, &mut self.place)
     }
 
-    /// Finds the folder that is recorded so below the folder `set`.
+    /// Looks up the folder that is recorded so below the folder `set`.
     fn enter<R: fs::Files>(&mut self, rt: &R, set: &str, folder: &str) -> io::Result<()> {
         self.set_len = usize::MAX;
         self.recorded.truncate(0);
@@ -90,7 +91,7 @@ fn split_set<'a>(set: &str, path: &'a str) -> (&'a str, &'a str) {
     path.split_at_checked(above).unwrap_or((path, ""))
 }
 
-/// Finds a name in the folder at this place, adds it there as it is shown, and answers what stands there.
+/// Looks up a name in the folder at this place, adds it there as it is shown, and answers what stands there.
 fn find_name<R: fs::Files>(rt: &R, name: &str, place: &mut PathBuffer) -> io::Result<Metadata> {
     let folder_len = place.len();
     for spelling in spellings() {

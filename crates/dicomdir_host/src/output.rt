@@ -61,13 +61,13 @@ pub(crate) struct Output<F: io::Write + Drop> {
 }
 
 impl<F: io::Write + Drop> Output<F> {
-    /// No file.
+    /// Makes an output without a file.
     pub(crate) fn new() -> Self {
         Output { writer: None }
     }
 
-    /// Gives the file, once what is left in the buffer is written. It is being written no more. Refused
-    /// where no file is being written, or a write to it has failed.
+    /// Writes what is left in the buffer, and gives the file, which is being written no more. Refused where no
+    /// file is being written, or a write to it has failed.
     pub(crate) fn take(&mut self) -> io::Result<F>
         ensures lets_go { self.new.writer ≡ None }
         ensures none { self.old.writer ≡ None → IsErr result }
@@ -110,7 +110,7 @@ impl<F: io::Write + Drop> io::Write for Output<F> {
     }
 }
 
-/// A new file at the path, once there is a buffer for it. Refused where the name is taken.
+/// Opens a new file at the path, once there is a buffer for it. Refused where the name is taken.
 pub(crate) fn start<R: fs::Files>(
     alloc: Global,
     rt: &R,

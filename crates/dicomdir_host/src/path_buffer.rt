@@ -1,4 +1,4 @@
-//! A path that is put together, without memory.
+//! A path that is put together without taking memory.
 ghost use Rattle.std.specs.Prelude.{◌≡◌, ◌≤◌, ◌<◌, ◌+◌, ◌++◌, ℕ, List, [], IsErr, IsOk, length, take};
 ghost use Rattle.std.specs.Prelude.{if◌then◌else◌};
 ghost use Rattle.std.specs.Str.{IsUtf8};
@@ -27,7 +27,7 @@ impl Model for PathBuffer {
 }
 
 impl PathBuffer {
-    /// The empty path.
+    /// Makes the empty path.
     pub(crate) fn new() -> Self
         ensures { result ≡ [] }
     {
@@ -37,7 +37,7 @@ impl PathBuffer {
         }
     }
 
-    /// How many bytes it has.
+    /// Counts its bytes.
     pub(crate) fn len(&self) -> usize
         ensures { result ≡ length self.now }
     {
@@ -59,7 +59,8 @@ impl PathBuffer {
         self.push_letters(text, false)
     }
 
-    /// Adds this text, in small letters where these are asked for. Refused as `push`.
+    /// Adds this text, in small letters where these are asked for. Refused where the path gets too long, and then
+    /// nothing has changed.
     fn push_letters(&mut self, text: &str, is_small: bool) -> io::Result<()>
         ensures ok { IsOk result
             → self.new ≡ self.old ++ (if is_small then in_small_letters text.now else text.now) }
@@ -87,7 +88,7 @@ impl PathBuffer {
         self.push(spelling.ending)
     }
 
-    /// Its text. Bytes that are no text, of which no path is put together, give the empty one.
+    /// Gives its text. Bytes that are no text give the empty one; no path is put together of such bytes.
     pub(crate) fn as_str(&self) -> &str
         ensures text { IsUtf8 self.now → result.now ≡ self.now }
         ensures none { ¬ IsUtf8 self.now → result.now ≡ [] }

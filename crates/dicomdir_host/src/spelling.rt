@@ -11,8 +11,8 @@ pub(crate) struct Spelling {
     pub(crate) ending: &'static str,
 }
 
-/// The spellings in which systems show a name of a disc (ISO 9660), in the order in which they are looked for.
-/// A recorded name has no dot and no version number, and its letters are capital ones (PS3.10 section 8.2,
+/// Lists the spellings in which systems show a name of a disc (ISO 9660), in the order in which they are looked
+/// up. A recorded name has no dot and no version number, and its letters are capital ones (PS3.10 section 8.2 and
 /// PS3.12).
 pub(crate) fn spellings() -> [Spelling; 8]
     ensures { (name : List ℕ) → map (λ spelling. spelled spelling name) result ≡ shown name }
@@ -29,7 +29,7 @@ pub(crate) fn spellings() -> [Spelling; 8]
     ]
 }
 
-/// As recorded, with this ending.
+/// Spells a name as it is recorded, with this ending.
 fn capital(ending: &'static str) -> Spelling
     ensures { (name : List ℕ) → spelled result name ≡ name ++ ending.now }
 {
@@ -39,7 +39,7 @@ fn capital(ending: &'static str) -> Spelling
     }
 }
 
-/// In small letters, with this ending.
+/// Spells a name in small letters, with this ending.
 fn small(ending: &'static str) -> Spelling
     ensures { (name : List ℕ) → spelled result name ≡ in_small_letters name ++ ending.now }
 {

@@ -40,7 +40,7 @@ impl<F: Drop> Drop for Unstored<F> {
 }
 
 impl<F: OpenFile + Drop> Unstored<F> {
-    /// Nothing was made.
+    /// Makes an empty record of what is not stored.
     pub(crate) fn new(alloc: Global) -> Self
         ensures { IsStored result.files.items result.folders.items result.lost }
     {
@@ -52,14 +52,14 @@ impl<F: OpenFile + Drop> Unstored<F> {
         }
     }
 
-    /// How many files wait.
+    /// Counts the files that wait.
     pub(crate) fn files_len(&self) -> usize
         ensures { result ≡ length self.now.files.items }
     {
         self.files.len()
     }
 
-    /// The path of what was lost, and else of the current folder.
+    /// Gives the path of what was lost, and else of the current folder.
     pub(crate) fn lost(&self) -> &str
         ensures { IfSome self.now.lost (λ path. result.now ≡ string_bytes path) }
     {
@@ -121,7 +121,7 @@ impl<F: OpenFile + Drop> Unstored<F> {
         }
     }
 
-    /// Has the system store the files, and closes them. Refused where something is lost.
+    /// Makes the system store the files, and closes them. Refused where something is lost.
     pub(crate) fn store_files(&mut self) -> io::Result<()>
         ensures closed { self.new.files.items ≡ [] }
         ensures done { IsOk result ↔ (self.new.lost ≡ None) }
@@ -138,7 +138,7 @@ impl<F: OpenFile + Drop> Unstored<F> {
         self.answer()
     }
 
-    // Has the system store the names, each folder once.
+    // Makes the system store the names, each folder once.
     fn store_folders<R: fs::Files>(&mut self, rt: &R) -> io::Result<()>
         ensures none { self.new.folders.items ≡ [] }
         ensures done { IsOk result ↔ (self.new.lost ≡ None) }
@@ -156,7 +156,7 @@ impl<F: OpenFile + Drop> Unstored<F> {
         self.answer()
     }
 
-    /// Has the system store all. Refused where something is lost.
+    /// Makes the system store all. Refused where something is lost.
     pub(crate) fn store<R: fs::Files>(&mut self, rt: &R) -> io::Result<()>
         ensures stored { IsOk result → IsStored self.new.files.items self.new.folders.items self.new.lost }
         ensures lost { IsErr result → IsSome self.new.lost }
@@ -167,7 +167,7 @@ impl<F: OpenFile + Drop> Unstored<F> {
     }
 }
 
-// The folder at the path, opened for reading. Anything else is refused, since to open it could wait.
+// Opens the folder at the path for reading. Anything else is refused, since to open it could wait.
 fn open_folder<R: fs::Files>(rt: &R, path: &str) -> io::Result<R::File> {
     if !look(rt, path, Links::Followed)?.is_dir() {
         return Err(io::Error::other("no folder"));
@@ -175,8 +175,8 @@ fn open_folder<R: fs::Files>(rt: &R, path: &str) -> io::Result<R::File> {
     File::open(rt, path)
 }
 
-// Has the system store the names in a folder. A folder that may not be opened is passed over, and one that
-// its system can't store.
+// Makes the system store the names in a folder. Passes over a folder that may not be opened, and one that its
+// system can't store.
 fn store_folder<R: fs::Files>(rt: &R, path: &str) -> io::Result<()> {
     let folder = match open_folder(rt, path) {
         Ok(folder) => folder,

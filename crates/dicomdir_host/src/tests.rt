@@ -1,5 +1,5 @@
 //! The files of the system over a disc in memory: what comes back of what was written, and that each
-//! call that fails is told.
+//! call that fails is reported.
 
 mod cuts;
 mod disc;

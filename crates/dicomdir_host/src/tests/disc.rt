@@ -44,7 +44,7 @@ pub(super) struct Disc {
     broken: usize,
 }
 
-// By hand, so that letting go of a disc is one call.
+// By hand, so that dropping it is one call.
 impl Drop for Disc {
     fn drop(self) {
         let Disc {
