@@ -6,11 +6,15 @@ use Rattle.dicomdir.specs.declared.refusal.ProgramFault.{ProgramFault}
 use Rattle.dicomdir.specs.declared.refusal.Subject.{Subject}
 use Rattle.dicomdir.specs.declared.refusal.Subject.TheVariants as subject
 use Rattle.dicomdir.specs.declared.refusal.Refusal.{Refusal}
-use Rattle.dicomdir.specs.declared.refusal.ProgramFault.TheVariants.{SetId, Uid}
+use Rattle.dicomdir.specs.declared.refusal.ProgramFault.TheVariants.{Memory, SetId, Uid}
 
 -- the command line is at fault
 abbrev pub IsBadLine : ProgramFault → Type 0
 IsBadLine fault = ((bad : BadUid) × (fault ≡ Uid bad)) ⊎ ((bad : BadSetId) × (fault ≡ SetId bad))
+
+-- a growth was refused, which concerns no file
+abbrev pub IsMemory : Refusal → Type 0
+IsMemory refusal = refusal ≡ record { subject = subject.General; fault = Memory }
 
 -- a path that is concerned is one of these
 abbrev pub IsAmong : ℕ → Subject → Type 0

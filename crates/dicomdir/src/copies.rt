@@ -4,7 +4,8 @@ ghost use Rattle.dd_elem.specs.Device.{counted};
 ghost use Rattle.dd_files.specs.Files.{ended};
 ghost use Rattle.dd_layout.specs.Plans.{records_of};
 ghost use Rattle.dicomdir.specs.Made.{Copies, MakesImage, MakesImages, StartsImage};
-ghost use Rattle.dicomdir.specs.Refusal.{IsAmong, IsOfWork};
+ghost use Rattle.dicomdir.specs.Claims.{IsRefusedAs};
+ghost use Rattle.dicomdir.specs.Refusal.{IsAmong, IsMemory, IsOfWork};
 
 use crate::image_path::{ImageFolder, ImagePathText};
 use crate::origins::Origins;
@@ -171,6 +172,8 @@ fn accept<O: Origins>(
     requires { O.has origins.now pick }
     ensures refusal { IfErr result (IsOfWork (O.paths origins.now)) }
     ensures planned { IsOk result → filed ≡ Filed.AsPlanned }
+    ensures refused { IfErr result (IsRefusedAs filed (O.is_subject origins.now pick)
+        (O.is_claimant origins.now pick planned.now)) }
 {
     let subject = match filed {
         Filed::AsPlanned => return Ok(()),
@@ -182,7 +185,12 @@ fn accept<O: Origins>(
 
 /// What a failed copy of an image comes to, which was read from what this subject names.
 fn refusal_of(fault: FilingFault, file: FileId, origin: Subject) -> Refusal
-    ensures { (paths : ℕ) → IsAmong paths origin → IsOfWork paths result }
+    ensures memory { fault ≡ FilingFault.Memory → IsMemory result }
+    ensures unread { fault ≡ FilingFault.Unread → result ≡ record { subject = origin; fault = ProgramFault.Unread } }
+    ensures long { fault ≡ FilingFault.TooLong → result ≡ record { subject = origin; fault = ProgramFault.Changed } }
+    ensures unsent { fault ≡ FilingFault.Unsent
+        → result ≡ record { subject = Subject.Image file; fault = ProgramFault.Unsent } }
+    ensures work { (paths : ℕ) → IsAmong paths origin → IsOfWork paths result }
 {
     match fault {
         FilingFault::Memory => Refusal::memory(),

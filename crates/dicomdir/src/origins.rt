@@ -140,12 +140,12 @@ impl<'a> Origins for SetFiles<'_, 'a> {
         pick: Pick<'a>,
         planned: &Version,
     ) -> Result<Subject, Memory> {
-        let first = match first_saying(alloc, self.directories, planned) {
+        let named = match first_saying(alloc, self.directories, planned) {
             Ok(Some(first)) => first,
             Err(MergeFault::Memory) => return Err(Memory),
             _ => pick,
         };
-        Ok(self.subject(first))
+        Ok(self.subject(named))
     }
 
     fn subject(&self, pick: Pick<'a>) -> Subject {

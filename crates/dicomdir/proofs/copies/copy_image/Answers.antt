@@ -20,4 +20,4 @@ returns-in-Ok-clause-made g c = λ done.
     }
 
 pub returns-clause-refusal : goal.returns-clause-refusal
-returns-clause-refusal g c = c.refusal_of.ensures (g.O.Origins.paths c.args.origins.now) c.subject.ensures.among
+returns-clause-refusal g c = c.refusal_of.ensures.work (g.O.Origins.paths c.args.origins.now) c.subject.ensures.among
