@@ -2,6 +2,7 @@
 ghost use Rattle.std.specs.Prelude.{◌≡◌, ℕ, All, IfErr, IsErr, IsOk, option_map};
 ghost use Rattle.dd_dir.specs.Directories.{directory_of};
 ghost use Rattle.dd_elem.specs.Device.{counted, HasFailed};
+ghost use Rattle.dd_elem.specs.FileId.{max_rank};
 ghost use Rattle.dd_files.specs.Files.{ended, grown, published, started};
 ghost use Rattle.dicomdir.specs.Refusal.{IsBadLine, IsOfWork};
 
@@ -16,7 +17,9 @@ use std::alloc::Global;
 
 /// The limits of a directory that may have `max_bytes` bytes, and as many records below one parent as a
 /// File ID has ranks for.
-pub(crate) fn limits_of(max_bytes: u32) -> Limits {
+pub(crate) fn limits_of(max_bytes: u32) -> Limits
+    ensures { result ≡ record { bytes = max_bytes; per_level = max_rank } }
+{
     Limits::new(max_bytes, FileId::MAX_RANK).unwrap()
 }
 
@@ -27,7 +30,8 @@ pub(crate) fn refuse_taken<F: Files>(
     folder: &str,
     files: &mut F,
 ) -> Result<(), Refusal>
-    ensures { (paths : ℕ) → IfErr result (IsOfWork paths) }
+    ensures refusal { (paths : ℕ) → IfErr result (IsOfWork paths) }
+    ensures kept { F.held files.new ≡ F.held files.old }
 {
     let path = path_in(alloc, folder, DIRECTORY)?;
     if files.source(path.as_str()).is_ok() || files.member(folder, path.as_str()).is_ok() {

@@ -26,6 +26,7 @@ pub(crate) fn plan_index<F: Files>(
 ) -> Result<Indexed, Refusal>
     ensures refusal { IfErr result (IsOfWork (length sources.now)) }
     ensures within { IfOk result (IsWithin (length sources.now)) }
+    ensures kept { F.held files.new ≡ F.held files.old }
 {
     refuse_taken(alloc, folder, files)?;
     let mut counts = counts_of(alloc, sources.len())?;
@@ -54,6 +55,7 @@ fn index_files<F: Files>(
     requires { length counts.old ≡ length sources.now }
     ensures named { IfErr result (IsNamed (length sources.now)) }
     ensures within { IfOk result (IsWithin (length sources.now)) }
+    ensures kept { F.held files.new ≡ F.held files.old }
 {
     let mut supply = FileSupply::new(files, sources, counts);
     index_engine(alloc, &mut supply, choice, limits, SOURCE_LIMIT)

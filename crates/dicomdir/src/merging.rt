@@ -22,6 +22,7 @@ pub(crate) fn read_sets<F: Files>(
 ) -> Result<Vec<Vec<u8>>, Refusal>
     ensures refusal { IfErr result (IsOfWork (length sets.now)) }
     ensures all { IfOk result (λ all. length all.items ≡ length sets.now) }
+    ensures kept { F.held files.new ≡ F.held files.old }
 {
     refuse_taken(alloc, folder, files)?;
     read_directories(alloc, sets, files)

@@ -1,5 +1,5 @@
 //! The program's run.
-ghost use Rattle.std.specs.Prelude.{◌≡◌, ◌<◌, ◌≤◌, ◌+◌, ◌⊎◌, ℕ, All, IfErr, IfOk, IsErr, IsOk, length, true};
+ghost use Rattle.std.specs.Prelude.{◌≡◌, ◌<◌, ◌≤◌, ◌+◌, ◌⊎◌, ℕ, All, IfErr, IfOk, IsErr, IsOk, false, length, true};
 ghost use Rattle.clap.specs.Words.{subcommand_of, takes};
 ghost use Rattle.dd_elem.specs.Device.{HasFailed};
 ghost use Rattle.dd_layout.specs.Plans.{size};
@@ -108,6 +108,7 @@ fn run_asked<F: Files, O: Write, E: Write>(
     ensures empty { AsksEmptyPath asked.now
         → (1 ≤ result) × (files.new ≡ files.old) × (out.new ≡ out.old) }
     ensures done { result ≡ 0 → err.new ≡ err.old }
+    ensures kept { OnlyReads asked.now.verb → F.held files.new ≡ F.held files.old }
 {
     let names = match names_of(alloc, asked) {
         Ok(names) => names,
@@ -174,6 +175,9 @@ fn run_verb<F: Files, O: Write>(
     requires { 0 < length paths.now }
     ensures refusal { IfErr result (IsOfWork (length paths.now)) }
     ensures status { IfOk result (λ status. (status ≤ 1) ⊎ ((status ≡ 3) × (asked.now.verb ≡ Verb.Check))) }
+
+    // Where the files tell what they hold, a command that only reads leaves them as they were.
+    ensures kept { OnlyReads asked.now.verb → F.held files.new ≡ F.held files.old }
 {
     let max_bytes = asked.max_bytes;
     match asked.verb {
@@ -280,7 +284,10 @@ fn write_merged<'a, F: Files, O: Write>(
 }
 
 /// What a check compares that the line asks for.
-fn comparison_of(asked: &Asked) -> Comparison {
+fn comparison_of(asked: &Asked) -> Comparison
+    ensures keys { asked.now.keys ≡ true → result ≡ Comparison.Keys }
+    ensures digests { asked.now.keys ≡ false → result ≡ Comparison.Digests }
+{
     if asked.keys {
         Comparison::Keys
     } else {
@@ -298,6 +305,7 @@ fn run_check<F: Files, O: Write>(
 ) -> Result<u8, Refusal>
     ensures refusal { (paths : ℕ) → 0 < paths → IfErr result (IsOfWork paths) }
     ensures status { IfOk result (λ status. (status ≤ 1) ⊎ (status ≡ 3)) }
+    ensures kept { F.held files.new ≡ F.held files.old }
 {
     let bytes = directory_bytes(alloc, 0, folder, files)?;
     let forest = match read_directory(alloc, &bytes) {
@@ -334,6 +342,7 @@ fn run_list<F: Files, O: Write>(
 ) -> Result<u8, Refusal>
     ensures refusal { (paths : ℕ) → 0 < paths → IfErr result (IsOfWork paths) }
     ensures status { IfOk result (λ status. status ≤ 1) }
+    ensures kept { F.held files.new ≡ F.held files.old }
 {
     let bytes = directory_bytes(alloc, 0, folder, files)?;
     match read_directory(alloc, &bytes) {

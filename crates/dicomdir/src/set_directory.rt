@@ -15,6 +15,7 @@ pub(crate) fn read_directories<F: Files>(
 ) -> Result<Vec<Vec<u8>>, Refusal>
     ensures refusal { IfErr result (IsOfWork (length folders.now)) }
     ensures all { IfOk result (λ all. length all.items ≡ length folders.now) }
+    ensures kept { F.held files.new ≡ F.held files.old }
 {
     let mut all = Vec::new(alloc);
     for (at, folder) in folders.iter().enumerate() {
@@ -34,7 +35,8 @@ pub(crate) fn directory_bytes<F: Files>(
     folder: &str,
     files: &mut F,
 ) -> Result<Vec<u8>, Refusal>
-    ensures { (paths : ℕ) → at < paths → IfErr result (IsOfWork paths) }
+    ensures refusal { (paths : ℕ) → at < paths → IfErr result (IsOfWork paths) }
+    ensures kept { F.held files.new ≡ F.held files.old }
 {
     let path = path_in(alloc, folder, DIRECTORY)?;
     let Ok(mut reader) = files.member(folder, path.as_str()) else {
