@@ -187,7 +187,7 @@ fn accept<O: Origins>(
 fn refusal_of(fault: FilingFault, file: FileId, origin: Subject) -> Refusal
     ensures memory { fault ≡ FilingFault.Memory → IsMemory result }
     ensures unread { fault ≡ FilingFault.Unread → result ≡ record { subject = origin; fault = ProgramFault.Unread } }
-    ensures long { fault ≡ FilingFault.TooLong → result ≡ record { subject = origin; fault = ProgramFault.Changed } }
+    ensures changed { fault ≡ FilingFault.Changed → result ≡ record { subject = origin; fault = ProgramFault.Changed } }
     ensures unsent { fault ≡ FilingFault.Unsent
         → result ≡ record { subject = Subject.Image file; fault = ProgramFault.Unsent } }
     ensures work { (paths : ℕ) → IsAmong paths origin → IsOfWork paths result }
