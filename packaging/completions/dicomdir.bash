@@ -51,7 +51,8 @@ _dicomdir()
         case $command in
             index | merge | withdraw) choice='--id --uid --max-bytes -h --help' ;;
             check) choice='--keys -h --help' ;;
-            list | '') choice='-h --help' ;;
+            list) choice='-h --help' ;;
+            '') choice='-h --help -V --version' ;;
         esac
     fi
     [[ ! $choice ]] || mapfile -t COMPREPLY < <(compgen -W "$choice" -- "$current")

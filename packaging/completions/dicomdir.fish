@@ -2,6 +2,7 @@
 
 complete -c dicomdir -f
 complete -c dicomdir -s h -l help -d 'Print help'
+complete -c dicomdir -n __fish_use_subcommand -s V -l version -d 'Print version'
 
 set -l first '__fish_use_subcommand; or __fish_seen_subcommand_from help'
 complete -c dicomdir -n $first -a index \
@@ -11,7 +12,7 @@ complete -c dicomdir -n $first -a merge \
 complete -c dicomdir -n $first -a withdraw \
     -d 'Makes a file-set of one without some images, which no merge brings back'
 complete -c dicomdir -n $first -a check \
-    -d 'Tells which files of a file-set are not those that its DICOMDIR names'
+    -d 'Checks that the files which a DICOMDIR names are there and unchanged'
 complete -c dicomdir -n $first -a list \
     -d 'Lists the records of a DICOMDIR, those of other programs too'
 complete -c dicomdir -n __fish_use_subcommand -a help \
