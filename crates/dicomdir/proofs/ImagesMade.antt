@@ -1,6 +1,7 @@
 -- The images that were made so far, of the records so far.
 use Rattle.std.proofs.Common.{◌≡◌, ◌∙◌, ℕ, suc, ◌+◌, ◌<◌, List, [], ◌∷◌, ◌++◌, Bool, Option, None, Some}
-use Rattle.std.proofs.Common.{length, take, filter, get_or, refl, sym, ap, subst, arith, is_some, append-nil, if◌then◌else◌, ◌≤◌, ◌-◌, drop}
+use Rattle.std.proofs.Common.{length, take, filter, get_or, refl, sym, ap, subst, arith, is_some, append-nil}
+use Rattle.std.proofs.Common.{if◌then◌else◌, ◌≤◌, ◌-◌, drop}
 use Rattle.std.proofs.lemmas.List.{length-append, take-append-le, take_all, take_more, length-take}
 use Rattle.std.proofs.lemmas.List.Elements.{filter-append}
 use Rattle.std.proofs.Math.Seq.{take-nil}
@@ -34,7 +35,7 @@ kept : (row : PlanRecord) (file : Ranks) → row.file ≡ Some file → named (r
 kept row file some = ap (λ (yes : Bool). if yes then row ∷ [] else []) (ap is_some some)
 
 left_out : (row : PlanRecord) → row.file ≡ None → named (row ∷ []) ≡ []
-left_out row none = ap (λ (yes : Bool). if yes then row ∷ [] else []) (ap is_some none)
+left_out row unnamed = ap (λ (yes : Bool). if yes then row ∷ [] else []) (ap is_some unnamed)
 
 -- a front that is shorter than it may be is the whole list
 fewer : (n : ℕ) (xs : List PlanRecord) → length (take n xs) < n → length xs ≤ n
@@ -62,9 +63,9 @@ named_more rows at d within =
 -- it has no file
 pub more_unnamed : (rows : List PlanRecord) (picks at : ℕ) (d : PlanRecord) → at < length rows
     → (get_or rows at d).file ≡ None → done rows picks (at + 1) ≡ done rows picks at
-more_unnamed rows picks at d within none =
+more_unnamed rows picks at d within unnamed =
     ap (take picks) (named_more rows at d within
-    ∙ ap (λ (xs : List PlanRecord). named (take at rows) ++ xs) (left_out (get_or rows at d) none)
+    ∙ ap (λ (xs : List PlanRecord). named (take at rows) ++ xs) (left_out (get_or rows at d) unnamed)
     ∙ append-nil (named (take at rows)))
 
 -- it has a file, and there is a pick for it
@@ -99,7 +100,7 @@ pub none_yet : (folder : List ℕ) (versions : List Parts) (rows : List PlanReco
     → SoFar folder versions rows all 0 all held held
 none_yet folder versions rows all held = record {
   made = subst (λ (xs : List PlanRecord). MakesRows folder versions xs held held) (sym (take-nil all)) refl;
-  count = let none = ap (λ (xs : List PlanRecord). length xs) (take-nil all) in omega (arith, none);
+  count = let no_rows = ap (λ (xs : List PlanRecord). length xs) (take-nil all) in omega (arith, no_rows);
 }
 
 same_rows : (folder : List ℕ) (versions : List Parts) (rows : List PlanRecord) (all at left later : ℕ)

@@ -1,6 +1,8 @@
--- What copying the images of a plan makes, where files tell what they hold.
+-- What a command that makes a file-set changes in files that tell what they hold: it makes the file of each image, record
+-- by record, and then the directory.
 use Rattle.std.specs.Prelude.{◌≡◌, ◌<◌, ℕ, List, [], ◌∷◌, All, filter, take, Option, None, Some, is_some, option_map}
-use Rattle.std.specs.Prelude.{slice_get}
+use Rattle.std.specs.Prelude.{codes, slice_get}
+use Rattle.dd_dir.specs.Directories.{directory_of}
 use Rattle.dd_elem.specs.FileId.{Ranks, text_of}
 use Rattle.dd_files.specs.Files.{Held, published, started}
 use Rattle.dd_files.specs.Paths.{IsPathIn, id_path}
@@ -8,6 +10,8 @@ use Rattle.dd_filing.specs.declared.agreeing.Filed.TheVariants.{AsPlanned}
 use Rattle.dd_filing.specs.Filing.{IsFileAs}
 use Rattle.dd_keys.specs.declared.parts.Parts.{Parts}
 use Rattle.dd_layout.specs.declared.record.PlanRecord.{PlanRecord}
+use Rattle.dd_layout.specs.Layouts.{Layout}
+use Rattle.dd_layout.specs.Plans.{records_of}
 
 -- the path of the file with this File ID (PS3.10 section 8.2) in the folder
 abbrev pub IsPlace : List ℕ → Ranks → List ℕ → Type 0
@@ -51,8 +55,18 @@ abbrev pub CopiesTo : {P : Type 0} → List ℕ → List Parts → PlanRecord �
     → Option Held → Option Held → Type 0
 CopiesTo folder versions row None picks later old new = (later ≡ picks) × (new ≡ old)
 CopiesTo folder versions row (Some file) [] later old new = (later ≡ []) × (new ≡ old)
-CopiesTo folder versions row (Some file) (pick ∷ more) later old new = (later ≡ more) × MakesRow folder versions row old new
+CopiesTo folder versions row (Some file) (pick ∷ more) later old new =
+    (later ≡ more) × MakesRow folder versions row old new
 
 abbrev pub Copies : {P : Type 0} → List ℕ → List Parts → PlanRecord → List P → List P
     → Option Held → Option Held → Type 0
 Copies folder versions row picks later old new = CopiesTo folder versions row row.file picks later old new
+
+-- the images of the first `count` records of the plan that have a file were made in the folder, and then its directory
+-- (PS3.10 section 8.6)
+pub record MakesFileSet (folder : List ℕ) (plan : Layout) (count : ℕ) (old new : Option Held) : Type 0 where
+  pub copied : Option Held
+  pub images : MakesImages folder plan.versions (records_of plan.label plan.versions) count old copied
+  pub path : List ℕ
+  pub place : IsPathIn folder (codes "DICOMDIR") path
+  pub directory : new ≡ option_map (published path (directory_of plan.label plan.versions plan.withdrawn)) copied

@@ -30,8 +30,8 @@ pub(crate) fn copy_images<F: Files, O: Origins>(
     requires { All (O.has origins.now) picks.now }
     ensures refusal { IfErr result (IsOfWork (O.paths origins.now)) }
 
-    // Where the files tell what they hold, an image was made for each pick, each a file of its planned version, and
-    // nothing else.
+    // Where the files tell what they hold, an image was made for each pick, as a file of its planned version. All
+    // other files are as they were.
     ensures made { IsOk result → MakesImages folder.now plan.now.versions
         (records_of plan.now.label plan.now.versions)
         (length picks.now) (F.held files.old) (F.held files.new) }
@@ -160,8 +160,8 @@ fn end_copy<F: Files, O: Origins>(
     store(files)
 }
 
-/// Refuses a copy that is no file of the planned version. A file of a version with another digest has changed;
-/// any other is not what some record says of it, which is named.
+/// Refuses a copy that is not a file of the planned version. Where it is of a version with another digest, the
+/// refusal names the file that was copied. Else it names the file whose record says what the plan says.
 fn accept<O: Origins>(
     alloc: Global,
     planned: &Version,
@@ -183,7 +183,7 @@ fn accept<O: Origins>(
     Err(Refusal::of(subject, ProgramFault::Changed))
 }
 
-/// What a failed copy of an image comes to, which was read from what this subject names.
+/// Makes the refusal of a fault of a copy to this File ID. `origin` names the file that was copied.
 fn refusal_of(fault: FilingFault, file: FileId, origin: Subject) -> Refusal
     ensures memory { fault ≡ FilingFault.Memory → IsMemory result }
     ensures unread { fault ≡ FilingFault.Unread → result ≡ record { subject = origin; fault = ProgramFault.Unread } }

@@ -1,9 +1,10 @@
 //! A file-set in its folder: its images and its directory.
-ghost use Rattle.std.specs.Prelude.{◌≡◌, ℕ, All, IfErr, IsErr, IsOk, option_map};
+ghost use Rattle.std.specs.Prelude.{◌≡◌, ℕ, All, IfErr, IsErr, IsOk, length, option_map};
 ghost use Rattle.dd_dir.specs.Directories.{directory_of};
 ghost use Rattle.dd_elem.specs.Device.{counted, HasFailed};
 ghost use Rattle.dd_elem.specs.FileId.{max_rank};
 ghost use Rattle.dd_files.specs.Files.{ended, grown, published, started};
+ghost use Rattle.dicomdir.specs.Made.{MakesFileSet};
 ghost use Rattle.dicomdir.specs.Refusal.{IsBadLine, IsOfWork};
 
 use crate::copies::{copy_images, store};
@@ -51,7 +52,11 @@ pub(crate) fn write_file_set<F: Files, O: Origins>(
     files: &mut F,
 ) -> Result<(), Refusal>
     requires { All (O.has origins.now) picks.now }
-    ensures { IfErr result (IsOfWork (O.paths origins.now)) }
+    ensures refusal { IfErr result (IsOfWork (O.paths origins.now)) }
+
+    // Where the files tell what they hold, an image was made for each pick, and then the directory.
+    ensures made { IsOk result → MakesFileSet folder.now plan.now (length picks.now)
+        (F.held files.old) (F.held files.new) }
 {
     copy_images(alloc, folder, plan, origins, picks, files)?;
     if files.folder(folder).is_err() {

@@ -1,4 +1,4 @@
-//! How it is told that a command line asks for nothing.
+//! Prints why a command line is refused, or the help that it asks for.
 ghost use Rattle.std.specs.Prelude.{◌≡◌, ◌≤◌};
 
 use crate::masked_words::{have_control, mask_words};
@@ -9,7 +9,8 @@ use dd_report::Text;
 use std::alloc::Global;
 use std::fmt;
 
-/// Tells why these words ask for nothing, and answers the status. No control character of a word is told.
+/// Prints why these words are refused, or the help that they ask for, and answers the status. A control
+/// character of a word is printed as `?`.
 pub(crate) fn refuse_line<O: Write, E: Write>(
     alloc: Global,
     words: &[String],
@@ -34,8 +35,8 @@ pub(crate) fn refuse_line<O: Write, E: Write>(
     }
 }
 
-/// Tells by the parser's text for the words with `?` in place of each control character why they ask for
-/// nothing, and answers the status: 1 where a growth was refused.
+/// Prints the parser's text for these words with `?` in place of each control character, and answers the
+/// status: 1 where a growth was refused.
 fn refuse_masked<O: Write, E: Write>(
     alloc: Global,
     words: &[String],
@@ -53,7 +54,7 @@ fn refuse_masked<O: Write, E: Write>(
         Err(LineFault::Refused(error)) => tell_parser(&error, out, err),
         Err(LineFault::Memory) => tell(&Refusal::memory(), Paths::none(), err),
 
-        // A line that was not taken is not taken with `?` either: no name and no number has one.
+        // Words that are refused are refused with `?` too: no name and no number has a `?`.
         Ok(_) => 2,
     }
 }

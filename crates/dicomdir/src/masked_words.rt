@@ -8,14 +8,14 @@ ghost use Rattle.dicomdir.specs.MaskedWords.{has_control};
 use dd_elem::Memory;
 use std::alloc::Global;
 
-/// Whether one of the words has a control character.
+/// Does one of the words have a control character?
 pub(crate) fn have_control(words: &[String]) -> bool
     ensures { result ≡ list_any (λ word. has_control (string_bytes word)) words.now }
 {
     words.iter().any(|word| has_control(word.as_str()))
 }
 
-/// Whether the text has a control character.
+/// Does the text have a control character?
 fn has_control(text: &str) -> bool
     ensures { result ≡ has_control text.now }
 {
@@ -27,8 +27,8 @@ pub(crate) fn mask_words(alloc: Global, words: &[String]) -> Result<Vec<String>,
     ensures masked { IfOk result (λ shown. map (λ word. string_bytes word) shown.items
         ≡ map (λ word. masked (string_bytes word)) words.now) }
 
-    // So they have none.
-    ensures none { IfOk result (λ shown. list_any (λ word. has_control (string_bytes word)) shown.items ≡ false) }
+    // So no word has a control character.
+    ensures clear { IfOk result (λ shown. list_any (λ word. has_control (string_bytes word)) shown.items ≡ false) }
 {
     let mut shown = Vec::with_capacity(alloc, words.len())?;
     for word in words {
@@ -40,12 +40,12 @@ pub(crate) fn mask_words(alloc: Global, words: &[String]) -> Result<Vec<String>,
 /// Copies a text, with `?` for each control character. Memory where a growth is refused.
 fn mask(alloc: Global, text: &str) -> Result<String, Memory>
     ensures masked { IfOk result (λ shown. string_bytes shown ≡ masked text.now) }
-    ensures none { IfOk result (λ shown. has_control (string_bytes shown) ≡ false) }
+    ensures clear { IfOk result (λ shown. has_control (string_bytes shown) ≡ false) }
 {
     Ok(text.chars().map(masked_char).collect(alloc)?)
 }
 
-/// A character as it is shown.
+/// Gives the character, or `?` for a control character.
 fn masked_char(c: char) -> char
     ensures { result ≡ masked_char c }
 {

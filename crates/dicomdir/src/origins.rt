@@ -29,23 +29,24 @@ pub(crate) trait Origins {
     // It stands at this path.
     ghost stands_at: { Self → Self.Pick → List ℕ → Type 0 };
 
-    // A refusal that comes of it concerns this.
+    // A refusal names this where the file can't be opened or read, or has changed.
     ghost is_subject: { Self → Self.Pick → Subject → Type 0 };
 
-    // A refusal concerns this where it is not what the plan says of it.
+    // A refusal names this where the file is not what the plan says of it.
     ghost is_claimant: { Self → Self.Pick → Parts → Subject → Type 0 };
 
-    /// The path of the file. Memory where a growth is refused.
+    /// Makes the path of the file. Memory where a growth is refused.
     fn path(&self, alloc: Global, pick: Self::Pick) -> Result<String, Memory>
         requires { has self.now pick }
         ensures { IfOk result (λ path. stands_at self.now pick (string_bytes path)) };
 
-    /// The folder of the file-set that the file is of, if it is of one.
+    /// Gives the folder of the file-set that has the file, where one has it.
     fn set(&self, pick: Self::Pick) -> Option<&str>
         requires { has self.now pick };
 
-    /// What a refusal concerns where the file is not what the plan says of it: the file of the first record that
-    /// says so, or the file itself where no record speaks of it. Memory where a growth is refused.
+    /// Finds what a refusal names where the file is not what the plan says of it: the file of the first record
+    /// that says what the plan says, or the picked file where no record does or a set can't be read again. Memory
+    /// where a growth is refused.
     fn claimant(
         &self,
         alloc: Global,
@@ -56,7 +57,7 @@ pub(crate) trait Origins {
         ensures claimed { IfOk result (is_claimant self.now pick planned.now) }
         ensures among { IfOk result (IsAmong (paths self.now)) };
 
-    /// What a refusal concerns that comes of the file.
+    /// Says what a refusal names where the file can't be opened or read, or has changed.
     fn subject(&self, pick: Self::Pick) -> Subject
         requires { has self.now pick }
         ensures subject { is_subject self.now pick result }

@@ -8,7 +8,8 @@ ghost use Rattle.dd_line.specs.Line.{words_of};
 ghost use Rattle.dd_report.specs.Text.{TakesAll};
 ghost use Rattle.dicomdir.specs.Done.{done_text};
 ghost use Rattle.dicomdir.specs.EmptyPaths.{AsksEmptyPath, HasEmptyPath};
-ghost use Rattle.dicomdir.specs.Refusal.{IsBadLine, IsOfWork};
+ghost use Rattle.dicomdir.specs.Made.{MakesFileSet};
+ghost use Rattle.dicomdir.specs.Refusal.{IsOfWork};
 
 use crate::empty_paths::{empty_path, first_empty};
 use crate::file_set::write_file_set;
@@ -17,7 +18,7 @@ use crate::line_refusal::refuse_line;
 use crate::merging::{plan_merge, plan_withdrawal, read_sets, slices};
 use crate::names::{Names, names_of};
 use crate::origins::{SetFiles, SourceFiles};
-use crate::refusal::{Paths, ProgramFault, Refusal, Words, tell};
+use crate::refusal::{Paths, Refusal, Words, tell};
 use crate::set_directory::{directory_bytes, refusal_of};
 use dd_dir::{DirFault, read_directory};
 use dd_elem::Write;
@@ -278,12 +279,14 @@ fn write_merged<'a, F: Files, O: Write>(
     requires within { All (λ pick. pick.set < length sets.now.folders.now) merged.now.picks.items }
     ensures refusal { IfErr result (IsOfWork (length sets.now.folders.now)) }
     ensures status { IfOk result (λ status. status ≤ 1) }
+    ensures made { IsOk result → MakesFileSet folder.now merged.now.plan (length merged.now.picks.items)
+        (F.held files.old) (F.held files.new) }
 {
     write_file_set(alloc, folder, &merged.plan, sets, &merged.picks, files)?;
     Ok(tell_done(&merged.plan, out))
 }
 
-/// What a check compares that the line asks for.
+/// Gives the comparison that `check` makes: that of keys where the line has `--keys`, else that of digests.
 fn comparison_of(asked: &Asked) -> Comparison
     ensures keys { asked.now.keys ≡ true → result ≡ Comparison.Keys }
     ensures digests { asked.now.keys ≡ false → result ≡ Comparison.Digests }

@@ -83,8 +83,9 @@ fn files_are_picked_or_sets_refused(rt: HostRuntime) -> Result<(), Fail> {
     ask_all(&rt, rt.alloc(), Ask::Picked, PICKS)
 }
 
-/// Directories that are merged, and others among which the first is sought that says of the first instance what the
-/// merge plans; the number of its set and its File ID there, or that there is none, or why one is refused.
+/// Directories that are merged, and behind the bar others, which are searched for the first record that says of the
+/// first instance what the merge plans. The answer is the number of its set and its File ID there, `none`, or the
+/// fault of a directory.
 const FIRSTS: &str = "\
 first | first first > 0 PT000001\\ST000001\\SE000001\\IM000001
 first first,402,'P9 | first first,402,'P9,686,'X > 1 XT000001\\ST000001\\SE000001\\IM000001
@@ -93,7 +94,7 @@ first | first,386,'ROE^JANE > 0 PT000001\\ST000001\\SE000001\\IM000001
 first | empty first,834,00 first,874,'2 first,754,'4 > none
 first | 12 first,336,40010000 > Dir 1: 55 Twice 320";
 
-/// What is found of the directories behind the bar.
+/// Answers what the search finds in the directories behind the bar.
 pub(crate) fn first(alloc: Global, question: &str) -> Result<String, Fail> {
     let (merged, sought) = question.split_once(" | ").ok_or("no others")?;
     let sets = directories(alloc, merged)?;

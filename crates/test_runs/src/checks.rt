@@ -58,8 +58,8 @@ fn sets_are_checked(rt: HostRuntime) -> Result<(), Fail> {
     ask_all(&rt, rt.alloc(), Ask::Ran, CHECKS)
 }
 
-/// What a set of another program is whose image is a.dcm with other bytes at a place, as `check --keys` tells: each
-/// fault of a file, and those of a data set.
+/// What `check --keys` finds in a file-set of another program whose image is a.dcm with other bytes at a place: every
+/// fault of a file but OtherSyntax, and every fault of a data set but TooDeep and Memory.
 const FAULTS: &str = "\
 128,'X > 21 NotPart10
 140,ffff0100 > 22 GroupLength
@@ -91,8 +91,9 @@ d/IMAGES/SR1=a.dcm: - - dicomdir check --keys d > 3 [MISLABELLED IMAGES\\IM1 31 
     Ok(())
 }
 
-/// The same with what the files say of themselves: sets as they should be, of this program and of another; each tag
-/// that is compared; a file that is none; the digest first; records that are not compared; and several findings.
+/// Runs `check --keys` on file-sets of this program and of another. Some have no finding, and others one for a tag that
+/// is compared, one for a file that is not a DICOM file, or several. The digest is compared first, and the keys of some
+/// records are not compared.
 const KEYS: &str = "\
 d=set: - - dicomdir check --keys d > 0 [OK 4 records|] [] kept
 d/DICOMDIR=empty: - - dicomdir check d --keys > 0 [OK 0 records|] [] kept

@@ -9,5 +9,5 @@ pub returns-clause-masked : goal.returns-clause-masked
 unfolding masked
 returns-clause-masked c = search (rules, chars_from_encodes)
 
-pub returns-clause-none : goal.returns-clause-none
-returns-clause-none c = rw (returns-clause-masked c) (masked_has_none c.args.text.now (search rules))
+pub returns-clause-clear : goal.returns-clause-clear
+returns-clause-clear c = rw (returns-clause-masked c) (masked_has_none c.args.text.now (search rules))
