@@ -26,7 +26,7 @@ unfailed limit given left old new (Ok version) h settled = (h.ended (λ e. cc) (
 unfailed limit given left old new (Err FileTooLong) h settled = (h.long refl).1
 unfailed limit given left old new (Err fault) h settled = (h.ended (λ e. settled.0 (cc)) (λ e. cc)).2
 
--- what was told, of a reader that has come to its end within the limit
+-- the source of a reader that has come to its end within the limit
 fitting_source : (limit : ℕ) (file given rest : List ℕ) (answer : Answer) → file ≡ given ++ rest → rest ≡ []
     → length given ≤ limit → answer ≢ Err FileTooLong → Answers given answer → AnswersSource limit file answer
 fitting_source limit file given rest answer all ended within short h =
@@ -67,7 +67,7 @@ told_right limit (Some file) None given old new answer known h settled = absurd 
 told_right limit (Some file) (Some rest) given old new answer known h settled =
     source_told limit file given rest old new answer known h settled
 
--- what a reader has left, which is what is told where it is
+-- a reader begins with the bytes of its source, where these are known
 consumes_told : (told start left : Option (List ℕ)) (given : List ℕ) → IfSome told (λ file. start ≡ Some file)
     → Consumes start left given → Consumes told left given
 consumes_told None start left given same known = tt
@@ -218,7 +218,7 @@ holds_skipped at answers answer fault old new is many h versions numbers skips =
     subst (λ (one : Answer). Holds (answers ++ one ∷ []) new) (sym is)
     (holds_more at answers (Err fault) old new many h all same skips)
 
--- what of a source was told before others were read
+-- the bytes of a source are those that it had before others were read
 pub answer_before : (limit at : ℕ) (old before : ℕ → Option (List ℕ)) (answer : Answer) → before ≡ old
     → IsAnswer limit (before at) answer → IsAnswer limit (old at) answer
 answer_before limit at old before answer same h =

@@ -1,4 +1,4 @@
--- The place of the first version that is filed as the planned one, among those of all sets.
+-- Where the file of the first version is that is filed as the planned one.
 use Rattle.std.specs.Prelude.{◌≡◌, ◌<◌, ℕ, List, [], ◌∷◌, length, map, Option, Some, None, slice_get}
 use Rattle.std.specs.Prelude.{option_map, IfOk, IfSome, Result, Ok, Err}
 use Rattle.std.specs.List.{AllByRecursion}
@@ -17,7 +17,7 @@ use Rattle.dd_engine.specs.MergeSteps.{GathersOf}
 use Rattle.dd_engine.specs.Saying.{AnswersSaying, IsFiledAt, IsFirstFiled, IsFirstSaying}
 use Rattle.dd_engine.proofs.PicksWithin.{AreBelow, all_numbered_below}
 
--- each version has a place
+-- there are as many picks as versions
 picks_as_versions : (listings : List SetListing) (gathered : Gathered) → GathersOf [] listings gathered
     → length gathered.picks.items ≡ length gathered.versions.items
 picks_as_versions listings gathered gathers =
@@ -29,7 +29,7 @@ picks_as_versions listings gathered gathers =
     ∙ sym (length-map images (λ image. version_of image.1))
     ∙ sym (ap (λ (versions : List Parts). length versions) gathers.versions)
 
--- it is that of its image
+-- the pick of the first version that is filed so is that of its image
 pub first_place : (planned : Parts) (listings : List SetListing) (gathered : Gathered) (at : ℕ) (pick : Pick)
     → GathersOf [] listings gathered → IsFirstFiled planned gathered.versions.items at
     → pick ≡ get_or gathered.picks.items at pick → IsFirstSaying planned (numbered 0 listings) (Some pick)
@@ -47,19 +47,20 @@ first_place planned listings gathered at pick gathers first read = (
       let same = picks_as_versions listings gathered gathers in
       omega (arith, below, same)
 
--- there is none
+-- the answer is None where no version is filed so
 pub no_place : (planned : Parts) (listings : List SetListing) (gathered : Gathered)
     → GathersOf [] listings gathered → ((at : ℕ) → ¬ IsFiledAt planned gathered.versions.items at)
     → IsFirstSaying planned (numbered 0 listings) None
 no_place planned listings gathered gathers none = λ at is.
     none at (subst (λ (versions : List Parts). IsFiledAt planned versions at) (sym gathers.versions) is)
 
--- the number of its set is that of a set
+-- each place has the number of a set
 places_below : (n : ℕ) (images : List (ℕ × Listed)) → AreBelow n images
     → AllByRecursion (λ place. place.0 < n) (map (λ place. place_pick place) (places_in images))
 places_below n [] below = tt
 places_below n (image ∷ images) below = (below.0, places_below n images below.1)
 
+-- so has the pick that is found
 pub place_within : (sets : List (List ℕ)) (listings : List SetListing) (planned : Parts) (pick : Pick)
     → AreOwn sets listings → IsFirstSaying planned (numbered 0 listings) (Some pick) → pick.set < length sets
 place_within sets listings planned pick own (at, first, there) =
@@ -70,7 +71,7 @@ place_within sets listings planned pick own (at, first, there) =
     (get_or_from_slice_get places at (pick_view pick) (pick_view pick) there)
     (all at (pick_view pick) (slice_get_within places at (pick_view pick) there))
 
--- so is that of an answer
+-- so has the pick of an answer
 pub answer_within : (sets : List (List ℕ)) (planned : Parts) (answer : Result (Option Pick) MergeFault)
     → AnswersSaying planned sets answer → IfOk answer (λ found. IfSome found (λ pick. pick.set < length sets))
 answer_within sets planned (Ok None) answers = tt

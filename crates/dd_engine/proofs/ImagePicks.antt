@@ -85,7 +85,7 @@ pub twice : {A B C : Type 0} (g : B → C) (f : A → B) (xs : List A) → map g
 twice g f [] = refl
 twice g f (x ∷ xs) = ap (λ l. g (f x) ∷ l) (twice g f xs)
 
--- where places are told otherwise
+-- what is found where each place is mapped
 found_told : {T U : Type 0} (f : T → U) (marks : List (T × FileKey)) (file : FileKey)
     → option_map f (found marks file) ≡ found (map (λ mark. (f mark.0, mark.1)) marks) file
 found_told f [] file = refl

@@ -53,7 +53,7 @@ pub all_numbered_below : (sets : List (List ℕ)) (listings : List SetListing) �
 all_numbered_below sets listings own =
     numbered_below (length sets) 0 listings (omega (arith, many_own sets listings own))
 
--- what holds of what they are told as holds of them
+-- what holds of all elements of a mapped list holds of the elements, mapped
 unmapped : {A B : Type 0} (P : B → Type 0) (f : A → B) (xs : List A) → All P (map f xs) → All (λ x. P (f x)) xs
 unmapped P f xs all k d below =
     subst P (get_or-map f xs k d (f d) below) (all k (f d) (omega (arith, below, length-map xs f)))

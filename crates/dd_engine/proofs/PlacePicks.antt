@@ -39,7 +39,7 @@ files_placed : (images : List (ℕ × Listed))
 files_placed [] = refl
 files_placed (image ∷ images) = ap (λ l. file_of (version_of image.1) ∷ l) (files_placed images)
 
--- what a mark says, with the place as it is told
+-- what a mark says, with its place as a set and a File ID
 abbrev pub told : Pick × FileKey → (ℕ × List ℕ) × FileKey
 told mark = (pick_view mark.0, mark.1)
 

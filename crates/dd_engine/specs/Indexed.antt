@@ -40,7 +40,8 @@ Indexes choice limits answers (Err Memory) = Unit {0}
 Indexes choice limits answers (Err (Absent at)) = ⊥
 Indexes choice limits answers (Err (Unread at)) = ⊥
 
--- the answer for a number of sources that tell these bytes; where a source failed, nothing is said of the others
+-- the answer for a number of sources with these bytes, where they are known; where a source failed, nothing is said of
+-- the others
 abbrev pub AnswersSupply : Choice → Bounds → ℕ → (ℕ → Option (List ℕ)) → ℕ → Result Indexed EngineFault → Type 0
 AnswersSupply choice limits limit told sources (Err (Absent at)) = at < sources
 AnswersSupply choice limits limit told sources (Err (Unread at)) = at < sources

@@ -4,16 +4,18 @@ use Rattle.dd_dir.specs.declared.own_fault.OwnFault.{OwnFault}
 use Rattle.dd_dir.specs.declared.own_fault.OwnFault.TheVariants as owns
 use Rattle.dd_dir.specs.Own.{Listed}
 use Rattle.dd_dir.specs.Reading.{Refuses}
+use Rattle.dd_keys.specs.declared.parts.Parts.{Parts}
 use Rattle.dd_layout.specs.Bounds.{Bounds}
 use Rattle.dd_layout.specs.declared.fault.PlanFault.{PlanFault}
 use Rattle.dd_layout.specs.declared.fault.PlanFault.TheVariants as plans
 use Rattle.dd_engine.specs.declared.choice.Choice.{Choice}
 use Rattle.dd_engine.specs.declared.gathering.Gathered.{Gathered}
 use Rattle.dd_engine.specs.declared.merge.Merged.{Merged}
+use Rattle.dd_engine.specs.declared.merge.Pick.{Pick}
 use Rattle.dd_engine.specs.declared.merge_fault.MergeFault.{MergeFault}
 use Rattle.dd_engine.specs.declared.merge_fault.MergeFault.TheVariants.{Dir, Own, Plan, Memory}
 use Rattle.dd_engine.specs.Choosing.{refusal_for}
-use Rattle.dd_engine.specs.Merging.{AreOwn, IsFirst, IsForeign, IsMerged, IsOwn, SetListing, held_in, numbered}
+use Rattle.dd_engine.specs.Merging.{AreOwn, IsForeign, IsMerged, IsOwn, RefusesSets, SetListing, held_in, numbered}
 use Rattle.dd_engine.specs.Merging.{pick_view, place_pick, places_in, versions_in, withdrawn_in}
 
 -- ---- faults in the words of a merge: want of memory is its own
@@ -47,6 +49,11 @@ AnswersSet Gives at set (Err fault) = FailsAt at set fault
 
 -- ---- all sets
 
+-- these are the versions of the images, and where their files are
+pub record ArePlaced (images : List (ℕ × Listed)) (all : List Parts) (files : List Pick) : Type 0 where
+  pub versions : all ≡ versions_in images
+  pub picks : map (λ pick. pick_view pick) files ≡ map (λ place. place_pick place) (places_in images)
+
 -- what was gathered is of these images, their versions and where the files are, and of these withdrawn UIDs
 pub record Gathers (images : List (ℕ × Listed)) (uids : List (List ℕ)) (gathered : Gathered) : Type 0 where
   pub versions : gathered.versions.items ≡ versions_in images
@@ -57,14 +64,11 @@ pub record Gathers (images : List (ℕ × Listed)) (uids : List (List ℕ)) (gat
 abbrev pub GathersOf : List (List ℕ) → List SetListing → Gathered → Type 0
 GathersOf given listings gathered = Gathers (numbered 0 listings) (given ++ withdrawn_in listings) gathered
 
--- what was gathered of all sets, or why not
+-- what was gathered of all sets, or why they are refused
 abbrev pub GathersAll : List (List ℕ) → List (List ℕ) → Result Gathered MergeFault → Type 0
 GathersAll given sets (Ok gathered) = (listings : List SetListing)
     × AreOwn sets listings × GathersOf given listings gathered
-GathersAll given sets (Err (Dir at fault)) = IsFirst (λ set. Refuses set fault) sets at
-GathersAll given sets (Err (Own at fault)) = IsFirst (λ set. IsForeign set fault) sets at
-GathersAll given sets (Err (Plan fault)) = ⊥
-GathersAll given sets (Err Memory) = Unit {0}
+GathersAll given sets (Err fault) = RefusesSets sets fault
 
 -- the answer where the sets list this and these UIDs are withdrawn as well
 abbrev pub MergesAs : Choice → Bounds → List (List ℕ) → List SetListing → Result Merged MergeFault → Type 0

@@ -113,6 +113,14 @@ pub record IsFirst (Fails : List ℕ → Type 0) (sets : List (List ℕ)) (at : 
   pub fails : Fails (get_or sets at [])
   pub before : (listings : List SetListing) × AreOwn (take at sets) listings
 
+-- why these sets are refused, whatever is done with what they list: one fails, and no set before it does, or memory was
+-- refused
+abbrev pub RefusesSets : List (List ℕ) → MergeFault → Type 0
+RefusesSets sets (Dir at fault) = IsFirst (λ set. Refuses set fault) sets at
+RefusesSets sets (Own at fault) = IsFirst (λ set. IsForeign set fault) sets at
+RefusesSets sets (Plan fault) = ⊥
+RefusesSets sets Memory = Unit {0}
+
 -- the answer for the bytes of these sets, where these UIDs are withdrawn as well
 abbrev pub Merges : Choice → Bounds → List (List ℕ) → List (List ℕ) → Result Merged MergeFault → Type 0
 Merges choice limits given sets (Ok merged) = (listings : List SetListing)

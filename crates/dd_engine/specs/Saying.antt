@@ -1,27 +1,26 @@
--- Which record says of an image what a plan says of it.
-use Rattle.std.specs.Prelude.{◌≡◌, ◌<◌, ℕ, List, length, map, slice_get, slice_index_or, Option, None, Some, Result, Ok, Err}
+-- Which record files an image as a plan does.
+use Rattle.std.specs.Prelude.{◌≡◌, ◌<◌, ℕ, List, length, map, slice_get, slice_index_or}
+use Rattle.std.specs.Prelude.{Option, None, Some, Result, Ok, Err}
 use Rattle.dd_dir.specs.Own.{Listed}
-use Rattle.dd_dir.specs.Reading.{Refuses}
 use Rattle.dd_filing.specs.Filing.{FiledAs}
 use Rattle.dd_keys.specs.declared.parts.Parts.{Parts}
 use Rattle.dd_engine.specs.declared.merge.Pick.{Pick}
 use Rattle.dd_engine.specs.declared.merge_fault.MergeFault.{MergeFault}
-use Rattle.dd_engine.specs.declared.merge_fault.MergeFault.TheVariants.{Dir, Own, Plan, Memory}
-use Rattle.dd_engine.specs.Merging.{AreOwn, IsFirst, IsForeign, SetListing, numbered, pick_view, place_pick, places_in}
+use Rattle.dd_engine.specs.Merging.{AreOwn, RefusesSets, SetListing, numbered, pick_view, place_pick, places_in}
 use Rattle.dd_engine.specs.Merging.{versions_in}
 
--- the version of this number is there, and is filed as the planned one
+-- there is a version of this number, and it is filed as the planned one
 pub record IsFiledAt (planned : Parts) (versions : List Parts) (at : ℕ) : Type 0 where
   pub within : at < length versions
   pub filed : (otherwise : Parts) → FiledAs planned (slice_index_or versions at otherwise)
 
--- none before it is
+-- it is, and no version before it is filed so
 pub record IsFirstFiled (planned : Parts) (versions : List Parts) (at : ℕ) : Type 0 where
   pub here : IsFiledAt planned versions at
   pub first : (before : ℕ) → before < at → ¬ IsFiledAt planned versions before
 
--- of these images, each with the number of its set, it is the file of the first whose records say what the planned
--- version says; no records do where there is none
+-- The pick for these images, each with the number of its set: the file of the first image whose version is filed as the
+-- planned one. The answer is None exactly where no version is filed so.
 abbrev pub IsFirstSaying : Parts → List (ℕ × Listed) → Option Pick → Type 0
 IsFirstSaying planned images None = (at : ℕ) → ¬ IsFiledAt planned (versions_in images) at
 IsFirstSaying planned images (Some pick) = (at : ℕ) × IsFirstFiled planned (versions_in images) at
@@ -31,7 +30,4 @@ IsFirstSaying planned images (Some pick) = (at : ℕ) × IsFirstFiled planned (v
 abbrev pub AnswersSaying : Parts → List (List ℕ) → Result (Option Pick) MergeFault → Type 0
 AnswersSaying planned sets (Ok pick) = (listings : List SetListing)
     × AreOwn sets listings × IsFirstSaying planned (numbered 0 listings) pick
-AnswersSaying planned sets (Err (Dir at fault)) = IsFirst (λ set. Refuses set fault) sets at
-AnswersSaying planned sets (Err (Own at fault)) = IsFirst (λ set. IsForeign set fault) sets at
-AnswersSaying planned sets (Err (Plan fault)) = ⊥
-AnswersSaying planned sets (Err Memory) = Unit {0}
+AnswersSaying planned sets (Err fault) = RefusesSets sets fault

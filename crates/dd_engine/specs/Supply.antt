@@ -63,7 +63,7 @@ pub record AnswersSource (limit : ℕ) (file : List ℕ) (answer : Answer) : Typ
   -- and else the answer is that for the bytes of a file
   pub fits : length file ≤ limit → Answers file answer
 
--- the answer for a source, whether its bytes are told or not
+-- the answer for a source, whether its bytes are known or not
 pub record IsAnswer (limit : ℕ) (told : Option (List ℕ)) (answer : Answer) : Type 0 where
   pub settled : IfErr answer IsOfSource
   pub right : IfSome told (λ file. AnswersSource limit file answer)

@@ -38,6 +38,18 @@ impl Drop for Gathered<'_> {
 }
 
 impl<'a> Gathered<'a> {
+    /// Gives the versions, the places of their files, and the withdrawn UIDs.
+    pub(crate) fn into_parts(self) -> (Vec<Version>, Vec<Pick<'a>>, Vec<Uid>)
+        ensures { result ≡ (self.entry.versions, self.entry.picks, self.entry.withdrawn) }
+    {
+        let Gathered {
+            versions,
+            picks,
+            withdrawn,
+        } = self;
+        (versions, picks, withdrawn)
+    }
+
     /// Gathers of no set, with these UIDs withdrawn.
     fn new(alloc: Global, given: &[Uid]) -> Result<Gathered<'a>, Memory>
         ensures { IfOk result (Gathers [] given.now) }

@@ -1,7 +1,7 @@
 //! The engines: from sources, or from directories, to the plan of the directory of the best versions of all
-//! their images (PS3.3 annex F).
+//! their images (PS3.3 annex F); and `first_saying`, which finds the record that files an image as a plan does.
 //!
-//! What it promises stands at `index_engine`, `merge_engine` and `withdraw_engine`.
+//! What they promise stands at `index_engine`, `merge_engine`, `withdraw_engine` and `first_saying`.
 #![tactic(auto)]
 
 mod choice;

@@ -84,22 +84,25 @@ pub(crate) fn merge_sets<'a>(
         → IfOk result (λ merged. PlansImages (joined given.now maps) merged.plan) }
 {
     let gathered = gather(alloc, sets, given)?;
-    planned(alloc, &gathered, choice, limits)
+    planned(alloc, gathered, choice, limits)
 }
 
-/// What a merge has of what was gathered of all sets.
+/// Plans the directory of what was gathered of all sets. The list of withdrawn UIDs is dropped before the plan
+/// is made.
 fn planned<'a>(
     alloc: Global,
-    gathered: &Gathered<'a>,
+    gathered: Gathered<'a>,
     choice: &Choice,
     limits: Limits,
 ) -> Result<Merged<'a>, MergeFault>
-    requires { (given : List (List ℕ)) × (listings : List SetListing) × GathersOf given listings gathered.now }
-    ensures { (given : List (List ℕ)) (listings : List SetListing) → GathersOf given listings gathered.now
+    requires { (given : List (List ℕ)) × (listings : List SetListing) × GathersOf given listings gathered }
+    ensures { (given : List (List ℕ)) (listings : List SetListing) → GathersOf given listings gathered.entry
         → MergesAs choice.now limits given listings result }
 {
-    let catalogue = Catalogue::from_parts(alloc, &gathered.versions, &gathered.withdrawn)?;
+    let (versions, picks, withdrawn) = gathered.into_parts();
+    let catalogue = Catalogue::from_parts(alloc, &versions, &withdrawn)?;
+    drop(withdrawn);
     let plan = plan_for(alloc, &catalogue, choice, limits)?;
-    let picks = place_picks(alloc, &plan, gathered)?;
+    let picks = place_picks(alloc, &plan, &versions, &picks)?;
     Ok(Merged { plan, picks })
 }

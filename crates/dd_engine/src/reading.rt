@@ -22,7 +22,7 @@ pub(crate) struct Sources {
     pub(crate) skipped: Vec<(usize, KeyFault)>,
 }
 
-// By hand, so that letting go of sources is one call.
+// By hand, so that dropping it is one call.
 impl Drop for Sources {
     fn drop(self) {
         let Sources {

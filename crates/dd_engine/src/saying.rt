@@ -1,4 +1,4 @@
-//! Which record says of an image what a plan says of it.
+//! Finds the record that files an image as a plan does.
 
 ghost use Rattle.std.specs.Prelude.{◌≡◌, ◌<◌, ℕ, IfOk, IfSome, None, length, map};
 ghost use Rattle.dd_engine.specs.Saying.{AnswersSaying, IsFiledAt, IsFirstFiled};
@@ -10,11 +10,11 @@ use dd_filing::is_filed_as;
 use dd_keys::{Parts, Version};
 use std::alloc::Global;
 
-/// Finds the first record, over all sets in order and in each depth first, that says of an image what this
-/// version says of it, and answers where the file of the image is: its digest, and the keys that
-/// `is_filed_as` compares. None where no record says that.
+/// Finds the first record that files an image as this version: with its digest, and with the keys that
+/// `is_filed_as` compares. Looks at all sets in order, and in each set depth first. Answers where the file of
+/// the image is. None where no record files an image so.
 ///
-/// Refused as `merge_engine` refuses these sets, but for their plan.
+/// Refuses these sets as `merge_engine` does, but with no Plan fault, since it makes no plan.
 pub fn first_saying<'a>(
     alloc: Global,
     sets: &[&'a [u8]],
@@ -30,7 +30,7 @@ pub fn first_saying<'a>(
     }
 }
 
-/// The number of the first of these versions that is filed as the planned one.
+/// Finds the first of these versions that is filed as the planned one, and answers its number.
 fn first_filed(versions: &[Version], planned: &Parts) -> Option<usize>
     ensures first { IfSome result (IsFirstFiled planned.now versions.now) }
     ensures none { result ≡ None → (at : ℕ) → ¬ IsFiledAt planned.now versions.now at }

@@ -16,7 +16,7 @@ pub trait Supply {
     // How many sources there are.
     ghost sources: { Self → ℕ };
 
-    // The bytes of each source, where they are told.
+    // The bytes of each source, where they are known.
     ghost told: { Self → ℕ → Option (List ℕ) };
 
     // How often the opening of each source was refused.

@@ -1,4 +1,4 @@
--- A version that is not filed so comes behind those before it.
+-- A version that is not filed so extends those before it, of which none is filed so.
 use Rattle.std.proofs.Common.{◌∙◌, arith, below_more, subst, sym}
 use Rattle.dd_filing.specs.Filing.{FiledAs}
 use Rattle.dd_keys.specs.declared.parts.Parts.{Parts}

@@ -1,4 +1,4 @@
--- The first version that is filed as the planned one is that of an image, whose place is picked.
+-- The pick is that of the image whose version is the first that is filed as the planned one.
 use Rattle.std.proofs.Common.{◌<◌, ℕ, Ok, Some, map, refl, subst}
 use Rattle.std.proofs.lemmas.List.{length-map}
 use Rattle.dd_engine.proofs.FirstSaying.{answer_within, first_place, no_place}
