@@ -87,8 +87,8 @@ pub(crate) fn merge_sets<'a>(
     planned(alloc, gathered, choice, limits)
 }
 
-/// Plans the directory of what was gathered of all sets. The list of withdrawn UIDs is dropped before the plan
-/// is made.
+/// Plans the directory of what was gathered of all sets. The catalogue keeps the list of withdrawn UIDs, and the
+/// plan shares it.
 fn planned<'a>(
     alloc: Global,
     gathered: Gathered<'a>,
@@ -100,8 +100,7 @@ fn planned<'a>(
         → MergesAs choice.now limits given listings result }
 {
     let (versions, picks, withdrawn) = gathered.into_parts();
-    let catalogue = Catalogue::from_parts(alloc, &versions, &withdrawn)?;
-    drop(withdrawn);
+    let catalogue = Catalogue::from_parts(alloc, &versions, withdrawn)?;
     let plan = plan_for(alloc, &catalogue, choice, limits)?;
     let picks = place_picks(alloc, &plan, &versions, &picks)?;
     Ok(Merged { plan, picks })

@@ -15,14 +15,14 @@ place_picks-requires c =
     let parts = c.into_parts-versions.ensures in
     let is = c.in_ok-catalogue.ensures.held
     ∙ held_all _ _ _ _ (c.deref.ensures.value ∙ ap (λ p. p.0.items) parts ∙ gathers.versions)
-    (c.deref-2.ensures.value ∙ ap (λ p. p.2.items) parts ∙ gathers.withdrawn) in (
+    (ap (λ p. p.2.items) parts ∙ gathers.withdrawn) in (
       numbered 0 listings,
       given ++ withdrawn_in listings,
       planned_of c.args.choice.now (held_in given listings) c.in_ok-catalogue.catalogue c.in_ok-plan.plan is
           c.in_ok-plan.ensures.planned,
       record {
-        versions = c.deref-3.ensures.value ∙ ap (λ p. p.0.items) parts ∙ gathers.versions;
-        picks = ap (map (λ pick. pick_view pick)) (c.deref-4.ensures.value ∙ ap (λ p. p.1.items) parts) ∙ gathers.picks;
+        versions = c.deref-2.ensures.value ∙ ap (λ p. p.0.items) parts ∙ gathers.versions;
+        picks = ap (map (λ pick. pick_view pick)) (c.deref-3.ensures.value ∙ ap (λ p. p.1.items) parts) ∙ gathers.picks;
       },
     )
 
@@ -31,7 +31,7 @@ returns c = λ given listings gathers.
     let parts = c.into_parts-versions.ensures in
     let is = c.in_ok-catalogue.ensures.held
     ∙ held_all _ _ _ _ (c.deref.ensures.value ∙ ap (λ p. p.0.items) parts ∙ gathers.versions)
-    (c.deref-2.ensures.value ∙ ap (λ p. p.2.items) parts ∙ gathers.withdrawn) in
+    (ap (λ p. p.2.items) parts ∙ gathers.withdrawn) in
     let choice = c.args.choice.now in
     record {
       plan = c.in_ok-plan.ensures.planned
@@ -41,8 +41,8 @@ returns c = λ given listings gathers.
       picks = picked_of (stands_in listings) choice (held_in given listings) c.in_ok-catalogue.catalogue
           c.in_ok-plan.plan c.in_ok-picks.picks.items is c.in_ok-plan.ensures.planned
           (c.in_ok-picks.ensures (numbered 0 listings) (record {
-            versions = c.deref-3.ensures.value ∙ ap (λ p. p.0.items) parts ∙ gathers.versions;
-            picks = ap (map (λ pick. pick_view pick)) (c.deref-4.ensures.value ∙ ap (λ p. p.1.items) parts)
+            versions = c.deref-2.ensures.value ∙ ap (λ p. p.0.items) parts ∙ gathers.versions;
+            picks = ap (map (λ pick. pick_view pick)) (c.deref-3.ensures.value ∙ ap (λ p. p.1.items) parts)
                 ∙ gathers.picks;
           }));
     }
