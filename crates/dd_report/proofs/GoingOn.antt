@@ -91,7 +91,7 @@ fails_of_none text a b none failed =
 
 -- ---- the texts of a list's elements
 
--- those of the first so many elements went
+-- the texts of the first `i` elements went
 abbrev pub Went : {A : Type 0} → (A → List ℕ) → List A → ℕ → Way → Way → Type 0
 Went t xs i old new = GoesOn (flat_map t (take i xs)) old new
 

@@ -1,4 +1,4 @@
--- What is found of a file that is none.
+-- What is found of an IMAGE record whose file is no DICOM file, by the fault of reading it.
 use Rattle.std.proofs.Common.{◌≡◌, ◌∙◌, inl, ℕ, ◌+◌, ◌≤◌, false, List, ◌∷◌, Option, None, Some, Result, Ok, Err}
 use Rattle.std.proofs.Common.{refl, sym, ap, subst}
 use Rattle.std.specs.Prelude.{◌↔◌, IfOk, IsErr, OnErr, is_some}
@@ -24,51 +24,52 @@ use Rattle.dd_report.specs.declared.findings.Finding.{Finding}
 use Rattle.dd_report.specs.Agreements.{IsInherited, by_keys, compared_tags, mislabelled, standing_below}
 use Rattle.dd_report.specs.Finding.{FindsBy, by_digest, compared}
 
--- a refusal that says nothing of memory is the answer of reading
+-- a fault that does not say memory is the answer of reading the file
 refused : (wanted : List Tag) (e : FileFault) (given : List ℕ) → IsRefused wanted e given → (SaysMemory e → ⊥)
     → file_in given ≡ Err e
 refused wanted (faults.Meta Memory) given h silent = absurd (silent tt)
 refused wanted (faults.Set Memory) given h silent = absurd (silent tt)
 refused wanted e given h silent = h
 
-none_is : (finding : Option Finding) → is_some finding ≡ false → finding ≡ None
-none_is None is = refl
-none_is (Some finding) is = absurd (cc)
+no_finding : (finding : Option Finding) → is_some finding ≡ false → finding ≡ None
+no_finding None is = refl
+no_finding (Some finding) is = absurd (cc)
 
--- the digest does not differ, and the bytes are no file
-by_none : (node : Node) (above : List Node) (given digest : List ℕ) (fault : FileFault)
+-- the digest does not differ, and the bytes are no DICOM file
+by_fault : (node : Node) (above : List Node) (given digest : List ℕ) (fault : FileFault)
     (differs finding : Option Finding) → digest ≡ sha256 given → differs ≡ compared (digest_in node.set) digest
     → differs ≡ None
     → file_in given ≡ Err fault → finding ≡ mislabelled (standing_below above node) (Err fault)
     → finding ≡ by_keys (standing_below above node) given
-by_none node above given digest fault differs finding digested is none read found =
-    let same : compared (digest_in node.set) (sha256 given) ≡ None =
-    ap (λ (d : List ℕ). compared (digest_in node.set) d) (sym digested) ∙ sym is ∙ none in
+by_fault node above given digest fault differs finding digested is same read found =
+    let agrees : compared (digest_in node.set) (sha256 given) ≡ None =
+    ap (λ (d : List ℕ). compared (digest_in node.set) d) (sym digested) ∙ sym is ∙ same in
     found ∙ ap (λ (r : Result FileParts FileFault). mislabelled (standing_below above node) r) (sym read)
-    ∙ ap (λ (o : Option Finding). option_or o (mislabelled (standing_below above node) (file_in given))) (sym same)
+    ∙ ap (λ (o : Option Finding). option_or o (mislabelled (standing_below above node) (file_in given))) (sym agrees)
 
 pub on_err : {T E : Type 0} (r : Result T E) (P : Type 0) → (IsErr r → P) → OnErr r P
 on_err (Ok value) P h = tt
 on_err (Err fault) P h = h refl
 
 -- where memory ran out, the digest does not differ and memory is wanted
-pub none_wants : {E : Type 0} (r : Result (Option Finding) E) (given digest : List ℕ) (node : Node) (fault : FileFault)
+pub fault_wants : {E : Type 0} (r : Result (Option Finding) E) (given digest : List ℕ) (node : Node) (fault : FileFault)
     (answer : Result Scanned StreamFault) (differs : Option Finding) (limit : ℕ) (left : Option (List ℕ)) (old new : ℕ)
     → IsErr r → (IsErr r ↔ SaysMemory fault) → answer ≡ Err (File fault)
     → IsFileAnswer answer compared_tags limit given left old new → digest ≡ sha256 given
     → differs ≡ compared (digest_in node.set) digest → is_some differs ≡ false
     → (by_digest node given ≡ None) × SaysMemory fault × IsRefused compared_tags fault given
-none_wants r given digest node fault answer differs limit left old new err memory is answers digested differing none =
+fault_wants r given digest node fault answer differs limit left old new err memory is answers digested differing same =
     let P : Result Scanned StreamFault → Type 0 = λ a. IsFileAnswer a compared_tags limit given left old new in
     let h = subst P is answers in (
-      ap (λ (d : List ℕ). compared (digest_in node.set) d) (sym digested) ∙ sym differing ∙ none_is differs none,
+      ap (λ (d : List ℕ). compared (digest_in node.set) d) (sym digested) ∙ sym differing ∙ no_finding differs same,
       memory.0 err,
       h.1,
     )
 
 module _ {R P : Type 0} (has_given : R → P → List ℕ → Type 0) (remaining : R → Option (List ℕ)) (calls failures : R → ℕ)
     (limit : ℕ) where
-  pub none_found : {E : Type 0} (r : Result (Option Finding) E) (said : Inherited) (node : Node) (fault : FileFault)
+  -- what is found of such a record
+  pub fault_found : {E : Type 0} (r : Result (Option Finding) E) (said : Inherited) (node : Node) (fault : FileFault)
       (answer : Result Scanned StreamFault) (digest : List ℕ) (differs : Option Finding) (old new : R)
       → IfOk r (λ finding. (above : List Node) → finding ≡ mislabelled (standing_below above node) (Err fault))
       → (IsErr r ↔ SaysMemory fault) → answer ≡ Err (File fault) → differs ≡ compared (digest_in node.set) digest
@@ -78,9 +79,9 @@ module _ {R P : Type 0} (has_given : R → P → List ℕ → Type 0) (remaining
       → digest ≡ sha256 given → calls new ≤ calls old + limit + 1
       → IfOk r (λ finding. (above : List Node) → IsInherited said (node ∷ above)
       → FindsBy has_given remaining calls failures limit (by_keys (standing_below above node)) finding old new)
-  none_found (Err e) said node fault answer digest differs old new found memory is differing none given gave known
+  fault_found (Err e) said node fault answer digest differs old new found memory is differing same given gave known
       answers digested reads = tt
-  none_found (Ok finding) said node fault answer digest differs old new found memory is differing none given gave known
+  fault_found (Ok finding) said node fault answer digest differs old new found memory is differing same given gave known
       answers digested reads = λ above inherits.
       let P : Result Scanned StreamFault → Type 0 =
       λ a. IsFileAnswer a compared_tags limit given (remaining new) (failures old) (failures new) in
@@ -92,7 +93,7 @@ module _ {R P : Type 0} (has_given : R → P → List ℕ → Type 0) (remaining
         known = known;
         reads = reads;
         found = inl (
-          by_none node above given digest fault differs finding digested differing (none_is differs none) read
+          by_fault node above given digest fault differs finding digested differing (no_finding differs same) read
               (found above),
           h.0,
         );

@@ -1,4 +1,4 @@
--- What a check tells of records, one after the other, and of trees of them.
+-- What a check prints of records, one after the other, and of trees of them.
 use Rattle.std.proofs.Common.{◌≡◌, ◌∙◌, ℕ, zero, suc, Bool, true, false, List, [], ◌∷◌, ◌++◌, ◌+◌, ◌<◌, ◌≤◌}
 use Rattle.std.proofs.Common.{Option, None, Some}
 use Rattle.std.proofs.Common.{Result, Ok, Err, length, take, drop, get_or, refl, sym, ap}
@@ -34,7 +34,7 @@ use Rattle.dd_report.specs.Text.{FailsAmid, TakesAll}
 use Rattle.dd_report.proofs.GoingOn.{all_goes, fails_behind, fails_of_none, goes_none, goes_then, none_goes}
 use Rattle.dd_report.proofs.GoingOn.{one_more, parted}
 
--- ---- nothing is told only where nothing is found
+-- ---- nothing is printed only where nothing is found
 
 either : (one two : List ℕ) → not (is_empty (one ++ two)) ≡ (not (is_empty one) || not (is_empty two))
 either [] two = refl
@@ -223,7 +223,7 @@ module _ {R P : Type 0} (has_given : R → P → List ℕ → Type 0) (remaining
   pub none_told : (n : ℕ) (w : Way) → Checked [] (Ok false) n n w w
   none_told n w = ([], (refl, refl), refl, goes_none w)
 
-  -- a record of whose file nothing is told
+  -- memory ran out before anything was found of a record's file
   pub record_cut : (standing : Standing) (f g : ℕ) (a : Way) → g ≡ f → Checked (standing ∷ []) (Err Memory) f g a a
   record_cut standing f g a same =
       ([], record { first = []; others = standing ∷ []; parts = refl; told = (same, refl) }, goes_none a)
@@ -277,7 +277,7 @@ module _ {R P : Type 0} (has_given : R → P → List ℕ → Type 0) (remaining
     failed,
   )
 
-  -- what is told of more records
+  -- what is printed of both lists
   then_told : (xs ys : List Standing) (one two found : Bool) (f g h : ℕ) (a b c : Way) → found ≡ (one || two)
       → Checked xs (Ok one) f g a b → Checked ys (Ok two) g h b c → Checked (xs ++ ys) (Ok found) f h a c
   then_told xs ys one two found f g h a b c both first second = (

@@ -70,7 +70,7 @@ Agreement = Tag × Bool
 abbrev pub agreement : Tag → List ℕ → List ℕ → Agreement
 agreement wanted in_file in_records = (wanted, agree in_file in_records)
 
--- a Patient ID, for which `NOID` stands where it is empty and the record is one that is written here
+-- a Patient ID, for which `NOID` stands where it is empty and this program has written the record
 abbrev pub patient_id : Bool → List ℕ → List ℕ
 patient_id is_own value = if is_own then or_other value patient_id_row.when_empty else value
 
@@ -82,7 +82,7 @@ abbrev pub compared_tags : List Tag
 compared_tags = tag 0x0008 0x0016 ∷ tag 0x0008 0x0018 ∷ tag 0x0010 0x0020 ∷ tag 0x0020 0x000d ∷ tag 0x0020 0x000e ∷ []
 
 module _ (standing : Standing) where
-  -- the record has a digest, as those that are written here have
+  -- the record has a digest, as each IMAGE record has that this program writes
   abbrev pub has_digest : Bool
   has_digest = is_some (digest_in standing.node.set)
 
@@ -96,7 +96,7 @@ module _ (standing : Standing) where
   abbrev pub recorded_transfer : List ℕ
   recorded_transfer = key_of (tag 0x0004 0x1512) standing.node.set
 
-  -- what it says, or the nearest record above it that has the element
+  -- the value that the record has, or the nearest record above it that has the element
   abbrev pub inherited : Tag → List ℕ
   inherited wanted = nearest wanted (standing.node ∷ standing.above)
 
@@ -121,8 +121,8 @@ module _ (standing : Standing) where
 abbrev pub first_wrong : List Agreement → Option Finding
 first_wrong all = option_map (λ (a : Agreement). Mislabelled a.0) (find (λ (a : Agreement). not a.1) all)
 
--- what is found of an image where this is what reading its file gives: of one in a transfer syntax that is not read,
--- that alone is compared
+-- what is found of an image, by what reading its file gives: where the file has a transfer syntax that is not read, the
+-- transfer syntax alone is compared
 abbrev pub mislabelled : Standing → Result FileParts FileFault → Option Finding
 mislabelled standing (Ok file) = first_wrong (agreements standing file)
 mislabelled standing (Err (OtherSyntax transfer)) = first_wrong (syntax_agreement standing transfer ∷ [])
@@ -133,24 +133,24 @@ mislabelled standing (Err fault) = Some (NoFile fault)
 abbrev pub is_image : Node → Bool
 is_image node = bytes_eq node.kind (kind_of Image)
 
--- by the digest, and where that does not differ by what the file says
+-- what is found by the digest, and, where that does not differ, by what the file says of itself
 abbrev pub by_keys : Standing → List ℕ → Option Finding
 by_keys standing given = option_or (by_digest standing.node given) (mislabelled standing (file_in given))
 
--- by what is compared: what a file says is compared where it is an image's
+-- what is found by this comparison: what a file says of itself is compared with IMAGE records alone
 abbrev pub found_in : Comparison → Standing → List ℕ → Option Finding
 found_in Digests standing given = by_digest standing.node given
 found_in Keys standing given = if is_image standing.node then by_keys standing given else by_digest standing.node given
 
 -- ---- what the code holds
 
--- what it inherits is what the nearest of these records say
+-- each inherited value is that of the nearest of these records that has the element
 pub record IsInherited (said : Inherited) (nodes : List Node) : Type 0 where
   pub patient_id : said.patient_id.now ≡ nearest (tag 0x0010 0x0020) nodes
   pub study : said.study.now ≡ nearest (tag 0x0020 0x000d) nodes
   pub series : said.series.now ≡ nearest (tag 0x0020 0x000e) nodes
 
--- it shows a value: the first 1,024 bytes, and how many there are
+-- it shows a value: its first 1,024 bytes, and its length
 pub record Shows (shown : Shown) (value : List ℕ) : Type 0 where
   pub front : shown.front.now ≡ take most_told value
   pub length : shown.length ≡ length value

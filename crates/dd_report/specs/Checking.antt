@@ -1,4 +1,4 @@
--- What a check of a file-set finds of the files that its records name, and the lines that tell it.
+-- What a check of a file-set finds of the files that its records name, and the lines that say it.
 use Rattle.std.specs.Prelude.{◌≡◌, ◌⊎◌, ℕ, ◌+◌, ◌≤◌, Bool, not, ◌&&◌, ◌==◌, List, [], ◌∷◌, ◌++◌, Option, None}
 use Rattle.std.specs.Prelude.{Some, IfSome, IsSome, Result, Ok, Err, codes, if◌then◌else◌}
 use Rattle.std.specs.Fmt.{decimal}

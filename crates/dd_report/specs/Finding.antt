@@ -47,7 +47,7 @@ IsFound finding whole limit given left failures after =
     ((finding ≡ whole given) × Ends Ended limit given left failures after)
     ⊎ ((finding ≡ Some Unreadable) × ReadAmiss limit given left failures after)
 
--- What is found of it by reading it once, to its end, to a failure or to a byte more than the limit. Readers tell what
+-- What is found of it by reading it once, to its end, to a failure or to a byte more than the limit. Readers say what
 -- they gave, what they have left and what they count.
 pub record FindsBy {R P : Type 0} (has_given : R → P → List ℕ → Type 0) (remaining : R → Option (List ℕ))
     (calls failures : R → ℕ) (limit : ℕ) (whole : List ℕ → Option Finding) (finding : Option Finding) (old new : R)

@@ -1,4 +1,4 @@
-//! What a file says of itself, compared with what the records of a directory say of it.
+//! Compares what a file says of itself with what the records of a directory say of it.
 ghost use Rattle.std.specs.Prelude.{◌≡◌, ◌↔◌, ◌∷◌, ℕ, List, [], Err, IfOk, IsErr, None, OnErr, find, map, true};
 ghost use Rattle.std.specs.Option.{option_copied};
 ghost use Rattle.dd_elem.specs.Device.{Gives};
@@ -49,11 +49,11 @@ const FILE_INSTANCE: Tag = Tag {
     element: 0x0003,
 };
 
-/// What stands for an empty Patient ID in a record that is written here.
+/// The Patient ID in a record that this program writes, where that of the file is empty.
 const NO_ID: &[u8] = b"NOID";
 
-/// What the records above a record say of it: for each element the value of the nearest one that has it, and
-/// no bytes where none has.
+/// The values that the records above a record say of it: for each element that of the nearest record that has
+/// it, and no bytes where no record has it.
 #[derive(Clone, Copy)]
 pub(crate) struct Inherited<'a> {
     /// Patient ID.
@@ -65,8 +65,8 @@ pub(crate) struct Inherited<'a> {
 }
 
 impl<'a> Inherited<'a> {
-    /// What none says, where there is none.
-    pub(crate) fn none() -> Inherited<'a>
+    /// Says nothing, as no record stands above a root.
+    pub(crate) fn at_root() -> Inherited<'a>
         ensures { IsInherited result [] }
     {
         Inherited {
@@ -76,7 +76,7 @@ impl<'a> Inherited<'a> {
         }
     }
 
-    /// What these and this record say of the records below it.
+    /// Adds what this record says, for the records below it.
     pub(crate) fn under(self, tree: &Tree<'a>) -> Inherited<'a>
         ensures { (above : List Node) → IsInherited self.entry above
             → IsInherited result ((tree_view tree.now).node ∷ above) }
@@ -89,7 +89,7 @@ impl<'a> Inherited<'a> {
     }
 }
 
-/// The value that the record has at a tag, or the one above where it has no such element.
+/// Gives the value that the record has at a tag, or the one from above where it has no such element.
 fn value_or<'a>(tree: &Tree<'a>, tag: Tag, above: &'a [u8]) -> &'a [u8]
     ensures { (nodes : List Node) → above.now ≡ nearest tag nodes
         → result.now ≡ nearest tag ((tree_view tree.now).node ∷ nodes) }
@@ -101,17 +101,17 @@ fn value_or<'a>(tree: &Tree<'a>, tag: Tag, above: &'a [u8]) -> &'a [u8]
     }
 }
 
-/// What is compared of a value.
+/// The part of a value that is compared.
 #[derive(Clone, Copy)]
 pub(crate) struct Shown<'a> {
     /// The first 1,024 of its bytes.
     pub front: &'a [u8],
-    /// How many it has.
+    /// The number of its bytes.
     pub length: u64,
 }
 
 impl<'a> Shown<'a> {
-    /// What is compared of this value.
+    /// Shows this value.
     fn of(value: &'a [u8]) -> Shown<'a>
         ensures { Shows result value.now }
     {
@@ -121,8 +121,8 @@ impl<'a> Shown<'a> {
         }
     }
 
-    /// What is compared of the value at a tag of a data set in which these elements were found: of no bytes
-    /// where it has no such element or that holds none.
+    /// Shows the value at a tag of a data set in which these elements were found: no bytes where the set has no
+    /// such element, or one that holds no bytes.
     fn found(found: &'a [Found], tag: Tag) -> Shown<'a>
         ensures { (set : Elements) → map found_hit found.now ≡ hits_of compared_tags set
             → is_wanted compared_tags tag ≡ true → Shows result (key_of tag set) }
@@ -139,7 +139,7 @@ impl<'a> Shown<'a> {
         }
     }
 
-    /// What is compared of a Patient ID.
+    /// Shows a Patient ID, with `NOID` for an empty one where this program has written the record.
     fn or_no_id(self, is_own: bool) -> Shown<'a>
         ensures { (value : List ℕ) → Shows self.entry value → Shows result (patient_id is_own value) }
     {
@@ -158,7 +158,7 @@ impl<'a> Shown<'a> {
     }
 }
 
-/// The first of the found elements with this tag.
+/// Finds the first of these elements with this tag.
 fn find_in(found: &[Found], tag: Tag) -> Option<&Found>
     ensures { option_copied result ≡ find (λ found. same_tag found.tag tag) found.now }
 {
@@ -168,7 +168,7 @@ fn find_in(found: &[Found], tag: Tag) -> Option<&Found>
 /// A tag of a file, and whether the value there agrees with what the records say.
 type Agreement = (Tag, bool);
 
-/// Whether a UID of group 0002 agrees with what the record says.
+/// Compares a UID of group 0002 with what the record says.
 fn uid_agreement(tag: Tag, uid: &Uid, recorded: &[u8]) -> Agreement
     ensures { result ≡ agreement tag uid.now recorded.now }
 {
@@ -176,7 +176,7 @@ fn uid_agreement(tag: Tag, uid: &Uid, recorded: &[u8]) -> Agreement
     (tag, in_file.agrees(Shown::of(recorded)))
 }
 
-/// Whether the transfer syntax of a file agrees with what the record says.
+/// Compares the transfer syntax of a file with what the record says.
 fn syntax_agreement(tree: &Tree<'_>, transfer: &Uid) -> Agreement
     ensures { (above : List Node)
         → result ≡ syntax_agreement (standing_below above (tree_view tree.now).node) transfer.now }
@@ -184,7 +184,7 @@ fn syntax_agreement(tree: &Tree<'_>, transfer: &Uid) -> Agreement
     uid_agreement(dd_part10::TRANSFER, transfer, value_in(tree, TRANSFER.tag))
 }
 
-/// Whether a value of a data set in which these elements were found agrees with what the records say.
+/// Compares a value of a data set in which these elements were found with what the records say.
 fn value_agreement(found: &[Found], tag: Tag, recorded: &[u8]) -> Agreement
     ensures { (set : Elements) → map found_hit found.now ≡ hits_of compared_tags set
         → is_wanted compared_tags tag ≡ true → result ≡ agreement tag (key_of tag set) recorded.now }
@@ -193,7 +193,7 @@ fn value_agreement(found: &[Found], tag: Tag, recorded: &[u8]) -> Agreement
     (tag, in_file.agrees(Shown::of(recorded)))
 }
 
-/// Whether its Patient ID does.
+/// Compares the Patient ID of such a data set with what the records say.
 fn patient_agreement(found: &[Found], is_own: bool, recorded: &[u8]) -> Agreement
     ensures { (set : Elements) → map found_hit found.now ≡ hits_of compared_tags set
         → result ≡ agreement (tag 0x0010 0x0020) (patient_id is_own (key_of (tag 0x0010 0x0020) set))
@@ -204,8 +204,8 @@ fn patient_agreement(found: &[Found], is_own: bool, recorded: &[u8]) -> Agreemen
     (tags::PATIENT_ID, in_file.agrees(recorded))
 }
 
-/// Whether what a file says of itself agrees with what the records say, in the order of its tags. `inherited` is
-/// what the record and those above it say.
+/// Compares what a file says of itself with what the records say, in the order of its tags. `inherited` is what
+/// the record and those above it say.
 fn agreements(tree: &Tree<'_>, inherited: Inherited<'_>, scanned: &Scanned) -> [Agreement; 8]
     ensures { (above : List Node) (file : FileParts)
         → IsInherited inherited.entry ((tree_view tree.now).node ∷ above)
@@ -229,7 +229,7 @@ fn agreements(tree: &Tree<'_>, inherited: Inherited<'_>, scanned: &Scanned) -> [
     ]
 }
 
-/// What is found where these are all that are compared: the first whose values do not agree.
+/// Finds the first tag whose values do not agree.
 fn first_wrong(all: &[Agreement]) -> Option<Finding>
     ensures { result ≡ first_wrong all.now }
 {
@@ -238,8 +238,9 @@ fn first_wrong(all: &[Agreement]) -> Option<Finding>
         .map(|(tag, _)| Finding::Mislabelled(*tag))
 }
 
-/// What is found of an IMAGE record whose file is none for this reason: Memory where a growth was refused.
-fn found_of_none(tree: &Tree<'_>, fault: FileFault) -> Result<Option<Finding>, Memory>
+/// Judges an IMAGE record whose file is no DICOM file, by the fault of reading it. Memory where a growth was
+/// refused.
+fn finding_of_fault(tree: &Tree<'_>, fault: FileFault) -> Result<Option<Finding>, Memory>
     ensures found { IfOk result (λ finding. (above : List Node)
         → finding ≡ mislabelled (standing_below above (tree_view tree.now).node) (Err fault)) }
     ensures memory { IsErr result ↔ SaysMemory fault }
@@ -253,8 +254,8 @@ fn found_of_none(tree: &Tree<'_>, fault: FileFault) -> Result<Option<Finding>, M
     }
 }
 
-/// What is found of an IMAGE record and of its file, by reading the file once. `inherited` is what the record
-/// and those above it say.
+/// Judges an IMAGE record and its file, by reading the file once. `inherited` is what the record and those
+/// above it say.
 ///
 /// Memory where a growth is refused while the file is read. It is read to its end nonetheless, and its digest
 /// does not differ.
@@ -279,6 +280,6 @@ pub(crate) fn finding_by_keys<R: Read>(
         Err(StreamFault::Read | StreamFault::TooLong) => Ok(Some(Finding::Unreadable)),
         _ if differs.is_some() => Ok(differs),
         Ok(scanned) => Ok(first_wrong(&agreements(tree, inherited, &scanned))),
-        Err(StreamFault::File(fault)) => found_of_none(tree, fault),
+        Err(StreamFault::File(fault)) => finding_of_fault(tree, fault),
     }
 }

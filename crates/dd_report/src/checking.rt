@@ -25,7 +25,7 @@ use itoa::Buffer;
 use std::alloc::Global;
 use std::fmt;
 
-/// Why a check ended before its end.
+/// Says why a check ended early.
 #[derive(Clone, Copy, Debug, PartialEq, Eq)]
 pub enum CheckFault {
     /// A growth was refused.
@@ -34,13 +34,13 @@ pub enum CheckFault {
     Unsent,
 }
 
-/// What is compared of a record and of the file that it names.
+/// Says what is compared of a record and of the file that it names.
 #[derive(Clone, Copy, Debug, PartialEq, Eq)]
 pub enum Comparison {
     /// The digest that the record has is compared with that of the file.
     Digests,
-    /// So is the digest; and where that does not differ, what an IMAGE record and those above it say with
-    /// what the file says of itself: its transfer syntax, class and instance, patient, study and series.
+    /// The digests are compared. Where they do not differ, what an IMAGE record and those above it say is compared
+    /// with what the file says of itself: its transfer syntax, class and instance, patient, study and series.
     Keys,
 }
 
@@ -55,7 +55,7 @@ struct Check<'a> {
     comparison: Comparison,
 }
 
-/// Checks the files that the records of a directory name, in this folder, by this comparison, and tells what
+/// Checks the files that the records of a directory name, in this folder, by this comparison, and prints what
 /// is found, depth first and once for each record. Answers whether something is found. Memory where a growth
 /// is refused; Unsent where the output fails. The findings of the records before that are sent.
 pub fn check_records<F: Files, W: Write>(
@@ -107,7 +107,7 @@ fn is_unsent(checked: &Result<bool, CheckFault>) -> bool
     matches!(checked, Err(CheckFault::Unsent))
 }
 
-/// Checks all records, and tells then what is said of all together.
+/// Checks all records, and prints then the line about all of them.
 fn check_forest<F: Files, W: Write>(
     check: Check<'_>,
     forest: &Forest<'_>,
@@ -122,14 +122,14 @@ fn check_forest<F: Files, W: Write>(
         (way lines.new (W.contents to.new) (W.failures to.new)) }
     ensures kept { F.held files.new ≡ F.held files.old }
 {
-    let found = check_trees(check, &forest.trees, Inherited::none(), files, lines, to)?;
+    let found = check_trees(check, &forest.trees, Inherited::at_root(), files, lines, to)?;
     match tell_end(forest, found, lines, to) {
         Ok(()) => Ok(found || forest.unreached > 0),
         Err(_) => Err(CheckFault::Unsent),
     }
 }
 
-/// Tells how many items no offset reaches, where there are some; or else how many records there are, where
+/// Prints how many items no offset reaches, where there are some; or else how many records there are, where
 /// nothing is found of them.
 fn tell_end<W: Write>(
     forest: &Forest<'_>,
@@ -204,7 +204,7 @@ fn check_tree<'t, F: Files, W: Write>(
     Ok(here || below)
 }
 
-/// Checks the file of this record, and tells what is found. `inherited` is what it and the records above say.
+/// Checks the file of this record, and prints what is found. `inherited` is what it and the records above say.
 fn check_record<F: Files, W: Write>(
     check: Check<'_>,
     tree: &Tree<'_>,
@@ -233,8 +233,8 @@ fn check_record<F: Files, W: Write>(
     }
 }
 
-/// What is found of the file that the record names in the folder. It is opened only where its name is a
-/// File ID, and read once. Memory where a growth is refused. `inherited` is what the record and those above
+/// Judges the file that the record names in the folder. It is opened only where its name is a File ID, and
+/// read once. Memory where a growth is refused. `inherited` is what the record and those above
 /// say.
 fn finding_in<F: Files>(
     check: Check<'_>,
@@ -262,7 +262,7 @@ fn finding_in<F: Files>(
     }
 }
 
-/// What is found of the file by reading it, by what is compared.
+/// Judges the file by this comparison, by reading it once.
 fn finding_of_file<R: Read>(
     check: Check<'_>,
     tree: &Tree<'_>,
@@ -293,7 +293,7 @@ fn is_image(tree: &Tree<'_>) -> bool
     tree.kind == Level::Image.kind()
 }
 
-/// Tells what is found.
+/// Prints what is found.
 fn tell_finding<W: Write>(
     tree: &Tree<'_>,
     finding: &Finding,
@@ -321,7 +321,7 @@ fn tell_finding<W: Write>(
     }
 }
 
-/// Tells that a file has another digest than its record says.
+/// Prints that a file has another digest than its record says.
 fn tell_digests<W: Write>(
     file: &[u8],
     recorded: &[u8; 64],

@@ -1,4 +1,4 @@
-//! What is found of the file that a record names.
+//! Judges the file that a record names.
 ghost use Rattle.std.specs.Prelude.{◌≡◌, IfSome, None, Some};
 ghost use Rattle.dd_elem.specs.FileIdForm.{IsFileId};
 ghost use Rattle.dd_dir.specs.ForestViews.{tree_view};
@@ -13,7 +13,7 @@ use dd_keys::value_at;
 use dd_layout::table::FILE;
 use dd_part10::FileFault;
 
-/// What is wrong with the file that a record names.
+/// Says what is wrong with the file that a record names.
 #[derive(Clone, Copy, Debug, PartialEq, Eq)]
 pub enum Finding {
     /// The name is no File ID (PS3.10 section 8.2).
@@ -35,8 +35,8 @@ pub enum Finding {
     NoFile(FileFault),
 }
 
-/// What is found of the file that a record names: nothing where the record is not in use or names none.
-/// `file` reads it, where it could be opened; it may have `limit` bytes.
+/// Judges the file that a record names. Finds nothing where the record is not in use or names no file. `file`
+/// reads it, where it could be opened; it may have `limit` bytes.
 ///
 /// It is read once, to its end, to a failure or to `limit` bytes and one more, whether the record has a
 /// digest or not; where its name is no File ID it is not read. This takes no memory.
@@ -60,14 +60,15 @@ pub fn finding_of<R: Read>(tree: &Tree<'_>, file: Option<&mut R>, limit: u64) ->
     finding_by(tree, reader, limit)
 }
 
-/// The File ID that a record has, without its padding: no bytes where it has none.
+/// Gives the File ID that a record has, without its padding: no bytes where it has no File ID.
 pub(crate) fn file_in<'t>(tree: &Tree<'t>) -> &'t [u8]
     ensures { result.now ≡ file_in (tree_view tree.now).node }
 {
     value_in(tree, FILE.tag)
 }
 
-/// The value that a record has at a tag, without its padding: no bytes where it has none or holds items.
+/// Gives the value that a record has at a tag, without its padding: no bytes where it has no value there, or
+/// items.
 pub(crate) fn value_in<'t>(tree: &Tree<'t>, tag: Tag) -> &'t [u8]
     ensures { result.now ≡ key_of tag (tree_view tree.now).node.set }
 {
@@ -77,7 +78,7 @@ pub(crate) fn value_in<'t>(tree: &Tree<'t>, tag: Tag) -> &'t [u8]
     }
 }
 
-/// The File ID of the file that a record names, where it is in use and the name is a File ID.
+/// Gives the File ID of the file that a record names, where it is in use and the name is a File ID.
 pub(crate) fn id_of<'t>(tree: &Tree<'t>) -> Option<&'t [u8]>
     ensures some { IfSome result (λ id. HasFileId (tree_view tree.now).node
         × (id.now ≡ file_in (tree_view tree.now).node)) }
@@ -91,7 +92,7 @@ pub(crate) fn id_of<'t>(tree: &Tree<'t>) -> Option<&'t [u8]>
     }
 }
 
-/// What is found of a record whose file is not opened.
+/// Judges a record whose file is not opened.
 pub(crate) fn unopened(tree: &Tree<'_>) -> Option<Finding>
     ensures missing { HasFileId (tree_view tree.now).node → result ≡ Some Finding.Missing }
     ensures bad { NamesFile (tree_view tree.now).node → ¬ IsFileId (file_in (tree_view tree.now).node)
@@ -104,7 +105,7 @@ pub(crate) fn unopened(tree: &Tree<'_>) -> Option<Finding>
     }
 }
 
-/// What is found of a record by the name alone: `BadId` where it is in use and the name is no File ID.
+/// Judges a record by the name alone: `BadId` where it is in use and the name is no File ID.
 fn misnamed(tree: &Tree<'_>) -> Option<Finding>
     ensures bad { NamesFile (tree_view tree.now).node → ¬ IsFileId (file_in (tree_view tree.now).node)
         → result ≡ Some Finding.BadId }
@@ -117,7 +118,7 @@ fn misnamed(tree: &Tree<'_>) -> Option<Finding>
     Some(Finding::BadId)
 }
 
-/// What is found of the file by reading it.
+/// Judges the file by its digest, which is read once.
 pub(crate) fn finding_by<R: Read>(tree: &Tree<'_>, reader: &mut R, limit: u64) -> Option<Finding>
     ensures { FindsBy R.has_given R.remaining R.calls R.failures limit (by_digest (tree_view tree.now).node) result
         reader.old reader.new }
@@ -128,7 +129,7 @@ pub(crate) fn finding_by<R: Read>(tree: &Tree<'_>, reader: &mut R, limit: u64) -
     }
 }
 
-/// What is found where the record may have a digest and this is that of the file.
+/// Compares the digest that the record may have with that of the file.
 pub(crate) fn compared(recorded: Option<[u8; 32]>, found: [u8; 32]) -> Option<Finding>
     ensures { result ≡ compared recorded found }
 {

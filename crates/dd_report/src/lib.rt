@@ -1,5 +1,5 @@
-//! What is told of a directory, its records and the files that they name; and lines to a device, with no
-//! memory.
+//! Reports on a directory, on its records and on the files that they name, and sends lines to a device without
+//! taking memory.
 //!
 //! What it promises stands at `list_records`, `check_records`, `finding_of`, `print_line` and `send_text`.
 #![tactic(auto)]

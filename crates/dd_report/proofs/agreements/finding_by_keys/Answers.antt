@@ -1,19 +1,19 @@
--- What was read of the file says why it is none.
+-- The fault of reading the file says why it is no DICOM file.
 use Rattle.std.proofs.Common.{◌∙◌, ℕ, List, Option, Err, ap, sym}
 use Rattle.dd_dir.specs.ForestViews.{tree_view}
 use Rattle.dd_dir.specs.Own.{digest_in}
 use Rattle.dd_report.specs.Finding.{compared}
 use Rattle.dd_report.proofs.Agreeing.{set_same}
-use Rattle.dd_report.proofs.KeyFindings.{none_found, none_wants, on_err}
+use Rattle.dd_report.proofs.KeyFindings.{fault_found, fault_wants, on_err}
 use Rattle.dd_report.proofs.agreements.finding_by_keys.Goals as goal
 
 pub returns-in-Err-File-clause-found : goal.returns-in-Err-File-clause-found
 returns-in-Err-File-clause-found g c =
     let read = c.read_digested-file.result in
     let gave = c.read_digested-file.ensures.gave in
-    none_found g.R.Read.has_given g.R.Read.remaining g.R.Read.calls g.R.Read.failures c.args.limit
-    c.found_of_none.result c.args.inherited (tree_view c.args.tree.now).node c.in-Err-File.fault read.file read.digest
-    c.compared-differs.result _ _ c.found_of_none.ensures.found c.found_of_none.ensures.memory
+    fault_found g.R.Read.has_given g.R.Read.remaining g.R.Read.calls g.R.Read.failures c.args.limit
+    c.finding_of_fault.result c.args.inherited (tree_view c.args.tree.now).node c.in-Err-File.fault read.file
+    read.digest c.compared-differs.result _ _ c.finding_of_fault.ensures.found c.finding_of_fault.ensures.memory
     (c.in-Err-File.is ∙ ap Err c.in-Err-File.field-0-is)
     (c.compared-differs.ensures ∙ ap (λ (o : Option (List ℕ)). compared o read.digest)
     (c.digest_in.ensures ∙ ap digest_in (set_same c.args.tree.now)))
@@ -23,9 +23,9 @@ pub returns-in-Err-File-clause-memory : goal.returns-in-Err-File-clause-memory
 returns-in-Err-File-clause-memory g c =
     let read = c.read_digested-file.result in
     let gave = c.read_digested-file.ensures.gave in
-    on_err c.found_of_none.result _ (λ err.
-    let wants = none_wants c.found_of_none.result gave.0 read.digest (tree_view c.args.tree.now).node
-    c.in-Err-File.fault read.file c.compared-differs.result c.args.limit _ _ _ err c.found_of_none.ensures.memory
+    on_err c.finding_of_fault.result _ (λ err.
+    let wants = fault_wants c.finding_of_fault.result gave.0 read.digest (tree_view c.args.tree.now).node
+    c.in-Err-File.fault read.file c.compared-differs.result c.args.limit _ _ _ err c.finding_of_fault.ensures.memory
     (c.in-Err-File.is ∙ ap Err c.in-Err-File.field-0-is) gave.3 gave.4
     (c.compared-differs.ensures ∙ ap (λ (o : Option (List ℕ)). compared o read.digest)
     (c.digest_in.ensures ∙ ap digest_in (set_same c.args.tree.now)))

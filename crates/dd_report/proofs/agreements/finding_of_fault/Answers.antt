@@ -1,7 +1,7 @@
--- The transfer syntax alone is compared.
+-- Of a file in a transfer syntax that is not read, the transfer syntax alone is compared.
 use Rattle.std.proofs.Common.{◌∙◌, ap, [], ◌∷◌}
 use Rattle.dd_report.specs.Agreements.{Agreement, first_wrong}
-use Rattle.dd_report.proofs.agreements.found_of_none.Goals as goal
+use Rattle.dd_report.proofs.agreements.finding_of_fault.Goals as goal
 
 pub returns-in-OtherSyntax-clause-found : goal.returns-in-OtherSyntax-clause-found
 returns-in-OtherSyntax-clause-found c = λ above.

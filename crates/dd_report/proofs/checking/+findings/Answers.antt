@@ -1,4 +1,4 @@
--- What is found in a tree more is told behind what was told before.
+-- What is found in one more tree is printed behind what was printed before.
 use Rattle.std.proofs.Common.{◌≡◌, ◌∙◌, ◌∷◌, Err, refl}
 use Rattle.std.specs.Prelude.{◌||◌}
 use Rattle.std.proofs.lemmas.Result.{err_from_is_err_and}

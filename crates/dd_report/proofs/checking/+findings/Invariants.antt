@@ -1,4 +1,4 @@
--- What is found in the trees so far is told, and the files hold what they held.
+-- What is found in the trees so far is printed, and the files hold what they held.
 use Rattle.std.proofs.Common.{◌≡◌, List, Ok, take}
 use Rattle.dd_dir.specs.ForestViews.{trees_view}
 use Rattle.dd_dir.specs.Trees.{Node}

@@ -12,7 +12,7 @@ returns-then-found-clause-checks g c =
     (g.F.Files.held c.args.files.now) c.args.check.folder.now c.args.check.comparison c.args.forest.now
     c.deref.result.now c.in_ok-found.found (not (c.args.forest.now.unreached == 0)) c.in_ok-found.found
     (g.F.Files.refusals c.args.files.now) (g.F.Files.refusals c.check_trees.new.files) _ _ _ c.deref.ensures.value
-    (c.in_ok-found.ensures.checks [] c.none.ensures) c.in-Ok.ensures refl (rw c.if-found.true refl)
+    (c.in_ok-found.ensures.checks [] c.at_root.ensures) c.in-Ok.ensures refl (rw c.if-found.true refl)
 
 pub returns-else-found-clause-checks : goal.returns-else-found-clause-checks
 returns-else-found-clause-checks g c =
@@ -20,7 +20,7 @@ returns-else-found-clause-checks g c =
     (g.F.Files.held c.args.files.now) c.args.check.folder.now c.args.check.comparison c.args.forest.now
     c.deref.result.now c.in_ok-found.found (nat_lt 0 c.args.forest.now.unreached) _
     (g.F.Files.refusals c.args.files.now) (g.F.Files.refusals c.check_trees.new.files) _ _ _ c.deref.ensures.value
-    (c.in_ok-found.ensures.checks [] c.none.ensures) c.in-Ok.ensures (some_unreached c.args.forest.now.unreached)
+    (c.in_ok-found.ensures.checks [] c.at_root.ensures) c.in-Ok.ensures (some_unreached c.args.forest.now.unreached)
     (rw c.if-found.false refl)
 
 pub returns-in-Err-clause-checks : goal.returns-in-Err-clause-checks
@@ -33,7 +33,7 @@ returns-in-Err-clause-checks g c =
     (way c.check_trees.new.lines (g.W.Write.contents c.check_trees.new.to)
     (g.W.Write.failures c.check_trees.new.to))
     (way c.tell_end.new.lines (g.W.Write.contents c.tell_end.new.to) (g.W.Write.failures c.tell_end.new.to))
-    c.deref.ensures.value (c.in_ok-found.ensures.checks [] c.none.ensures) c.in-Err.ensures
+    c.deref.ensures.value (c.in_ok-found.ensures.checks [] c.at_root.ensures) c.in-Err.ensures
 
 pub returns-in_err-found-clause-checks : goal.returns-in_err-found-clause-checks
 returns-in_err-found-clause-checks g c =
@@ -44,4 +44,4 @@ returns-in_err-found-clause-checks g c =
     (g.F.Files.held c.args.files.now) c.args.check.folder.now c.args.check.comparison c.args.forest.now
     c.deref.result.now r c.check_trees.result c.in_err-found.field-0.0 (g.F.Files.refusals c.args.files.now)
     (g.F.Files.refusals c.check_trees.new.files) _ _ c.deref.ensures.value fails c.in_err-found.was
-    (c.check_trees.ensures.checks [] c.none.ensures)
+    (c.check_trees.ensures.checks [] c.at_root.ensures)

@@ -1,4 +1,4 @@
--- Nothing is told where nothing is found.
+-- Nothing is printed where nothing is found.
 use Rattle.std.proofs.Common.{refl}
 use Rattle.dd_dir.specs.ForestViews.{tree_view}
 use Rattle.dd_report.specs.Agreements.{standing_below}
