@@ -25,7 +25,7 @@ label_tag kind =
     else (if bytes_eq kind (kind_of Study) then tag 0x0020 0x000d
     else (if bytes_eq kind (kind_of Series) then tag 0x0020 0x000e else tag 0x0004 0x1500))
 
--- a value, and `-` where there is none or no byte of it
+-- a value, and `-` where there is no value, or one of no bytes
 abbrev pub or_dash : Option (List ℕ) → List ℕ
 or_dash None = codes "-"
 or_dash (Some []) = codes "-"
