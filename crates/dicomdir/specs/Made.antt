@@ -1,5 +1,5 @@
--- What a command that makes a file-set changes in files that tell what they hold: it makes the file of each image, record
--- by record, and then the directory.
+-- What a command that makes a file-set changes in files that tell what they hold: it makes the file of each image,
+-- record by record, and then the directory.
 use Rattle.std.specs.Prelude.{◌≡◌, ◌<◌, ℕ, List, [], ◌∷◌, All, filter, take, Option, None, Some, is_some, option_map}
 use Rattle.std.specs.Prelude.{codes, slice_get}
 use Rattle.dd_dir.specs.Directories.{directory_of}
