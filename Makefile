@@ -18,7 +18,7 @@ help:
 	@echo '                  by default; where DESTDIR is given, to that folder in place of /'
 	@echo '  make uninstall  removes these files again, from the same PREFIX and DESTDIR'
 	@echo '  make deb        makes a Debian package of them, in packaging/out'
-	@echo '  make man        takes the tables of the man page from README.md anew'
+	@echo '  make man        takes the tables of the man page from docs/FAULTS.md'
 	@echo
 	@echo 'packaging/test tries all of this. ./dicomdir-build makes the program itself.'
 
