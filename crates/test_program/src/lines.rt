@@ -85,7 +85,7 @@ dicomdir list > 2 true
 dicomdir list a b > 2 true
 dicomdir list --max-bytes 7 a > 2 true
 dicomdir help build > 2 true
-dicomdir --version > 2 true
+dicomdir --version > 0 false
 dicomdir --help > 0 false
 dicomdir -h > 0 false
 dicomdir help > 0 false
