@@ -1,6 +1,6 @@
--- The text that the rows hold for `--keys`: `true` where the words set it, `false` where it is unset, and none where
--- it is absent, as the command has no such flag.
-use Rattle.std.proofs.Common.{◌≡◌, ◌==◌, ◌∷◌, ℕ, Bool, true, false, List, [], Option, Some, None}
+-- The text that the rows hold for a flag: `true` where the words set it, `false` where it is unset, and none where it
+-- is absent, as the command has no such flag.
+use Rattle.std.proofs.Common.{◌≡◌, ◌≢◌, ◌==◌, ◌∷◌, ℕ, Bool, true, false, List, [], Option, Some, None}
 use Rattle.std.proofs.Common.{codes, eqb-true, inl, inr, length, refl, sym}
 use Rattle.std.specs.List.{find}
 use Rattle.std.specs.Option.{option_map, option_map_or}
@@ -19,6 +19,7 @@ use Rattle.clap.specs.declared.error.kind.ErrorKind.TheVariants.{WrongNumberOfVa
 use Rattle.clap.specs.declared.parser.matches.ValueSource.{ValueSource}
 use Rattle.clap.specs.declared.parser.matches.ValueSource.TheVariants.{CommandLine, DefaultValue}
 use Rattle.dd_line.specs.Line.{HasFlag, IsFlagText}
+use Rattle.dd_line.specs.declared.line.Verb.{Verb}
 use Rattle.dd_line.proofs.LineEach.{Each, each_found, first_none}
 use Rattle.dd_line.proofs.LinePaths.{FitsValues, IsAbsent, level_absent}
 use Rattle.dd_line.proofs.LineRows.{Fine, Fits}
@@ -30,9 +31,9 @@ IsFlag (Some CommandLine) values = values ≡ codes "true" ∷ []
 IsFlag (Some DefaultValue) values = values ≡ codes "false" ∷ []
 IsFlag None values = ⊥
 
--- the rule is another argument's, or that of `--keys`
-abbrev pub FitsFlag : Rule → Type 0
-FitsFlag = Fits (codes "keys") AsWritten IsFlag
+-- the rule is another argument's, or that of the flag of this name
+abbrev pub FitsFlag : Text → Rule → Type 0
+FitsFlag name = Fits name AsWritten IsFlag
 
 none_given : (n : ℕ) → range_kinds 0 0 n ≡ [] → n ≡ 0
 none_given n none = go (0 == n) refl none
@@ -41,10 +42,10 @@ none_given n none = go (0 == n) refl none
     go true e none = sym (eqb-true 0 n e)
     go false e none = cc
 
-pub flag_fits : (a : Rule) → action_of a ≡ SetTrue → reading_by a ≡ AsWritten
+pub flag_fits : (name : Text) (a : Rule) → action_of a ≡ SetTrue → reading_by a ≡ AsWritten
     → (unwrap_or_range a.range).start_inclusive ≡ 0 → most_values a ≡ 0
-    → a.missing ≡ codes "true" ∷ [] → a.defaults ≡ codes "false" ∷ [] → FitsFlag a
-flag_fits a set read least most missing defaults = record {
+    → a.missing ≡ codes "true" ∷ [] → a.defaults ≡ codes "false" ∷ [] → FitsFlag name a
+flag_fits name a set read least most missing defaults = record {
   stores = λ named. rw set tt;
   reading = λ named. read;
   passes = λ named again values rows none. passes values (first_none _ _ none);
@@ -66,33 +67,37 @@ flag_text (Some CommandLine) values is = rw is refl
 flag_text (Some DefaultValue) values is = rw is (inr refl)
 flag_text None values is = absurd is
 
--- where a level has no fault and no such flag, the flag is absent
-pub level_no_flag : (s : Shape) (words : List Text) → Each (FitsValues (codes "keys") IsAbsent) s.rules
-    → s.args_override_self ≡ false → level_fault s [] nothing_held words false [] ≡ []
-    → HasFlag (rows_after s.rules [] words) × (is_given (codes "keys") (rows_after s.rules [] words) ≡ false)
-level_no_flag s words fits once none =
-    let absent = level_absent (codes "keys") IsAbsent s words fits once none (λ values never. never) in
-    rw absent (inl refl, refl)
+-- the rows say whether the words set the flag, which this command alone has
+abbrev pub SaysFlag : Text → Verb → Verb → List Row → Type 0
+SaysFlag name own verb rows = HasFlag name rows × (verb ≢ own → is_given name rows ≡ false)
 
--- where a level has no fault and its rules fit, the text says whether the flag is set
-pub level_flag : (s : Shape) (words : List Text) → Each FitsFlag s.rules → s.args_override_self ≡ false
-    → level_fault s [] nothing_held words false [] ≡ [] → HasFlag (rows_after s.rules [] words)
-level_flag s words fits once none =
-    go (find (λ r. bytes_eq r.id (codes "keys")) rows) (each_found _ (λ r. bytes_eq r.id (codes "keys")) rows fine)
-  where
-    rows : List Row
-    rows = rows_after s.rules [] words
+module _ (name : Text) (own verb : Verb) (s : Shape) (words : List Text) (once : s.args_override_self ≡ false)
+    (none : level_fault s [] nothing_held words false [] ≡ []) where
+  abbrev rows : List Row
+  rows = rows_after s.rules [] words
 
-    fine : Each (Fine (codes "keys") AsWritten IsFlag) rows
-    fine = level_fine (codes "keys") AsWritten IsFlag s fits once [] words false [] none
+  -- where a level has no fault and no such flag, the flag is absent
+  pub level_no_flag : Each (FitsValues name IsAbsent) s.rules → SaysFlag name own verb (rows_after s.rules [] words)
+  level_no_flag fits =
+      let absent = level_absent name IsAbsent s words fits once none (λ values never. never) in
+      rw absent (inl refl, λ _. refl)
 
-    go : (o : Option Row)
-        → IfSome o (λ r. Fine (codes "keys") AsWritten IsFlag r × (bytes_eq r.id (codes "keys") ≡ true))
-        → IsFlagText (option_map_or (λ r. explicit_source r.source) o false) (option_and_then row_text o)
-    go None h = inl refl
-    go (Some r) h =
-        let row = h.0 h.1 in
-        rw row.reading (flag_text r.source r.values row.values)
+  -- where a level has no fault and its rules fit, the text says whether the flag is set
+  pub level_flag : Each (FitsFlag name) s.rules → verb ≡ own → SaysFlag name own verb (rows_after s.rules [] words)
+  level_flag fits is = (
+    go (find (λ r. bytes_eq r.id name) rows) (each_found _ (λ r. bytes_eq r.id name) rows fine),
+    λ other. absurd (other is),
+  )
+    where
+      fine : Each (Fine name AsWritten IsFlag) rows
+      fine = level_fine name AsWritten IsFlag s fits once [] words false [] none
+
+      go : (o : Option Row) → IfSome o (λ r. Fine name AsWritten IsFlag r × (bytes_eq r.id name ≡ true))
+          → IsFlagText (option_map_or (λ r. explicit_source r.source) o false) (option_and_then row_text o)
+      go None h = inl refl
+      go (Some r) h =
+          let row = h.0 h.1 in
+          rw row.reading (flag_text r.source r.values row.values)
 
 -- the text is read as set exactly where the words set the flag
 pub flag_read : (given : Bool) (text : Option Text) (read : Bool) → IsFlagText given text

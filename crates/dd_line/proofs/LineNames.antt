@@ -1,17 +1,17 @@
 -- Words at which no parse fails name a command of the program.
-use Rattle.std.proofs.Common.{◌≡◌, ◌≤◌, ◌+◌, false, List, [], ◌∷◌, is_some, codes, refl, length, arith}
+use Rattle.std.proofs.Common.{◌≡◌, ◌≤◌, ◌+◌, false, not, List, [], ◌∷◌, is_some, codes, refl, length, arith}
 use Rattle.std.proofs.lemmas.List.{length-append}
 use Rattle.std.specs.Str.{bytes_eq}
 use Rattle.clap.specs.Faults.{fault_of, entered_fault, level_fault, walk_fault}
-use Rattle.clap.specs.Simple.{Shape, argument_words, built, built_leaf, entered, names_of, subcommand_of, with_rule}
+use Rattle.clap.specs.Simple.{Shape, argument_words, built, built_leaf, entered, names_of, subcommand_of}
 use Rattle.clap.specs.Takes.{is_given}
 use Rattle.clap.specs.Walk.{Row, Rule, Text, nothing_held, stop_after, rows_after, walk_from}
-use Rattle.dd_line.specs.Line.{GivesInstances, HasFlag, NamesCommand, OnlyReads, dicomdir_app, given_for, given_paths}
-use Rattle.dd_line.specs.Line.{index_app, merge_app, least_paths, some_paths, verb_name, withdraw_app, writing_app}
+use Rattle.dd_line.specs.Line.{GivesInstances, NamesCommand, OnlyReads, dicomdir_app, given_for, given_paths}
+use Rattle.dd_line.specs.Line.{index_app, merge_app, least_paths, verb_name, withdraw_app}
 use Rattle.dd_line.specs.declared.line.Verb.{Verb}
-use Rattle.dd_line.specs.declared.line.Verb.TheVariants.{Index, Merge, Withdraw}
+use Rattle.dd_line.specs.declared.line.Verb.TheVariants.{Check, Index, Merge, Withdraw}
 use Rattle.dd_line.proofs.LineEach.{Each, first_none, second_none}
-use Rattle.dd_line.proofs.LineFlag.{level_no_flag}
+use Rattle.dd_line.proofs.LineFlag.{FitsFlag, SaysFlag, flag_fits, level_flag, level_no_flag}
 use Rattle.dd_line.proofs.LineHelp.{NotHelp, level_needs, walk_not_help}
 use Rattle.dd_line.proofs.LineLimit.{FitsLimit, limit_fits}
 use Rattle.dd_line.proofs.LinePaths.{HasOne, HasOneAlone, IsAbsent, joined, level_absent, level_values, one_fits}
@@ -19,7 +19,8 @@ use Rattle.dd_line.proofs.LinePaths.{some_fits}
 use Rattle.dd_line.proofs.LineRows.{other_fits}
 use Rattle.dd_line.proofs.LineWalk.{level_given}
 use Rattle.dd_line.proofs.LineReading.{check_serves, list_serves}
-use Rattle.dd_line.proofs.LineServes.{FitsNone, FitsOne, FitsPath, Serves, entered_serves, help_serves, verb_serves}
+use Rattle.dd_line.proofs.LineServes.{FitsNone, FitsOne, FitsPath, IsFaultless, Serves, entered_serves, help_serves}
+use Rattle.dd_line.proofs.LineServes.{verb_serves}
 
 -- how many paths a command was given
 paths_length : (given : List Row) → length (given_paths given)
@@ -29,94 +30,219 @@ paths_length given = simp length-append
 
 -- ---- commands that write a directory
 
--- such a command, by the name of its last paths
-abbrev writing : Verb → Text → Shape
-writing verb last = built_leaf (with_rule (writing_app (verb_name verb)) (some_paths last)).top
+-- such a command, whose last paths have this name, and which is given no images
+record Writes (verb : Verb) (last : Text) (s : Shape) : Type 0 where
+  named : s.name ≡ verb_name verb
+  once : s.args_override_self ≡ false
+  limits : Each FitsLimit s.rules
+  outs : Each (FitsPath (codes "out")) s.rules
+  lasts : Each (FitsPath last) s.rules
+  images : Each (FitsNone (codes "instance")) s.rules
+  given : (words : List Text) → IsFaultless s words
+      → (not (is_given (codes "out") (rows_after s.rules [] words)) ≡ false)
+      × (not (is_given last (rows_after s.rules [] words)) ≡ false)
+  keys : Each (FitsNone (codes "keys")) s.rules
+  strict : (words : List Text) → IsFaultless s words
+      → SaysFlag (codes "strict") Index verb (rows_after s.rules [] words)
 
--- its other arguments have other names
-record IsLast (last : Text) : Type 0 where
-  id : bytes_eq (codes "id") last ≡ false
-  uid : bytes_eq (codes "uid") last ≡ false
-  limit : bytes_eq (codes "max-bytes") last ≡ false
-  out : bytes_eq (codes "out") last ≡ false
-  help : bytes_eq (codes "help") last ≡ false
-  instance : bytes_eq last (codes "instance") ≡ false
-  keys : bytes_eq last (codes "keys") ≡ false
-  after_limit : bytes_eq last (codes "max-bytes") ≡ false
-  after_out : bytes_eq last (codes "out") ≡ false
+module _ (verb : Verb) (last : Text) (s : Shape) (writes : Writes verb last s) (words : List Text)
+    (none : IsFaultless s words) where
+  abbrev written_rows : List Row
+  written_rows = rows_after s.rules [] words
 
--- its rules, the one of `-h` among them
-each_of_six : (P : Rule → Type 0) (id uid limit out last help : Rule) → P id → P uid → P limit → P out → P last → P help
-    → Each P (id ∷ uid ∷ limit ∷ out ∷ last ∷ help ∷ [])
-each_of_six P id uid limit out last help a b c d e f = (a, (b, (c, (d, (e, (f, tt))))))
+  written_images : given_for (codes "instance") written_rows ≡ []
+  written_images =
+      let absent = level_absent (codes "instance") IsAbsent s words writes.images writes.once none
+      (λ values never. never) in
+      rw absent refl
 
-writing_limits : (verb : Verb) (last : Text) → IsLast last → Each FitsLimit (writing verb last).rules
-writing_limits verb last is = each_of_six FitsLimit _ _ _ _ _ _ (other_fits _ _ _ _ refl)
-    (other_fits _ _ _ _ refl) (limit_fits _ refl refl refl refl refl) (other_fits _ _ _ _ refl)
-    (other_fits _ _ _ _ is.after_limit) (other_fits _ _ _ _ refl)
+  written_keys : SaysFlag (codes "keys") Check verb written_rows
+  written_keys = level_no_flag (codes "keys") Check verb s words writes.once none writes.keys
 
-writing_outs : (verb : Verb) (last : Text) → IsLast last → Each (FitsPath (codes "out")) (writing verb last).rules
-writing_outs verb last is = each_of_six (FitsPath (codes "out")) _ _ _ _ _ _ (other_fits _ _ _ _ refl)
-    (other_fits _ _ _ _ refl) (other_fits _ _ _ _ refl)
-    (some_fits _ _ tt refl refl refl)
-    (other_fits _ _ _ _ is.after_out) (other_fits _ _ _ _ refl)
+  written_outs : 1 ≤ length (given_for (codes "out") written_rows)
+  written_outs = level_values (codes "out") HasOne s words writes.outs writes.once none (writes.given words none).0
 
-writing_lasts : (verb : Verb) (last : Text) → IsLast last → Each (FitsPath last) (writing verb last).rules
-writing_lasts verb last is = each_of_six (FitsPath last) _ _ _ _ _ _ (other_fits _ _ _ _ is.id)
-    (other_fits _ _ _ _ is.uid) (other_fits _ _ _ _ is.limit) (other_fits _ _ _ _ is.out)
-    (some_fits _ _ joined refl refl refl) (other_fits _ _ _ _ is.help)
+  written_lasts : 1 ≤ length (given_for last written_rows)
+  written_lasts = level_values last HasOne s words writes.lasts writes.once none (writes.given words none).1
 
--- and none gives it images
-writing_images : (verb : Verb) (last : Text) → IsLast last → (words : List Text)
-    → level_fault (writing verb last) [] nothing_held words false [] ≡ []
-    → given_for (codes "instance") (rows_after (writing verb last).rules [] words) ≡ []
-writing_images verb last is words none =
-    let absent = level_absent (codes "instance") IsAbsent (writing verb last) words
-    (each_of_six (FitsNone (codes "instance")) _ _ _ _ _ _ (other_fits _ _ _ _ refl)
-    (other_fits _ _ _ _ refl) (other_fits _ _ _ _ refl) (other_fits _ _ _ _ refl)
-    (other_fits _ _ _ _ is.instance) (other_fits _ _ _ _ refl)) refl none (λ values never. never) in
-    rw absent refl
-
--- nor the flag
-writing_flag : (verb : Verb) (last : Text) → IsLast last → (words : List Text)
-    → level_fault (writing verb last) [] nothing_held words false [] ≡ []
-    → HasFlag (rows_after (writing verb last).rules [] words)
-    × (is_given (codes "keys") (rows_after (writing verb last).rules [] words) ≡ false)
-writing_flag verb last is words none = level_no_flag (writing verb last) words
-    (each_of_six (FitsNone (codes "keys")) _ _ _ _ _ _ (other_fits _ _ _ _ refl) (other_fits _ _ _ _ refl)
-    (other_fits _ _ _ _ refl) (other_fits _ _ _ _ refl) (other_fits _ _ _ _ is.keys) (other_fits _ _ _ _ refl))
-    refl none
-
-writing_serves : (verb : Verb) (last : Text) → IsLast last → (OnlyReads verb → ⊥) → (verb ≡ Withdraw → ⊥)
+writing_serves : (verb : Verb) (last : Text) (s : Shape) → Writes verb last s → (OnlyReads verb → ⊥)
+    → (verb ≡ Withdraw → ⊥)
     → ((given : List Row) → 1 ≤ length (given_for (codes "out") given) → 1 ≤ length (given_for last given)
-    → least_paths verb ≤ length (given_paths given)) → Serves (writing verb last)
-writing_serves verb last is writes keeps enough =
-    verb_serves verb (writing verb last) refl refl (writing_limits verb last is)
+    → least_paths verb ≤ length (given_paths given)) → Serves s
+writing_serves verb last s writes reads_not keeps enough =
+    verb_serves verb s writes.named writes.once writes.limits
     (λ words none.
-    let given = level_given (writing verb last) [] words [] none refl in
-    let flag = writing_flag verb last is words none in (
-      flag.0,
+    let keys = written_keys verb last s writes words none in
+    let strict = writes.strict words none in (
+      (keys.0, strict.0),
       record {
-        paths = enough (rows_after (writing verb last).rules [] words)
-            (level_values (codes "out") HasOne (writing verb last) words (writing_outs verb last is) refl none
-            given.1.1.1.0)
-            (level_values last HasOne (writing verb last) words (writing_lasts verb last is) refl none given.1.1.1.1.0);
-        set = λ reads. absurd (writes reads);
+        paths = enough (rows_after s.rules [] words) (written_outs verb last s writes words none)
+            (written_lasts verb last s writes words none);
+        set = λ reads. absurd (reads_not reads);
         withdraw = λ withdraws. absurd (keeps withdraws);
-        uids = λ _. writing_images verb last is words none;
-        keys = λ _. flag.1;
+        uids = λ _. written_images verb last s writes words none;
+        keys = keys.1;
+        strict = strict.1;
       },
     ))
+
+-- ---- the command that indexes files
+
+-- each of seven rules, the one of `-h` among them
+each_of_seven : (P : Rule → Type 0) (a b c d e f g : Rule) → P a → P b → P c → P d → P e → P f → P g
+    → Each P (a ∷ b ∷ c ∷ d ∷ e ∷ f ∷ g ∷ [])
+each_of_seven P a b c d e f g pa pb pc pd pe pf pg = (pa, (pb, (pc, (pd, (pe, (pf, (pg, tt)))))))
+
+abbrev indexing : Shape
+indexing = built_leaf index_app.top
+
+indexing_limits : Each FitsLimit indexing.rules
+indexing_limits = each_of_seven FitsLimit _ _ _ _ _ _ _ (other_fits _ _ _ _ refl) (other_fits _ _ _ _ refl)
+    (limit_fits _ refl refl refl refl refl) (other_fits _ _ _ _ refl) (other_fits _ _ _ _ refl)
+    (other_fits _ _ _ _ refl) (other_fits _ _ _ _ refl)
+
+indexing_outs : Each (FitsPath (codes "out")) indexing.rules
+indexing_outs = each_of_seven (FitsPath (codes "out")) _ _ _ _ _ _ _ (other_fits _ _ _ _ refl)
+    (other_fits _ _ _ _ refl) (other_fits _ _ _ _ refl) (some_fits _ _ tt refl refl refl)
+    (other_fits _ _ _ _ refl) (other_fits _ _ _ _ refl) (other_fits _ _ _ _ refl)
+
+indexing_sources : Each (FitsPath (codes "source")) indexing.rules
+indexing_sources = each_of_seven (FitsPath (codes "source")) _ _ _ _ _ _ _ (other_fits _ _ _ _ refl)
+    (other_fits _ _ _ _ refl) (other_fits _ _ _ _ refl) (other_fits _ _ _ _ refl)
+    (some_fits _ _ joined refl refl refl) (other_fits _ _ _ _ refl) (other_fits _ _ _ _ refl)
+
+indexing_strict : Each (FitsFlag (codes "strict")) indexing.rules
+indexing_strict = each_of_seven (FitsFlag (codes "strict")) _ _ _ _ _ _ _ (other_fits _ _ _ _ refl)
+    (other_fits _ _ _ _ refl) (other_fits _ _ _ _ refl) (other_fits _ _ _ _ refl) (other_fits _ _ _ _ refl)
+    (flag_fits _ _ refl refl refl refl refl refl) (other_fits _ _ _ _ refl)
+
+-- under other names it is given nothing
+record IsNoIndexName (name : Text) : Type 0 where
+  id : bytes_eq (codes "id") name ≡ false
+  uid : bytes_eq (codes "uid") name ≡ false
+  limit : bytes_eq (codes "max-bytes") name ≡ false
+  out : bytes_eq (codes "out") name ≡ false
+  source : bytes_eq (codes "source") name ≡ false
+  strict : bytes_eq (codes "strict") name ≡ false
+  help : bytes_eq (codes "help") name ≡ false
+
+indexing_others : (name : Text) → IsNoIndexName name → Each (FitsNone name) indexing.rules
+indexing_others name is = each_of_seven (FitsNone name) _ _ _ _ _ _ _ (other_fits _ _ _ _ is.id)
+    (other_fits _ _ _ _ is.uid) (other_fits _ _ _ _ is.limit) (other_fits _ _ _ _ is.out)
+    (other_fits _ _ _ _ is.source) (other_fits _ _ _ _ is.strict) (other_fits _ _ _ _ is.help)
+
+index_serves : Serves indexing
+index_serves = writing_serves Index (codes "source") indexing (record {
+  named = refl;
+  once = refl;
+  limits = indexing_limits;
+  outs = indexing_outs;
+  lasts = indexing_sources;
+  images = indexing_others (codes "instance") (record {
+    id = refl;
+    uid = refl;
+    limit = refl;
+    out = refl;
+    source = refl;
+    strict = refl;
+    help = refl;
+  });
+  given = λ words none.
+      let given = level_given indexing [] words [] none refl in
+      (given.1.1.1.0, given.1.1.1.1.0);
+  keys = indexing_others (codes "keys") (record {
+    id = refl;
+    uid = refl;
+    limit = refl;
+    out = refl;
+    source = refl;
+    strict = refl;
+    help = refl;
+  });
+  strict = λ words none.
+      level_flag (codes "strict") Index Index indexing words refl none indexing_strict refl;
+}) (λ reads. reads) (λ is. cc) (λ given out source. let all = paths_length given in omega arith)
+
+-- ---- the command that merges file-sets
+
+-- each of six rules, the one of `-h` among them
+each_of_six : (P : Rule → Type 0) (a b c d e f : Rule) → P a → P b → P c → P d → P e → P f
+    → Each P (a ∷ b ∷ c ∷ d ∷ e ∷ f ∷ [])
+each_of_six P a b c d e f pa pb pc pd pe pf = (pa, (pb, (pc, (pd, (pe, (pf, tt))))))
+
+abbrev merging : Shape
+merging = built_leaf merge_app.top
+
+merging_limits : Each FitsLimit merging.rules
+merging_limits = each_of_six FitsLimit _ _ _ _ _ _ (other_fits _ _ _ _ refl) (other_fits _ _ _ _ refl)
+    (limit_fits _ refl refl refl refl refl) (other_fits _ _ _ _ refl) (other_fits _ _ _ _ refl)
+    (other_fits _ _ _ _ refl)
+
+merging_outs : Each (FitsPath (codes "out")) merging.rules
+merging_outs = each_of_six (FitsPath (codes "out")) _ _ _ _ _ _ (other_fits _ _ _ _ refl)
+    (other_fits _ _ _ _ refl) (other_fits _ _ _ _ refl) (some_fits _ _ tt refl refl refl)
+    (other_fits _ _ _ _ refl) (other_fits _ _ _ _ refl)
+
+merging_sets : Each (FitsPath (codes "set")) merging.rules
+merging_sets = each_of_six (FitsPath (codes "set")) _ _ _ _ _ _ (other_fits _ _ _ _ refl)
+    (other_fits _ _ _ _ refl) (other_fits _ _ _ _ refl) (other_fits _ _ _ _ refl)
+    (some_fits _ _ joined refl refl refl) (other_fits _ _ _ _ refl)
+
+-- under other names it is given nothing
+record IsNoMergeName (name : Text) : Type 0 where
+  id : bytes_eq (codes "id") name ≡ false
+  uid : bytes_eq (codes "uid") name ≡ false
+  limit : bytes_eq (codes "max-bytes") name ≡ false
+  out : bytes_eq (codes "out") name ≡ false
+  set : bytes_eq (codes "set") name ≡ false
+  help : bytes_eq (codes "help") name ≡ false
+
+merging_others : (name : Text) → IsNoMergeName name → Each (FitsNone name) merging.rules
+merging_others name is = each_of_six (FitsNone name) _ _ _ _ _ _ (other_fits _ _ _ _ is.id)
+    (other_fits _ _ _ _ is.uid) (other_fits _ _ _ _ is.limit) (other_fits _ _ _ _ is.out)
+    (other_fits _ _ _ _ is.set) (other_fits _ _ _ _ is.help)
+
+merge_serves : Serves merging
+merge_serves = writing_serves Merge (codes "set") merging (record {
+  named = refl;
+  once = refl;
+  limits = merging_limits;
+  outs = merging_outs;
+  lasts = merging_sets;
+  images = merging_others (codes "instance") (record {
+    id = refl;
+    uid = refl;
+    limit = refl;
+    out = refl;
+    set = refl;
+    help = refl;
+  });
+  given = λ words none.
+      let given = level_given merging [] words [] none refl in
+      (given.1.1.1.0, given.1.1.1.1.0);
+  keys = merging_others (codes "keys") (record {
+    id = refl;
+    uid = refl;
+    limit = refl;
+    out = refl;
+    set = refl;
+    help = refl;
+  });
+  strict = λ words none. level_no_flag (codes "strict") Index Merge merging words refl none
+      (merging_others (codes "strict") (record {
+        id = refl;
+        uid = refl;
+        limit = refl;
+        out = refl;
+        set = refl;
+        help = refl;
+      }));
+}) (λ reads. reads) (λ is. cc) (λ given out set. let all = paths_length given in omega arith)
 
 -- ---- the command that withdraws images
 
 abbrev withdrawing : Shape
 withdrawing = built_leaf withdraw_app.top
-
--- its rules, the one of `-h` among them
-each_of_seven : (P : Rule → Type 0) (id uid limit out set last help : Rule) → P id → P uid → P limit → P out → P set
-    → P last → P help → Each P (id ∷ uid ∷ limit ∷ out ∷ set ∷ last ∷ help ∷ [])
-each_of_seven P id uid limit out set last help a b c d e f g = (a, (b, (c, (d, (e, (f, (g, tt)))))))
 
 withdrawing_limits : Each FitsLimit withdrawing.rules
 withdrawing_limits = each_of_seven FitsLimit _ _ _ _ _ _ _ (other_fits _ _ _ _ refl)
@@ -145,16 +271,16 @@ withdrawing_sources = each_of_seven (FitsNone (codes "source")) _ _ _ _ _ _ _
     (other_fits _ _ _ _ refl) (other_fits _ _ _ _ refl) (other_fits _ _ _ _ refl)
     (other_fits _ _ _ _ refl)
 
--- nor the flag
-withdrawing_flags : Each (FitsNone (codes "keys")) withdrawing.rules
-withdrawing_flags = each_of_seven (FitsNone (codes "keys")) _ _ _ _ _ _ _
+-- nor the flags
+withdrawing_no_keys : Each (FitsNone (codes "keys")) withdrawing.rules
+withdrawing_no_keys = each_of_seven (FitsNone (codes "keys")) _ _ _ _ _ _ _
     (other_fits _ _ _ _ refl) (other_fits _ _ _ _ refl) (other_fits _ _ _ _ refl) (other_fits _ _ _ _ refl)
     (other_fits _ _ _ _ refl) (other_fits _ _ _ _ refl) (other_fits _ _ _ _ refl)
 
-withdrawing_flag : (words : List Text) → level_fault withdrawing [] nothing_held words false [] ≡ []
-    → HasFlag (rows_after withdrawing.rules [] words)
-    × (is_given (codes "keys") (rows_after withdrawing.rules [] words) ≡ false)
-withdrawing_flag words none = level_no_flag withdrawing words withdrawing_flags refl none
+withdrawing_no_strict : Each (FitsNone (codes "strict")) withdrawing.rules
+withdrawing_no_strict = each_of_seven (FitsNone (codes "strict")) _ _ _ _ _ _ _
+    (other_fits _ _ _ _ refl) (other_fits _ _ _ _ refl) (other_fits _ _ _ _ refl) (other_fits _ _ _ _ refl)
+    (other_fits _ _ _ _ refl) (other_fits _ _ _ _ refl) (other_fits _ _ _ _ refl)
 
 -- what it was given
 withdrawing_given : (words : List Text) → level_fault withdrawing [] nothing_held words false [] ≡ []
@@ -181,44 +307,20 @@ withdraw_serves = verb_serves Withdraw withdrawing refl refl withdrawing_limits
     (λ words none.
     let given = withdrawing_given words none in
     let paths = given.paths in
-    let flag = withdrawing_flag words none in (
-      flag.0,
+    let keys = level_no_flag (codes "keys") Check Withdraw withdrawing words refl none withdrawing_no_keys in
+    let strict = level_no_flag (codes "strict") Index Withdraw withdrawing words refl none withdrawing_no_strict in (
+      (keys.0, strict.0),
       record {
         paths = omega arith;
         set = λ reads. absurd reads;
         withdraw = λ _. given;
         uids = λ keeps. absurd (keeps refl);
-        keys = λ _. flag.1;
+        keys = keys.1;
+        strict = strict.1;
       },
     ))
 
 -- ---- the commands of the program
-
-index_serves : Serves (built_leaf index_app.top)
-index_serves = writing_serves Index (codes "source") (record {
-  id = refl;
-  uid = refl;
-  limit = refl;
-  out = refl;
-  help = refl;
-  instance = refl;
-  keys = refl;
-  after_limit = refl;
-  after_out = refl;
-}) (λ reads. reads) (λ is. cc) (λ given out source. let all = paths_length given in omega arith)
-
-merge_serves : Serves (built_leaf merge_app.top)
-merge_serves = writing_serves Merge (codes "set") (record {
-  id = refl;
-  uid = refl;
-  limit = refl;
-  out = refl;
-  help = refl;
-  instance = refl;
-  keys = refl;
-  after_limit = refl;
-  after_out = refl;
-}) (λ reads. reads) (λ is. cc) (λ given out set. let all = paths_length given in omega arith)
 
 -- words with no fault name a command
 pub names_command : (words : List Text) → fault_of dicomdir_app words ≡ []

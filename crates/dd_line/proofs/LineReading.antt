@@ -1,21 +1,20 @@
 -- The words of commands that read one file-set.
-use Rattle.std.proofs.Common.{◌≡◌, ◌≢◌, false, not, List, [], None, codes, refl, length, arith}
+use Rattle.std.proofs.Common.{◌≡◌, false, not, List, [], None, codes, refl, length, arith}
 use Rattle.std.specs.List.{find}
 use Rattle.std.specs.Str.{bytes_eq}
-use Rattle.clap.specs.Faults.{level_fault}
 use Rattle.clap.specs.Simple.{Shape, built_leaf}
 use Rattle.clap.specs.Takes.{is_given}
-use Rattle.clap.specs.Walk.{Row, Text, nothing_held, rows_after}
-use Rattle.dd_line.specs.Line.{GivesOneSet, HasFlag, check_app, given_for, reading_app, least_paths, verb_name}
+use Rattle.clap.specs.Walk.{Row, Text, rows_after}
+use Rattle.dd_line.specs.Line.{GivesOneSet, check_app, given_for, reading_app, least_paths, verb_name}
 use Rattle.dd_line.specs.declared.line.Verb.{Verb}
-use Rattle.dd_line.specs.declared.line.Verb.TheVariants.{Withdraw, Check, List as ListSet}
+use Rattle.dd_line.specs.declared.line.Verb.TheVariants.{Index, Withdraw, Check, List as ListSet}
 use Rattle.dd_line.proofs.LineEach.{Each}
-use Rattle.dd_line.proofs.LineFlag.{flag_fits, level_flag, level_no_flag}
+use Rattle.dd_line.proofs.LineFlag.{SaysFlag, flag_fits, level_flag, level_no_flag}
 use Rattle.dd_line.proofs.LineLimit.{FitsLimit}
 use Rattle.dd_line.proofs.LinePaths.{HasOneAlone, IsAbsent, level_absent, level_values, one_fits}
 use Rattle.dd_line.proofs.LineRows.{other_fits}
 use Rattle.dd_line.proofs.LineWalk.{level_given}
-use Rattle.dd_line.proofs.LineServes.{FitsNone, FitsOne, Serves, verb_serves}
+use Rattle.dd_line.proofs.LineServes.{FitsNone, FitsOne, IsFaultless, Serves, verb_serves}
 
 -- ---- commands that read one file-set
 
@@ -24,10 +23,6 @@ record IsOther (name : Text) : Type 0 where
   set : bytes_eq (codes "set") name ≡ false
   keys : bytes_eq (codes "keys") name ≡ false
   help : bytes_eq (codes "help") name ≡ false
-
--- the level has no fault
-abbrev IsFaultless : Shape → List Text → Type 0
-IsFaultless s words = level_fault s [] nothing_held words false [] ≡ []
 
 -- a command whose words give one set, and nothing under other names
 record ReadsOneSet (verb : Verb) (s : Shape) : Type 0 where
@@ -38,8 +33,8 @@ record ReadsOneSet (verb : Verb) (s : Shape) : Type 0 where
   others : (name : Text) → IsOther name → Each (FitsNone name) s.rules
   given : (words : List Text) → IsFaultless s words
       → not (is_given (codes "set") (rows_after s.rules [] words)) ≡ false
-  flag : (words : List Text) → IsFaultless s words → HasFlag (rows_after s.rules [] words)
-      × (verb ≢ Check → is_given (codes "keys") (rows_after s.rules [] words) ≡ false)
+  keys : (words : List Text) → IsFaultless s words
+      → SaysFlag (codes "keys") Check verb (rows_after s.rules [] words)
 
 module _ (verb : Verb) (s : Shape) (reads : ReadsOneSet verb s) (words : List Text) (none : IsFaultless s words) where
   abbrev read_rows : List Row
@@ -70,20 +65,26 @@ module _ (verb : Verb) (s : Shape) (reads : ReadsOneSet verb s) (words : List Te
   images_read =
       rw (nothing_read (codes "instance") (record { set = refl; keys = refl; help = refl })) refl
 
+  strict_read : SaysFlag (codes "strict") Index verb read_rows
+  strict_read = level_no_flag (codes "strict") Index verb s words reads.once none
+      (reads.others (codes "strict") (record { set = refl; keys = refl; help = refl }))
+
 reading_serves : (verb : Verb) (s : Shape) → ReadsOneSet verb s → least_paths verb ≡ 1 → (verb ≡ Withdraw → ⊥)
     → Serves s
 reading_serves verb s reads least keeps = verb_serves verb s reads.named reads.once reads.limits
     (λ words none.
     let given = set_read verb s reads words none in
     let paths = given.paths in
-    let flag = reads.flag words none in (
-      flag.0,
+    let keys = reads.keys words none in
+    let strict = strict_read verb s reads words none in (
+      (keys.0, strict.0),
       record {
         paths = omega arith;
         set = λ _. given;
         withdraw = λ withdraws. absurd (keeps withdraws);
         uids = λ _. images_read verb s reads words none;
-        keys = flag.1;
+        keys = keys.1;
+        strict = strict.1;
       },
     ))
 
@@ -103,9 +104,8 @@ list_serves = reading_serves ListSet listing (record {
   sets = (one_fits _ _ tt refl refl refl refl, (other_fits _ _ _ _ refl, tt));
   others = λ name other. listing_others name other.set other.help;
   given = λ words none. (level_given listing [] words [] none refl).0;
-  flag = λ words none.
-      let flag = level_no_flag listing words (listing_others (codes "keys") refl refl) refl none in
-      (flag.0, λ _. flag.1);
+  keys = λ words none.
+      level_no_flag (codes "keys") Check ListSet listing words refl none (listing_others (codes "keys") refl refl);
 }) refl (λ is. cc)
 
 -- the command that compares files with the directory
@@ -121,11 +121,8 @@ check_serves = reading_serves Check checking (record {
   others = λ name other.
       (other_fits _ _ _ _ other.set, (other_fits _ _ _ _ other.keys, (other_fits _ _ _ _ other.help, tt)));
   given = λ words none. (level_given checking [] words [] none refl).0;
-  flag = λ words none. (
-    level_flag checking words (
-      other_fits _ _ _ _ refl,
-      (flag_fits _ refl refl refl refl refl refl, (other_fits _ _ _ _ refl, tt)),
-    ) refl none,
-    λ other. absurd (other refl),
-  );
+  keys = λ words none. level_flag (codes "keys") Check Check checking words refl none (
+    other_fits _ _ _ _ refl,
+    (flag_fits _ _ refl refl refl refl refl refl, (other_fits _ _ _ _ refl, tt)),
+  ) refl;
 }) refl (λ is. cc)

@@ -9,7 +9,7 @@ use Rattle.std.proofs.lemmas.Slice.Eq.{bytes_eq-Decides}
 use Rattle.clap.specs.Faults.{entered_fault, level_fault}
 use Rattle.clap.specs.Simple.{App, Shape, entered, label_of, rows_at}
 use Rattle.clap.specs.Walk.{Rule, Text, answers_to, nothing_held, rows_after}
-use Rattle.dd_line.specs.Line.{HasFlag, IsEnoughFor, NamesCommand, verb_name}
+use Rattle.dd_line.specs.Line.{HasFlags, IsEnoughFor, NamesCommand, verb_name}
 use Rattle.dd_line.specs.declared.line.Verb.{Verb}
 use Rattle.dd_line.proofs.LineEach.{Each, each_found}
 use Rattle.dd_line.proofs.LineHelp.{NotHelp}
@@ -18,10 +18,14 @@ use Rattle.dd_line.proofs.LinePaths.{FitsValues, HasOne, HasOneAlone, IsAbsent}
 
 -- ---- the command that is entered
 
+-- the level has no fault
+abbrev pub IsFaultless : Shape → List Text → Type 0
+IsFaultless s words = level_fault s [] nothing_held words false [] ≡ []
+
 -- where a level of this command has no fault, its words name a command of the program
 abbrev pub Serves : Shape → Type 0
 Serves s = (name : Text) → answers_to name (label_of s) ≡ true → bytes_eq name (codes "help") ≡ false
-    → (words : List Text) → level_fault s [] nothing_held words false [] ≡ [] → NamesCommand (Some (rows_at s words))
+    → (words : List Text) → IsFaultless s words → NamesCommand (Some (rows_at s words))
 
 -- the command whose name is met
 pub entered_serves : (a : App) (stop : Option (Text × List Text)) → Each Serves a.subs → NotHelp stop
@@ -51,8 +55,8 @@ help_serves s named none name met other words fault = go (bytes_eq s.name name) 
 -- a command of the program
 pub verb_serves : (verb : Verb) (s : Shape) → s.name ≡ verb_name verb → s.args_override_self ≡ false
     → Each FitsLimit s.rules
-    → ((words : List Text) → level_fault s [] nothing_held words false [] ≡ []
-    → HasFlag (rows_after s.rules [] words) × IsEnoughFor verb (rows_after s.rules [] words)) → Serves s
+    → ((words : List Text) → IsFaultless s words
+    → HasFlags (rows_after s.rules [] words) × IsEnoughFor verb (rows_after s.rules [] words)) → Serves s
 verb_serves verb s named once fits right name met other words none =
     let has = right words none in (
       verb,

@@ -1,6 +1,6 @@
 -- The command line: which commands and arguments the program has, and what a line asks for.
 --
---   dicomdir index [--id ID] [--uid UID] [--max-bytes N] OUT SRC...
+--   dicomdir index [--id ID] [--uid UID] [--max-bytes N] [--strict] OUT SRC...
 --   dicomdir merge [--id ID] [--uid UID] [--max-bytes N] OUT SET...
 --   dicomdir withdraw [--id ID] [--uid UID] [--max-bytes N] OUT SET UID...
 --   dicomdir check [--keys] SET
@@ -40,9 +40,12 @@ uid_name = codes "uid"
 abbrev pub max_bytes_name : Text
 max_bytes_name = codes "max-bytes"
 
--- the name of the flag
+-- the names of the flags
 abbrev pub keys_name : Text
 keys_name = codes "keys"
+
+abbrev pub strict_name : Text
+strict_name = codes "strict"
 
 -- the names of the paths
 abbrev pub out_name : Text
@@ -104,9 +107,9 @@ writing_app name = with_rule (with_rule (labelled_app name)
     (number_option max_bytes_name))
     (one_path out_name)
 
--- `index [--id ID] [--uid UID] [--max-bytes N] OUT SRC...`
+-- `index [--id ID] [--uid UID] [--max-bytes N] [--strict] OUT SRC...`
 abbrev pub index_app : App
-index_app = with_rule (writing_app (verb_name Index)) (some_paths source_name)
+index_app = with_rule (with_rule (writing_app (verb_name Index)) (some_paths source_name)) (flag strict_name)
 
 -- `merge [--id ID] [--uid UID] [--max-bytes N] OUT SET...`
 abbrev pub merge_app : App
@@ -181,7 +184,7 @@ IsLimit (Some text) limit =
     IsNumeral 10 (without_leading_sign text) × (signed_digits_value 10 text ≡ pos limit)
 
 -- the line asks for the command that its words name, with the values that they give, and has `keys` exactly where
--- they set the flag `--keys`
+-- they set the flag `--keys`, and `strict` exactly where they set `--strict`
 pub record Asks (a : Asked) (command : Text) (given : List Row) : Type 0 where
   pub verb : verb_name a.verb ≡ command
   pub id : option_map string_bytes a.id ≡ first_of id_name given
@@ -190,6 +193,7 @@ pub record Asks (a : Asked) (command : Text) (given : List Row) : Type 0 where
   pub paths : words_of a.paths.items ≡ given_paths given
   pub uids : words_of a.uids.items ≡ given_for instance_name given
   pub keys : a.keys ≡ is_given keys_name given
+  pub strict : a.strict ≡ is_given strict_name given
 
 -- the path of one file-set, no ID, no UID, and the limit that stands where none is given
 pub record AsksForOneSet (a : Asked) : Type 0 where
@@ -221,9 +225,13 @@ abbrev pub IsFlagText : Bool → Option Text → Type 0
 IsFlagText true text = text ≡ Some (codes "true")
 IsFlagText false text = (text ≡ None) ⊎ (text ≡ Some (codes "false"))
 
--- the text of `--keys` says whether the words set it
-abbrev pub HasFlag : List Row → Type 0
-HasFlag given = IsFlagText (is_given keys_name given) (one_of keys_name given)
+-- the text of the flag of this name says whether the words set it
+abbrev pub HasFlag : Text → List Row → Type 0
+HasFlag name given = IsFlagText (is_given name given) (one_of name given)
+
+-- so does the text of each flag
+abbrev pub HasFlags : List Row → Type 0
+HasFlags given = HasFlag keys_name given × HasFlag strict_name given
 
 -- the path of one file-set was given, and no option with a value
 pub record GivesOneSet (given : List Row) : Type 0 where
@@ -237,18 +245,20 @@ pub record GivesInstances (given : List Row) : Type 0 where
   pub paths : length (given_paths given) ≡ 2
   pub instances : 1 ≤ length (given_for instance_name given)
 
--- such a command was given what it needs, images only where it withdraws them, and the flag only where it checks
+-- such a command was given what it needs, images only where it withdraws them, and each flag only where it is the
+-- command that has the flag
 pub record IsEnoughFor (verb : Verb) (given : List Row) : Type 0 where
   pub paths : least_paths verb ≤ length (given_paths given)
   pub set : OnlyReads verb → GivesOneSet given
   pub withdraw : verb ≡ Withdraw → GivesInstances given
   pub uids : verb ≢ Withdraw → given_for instance_name given ≡ []
   pub keys : verb ≢ Check → is_given keys_name given ≡ false
+  pub strict : verb ≢ Index → is_given strict_name given ≡ false
 
 -- the words name a command, and give it what it needs
 abbrev pub NamesCommand : Option (Text × List Row) → Type 0
 NamesCommand found = (verb : Verb) × (given : List Row) × (found ≡ Some (verb_name verb, given)) × HasLimit given
-    × HasFlag given × IsEnoughFor verb given
+    × HasFlags given × IsEnoughFor verb given
 
 -- the command that they name is `check`
 abbrev pub IsCheck : Option (Text × List Row) → Type 0

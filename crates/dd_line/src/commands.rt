@@ -19,8 +19,10 @@ pub(crate) const UID: &str = "uid";
 
 pub(crate) const MAX_BYTES: &str = "max-bytes";
 
-// The name of the flag.
+// The names of the flags.
 pub(crate) const KEYS: &str = "keys";
+
+pub(crate) const STRICT: &str = "strict";
 
 // The names of the paths.
 pub(crate) const OUT: &str = "out";
@@ -121,12 +123,18 @@ fn index_command<'a>(alloc: Global) -> Result<Command<'a>, AllocError>
 {
     let about = "Makes a file-set of image files: copies them, writes its DICOMDIR";
     let command = writing(alloc, "index", about)?.after_help(endings::INDEX);
-    command.arg(paths(
-        alloc,
-        SOURCE,
-        "SRC",
-        "DICOM files; one that is no image, or lacks a key, is skipped",
-    ))
+    command
+        .arg(paths(
+            alloc,
+            SOURCE,
+            "SRC",
+            "DICOM files; one that is no image, or lacks a key, is skipped",
+        ))?
+        .arg(flag(
+            alloc,
+            STRICT,
+            "Makes nothing where a source would be skipped",
+        ))
 }
 
 /// Makes the command `merge`.

@@ -28,6 +28,8 @@ Lines of the output:
   DONE <n> instances, <b> bytes   The file-set is whole. Its DICOMDIR has <b>
                                   bytes. Compare <n> with your images: the
                                   status is 0 where sources were left out, too.
+                                  With --strict it is then 1, after
+                                  FAULT -: 98 Strict, and nothing was made.
 
 Sources:
   Left out is what is no DICOM file, is no image of a class that is taken (CR,

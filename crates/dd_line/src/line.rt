@@ -4,12 +4,12 @@ ghost use Rattle.std.specs.Prelude.{IfErr, IfOk, IsOk, MatchResult, length, opti
 ghost use Rattle.clap.specs.Takes.{is_given};
 ghost use Rattle.clap.specs.Words.{fault_of, first_of, found_of, rows_of, takes};
 ghost use Rattle.clap.specs.Words.{subcommand_of, subcommand_rows_of};
-ghost use Rattle.dd_line.specs.Line.{Asks, AsksForOneSet, AsksToWithdraw, HasFlag, HasLimit, IsAsked, IsEnoughFor};
-ghost use Rattle.dd_line.specs.Line.{IsLimit, IsRefusedFor, NamesCommand, OnlyReads, dicomdir_app, given_for};
-ghost use Rattle.dd_line.specs.Line.{given_paths, instance_name, keys_name, least_paths, max_bytes_name, verb_name};
-ghost use Rattle.dd_line.specs.Line.{words_of};
+ghost use Rattle.dd_line.specs.Line.{Asks, AsksForOneSet, AsksToWithdraw, HasFlag, HasFlags, HasLimit, IsAsked};
+ghost use Rattle.dd_line.specs.Line.{IsEnoughFor, IsLimit, IsRefusedFor, NamesCommand, OnlyReads, dicomdir_app};
+ghost use Rattle.dd_line.specs.Line.{given_for, given_paths, instance_name, least_paths, max_bytes_name};
+ghost use Rattle.dd_line.specs.Line.{verb_name, words_of};
 
-use crate::commands::{ID, INSTANCE, KEYS, MAX_BYTES, OUT, SET, SOURCE, UID, program};
+use crate::commands::{ID, INSTANCE, KEYS, MAX_BYTES, OUT, SET, SOURCE, STRICT, UID, program};
 use clap::ArgMatches;
 use clap::error::ErrorKind;
 use std::alloc::{AllocError, Global};
@@ -18,7 +18,7 @@ use thiserror::Error;
 /// A command of the program.
 #[derive(Clone, Copy, Debug, PartialEq, Eq)]
 pub enum Verb {
-    /// Makes a file-set of files, with copies of them and its directory: `index OUT SRC...`.
+    /// Makes a file-set of files, with copies of them and its directory: `index [--strict] OUT SRC...`.
     Index,
     /// Makes a file-set of other file-sets likewise: `merge OUT SET...`.
     Merge,
@@ -50,6 +50,8 @@ pub struct Asked {
     /// Whether the flag `--keys` is set, by which `check` also compares what each file says of itself with its
     /// record. False for every other command.
     pub keys: bool,
+    /// Whether `index` is refused where a source is left out: `index --strict`. False for every other command.
+    pub strict: bool,
 }
 
 /// Says why a command line asks for nothing.
@@ -105,12 +107,12 @@ fn limit_of(given: &ArgMatches<'_>) -> u32
     given.get_one::<u32>(MAX_BYTES).unwrap_or(u32::MAX)
 }
 
-/// Says whether the flag `--keys` is set.
-fn keys_of(given: &ArgMatches<'_>) -> bool
-    requires { HasFlag (rows_of (found_of given.now)) }
-    ensures { result ≡ is_given keys_name (rows_of (found_of given.now)) }
+/// Says whether a flag is set.
+fn flag_of(given: &ArgMatches<'_>, name: &str) -> bool
+    requires { HasFlag name.now (rows_of (found_of given.now)) }
+    ensures { result ≡ is_given name.now (rows_of (found_of given.now)) }
 {
-    given.get_flag(KEYS)
+    given.get_flag(name)
 }
 
 /// Appends the values of an argument.
@@ -153,7 +155,7 @@ fn uids_of(alloc: Global, given: &ArgMatches<'_>) -> Result<Vec<String>, AllocEr
 /// Reads what the command asks for with its values.
 fn asked_by(alloc: Global, verb: Verb, given: &ArgMatches<'_>) -> Result<Asked, AllocError>
     requires limit { HasLimit (rows_of (found_of given.now)) }
-    requires flag { HasFlag (rows_of (found_of given.now)) }
+    requires flags { HasFlags (rows_of (found_of given.now)) }
     requires enough { IsEnoughFor verb (rows_of (found_of given.now)) }
     ensures values { IfOk result (λ asked. Asks asked (verb_name verb) (rows_of (found_of given.now))) }
     ensures paths { IfOk result (λ asked. least_paths asked.verb ≤ length asked.paths.items) }
@@ -161,6 +163,7 @@ fn asked_by(alloc: Global, verb: Verb, given: &ArgMatches<'_>) -> Result<Asked, 
     ensures withdraw { IfOk result (λ asked. asked.verb ≡ Verb.Withdraw → AsksToWithdraw asked) }
     ensures uids { IfOk result (λ asked. asked.verb ≢ Verb.Withdraw → asked.uids.items ≡ []) }
     ensures keys { IfOk result (λ asked. asked.verb ≢ Verb.Check → asked.keys ≡ false) }
+    ensures strict { IfOk result (λ asked. asked.verb ≢ Verb.Index → asked.strict ≡ false) }
 {
     Ok(Asked {
         verb,
@@ -169,7 +172,8 @@ fn asked_by(alloc: Global, verb: Verb, given: &ArgMatches<'_>) -> Result<Asked, 
         max_bytes: limit_of(given),
         paths: paths_of(alloc, given)?,
         uids: uids_of(alloc, given)?,
-        keys: keys_of(given),
+        keys: flag_of(given, KEYS),
+        strict: flag_of(given, STRICT),
     })
 }
 
@@ -182,6 +186,7 @@ fn asked_of(alloc: Global, found: &ArgMatches<'_>) -> Result<Asked, AllocError>
     ensures withdraw { IfOk result (λ asked. asked.verb ≡ Verb.Withdraw → AsksToWithdraw asked) }
     ensures uids { IfOk result (λ asked. asked.verb ≢ Verb.Withdraw → asked.uids.items ≡ []) }
     ensures keys { IfOk result (λ asked. asked.verb ≢ Verb.Check → asked.keys ≡ false) }
+    ensures strict { IfOk result (λ asked. asked.verb ≢ Verb.Index → asked.strict ≡ false) }
 {
     match found.subcommand() {
         Some(("index", given)) => asked_by(alloc, Verb::Index, given),
@@ -218,6 +223,7 @@ pub fn read_words(alloc: Global, words: &[String]) -> Result<Asked, LineFault>
     ensures withdraw { IfOk result (λ asked. asked.verb ≡ Verb.Withdraw → AsksToWithdraw asked) }
     ensures uids { IfOk result (λ asked. asked.verb ≢ Verb.Withdraw → asked.uids.items ≡ []) }
     ensures keys { IfOk result (λ asked. asked.verb ≢ Verb.Check → asked.keys ≡ false) }
+    ensures strict { IfOk result (λ asked. asked.verb ≢ Verb.Index → asked.strict ≡ false) }
     ensures passes { IfErr result (λ fault.
         takes dicomdir_app (words_of words.now) ≡ true
         → fault ≡ LineFault.Memory) }
