@@ -6,7 +6,7 @@ use Rattle.dicomdir.specs.declared.refusal.ProgramFault.{ProgramFault}
 use Rattle.dicomdir.specs.declared.refusal.Subject.{Subject}
 use Rattle.dicomdir.specs.declared.refusal.Subject.TheVariants as subject
 use Rattle.dicomdir.specs.declared.refusal.Refusal.{Refusal}
-use Rattle.dicomdir.specs.declared.refusal.ProgramFault.TheVariants.{Memory, SetId, Uid}
+use Rattle.dicomdir.specs.declared.refusal.ProgramFault.TheVariants.{Memory, SetId, Strict, Uid}
 
 -- the command line is at fault
 abbrev pub IsBadLine : ProgramFault → Type 0
@@ -15,6 +15,10 @@ IsBadLine fault = ((bad : BadUid) × (fault ≡ Uid bad)) ⊎ ((bad : BadSetId) 
 -- a growth was refused, which concerns no file
 abbrev pub IsMemory : Refusal → Type 0
 IsMemory refusal = refusal ≡ record { subject = subject.General; fault = Memory }
+
+-- a source was left out of a run with `--strict`, which concerns no file
+abbrev pub IsStrict : Refusal → Type 0
+IsStrict refusal = refusal ≡ record { subject = subject.General; fault = Strict }
 
 -- a path that is concerned is one of these
 abbrev pub IsAmong : ℕ → Subject → Type 0

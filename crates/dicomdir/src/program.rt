@@ -1,5 +1,6 @@
 //! The program's run.
-ghost use Rattle.std.specs.Prelude.{◌≡◌, ◌<◌, ◌≤◌, ◌+◌, ◌⊎◌, ℕ, All, IfErr, IfOk, IsErr, IsOk, false, length, true};
+ghost use Rattle.std.specs.Prelude.{◌≡◌, ◌↔◌, ◌<◌, ◌≤◌, ◌+◌, ◌⊎◌, ℕ, All, IfErr, IfOk, IsErr, IsOk, false};
+ghost use Rattle.std.specs.Prelude.{length, true};
 ghost use Rattle.clap.specs.Words.{subcommand_of, takes};
 ghost use Rattle.dd_elem.specs.Device.{HasFailed};
 ghost use Rattle.dd_layout.specs.Plans.{size};
@@ -9,7 +10,7 @@ ghost use Rattle.dd_report.specs.Text.{TakesAll};
 ghost use Rattle.dicomdir.specs.Done.{done_text};
 ghost use Rattle.dicomdir.specs.EmptyPaths.{AsksEmptyPath, HasEmptyPath};
 ghost use Rattle.dicomdir.specs.Made.{MakesFileSet};
-ghost use Rattle.dicomdir.specs.Refusal.{IsOfWork};
+ghost use Rattle.dicomdir.specs.Refusal.{IsOfWork, IsStrict};
 
 use crate::empty_paths::{empty_path, first_empty};
 use crate::file_set::write_file_set;
@@ -18,7 +19,7 @@ use crate::line_refusal::refuse_line;
 use crate::merging::{plan_merge, plan_withdrawal, read_sets, slices};
 use crate::names::{Names, names_of};
 use crate::origins::{SetFiles, SourceFiles};
-use crate::refusal::{Paths, Refusal, Words, tell};
+use crate::refusal::{Paths, ProgramFault, Refusal, Words, tell};
 use crate::set_directory::{directory_bytes, refusal_of};
 use dd_dir::{DirFault, read_directory};
 use dd_elem::Write;
@@ -36,11 +37,12 @@ use std::fmt;
 /// work is done or help was asked for, 1 where the run was refused or the output failed, 2 where the
 /// command line is at fault, and 3 where `check` found something.
 ///
-/// `index [--id ID] [--uid UID] [--max-bytes N] OUT SRC...` copies the images to their File IDs in the
-/// folder OUT and writes OUT/DICOMDIR. It prints `SKIP <path>: <fault>` for each source that has no
-/// version, and `DONE <n> instances, <size> bytes`. A refusal is one line on the error output, `FAULT
-/// <path>: <fault>`, with `-` where it concerns no path; a text about the command line is the parser's, of
-/// its words with `?` for each control character. What is printed to the error output may get lost.
+/// `index [--id ID] [--uid UID] [--max-bytes N] [--strict] OUT SRC...` copies the images to their File IDs
+/// in the folder OUT and writes OUT/DICOMDIR. It prints `SKIP <path>: <fault>` for each source that has no
+/// version, and `DONE <n> instances, <size> bytes`; with `--strict` such a source refuses the run, behind
+/// the lines SKIP and before anything is made. A refusal is one line on the error output, `FAULT <path>:
+/// <fault>`, with `-` where it concerns no path; a text about the command line is the parser's, of its words
+/// with `?` for each control character. What is printed to the error output may get lost.
 ///
 /// `merge [--id ID] [--uid UID] [--max-bytes N] OUT SET...` makes such a file-set of the images of other
 /// file-sets, each a folder with the DICOMDIR that was written here. All these are read before the first
@@ -182,7 +184,7 @@ fn run_verb<F: Files, O: Write>(
 {
     let max_bytes = asked.max_bytes;
     match asked.verb {
-        Verb::Index => run_index(alloc, folder, paths, &names.choice, max_bytes, files, out),
+        Verb::Index => run_index(alloc, asked, folder, paths, &names.choice, files, out),
         Verb::Merge => run_merge(alloc, folder, paths, &names.choice, max_bytes, files, out),
         Verb::Withdraw => run_withdraw(alloc, folder, paths, names, max_bytes, files, out),
         Verb::Check => run_check(alloc, paths[0].as_str(), comparison_of(asked), files, out),
@@ -190,23 +192,24 @@ fn run_verb<F: Files, O: Write>(
     }
 }
 
-/// Runs `index`.
+/// Runs `index`, whose words also give the limit and the flag `--strict`.
 fn run_index<F: Files, O: Write>(
     alloc: Global,
+    asked: &Asked,
     folder: &str,
     sources: &[String],
     choice: &Choice,
-    max_bytes: u32,
     files: &mut F,
     out: &mut O,
 ) -> Result<u8, Refusal>
     ensures refusal { IfErr result (IsOfWork (length sources.now)) }
     ensures status { IfOk result (λ status. status ≤ 1) }
 {
-    let indexed = plan_index(alloc, folder, sources, choice, max_bytes, files)?;
+    let indexed = plan_index(alloc, folder, sources, choice, asked.max_bytes, files)?;
     if tell_skipped(&indexed.skipped, sources, out).is_err() {
         return Ok(1);
     }
+    refuse_skipped(asked.strict, &indexed.skipped)?;
     let origins = SourceFiles { paths: sources };
     write_file_set(
         alloc,
@@ -217,6 +220,18 @@ fn run_index<F: Files, O: Write>(
         files,
     )?;
     Ok(tell_done(&indexed.plan, out))
+}
+
+/// Refuses a run with `--strict` where a source is skipped.
+fn refuse_skipped(strict: bool, skipped: &[(usize, KeyFault)]) -> Result<(), Refusal>
+    ensures refuses { IsErr result ↔ (strict ≡ true) × (0 < length skipped.now) }
+    ensures fault { IfErr result IsStrict }
+    ensures refusal { (paths : ℕ) → IfErr result (IsOfWork paths) }
+{
+    if strict && !skipped.is_empty() {
+        return Err(Refusal::general(ProgramFault::Strict));
+    }
+    Ok(())
 }
 
 /// Runs `merge`.

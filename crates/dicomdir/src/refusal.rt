@@ -56,6 +56,9 @@ pub enum ProgramFault {
     /// The file is not what it was when it was read before.
     #[error("97 Changed")]
     Changed,
+    /// A source was left out, and the command line has `--strict`.
+    #[error("98 Strict")]
+    Strict,
 }
 
 impl From<AllocError> for ProgramFault {
