@@ -10,7 +10,7 @@ use std::test::Fail;
 const PROGRAM: &str =
     "39 FileTooLong, 43 TooLarge, 56 LastRoot, 61 NoDigest 646, 65 BadWithdrawal, 71 BadUid, \
                        72 BadSetId, 91 Memory, 92 Absent, 93 Unread, 94 Create, 95 Folder, \
-                       96 Unsent, 97 Changed";
+                       96 Unsent, 97 Changed, 98 Strict";
 
 /// Faults of an index, of a merge and of a copy.
 const ENGINE: &str = "43 TooLarge, 91 Memory, 92 Absent, 93 Unread";
@@ -36,6 +36,7 @@ fn fault_of(words: &str) -> Option<ProgramFault> {
         "95 Folder" => Some(ProgramFault::Folder),
         "96 Unsent" => Some(ProgramFault::Unsent),
         "97 Changed" => Some(ProgramFault::Changed),
+        "98 Strict" => Some(ProgramFault::Strict),
         _ => None,
     }
 }

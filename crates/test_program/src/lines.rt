@@ -7,8 +7,8 @@ use std::alloc::Global;
 use std::test::Fail;
 
 /// Lines, and what they ask for: the command, the ID and the UID (`-` where none is given), the most bytes, the
-/// paths, the UIDs of images, if any, behind `without`, and `with keys` where that is asked for. Or, where they are
-/// refused, the exit status and whether the text is for the error output.
+/// paths, the UIDs of images, if any, behind `without`, and `with keys` or `with strict` where that is asked for. Or,
+/// where they are refused, the exit status and whether the text is for the error output.
 const LINES: &str = "\
 dicomdir index set image.dcm > Index - - 4294967295 set image.dcm
 dicomdir index --id DISC1 --uid 2.25.1 --max-bytes 1000 set image.dcm > Index DISC1 2.25.1 1000 set image.dcm
@@ -27,6 +27,10 @@ dicomdir index --max-bytes 4294967295 set image.dcm > Index - - 4294967295 set i
 dicomdir index --max-bytes 0007 set image.dcm > Index - - 7 set image.dcm
 dicomdir index --max-bytes +876 set image.dcm > Index - - 876 set image.dcm
 dicomdir index --max-bytes=-0 set image.dcm > Index - - 0 set image.dcm
+dicomdir index --strict set image.dcm > Index - - 4294967295 set image.dcm with strict
+dicomdir index set b.dcm --strict a.dcm --max-bytes 7 > Index - - 7 set b.dcm a.dcm with strict
+dicomdir index --strict --id A -- set --strict > Index A - 4294967295 set --strict with strict
+dicomdir index set -- --strict > Index - - 4294967295 set --strict
 dicomdir merge set a > Merge - - 4294967295 set a
 dicomdir merge --id DISC1 set b a b --uid 2.25.1 > Merge DISC1 2.25.1 4294967295 set b a b
 dicomdir merge --max-bytes 7 set check > Merge - - 7 set check
@@ -60,6 +64,16 @@ dicomdir index --out set image.dcm > 2 true
 dicomdir --uid 2.25.1 index set image.dcm > 2 true
 dicomdir index set image.dcm --uid > 2 true
 dicomdir index set image.dcm --max-bytes > 2 true
+dicomdir index --strict set > 2 true
+dicomdir index --strict --strict set image.dcm > 2 true
+dicomdir index --strict=true set image.dcm > 2 true
+dicomdir index -s set image.dcm > 2 true
+dicomdir --strict index set image.dcm > 2 true
+dicomdir merge --strict out set > 2 true
+dicomdir withdraw out set 1.2 --strict > 2 true
+dicomdir check --strict a > 2 true
+dicomdir check --keys --strict a > 2 true
+dicomdir list --strict a > 2 true
 dicomdir merge > 2 true
 dicomdir merge out > 2 true
 dicomdir merge --max-bytes 4294967296 out set > 2 true
@@ -132,6 +146,9 @@ fn told(alloc: Global, asked: &Asked) -> Result<String, Fail> {
     push_words(&mut text, &asked.uids)?;
     if asked.keys {
         text.push_str(" with keys")?;
+    }
+    if asked.strict {
+        text.push_str(" with strict")?;
     }
     Ok(text)
 }

@@ -56,6 +56,25 @@ SKIP part.dcm: 31 File 27 Set 1 Truncated|DONE 1 instances, 876 bytes|] [] chang
 - - dicomdir index '' '' none.dcm > 1 [] [FAULT : 95 Folder|] kept
 - - dicomdir index full none.dcm '' '' > 1 [] [FAULT : 92 Absent|] kept
 - - dicomdir index '' '' --uid 2.25.x > 2 [] [FAULT -: 71 BadUid|] kept
+- - dicomdir index --strict out a.dcm b.dcm --uid 2.25.0 > \
+1 [SKIP b.dcm: 32 NotImage 1.2.840.10008.5.1.4.1.1.88.11|] [FAULT -: 98 Strict|] kept
+- - dicomdir index out part.dcm a.dcm note.txt part.dcm --strict > \
+1 [SKIP part.dcm: 31 File 27 Set 1 Truncated|SKIP note.txt: 31 File 21 NotPart10|\
+SKIP part.dcm: 31 File 27 Set 1 Truncated|] [FAULT -: 98 Strict|] kept
+- - dicomdir index --strict out note.txt > 1 [SKIP note.txt: 31 File 21 NotPart10|] [FAULT -: 98 Strict|] kept
+- - dicomdir index --strict taken note.txt a.dcm > \
+1 [SKIP note.txt: 31 File 21 NotPart10|] [FAULT -: 98 Strict|] kept
+- - dicomdir index --strict out a.dcm --uid 2.25.0 > 0 [DONE 1 instances, 876 bytes|] [] changed
+- - dicomdir index out a.dcm c.dcm a.dcm e.dcm --uid 2.25.0 --strict > 0 [DONE 1 instances, 876 bytes|] [] changed
+- - dicomdir index --strict taken a.dcm --uid 2.25.0 > \
+1 [] [FAULT taken/PT000001/ST000001/SE000001/IM000001: 94 Create|] kept
+- - dicomdir index --strict out n.dcm d.dcm b.dcm > 1 [] [FAULT -: 41 Conflict 1.2.3.4.5 1.2.3.4.6|] kept
+- - dicomdir index --strict out a.dcm b.dcm --max-bytes 875 > 1 [] [FAULT -: 43 TooLarge|] kept
+- - dicomdir index --strict out b.dcm a.dcm no.dcm > 1 [] [FAULT no.dcm: 92 Absent|] kept
+- - dicomdir index --strict full b.dcm > 1 [] [FAULT full/DICOMDIR: 94 Create|] kept
+- - dicomdir index --strict out b.dcm --uid 2.25.x > 2 [] [FAULT -: 71 BadUid|] kept
+9 - dicomdir index --strict out a.dcm b.dcm --uid 2.25.0 > 1 [SKIP b.dc] [] kept
+- 0 dicomdir index --strict out note.txt > 1 [SKIP note.txt: 31 File 21 NotPart10|] [] kept
 - - dicomdir --version > 0 [dicomdir 1.0.0|] [] kept
 - 6 dicomdir index out none.dcm --uid 2.25.0 > 1 [] [FAULT ] kept
 - 0 dicomdir index out none.dcm --uid 2.25.x > 2 [] [] kept";
@@ -67,10 +86,12 @@ const TEXTS: &str = "\
 - - dicomdir index --uid 2.25.0 out > 2 to the error output
 - - dicomdir index out a.dcm --uid > 2 to the error output
 - - dicomdir index out a.dcm --uid 2.25.0 --max-bytes 4294967296 > 2 to the error output
+- - dicomdir index --strict out a.dcm --strict > 2 to the error output
 - - dicomdir burn out a.dcm --uid 2.25.0 > 2 to the error output
 - - dicomdir merge out > 2 to the error output
 - - dicomdir withdraw out full > 2 to the error output
 - - dicomdir merge out full --max-bytes 4294967296 > 2 to the error output
+- - dicomdir merge --strict out full > 2 to the error output
 - - dicomdir check > 2 to the error output
 - - dicomdir list full full > 2 to the error output
 - - dicomdir list --keys full > 2 to the error output
