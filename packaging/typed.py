@@ -19,6 +19,7 @@ import time
 CASES = [
     ("wi", "withdraw "),
     ("index --m", "index --max-bytes "),
+    ("index --s", "index --strict "),
     ("index o", "index one/"),
     ("index one/ one.", "index one/ one.dcm "),
     ("index --id DISC1 one/ on", "index --id DISC1 one/ on"),

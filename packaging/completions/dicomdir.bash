@@ -49,7 +49,8 @@ _dicomdir()
     esac
     if [[ ! $ended && $current == -* ]]; then
         case $command in
-            index | merge | withdraw) choice='--id --uid --max-bytes -h --help' ;;
+            index) choice='--id --uid --max-bytes --strict -h --help' ;;
+            merge | withdraw) choice='--id --uid --max-bytes -h --help' ;;
             check) choice='--keys -h --help' ;;
             list) choice='-h --help' ;;
             '') choice='-h --help -V --version' ;;

@@ -22,6 +22,8 @@ set -l writing '__fish_seen_subcommand_from index merge withdraw'
 complete -c dicomdir -n $writing -l id -x -d 'ID of the file-set, such as DISC1; by default empty'
 complete -c dicomdir -n $writing -l uid -x -d 'UID of the file-set; by default made from its content'
 complete -c dicomdir -n $writing -l max-bytes -x -d 'Most bytes of DICOMDIR; by default 4294967295'
+complete -c dicomdir -n '__fish_seen_subcommand_from index' -l strict \
+    -d 'Makes nothing where a source would be skipped'
 complete -c dicomdir -n '__fish_seen_subcommand_from check' -l keys \
     -d 'Also compares what each image file says of itself with its record'
 
