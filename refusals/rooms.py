@@ -33,6 +33,7 @@ class Command:
 COMMANDS = [
     Command("index of one image", "index OUT a.dcm --uid 2.25.0"),
     Command("index of three images and a text", "index OUT a.dcm b.dcm text c.dcm --uid 2.25.0"),
+    Command("index of an image and a text, which is refused", "index OUT a.dcm text --uid 2.25.0 --strict"),
     Command("index into a folder that is there", "index OUT b.dcm --uid 2.25.0", before="OTHER"),
     Command("index into a folder that has a set", "index OUT a.dcm --uid 2.25.0", before="SETA"),
     Command("merge of two sets", "merge OUT SETA SETB --uid 2.25.0"),
