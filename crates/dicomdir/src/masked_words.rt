@@ -1,6 +1,5 @@
 //! The words of a command line as they are shown.
-ghost use Rattle.std.specs.Prelude.{◌≡◌, IfOk, chars, false, map, string_bytes};
-ghost use Rattle.std.specs.Char.{is_control};
+ghost use Rattle.std.specs.Prelude.{◌≡◌, IfOk, false, map, string_bytes};
 ghost use Rattle.std.specs.List.{list_any};
 ghost use Rattle.dd_report.specs.Text.{masked, masked_char};
 ghost use Rattle.dicomdir.specs.MaskedWords.{has_control};
