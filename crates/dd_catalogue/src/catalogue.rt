@@ -9,7 +9,7 @@ ghost use Rattle.dd_catalogue.specs.Best.{IsRising};
 ghost use Rattle.dd_catalogue.specs.Contents.{IsHeld, all_of, and_version, and_withdrawn, held_of};
 ghost use Rattle.dd_catalogue.specs.Contents.{is_withdrawn, kept_of, nothing};
 ghost use Rattle.dd_catalogue.specs.Equal.{are_same_uids};
-ghost use Rattle.dd_catalogue.specs.Taking.{as_took, took_of, withdrew_of};
+ghost use Rattle.dd_catalogue.specs.Taking.{took_of, withdrew_of};
 ghost use Rattle.dd_elem.specs.Ordered.{bytes_cmp};
 
 use crate::conflicts::first_clash;
@@ -17,43 +17,13 @@ use crate::harmony::in_harmony;
 use crate::join::Join;
 use crate::lent::lent;
 use crate::sifting::sift_lent;
-use crate::table::{Table, Taken};
+use crate::table::Table;
+use crate::taking::{Refused, Took, Withdrew, told};
 use crate::withdrawals::{Withdrawals, distinct};
 use dd_elem::{Memory, Uid};
 use dd_keys::Version;
 use std::alloc::Global;
 use std::marker::Model;
-use thiserror::Error;
-
-/// What became of a version that was taken.
-#[derive(Debug, Drop)]
-pub enum Took {
-    /// None of its instance was there.
-    New,
-    /// It is greater than this one, which was there.
-    Replaced(Version),
-    /// It is no greater than the one that is there: handed back.
-    Kept(Version),
-    /// Its instance is withdrawn: handed back.
-    Withdrawn(Version),
-}
-
-/// What became of an instance that was withdrawn.
-#[derive(Debug, Drop)]
-pub enum Withdrew {
-    /// It was not withdrawn before. This version of it was kept until now.
-    New(Option<Version>),
-    /// It was withdrawn before.
-    Already,
-}
-
-/// Want of memory: a growth was refused.
-#[derive(Debug, Drop, Error)]
-#[error("91 Memory")]
-pub struct Refused {
-    /// The version that was not taken.
-    pub back: Version,
-}
 
 /// A catalogue of image instances: of each SOP Instance UID (PS3.3 section C.12.1) that it has taken
 /// and that is not withdrawn, the greatest version, and the UIDs that are withdrawn.
@@ -360,17 +330,6 @@ impl Catalogue {
             table: self.table.copy()?,
             withdrawn: self.withdrawn.copy()?,
         })
-    }
-}
-
-/// What became of the version, in the words of a catalogue.
-fn told(taken: Taken<Version>) -> Took
-    ensures { result ≡ as_took taken }
-{
-    match taken {
-        Taken::Fresh => Took::New,
-        Taken::Displaced(old) => Took::Replaced(old),
-        Taken::Returned(given) => Took::Kept(given),
     }
 }
 

@@ -17,12 +17,13 @@ mod lent;
 mod owners;
 mod sifting;
 mod table;
+mod taking;
 mod tuples;
 mod values;
 mod weaving;
 mod withdrawals;
 
-pub use catalogue::{Catalogue, Refused, Took, Withdrew};
+pub use catalogue::Catalogue;
 pub use harmony_laws::{
     catalogue_agrees_with_itself, harmony_again_is_same, harmony_is_not_less, harmony_keeps_clash,
     harmony_keeps_images, merged_harmonies_are_merged_sets,
@@ -34,3 +35,4 @@ pub use laws::{
     equal_is_same, harmonised_is_harmonised, harmonised_is_one, held_is_apart,
     kept_is_best_of_left, kept_of_all, kept_of_kept, kept_order_is_free, withdrawn_decides,
 };
+pub use taking::{Refused, Took, Withdrew};
