@@ -9,3 +9,6 @@ mod LineReading
 mod LineRows
 mod LineServes
 mod LineWalk
+mod LineWriting
+mod LineSources
+mod LineVerbs

@@ -1,10 +1,10 @@
--- Lists of which all members have a property, and the rows under one id.
+-- Lists of which all members have a property, and the rows and rules under one id.
 use Rattle.std.proofs.Common.{◌≡◌, Bool, true, false, List, [], ◌∷◌, ◌++◌, refl, ap, ◌||◌, true≢false}
 use Rattle.std.specs.List.{find}
-use Rattle.std.specs.Prelude.{IfSome}
+use Rattle.std.specs.Prelude.{IfSome, if◌then◌else◌}
 use Rattle.std.specs.Str.{bytes_eq}
 use Rattle.clap.specs.Kinds.{Kinds, or_else}
-use Rattle.clap.specs.Walk.{Row, Text, at_row, has_row}
+use Rattle.clap.specs.Walk.{Row, Rule, Text, at_row, has_row}
 
 -- ---- faults that do not come
 
@@ -37,6 +37,22 @@ each_found P p (x ∷ xs) all = go (p x) refl (each_found P p xs all.1)
         → IfSome (find p (x ∷ xs)) (λ y. P y × (p y ≡ true))
     go true t rest = rw t (all.0, t)
     go false t rest = rw t rest
+
+-- the rules of this name
+abbrev pub named_in : Text → List Rule → List Rule
+named_in name [] = []
+named_in name (a ∷ rest) = if bytes_eq a.id name then a ∷ named_in name rest else named_in name rest
+
+-- what holds of each rule of another name, and of those of this name, holds of each
+pub each_named : (P : Rule → Type 0) (name : Text) (rules : List Rule)
+    → ((a : Rule) → bytes_eq a.id name ≡ false → P a) → Each P (named_in name rules) → Each P rules
+each_named P name [] other own = tt
+each_named P name (a ∷ rest) other own = go (bytes_eq a.id name) refl (each_named P name rest other) own
+  where
+    go : (t : Bool) → bytes_eq a.id name ≡ t → (Each P (named_in name rest) → Each P rest)
+        → Each P (if t then a ∷ named_in name rest else named_in name rest) → P a × Each P rest
+    go true t later own = (own.0, later own.1)
+    go false t later own = (other a t, later own)
 
 pub at_row_each : (P : Row → Type 0) (id : Text) (change : Row → List Row) (missing rows : List Row)
     → ((r : Row) → P r → bytes_eq r.id id ≡ true → Each P (change r)) → Each P missing → Each P rows

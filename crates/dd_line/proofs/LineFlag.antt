@@ -1,6 +1,6 @@
 -- The text that the rows hold for a flag: `true` where the words set it, `false` where it is unset, and none where it
 -- is absent, as the command has no such flag.
-use Rattle.std.proofs.Common.{◌≡◌, ◌≢◌, ◌==◌, ◌∷◌, ℕ, Bool, true, false, List, [], Option, Some, None}
+use Rattle.std.proofs.Common.{◌≡◌, ◌⊎◌, ◌==◌, ◌∷◌, ℕ, Bool, true, false, List, [], Option, Some, None}
 use Rattle.std.proofs.Common.{codes, eqb-true, inl, inr, length, refl, sym}
 use Rattle.std.specs.List.{find}
 use Rattle.std.specs.Option.{option_map, option_map_or}
@@ -9,7 +9,7 @@ use Rattle.std.specs.Str.{bytes_eq}
 use Rattle.clap.specs.Facts.{explicit_source, unwrap_or_range}
 use Rattle.clap.specs.Faults.{level_fault}
 use Rattle.clap.specs.Kinds.{range_kinds}
-use Rattle.clap.specs.Simple.{Shape}
+use Rattle.clap.specs.Simple.{Shape, filled, with_index}
 use Rattle.clap.specs.Takes.{is_given}
 use Rattle.clap.specs.Walk.{Row, Rule, Text, action_of, most_values, nothing_held, reading_by, row_text, rows_after}
 use Rattle.clap.specs.Walk.{values_or_missing}
@@ -18,11 +18,10 @@ use Rattle.clap.specs.declared.builder.value_parser.Reading.TheVariants.{AsWritt
 use Rattle.clap.specs.declared.error.kind.ErrorKind.TheVariants.{WrongNumberOfValues}
 use Rattle.clap.specs.declared.parser.matches.ValueSource.{ValueSource}
 use Rattle.clap.specs.declared.parser.matches.ValueSource.TheVariants.{CommandLine, DefaultValue}
-use Rattle.dd_line.specs.Line.{HasFlag, IsFlagText}
-use Rattle.dd_line.specs.declared.line.Verb.{Verb}
-use Rattle.dd_line.proofs.LineEach.{Each, each_found, first_none}
+use Rattle.dd_line.specs.Line.{HasFlag, IsFlagText, flag}
+use Rattle.dd_line.proofs.LineEach.{Each, each_found, first_none, named_in}
 use Rattle.dd_line.proofs.LinePaths.{FitsValues, IsAbsent, level_absent}
-use Rattle.dd_line.proofs.LineRows.{Fine, Fits}
+use Rattle.dd_line.proofs.LineRows.{Fine, Fits, all_fit}
 use Rattle.dd_line.proofs.LineWalk.{level_fine}
 
 -- the values of a flag that is set, and of one that is unset
@@ -67,26 +66,43 @@ flag_text (Some CommandLine) values is = rw is refl
 flag_text (Some DefaultValue) values is = rw is (inr refl)
 flag_text None values is = absurd is
 
--- the rows say whether the words set the flag, which this command alone has
-abbrev pub SaysFlag : Text → Verb → Verb → List Row → Type 0
-SaysFlag name own verb rows = HasFlag name rows × (verb ≢ own → is_given name rows ≡ false)
+-- ---- a flag that a command has, or lacks
 
-module _ (name : Text) (own verb : Verb) (s : Shape) (words : List Text) (once : s.args_override_self ≡ false)
+-- the rows say whether the words set the flag, which they do not where the command lacks it
+abbrev pub SaysFlag : Text → Type 0 → List Row → Type 0
+SaysFlag name Lacks rows = HasFlag name rows × (Lacks → is_given name rows ≡ false)
+
+-- no rule of the command is the flag's, or one is, and the command does not lack it
+abbrev pub TakesFlag : Text → Type 0 → List Rule → Type 0
+TakesFlag name Lacks rules = Each (FitsValues name IsAbsent) rules ⊎ (Each (FitsFlag name) rules × (Lacks → ⊥))
+
+pub lacks_flag : (name : Text) (Lacks : Type 0) (rules : List Rule) → named_in name rules ≡ []
+    → TakesFlag name Lacks rules
+lacks_flag name Lacks rules none = inl (all_fit name AsWritten (λ _. IsAbsent) rules (rw none tt))
+
+pub has_flag : (name : Text) (Lacks : Type 0) (rules : List Rule)
+    → named_in name rules ≡ with_index 0 (filled (flag name)) ∷ [] → (Lacks → ⊥) → TakesFlag name Lacks rules
+has_flag name Lacks rules one has = inr (
+  all_fit name AsWritten IsFlag rules (rw one (flag_fits name _ refl refl refl refl refl refl, tt)),
+  has,
+)
+
+module _ (name : Text) (Lacks : Type 0) (s : Shape) (words : List Text) (once : s.args_override_self ≡ false)
     (none : level_fault s [] nothing_held words false [] ≡ []) where
   abbrev rows : List Row
   rows = rows_after s.rules [] words
 
   -- where a level has no fault and no such flag, the flag is absent
-  pub level_no_flag : Each (FitsValues name IsAbsent) s.rules → SaysFlag name own verb (rows_after s.rules [] words)
+  level_no_flag : Each (FitsValues name IsAbsent) s.rules → SaysFlag name Lacks (rows_after s.rules [] words)
   level_no_flag fits =
       let absent = level_absent name IsAbsent s words fits once none (λ values never. never) in
       rw absent (inl refl, λ _. refl)
 
   -- where a level has no fault and its rules fit, the text says whether the flag is set
-  pub level_flag : Each (FitsFlag name) s.rules → verb ≡ own → SaysFlag name own verb (rows_after s.rules [] words)
-  level_flag fits is = (
+  level_flag : Each (FitsFlag name) s.rules → (Lacks → ⊥) → SaysFlag name Lacks (rows_after s.rules [] words)
+  level_flag fits has = (
     go (find (λ r. bytes_eq r.id name) rows) (each_found _ (λ r. bytes_eq r.id name) rows fine),
-    λ other. absurd (other is),
+    λ lacks. absurd (has lacks),
   )
     where
       fine : Each (Fine name AsWritten IsFlag) rows
@@ -98,6 +114,10 @@ module _ (name : Text) (own verb : Verb) (s : Shape) (words : List Text) (once :
       go (Some r) h =
           let row = h.0 h.1 in
           rw row.reading (flag_text r.source r.values row.values)
+
+  pub flag_said : TakesFlag name Lacks s.rules → SaysFlag name Lacks (rows_after s.rules [] words)
+  flag_said (inl lacks) = level_no_flag lacks
+  flag_said (inr has) = level_flag has.0 has.1
 
 -- the text is read as set exactly where the words set the flag
 pub flag_read : (given : Bool) (text : Option Text) (read : Bool) → IsFlagText given text

@@ -32,7 +32,8 @@ use Rattle.clap.specs.Walk.{default_rows, settled_rows, short_met, short_or_plai
 use Rattle.clap.specs.Walk.{takes_several, takes_values, to_positional, used, used_as}
 use Rattle.clap.specs.Walk.{used_by_id, values_or_missing, waits}
 use Rattle.clap.specs.Walk.{with_default, with_values, without}
-use Rattle.dd_line.proofs.LineEach.{Each, at_row_absent, at_row_each, each_found, each_join, first_none, second_none}
+use Rattle.dd_line.proofs.LineEach.{Each, at_row_absent, at_row_each, each_found, each_join, each_named, first_none}
+use Rattle.dd_line.proofs.LineEach.{named_in, second_none}
 
 -- ---- the rows of one argument
 
@@ -88,6 +89,9 @@ module _ (name : Text) (how : Reading) (ok : AreRight) where
     passes = λ named. absurd (true≢false (sym named ∙ other));
     defaults = λ named. absurd (true≢false (sym named ∙ other));
   }
+
+  pub all_fit : (rules : List Rule) → Each Fits (named_in name rules) → Each Fits rules
+  all_fit rules own = each_named Fits name rules other_fits own
 
   -- the row is another argument's, or right
   abbrev pub Fine : Row → Type 0

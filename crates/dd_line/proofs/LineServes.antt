@@ -1,6 +1,6 @@
 -- Commands that are given what they need where their words have no fault.
-use Rattle.std.proofs.Common.{◌≡◌, Bool, true, false, List, [], Option, Some, None, is_some, codes, refl, sym, ◌∙◌}
-use Rattle.std.proofs.Common.{true≢false}
+use Rattle.std.proofs.Common.{◌≡◌, ◌≢◌, ◌≤◌, Bool, true, false, List, [], Option, Some, None, is_some, codes, refl}
+use Rattle.std.proofs.Common.{length, sym, ◌∙◌, true≢false}
 use Rattle.std.specs.List.{find}
 use Rattle.std.specs.Option.{option_map, option_map_or}
 use Rattle.std.specs.Prelude.{IfSome}
@@ -8,13 +8,18 @@ use Rattle.std.specs.Str.{bytes_eq}
 use Rattle.std.proofs.lemmas.Slice.Eq.{bytes_eq-Decides}
 use Rattle.clap.specs.Faults.{entered_fault, level_fault}
 use Rattle.clap.specs.Simple.{App, Shape, entered, label_of, rows_at}
-use Rattle.clap.specs.Walk.{Rule, Text, answers_to, nothing_held, rows_after}
-use Rattle.dd_line.specs.Line.{HasFlags, IsEnoughFor, NamesCommand, verb_name}
+use Rattle.clap.specs.Walk.{Row, Rule, Text, answers_to, first_of, nothing_held, rows_after}
+use Rattle.dd_line.specs.Line.{GivesInstances, GivesOneSet, NamesCommand, OnlyReads, TakesSources, given_for}
+use Rattle.dd_line.specs.Line.{given_paths, least_paths, verb_name}
 use Rattle.dd_line.specs.declared.line.Verb.{Verb}
-use Rattle.dd_line.proofs.LineEach.{Each, each_found}
+use Rattle.dd_line.specs.declared.line.Verb.TheVariants.{Withdraw, Check, List as ListSet}
+use Rattle.dd_line.proofs.LineEach.{Each, each_found, named_in}
+use Rattle.dd_line.proofs.LineFlag.{TakesFlag, flag_said}
 use Rattle.dd_line.proofs.LineHelp.{NotHelp}
 use Rattle.dd_line.proofs.LineLimit.{FitsLimit, level_limit}
-use Rattle.dd_line.proofs.LinePaths.{FitsValues, HasOne, HasOneAlone, IsAbsent}
+use Rattle.clap.specs.declared.builder.value_parser.Reading.TheVariants.{AsWritten}
+use Rattle.dd_line.proofs.LinePaths.{FitsValues, HasOne, HasOneAlone, IsAbsent, level_absent}
+use Rattle.dd_line.proofs.LineRows.{all_fit}
 
 -- ---- the command that is entered
 
@@ -52,19 +57,60 @@ help_serves s named none name met other words fault = go (bytes_eq s.name name) 
         absurd (true≢false (sym again ∙ other))
     go false t = let nothing = rw (t, none) at met in absurd (true≢false (sym nothing))
 
--- a command of the program
-pub verb_serves : (verb : Verb) (s : Shape) → s.name ≡ verb_name verb → s.args_override_self ≡ false
-    → Each FitsLimit s.rules
-    → ((words : List Text) → IsFaultless s words
-    → HasFlags (rows_after s.rules [] words) × IsEnoughFor verb (rows_after s.rules [] words)) → Serves s
-verb_serves verb s named once fits right name met other words none =
-    let has = right words none in (
+-- ---- a command of the program
+
+-- such a command has each flag, or is one that lacks it
+pub record TakesFlags (verb : Verb) (rules : List Rule) : Type 0 where
+  pub keys : TakesFlag (codes "keys") (verb ≢ Check) rules
+  pub strict : TakesFlag (codes "strict") (OnlyReads verb) rules
+  pub dry_run : TakesFlag (codes "dry-run") (OnlyReads verb) rules
+  pub quiet : TakesFlag (codes "quiet") (verb ≡ ListSet) rules
+  pub long : TakesFlag (codes "long") (verb ≢ ListSet) rules
+
+-- it is given the paths that it needs, and images only where it withdraws them
+pub record GivesWords (verb : Verb) (given : List Row) : Type 0 where
+  pub paths : least_paths verb ≤ length (given_paths given)
+  pub set : OnlyReads verb → GivesOneSet given
+  pub withdraw : verb ≡ Withdraw → GivesInstances given
+  pub uids : verb ≢ Withdraw → given_for (codes "instance") given ≡ []
+  pub files0_from : ¬ TakesSources verb → first_of (codes "files0-from") given ≡ None
+  pub out : TakesSources verb → length (given_for (codes "out") given) ≡ 1
+
+pub record IsCommand (verb : Verb) (s : Shape) : Type 0 where
+  pub named : s.name ≡ verb_name verb
+  pub once : s.args_override_self ≡ false
+  pub limits : Each FitsLimit s.rules
+  pub flags : TakesFlags verb s.rules
+  pub words : (words : List Text) → IsFaultless s words → GivesWords verb (rows_after s.rules [] words)
+
+pub verb_serves : (verb : Verb) (s : Shape) → IsCommand verb s → Serves s
+verb_serves verb s is name met other words none =
+    let given = is.words words none in
+    let flags = is.flags in
+    let keys = flag_said _ _ s words is.once none flags.keys in
+    let strict = flag_said _ _ s words is.once none flags.strict in
+    let dry_run = flag_said _ _ s words is.once none flags.dry_run in
+    let quiet = flag_said _ _ s words is.once none flags.quiet in
+    let long = flag_said _ _ s words is.once none flags.long in
+    let named = is.named in (
       verb,
       rows_after s.rules [] words,
       rw named refl,
-      level_limit s words fits once none,
-      has.0,
-      has.1,
+      level_limit s words is.limits is.once none,
+      record { keys = keys.0; strict = strict.0; dry_run = dry_run.0; quiet = quiet.0; long = long.0 },
+      record {
+        paths = given.paths;
+        set = given.set;
+        withdraw = given.withdraw;
+        uids = given.uids;
+        files0_from = given.files0_from;
+        out = given.out;
+        keys = keys.1;
+        strict = strict.1;
+        dry_run = dry_run.1;
+        quiet = quiet.1;
+        long = long.1;
+      },
     )
 
 -- ---- which values a rule gives an argument
@@ -80,3 +126,20 @@ FitsOne name = FitsValues name HasOneAlone
 -- the rule gives this argument nothing
 abbrev pub FitsNone : Text → Rule → Type 0
 FitsNone name = FitsValues name IsAbsent
+
+-- no rule has this name, so none gives it anything
+pub none_named : (name : Text) (rules : List Rule) → named_in name rules ≡ [] → Each (FitsNone name) rules
+none_named name rules none = all_fit name AsWritten (λ _. IsAbsent) rules (rw none tt)
+
+pub none_found : (name : Text) (s : Shape) (words : List Text) → s.args_override_self ≡ false → IsFaultless s words
+    → named_in name s.rules ≡ [] → find (λ r. bytes_eq r.id name) (rows_after s.rules [] words) ≡ None
+none_found name s words once none lacks =
+    level_absent name IsAbsent s words (none_named name s.rules lacks) once none (λ values never. never)
+
+pub none_given : (name : Text) (s : Shape) (words : List Text) → s.args_override_self ≡ false → IsFaultless s words
+    → named_in name s.rules ≡ [] → given_for name (rows_after s.rules [] words) ≡ []
+none_given name s words once none lacks = rw (none_found name s words once none lacks) refl
+
+pub no_first : (name : Text) (s : Shape) (words : List Text) → s.args_override_self ≡ false → IsFaultless s words
+    → named_in name s.rules ≡ [] → first_of name (rows_after s.rules [] words) ≡ None
+no_first name s words once none lacks = rw (none_found name s words once none lacks) refl

@@ -1,10 +1,13 @@
 -- The command line: which commands and arguments the program has, and what a line asks for.
 --
---   dicomdir index [--id ID] [--uid UID] [--max-bytes N] [--strict] OUT SRC...
---   dicomdir merge [--id ID] [--uid UID] [--max-bytes N] OUT SET...
---   dicomdir withdraw [--id ID] [--uid UID] [--max-bytes N] OUT SET UID...
---   dicomdir check [--keys] SET
---   dicomdir list SET
+--   dicomdir index [OPTIONS] [--files0-from FILE] OUT SRC...
+--   dicomdir merge [OPTIONS] [--files0-from FILE] OUT SET...
+--   dicomdir withdraw [OPTIONS] OUT SET UID...
+--   dicomdir check [--keys] [--quiet] SET
+--   dicomdir list [--long] SET
+--
+-- OPTIONS are `[--id ID] [--uid UID] [--max-bytes N] [--strict] [--dry-run] [--quiet]`. Where `--files0-from` is given,
+-- SRC or SET may be left out.
 use Rattle.std.specs.Prelude.{◌≡◌, ◌≢◌, ◌++◌, [], ℕ, List, Option, Some, None, map, string_bytes, String}
 use Rattle.std.specs.Prelude.{Bool, Contains, codes, length, option_map, pos, ◌≤◌, true, false, unwrap_or}
 use Rattle.std.specs.Str.Parse.{IsNumeral, signed_digits_value, without_leading_sign}
@@ -18,7 +21,7 @@ use Rattle.clap.specs.declared.builder.command.Command.{Command}
 use Rattle.clap.specs.declared.builder.command.Command.TheViews.{out-Command as fields_of}
 use Rattle.clap.specs.declared.builder.value_parser.ValueParser.TheVariants.{Signed}
 use Rattle.clap.specs.declared.error.Error.{Error}
-use Rattle.clap.specs.declared.error.kind.ErrorKind.TheVariants.{OutOfMemory}
+use Rattle.clap.specs.declared.error.kind.ErrorKind.TheVariants.{MissingRequiredArgument, OutOfMemory}
 use Rattle.std.specs.Prelude.{◌⊎◌}
 use Rattle.dd_elem.specs.SetId.{IsSetId}
 use Rattle.dd_elem.specs.Uid.{IsUid}
@@ -40,12 +43,24 @@ uid_name = codes "uid"
 abbrev pub max_bytes_name : Text
 max_bytes_name = codes "max-bytes"
 
+abbrev pub files0_from_name : Text
+files0_from_name = codes "files0-from"
+
 -- the names of the flags
 abbrev pub keys_name : Text
 keys_name = codes "keys"
 
 abbrev pub strict_name : Text
 strict_name = codes "strict"
+
+abbrev pub dry_run_name : Text
+dry_run_name = codes "dry-run"
+
+abbrev pub quiet_name : Text
+quiet_name = codes "quiet"
+
+abbrev pub long_name : Text
+long_name = codes "long"
 
 -- the names of the paths
 abbrev pub out_name : Text
@@ -95,27 +110,36 @@ some_paths name = record (one_path name) {
   range = Some (record { start_inclusive = 1; end_inclusive = 18446744073709551615 });
 }
 
--- a command that labels a directory: `[--id ID] [--uid UID]`
-abbrev pub labelled_app : Text → App
-labelled_app name = with_rule (with_rule (new_app name)
-    (text_option id_name))
-    (text_option uid_name)
+-- any number of paths, or none
+abbrev pub any_paths : Text → Rule
+any_paths name = record (some_paths name) { required = false }
 
--- one that writes it: `[--id ID] [--uid UID] [--max-bytes N] OUT`
+-- a command that labels a directory of some size: `[--id ID] [--uid UID] [--max-bytes N]`
+abbrev pub labelled_app : Text → App
+labelled_app name = with_rule (with_rule (with_rule (new_app name)
+    (text_option id_name))
+    (text_option uid_name))
+    (number_option max_bytes_name)
+
+-- one that writes it: `[--id ID] [--uid UID] [--max-bytes N] [--strict] [--dry-run] [--quiet] OUT`
 abbrev pub writing_app : Text → App
-writing_app name = with_rule (with_rule (labelled_app name)
-    (number_option max_bytes_name))
+writing_app name = with_rule (with_rule (with_rule (with_rule (labelled_app name)
+    (flag strict_name))
+    (flag dry_run_name))
+    (flag quiet_name))
     (one_path out_name)
 
--- `index [--id ID] [--uid UID] [--max-bytes N] [--strict] OUT SRC...`
+-- `index`, with the options of a command that writes, and `[--files0-from FILE] OUT [SRC]...`
 abbrev pub index_app : App
-index_app = with_rule (with_rule (writing_app (verb_name Index)) (some_paths source_name)) (flag strict_name)
+index_app =
+    with_rule (with_rule (writing_app (verb_name Index)) (text_option files0_from_name)) (any_paths source_name)
 
--- `merge [--id ID] [--uid UID] [--max-bytes N] OUT SET...`
+-- `merge`, with those options, and `[--files0-from FILE] OUT [SET]...`
 abbrev pub merge_app : App
-merge_app = with_rule (writing_app (verb_name Merge)) (some_paths set_name)
+merge_app =
+    with_rule (with_rule (writing_app (verb_name Merge)) (text_option files0_from_name)) (any_paths set_name)
 
--- `withdraw [--id ID] [--uid UID] [--max-bytes N] OUT SET UID...`
+-- `withdraw`, with the options of a command that writes, and `OUT SET UID...`
 abbrev pub withdraw_app : App
 withdraw_app =
     with_rule (with_rule (writing_app (verb_name Withdraw)) (one_path set_name)) (some_paths instance_name)
@@ -124,9 +148,13 @@ withdraw_app =
 abbrev pub reading_app : Text → App
 reading_app name = with_rule (new_app name) (one_path set_name)
 
--- `check [--keys] SET`
+-- `check [--keys] [--quiet] SET`
 abbrev pub check_app : App
-check_app = with_rule (reading_app (verb_name Check)) (flag keys_name)
+check_app = with_rule (with_rule (reading_app (verb_name Check)) (flag keys_name)) (flag quiet_name)
+
+-- `list [--long] SET`
+abbrev pub list_app : App
+list_app = with_rule (reading_app (verb_name ListSet)) (flag long_name)
 
 -- the app has a version, which `--version` asks for
 abbrev pub with_version : App → App
@@ -144,7 +172,7 @@ dicomdir_app = with_subcommand (with_subcommand (with_subcommand (with_subcomman
     merge_app.top)
     withdraw_app.top)
     check_app.top)
-    (reading_app (verb_name ListSet)).top
+    list_app.top
 
 -- ---- what a line asks for
 
@@ -163,8 +191,8 @@ given_paths given = given_for out_name given
 
 -- the least number of paths that a command of this kind is given
 abbrev pub least_paths : Verb → ℕ
-least_paths Index = 2
-least_paths Merge = 2
+least_paths Index = 1
+least_paths Merge = 1
 least_paths Withdraw = 2
 least_paths Check = 1
 least_paths ListSet = 1
@@ -177,14 +205,22 @@ OnlyReads Withdraw = ⊥
 OnlyReads Check = Unit {0}
 OnlyReads ListSet = Unit {0}
 
+-- the command makes a file-set of sources, which are files or file-sets
+abbrev pub TakesSources : Verb → Type 0
+TakesSources Index = Unit {0}
+TakesSources Merge = Unit {0}
+TakesSources Withdraw = ⊥
+TakesSources Check = ⊥
+TakesSources ListSet = ⊥
+
 -- the number that the text of `--max-bytes` spells in decimal, or the most that there is where it is not given
 abbrev pub IsLimit : Option Text → ℕ → Type 0
 IsLimit None limit = limit ≡ most_bytes
 IsLimit (Some text) limit =
     IsNumeral 10 (without_leading_sign text) × (signed_digits_value 10 text ≡ pos limit)
 
--- the line asks for the command that its words name, with the values that they give, and has `keys` exactly where
--- they set the flag `--keys`, and `strict` exactly where they set `--strict`
+-- the line asks for the command that its words name, with the values that they give, and has each flag exactly where
+-- they set it
 pub record Asks (a : Asked) (command : Text) (given : List Row) : Type 0 where
   pub verb : verb_name a.verb ≡ command
   pub id : option_map string_bytes a.id ≡ first_of id_name given
@@ -194,6 +230,10 @@ pub record Asks (a : Asked) (command : Text) (given : List Row) : Type 0 where
   pub uids : words_of a.uids.items ≡ given_for instance_name given
   pub keys : a.keys ≡ is_given keys_name given
   pub strict : a.strict ≡ is_given strict_name given
+  pub dry_run : a.dry_run ≡ is_given dry_run_name given
+  pub quiet : a.quiet ≡ is_given quiet_name given
+  pub long : a.long ≡ is_given long_name given
+  pub files0_from : option_map string_bytes a.files0_from ≡ first_of files0_from_name given
 
 -- the path of one file-set, no ID, no UID, and the limit that stands where none is given
 pub record AsksForOneSet (a : Asked) : Type 0 where
@@ -207,6 +247,12 @@ pub record AsksForOneSet (a : Asked) : Type 0 where
 pub record AsksToWithdraw (a : Asked) : Type 0 where
   pub paths : length a.paths.items ≡ 2
   pub uids : 1 ≤ length a.uids.items
+
+-- a command that takes sources, with the folder that it writes to alone, and no file of names
+pub record AsksNoSource (a : Asked) : Type 0 where
+  pub takes : TakesSources a.verb
+  pub paths : length a.paths.items ≤ 1
+  pub files0_from : a.files0_from ≡ None
 
 -- the command and the values are those of the command that the words name
 abbrev pub IsAsked : Asked → Option (Text × List Row) → Type 0
@@ -230,8 +276,12 @@ abbrev pub HasFlag : Text → List Row → Type 0
 HasFlag name given = IsFlagText (is_given name given) (one_of name given)
 
 -- so does the text of each flag
-abbrev pub HasFlags : List Row → Type 0
-HasFlags given = HasFlag keys_name given × HasFlag strict_name given
+pub record HasFlags (given : List Row) : Type 0 where
+  pub keys : HasFlag keys_name given
+  pub strict : HasFlag strict_name given
+  pub dry_run : HasFlag dry_run_name given
+  pub quiet : HasFlag quiet_name given
+  pub long : HasFlag long_name given
 
 -- the path of one file-set was given, and no option with a value
 pub record GivesOneSet (given : List Row) : Type 0 where
@@ -245,15 +295,20 @@ pub record GivesInstances (given : List Row) : Type 0 where
   pub paths : length (given_paths given) ≡ 2
   pub instances : 1 ≤ length (given_for instance_name given)
 
--- such a command was given what it needs, images only where it withdraws them, and each flag only where it is the
--- command that has the flag
+-- such a command was given what it needs: images only where it withdraws them, each flag only where it has the flag,
+-- a file of names only where it takes sources, and then one folder to write to
 pub record IsEnoughFor (verb : Verb) (given : List Row) : Type 0 where
   pub paths : least_paths verb ≤ length (given_paths given)
   pub set : OnlyReads verb → GivesOneSet given
   pub withdraw : verb ≡ Withdraw → GivesInstances given
   pub uids : verb ≢ Withdraw → given_for instance_name given ≡ []
   pub keys : verb ≢ Check → is_given keys_name given ≡ false
-  pub strict : verb ≢ Index → is_given strict_name given ≡ false
+  pub strict : OnlyReads verb → is_given strict_name given ≡ false
+  pub dry_run : OnlyReads verb → is_given dry_run_name given ≡ false
+  pub quiet : verb ≡ ListSet → is_given quiet_name given ≡ false
+  pub long : verb ≢ ListSet → is_given long_name given ≡ false
+  pub files0_from : ¬ TakesSources verb → first_of files0_from_name given ≡ None
+  pub out : TakesSources verb → length (given_for out_name given) ≡ 1
 
 -- the words name a command, and give it what it needs
 abbrev pub NamesCommand : Option (Text × List Row) → Type 0
@@ -264,6 +319,18 @@ NamesCommand found = (verb : Verb) × (given : List Row) × (found ≡ Some (ver
 abbrev pub IsCheck : Option (Text × List Row) → Type 0
 IsCheck None = ⊥
 IsCheck (Some (command, given)) = command ≡ verb_name Check
+
+-- the command that they name is `check` or `list`, which write nothing
+abbrev pub IsReading : Option (Text × List Row) → Type 0
+IsReading None = ⊥
+IsReading (Some (command, given)) = (command ≡ verb_name Check) ⊎ (command ≡ verb_name ListSet)
+
+-- the command that they name is `index` or `merge`, and they give it no source, and no file of names
+abbrev pub LacksSources : Option (Text × List Row) → Type 0
+LacksSources None = ⊥
+LacksSources (Some (command, given)) = ((command ≡ verb_name Index) ⊎ (command ≡ verb_name Merge))
+    × (given_for source_name given ≡ []) × (given_for set_name given ≡ [])
+    × (first_of files0_from_name given ≡ None)
 
 -- the words give the option of this name this value
 abbrev pub GivesOption : Text → Option (Text × List Row) → Text → Type 0
@@ -291,6 +358,11 @@ AsksBadName a = ((id : Text) × (option_map string_bytes a.id ≡ Some id) × ¬
 abbrev pub IsRefusedFor : Kinds → LineFault → Type 0
 IsRefusedFor kinds (Refused e) = (kind_of e ≢ OutOfMemory) × IsAmong (kind_of e) kinds
 IsRefusedFor kinds Memory = Unit {0}
+
+-- a refusal says that an argument is missing
+abbrev pub IsMissingArgument : LineFault → Type 0
+IsMissingArgument (Refused e) = kind_of e ≡ MissingRequiredArgument
+IsMissingArgument Memory = ⊥
 
 -- the fault of an error of the parser
 abbrev pub IsFaultOf : Error → LineFault → Type 0

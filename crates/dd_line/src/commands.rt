@@ -1,12 +1,14 @@
 //! The commands of the program, as the parser gets them.
-ghost use Rattle.std.specs.Prelude.{IfOk};
-ghost use Rattle.dd_line.specs.Line.{HasApp, HasRule, check_app, dicomdir_app, flag, index_app, labelled_app};
-ghost use Rattle.dd_line.specs.Line.{merge_app, number_option, one_path, reading_app, some_paths, text_option};
-ghost use Rattle.dd_line.specs.Line.{verb_name, withdraw_app, writing_app};
-ghost use Rattle.dd_line.specs.declared.line.Verb.{Verb};
+ghost use Rattle.std.specs.Prelude.{◌≡◌, IfOk};
+ghost use Rattle.clap.specs.Words.{kind_of};
+ghost use Rattle.dd_line.specs.Line.{HasApp, HasRule, any_paths, check_app, dicomdir_app, files0_from_name, flag};
+ghost use Rattle.dd_line.specs.Line.{index_app, labelled_app, list_app, merge_app, number_option, one_path};
+ghost use Rattle.dd_line.specs.Line.{reading_app, some_paths, text_option, withdraw_app, writing_app};
 
 use crate::endings;
-use clap::{Arg, ArgAction, Command, value_parser};
+use crate::line::Verb;
+use clap::error::ErrorKind;
+use clap::{Arg, ArgAction, Command, Error, value_parser};
 use std::alloc::{AllocError, Global};
 
 /// The version of the program.
@@ -19,10 +21,18 @@ pub(crate) const UID: &str = "uid";
 
 pub(crate) const MAX_BYTES: &str = "max-bytes";
 
+pub(crate) const FILES0_FROM: &str = "files0-from";
+
 // The names of the flags.
 pub(crate) const KEYS: &str = "keys";
 
 pub(crate) const STRICT: &str = "strict";
+
+pub(crate) const DRY_RUN: &str = "dry-run";
+
+pub(crate) const QUIET: &str = "quiet";
+
+pub(crate) const LONG: &str = "long";
 
 // The names of the paths.
 pub(crate) const OUT: &str = "out";
@@ -78,7 +88,26 @@ fn paths<'a>(alloc: Global, name: &'a str, value_name: &'a str, help: &'a str) -
     path(alloc, name, value_name, help).num_args(1..)
 }
 
-/// Makes a command that labels a directory, with the options for that.
+/// Makes an argument of any number of paths, or none.
+fn any_paths<'a>(alloc: Global, name: &'a str, value_name: &'a str, help: &'a str) -> Arg<'a>
+    ensures { HasRule (any_paths name.entry.now) result }
+{
+    paths(alloc, name, value_name, help).required(false)
+}
+
+/// Makes the option that names a file of paths.
+fn files0_from<'a>(alloc: Global) -> Arg<'a>
+    ensures { HasRule (text_option files0_from_name) result }
+{
+    option(
+        alloc,
+        FILES0_FROM,
+        "FILE",
+        "Reads names from FILE, or -, ended by zero bytes",
+    )
+}
+
+/// Makes a command that labels a directory of some size, with the options for that.
 fn labelled<'a>(alloc: Global, name: &'a str, about: &'a str) -> Result<Command<'a>, AllocError>
     ensures { IfOk result (HasApp (labelled_app name.entry.now)) }
 {
@@ -94,7 +123,13 @@ fn labelled<'a>(alloc: Global, name: &'a str, about: &'a str) -> Result<Command<
             alloc,
             UID,
             "UID",
-            "UID of the file-set; by default made from its content",
+            "UID of the file-set; else made from its content",
+        ))?
+        .arg(number(
+            alloc,
+            MAX_BYTES,
+            "N",
+            "Most bytes of DICOMDIR; by default 4294967295",
         ))
 }
 
@@ -103,12 +138,13 @@ fn writing<'a>(alloc: Global, name: &'a str, about: &'a str) -> Result<Command<'
     ensures { IfOk result (HasApp (writing_app name.entry.now)) }
 {
     labelled(alloc, name, about)?
-        .arg(number(
+        .arg(flag(
             alloc,
-            MAX_BYTES,
-            "N",
-            "Most bytes of DICOMDIR; by default 4294967295",
+            STRICT,
+            "Makes nothing where something would be left out",
         ))?
+        .arg(flag(alloc, DRY_RUN, "Makes nothing, and says what it would make"))?
+        .arg(flag(alloc, QUIET, "Shows no progress"))?
         .arg(path(
             alloc,
             OUT,
@@ -123,18 +159,12 @@ fn index_command<'a>(alloc: Global) -> Result<Command<'a>, AllocError>
 {
     let about = "Makes a file-set of image files: copies them, writes its DICOMDIR";
     let command = writing(alloc, "index", about)?.after_help(endings::INDEX);
-    command
-        .arg(paths(
-            alloc,
-            SOURCE,
-            "SRC",
-            "DICOM files; one that is no image, or lacks a key, is skipped",
-        ))?
-        .arg(flag(
-            alloc,
-            STRICT,
-            "Makes nothing where a source would be skipped",
-        ))
+    command.arg(files0_from(alloc))?.arg(any_paths(
+        alloc,
+        SOURCE,
+        "SRC",
+        "DICOM files; one that is no image, or lacks a key, is skipped",
+    ))
 }
 
 /// Makes the command `merge`.
@@ -143,7 +173,7 @@ fn merge_command<'a>(alloc: Global) -> Result<Command<'a>, AllocError>
 {
     let about = "Makes a file-set of others: copies their images, writes its DICOMDIR";
     let command = writing(alloc, "merge", about)?.after_help(endings::MERGE);
-    command.arg(paths(
+    command.arg(files0_from(alloc))?.arg(any_paths(
         alloc,
         SET,
         "SET",
@@ -190,19 +220,40 @@ fn check_command<'a>(alloc: Global) -> Result<Command<'a>, AllocError>
 {
     let about = "Checks that the files which a DICOMDIR names are there and unchanged";
     let command = reading(alloc, "check", about)?.after_help(endings::CHECK);
-    command.arg(flag(
-        alloc,
-        KEYS,
-        "Also compares what each image file says of itself with its record",
-    ))
+    command
+        .arg(flag(
+            alloc,
+            KEYS,
+            "Also compares what each image says of itself with its record",
+        ))?
+        .arg(flag(alloc, QUIET, "Shows no progress"))
 }
 
 /// Makes the command `list`.
 fn list_command<'a>(alloc: Global) -> Result<Command<'a>, AllocError>
-    ensures { IfOk result (HasApp (reading_app (verb_name Verb.List))) }
+    ensures { IfOk result (HasApp list_app) }
 {
     let about = "Lists the records of a DICOMDIR, those of other programs too";
-    Ok(reading(alloc, "list", about)?.after_help(endings::LIST))
+    let command = reading(alloc, "list", about)?.after_help(endings::LIST);
+    command.arg(flag(
+        alloc,
+        LONG,
+        "Also prints names, dates, times, modalities and numbers",
+    ))
+}
+
+/// Makes the error of a line that names no source.
+pub(crate) fn no_source(alloc: Global, verb: Verb) -> Result<Error, AllocError>
+    ensures { IfOk result (λ e. kind_of e ≡ ErrorKind.MissingRequiredArgument) }
+{
+    let mut command = match verb {
+        Verb::Merge => merge_command(alloc)?.bin_name("dicomdir merge")?,
+        _ => index_command(alloc)?.bin_name("dicomdir index")?,
+    };
+    command.error(
+        ErrorKind::MissingRequiredArgument,
+        "no source is given: name one, or give --files0-from FILE",
+    )
 }
 
 /// Makes the program with its commands.

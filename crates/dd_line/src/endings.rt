@@ -20,16 +20,25 @@ and docs/FAULTS.md explain each fault and what to do about it.";
 
 /// The end of the help of `index`.
 pub(crate) const INDEX: &str = "\
-Example:
+Examples:
   dicomdir index DISC1 images/* --id DISC1
+  find DIR -type f -print0 | dicomdir index DISC1 --files0-from -
 
 Lines of the output:
   SKIP <path>: <fault>            This source is left out. The others go on.
+  NOTE <path>: left out for <path>: same SOP Instance UID <uid>, other bytes
+                                  Two sources say that they are one image.
+  NOTE -: Patient ID <id> has <n> names: <name>, <name>, ..
+                                  The record of the patient gets the first.
+  NOTE <path>: has <uid>          This source is one of the two of a fault 41.
   DONE <n> instances, <b> bytes   The file-set is whole. Its DICOMDIR has <b>
                                   bytes. Compare <n> with your images: the
                                   status is 0 where sources were left out, too.
-                                  With --strict it is then 1, after
-                                  FAULT -: 98 Strict, and nothing was made.
+                                  With --strict it is 1 behind SKIP and NOTE
+                                  lines (98 Strict), and nothing was made.
+  PLAN <n> instances, <b> bytes, <t> bytes of images
+                                  With --dry-run, in place of DONE. Nothing was
+                                  made; the file-set would have these.
 
 Sources:
   Left out is what is no DICOM file, is no image of a class that is taken (CR,
@@ -37,6 +46,8 @@ Sources:
   has a transfer syntax that is not taken (deflated, big endian, MPEG), or
   lacks a key. A folder is refused: name its files. Of two files with one SOP
   Instance UID, the one with the greater SHA-256 is kept.
+  --files0-from FILE adds the names that FILE holds, each ended by a zero byte.
+  Where FILE is -, they are read from the standard input.
 
 An ID has up to 16 characters of A to Z, 0 to 9 and _.";
 
@@ -45,12 +56,19 @@ pub(crate) const MERGE: &str = "\
 Example:
   dicomdir merge BOTH DISC1 DISC2
 
-Line of the output:
+Lines of the output:
+  NOTE ..                         See 'dicomdir index --help'. With --strict
+                                  the status is then 1, behind
+                                  FAULT -: 98 Strict, and nothing was made.
   DONE <n> instances, <b> bytes   The file-set is whole. Its DICOMDIR has <b>
                                   bytes.
+  PLAN <n> instances, <b> bytes   With --dry-run, in place of DONE. Nothing was
+                                  made; the file-set would have these.
 
 Each image is compared with its record while it is copied. The order of the
 file-sets does not matter. Run 'dicomdir check' on each of them first.
+--files0-from FILE adds the names that FILE holds, each ended by a zero byte.
+Where FILE is -, they are read from the standard input.
 
 An ID has up to 16 characters of A to Z, 0 to 9 and _.";
 
@@ -59,9 +77,14 @@ pub(crate) const WITHDRAW: &str = "\
 Example:
   dicomdir withdraw NEW DISC1 1.2.840.113619.2.1.5
 
-Line of the output:
+Lines of the output:
+  NOTE ..                         See 'dicomdir index --help'. With --strict
+                                  the status is then 1, behind
+                                  FAULT -: 98 Strict, and nothing was made.
   DONE <n> instances, <b> bytes   The file-set is whole. Its DICOMDIR has <b>
                                   bytes.
+  PLAN <n> instances, <b> bytes   With --dry-run, in place of DONE. Nothing was
+                                  made; the file-set would have these.
 
 Whatever file-set NEW is merged with, no image with these UIDs is kept.
 
@@ -87,4 +110,8 @@ Each line has the offset of a record, its type, and what it is known by: its
 Patient ID, Study or Series Instance UID, or File ID. It is indented by level,
 and ends in 'inactive' where the record is not in use. WITHDRAWN lines name the
 instances that no merge brings back. The last line counts the records, and
-those that no offset leads to.";
+those that no offset leads to.
+
+With --long the first line is FILE-SET <id> <uid>, and these values stand
+behind ' | ': the patient's name; the date, time and description of a study;
+the modality and number of a series; the number of an image; - for none.";

@@ -1,15 +1,19 @@
 //! The command line: which command its words name, with its values.
-ghost use Rattle.std.specs.Prelude.{◌≡◌, ◌≢◌, ◌++◌, [], false, string_bytes, true};
+ghost use Rattle.std.specs.Prelude.{◌≡◌, ◌≢◌, ◌++◌, ◌↔◌, ◌⊎◌, [], None, false, string_bytes, true};
 ghost use Rattle.std.specs.Prelude.{IfErr, IfOk, IsOk, MatchResult, length, option_map, ◌≤◌};
 ghost use Rattle.clap.specs.Takes.{is_given};
 ghost use Rattle.clap.specs.Words.{fault_of, first_of, found_of, rows_of, takes};
 ghost use Rattle.clap.specs.Words.{subcommand_of, subcommand_rows_of};
-ghost use Rattle.dd_line.specs.Line.{Asks, AsksForOneSet, AsksToWithdraw, HasFlag, HasFlags, HasLimit, IsAsked};
-ghost use Rattle.dd_line.specs.Line.{IsEnoughFor, IsLimit, IsRefusedFor, NamesCommand, OnlyReads, dicomdir_app};
-ghost use Rattle.dd_line.specs.Line.{given_for, given_paths, instance_name, least_paths, max_bytes_name};
-ghost use Rattle.dd_line.specs.Line.{verb_name, words_of};
+ghost use Rattle.dd_line.specs.Line.{Asks, AsksForOneSet, AsksNoSource, AsksToWithdraw, HasFlag, HasFlags};
+ghost use Rattle.dd_line.specs.Line.{HasLimit, IsAsked, IsEnoughFor, IsLimit, IsMissingArgument, IsReading};
+ghost use Rattle.dd_line.specs.Line.{IsRefusedFor, LacksSources, NamesCommand, OnlyReads, TakesSources};
+ghost use Rattle.dd_line.specs.Line.{dicomdir_app, given_for, given_paths, instance_name, least_paths};
+ghost use Rattle.dd_line.specs.Line.{max_bytes_name, verb_name, words_of};
 
-use crate::commands::{ID, INSTANCE, KEYS, MAX_BYTES, OUT, SET, SOURCE, STRICT, UID, program};
+use crate::commands::{
+    DRY_RUN, FILES0_FROM, ID, INSTANCE, KEYS, LONG, MAX_BYTES, OUT, QUIET, SET, SOURCE, STRICT,
+    UID, no_source, program,
+};
 use clap::ArgMatches;
 use clap::error::ErrorKind;
 use std::alloc::{AllocError, Global};
@@ -18,20 +22,23 @@ use thiserror::Error;
 /// A command of the program.
 #[derive(Clone, Copy, Debug, PartialEq, Eq)]
 pub enum Verb {
-    /// Makes a file-set of files, with copies of them and its directory: `index [--strict] OUT SRC...`.
+    /// Makes a file-set of files, with copies of them and its directory: `index OUT SRC...`, where
+    /// `--files0-from FILE` may stand for SRC, or add to it.
     Index,
-    /// Makes a file-set of other file-sets likewise: `merge OUT SET...`.
+    /// Makes a file-set of other file-sets likewise: `merge OUT SET...`, where `--files0-from FILE` may stand for SET,
+    /// or add to it.
     Merge,
     /// Makes such a file-set of one file-set without some of its images, for good: `withdraw OUT SET UID...`.
     Withdraw,
-    /// Compares the files of a file-set with its directory: `check [--keys] SET`.
+    /// Compares the files of a file-set with its directory: `check [--keys] [--quiet] SET`.
     Check,
-    /// Lists the records of a directory: `list SET`.
+    /// Lists the records of a directory: `list [--long] SET`.
     List,
 }
 
-/// Says what a command line asks for. `withdraw` has two paths, and one SOP Instance UID at least. `check` and
-/// `list` have one path alone, no ID, no UID, and 4294967295 as the most bytes.
+/// Says what a command line asks for. `index` and `merge` have one path at least, and two where they have no file
+/// of names. `withdraw` has two paths, and one SOP Instance UID at least. `check` and `list` have one path alone, no
+/// ID, no UID, and 4294967295 as the most bytes.
 #[derive(Debug, Drop)]
 pub struct Asked {
     /// The command.
@@ -50,8 +57,20 @@ pub struct Asked {
     /// Whether the flag `--keys` is set, by which `check` also compares what each file says of itself with its
     /// record. False for every other command.
     pub keys: bool,
-    /// Whether `index` is refused where a source is left out: `index --strict`. False for every other command.
+    /// Whether the command is refused where it would leave something out: `--strict` of a command that writes.
+    /// False for `check` and `list`.
     pub strict: bool,
+    /// Whether the command says what it would make, and makes nothing: `--dry-run` of a command that writes.
+    /// False for `check` and `list`.
+    pub dry_run: bool,
+    /// Whether the command prints nothing where all is well: `--quiet`. False for `list`.
+    pub quiet: bool,
+    /// Whether `list` also prints the names, dates, times, modalities and numbers of the records: `list --long`.
+    /// False for every other command.
+    pub long: bool,
+    /// The file that holds names of more sources, each ended by a zero byte: `--files0-from FILE`. `None` where the
+    /// line has none, and for every command but `index` and `merge`.
+    pub files0_from: Option<String>,
 }
 
 /// Says why a command line asks for nothing.
@@ -163,7 +182,11 @@ fn asked_by(alloc: Global, verb: Verb, given: &ArgMatches<'_>) -> Result<Asked, 
     ensures withdraw { IfOk result (λ asked. asked.verb ≡ Verb.Withdraw → AsksToWithdraw asked) }
     ensures uids { IfOk result (λ asked. asked.verb ≢ Verb.Withdraw → asked.uids.items ≡ []) }
     ensures keys { IfOk result (λ asked. asked.verb ≢ Verb.Check → asked.keys ≡ false) }
-    ensures strict { IfOk result (λ asked. asked.verb ≢ Verb.Index → asked.strict ≡ false) }
+    ensures strict { IfOk result (λ asked. OnlyReads asked.verb → asked.strict ≡ false) }
+    ensures dry { IfOk result (λ asked. OnlyReads asked.verb → asked.dry_run ≡ false) }
+    ensures quiet { IfOk result (λ asked. asked.verb ≡ Verb.List → asked.quiet ≡ false) }
+    ensures long { IfOk result (λ asked. asked.verb ≢ Verb.List → asked.long ≡ false) }
+    ensures files { IfOk result (λ asked. ¬ TakesSources asked.verb → asked.files0_from ≡ None) }
 {
     Ok(Asked {
         verb,
@@ -174,6 +197,10 @@ fn asked_by(alloc: Global, verb: Verb, given: &ArgMatches<'_>) -> Result<Asked, 
         uids: uids_of(alloc, given)?,
         keys: flag_of(given, KEYS),
         strict: flag_of(given, STRICT),
+        dry_run: flag_of(given, DRY_RUN),
+        quiet: flag_of(given, QUIET),
+        long: flag_of(given, LONG),
+        files0_from: value_of(alloc, given, FILES0_FROM)?,
     })
 }
 
@@ -186,7 +213,11 @@ fn asked_of(alloc: Global, found: &ArgMatches<'_>) -> Result<Asked, AllocError>
     ensures withdraw { IfOk result (λ asked. asked.verb ≡ Verb.Withdraw → AsksToWithdraw asked) }
     ensures uids { IfOk result (λ asked. asked.verb ≢ Verb.Withdraw → asked.uids.items ≡ []) }
     ensures keys { IfOk result (λ asked. asked.verb ≢ Verb.Check → asked.keys ≡ false) }
-    ensures strict { IfOk result (λ asked. asked.verb ≢ Verb.Index → asked.strict ≡ false) }
+    ensures strict { IfOk result (λ asked. OnlyReads asked.verb → asked.strict ≡ false) }
+    ensures dry { IfOk result (λ asked. OnlyReads asked.verb → asked.dry_run ≡ false) }
+    ensures quiet { IfOk result (λ asked. asked.verb ≡ Verb.List → asked.quiet ≡ false) }
+    ensures long { IfOk result (λ asked. asked.verb ≢ Verb.List → asked.long ≡ false) }
+    ensures files { IfOk result (λ asked. ¬ TakesSources asked.verb → asked.files0_from ≡ None) }
 {
     match found.subcommand() {
         Some(("index", given)) => asked_by(alloc, Verb::Index, given),
@@ -212,9 +243,30 @@ fn parsed<'a>(alloc: Global, words: &'a [String]) -> Result<ArgMatches<'a>, Line
     Ok(program(alloc)?.try_get_matches_from(words)?)
 }
 
+/// Says whether a line names no source for a command that takes sources.
+fn lacks_sources(asked: &Asked) -> bool
+    ensures { result ≡ true ↔ AsksNoSource asked.now }
+{
+    matches!(asked.verb, Verb::Index | Verb::Merge)
+        && asked.paths.len() <= 1
+        && asked.files0_from.is_none()
+}
+
+/// Refuses a line that names no source for a command that takes sources.
+fn refuse_no_source(alloc: Global, asked: &Asked) -> Result<(), LineFault>
+    ensures { MatchResult result (λ _. ¬ AsksNoSource asked.now)
+        (λ fault. (fault ≡ LineFault.Memory) ⊎ (AsksNoSource asked.now × IsMissingArgument fault)) }
+{
+    if lacks_sources(asked) {
+        return Err(LineFault::Refused(no_source(alloc, asked.verb)?));
+    }
+    Ok(())
+}
+
 /// Reads what the words of a command line ask for. The first word is the program's name.
 ///
-/// A line that the program does not take, or that asks for help, is `Refused`.
+/// A line that the program does not take, or that asks for help, is `Refused`. So is one that names no source for
+/// `index` or `merge`, by a `SRC` or `SET` or by `--files0-from`.
 pub fn read_words(alloc: Global, words: &[String]) -> Result<Asked, LineFault>
     ensures asked { IfOk result (λ asked.
         IsAsked asked (subcommand_of dicomdir_app (words_of words.now))) }
@@ -223,14 +275,28 @@ pub fn read_words(alloc: Global, words: &[String]) -> Result<Asked, LineFault>
     ensures withdraw { IfOk result (λ asked. asked.verb ≡ Verb.Withdraw → AsksToWithdraw asked) }
     ensures uids { IfOk result (λ asked. asked.verb ≢ Verb.Withdraw → asked.uids.items ≡ []) }
     ensures keys { IfOk result (λ asked. asked.verb ≢ Verb.Check → asked.keys ≡ false) }
-    ensures strict { IfOk result (λ asked. asked.verb ≢ Verb.Index → asked.strict ≡ false) }
+    ensures strict { IfOk result (λ asked. OnlyReads asked.verb → asked.strict ≡ false) }
+    ensures dry { IfOk result (λ asked. OnlyReads asked.verb → asked.dry_run ≡ false) }
+    ensures quiet { IfOk result (λ asked. asked.verb ≡ Verb.List → asked.quiet ≡ false) }
+    ensures long { IfOk result (λ asked. asked.verb ≢ Verb.List → asked.long ≡ false) }
+    ensures files { IfOk result (λ asked. ¬ TakesSources asked.verb → asked.files0_from ≡ None) }
+    ensures sources { IfOk result (λ asked.
+        TakesSources asked.verb → asked.files0_from ≡ None → 2 ≤ length asked.paths.items) }
+    ensures reading { IfOk result (λ asked.
+        OnlyReads asked.verb ↔ IsReading (subcommand_of dicomdir_app (words_of words.now))) }
     ensures passes { IfErr result (λ fault.
         takes dicomdir_app (words_of words.now) ≡ true
-        → fault ≡ LineFault.Memory) }
+        → (fault ≡ LineFault.Memory)
+        ⊎ (LacksSources (subcommand_of dicomdir_app (words_of words.now)) × IsMissingArgument fault)) }
     ensures kinds { MatchResult result
-        (λ _. fault_of dicomdir_app (words_of words.now) ≡ [])
-        (IsRefusedFor (fault_of dicomdir_app (words_of words.now))) }
+        (λ _. (fault_of dicomdir_app (words_of words.now) ≡ [])
+        × ¬ LacksSources (subcommand_of dicomdir_app (words_of words.now)))
+        (λ fault. IsRefusedFor (fault_of dicomdir_app (words_of words.now)) fault
+        ⊎ ((fault_of dicomdir_app (words_of words.now) ≡ [])
+        × LacksSources (subcommand_of dicomdir_app (words_of words.now)) × IsMissingArgument fault)) }
 {
     let found = parsed(alloc, words)?;
-    Ok(asked_of(alloc, &found)?)
+    let asked = asked_of(alloc, &found)?;
+    refuse_no_source(alloc, &asked)?;
+    Ok(asked)
 }
