@@ -20,6 +20,15 @@ pub struct NotThere;
 #[error("not done")]
 pub struct NotDone;
 
+/// What a run is doing, as its progress shows it.
+#[derive(Clone, Copy, Debug, PartialEq, Eq)]
+pub enum Step {
+    /// It reads files.
+    Reading,
+    /// It copies files.
+    Copying,
+}
+
 /// Files that are read one by one, and one at a time that is written. Each refusal counts, up to
 /// `u64::MAX`, and a call where that is reached is refused. No call but `write` is a write.
 pub trait Files: Write {
@@ -53,6 +62,25 @@ pub trait Files: Write {
     /// Opens a file of a file-set for reading: the one at this path, which stands below the folder `set` as the
     /// directory of the file-set records it. A system may show the names below `set` otherwise.
     fn member(&mut self, set: &str, path: &str) -> Result<Self::In, NotThere>
+        ensures worked { IsOk result → HasWorked (refusals self.old) (refusals self.new) }
+        ensures refused { IsErr result → refusals self.new ≡ counted (refusals self.old) }
+
+        // The reader is as new, and what it has left are the bytes of the file.
+        ensures fresh { IfOk result (λ reader. (Self.In.calls reader ≡ 0)
+            × (Self.In.failures reader ≡ 0) × ((past : Self.In.Past) → Self.In.has_given reader past [])) }
+        ensures left { IfOk result (λ reader. IfSome (held self.old) (λ files.
+            IsSome (files.bytes_at path.now)
+            × (Self.In.remaining reader ≡ files.bytes_at path.now))) }
+
+        // What stays.
+        ensures counts { (Self.calls self.new ≡ Self.calls self.old)
+            × (Self.failures self.new ≡ Self.failures self.old) }
+        ensures kept { held self.new ≡ held self.old }
+        ensures bytes { IsErr result → Self.contents self.new ≡ Self.contents self.old };
+
+    /// Opens a list of names for reading: the file at this path, of any size. The path `-` may stand for the
+    /// standard input.
+    fn names(&mut self, path: &str) -> Result<Self::In, NotThere>
         ensures worked { IsOk result → HasWorked (refusals self.old) (refusals self.new) }
         ensures refused { IsErr result → refusals self.new ≡ counted (refusals self.old) }
 
@@ -136,6 +164,42 @@ pub trait Files: Write {
     /// Names what a refused `store` could not store: a file that has ended, or a folder in which something was
     /// made. The current folder is `.`.
     fn unstored(&self) -> &str;
+
+    /// Starts to count what is done of `of` in this step, of which nothing is done yet.
+    fn begin_progress(&mut self, step: Step, of: u64)
+        ensures kept { held self.new ≡ held self.old }
+        ensures bytes { Self.contents self.new ≡ Self.contents self.old }
+        ensures rest { Self.rest self.new ≡ Self.rest self.old }
+        ensures counts { (Self.calls self.new ≡ Self.calls self.old)
+            × (Self.failures self.new ≡ Self.failures self.old) }
+        ensures refusals { refusals self.new ≡ refusals self.old };
+
+    /// Counts one more as done, and may show that.
+    fn advance(&mut self)
+        ensures kept { held self.new ≡ held self.old }
+        ensures bytes { Self.contents self.new ≡ Self.contents self.old }
+        ensures rest { Self.rest self.new ≡ Self.rest self.old }
+        ensures counts { (Self.calls self.new ≡ Self.calls self.old)
+            × (Self.failures self.new ≡ Self.failures self.old) }
+        ensures refusals { refusals self.new ≡ refusals self.old };
+
+    /// Erases the line of progress where one is shown. A later call may show one again.
+    fn hide_progress(&mut self)
+        ensures kept { held self.new ≡ held self.old }
+        ensures bytes { Self.contents self.new ≡ Self.contents self.old }
+        ensures rest { Self.rest self.new ≡ Self.rest self.old }
+        ensures counts { (Self.calls self.new ≡ Self.calls self.old)
+            × (Self.failures self.new ≡ Self.failures self.old) }
+        ensures refusals { refusals self.new ≡ refusals self.old };
+
+    /// Shows no progress from now on.
+    fn be_quiet(&mut self)
+        ensures kept { held self.new ≡ held self.old }
+        ensures bytes { Self.contents self.new ≡ Self.contents self.old }
+        ensures rest { Self.rest self.new ≡ Self.rest self.old }
+        ensures counts { (Self.calls self.new ≡ Self.calls self.old)
+            × (Self.failures self.new ≡ Self.failures self.old) }
+        ensures refusals { refusals self.new ≡ refusals self.old };
 
     // No write counts as a refusal.
     ghost same_refusals: { (old new : Self) → Self.rest new ≡ Self.rest old

@@ -7,7 +7,7 @@ ghost use Rattle.dd_mem_files.specs.PlannedFaults.{fails_at};
 
 use crate::mem_files::MemFiles;
 use crate::mem_reader::MemReader;
-use dd_files::{Files, NotDone, NotThere};
+use dd_files::{Files, NotDone, NotThere, Step};
 
 impl Files for MemFiles {
     type In = MemReader;
@@ -42,6 +42,28 @@ impl Files for MemFiles {
     /// there is no such file, a growth is refused or the refusals are at their last value. The files are then as
     /// they were, and it is no opening. `fail_call` does not count this call.
     fn member(&mut self, _set: &str, path: &str) -> Result<MemReader, NotThere>
+        ensures worked { IsOk result → HasWorked self.old.refusals self.new.refusals }
+        ensures refused { IsErr result → self.new.refusals ≡ counted self.old.refusals }
+        ensures may { IsOk result → self.old.refusals < last_count }
+        ensures gives { IfOk result (λ reader. bytes_at self.new.files path.now ≡ Some reader.left) }
+        ensures new { IfOk result (λ reader. reader
+            ≡ unread reader.left (fails_at self.old.planned.reader path.now)) }
+        ensures opens { OnOk result (Opens self.old self.new path.now) }
+        ensures err { OnErr result (self.new ≡ record self.old { refusals = counted self.old.refusals }) }
+    {
+        if self.refusals < u64::MAX {
+            if let Some(reader) = self.open(path) {
+                return Ok(reader);
+            }
+        }
+        self.refuse();
+        Err(NotThere)
+    }
+
+    /// Opens the file at the path like `member`, also the one at the path `-`. NotThere where there is no such file,
+    /// a growth is refused or the refusals are at their last value. The files are then as they were, and it is no
+    /// opening. `fail_call` does not count this call.
+    fn names(&mut self, path: &str) -> Result<MemReader, NotThere>
         ensures worked { IsOk result → HasWorked self.old.refusals self.new.refusals }
         ensures refused { IsErr result → self.new.refusals ≡ counted self.old.refusals }
         ensures may { IsOk result → self.old.refusals < last_count }
@@ -144,6 +166,26 @@ impl Files for MemFiles {
     {
         "."
     }
+
+    /// Does nothing, since no progress is shown.
+    fn begin_progress(&mut self, _step: Step, _of: u64)
+        ensures { self.new ≡ self.old }
+    {}
+
+    /// Does nothing.
+    fn advance(&mut self)
+        ensures { self.new ≡ self.old }
+    {}
+
+    /// Does nothing.
+    fn hide_progress(&mut self)
+        ensures { self.new ≡ self.old }
+    {}
+
+    /// Does nothing.
+    fn be_quiet(&mut self)
+        ensures { self.new ≡ self.old }
+    {}
 
     ghost same_refusals = { refusals_stay };
 

@@ -1,1 +1,2 @@
 mod DirectoryPaths
+mod ProgressLines

@@ -1,4 +1,5 @@
 pub mod Directory
 pub mod Folders
+pub mod Progress
 pub mod Spellings
 pub mod Storing

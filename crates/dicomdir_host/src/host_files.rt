@@ -1,5 +1,5 @@
 //! The files of the system.
-ghost use Rattle.std.specs.Prelude.{◌≡◌, ◌↔◌, ◌<◌, ◌++◌, ◌∷◌, ℕ, [], None, Some, length, map, option_map, refl};
+ghost use Rattle.std.specs.Prelude.{◌≡◌, ◌↔◌, ◌<◌, ◌++◌, ◌∷◌, [], None, Some, length, map, option_map};
 ghost use Rattle.std.specs.Prelude.{IfSome, IsErr, IsOk, IsSome, IsTrue, string_bytes};
 ghost use Rattle.dd_elem.specs.Device.{HasWorked, counted, last_count};
 ghost use Rattle.dicomdir_host.specs.Directory.{IsDirectoryPath};
@@ -8,14 +8,15 @@ ghost use Rattle.dicomdir_host.specs.Storing.{IsStored, Names};
 use crate::again::{Links, is_folder, look, make_folder};
 use crate::counted::Counted;
 use crate::members::Members;
-use crate::opening::{Input, open_seen};
+use crate::opening::{Input, open_any, open_seen};
 use crate::output::{self, Output};
 use crate::paths::{before_slash, folder_of};
+use crate::progress::Progress;
 use crate::storing::Unstored;
-use dd_elem::Write;
-use dd_files::{DIRECTORY, Files, NotDone, NotThere};
+use crate::system::System;
+use dd_files::{DIRECTORY, NotDone};
 use std::alloc::Global;
-use std::{fs, io};
+use std::io;
 
 // The most files that have ended and wait to be stored.
 const BATCH: usize = 100;
@@ -42,24 +43,32 @@ const NO_MORE: [i32; 2] = [24, 23];
 ///
 /// A file of a file-set is a source that is looked up in each spelling in which systems show a disc. No link
 /// is followed below the folder of a file-set, nor below the folder that is written to.
-pub struct HostFiles<'a, R: fs::Files> {
-    rt: &'a R,
+///
+/// A list of names may be a pipe or a device, too, and `-` stands for the standard input: to open it and to read
+/// it may wait.
+///
+/// Progress is one line on the error output, where that is a terminal. Nothing is shown in the first half second,
+/// and a line stands for a tenth of one at least. Where files are stored one by one, it counts these. What the
+/// terminal does not take counts nowhere.
+pub struct HostFiles<'a, R: System> {
+    pub(crate) rt: &'a R,
     alloc: Global,
-    output: Counted<Output<R::File>>,
+    pub(crate) output: Counted<Output<R::File>>,
     // The path of the file that is being written.
     path: Option<String>,
-    unstored: Unstored<R::File>,
+    pub(crate) unstored: Unstored<R::File>,
     // Is all to be stored at the next call?
     is_due: bool,
     // The folder that was made last, and how much of its path may lead over links.
     folder: String,
     out_len: usize,
     members: Members,
-    refusals: u64,
+    pub(crate) progress: Progress<R::Terminal>,
+    pub(crate) refusals: u64,
 }
 
 // By hand, so that dropping it is one call.
-impl<R: fs::Files> Drop for HostFiles<'_, R> {
+impl<R: System> Drop for HostFiles<'_, R> {
     fn drop(self) {
         let HostFiles {
             rt: _,
@@ -71,6 +80,7 @@ impl<R: fs::Files> Drop for HostFiles<'_, R> {
             folder: _folder,
             out_len: _,
             members: _members,
+            progress: _progress,
             refusals: _,
         } = self;
     }
@@ -94,7 +104,7 @@ fn has_no_more(error: &io::Error) -> bool {
     }
 }
 
-impl<'a, R: fs::Files> HostFiles<'a, R> {
+impl<'a, R: System> HostFiles<'a, R> {
     /// Makes the files of the system, of which none is being written.
     pub fn new(alloc: Global, rt: &'a R) -> Self
         ensures { result.refusals ≡ 0 }
@@ -109,12 +119,13 @@ impl<'a, R: fs::Files> HostFiles<'a, R> {
             folder: String::new(alloc),
             out_len: 0,
             members: Members::new(),
+            progress: Progress::new(rt.terminal()),
             refusals: 0,
         }
     }
 
-    // Answers a call, and counts it where it was refused.
-    fn answer(&mut self, is_done: bool) -> Result<(), NotDone>
+    /// Answers a call, and counts it where it was refused.
+    pub(crate) fn answer(&mut self, is_done: bool) -> Result<(), NotDone>
         requires { IsTrue is_done → self.old.refusals < last_count }
         ensures worked { IsOk result → HasWorked self.old.refusals self.new.refusals }
         ensures refused { IsErr result → self.new.refusals ≡ counted self.old.refusals }
@@ -132,20 +143,20 @@ impl<'a, R: fs::Files> HostFiles<'a, R> {
     fn makes_room<T>(&mut self, answer: &io::Result<T>) -> bool
         ensures none { self.old.unstored.files.items ≡ [] → self.new.unstored ≡ self.old.unstored }
         ensures folders { self.new.unstored.folders ≡ self.old.unstored.folders }
-        ensures same { self.new ≡ record self.old { unstored = self.new.unstored } }
+        ensures same { self.new ≡ record self.old { unstored = self.new.unstored; progress = self.new.progress } }
     {
         match answer {
             Err(error) if has_no_more(error) && self.unstored.files_len() > 0 => {
-                let _ = self.unstored.store_files();
+                let _ = self.unstored.store_files(self.rt, &mut self.progress);
                 true
             }
             _ => false,
         }
     }
 
-    // Opens the file or the folder at the path for reading.
-    fn open(&mut self, path: &str) -> io::Result<Input<R::File>>
-        ensures same { self.new ≡ record self.old { unstored = self.new.unstored } }
+    /// Opens the file or the folder at the path for reading.
+    pub(crate) fn open(&mut self, path: &str) -> io::Result<Input<R::File, R::Stdin>>
+        ensures same { self.new ≡ record self.old { unstored = self.new.unstored; progress = self.new.progress } }
     {
         let seen = look(self.rt, path, Links::Followed)?;
         let answer = open_seen(self.rt, path, &seen);
@@ -155,9 +166,17 @@ impl<'a, R: fs::Files> HostFiles<'a, R> {
         answer
     }
 
-    // Opens the file at the path below the folder `set` for reading.
-    fn open_member(&mut self, set: &str, path: &str) -> io::Result<Input<R::File>>
-        ensures same { self.new ≡ record self.old { unstored = self.new.unstored; members = self.new.members } }
+    /// Opens the file at the path below the folder `set` for reading.
+    pub(crate) fn open_member(
+        &mut self,
+        set: &str,
+        path: &str,
+    ) -> io::Result<Input<R::File, R::Stdin>>
+        ensures same { self.new ≡ record self.old {
+          unstored = self.new.unstored;
+          members = self.new.members;
+          progress = self.new.progress;
+        } }
     {
         let seen = self.members.find(self.rt, set, path)?;
         let answer = open_seen(self.rt, self.members.place(), &seen);
@@ -167,11 +186,25 @@ impl<'a, R: fs::Files> HostFiles<'a, R> {
         answer
     }
 
+    /// Opens the list of names at the path for reading.
+    pub(crate) fn open_names(&mut self, path: &str) -> io::Result<Input<R::File, R::Stdin>>
+        ensures same { self.new ≡ record self.old { unstored = self.new.unstored; progress = self.new.progress } }
+    {
+        if path == "-" {
+            return Ok(Input::Standard(self.rt.standard_input()));
+        }
+        let answer = open_any(self.rt, path);
+        if self.makes_room(&answer) {
+            return open_any(self.rt, path);
+        }
+        answer
+    }
+
     // Opens a new file at the path.
     fn open_new(&mut self, path: &str) -> io::Result<Output<R::File>>
         ensures none { self.old.unstored.files.items ≡ [] → self.new.unstored ≡ self.old.unstored }
         ensures folders { self.new.unstored.folders ≡ self.old.unstored.folders }
-        ensures same { self.new ≡ record self.old { unstored = self.new.unstored } }
+        ensures same { self.new ≡ record self.old { unstored = self.new.unstored; progress = self.new.progress } }
     {
         let answer = output::start(self.alloc, self.rt, path);
         if self.makes_room(&answer) {
@@ -182,7 +215,7 @@ impl<'a, R: fs::Files> HostFiles<'a, R> {
 
     // Makes a folder, unless it is there. It may be a link where its path has no more than `out_len` bytes.
     fn make_one(&mut self, path: &str, out_len: usize) -> io::Result<()>
-        ensures same { self.new ≡ record self.old { unstored = self.new.unstored } }
+        ensures same { self.new ≡ record self.old { unstored = self.new.unstored; progress = self.new.progress } }
     {
         let links = if path.len() > out_len {
             Links::Kept
@@ -199,7 +232,7 @@ impl<'a, R: fs::Files> HostFiles<'a, R> {
 
     // Makes the folders above one, unless they are there.
     fn make_above(&mut self, path: &str, out_len: usize) -> io::Result<()>
-        ensures same { self.new ≡ record self.old { unstored = self.new.unstored } }
+        ensures same { self.new ≡ record self.old { unstored = self.new.unstored; progress = self.new.progress } }
     {
         for at in 1..path.len() {
             if let Some(folder) = before_slash(path, at) {
@@ -209,13 +242,14 @@ impl<'a, R: fs::Files> HostFiles<'a, R> {
         Ok(())
     }
 
-    // Makes a folder with its parents, unless it was made last. The empty path is the current folder. A name behind
-    // the first `out_len` bytes of the path must not be a link.
-    fn make(&mut self, path: &str, out_len: usize) -> io::Result<()>
+    /// Makes a folder with its parents, unless it was made last. The empty path is the current folder. A name behind
+    /// the first `out_len` bytes of the path must not be a link.
+    pub(crate) fn make(&mut self, path: &str, out_len: usize) -> io::Result<()>
         ensures same { self.new ≡ record self.old {
           folder = self.new.folder;
           out_len = self.new.out_len;
           unstored = self.new.unstored;
+          progress = self.new.progress;
         } }
     {
         if path.is_empty() || (self.folder.as_str() == path && self.out_len == out_len) {
@@ -229,8 +263,8 @@ impl<'a, R: fs::Files> HostFiles<'a, R> {
         Ok(())
     }
 
-    // Starts a file, whose name is to be stored.
-    fn start(&mut self, path: &str) -> io::Result<()>
+    /// Starts a file, whose name is to be stored.
+    pub(crate) fn start(&mut self, path: &str) -> io::Result<()>
         // Before a directory all is stored, so that no name but its own waits.
         ensures directory { IsOk result → IsDirectoryPath path.now
             → (self.new.unstored.files.items ≡ []) × (self.new.unstored.lost ≡ None)
@@ -243,7 +277,7 @@ impl<'a, R: fs::Files> HostFiles<'a, R> {
         ensures refusals { self.new.refusals ≡ self.old.refusals }
     {
         if is_directory(path) {
-            self.unstored.store(self.rt)?;
+            self.unstored.store(self.rt, &mut self.progress)?;
         }
         let folder = self.unstored.room(folder_of(path))?;
         let name = String::from_str(self.alloc, path)?;
@@ -254,8 +288,8 @@ impl<'a, R: fs::Files> HostFiles<'a, R> {
         Ok(())
     }
 
-    // Ends the file that is being written, and keeps it open until it is stored.
-    fn end(&mut self) -> io::Result<()>
+    /// Ends the file that is being written, and keeps it open until it is stored.
+    pub(crate) fn end(&mut self) -> io::Result<()>
         ensures ended { self.new.path ≡ None }
         ensures none { self.old.path ≡ None → IsErr result }
         ensures remembered { IsOk result → IfSome self.old.path (λ path.
@@ -275,8 +309,8 @@ impl<'a, R: fs::Files> HostFiles<'a, R> {
         Ok(())
     }
 
-    // Stores all, or puts that off to the next call.
-    fn store_due(&mut self) -> io::Result<()>
+    /// Stores all, or puts that off to the next call.
+    pub(crate) fn store_due(&mut self) -> io::Result<()>
         ensures stored { IsOk result → IsTrue self.old.is_due
             → IsStored self.new.unstored.files.items self.new.unstored.folders.items self.new.unstored.lost }
         ensures batch { IsOk result → length self.new.unstored.files.items < BATCH }
@@ -285,98 +319,16 @@ impl<'a, R: fs::Files> HostFiles<'a, R> {
         ensures same { self.new ≡ record self.old {
           unstored = self.new.unstored;
           is_due = self.new.is_due;
+          progress = self.new.progress;
         } }
     {
         if self.is_due {
-            return self.unstored.store(self.rt);
+            return self.unstored.store(self.rt, &mut self.progress);
         }
         self.is_due = true;
         if self.unstored.files_len() >= BATCH {
-            return self.unstored.store_files();
+            return self.unstored.store_files(self.rt, &mut self.progress);
         }
         self.unstored.answer()
     }
-}
-
-impl<R: fs::Files> Write for HostFiles<'_, R> {
-    ghost calls = { λ s. s.output.counts.calls };
-
-    ghost failures = { λ s. s.output.counts.failures };
-
-    ghost contents = { λ _. None };
-
-    ghost Rest = { ℕ };
-
-    ghost rest = { λ s. s.refusals };
-
-    fn write(&mut self, bytes: &[u8]) -> io::Result<usize> {
-        self.output.write(bytes)
-    }
-}
-
-impl<R: fs::Files> Files for HostFiles<'_, R> {
-    type In = Counted<Input<R::File>>;
-
-    ghost refusals = { λ s. s.refusals };
-
-    ghost held = { λ _. None };
-
-    fn source(&mut self, path: &str) -> Result<Counted<Input<R::File>>, NotThere> {
-        if self.refusals < u64::MAX {
-            if let Ok(file) = self.open(path) {
-                return Ok(Counted::new(file));
-            }
-        }
-        self.refusals = self.refusals.saturating_add(1);
-        Err(NotThere)
-    }
-
-    fn member(&mut self, set: &str, path: &str) -> Result<Counted<Input<R::File>>, NotThere> {
-        if self.refusals < u64::MAX {
-            if let Ok(file) = self.open_member(set, path) {
-                return Ok(Counted::new(file));
-            }
-        }
-        self.refusals = self.refusals.saturating_add(1);
-        Err(NotThere)
-    }
-
-    fn folder(&mut self, path: &str) -> Result<(), NotDone> {
-        let is_done = self.refusals < u64::MAX && self.make(path, path.len()).is_ok();
-        self.answer(is_done)
-    }
-
-    fn folder_in(&mut self, out: &str, path: &str) -> Result<(), NotDone> {
-        let is_done = self.refusals < u64::MAX && self.make(path, out.len()).is_ok();
-        self.answer(is_done)
-    }
-
-    fn create(&mut self, path: &str) -> Result<(), NotDone> {
-        if self.refusals < u64::MAX && self.start(path).is_ok() {
-            return Ok(());
-        }
-        self.answer(false)
-    }
-
-    fn finish(&mut self) -> Result<(), NotDone> {
-        let is_ended = self.end().is_ok();
-        let is_done = self.refusals < u64::MAX && is_ended;
-        self.answer(is_done)
-    }
-
-    fn store(&mut self) -> Result<(), NotDone> {
-        let is_stored = self.store_due().is_ok();
-        let is_done = self.refusals < u64::MAX && is_stored;
-        self.answer(is_done)
-    }
-
-    fn unstored(&self) -> &str {
-        self.unstored.lost()
-    }
-
-    ghost same_refusals = { λ _ _ same. same };
-
-    ghost same_contents = { λ _. tt };
-
-    ghost written_grows = { λ _ _ _ _ _. refl };
 }

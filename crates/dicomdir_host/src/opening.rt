@@ -2,23 +2,30 @@
 ghost use Rattle.std.specs.Io.{ReadsAtMost};
 
 use crate::again::look_at_open;
-use std::fs::{self, File, Metadata};
+use crate::system::System;
+use std::fs::{File, Metadata};
 use std::io::{self, Read};
 use std::os::unix::fs::MetadataExt;
 
-/// What is read of a file, which is nothing where its size is said to be 0.
+/// What is read.
 #[derive(Drop)]
-pub struct Input<F: Read + Drop> {
-    file: Option<F>,
+pub enum Input<F: Read + Drop, S: Read + Drop> {
+    /// A file whose size is said to be 0.
+    Empty,
+    /// A file or a folder.
+    File(F),
+    /// The standard input.
+    Standard(S),
 }
 
-impl<F: Read + Drop> Read for Input<F> {
+impl<F: Read + Drop, S: Read + Drop> Read for Input<F, S> {
     fn read(&mut self, buf: &mut [u8]) -> io::Result<usize>
         ensures { ReadsAtMost result buf.new }
     {
-        match &mut self.file {
-            Some(file) => file.read(buf),
-            None => Ok(0),
+        match self {
+            Input::Empty => Ok(0),
+            Input::File(file) => file.read(buf),
+            Input::Standard(input) => input.read(buf),
         }
     }
 }
@@ -28,11 +35,11 @@ impl<F: Read + Drop> Read for Input<F> {
 ///
 /// A plain file whose size is said to be 0 is empty. A read of it is not begun: some of the system's own
 /// files say so, and a read of them waits.
-pub(crate) fn open_seen<R: fs::Files>(
+pub(crate) fn open_seen<R: System>(
     rt: &R,
     path: &str,
     seen: &Metadata,
-) -> io::Result<Input<R::File>> {
+) -> io::Result<Input<R::File, R::Stdin>> {
     if !seen.is_file() && !seen.is_dir() {
         return Err(io::Error::other("no file and no folder"));
     }
@@ -42,9 +49,14 @@ pub(crate) fn open_seen<R: fs::Files>(
         return Err(io::Error::other("another file than was seen"));
     }
     if opened.is_file() && opened.len() == 0 {
-        return Ok(Input { file: None });
+        return Ok(Input::Empty);
     }
-    Ok(Input { file: Some(file) })
+    Ok(Input::File(file))
+}
+
+/// Opens what stands at the path: a pipe or a device, too, and a file of any size. It may wait.
+pub(crate) fn open_any<R: System>(rt: &R, path: &str) -> io::Result<Input<R::File, R::Stdin>> {
+    Ok(Input::File(File::open(rt, path)?))
 }
 
 /// Is it the same file or folder: of one kind, on one device, with one inode?

@@ -4,10 +4,12 @@ ghost use Rattle.std.specs.Prelude.{IfOk, IfSome, IsErr, IsOk, IsSome};
 ghost use Rattle.dicomdir_host.specs.Storing.{IsStored};
 
 use crate::again::{Links, look};
+use crate::progress::Progress;
 use std::alloc::{AllocError, Global};
 use std::fs::{self, File, OpenFile};
 use std::io::{self, ErrorKind};
 use std::mem;
+use std::time::Clock;
 
 /// A file that has ended, still open.
 #[derive(Drop)]
@@ -121,19 +123,27 @@ impl<F: OpenFile + Drop> Unstored<F> {
         }
     }
 
-    /// Makes the system store the files, and closes them. Refused where something is lost.
-    pub(crate) fn store_files(&mut self) -> io::Result<()>
+    /// Makes the system store the files, and closes them. Shows how many are. Refused where something is lost.
+    pub(crate) fn store_files<C: Clock, W: io::Write + Drop>(
+        &mut self,
+        clock: &C,
+        progress: &mut Progress<W>,
+    ) -> io::Result<()>
         ensures closed { self.new.files.items ≡ [] }
         ensures done { IsOk result ↔ (self.new.lost ≡ None) }
         ensures stays { IsSome self.old.lost → self.new.lost ≡ self.old.lost }
         ensures folders { self.new.folders ≡ self.old.folders }
     {
         let files = mem::replace(&mut self.files, Vec::new(self.alloc));
+        let of = files.len() as u64;
+        let mut stored = 0u64;
         for ended in files {
             let Ended { path, file } = ended;
+            progress.show(clock, "storing", stored, of);
             if file.sync_all().is_err() {
                 self.lose(path);
             }
+            stored = stored.saturating_add(1);
         }
         self.answer()
     }
@@ -157,12 +167,16 @@ impl<F: OpenFile + Drop> Unstored<F> {
     }
 
     /// Makes the system store all. Refused where something is lost.
-    pub(crate) fn store<R: fs::Files>(&mut self, rt: &R) -> io::Result<()>
+    pub(crate) fn store<R: fs::Files + Clock, W: io::Write + Drop>(
+        &mut self,
+        rt: &R,
+        progress: &mut Progress<W>,
+    ) -> io::Result<()>
         ensures stored { IsOk result → IsStored self.new.files.items self.new.folders.items self.new.lost }
         ensures lost { IsErr result → IsSome self.new.lost }
         ensures stays { IsSome self.old.lost → self.new.lost ≡ self.old.lost }
     {
-        self.store_files()?;
+        self.store_files(rt, progress)?;
         self.store_folders(rt)
     }
 }

@@ -6,10 +6,12 @@ mod disc;
 mod disc_file;
 mod names;
 mod power_cut;
+mod progress;
+mod screen;
 
 use crate::HostFiles;
 use dd_elem::{Read, Write};
-use dd_files::Files;
+use dd_files::{Files, Step};
 use disc::{Call, Disc, DiscFiles};
 use power_cut::Kind;
 use std::alloc::Global;
@@ -36,6 +38,12 @@ pause folder, folder d, folder d/e > . + + > none
 file a, fail read, read a, read a > . . ! old > old
 file a, fail look, read a, pause look, read a > . . - . old > old
 dir d, pause look, folder d > . . + > none
+file a, names a > . old > old
+silent a, names a > . old > old
+pipe a, names a > .  >
+dir a, names a > . ! >
+names -, names b > word - > none
+file a, fail open, names a, names a > . . - old > old
 create a, write xyz, pause write, finish, pause read, read a > + + . + . xyz > xyz
 create a, write xyz, fail store, finish, store, store, unstored > + + . + + - a > xyz
 create a, write xyz, fail store, finish, store, store, store, create b > + + . + + - - + > xyz
@@ -85,6 +93,8 @@ fn call_of(name: &str) -> Option<Call> {
         "made" => Some(Call::Made),
         "seen" => Some(Call::LookAtOpen),
         "stay" => Some(Call::Stay),
+        "show" => Some(Call::Show),
+        "clock" => Some(Call::Clock),
         _ => None,
     }
 }
@@ -114,6 +124,8 @@ fn prepare(disc: &RefCell<Disc>, verb: &str, what: &str) -> Result<bool, Fail> {
         }
         "spill" => disc.spill(what)?,
         "limit" => disc.open_at_most(what.parse().map_err(|_| "no number")?),
+        "pass" => disc.screen.wait(what.parse().map_err(|_| "no number")?),
+        "slow" => disc.screen.pause = what.parse().map_err(|_| "no number")?,
         "fail" => disc.fail(call_of(what).ok_or("no call")?, ErrorKind::Other),
         "pause" => disc.fail(call_of(what).ok_or("no call")?, ErrorKind::Interrupted),
         "bar" => disc.fail(call_of(what).ok_or("no call")?, ErrorKind::PermissionDenied),
@@ -177,7 +189,7 @@ fn named(what: &str) -> (&str, &str) {
     }
 }
 
-// Adds what a source gives, or a file of a file-set.
+// Adds what a source gives, a file of a file-set, or a list of names.
 fn read(
     alloc: Global,
     files: &mut HostFiles<'_, DiscFiles<'_>>,
@@ -185,11 +197,13 @@ fn read(
     what: &str,
     said: &mut String,
 ) -> Result<(), Fail> {
-    let opened = if verb == "find" {
-        let (set, path) = named(what);
-        files.member(set, path)
-    } else {
-        files.source(what)
+    let opened = match verb {
+        "find" => {
+            let (set, path) = named(what);
+            files.member(set, path)
+        }
+        "names" => files.names(what),
+        _ => files.source(what),
     };
     let Ok(mut reader) = opened else {
         return Ok(said.push('-')?);
@@ -198,6 +212,25 @@ fn read(
         Some(bytes) => Ok(said.push_str(str::from_utf8(&bytes).map_err(|_| "no text")?)?),
         None => Ok(said.push('!')?),
     }
+}
+
+// Makes a call about progress, where it is one.
+fn counts(files: &mut HostFiles<'_, DiscFiles<'_>>, verb: &str, what: &str) -> Result<bool, Fail> {
+    match verb {
+        "reading" | "copying" => {
+            let step = if verb == "reading" {
+                Step::Reading
+            } else {
+                Step::Copying
+            };
+            files.begin_progress(step, what.parse().map_err(|_| "no number")?);
+        }
+        "advance" => files.advance(),
+        "hide" => files.hide_progress(),
+        "quiet" => files.be_quiet(),
+        _ => return Ok(false),
+    }
+    Ok(true)
 }
 
 // Makes a call or prepares the disc for one, and adds what that came to.
@@ -210,11 +243,11 @@ fn tell(
 ) -> Result<(), Fail> {
     let (verb, what) = call.split_once(' ').unwrap_or((call, ""));
     match verb {
-        "read" | "find" => return read(alloc, files, verb, what, said),
+        "read" | "find" | "names" => return read(alloc, files, verb, what, said),
         "unstored" => return Ok(said.push_str(files.unstored())?),
         _ => {}
     }
-    let sign = if prepare(disc, verb, what)? {
+    let sign = if counts(files, verb, what)? || prepare(disc, verb, what)? {
         '.'
     } else if is_done(files, verb, what) {
         '+'

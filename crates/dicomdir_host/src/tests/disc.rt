@@ -3,6 +3,7 @@ ghost use Rattle.std.specs.Io.{ReadsAtMost};
 
 use super::disc_file::DiscFile;
 use super::power_cut::{Entry, Kind, all_last, may_break, parent};
+use super::screen::Screen;
 use std::alloc::{Allocator, Global};
 use std::cell::RefCell;
 use std::fs::{Files, Metadata, OpenOptions};
@@ -27,11 +28,14 @@ pub(super) enum Call {
     Stay,
     /// A folder that is made by then.
     Made,
+    /// A write to the terminal.
+    Show,
+    Clock,
 }
 
 /// The disc: what stands there, in the order in which it was made, the next call that fails, which files and
 /// folders were to be made and which were stored, in this order, what was looked at, how many files are open and may
-/// be, and after how many calls a power cut would have left a whole directory without its images.
+/// be, after how many calls a power cut would have left a whole directory without its images, and the terminal.
 pub(super) struct Disc {
     alloc: Global,
     entries: Vec<Entry>,
@@ -42,6 +46,7 @@ pub(super) struct Disc {
     pub(super) open: usize,
     most_open: usize,
     broken: usize,
+    pub(super) screen: Screen,
 }
 
 // By hand, so that dropping it is one call.
@@ -57,6 +62,7 @@ impl Drop for Disc {
             open: _,
             most_open: _,
             broken: _,
+            screen: _screen,
         } = self;
     }
 }
@@ -74,6 +80,7 @@ impl Disc {
             open: 0,
             most_open: usize::MAX,
             broken: 0,
+            screen: Screen::new(alloc),
         };
         disc.put(".", Kind::Folder)?;
         Ok(disc)
@@ -135,6 +142,8 @@ impl Disc {
 
     pub(super) fn store(&mut self, place: usize) -> io::Result<()> {
         self.pass(Call::Store)?;
+        let pause = self.screen.pause;
+        self.screen.wait(pause);
         let Some(entry) = self.entries.get(place) else {
             return Err(io::Error::from(ErrorKind::NotFound));
         };

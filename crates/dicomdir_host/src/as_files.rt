@@ -1,0 +1,123 @@
+//! The files of the system as the files of a program.
+ghost use Rattle.std.specs.Prelude.{ℕ, None, refl};
+
+use crate::counted::Counted;
+use crate::host_files::HostFiles;
+use crate::opening::Input;
+use crate::system::System;
+use dd_elem::Write;
+use dd_files::{Files, NotDone, NotThere, Step};
+use std::io;
+
+impl<R: System> Write for HostFiles<'_, R> {
+    ghost calls = { λ s. s.output.counts.calls };
+
+    ghost failures = { λ s. s.output.counts.failures };
+
+    ghost contents = { λ _. None };
+
+    ghost Rest = { ℕ };
+
+    ghost rest = { λ s. s.refusals };
+
+    fn write(&mut self, bytes: &[u8]) -> io::Result<usize> {
+        self.output.write(bytes)
+    }
+}
+
+impl<R: System> Files for HostFiles<'_, R> {
+    type In = Counted<Input<R::File, R::Stdin>>;
+
+    ghost refusals = { λ s. s.refusals };
+
+    ghost held = { λ _. None };
+
+    fn source(&mut self, path: &str) -> Result<Counted<Input<R::File, R::Stdin>>, NotThere> {
+        if self.refusals < u64::MAX {
+            if let Ok(file) = self.open(path) {
+                return Ok(Counted::new(file));
+            }
+        }
+        self.refusals = self.refusals.saturating_add(1);
+        Err(NotThere)
+    }
+
+    fn member(
+        &mut self,
+        set: &str,
+        path: &str,
+    ) -> Result<Counted<Input<R::File, R::Stdin>>, NotThere> {
+        if self.refusals < u64::MAX {
+            if let Ok(file) = self.open_member(set, path) {
+                return Ok(Counted::new(file));
+            }
+        }
+        self.refusals = self.refusals.saturating_add(1);
+        Err(NotThere)
+    }
+
+    fn names(&mut self, path: &str) -> Result<Counted<Input<R::File, R::Stdin>>, NotThere> {
+        if self.refusals < u64::MAX {
+            if let Ok(list) = self.open_names(path) {
+                return Ok(Counted::new(list));
+            }
+        }
+        self.refusals = self.refusals.saturating_add(1);
+        Err(NotThere)
+    }
+
+    fn folder(&mut self, path: &str) -> Result<(), NotDone> {
+        let is_done = self.refusals < u64::MAX && self.make(path, path.len()).is_ok();
+        self.answer(is_done)
+    }
+
+    fn folder_in(&mut self, out: &str, path: &str) -> Result<(), NotDone> {
+        let is_done = self.refusals < u64::MAX && self.make(path, out.len()).is_ok();
+        self.answer(is_done)
+    }
+
+    fn create(&mut self, path: &str) -> Result<(), NotDone> {
+        if self.refusals < u64::MAX && self.start(path).is_ok() {
+            return Ok(());
+        }
+        self.answer(false)
+    }
+
+    fn finish(&mut self) -> Result<(), NotDone> {
+        let is_ended = self.end().is_ok();
+        let is_done = self.refusals < u64::MAX && is_ended;
+        self.answer(is_done)
+    }
+
+    fn store(&mut self) -> Result<(), NotDone> {
+        let is_stored = self.store_due().is_ok();
+        let is_done = self.refusals < u64::MAX && is_stored;
+        self.answer(is_done)
+    }
+
+    fn unstored(&self) -> &str {
+        self.unstored.lost()
+    }
+
+    fn begin_progress(&mut self, step: Step, of: u64) {
+        self.progress.begin(self.rt, step, of);
+    }
+
+    fn advance(&mut self) {
+        self.progress.advance(self.rt);
+    }
+
+    fn hide_progress(&mut self) {
+        self.progress.hide();
+    }
+
+    fn be_quiet(&mut self) {
+        self.progress.end();
+    }
+
+    ghost same_refusals = { λ _ _ same. same };
+
+    ghost same_contents = { λ _. tt };
+
+    ghost written_grows = { λ _ _ _ _ _. refl };
+}

@@ -1,0 +1,150 @@
+//! Progress, which the error output shows where that is a terminal.
+ghost use Rattle.std.specs.Prelude.{◌≡◌, ◌≤◌, ◌<◌, ◌+◌, ◌++◌, length};
+ghost use Rattle.std.specs.Fmt.InlineText.{inline_text};
+ghost use Rattle.dicomdir_host.specs.Progress.{progress_line};
+
+use crate::counted::write_again;
+use dd_files::Step;
+use itoa::Buffer;
+use std::fmt::InlineText;
+use std::io;
+use std::time::{Clock, Duration, Instant};
+
+/// For how many milliseconds nothing is shown.
+const FIRST: u64 = 500;
+
+/// For how many milliseconds a line stands at least before the next one.
+const PAUSE: u64 = 100;
+
+/// Erases the line of a terminal (ECMA-48, EL).
+const ERASE: &str = "\r\x1b[K";
+
+/// The most bytes of a line, with those that erase the one before it.
+const LINE: usize = 64;
+
+/// What is done of a step, and the terminal that shows it in one line, at most ten times a second.
+pub(crate) struct Progress<W: io::Write + Drop> {
+    /// None where nothing is shown.
+    terminal: Option<W>,
+    step: Step,
+    done: u64,
+    of: u64,
+    /// When the next line may be shown. None where nothing was counted so far.
+    due: Option<Instant>,
+    is_shown: bool,
+}
+
+// By hand, so that dropping it is one call.
+impl<W: io::Write + Drop> Drop for Progress<W> {
+    fn drop(self) {
+        let Progress {
+            terminal: _terminal,
+            step: _,
+            done: _,
+            of: _,
+            due: _,
+            is_shown: _,
+        } = self;
+    }
+}
+
+impl<W: io::Write + Drop> Progress<W> {
+    /// Makes the progress of a run that has begun nothing, which this terminal shows.
+    pub(crate) fn new(terminal: Option<W>) -> Self {
+        Progress {
+            terminal,
+            step: Step::Reading,
+            done: 0,
+            of: 0,
+            due: None,
+            is_shown: false,
+        }
+    }
+
+    /// Starts to count what is done of `of` in this step.
+    pub(crate) fn begin<C: Clock>(&mut self, clock: &C, step: Step, of: u64) {
+        self.step = step;
+        self.done = 0;
+        self.of = of;
+        self.show(clock, doing(step), 0, of);
+    }
+
+    /// Counts one more as done.
+    pub(crate) fn advance<C: Clock>(&mut self, clock: &C) {
+        self.done = self.done.saturating_add(1);
+        self.show(clock, doing(self.step), self.done, self.of);
+    }
+
+    /// Shows how many of all are done, where it is time to.
+    pub(crate) fn show<C: Clock>(&mut self, clock: &C, doing: &str, done: u64, of: u64) {
+        if self.terminal.is_some() && self.is_due(clock) {
+            self.print(line(doing, done, of).as_str());
+            self.is_shown = true;
+        }
+    }
+
+    /// Erases the line that is shown.
+    pub(crate) fn hide(&mut self) {
+        if self.is_shown {
+            self.print(ERASE);
+            self.is_shown = false;
+        }
+    }
+
+    /// Erases the line that is shown, and shows no other one.
+    pub(crate) fn end(&mut self) {
+        self.hide();
+        self.terminal = None;
+    }
+
+    /// Is it time to show a line? Then the next one has to wait.
+    fn is_due<C: Clock>(&mut self, clock: &C) -> bool {
+        let Ok(now) = Instant::now(clock) else {
+            return false;
+        };
+        let Some(due) = self.due else {
+            self.due = now.checked_add(Duration::from_millis(FIRST));
+            return false;
+        };
+        if now < due {
+            return false;
+        }
+        self.due = now.checked_add(Duration::from_millis(PAUSE));
+        true
+    }
+
+    /// Writes this to the terminal. What it does not take is not shown.
+    fn print(&mut self, text: &str) {
+        if let Some(terminal) = &mut self.terminal {
+            let _ = write_again(terminal, text.as_bytes());
+        }
+    }
+}
+
+/// Says what is done in a step.
+fn doing(step: Step) -> &'static str {
+    match step {
+        Step::Reading => "reading",
+        Step::Copying => "copying",
+    }
+}
+
+/// Gives the line that says how many of all are done, and that takes the place of the line before it.
+fn line(doing: &str, done: u64, of: u64) -> InlineText<LINE>
+    ensures { length doing.now ≤ 8 → inline_text result ≡ progress_line doing.now done of }
+{
+    let mut first = Buffer::new();
+    let mut second = Buffer::new();
+    let start = with(with(InlineText::new(), "\r"), doing);
+    let counted = with(with(start, " "), first.format(done));
+    with(with(with(counted, " of "), second.format(of)), "\x1b[K")
+}
+
+/// Adds a text to a line, where there is room for it.
+fn with(line: InlineText<LINE>, text: &str) -> InlineText<LINE>
+    ensures { length (inline_text line) + length text.now < LINE
+        → inline_text result ≡ inline_text line ++ text.now }
+{
+    let len = text.len();
+    line.and_str(text, len)
+}

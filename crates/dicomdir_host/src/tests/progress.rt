@@ -1,0 +1,43 @@
+//! What a terminal gets to show progress.
+
+use super::disc::Disc;
+use super::told;
+use std::alloc::Global;
+use std::cell::RefCell;
+use std::test::Fail;
+
+// In each line calls, and then what they wrote to the terminal: `<` goes back to the start of the line, and `^[K`
+// erases it from there on. A pass is of so many milliseconds, and a slow disc takes so many to store a file.
+const CASES: &str = "\
+reading 3, pass 499, advance, hide >
+reading 3, pass 500, advance, hide, hide > <reading 1 of 3^[K<^[K
+reading 3, pass 600, advance, advance, pass 99, advance > <reading 1 of 3^[K
+reading 3, pass 600, advance, pass 100, advance, hide > <reading 1 of 3^[K<reading 2 of 3^[K<^[K
+reading 3, pass 600, advance, hide, pass 100, advance > <reading 1 of 3^[K<^[K<reading 2 of 3^[K
+reading 2, pass 600, copying 20000, advance, pass 100, advance > <copying 0 of 20000^[K<copying 2 of 20000^[K
+reading 3, pass 600, quiet, advance, hide >
+reading 3, pass 600, advance, quiet, pass 100, advance, hide > <reading 1 of 3^[K<^[K
+quiet, reading 3, pass 600, advance >
+reading 3, pass 600, fail show, advance, pass 100, advance > <reading 2 of 3^[K
+reading 3, pass 600, pause show, advance > <reading 1 of 3^[K
+reading 3, pass 600, fail clock, advance, advance > <reading 2 of 3^[K
+copying 9, create a, finish, create b, finish, pass 600, store, store > <storing 0 of 2^[K
+copying 9, create a, finish, create b, finish, pass 600, slow 100, store, store > \
+<storing 0 of 2^[K<storing 1 of 2^[K
+copying 9, create a, finish, slow 600, store, store, advance > <copying 1 of 9^[K";
+
+fn is_right(alloc: Global, case: &str) -> Result<bool, Fail> {
+    let (calls, shown) = case.split_once(" >").ok_or("no text")?;
+    let disc = RefCell::new(Disc::new(alloc)?);
+    told(alloc, &disc, calls)?;
+    let disc = disc.into_inner();
+    Ok(disc.screen.text.as_str() == shown.trim_start())
+}
+
+#[test]
+fn shows_progress_in_one_line(rt: HostRuntime) -> Result<(), Fail> {
+    for case in CASES.split('\n') {
+        assert!(rt; is_right(rt.alloc(), case)?, "at {case}");
+    }
+    Ok(())
+}

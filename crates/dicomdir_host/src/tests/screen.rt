@@ -1,0 +1,119 @@
+//! The clock, the terminal and the standard input of a disc in memory.
+ghost use Rattle.std.specs.Io.{ReadsAtMost};
+
+use super::disc::{Call, Disc, DiscFiles, in_use};
+use crate::System;
+use std::alloc::Global;
+use std::cell::RefCell;
+use std::io::{self, ErrorKind, Read, Write};
+use std::time::{Clock, Duration};
+
+/// What was written to a terminal, the time in milliseconds, and how long it takes to store a file.
+pub(super) struct Screen {
+    pub(super) text: String,
+    time: u64,
+    pub(super) pause: u64,
+}
+
+// By hand, so that dropping it is one call.
+impl Drop for Screen {
+    fn drop(self) {
+        let Screen {
+            text: _text,
+            time: _,
+            pause: _,
+        } = self;
+    }
+}
+
+impl Screen {
+    /// An empty terminal at the start of time.
+    pub(super) fn new(alloc: Global) -> Self {
+        Screen {
+            text: String::new(alloc),
+            time: 0,
+            pause: 0,
+        }
+    }
+
+    /// So many milliseconds pass.
+    pub(super) fn wait(&mut self, millis: u64) {
+        self.time = self.time.saturating_add(millis);
+    }
+}
+
+/// Writes to the terminal of a disc.
+pub(super) struct Terminal<'a> {
+    disc: &'a RefCell<Disc>,
+}
+
+impl Drop for Terminal<'_> {
+    fn drop(self) {
+        let Terminal { disc: _ } = self;
+    }
+}
+
+impl Write for Terminal<'_> {
+    fn write(&mut self, bytes: &[u8]) -> io::Result<usize> {
+        let mut disc = self.disc.try_borrow_mut().map_err(|_| in_use())?;
+        disc.pass(Call::Show)?;
+        for byte in bytes {
+            // So that a case can spell them.
+            disc.screen.text.push(match *byte {
+                b'\r' => '<',
+                b'\x1b' => '^',
+                other => char::from(other),
+            })?;
+        }
+        Ok(bytes.len())
+    }
+
+    fn flush(&mut self) -> io::Result<()> {
+        Ok(())
+    }
+}
+
+impl Clock for DiscFiles<'_> {
+    fn monotonic(&self) -> io::Result<Duration> {
+        let mut disc = self.0.try_borrow_mut().map_err(|_| in_use())?;
+        disc.pass(Call::Clock)?;
+        Ok(Duration::from_millis(disc.screen.time))
+    }
+
+    fn since_1970(&self) -> io::Result<Duration> {
+        Err(io::Error::from(ErrorKind::Unsupported))
+    }
+}
+
+/// A standard input of one word.
+#[derive(Drop)]
+pub(super) struct Words {
+    is_read: bool,
+}
+
+impl Read for Words {
+    fn read(&mut self, buf: &mut [u8]) -> io::Result<usize>
+        ensures { ReadsAtMost result buf.new }
+    {
+        if self.is_read {
+            return Ok(0);
+        }
+        self.is_read = true;
+        let mut rest: &[u8] = b"word";
+        rest.read(buf)
+    }
+}
+
+impl<'a> System for DiscFiles<'a> {
+    type Stdin = Words;
+
+    type Terminal = Terminal<'a>;
+
+    fn standard_input(&self) -> Words {
+        Words { is_read: false }
+    }
+
+    fn terminal(&self) -> Option<Terminal<'a>> {
+        Some(Terminal { disc: self.0 })
+    }
+}
