@@ -42,14 +42,15 @@ same_fault r fault other first second = cc
 -- ---- a file of the class of directories
 
 pub says : (file : List ℕ) (meta : Meta) (set : Elements) (at : ℕ) (contents : Option Contents)
-    → is_directory_meta meta ≡ true → contents_in (take at file) set ≡ contents
+    → is_directory_meta meta ≡ true → contents_in meta.instance (take at file) set ≡ contents
     → contents_of file meta set at ≡ contents
 says file meta set at contents class is =
-    ap (λ (b : Bool). if b then contents_in (take at file) set else None) class ∙ is
+    ap (λ (b : Bool). if b then contents_in meta.instance (take at file) set else None) class ∙ is
 
 pub is_directory : (file : List ℕ) (meta : Meta) (set : Elements) (at : ℕ) (contents : Contents)
     → IsFile file meta set at
-    → is_directory_meta meta ≡ true → contents_in (take at file) set ≡ Some contents → IsDirectoryFile file contents
+    → is_directory_meta meta ≡ true → contents_in meta.instance (take at file) set ≡ Some contents
+    → IsDirectoryFile file contents
 is_directory file meta set at contents is_file class is = record {
   meta = meta;
   set = set;
@@ -89,7 +90,7 @@ all_bytes file meta set at h =
 -- ---- what it says was not told
 
 pub told_refused : (file : List ℕ) (meta : Meta) (set : Elements) (at : ℕ) (fault : DirFault) → IsFile file meta set at
-    → is_directory_meta meta ≡ true → TellsContents (contents_in (take at file) set) (Err fault)
+    → is_directory_meta meta ≡ true → TellsContents (contents_in meta.instance (take at file) set) (Err fault)
     → SaysMemory fault ⊎ Refuses file fault
 told_refused file meta set at (faults.File fault) is_file class told = absurd told
 told_refused file meta set at faults.NotDirectory is_file class told =
@@ -106,10 +107,12 @@ pub told_no_file : (contents : Option Contents) (fault : DirFault) (cause : File
 told_no_file contents fault cause told is = subst (λ (e : DirFault). TellsContents contents (Err e)) is told
 
 pub told_wanted : (file : List ℕ) (meta : Meta) (set : Elements) (at : ℕ) (fault : DirFault) → IsFile file meta set at
-    → is_directory_meta meta ≡ true → TellsContents (contents_in (take at file) set) (Err fault) → fault ≡ faults.Memory
+    → is_directory_meta meta ≡ true → TellsContents (contents_in meta.instance (take at file) set) (Err fault)
+    → fault ≡ faults.Memory
     → (contents : Contents) × IsDirectoryFile file contents × (0 < length contents.starts)
 told_wanted file meta set at fault is_file class told is =
-    let there = subst (λ (e : DirFault). TellsContents (contents_in (take at file) set) (Err e)) is told in
+    let contents = contents_in meta.instance (take at file) set in
+    let there = subst (λ (e : DirFault). TellsContents contents (Err e)) is told in
     (there.0, is_directory file meta set at there.0 is_file class there.1, there.2)
 
 -- ---- what it says was told

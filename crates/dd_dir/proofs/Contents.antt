@@ -41,35 +41,35 @@ no_sets beside (Some f) None starts = refl
 no_sets beside (Some f) (Some l) None = refl
 no_sets beside (Some f) (Some l) (Some ns) = refl
 
-pub without_first : (front : List ℕ) (set : Elements) → first_in set ≡ None → contents_in front set ≡ None
+pub without_first : (uid front : List ℕ) (set : Elements) → first_in set ≡ None → contents_in uid front set ≡ None
 unfolding contents_in
-without_first front set is =
-    ap (λ (o : Option ℕ). contents_by (beside_in set) o (last_in set) (places_in (tag 0x0004 0x1220) front set)
+without_first uid front set is =
+    ap (λ (o : Option ℕ). contents_by (beside_in uid set) o (last_in set) (places_in (tag 0x0004 0x1220) front set)
     (records_in set)) is
 
-pub without_last : (front : List ℕ) (set : Elements) → last_in set ≡ None → contents_in front set ≡ None
+pub without_last : (uid front : List ℕ) (set : Elements) → last_in set ≡ None → contents_in uid front set ≡ None
 unfolding contents_in
-without_last front set is =
-    ap (λ (o : Option ℕ). contents_by (beside_in set) (first_in set) o (places_in (tag 0x0004 0x1220) front set)
+without_last uid front set is =
+    ap (λ (o : Option ℕ). contents_by (beside_in uid set) (first_in set) o (places_in (tag 0x0004 0x1220) front set)
     (records_in set)) is
-    ∙ no_last (beside_in set) (first_in set) (places_in (tag 0x0004 0x1220) front set) (records_in set)
+    ∙ no_last (beside_in uid set) (first_in set) (places_in (tag 0x0004 0x1220) front set) (records_in set)
 
-pub without_sets : (front : List ℕ) (set : Elements) → records_in set ≡ None → contents_in front set ≡ None
+pub without_sets : (uid front : List ℕ) (set : Elements) → records_in set ≡ None → contents_in uid front set ≡ None
 unfolding contents_in
-without_sets front set is =
-    ap (λ (o : Option (List Elements)). contents_by (beside_in set) (first_in set) (last_in set)
+without_sets uid front set is =
+    ap (λ (o : Option (List Elements)). contents_by (beside_in uid set) (first_in set) (last_in set)
     (places_in (tag 0x0004 0x1220) front set) o) is
-    ∙ no_sets (beside_in set) (first_in set) (last_in set) (places_in (tag 0x0004 0x1220) front set)
+    ∙ no_sets (beside_in uid set) (first_in set) (last_in set) (places_in (tag 0x0004 0x1220) front set)
 
-pub without_starts : (front : List ℕ) (set : Elements) → places_in (tag 0x0004 0x1220) [] set ≡ None
-    → contents_in front set ≡ None
+pub without_starts : (uid front : List ℕ) (set : Elements) → places_in (tag 0x0004 0x1220) [] set ≡ None
+    → contents_in uid front set ≡ None
 unfolding contents_in
-without_starts front set is =
+without_starts uid front set is =
     let none : places_in (tag 0x0004 0x1220) front set ≡ None =
     places_moved (tag 0x0004 0x1220) front (length front) set refl
     ∙ ap (λ (o : Option (List ℕ)). option_map (λ (ns : List ℕ). map (λ (n : ℕ). n + length front) ns) o) is in
-    ap (λ (o : Option (List ℕ)). contents_by (beside_in set) (first_in set) (last_in set) o (records_in set)) none
-    ∙ no_starts (beside_in set) (first_in set) (last_in set) (records_in set)
+    ap (λ (o : Option (List ℕ)). contents_by (beside_in uid set) (first_in set) (last_in set) o (records_in set)) none
+    ∙ no_starts (beside_in uid set) (first_in set) (last_in set) (records_in set)
 
 -- the places behind `by` bytes
 moved_some : (front : List ℕ) (by : ℕ) (set : Elements) (ns : List ℕ) → length front ≡ by
@@ -79,13 +79,13 @@ moved_some front by set ns long is =
     places_moved (tag 0x0004 0x1220) front by set long
     ∙ ap (λ (o : Option (List ℕ)). option_map (λ (ns : List ℕ). map (λ (n : ℕ). n + by) ns) o) is
 
-pub with_all_there : (front : List ℕ) (by : ℕ) (set : Elements) (f l : ℕ) (ns : List ℕ) (xs : List Elements)
+pub with_all_there : (uid front : List ℕ) (by : ℕ) (set : Elements) (f l : ℕ) (ns : List ℕ) (xs : List Elements)
     → length front ≡ by → first_in set ≡ Some f → last_in set ≡ Some l → places_in (tag 0x0004 0x1220) [] set ≡ Some ns
-    → records_in set ≡ Some xs → contents_in front set
-    ≡ Some (record { first = f; last = l; starts = map (λ (n : ℕ). n + by) ns; sets = xs; beside = beside_in set })
+    → records_in set ≡ Some xs → contents_in uid front set
+    ≡ Some (record { first = f; last = l; starts = map (λ (n : ℕ). n + by) ns; sets = xs; beside = beside_in uid set })
 unfolding contents_in
-with_all_there front by set f l ns xs long first last starts sets =
-    told (beside_in set) (first_in set) (last_in set) (places_in (tag 0x0004 0x1220) front set) (records_in set) f l
+with_all_there uid front by set f l ns xs long first last starts sets =
+    told (beside_in uid set) (first_in set) (last_in set) (places_in (tag 0x0004 0x1220) front set) (records_in set) f l
     (map (λ (n : ℕ). n + by) ns) xs first last (moved_some front by set ns long starts) sets
 
 -- the records are there where their places are
@@ -101,17 +101,17 @@ some_there : (o : Option (List ℕ)) → IsSomeAnd o (λ (ns : List ℕ). 0 < le
 some_there None h = absurd h
 some_there (Some ns) h = (ns, refl, h)
 
-pub wanted_there : (front : List ℕ) (set : Elements) (f l : ℕ) → first_in set ≡ Some f → last_in set ≡ Some l
+pub wanted_there : (uid front : List ℕ) (set : Elements) (f l : ℕ) → first_in set ≡ Some f → last_in set ≡ Some l
     → IsSomeAnd (places_in (tag 0x0004 0x1220) [] set) (λ (ns : List ℕ). 0 < length ns)
-    → (there : Contents) × (contents_in front set ≡ Some there) × (0 < length there.starts)
-wanted_there front set f l first last some =
+    → (there : Contents) × (contents_in uid front set ≡ Some there) × (0 < length there.starts)
+wanted_there uid front set f l first last some =
     let ns = some_there (places_in (tag 0x0004 0x1220) [] set) some in
     let same = places_many (tag 0x0004 0x1220) [] set in
     let xs = sets_there (places_in (tag 0x0004 0x1220) [] set) (items_in (tag 0x0004 0x1220) set) same ns.0 ns.1 in
     let sets : records_in set ≡ Some xs.0 = sym (items_in-is (tag 0x0004 0x1220) set) ∙ xs.1 in
     let by = length front in (
-      record { first = f; last = l; starts = map (λ (n : ℕ). n + by) ns.0; sets = xs.0; beside = beside_in set },
-      with_all_there front by set f l ns.0 xs.0 refl first last ns.1 sets,
+      record { first = f; last = l; starts = map (λ (n : ℕ). n + by) ns.0; sets = xs.0; beside = beside_in uid set },
+      with_all_there uid front by set f l ns.0 xs.0 refl first last ns.1 sets,
       omega (arith, ns.2, length-map ns.0 (λ (n : ℕ). n + by)),
     )
 

@@ -38,6 +38,7 @@ tree_realised label m withdrawn up sent =
       walk = walk;
       is_walk = is;
       only = λ other so. one_walk (directory label m withdrawn) walk other is so;
+      uid = refl;
       id = id_said label versions withdrawn sent.id;
       visits = visits;
       reached = refl;

@@ -90,12 +90,12 @@ contents_at label versions withdrawn = record {
   last = last_root label versions;
   starts = map (at label versions) (tree versions);
   sets = map (λ x. (node_at label versions x).set) (tree versions);
-  beside = beside_in (directory_set label versions withdrawn);
+  beside = beside_in label.uid (directory_set label versions withdrawn);
 }
 
 set_says : (label : Label) (versions : List Parts) (withdrawn : List (List ℕ)) → records_end label versions < 2 ^ 32
     → All (IsSound (length versions)) (records_of label versions)
-    → contents_in (head_text (meta_of label)) (directory_set label versions withdrawn)
+    → contents_in label.uid (head_text (meta_of label)) (directory_set label versions withdrawn)
     ≡ Some (contents_at label versions withdrawn)
 unfolding contents_in
 set_says label versions withdrawn small sound =
@@ -105,7 +105,7 @@ set_says label versions withdrawn small sound =
     let other = from_le_bytes-to_le_bytes_4 (last_root label versions) (omega (arith, last, small)) in
     let starts = places_are label versions withdrawn sound in
     let sets = sets_are versions (record_at label versions) (tree versions) in
-    let beside = beside_in (directory_set label versions withdrawn) in
+    let beside = beside_in label.uid (directory_set label versions withdrawn) in
     λ i. contents_by beside (Some (one i)) (Some (other i)) (starts i) (Some (sets i))
 
 pub file_says : (label : Label) (versions : List Parts) (withdrawn : List (List ℕ)) → IsSent label versions withdrawn
@@ -118,7 +118,8 @@ file_says label versions withdrawn sent =
       set = set;
       at = length head;
       is_file = sent.file;
-      says = ap (λ (front : List ℕ). contents_in front set) (take_at head (elements_text set) (length head) refl)
+      says = ap (λ (front : List ℕ). contents_in label.uid front set)
+          (take_at head (elements_text set) (length head) refl)
           ∙ set_says label versions withdrawn (end_small label versions withdrawn sent.small) sent.sound;
     }
 
@@ -213,7 +214,7 @@ tree_linked versions =
 -- the trees that grow from the rows
 abbrev pub tree_walk : Label → List Parts → List (List ℕ) → Walk
 tree_walk label versions withdrawn = record {
-  beside = beside_in (directory_set label versions withdrawn);
+  beside = beside_in label.uid (directory_set label versions withdrawn);
   trees = (grown (node_at label versions) (tree versions)).patient;
   unreached = 0;
 }

@@ -121,13 +121,13 @@ chosen_contents false o contents e = absurd cc
 -- of a file that is a directory
 pub contents_parts : (file : List ℕ) (meta : Meta) (set : Elements) (at : ℕ) (contents : Contents)
     → contents_of file meta set at ≡ Some contents → (is_directory_meta meta ≡ true)
-    × Named contents (beside_in set) (first_in set) (last_in set) (places_in (tag 0x0004 0x1220) (take at file) set)
-    (records_in set)
+    × Named contents (beside_in meta.instance set) (first_in set) (last_in set)
+    (places_in (tag 0x0004 0x1220) (take at file) set) (records_in set)
 unfolding contents_in
 contents_parts file meta set at contents e =
-    let chosen = chosen_contents (is_directory_meta meta) (contents_in (take at file) set) contents e in (
+    let chosen = chosen_contents (is_directory_meta meta) (contents_in meta.instance (take at file) set) contents e in (
       chosen.0,
-      contents_named contents (beside_in set) (first_in set) (last_in set)
+      contents_named contents (beside_in meta.instance set) (first_in set) (last_in set)
           (places_in (tag 0x0004 0x1220) (take at file) set) (records_in set) chosen.1,
     )
 

@@ -30,12 +30,16 @@ tree_view = fold-Tree Branch tree_step
 abbrev pub trees_view : List Tree → Trees
 trees_view ts = trees_of (map tree_view ts)
 
-abbrev pub beside_view : Bor (List ℕ) → Option (Bor (List ℕ)) → Beside
-beside_view id withdrawn = record { id = id.now; withdrawn = option_map (λ value. value.now) withdrawn }
+abbrev pub beside_view : List ℕ → Bor (List ℕ) → Option (Bor (List ℕ)) → Beside
+beside_view uid id withdrawn = record {
+  uid = uid;
+  id = id.now;
+  withdrawn = option_map (λ value. value.now) withdrawn;
+}
 
 abbrev pub walk_view : Forest → Walk
 walk_view f = record {
-  beside = beside_view f.id f.withdrawn;
+  beside = beside_view f.uid f.id f.withdrawn;
   trees = trees_view f.trees.items;
   unreached = f.unreached;
 }

@@ -33,7 +33,7 @@ directory_view held = record {
   last = held.last;
   starts = held.starts.items;
   sets = sets_of (items_view held.items.items);
-  beside = beside_view held.id held.withdrawn;
+  beside = beside_view held.uid held.id held.withdrawn;
 }
 
 -- What was answered is what there is. Memory is wanted only where there are records.

@@ -39,14 +39,15 @@ contents_by beside (Some first) (Some last) (Some starts) None = None
 contents_by beside (Some first) (Some last) (Some starts) (Some sets) =
     Some (record { first = first; last = last; starts = starts; sets = sets; beside = beside })
 
--- of a data set that stands behind the bytes `front`: none where an offset is missing or the records are no items
-unfoldable pub contents_in : List ℕ → Elements → Option Contents
-contents_in front set = contents_by (beside_in set) (first_in set) (last_in set)
+-- of a data set that this UID names and that stands behind the bytes `front`: none where an offset is missing or the
+-- records are no items
+unfoldable pub contents_in : List ℕ → List ℕ → Elements → Option Contents
+contents_in uid front set = contents_by (beside_in uid set) (first_in set) (last_in set)
     (places_in (tag 0x0004 0x1220) front set) (records_in set)
 
 -- of a file with this meta information and this data set, which starts at this byte
 abbrev pub contents_of : List ℕ → Meta → Elements → ℕ → Option Contents
-contents_of file meta set at = if is_directory_meta meta then contents_in (take at file) set else None
+contents_of file meta set at = if is_directory_meta meta then contents_in meta.instance (take at file) set else None
 
 -- the elements of the item that starts at an offset
 abbrev pub stands_in : List ℕ → List Elements → ℕ → Option Elements

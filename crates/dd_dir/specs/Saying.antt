@@ -102,6 +102,6 @@ withdrawn_in set =
     if is_creator (value_at (tag 0x0009 0x0010) set) then option_map clean_of (value_of (tag 0x0009 0x1002) set)
     else None
 
--- what it says beside its records
-abbrev pub beside_in : Elements → Beside
-beside_in set = record { id = id_in set; withdrawn = withdrawn_in set }
+-- what it says beside its records, where this UID names it
+abbrev pub beside_in : List ℕ → Elements → Beside
+beside_in uid set = record { uid = uid; id = id_in set; withdrawn = withdrawn_in set }

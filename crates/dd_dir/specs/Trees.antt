@@ -24,9 +24,10 @@ abbrev pub last_root_or : ℕ → Trees → ℕ
 last_root_or before no_trees = before
 last_root_or before (tree node below after) = last_root_or node.at after
 
--- what a directory says beside its records: its File-set ID, and the value that names its withdrawn UIDs, where it has
--- one
+-- what a directory says beside its records: its UID, its File-set ID, and the value that names its withdrawn UIDs,
+-- where it has one
 pub record Beside : Type 0 where
+  pub uid : List ℕ
   pub id : List ℕ
   pub withdrawn : Option (List ℕ)
 

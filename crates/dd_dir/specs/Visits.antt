@@ -74,15 +74,16 @@ pub record VisitsEachOnce (m : List Parts) (paths : List Path) : Type 0 where
   pub once : (v : Parts) → Contains m v → length (filter (is_path (path_of v)) paths) ≡ 1
   pub others : (x : Path) → Contains paths x → (v : Parts) × Contains m v × (leads_to x (path_of v) ≡ true)
 
--- The versions are a catalogue: of each instance one. The bytes have one walk, with the File-set ID of the label. The
--- records that it visits are those of the tree of these versions in harmony, one by one: the keys of each and of those
--- above it as its bytes say them, its offset, that of the record above, its type and all its elements; all are in use,
--- and none is left unreached.
+-- The versions are a catalogue: of each instance one. The bytes have one walk, with the UID and the File-set ID of the
+-- label. The records that it visits are those of the tree of these versions in harmony, one by one: the keys of each
+-- and of those above it as its bytes say them, its offset, that of the record above, its type and all its elements; all
+-- are in use, and none is left unreached.
 pub record Realises (label : Label) (m : List Parts) (file : List ℕ) : Type 0 where
   pub catalogue : IsCatalogue m
   pub walk : Walk
   pub is_walk : IsWalk file walk
   pub only : (other : Walk) → IsWalk file other → other ≡ walk
+  pub uid : walk.beside.uid ≡ label.uid
   pub id : walk.beside.id ≡ label.id
   pub visits : visits_of walk ≡ map (visit_at label (harmonised m)) (tree (harmonised m))
   pub reached : walk.unreached ≡ 0

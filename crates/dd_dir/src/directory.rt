@@ -11,6 +11,7 @@ ghost use Rattle.dd_dir.specs.Saying.{id_in, withdrawn_in};
 use crate::fault::DirFault;
 use crate::slots::items_of;
 use crate::values::{clean_at, number_at};
+use dd_elem::Uid;
 use dd_keys::value_at;
 use dd_layout::table::CREATOR;
 use dd_layout::{
@@ -21,10 +22,11 @@ use dd_part10::Meta;
 use dd_set::{DataSet, Item, Syntax};
 use std::alloc::Global;
 
-/// What a directory says: its File-set ID, the value that names its withdrawn UIDs, the places of the
+/// What a directory says: its UID, its File-set ID, the value that names its withdrawn UIDs, the places of the
 /// first and of the last root record, and where the items start that may be records.
 #[derive(Debug, Drop)]
 pub(crate) struct Directory<'a> {
+    pub(crate) uid: Uid,
     pub(crate) id: &'a [u8],
     pub(crate) withdrawn: Option<&'a [u8]>,
     pub(crate) first: u32,
@@ -40,16 +42,18 @@ pub(crate) fn is_directory_meta(meta: &Meta) -> bool
     meta.class.as_bytes() == DIRECTORY_CLASS && meta.transfer.as_bytes() == DIRECTORY_SYNTAX
 }
 
-/// What a data set says that stands behind `at` bytes.
+/// What a data set says that this UID names and that stands behind `at` bytes.
 #[tactic(auto, unfolding(crate::specs::Reading::contents_in))]
 pub(crate) fn directory_of<'a>(
     alloc: Global,
+    uid: Uid,
     set: DataSet<'a>,
     at: u64,
 ) -> Result<Directory<'a>, DirFault>
     requires spelled { Spells Explicit (set_view set) (elements_text (set_view set)) }
     requires fits { at + length (elements_text (set_view set)) < 2 ^ 64 }
-    ensures { (front : List ℕ) → length front ≡ at → TellsContents (contents_in front (set_view set.entry)) result }
+    ensures { (front : List ℕ) → length front ≡ at
+        → TellsContents (contents_in uid front (set_view set.entry)) result }
 {
     let Some(first) = number_at(&set, FIRST_ROOT) else {
         return Err(DirFault::NotDirectory);
@@ -67,6 +71,7 @@ pub(crate) fn directory_of<'a>(
         return Err(DirFault::NotDirectory);
     };
     Ok(Directory {
+        uid,
         id,
         withdrawn,
         first,

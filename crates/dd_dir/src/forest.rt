@@ -1,11 +1,14 @@
 //! What a directory holds, as trees of its records.
 
+use dd_elem::Uid;
 use dd_set::DataSet;
 
 /// The records of a directory as their offsets join them (PS3.3 section F.4). The values are slices of
 /// the bytes that it was read from.
 #[derive(Debug, Drop)]
 pub struct Forest<'a> {
+    /// The Media Storage SOP Instance UID (0002,0003), which is the UID of the file-set.
+    pub uid: Uid,
     /// The File-set ID without its padding; empty where there is none.
     pub id: &'a [u8],
     /// The value that names the withdrawn SOP Instance UIDs, without its padding: None where there is no

@@ -59,7 +59,7 @@ fn read_forest<'a>(alloc: Global, bytes: &'a [u8]) -> Result<Forest<'a>, DirFaul
     if !is_directory_meta(&file.meta) {
         return Err(DirFault::NotDirectory);
     }
-    let directory = directory_of(alloc, file.set, file.set_at)?;
+    let directory = directory_of(alloc, file.meta.instance, file.set, file.set_at)?;
     walked(alloc, directory)
 }
 
@@ -72,6 +72,7 @@ fn walked<'a>(alloc: Global, directory: Directory<'a>) -> Result<Forest<'a>, Dir
     ensures memory { result ≡ Err Memory → 0 < length directory.entry.starts.items }
 {
     let Directory {
+        uid,
         id,
         withdrawn,
         first,
@@ -85,6 +86,7 @@ fn walked<'a>(alloc: Global, directory: Directory<'a>) -> Result<Forest<'a>, Dir
         return Err(DirFault::LastRoot);
     }
     Ok(Forest {
+        uid,
         id,
         withdrawn,
         trees,

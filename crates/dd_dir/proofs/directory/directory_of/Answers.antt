@@ -18,12 +18,12 @@ use Rattle.dd_dir.proofs.directory.directory_of.Goals as goal
 pub returns-in_err-starts : goal.returns-in_err-starts
 returns-in_err-starts c = λ front long.
     let is : c.from_residual.result ≡ Err Memory = search rules in
-    rw is (wanted_there front (set_view c.args.set) c.in-Some.first c.in-Some-number_at.last (sym c.in-Some.ensures)
-    (sym c.in-Some-number_at.ensures) c.in_err-starts.ensures.memory)
+    rw is (wanted_there c.args.uid front (set_view c.args.set) c.in-Some.first c.in-Some-number_at.last
+    (sym c.in-Some.ensures) (sym c.in-Some-number_at.ensures) c.in_err-starts.ensures.memory)
 
 pub returns-in_default-2 : goal.returns-in_default-2
 returns-in_default-2 c = λ front long.
-    without_starts front (set_view c.args.set) (sym (c.in_ok-starts.ensures.spelled c.requires.spelled)
+    without_starts c.args.uid front (set_view c.args.set) (sym (c.in_ok-starts.ensures.spelled c.requires.spelled)
     ∙ ap (λ (o : Option (Vec ℕ Global)). option_map (λ (v : Vec ℕ Global). v.items) o) c.in_default-2.is)
 
 pub shift-requires : goal.shift-requires
@@ -52,6 +52,7 @@ returns c = λ front long.
     omega (arith, ap length moved, length-map ns (λ (n : ℕ). n + c.args.at), c.in-Some-2.starts.ok) in
     let written : (with_items c.in-Some-2.starts c.shift.new.starts).items ≡ c.shift.new.starts =
     with_items_is c.in-Some-2.starts c.shift.new.starts many in
+    let set = set_view c.args.set in
     let sets = sets_of (items_view c.in-Some-items_of.items.items) in
     let made : List ℕ → Beside → Contents = λ starts beside. record {
       first = c.in-Some.first;
@@ -60,8 +61,12 @@ returns c = λ front long.
       sets = sets;
       beside = beside;
     } in
-    with_all_there front c.args.at (set_view c.args.set) c.in-Some.first c.in-Some-number_at.last ns sets long
+    with_all_there c.args.uid front c.args.at set c.in-Some.first c.in-Some-number_at.last ns sets long
     (sym c.in-Some.ensures) (sym c.in-Some-number_at.ensures) are (sym c.in-Some-items_of.ensures)
-    ∙ ap (λ (starts : List ℕ). Some (made starts (beside_in (set_view c.args.set)))) (sym moved ∙ sym written)
+    ∙ ap (λ (starts : List ℕ). Some (made starts (beside_in c.args.uid set))) (sym moved ∙ sym written)
     ∙ ap (λ (beside : Beside). Some (made (with_items c.in-Some-2.starts c.shift.new.starts).items beside))
-    (λ i. record { id = sym c.id_of-id.ensures i; withdrawn = sym c.withdrawn_of-withdrawn.ensures i })
+    (λ i. record {
+      uid = c.args.uid;
+      id = sym c.id_of-id.ensures i;
+      withdrawn = sym c.withdrawn_of-withdrawn.ensures i;
+    })

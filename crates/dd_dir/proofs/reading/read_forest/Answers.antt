@@ -33,7 +33,7 @@ returns-in_err-directory-clause-refused c =
     let file = c.args.bytes.now in
     let is_file : IsFile file f.meta (set_view f.set) f.set_at = search rules in
     let class : is_directory_meta f.meta ≡ true = sym c.if-not-is_directory_meta.ensures in
-    let told : TellsContents (contents_in (take f.set_at file) (set_view f.set)) (Err fault) =
+    let told : TellsContents (contents_in f.meta.instance (take f.set_at file) (set_view f.set)) (Err fault) =
     c.in_err-directory.ensures (take f.set_at file) (front_length file f.meta (set_view f.set) f.set_at is_file).1 in
     let p = err_from_is_err_and c.from_residual-in_err-directory.result c.from_residual-in_err-directory.ensures.1 in
     let is : c.from_residual-in_err-directory.result ≡ Err fault = same_exit _ _ _ p.1 p.2 in
@@ -45,11 +45,11 @@ returns-in_err-directory-clause-group c = λ memory.
     let fault = c.in_err-directory.field-0.0 in
     let file = c.args.bytes.now in
     let is_file : IsFile file f.meta (set_view f.set) f.set_at = search rules in
-    let told : TellsContents (contents_in (take f.set_at file) (set_view f.set)) (Err fault) =
+    let told : TellsContents (contents_in f.meta.instance (take f.set_at file) (set_view f.set)) (Err fault) =
     c.in_err-directory.ensures (take f.set_at file) (front_length file f.meta (set_view f.set) f.set_at is_file).1 in
     let p = err_from_is_err_and c.from_residual-in_err-directory.result c.from_residual-in_err-directory.ensures.1 in
     let is : c.from_residual-in_err-directory.result ≡ Err fault = same_exit _ _ _ p.1 p.2 in
-    absurd (told_no_file (contents_in (take f.set_at file) (set_view f.set)) fault
+    absurd (told_no_file (contents_in f.meta.instance (take f.set_at file) (set_view f.set)) fault
     (file_faults.Meta set_faults.Memory) told
     (same_fault _ _ _ is memory))
 
@@ -59,11 +59,11 @@ returns-in_err-directory-clause-set c = λ memory.
     let fault = c.in_err-directory.field-0.0 in
     let file = c.args.bytes.now in
     let is_file : IsFile file f.meta (set_view f.set) f.set_at = search rules in
-    let told : TellsContents (contents_in (take f.set_at file) (set_view f.set)) (Err fault) =
+    let told : TellsContents (contents_in f.meta.instance (take f.set_at file) (set_view f.set)) (Err fault) =
     c.in_err-directory.ensures (take f.set_at file) (front_length file f.meta (set_view f.set) f.set_at is_file).1 in
     let p = err_from_is_err_and c.from_residual-in_err-directory.result c.from_residual-in_err-directory.ensures.1 in
     let is : c.from_residual-in_err-directory.result ≡ Err fault = same_exit _ _ _ p.1 p.2 in
-    absurd (told_no_file (contents_in (take f.set_at file) (set_view f.set)) fault
+    absurd (told_no_file (contents_in f.meta.instance (take f.set_at file) (set_view f.set)) fault
     (file_faults.Set set_faults.Memory) told
     (same_fault _ _ _ is memory))
 
@@ -74,7 +74,7 @@ returns-in_err-directory-clause-records c = λ memory.
     let file = c.args.bytes.now in
     let is_file : IsFile file f.meta (set_view f.set) f.set_at = search rules in
     let class : is_directory_meta f.meta ≡ true = sym c.if-not-is_directory_meta.ensures in
-    let told : TellsContents (contents_in (take f.set_at file) (set_view f.set)) (Err fault) =
+    let told : TellsContents (contents_in f.meta.instance (take f.set_at file) (set_view f.set)) (Err fault) =
     c.in_err-directory.ensures (take f.set_at file) (front_length file f.meta (set_view f.set) f.set_at is_file).1 in
     let p = err_from_is_err_and c.from_residual-in_err-directory.result c.from_residual-in_err-directory.ensures.1 in
     let is : c.from_residual-in_err-directory.result ≡ Err fault = same_exit _ _ _ p.1 p.2 in
@@ -87,10 +87,10 @@ walked-requires-clause-rise c =
     let file = c.args.bytes.now in
     let is_file : IsFile file f.meta (set_view f.set) f.set_at = search rules in
     let class : is_directory_meta f.meta ≡ true = sym c.if-not-is_directory_meta.ensures in
-    let told : contents_in (take f.set_at file) (set_view f.set) ≡ Some (directory_view c.in_ok-directory.directory) =
+    let contents = directory_view c.in_ok-directory.directory in
+    let told : contents_in f.meta.instance (take f.set_at file) (set_view f.set) ≡ Some contents =
     c.in_ok-directory.ensures (take f.set_at file) (front_length file f.meta (set_view f.set) f.set_at is_file).1 in
-    starts_rise file (directory_view c.in_ok-directory.directory)
-    (is_directory file f.meta (set_view f.set) f.set_at (directory_view c.in_ok-directory.directory) is_file class told)
+    starts_rise file contents (is_directory file f.meta (set_view f.set) f.set_at contents is_file class told)
 
 pub walked-requires-clause-each : goal.walked-requires-clause-each
 walked-requires-clause-each c =
@@ -98,10 +98,10 @@ walked-requires-clause-each c =
     let file = c.args.bytes.now in
     let is_file : IsFile file f.meta (set_view f.set) f.set_at = search rules in
     let class : is_directory_meta f.meta ≡ true = sym c.if-not-is_directory_meta.ensures in
-    let told : contents_in (take f.set_at file) (set_view f.set) ≡ Some (directory_view c.in_ok-directory.directory) =
+    let contents = directory_view c.in_ok-directory.directory in
+    let told : contents_in f.meta.instance (take f.set_at file) (set_view f.set) ≡ Some contents =
     c.in_ok-directory.ensures (take f.set_at file) (front_length file f.meta (set_view f.set) f.set_at is_file).1 in
-    starts_many file (directory_view c.in_ok-directory.directory)
-    (is_directory file f.meta (set_view f.set) f.set_at (directory_view c.in_ok-directory.directory) is_file class told)
+    starts_many file contents (is_directory file f.meta (set_view f.set) f.set_at contents is_file class told)
     ∙ sets_many c.in_ok-directory.directory.items.items
 
 pub returns-clause-walk : goal.returns-clause-walk
@@ -111,7 +111,7 @@ returns-clause-walk c =
     let is_file : IsFile file f.meta (set_view f.set) f.set_at = search rules in
     let class : is_directory_meta f.meta ≡ true = sym c.if-not-is_directory_meta.ensures in
     let contents = directory_view c.in_ok-directory.directory in
-    let told : contents_in (take f.set_at file) (set_view f.set) ≡ Some contents =
+    let told : contents_in f.meta.instance (take f.set_at file) (set_view f.set) ≡ Some contents =
     c.in_ok-directory.ensures (take f.set_at file) (front_length file f.meta (set_view f.set) f.set_at is_file).1 in
     walk_in file contents c.walked.result
     (is_directory file f.meta (set_view f.set) f.set_at contents is_file class told)
@@ -124,7 +124,7 @@ returns-clause-refused c =
     let is_file : IsFile file f.meta (set_view f.set) f.set_at = search rules in
     let class : is_directory_meta f.meta ≡ true = sym c.if-not-is_directory_meta.ensures in
     let contents = directory_view c.in_ok-directory.directory in
-    let told : contents_in (take f.set_at file) (set_view f.set) ≡ Some contents =
+    let told : contents_in f.meta.instance (take f.set_at file) (set_view f.set) ≡ Some contents =
     c.in_ok-directory.ensures (take f.set_at file) (front_length file f.meta (set_view f.set) f.set_at is_file).1 in
     refused_in file contents c.walked.result
     (is_directory file f.meta (set_view f.set) f.set_at contents is_file class told)
@@ -137,7 +137,7 @@ returns-clause-records c = λ memory.
     let is_file : IsFile file f.meta (set_view f.set) f.set_at = search rules in
     let class : is_directory_meta f.meta ≡ true = sym c.if-not-is_directory_meta.ensures in
     let contents = directory_view c.in_ok-directory.directory in
-    let told : contents_in (take f.set_at file) (set_view f.set) ≡ Some contents =
+    let told : contents_in f.meta.instance (take f.set_at file) (set_view f.set) ≡ Some contents =
     c.in_ok-directory.ensures (take f.set_at file) (front_length file f.meta (set_view f.set) f.set_at is_file).1 in (
       contents,
       is_directory file f.meta
