@@ -9,7 +9,7 @@ use Rattle.std.proofs.lemmas.Grind.{flat_map-append}
 use Rattle.std.specs.Prelude.{IsErr, OnErr, OnOk}
 use Rattle.std.specs.Borrow.{Bor}
 use Rattle.std.specs.List.{concat, flat_map, repeat}
-use Rattle.dd_report.specs.Telling.{Fails, GoesOn, Tells, Way, parts_of, shown, shown_byte, shown_line}
+use Rattle.dd_report.specs.Telling.{Fails, GoesOn, Tells, Way, parts_of, shown, shown_byte, shown_line, way}
 use Rattle.dd_report.specs.Text.{FailsAmid, Sent, TakesAll}
 use Rattle.dd_report.proofs.TextLemmas.{fails_before, fails_more, sent_last, rest_fails}
 use Rattle.dd_elem.proofs.Known.{appends_none}
@@ -89,6 +89,20 @@ pub fails_of_none : (text : List ℕ) (a b : Way) → a.waits ≡ [] → Fails t
 fails_of_none text a b none failed =
     subst (λ (xs : List ℕ). FailsAmid a.holds b.holds a.failures b.failures (xs ++ text)) none failed
 
+pub text_sent : {T E : Type 0} (r : Result T E) (text start rest : List ℕ) (a b c : Option (List ℕ)) (f g h : ℕ)
+    → start ≡ [] → GoesOn text (way start a f) (way rest b g) → OnOk r (TakesAll b c g h rest)
+    → OnOk r (TakesAll a c f h text)
+text_sent (Ok done) text start rest a b c f g h none goes took =
+    all_goes text (way start a f) (way rest b g) c h none goes took
+text_sent (Err fault) text start rest a b c f g h none goes took = tt
+
+pub text_unsent : {T E : Type 0} (r : Result T E) (text start rest : List ℕ) (a b c : Option (List ℕ)) (f g h : ℕ)
+    → start ≡ [] → GoesOn text (way start a f) (way rest b g) → OnErr r (FailsAmid b c g h rest)
+    → OnErr r (FailsAmid a c f h text)
+text_unsent (Ok done) text start rest a b c f g h none goes failed = tt
+text_unsent (Err fault) text start rest a b c f g h none goes failed =
+    none_goes text (way start a f) (way rest b g) c h none goes failed
+
 -- ---- the texts of a list's elements
 
 -- the texts of the first `i` elements went
@@ -158,23 +172,22 @@ shown_parts (part ∷ parts) =
 abbrev pub PartsWent : List (Bor (List ℕ)) → ℕ → Way → Way → Type 0
 PartsWent parts i old new = Went (λ (part : Bor (List ℕ)). shown part.now) parts i old new
 
-pub line_fails : {T E : Type 0} (r : Result T E) (parts : List (Bor (List ℕ))) (i : ℕ) (d : Bor (List ℕ)) (a b c : Way)
+pub part_fails : {T E : Type 0} (r : Result T E) (parts : List (Bor (List ℕ))) (i : ℕ) (d : Bor (List ℕ)) (a b c : Way)
     → IsErr r → i < length parts → PartsWent parts i a b → Fails (shown (get_or parts i d).now) b c
-    → Tells r (shown_line (parts_of parts)) a c
-line_fails r parts i d a b c err within so_far failed =
-    let all : Tells r (shown (concat (parts_of parts))) a c =
+    → Tells r (shown (concat (parts_of parts))) a c
+part_fails r parts i d a b c err within so_far failed =
     went_fails r (λ (part : Bor (List ℕ)). shown part.now) parts i d (shown (get_or parts i d).now)
-    (shown (concat (parts_of parts))) a b c err within refl (shown_parts parts) so_far failed in
-    tells_more r (shown (concat (parts_of parts))) (10 ∷ []) a c err all
+    (shown (concat (parts_of parts))) a b c err within refl (shown_parts parts) so_far failed
 
-pub line_ends : {T E : Type 0} (r : Result T E) (parts : List (Bor (List ℕ))) (i : ℕ) (a b c : Way)
-    → length parts ≤ i → PartsWent parts i a b
-    → OnOk r (GoesOn (10 ∷ []) b c) → OnErr r (Fails (10 ∷ []) b c) → Tells r (shown_line (parts_of parts)) a c
-line_ends r parts i a b c past so_far sent unsent =
-    tells_then r (shown (concat (parts_of parts))) (10 ∷ []) a b c
-    (went_all (λ (part : Bor (List ℕ)). shown part.now) parts i (shown (concat (parts_of parts))) a b past
-    (shown_parts parts) so_far)
-    (tells_both r (10 ∷ []) b c sent unsent)
+-- its words, and then its end
+pub line_fails : {T E : Type 0} (r : Result T E) (words : List (List ℕ)) (a b : Way)
+    → IsErr r → Fails (shown (concat words)) a b → Tells r (shown_line words) a b
+line_fails r words a b err failed =
+    tells_err r (shown_line words) a b err (fails_front (shown (concat words)) (10 ∷ []) a b failed)
+
+pub line_ends : {T E : Type 0} (r : Result T E) (words : List (List ℕ)) (a b c : Way)
+    → GoesOn (shown (concat words)) a b → Tells r (10 ∷ []) b c → Tells r (shown_line words) a c
+line_ends r words a b c so_far end = tells_then r (shown (concat words)) (10 ∷ []) a b c so_far end
 
 -- ---- a text that is repeated
 

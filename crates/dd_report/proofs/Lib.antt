@@ -5,6 +5,7 @@ mod HexDigits
 mod KeyFindings
 mod ListedLines
 pub mod Masking
+mod RecordLines
 mod TextLemmas
 mod ToldTrees
 mod WithdrawnLines

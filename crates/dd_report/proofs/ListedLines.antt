@@ -1,126 +1,107 @@
 -- The lines of trees, and how many records they have.
-use Rattle.std.proofs.Common.{◌≡◌, ◌∙◌, ℕ, List, [], ◌∷◌, ◌++◌, ◌+◌, ◌<◌, Option, Result, Ok, Err, length, take, get_or}
-use Rattle.std.proofs.Common.{refl, sym, ap, subst, arith, rules, length-append}
-use Rattle.std.specs.Prelude.{IsErr, OnErr, OnOk, codes}
-use Rattle.std.specs.Fmt.{decimal}
-use Rattle.std.specs.List.{flat_map, repeat}
+use Rattle.std.proofs.Common.{◌≡◌, ◌∙◌, ℕ, List, [], ◌∷◌, ◌++◌, ◌+◌, ◌<◌, Result, Some, length, take, get_or}
+use Rattle.std.proofs.Common.{refl, sym, ap, ap₂, subst, arith, rules, length-append}
+use Rattle.std.specs.Prelude.{IsErr}
+use Rattle.std.specs.List.{flat_map}
 use Rattle.dd_elem.specs.Device.{counted}
 use Rattle.dd_dir.specs.declared.forest.Tree.{Tree, out-Tree, the_lemmas}
 use Rattle.dd_dir.specs.declared.forest.Forest.{Forest}
 use Rattle.dd_dir.specs.ForestViews.{tree_view, trees_view, walk_view}
-use Rattle.dd_dir.specs.Trees.{places}
+use Rattle.dd_dir.specs.Trees.{Walk, places}
 use Rattle.dd_dir.specs.Withdrawn.{withdrawn_of}
-use Rattle.dd_report.specs.Listing.{branch_lines, flag_of, label_of, lines_of, listing_text, record_line, spaced}
-use Rattle.dd_report.specs.Listing.{totals_line, withdrawn_lines}
-use Rattle.dd_report.specs.Telling.{Fails, GoesOn, Tells, Way, shown_line, way}
-use Rattle.dd_report.specs.Text.{FailsAmid, TakesAll}
-use Rattle.dd_report.proofs.GoingOn.{all_goes, fails_behind, fails_front, none_goes}
-use Rattle.dd_report.proofs.GoingOn.{one_more, tells_err, tells_then}
+use Rattle.dd_report.specs.declared.known.Form.{Form}
+use Rattle.dd_report.specs.declared.known.Form.TheVariants.{Long}
+use Rattle.dd_report.specs.Listing.{branch_lines, lines_in, lines_of, long_listing, or_dash, record_line, set_line}
+use Rattle.dd_report.specs.Listing.{set_parts, totals_line, withdrawn_lines}
+use Rattle.dd_report.specs.Telling.{Fails, GoesOn, Tells, Way, shown_line}
+use Rattle.dd_report.proofs.GoingOn.{fails_behind, fails_front, one_more, tells_err, tells_then}
 
 -- ---- lines
 
-abbrev pub tree_lines : ℕ → Tree → List ℕ
-tree_lines level t = branch_lines level (tree_view t)
+abbrev pub tree_lines : Form → ℕ → Tree → List ℕ
+tree_lines form level t = branch_lines form level (tree_view t)
 
-pub lines_each : (level : ℕ) (trees : List Tree) → lines_of level (trees_view trees) ≡ flat_map (tree_lines level) trees
-lines_each level [] = refl
-lines_each level (t ∷ trees) = ap (λ (xs : List ℕ). tree_lines level t ++ xs) (lines_each level trees)
-
-at_same : (t : Tree) → (tree_view t).node.at ≡ (out-Tree t).at
-at_same t = search (rules, the_lemmas)
-
-kind_same : (t : Tree) → (tree_view t).node.kind ≡ (out-Tree t).kind.now
-kind_same t = search (rules, the_lemmas)
+pub lines_each : (form : Form) (level : ℕ) (trees : List Tree)
+    → lines_of form level (trees_view trees) ≡ flat_map (tree_lines form level) trees
+lines_each form level [] = refl
+lines_each form level (t ∷ trees) =
+    ap (λ (xs : List ℕ). tree_lines form level t ++ xs) (lines_each form level trees)
 
 below_is : (t : Tree) → (tree_view t).below ≡ trees_view (out-Tree t).below.items
 below_is t = search (rules, the_lemmas)
 
 -- the line of a record, and then those of the records below it
-pub branch_goes : {T E : Type 0} (r : Result T E) (level deeper : ℕ) (t : Tree) (trees : List Tree) (a b c : Way)
-    → deeper ≡ counted level → trees ≡ (out-Tree t).below.items → GoesOn (record_line level (tree_view t).node) a b
-    → Tells r (lines_of deeper (trees_view trees)) b c → Tells r (branch_lines level (tree_view t)) a c
-branch_goes r level deeper t trees a b c deep is first rest =
-    let same : lines_of deeper (trees_view trees) ≡ lines_of (counted level) (tree_view t).below =
-    ap (λ (k : ℕ). lines_of k (trees_view trees)) deep
-    ∙ ap (λ (ts : List Tree). lines_of (counted level) (trees_view ts)) is
-    ∙ ap (lines_of (counted level)) (sym (below_is t)) in
-    tells_then r (record_line level (tree_view t).node) (lines_of (counted level) (tree_view t).below) a b c first
-    (subst (λ (text : List ℕ). Tells r text b c) same rest)
+pub branch_goes : {T E : Type 0} (r : Result T E) (form : Form) (level deeper : ℕ) (t : Tree) (trees : List Tree)
+    (a b c : Way) → deeper ≡ counted level → trees ≡ (out-Tree t).below.items
+    → GoesOn (record_line form level (tree_view t).node) a b
+    → Tells r (lines_of form deeper (trees_view trees)) b c → Tells r (branch_lines form level (tree_view t)) a c
+branch_goes r form level deeper t trees a b c deep is first rest =
+    let same : lines_of form deeper (trees_view trees) ≡ lines_of form (counted level) (tree_view t).below =
+    ap (λ (k : ℕ). lines_of form k (trees_view trees)) deep
+    ∙ ap (λ (ts : List Tree). lines_of form (counted level) (trees_view ts)) is
+    ∙ ap (lines_of form (counted level)) (sym (below_is t)) in
+    tells_then r (record_line form level (tree_view t).node) (lines_of form (counted level) (tree_view t).below) a b c
+    first (subst (λ (text : List ℕ). Tells r text b c) same rest)
 
-pub branch_fails : {T E : Type 0} (r : Result T E) (level : ℕ) (t : Tree) (a b : Way) → IsErr r
-    → Fails (record_line level (tree_view t).node) a b → Tells r (branch_lines level (tree_view t)) a b
-branch_fails r level t a b err failed =
-    let first = record_line level (tree_view t).node in
-    let below = lines_of (counted level) (tree_view t).below in
+pub branch_fails : {T E : Type 0} (r : Result T E) (form : Form) (level : ℕ) (t : Tree) (a b : Way) → IsErr r
+    → Fails (record_line form level (tree_view t).node) a b → Tells r (branch_lines form level (tree_view t)) a b
+branch_fails r form level t a b err failed =
+    let first = record_line form level (tree_view t).node in
+    let below = lines_of form (counted level) (tree_view t).below in
     tells_err r (first ++ below) a b err (fails_front first below a b failed)
-
--- the spaces before a record's line, and then its words
-pub line_goes : {T E : Type 0} (r : Result T E) (level : ℕ) (t : Tree) (at kind label flag : List ℕ) (a b c : Way)
-    → at ≡ decimal (out-Tree t).at → kind ≡ (out-Tree t).kind.now → label ≡ label_of (tree_view t).node
-    → flag ≡ flag_of (tree_view t).node → GoesOn (repeat level (codes "  ")) a b
-    → Tells r (shown_line (spaced at kind label flag)) b c → Tells r (record_line level (tree_view t).node) a c
-line_goes r level t at kind label flag a b c at_is kind_is label_is flag_is indent words =
-    let node = (tree_view t).node in
-    let same : shown_line (spaced at kind label flag)
-    ≡ shown_line (spaced (decimal node.at) node.kind (label_of node) (flag_of node)) =
-    ap (λ (xs : List ℕ). shown_line (spaced xs kind label flag)) (at_is ∙ ap decimal (sym (at_same t)))
-    ∙ ap (λ (xs : List ℕ). shown_line (spaced (decimal node.at) xs label flag)) (kind_is ∙ sym (kind_same t))
-    ∙ ap (λ (xs : List ℕ). shown_line (spaced (decimal node.at) node.kind xs flag)) label_is
-    ∙ ap (λ (xs : List ℕ). shown_line (spaced (decimal node.at) node.kind (label_of node) xs)) flag_is in
-    tells_then r (repeat level (codes "  "))
-    (shown_line (spaced (decimal node.at) node.kind (label_of node) (flag_of node))) a b c indent
-    (subst (λ (text : List ℕ). Tells r text b c) same words)
 
 -- ---- a directory
 
 -- the lines of the records, the lines of what is withdrawn, and the last line
-pub all_listed : {T E : Type 0} (r : Result T E) (forest : Forest) (trees : List Tree) (a b c d : Way)
-    → trees ≡ forest.trees.items → GoesOn (lines_of 0 (trees_view trees)) a b
+pub all_listed : {T E : Type 0} (r : Result T E) (form : Form) (forest : Forest) (trees : List Tree) (a b c d : Way)
+    → trees ≡ forest.trees.items → GoesOn (lines_of form 0 (trees_view trees)) a b
     → GoesOn (withdrawn_lines (withdrawn_of (walk_view forest))) b c → Tells r (totals_line (walk_view forest)) c d
-    → Tells r (listing_text (walk_view forest)) a d
-all_listed r forest trees a b c d is records withdrawn totals =
+    → Tells r (lines_in form (walk_view forest)) a d
+all_listed r form forest trees a b c d is records withdrawn totals =
     let lines = withdrawn_lines (withdrawn_of (walk_view forest)) in
     let last = totals_line (walk_view forest) in
-    tells_then r (lines_of 0 (trees_view forest.trees.items)) (lines ++ last) a b d
-    (subst (λ (ts : List Tree). GoesOn (lines_of 0 (trees_view ts)) a b) is records)
+    tells_then r (lines_of form 0 (trees_view forest.trees.items)) (lines ++ last) a b d
+    (subst (λ (ts : List Tree). GoesOn (lines_of form 0 (trees_view ts)) a b) is records)
     (tells_then r lines last b c d withdrawn totals)
 
 -- the writer failed in the lines of what is withdrawn
-pub withdrawn_fails : {T E : Type 0} (r : Result T E) (forest : Forest) (trees : List Tree) (a b c : Way) → IsErr r
-    → trees ≡ forest.trees.items → GoesOn (lines_of 0 (trees_view trees)) a b
-    → Fails (withdrawn_lines (withdrawn_of (walk_view forest))) b c → Tells r (listing_text (walk_view forest)) a c
-withdrawn_fails r forest trees a b c err is records failed =
+pub withdrawn_fails : {T E : Type 0} (r : Result T E) (form : Form) (forest : Forest) (trees : List Tree) (a b c : Way)
+    → IsErr r → trees ≡ forest.trees.items → GoesOn (lines_of form 0 (trees_view trees)) a b
+    → Fails (withdrawn_lines (withdrawn_of (walk_view forest))) b c → Tells r (lines_in form (walk_view forest)) a c
+withdrawn_fails r form forest trees a b c err is records failed =
     let lines = withdrawn_lines (withdrawn_of (walk_view forest)) in
     let last = totals_line (walk_view forest) in
-    tells_err r (listing_text (walk_view forest)) a c err
-    (fails_behind (lines_of 0 (trees_view forest.trees.items)) (lines ++ last) a b c
-    (subst (λ (ts : List Tree). GoesOn (lines_of 0 (trees_view ts)) a b) is records)
+    tells_err r (lines_in form (walk_view forest)) a c err
+    (fails_behind (lines_of form 0 (trees_view forest.trees.items)) (lines ++ last) a b c
+    (subst (λ (ts : List Tree). GoesOn (lines_of form 0 (trees_view ts)) a b) is records)
     (fails_front lines last b c failed))
 
 -- the writer failed in the lines of the records
-pub records_fail : {T E : Type 0} (r : Result T E) (forest : Forest) (trees : List Tree) (a b : Way) → IsErr r
-    → trees ≡ forest.trees.items → Fails (lines_of 0 (trees_view trees)) a b
-    → Tells r (listing_text (walk_view forest)) a b
-records_fail r forest trees a b err is failed =
+pub records_fail : {T E : Type 0} (r : Result T E) (form : Form) (forest : Forest) (trees : List Tree) (a b : Way)
+    → IsErr r → trees ≡ forest.trees.items → Fails (lines_of form 0 (trees_view trees)) a b
+    → Tells r (lines_in form (walk_view forest)) a b
+records_fail r form forest trees a b err is failed =
     let rest = withdrawn_lines (withdrawn_of (walk_view forest)) ++ totals_line (walk_view forest) in
-    tells_err r (listing_text (walk_view forest)) a b err
-    (fails_front (lines_of 0 (trees_view forest.trees.items)) rest a b
-    (subst (λ (ts : List Tree). Fails (lines_of 0 (trees_view ts)) a b) is failed))
+    tells_err r (lines_in form (walk_view forest)) a b err
+    (fails_front (lines_of form 0 (trees_view forest.trees.items)) rest a b
+    (subst (λ (ts : List Tree). Fails (lines_of form 0 (trees_view ts)) a b) is failed))
 
--- all that waits then goes, or the writer fails
-pub listing_sent : {T E : Type 0} (r : Result T E) (text start rest : List ℕ) (a b c : Option (List ℕ)) (f g h : ℕ)
-    → start ≡ [] → GoesOn text (way start a f) (way rest b g) → OnOk r (TakesAll b c g h rest)
-    → OnOk r (TakesAll a c f h text)
-listing_sent (Ok done) text start rest a b c f g h none lines took =
-    all_goes text (way start a f) (way rest b g) c h none lines took
-listing_sent (Err fault) text start rest a b c f g h none lines took = tt
+-- ---- what names the file-set
 
-pub listing_unsent : {T E : Type 0} (r : Result T E) (text start rest : List ℕ) (a b c : Option (List ℕ)) (f g h : ℕ)
-    → start ≡ [] → GoesOn text (way start a f) (way rest b g) → OnErr r (FailsAmid b c g h rest)
-    → OnErr r (FailsAmid a c f h text)
-listing_unsent (Ok done) text start rest a b c f g h none lines failed = tt
-listing_unsent (Err fault) text start rest a b c f g h none lines failed =
-    none_goes text (way start a f) (way rest b g) c h none lines failed
+pub names_fail : {T E : Type 0} (r : Result T E) (walk : Walk) (id uid : List ℕ) (a b : Way) → IsErr r
+    → id ≡ or_dash (Some walk.beside.id) → uid ≡ walk.beside.uid → Fails (shown_line (set_parts id uid)) a b
+    → Tells r (long_listing walk) a b
+names_fail r walk id uid a b err id_is uid_is failed =
+    tells_err r (long_listing walk) a b err
+    (fails_front (set_line walk) (lines_in Long walk) a b
+    (subst (λ (parts : List (List ℕ)). Fails (shown_line parts) a b) (ap₂ set_parts id_is uid_is) failed))
+
+pub names_lead : {T E : Type 0} (r : Result T E) (walk : Walk) (id uid : List ℕ) (a b c : Way)
+    → id ≡ or_dash (Some walk.beside.id) → uid ≡ walk.beside.uid → GoesOn (shown_line (set_parts id uid)) a b
+    → Tells r (lines_in Long walk) b c → Tells r (long_listing walk) a c
+names_lead r walk id uid a b c id_is uid_is names lines =
+    tells_then r (set_line walk) (lines_in Long walk) a b c
+    (subst (λ (parts : List (List ℕ)). GoesOn (shown_line parts) a b) (ap₂ set_parts id_is uid_is) names) lines
 
 -- ---- counts
 

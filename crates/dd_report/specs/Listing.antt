@@ -1,4 +1,5 @@
--- What a listing of a directory says of its records (PS3.3 section F.3) and of what is withdrawn.
+-- What a listing of a directory says of its records (PS3.3 section F.3) and of what is withdrawn, and what a long one
+-- says of its file-set too.
 use Rattle.std.specs.Prelude.{ℕ, min, List, [], ◌∷◌, ◌++◌, length, Option, None, Some, codes}
 use Rattle.std.specs.Prelude.{if◌then◌else◌}
 use Rattle.std.specs.Fmt.{decimal}
@@ -7,12 +8,15 @@ use Rattle.std.specs.Str.{bytes_eq}
 use Rattle.dd_elem.specs.declared.tag.Tag.{Tag}
 use Rattle.dd_elem.specs.Device.{counted, last_count}
 use Rattle.dd_keys.specs.Values.{value_at}
-use Rattle.dd_layout.specs.declared.level.Level.TheVariants.{Patient, Study, Series}
+use Rattle.dd_set.specs.Elements.{Elements}
+use Rattle.dd_layout.specs.declared.level.Level.TheVariants.{Patient, Study, Series, Image}
 use Rattle.dd_layout.specs.Entries.{tag}
 use Rattle.dd_layout.specs.Records.{kind_of}
 use Rattle.dd_dir.specs.ForestViews.{Branch}
 use Rattle.dd_dir.specs.Trees.{Node, Trees, Walk, no_trees, places, tree}
 use Rattle.dd_dir.specs.Withdrawn.{withdrawn_of}
+use Rattle.dd_report.specs.declared.known.Form.{Form}
+use Rattle.dd_report.specs.declared.known.Form.TheVariants.{Short, Long}
 use Rattle.dd_report.specs.Telling.{shown_line}
 
 -- ---- the line of a record
@@ -41,24 +45,43 @@ flag_of node = if node.in_use then [] else codes " inactive"
 abbrev pub spaced : List ℕ → List ℕ → List ℕ → List ℕ → List (List ℕ)
 spaced first second third mark = first ∷ codes " " ∷ second ∷ codes " " ∷ third ∷ mark ∷ []
 
--- two spaces for each level, and then what the record says
-abbrev pub record_parts : Node → List (List ℕ)
-record_parts node = spaced (decimal node.at) node.kind (label_of node) (flag_of node)
+-- the elements that a person knows a record of this type by: the name of the patient; the date, the time and the
+-- description of the study; the modality and the number of the series; the number of the image
+abbrev pub known_tags : List ℕ → List Tag
+known_tags kind =
+    if bytes_eq kind (kind_of Patient) then tag 0x0010 0x0010 ∷ []
+    else (if bytes_eq kind (kind_of Study) then tag 0x0008 0x0020 ∷ tag 0x0008 0x0030 ∷ tag 0x0008 0x1030 ∷ []
+    else (if bytes_eq kind (kind_of Series) then tag 0x0008 0x0060 ∷ tag 0x0020 0x0011 ∷ []
+    else (if bytes_eq kind (kind_of Image) then tag 0x0020 0x0013 ∷ [] else [])))
 
-abbrev pub record_line : ℕ → Node → List ℕ
-record_line level node = repeat level (codes "  ") ++ shown_line (record_parts node)
+-- those that a listing of this form shows
+abbrev pub tags_in : Form → List ℕ → List Tag
+tags_in Short kind = []
+tags_in Long kind = known_tags kind
+
+-- the value of an element behind ` | `
+abbrev pub value_parts : Elements → Tag → List (List ℕ)
+value_parts set wanted = codes " | " ∷ or_dash (value_at wanted set) ∷ []
+
+-- two spaces for each level, then what the record says, and in a long listing what a person knows it by
+abbrev pub record_parts : Form → Node → List (List ℕ)
+record_parts form node = spaced (decimal node.at) node.kind (label_of node) (flag_of node)
+    ++ flat_map (value_parts node.set) (tags_in form node.kind)
+
+abbrev pub record_line : Form → ℕ → Node → List ℕ
+record_line form level node = repeat level (codes "  ") ++ shown_line (record_parts form node)
 
 -- ---- the lines of all records
 
 -- depth first: of each record its line and the lines of those below it, then of those after it. Levels count.
-abbrev pub lines_of : ℕ → Trees → List ℕ
-lines_of level no_trees = []
-lines_of level (tree node below after) =
-    (record_line level node ++ lines_of (counted level) below) ++ lines_of level after
+abbrev pub lines_of : Form → ℕ → Trees → List ℕ
+lines_of form level no_trees = []
+lines_of form level (tree node below after) =
+    (record_line form level node ++ lines_of form (counted level) below) ++ lines_of form level after
 
 -- those of a record and of the records below it
-abbrev pub branch_lines : ℕ → Branch → List ℕ
-branch_lines level branch = record_line level branch.node ++ lines_of (counted level) branch.below
+abbrev pub branch_lines : Form → ℕ → Branch → List ℕ
+branch_lines form level branch = record_line form level branch.node ++ lines_of form (counted level) branch.below
 
 -- ---- the lines of what is withdrawn
 
@@ -79,5 +102,21 @@ abbrev pub totals_line : Walk → List ℕ
 totals_line walk = shown_line (
     decimal (record_count walk.trees) ∷ codes " records, " ∷ decimal walk.unreached ∷ codes " unreached" ∷ [])
 
+abbrev pub lines_in : Form → Walk → List ℕ
+lines_in form walk = lines_of form 0 walk.trees ++ (withdrawn_lines (withdrawn_of walk) ++ totals_line walk)
+
 abbrev pub listing_text : Walk → List ℕ
-listing_text walk = lines_of 0 walk.trees ++ (withdrawn_lines (withdrawn_of walk) ++ totals_line walk)
+listing_text walk = lines_in Short walk
+
+-- the ID and the UID of a file-set
+abbrev pub set_parts : List ℕ → List ℕ → List (List ℕ)
+set_parts id uid = codes "FILE-SET " ∷ id ∷ codes " " ∷ uid ∷ []
+
+-- those that the directory says, of which the UID is never empty
+abbrev pub set_line : Walk → List ℕ
+set_line walk = shown_line (set_parts (or_dash (Some walk.beside.id)) walk.beside.uid)
+
+-- the long listing: what names the file-set, and then each line as in the short one, with what a person knows its
+-- record by
+abbrev pub long_listing : Walk → List ℕ
+long_listing walk = set_line walk ++ lines_in Long walk

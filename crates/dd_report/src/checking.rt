@@ -19,7 +19,7 @@ use crate::listing::record_count;
 use crate::words::{tell_fault, tell_tag};
 use dd_dir::{Forest, Tree};
 use dd_elem::{Memory, Read, Write};
-use dd_files::{Files, SOURCE_LIMIT, digest_text, file_path};
+use dd_files::{Files, SOURCE_LIMIT, Step, digest_text, file_path};
 use dd_layout::Level;
 use itoa::Buffer;
 use std::alloc::Global;
@@ -56,8 +56,9 @@ struct Check<'a> {
 }
 
 /// Checks the files that the records of a directory name, in this folder, by this comparison, and prints what
-/// is found, depth first and once for each record. Answers whether something is found. Memory where a growth
-/// is refused; Unsent where the output fails. The findings of the records before that are sent.
+/// is found, depth first and once for each record. The files show meanwhile how many records are checked.
+/// Answers whether something is found. Memory where a growth is refused; Unsent where the output fails. The
+/// findings of the records before that are sent.
 pub fn check_records<F: Files, W: Write>(
     alloc: Global,
     folder: &str,
@@ -122,11 +123,33 @@ fn check_forest<F: Files, W: Write>(
         (way lines.new (W.contents to.new) (W.failures to.new)) }
     ensures kept { F.held files.new ≡ F.held files.old }
 {
-    let found = check_trees(check, &forest.trees, Inherited::at_root(), files, lines, to)?;
+    let found = check_counted(check, &forest.trees, files, lines, to)?;
     match tell_end(forest, found, lines, to) {
         Ok(()) => Ok(found || forest.unreached > 0),
         Err(_) => Err(CheckFault::Unsent),
     }
+}
+
+/// Checks the files of the root records and of those below them, and shows meanwhile how many records are
+/// checked.
+fn check_counted<F: Files, W: Write>(
+    check: Check<'_>,
+    trees: &[Tree<'_>],
+    files: &mut F,
+    lines: &mut LineBuffer,
+    to: &mut W,
+) -> Result<bool, CheckFault>
+    ensures checks { Checks F.In.has_given F.In.remaining F.In.calls F.In.failures (F.held files.old)
+        check.entry.folder.now check.entry.comparison
+        (standings_below [] (trees_view trees.now)) result (F.refusals files.old) (F.refusals files.new)
+        (way lines.old (W.contents to.old) (W.failures to.old))
+        (way lines.new (W.contents to.new) (W.failures to.new)) }
+    ensures kept { F.held files.new ≡ F.held files.old }
+{
+    files.begin_progress(Step::Reading, record_count(trees));
+    let checked = check_trees(check, trees, Inherited::at_root(), files, lines, to);
+    files.hide_progress();
+    checked
 }
 
 /// Prints how many items no offset reaches, where there are some; or else how many records there are, where
@@ -224,9 +247,11 @@ fn check_record<F: Files, W: Write>(
     let Ok(finding) = finding_in(check, tree, inherited, files) else {
         return Err(CheckFault::Memory);
     };
+    files.advance();
     let Some(finding) = finding else {
         return Ok(false);
     };
+    files.hide_progress();
     match tell_finding(tree, &finding, lines, to) {
         Ok(()) => Ok(true),
         Err(_) => Err(CheckFault::Unsent),

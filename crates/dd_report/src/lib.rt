@@ -1,12 +1,14 @@
 //! Reports on a directory, on its records and on the files that they name, and sends lines to a device without
 //! taking memory.
 //!
-//! What it promises stands at `list_records`, `check_records`, `finding_of`, `print_line` and `send_text`.
+//! What it promises stands at `list_records`, `list_long`, `check_records`, `finding_of`, `print_line`, `show_line`
+//! and `send_text`.
 #![tactic(auto)]
 
 mod agreements;
 mod checking;
 mod findings;
+mod known;
 mod line_buffer;
 mod listing;
 mod text;
@@ -14,5 +16,5 @@ mod words;
 
 pub use checking::{CheckFault, Comparison, check_records};
 pub use findings::{Finding, finding_of};
-pub use listing::list_records;
-pub use text::{Text, print_line, send_text};
+pub use listing::{list_long, list_records};
+pub use text::{Text, print_line, send_text, show_line};

@@ -1,6 +1,7 @@
 //! Lines on their way to a device.
-ghost use Rattle.std.specs.Prelude.{◌≡◌, ◌+◌, ◌++◌, ◌≤◌, ◌↔◌, ℕ, List, [], IsTrue, OnErr, OnOk, codes, length, take};
-ghost use Rattle.std.specs.List.{repeat};
+ghost use Rattle.std.specs.Prelude.{◌≡◌, ◌+◌, ◌++◌, ◌≤◌, ◌↔◌, ◌∷◌, ℕ, List, [], IsTrue, OnErr, OnOk, codes, length};
+ghost use Rattle.std.specs.Prelude.{take};
+ghost use Rattle.std.specs.List.{concat, repeat};
 ghost use Rattle.dd_report.specs.Telling.{Tells, parts_of, shown, shown_byte, shown_line, way};
 ghost use Rattle.dd_report.specs.Text.{FailsAmid, Sent, TakesAll, masked};
 
@@ -95,19 +96,42 @@ impl LineBuffer {
 
     /// Adds a line of these parts, one behind the other, with `?` for each byte that does not print.
     pub(crate) fn add_line<W: Write>(&mut self, parts: &[&[u8]], to: &mut W) -> fmt::Result
-        ensures { Tells result (shown_line (parts_of parts.now)) (way self.old (W.contents to.old) (W.failures to.old))
+        ensures told { Tells result (shown_line (parts_of parts.now))
+            (way self.old (W.contents to.old) (W.failures to.old))
             (way self.new (W.contents to.new) (W.failures to.new)) }
+        ensures rest { W.rest to.new ≡ W.rest to.old }
+    {
+        self.add_parts(parts, to)?;
+        self.add_end(to)
+    }
+
+    /// Adds these parts to the line, one behind the other, with `?` for each byte that does not print.
+    pub(crate) fn add_parts<W: Write>(&mut self, parts: &[&[u8]], to: &mut W) -> fmt::Result
+        ensures told { Tells result (shown (concat (parts_of parts.now)))
+            (way self.old (W.contents to.old) (W.failures to.old))
+            (way self.new (W.contents to.new) (W.failures to.new)) }
+        ensures rest { W.rest to.new ≡ W.rest to.old }
     {
         for part in parts {
             self.add_shown(part, to)?;
         }
+        Ok(())
+    }
+
+    /// Ends the line.
+    pub(crate) fn add_end<W: Write>(&mut self, to: &mut W) -> fmt::Result
+        ensures told { Tells result (10 ∷ []) (way self.old (W.contents to.old) (W.failures to.old))
+            (way self.new (W.contents to.new) (W.failures to.new)) }
+        ensures rest { W.rest to.new ≡ W.rest to.old }
+    {
         self.add(b"\n", to)
     }
 
     /// Adds bytes to the line, `?` for each that does not print.
     fn add_shown<W: Write>(&mut self, text: &[u8], to: &mut W) -> fmt::Result
-        ensures { Tells result (shown text.now) (way self.old (W.contents to.old) (W.failures to.old))
+        ensures told { Tells result (shown text.now) (way self.old (W.contents to.old) (W.failures to.old))
             (way self.new (W.contents to.new) (W.failures to.new)) }
+        ensures rest { W.rest to.new ≡ W.rest to.old }
     {
         for byte in text {
             self.add(&[shown_byte(*byte)], to)?;

@@ -1,20 +1,25 @@
 //! The records of a directory, and what is withdrawn, as lines.
 ghost use Rattle.std.specs.Prelude.{◌≡◌, ◌∷◌, OnErr, OnOk, option_map};
+ghost use Rattle.std.specs.List.{concat};
+ghost use Rattle.dd_elem.specs.Device.{counted};
+ghost use Rattle.dd_keys.specs.Values.{value_at};
+ghost use Rattle.dd_set.specs.Views.{set_view};
 ghost use Rattle.dd_dir.specs.ForestViews.{tree_view, trees_view, walk_view};
 ghost use Rattle.dd_dir.specs.Withdrawn.{pieces_in, pieces_of};
-ghost use Rattle.dd_elem.specs.Device.{counted};
-ghost use Rattle.dd_report.specs.Listing.{branch_lines, flag_of, label_of, label_tag, lines_of, listing_text};
-ghost use Rattle.dd_report.specs.Listing.{or_dash, record_count, record_line, spaced, totals_line};
-ghost use Rattle.dd_report.specs.Listing.{withdrawn_line, withdrawn_lines};
-ghost use Rattle.dd_report.specs.Telling.{Tells, shown_line, way};
+ghost use Rattle.dd_report.specs.Listing.{branch_lines, flag_of, label_of, label_tag, lines_in, lines_of};
+ghost use Rattle.dd_report.specs.Listing.{listing_text, long_listing, or_dash, record_count, record_line, record_parts};
+ghost use Rattle.dd_report.specs.Listing.{set_parts, spaced, totals_line, withdrawn_line, withdrawn_lines};
+ghost use Rattle.dd_report.specs.Telling.{Tells, shown, shown_line, way};
 ghost use Rattle.dd_report.specs.Text.{FailsAmid, TakesAll};
 
+use crate::known::{Form, add_values, tags_in};
 use crate::line_buffer::LineBuffer;
 use dd_dir::{Forest, Tree};
 use dd_elem::{Tag, Write};
 use dd_keys::value_at;
 use dd_layout::Level;
 use dd_layout::table::{FILE, PATIENT_ID, SERIES_UID, STUDY_UID};
+use dd_set::DataSet;
 use itoa::Buffer;
 use std::fmt;
 
@@ -28,17 +33,55 @@ pub fn list_records<W: Write>(forest: &Forest<'_>, to: &mut W) -> fmt::Result
         (W.failures to.old) (W.failures to.new) (listing_text (walk_view forest.now))) }
 {
     let mut lines = LineBuffer::new();
-    list_forest(forest, &mut lines, to)?;
+    list_forest(forest, Form::Short, &mut lines, to)?;
     lines.flush(to)
 }
 
-/// Lists the records, what is withdrawn, and how many records there are.
-fn list_forest<W: Write>(forest: &Forest<'_>, lines: &mut LineBuffer, to: &mut W) -> fmt::Result
-    ensures { Tells result (listing_text (walk_view forest.now))
+/// Lists a directory as `list_records` does, for a person: before all a line with the File-set ID and the UID of
+/// the directory, and in the line of each PATIENT, STUDY, SERIES and IMAGE record the values that a person knows
+/// it by. It fails only where the output does, and takes no memory.
+pub fn list_long<W: Write>(forest: &Forest<'_>, to: &mut W) -> fmt::Result
+    ensures sent { OnOk result (TakesAll (W.contents to.old) (W.contents to.new)
+        (W.failures to.old) (W.failures to.new) (long_listing (walk_view forest.now))) }
+    ensures unsent { OnErr result (FailsAmid (W.contents to.old) (W.contents to.new)
+        (W.failures to.old) (W.failures to.new) (long_listing (walk_view forest.now))) }
+{
+    let mut lines = LineBuffer::new();
+    list_set(forest, &mut lines, to)?;
+    lines.flush(to)
+}
+
+/// Lists what names the file-set, and then its records in the long form.
+fn list_set<W: Write>(forest: &Forest<'_>, lines: &mut LineBuffer, to: &mut W) -> fmt::Result
+    ensures { Tells result (long_listing (walk_view forest.now))
         (way lines.old (W.contents to.old) (W.failures to.old))
         (way lines.new (W.contents to.new) (W.failures to.new)) }
 {
-    list_trees(&forest.trees, 0, lines, to)?;
+    list_names(or_dash(Some(forest.id)), forest.uid.as_bytes(), lines, to)?;
+    list_forest(forest, Form::Long, lines, to)
+}
+
+/// Lists the ID and the UID of a file-set.
+fn list_names<W: Write>(id: &[u8], uid: &[u8], lines: &mut LineBuffer, to: &mut W) -> fmt::Result
+    ensures { Tells result (shown_line (set_parts id.now uid.now))
+        (way lines.old (W.contents to.old) (W.failures to.old))
+        (way lines.new (W.contents to.new) (W.failures to.new)) }
+{
+    lines.add_line(&[b"FILE-SET ", id, b" ", uid], to)
+}
+
+/// Lists the records in this form, what is withdrawn, and how many records there are.
+fn list_forest<W: Write>(
+    forest: &Forest<'_>,
+    form: Form,
+    lines: &mut LineBuffer,
+    to: &mut W,
+) -> fmt::Result
+    ensures { Tells result (lines_in form (walk_view forest.now))
+        (way lines.old (W.contents to.old) (W.failures to.old))
+        (way lines.new (W.contents to.new) (W.failures to.new)) }
+{
+    list_trees(&forest.trees, 0, form, lines, to)?;
     list_withdrawn(forest.withdrawn, lines, to)?;
     list_totals(forest, lines, to)
 }
@@ -48,15 +91,16 @@ fn list_forest<W: Write>(forest: &Forest<'_>, lines: &mut LineBuffer, to: &mut W
 fn list_trees<W: Write>(
     trees: &[Tree<'_>],
     level: u64,
+    form: Form,
     lines: &mut LineBuffer,
     to: &mut W,
 ) -> fmt::Result
-    ensures { Tells result (lines_of level (trees_view trees.now))
+    ensures { Tells result (lines_of form level (trees_view trees.now))
         (way lines.old (W.contents to.old) (W.failures to.old))
         (way lines.new (W.contents to.new) (W.failures to.new)) }
 {
     for tree in trees {
-        list_tree(tree, level, lines, to)?;
+        list_tree(tree, level, form, lines, to)?;
     }
     Ok(())
 }
@@ -66,35 +110,53 @@ fn list_trees<W: Write>(
 fn list_tree<W: Write>(
     tree: &Tree<'_>,
     level: u64,
+    form: Form,
     lines: &mut LineBuffer,
     to: &mut W,
 ) -> fmt::Result
-    ensures { Tells result (branch_lines level (tree_view tree.now))
+    ensures { Tells result (branch_lines form level (tree_view tree.now))
         (way lines.old (W.contents to.old) (W.failures to.old))
         (way lines.new (W.contents to.new) (W.failures to.new)) }
 {
-    list_record(tree, level, lines, to)?;
-    list_trees(&tree.below, level.saturating_add(1), lines, to)
+    list_record(tree, level, form, lines, to)?;
+    list_trees(&tree.below, level.saturating_add(1), form, lines, to)
 }
 
 /// Lists this record.
 fn list_record<W: Write>(
     tree: &Tree<'_>,
     level: u64,
+    form: Form,
     lines: &mut LineBuffer,
     to: &mut W,
 ) -> fmt::Result
-    ensures { Tells result (record_line level (tree_view tree.now).node)
+    ensures { Tells result (record_line form level (tree_view tree.now).node)
         (way lines.old (W.contents to.old) (W.failures to.old))
         (way lines.new (W.contents to.new) (W.failures to.new)) }
 {
     lines.add_indent(level, to)?;
-    let mut at = Buffer::new();
-    let at = at.format(tree.at).as_bytes();
-    add_words(at, tree.kind, label_of(tree), flag_of(tree), lines, to)
+    add_parts(tree, form, lines, to)
 }
 
-/// Adds a line of these words, with spaces between the first three.
+/// Adds what this record says, and the end of the line.
+fn add_parts<W: Write>(
+    tree: &Tree<'_>,
+    form: Form,
+    lines: &mut LineBuffer,
+    to: &mut W,
+) -> fmt::Result
+    ensures { Tells result (shown_line (record_parts form (tree_view tree.now).node))
+        (way lines.old (W.contents to.old) (W.failures to.old))
+        (way lines.new (W.contents to.new) (W.failures to.new)) }
+{
+    let mut at = Buffer::new();
+    let at = at.format(tree.at).as_bytes();
+    add_words(at, tree.kind, label_of(tree), flag_of(tree), lines, to)?;
+    add_values(&tree.set, tags_in(form, tree.kind), lines, to)?;
+    lines.add_end(to)
+}
+
+/// Adds these words, with spaces between the first three.
 fn add_words<W: Write>(
     at: &[u8],
     kind: &[u8],
@@ -103,18 +165,25 @@ fn add_words<W: Write>(
     lines: &mut LineBuffer,
     to: &mut W,
 ) -> fmt::Result
-    ensures { Tells result (shown_line (spaced at.now kind.now label.now flag.now))
+    ensures { Tells result (shown (concat (spaced at.now kind.now label.now flag.now)))
         (way lines.old (W.contents to.old) (W.failures to.old))
         (way lines.new (W.contents to.new) (W.failures to.new)) }
 {
-    lines.add_line(&[at, b" ", kind, b" ", label, flag], to)
+    lines.add_parts(&[at, b" ", kind, b" ", label, flag], to)
 }
 
 /// What the record is known by.
 fn label_of<'t>(tree: &'t Tree<'_>) -> &'t [u8]
     ensures { result.now ≡ label_of (tree_view tree.now).node }
 {
-    or_dash(value_at(&tree.set, label_tag(tree.kind)))
+    value_or_dash(&tree.set, label_tag(tree.kind))
+}
+
+/// The value of this element, or `-` where it is absent or empty or a sequence.
+pub(crate) fn value_or_dash<'t>(set: &'t DataSet<'_>, tag: Tag) -> &'t [u8]
+    ensures { result.now ≡ or_dash (value_at tag (set_view set.now)) }
+{
+    or_dash(value_at(set, tag))
 }
 
 /// The value, or `-` where it is absent or empty.

@@ -1,5 +1,6 @@
 //! Printing to a device, with no memory.
 ghost use Rattle.std.specs.Prelude.{◌≡◌, OnErr, OnOk};
+ghost use Rattle.dd_report.specs.Telling.{parts_of, shown_line};
 ghost use Rattle.dd_report.specs.Text.{FailsAmid, TakesAll, line_text};
 
 use crate::line_buffer::LineBuffer;
@@ -50,6 +51,20 @@ pub fn print_line<W: Write>(parts: &[&str], to: &mut W) -> fmt::Result
         line.add_masked(part, to)?;
     }
     line.add(b"\n", to)?;
+    line.flush(to)
+}
+
+/// Prints the parts of a line, one behind the other, and the end of the line, as `print_line` does, but byte by
+/// byte: each byte of a part outside 20 to 7E prints as `?`.
+pub fn show_line<W: Write>(parts: &[&[u8]], to: &mut W) -> fmt::Result
+    ensures sent { OnOk result (TakesAll (W.contents to.old) (W.contents to.new)
+        (W.failures to.old) (W.failures to.new) (shown_line (parts_of parts.now))) }
+    ensures unsent { OnErr result (FailsAmid (W.contents to.old) (W.contents to.new)
+        (W.failures to.old) (W.failures to.new) (shown_line (parts_of parts.now))) }
+    ensures rest { W.rest to.new ≡ W.rest to.old }
+{
+    let mut line = LineBuffer::new();
+    line.add_line(parts, to)?;
     line.flush(to)
 }
 

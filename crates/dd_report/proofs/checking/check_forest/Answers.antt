@@ -1,5 +1,5 @@
 -- Behind the findings the end.
-use Rattle.std.proofs.Common.{◌≡◌, [], Err, refl}
+use Rattle.std.proofs.Common.{◌≡◌, Err, refl}
 use Rattle.std.proofs.lemmas.Result.{err_from_is_err_and}
 use Rattle.std.specs.Prelude.{not, nat_lt, ◌==◌}
 use Rattle.dd_report.specs.Telling.{way}
@@ -11,16 +11,16 @@ returns-then-found-clause-checks g c =
     all_checked g.F.In.Read.has_given g.F.In.Read.remaining g.F.In.Read.calls g.F.In.Read.failures
     (g.F.Files.held c.args.files.now) c.args.check.folder.now c.args.check.comparison c.args.forest.now
     c.deref.result.now c.in_ok-found.found (not (c.args.forest.now.unreached == 0)) c.in_ok-found.found
-    (g.F.Files.refusals c.args.files.now) (g.F.Files.refusals c.check_trees.new.files) _ _ _ c.deref.ensures.value
-    (c.in_ok-found.ensures.checks [] c.at_root.ensures) c.in-Ok.ensures refl (rw c.if-found.true refl)
+    (g.F.Files.refusals c.args.files.now) (g.F.Files.refusals c.check_counted.new.files) _ _ _ c.deref.ensures.value
+    (c.in_ok-found.ensures.checks) c.in-Ok.ensures refl (rw c.if-found.true refl)
 
 pub returns-else-found-clause-checks : goal.returns-else-found-clause-checks
 returns-else-found-clause-checks g c =
     all_checked g.F.In.Read.has_given g.F.In.Read.remaining g.F.In.Read.calls g.F.In.Read.failures
     (g.F.Files.held c.args.files.now) c.args.check.folder.now c.args.check.comparison c.args.forest.now
     c.deref.result.now c.in_ok-found.found (nat_lt 0 c.args.forest.now.unreached) _
-    (g.F.Files.refusals c.args.files.now) (g.F.Files.refusals c.check_trees.new.files) _ _ _ c.deref.ensures.value
-    (c.in_ok-found.ensures.checks [] c.at_root.ensures) c.in-Ok.ensures (some_unreached c.args.forest.now.unreached)
+    (g.F.Files.refusals c.args.files.now) (g.F.Files.refusals c.check_counted.new.files) _ _ _ c.deref.ensures.value
+    (c.in_ok-found.ensures.checks) c.in-Ok.ensures (some_unreached c.args.forest.now.unreached)
     (rw c.if-found.false refl)
 
 pub returns-in-Err-clause-checks : goal.returns-in-Err-clause-checks
@@ -28,12 +28,12 @@ returns-in-Err-clause-checks g c =
     end_unsent g.F.In.Read.has_given g.F.In.Read.remaining g.F.In.Read.calls g.F.In.Read.failures
     (g.F.Files.held c.args.files.now) c.args.check.folder.now c.args.check.comparison
     c.args.forest.now c.deref.result.now c.in_ok-found.found (g.F.Files.refusals c.args.files.now)
-    (g.F.Files.refusals c.check_trees.new.files)
+    (g.F.Files.refusals c.check_counted.new.files)
     (way c.args.lines.now (g.W.Write.contents c.args.to.now) (g.W.Write.failures c.args.to.now))
-    (way c.check_trees.new.lines (g.W.Write.contents c.check_trees.new.to)
-    (g.W.Write.failures c.check_trees.new.to))
+    (way c.check_counted.new.lines (g.W.Write.contents c.check_counted.new.to)
+    (g.W.Write.failures c.check_counted.new.to))
     (way c.tell_end.new.lines (g.W.Write.contents c.tell_end.new.to) (g.W.Write.failures c.tell_end.new.to))
-    c.deref.ensures.value (c.in_ok-found.ensures.checks [] c.at_root.ensures) c.in-Err.ensures
+    c.deref.ensures.value (c.in_ok-found.ensures.checks) c.in-Err.ensures
 
 pub returns-in_err-found-clause-checks : goal.returns-in_err-found-clause-checks
 returns-in_err-found-clause-checks g c =
@@ -42,6 +42,6 @@ returns-in_err-found-clause-checks g c =
     let fails : r ≡ Err c.in_err-found.field-0.0 = rw (p.1, p.2) refl in
     walk_ends g.F.In.Read.has_given g.F.In.Read.remaining g.F.In.Read.calls g.F.In.Read.failures
     (g.F.Files.held c.args.files.now) c.args.check.folder.now c.args.check.comparison c.args.forest.now
-    c.deref.result.now r c.check_trees.result c.in_err-found.field-0.0 (g.F.Files.refusals c.args.files.now)
-    (g.F.Files.refusals c.check_trees.new.files) _ _ c.deref.ensures.value fails c.in_err-found.was
-    (c.check_trees.ensures.checks [] c.at_root.ensures)
+    c.deref.result.now r c.check_counted.result c.in_err-found.field-0.0 (g.F.Files.refusals c.args.files.now)
+    (g.F.Files.refusals c.check_counted.new.files) _ _ c.deref.ensures.value fails c.in_err-found.was
+    c.check_counted.ensures.checks

@@ -1,5 +1,5 @@
 -- Nothing is printed where nothing is found.
-use Rattle.std.proofs.Common.{refl}
+use Rattle.std.proofs.Common.{◌∙◌, refl}
 use Rattle.dd_dir.specs.ForestViews.{tree_view}
 use Rattle.dd_report.specs.Agreements.{standing_below}
 use Rattle.dd_report.specs.Telling.{way}
@@ -17,29 +17,32 @@ returns-in_default-clause-checks g c = λ above said.
 
 pub returns-in_default-finding-clause-checks : goal.returns-in_default-finding-clause-checks
 returns-in_default-finding-clause-checks g c = λ above said.
-    record_quiet g.F.In.Read.has_given g.F.In.Read.remaining g.F.In.Read.calls g.F.In.Read.failures
+    rw c.advance.ensures.refusals
+    (record_quiet g.F.In.Read.has_given g.F.In.Read.remaining g.F.In.Read.calls g.F.In.Read.failures
     (g.F.Files.held c.args.files.now) c.args.check.folder.now c.args.check.comparison
     (standing_below above (tree_view c.args.tree.now).node) (g.F.Files.refusals c.args.files.now)
     (g.F.Files.refusals c.finding_in.new.files) c.in-Ok.finding
     (way c.args.lines.now (g.W.Write.contents c.args.to.now) (g.W.Write.failures c.args.to.now))
-    c.in_default-finding.is (c.in-Ok.ensures.found above said)
+    c.in_default-finding.is (c.in-Ok.ensures.found above said))
 
 pub returns-in-Ok-tell_finding-clause-checks : goal.returns-in-Ok-tell_finding-clause-checks
 returns-in-Ok-tell_finding-clause-checks g c = λ above said.
-    record_told g.F.In.Read.has_given g.F.In.Read.remaining g.F.In.Read.calls g.F.In.Read.failures
+    rw (c.hide_progress.ensures.refusals ∙ c.advance.ensures.refusals)
+    (record_told g.F.In.Read.has_given g.F.In.Read.remaining g.F.In.Read.calls g.F.In.Read.failures
     (g.F.Files.held c.args.files.now) c.args.check.folder.now c.args.check.comparison
     (standing_below above (tree_view c.args.tree.now).node) (g.F.Files.refusals c.args.files.now)
     (g.F.Files.refusals c.finding_in.new.files) c.in-Some.finding c.in-Ok.finding
     (way c.args.lines.now (g.W.Write.contents c.args.to.now) (g.W.Write.failures c.args.to.now))
     (way c.tell_finding.new.lines (g.W.Write.contents c.tell_finding.new.to) (g.W.Write.failures c.tell_finding.new.to))
-    c.in-Some.is (c.in-Ok.ensures.found above said) c.in-Ok-tell_finding.ensures
+    c.in-Some.is (c.in-Ok.ensures.found above said) c.in-Ok-tell_finding.ensures)
 
 pub returns-in-Err-clause-checks : goal.returns-in-Err-clause-checks
 returns-in-Err-clause-checks g c = λ above said.
-    record_unsent g.F.In.Read.has_given g.F.In.Read.remaining g.F.In.Read.calls g.F.In.Read.failures
+    rw (c.hide_progress.ensures.refusals ∙ c.advance.ensures.refusals)
+    (record_unsent g.F.In.Read.has_given g.F.In.Read.remaining g.F.In.Read.calls g.F.In.Read.failures
     (g.F.Files.held c.args.files.now) c.args.check.folder.now c.args.check.comparison
     (standing_below above (tree_view c.args.tree.now).node) (g.F.Files.refusals c.args.files.now)
     (g.F.Files.refusals c.finding_in.new.files) c.in-Some.finding c.in-Ok.finding
     (way c.args.lines.now (g.W.Write.contents c.args.to.now) (g.W.Write.failures c.args.to.now))
     (way c.tell_finding.new.lines (g.W.Write.contents c.tell_finding.new.to) (g.W.Write.failures c.tell_finding.new.to))
-    c.in-Some.is (c.in-Ok.ensures.found above said) c.in-Err.ensures
+    c.in-Some.is (c.in-Ok.ensures.found above said) c.in-Err.ensures)

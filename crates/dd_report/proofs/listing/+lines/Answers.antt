@@ -6,28 +6,29 @@ use Rattle.dd_report.proofs.listing.+lines.Goals as goal
 
 pub list_tree-returns-in_err-list_record : goal.list_tree-returns-in_err-list_record
 list_tree-returns-in_err-list_record g t c =
-    branch_fails c.from_residual.result c.args.level c.args.tree.now _ _ c.from_residual.ensures.0
+    branch_fails c.from_residual.result c.args.form c.args.level c.args.tree.now _ _ c.from_residual.ensures.0
     c.in_err-list_record.ensures
 
 pub list_tree-returns : goal.list_tree-returns
 list_tree-returns g t c =
-    branch_goes c.list_trees.result c.args.level c.saturating_add.result c.args.tree.now c.deref.result.now _ _ _
-    c.saturating_add.ensures c.deref.ensures.value c.in_ok-list_record.ensures c.list_trees.ensures
+    branch_goes c.list_trees.result c.args.form c.args.level c.saturating_add.result c.args.tree.now
+    c.deref.result.now _ _ _ c.saturating_add.ensures c.deref.ensures.value c.in_ok-list_record.ensures
+    c.list_trees.ensures
 
 pub list_trees-returns-in_err-list_tree : goal.list_trees-returns-in_err-list_tree
 list_trees-returns-in_err-list_tree g t c =
-    went_fails c.from_residual.result (tree_lines c.args.level) c.args.trees.now c.loop-tree.tree-index
+    went_fails c.from_residual.result (tree_lines c.args.form c.args.level) c.args.trees.now c.loop-tree.tree-index
     c.tree-item.result _ _ _ _ _ c.from_residual.ensures.0 c.loop-tree-test.true
-    (ap (tree_lines c.args.level) c.tree-item.is) (lines_each c.args.level c.args.trees.now) c.loop-tree.invariant
-    c.in_err-list_tree.ensures
+    (ap (tree_lines c.args.form c.args.level) c.tree-item.is)
+    (lines_each c.args.form c.args.level c.args.trees.now) c.loop-tree.invariant c.in_err-list_tree.ensures
 
 pub list_trees-loop-tree-preserved : goal.list_trees-loop-tree-preserved
 list_trees-loop-tree-preserved g t c =
-    went_more (tree_lines c.args.level) c.args.trees.now c.loop-tree.tree-index c.tree-item.result _ _ _ _
-    c.loop-tree-test.true (ap (tree_lines c.args.level) c.tree-item.is) c.loop-tree.invariant
+    went_more (tree_lines c.args.form c.args.level) c.args.trees.now c.loop-tree.tree-index c.tree-item.result _ _ _ _
+    c.loop-tree-test.true (ap (tree_lines c.args.form c.args.level) c.tree-item.is) c.loop-tree.invariant
     c.in_ok-list_tree.ensures
 
 pub list_trees-returns : goal.list_trees-returns
 list_trees-returns g t c =
-    went_all (tree_lines c.args.level) c.args.trees.now c.loop-tree.tree-index _ _ _ (omega arith)
-    (lines_each c.args.level c.args.trees.now) c.loop-tree.invariant
+    went_all (tree_lines c.args.form c.args.level) c.args.trees.now c.loop-tree.tree-index _ _ _ (omega arith)
+    (lines_each c.args.form c.args.level c.args.trees.now) c.loop-tree.invariant

@@ -4,16 +4,16 @@ use Rattle.dd_report.proofs.listing.list_forest.Goals as goal
 
 pub returns-in_err-list_trees : goal.returns-in_err-list_trees
 returns-in_err-list_trees g c =
-    records_fail c.from_residual.result c.args.forest.now c.deref.result.now _ _ c.from_residual.ensures.0
+    records_fail c.from_residual.result c.args.form c.args.forest.now c.deref.result.now _ _ c.from_residual.ensures.0
     c.deref.ensures.value c.in_err-list_trees.ensures
 
 pub returns-in_err-list_withdrawn : goal.returns-in_err-list_withdrawn
 returns-in_err-list_withdrawn g c =
-    withdrawn_fails c.from_residual-in_err-list_withdrawn.result c.args.forest.now c.deref.result.now _ _ _
+    withdrawn_fails c.from_residual-in_err-list_withdrawn.result c.args.form c.args.forest.now c.deref.result.now _ _ _
     c.from_residual-in_err-list_withdrawn.ensures.0 c.deref.ensures.value c.in_ok-list_trees.ensures
     c.in_err-list_withdrawn.ensures
 
 pub returns : goal.returns
 returns g c =
-    all_listed c.list_totals.result c.args.forest.now c.deref.result.now _ _ _ _ c.deref.ensures.value
+    all_listed c.list_totals.result c.args.form c.args.forest.now c.deref.result.now _ _ _ _ c.deref.ensures.value
     c.in_ok-list_trees.ensures c.in_ok-list_withdrawn.ensures c.list_totals.ensures

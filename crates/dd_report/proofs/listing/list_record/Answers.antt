@@ -1,10 +1,14 @@
--- Behind the spaces the words of the record.
-use Rattle.std.proofs.Common.{◌∙◌, refl}
-use Rattle.dd_report.proofs.ListedLines.{line_goes}
+-- Behind the spaces what the record says.
+use Rattle.std.proofs.Common.{codes}
+use Rattle.std.specs.List.{repeat}
+use Rattle.dd_dir.specs.ForestViews.{tree_view}
+use Rattle.dd_report.specs.Listing.{record_parts}
+use Rattle.dd_report.specs.Telling.{shown_line}
+use Rattle.dd_report.proofs.GoingOn.{tells_then}
 use Rattle.dd_report.proofs.listing.list_record.Goals as goal
 
 pub returns : goal.returns
 returns g c =
-    line_goes c.add_words.result c.args.level c.args.tree.now c.as_bytes-at.result.now _ c.label_of.result.now
-    c.flag_of.result.now _ _ _ (c.as_bytes-at.ensures.value ∙ c.format.ensures.text) refl c.label_of.ensures
-    c.flag_of.ensures c.in_ok-add_indent.ensures c.add_words.ensures
+    tells_then c.add_parts.result (repeat c.args.level (codes "  "))
+    (shown_line (record_parts c.args.form (tree_view c.args.tree.now).node)) _ _ _ c.in_ok-add_indent.ensures
+    c.add_parts.ensures

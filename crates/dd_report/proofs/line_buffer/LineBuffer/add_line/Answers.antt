@@ -1,21 +1,13 @@
--- A part more went, or the writer failed in it; and then the end of the line.
-use Rattle.std.proofs.Common.{ℕ, List, arith, refl}
-use Rattle.std.specs.Borrow.{Bor}
-use Rattle.dd_report.specs.Telling.{shown}
-use Rattle.dd_report.proofs.GoingOn.{line_ends, line_fails, went_more}
+-- The parts went, and then the end of the line.
+use Rattle.dd_report.specs.Telling.{parts_of}
+use Rattle.dd_report.proofs.GoingOn.{line_ends, line_fails}
 use Rattle.dd_report.proofs.line_buffer.LineBuffer.add_line.Goals as goal
 
-pub returns-in_err-add_shown : goal.returns-in_err-add_shown
-returns-in_err-add_shown g c =
-    line_fails c.from_residual.result c.args.parts.now c.loop-part.part-index _ _ _ _ c.from_residual.ensures.0
-    c.loop-part-test.true c.loop-part.invariant c.in_err-add_shown.ensures
+pub returns-in_err-add_parts-clause-told : goal.returns-in_err-add_parts-clause-told
+returns-in_err-add_parts-clause-told g c =
+    line_fails c.from_residual.result (parts_of c.args.parts.now) _ _ c.from_residual.ensures.0
+    c.in_err-add_parts.ensures.told
 
-pub loop-part-preserved : goal.loop-part-preserved
-loop-part-preserved g c =
-    went_more (λ (part : Bor (List ℕ)). shown part.now) c.args.parts.now c.loop-part.part-index _ _ _ _ _
-    c.loop-part-test.true refl c.loop-part.invariant c.in_ok-add_shown.ensures
-
-pub returns : goal.returns
-returns g c =
-    line_ends c.add.result c.args.parts.now c.loop-part.part-index _ _ _ (omega arith) c.loop-part.invariant
-    c.add.ensures.sent c.add.ensures.unsent
+pub returns-clause-told : goal.returns-clause-told
+returns-clause-told g c =
+    line_ends c.add_end.result (parts_of c.args.parts.now) _ _ _ c.in_ok-add_parts.ensures.told c.add_end.ensures.told

@@ -1,0 +1,7 @@
+-- The end of the line went, or the writer failed in it.
+use Rattle.std.proofs.Common.{[], ◌∷◌}
+use Rattle.dd_report.proofs.GoingOn.{tells_both}
+use Rattle.dd_report.proofs.line_buffer.LineBuffer.add_end.Goals as goal
+
+pub returns-clause-told : goal.returns-clause-told
+returns-clause-told g c = tells_both c.add.result (10 ∷ []) _ _ c.add.ensures.sent c.add.ensures.unsent

@@ -1,0 +1,14 @@
+-- The line goes, and then all that waits.
+use Rattle.dd_report.specs.Telling.{parts_of, shown_line}
+use Rattle.dd_report.proofs.GoingOn.{text_sent, text_unsent}
+use Rattle.dd_report.proofs.text.show_line.Goals as goal
+
+pub returns-clause-sent : goal.returns-clause-sent
+returns-clause-sent g c =
+    text_sent c.flush.result (shown_line (parts_of c.args.parts.now)) _ _ _ _ _ _ _ _ c.new-line.ensures
+    c.in_ok-add_line.ensures.told c.flush.ensures.sent
+
+pub returns-clause-unsent : goal.returns-clause-unsent
+returns-clause-unsent g c =
+    text_unsent c.flush.result (shown_line (parts_of c.args.parts.now)) _ _ _ _ _ _ _ _ c.new-line.ensures
+    c.in_ok-add_line.ensures.told c.flush.ensures.unsent

@@ -1,0 +1,87 @@
+//! What a person knows a record by.
+ghost use Rattle.std.specs.Prelude.{◌≡◌, ◌∷◌, [], codes};
+ghost use Rattle.std.specs.List.{concat, flat_map};
+ghost use Rattle.dd_set.specs.Views.{set_view};
+ghost use Rattle.dd_report.specs.Listing.{known_tags, tags_in, value_parts};
+ghost use Rattle.dd_report.specs.Telling.{Tells, shown, way};
+
+use crate::line_buffer::LineBuffer;
+use crate::listing::value_or_dash;
+use dd_elem::{Tag, Write, tags};
+use dd_layout::Level;
+use dd_set::DataSet;
+use std::fmt;
+
+/// Says how much a listing shows of each record.
+#[derive(Clone, Copy)]
+pub(crate) enum Form {
+    /// What a program knows it by.
+    Short,
+    /// What a person knows it by, too.
+    Long,
+}
+
+/// The element that a person knows a PATIENT record by.
+const OF_PATIENT: [Tag; 1] = [tags::PATIENT_NAME];
+
+/// The elements that a person knows a STUDY record by.
+const OF_STUDY: [Tag; 3] = [tags::STUDY_DATE, tags::STUDY_TIME, tags::STUDY_DESCRIPTION];
+
+/// The elements that a person knows a SERIES record by.
+const OF_SERIES: [Tag; 2] = [tags::MODALITY, tags::SERIES_NUMBER];
+
+/// The element that a person knows an IMAGE record by.
+const OF_IMAGE: [Tag; 1] = [tags::INSTANCE_NUMBER];
+
+/// Adds the values of these elements, each behind ` | `.
+pub(crate) fn add_values<W: Write>(
+    set: &DataSet<'_>,
+    wanted: &[Tag],
+    lines: &mut LineBuffer,
+    to: &mut W,
+) -> fmt::Result
+    ensures { Tells result (shown (concat (flat_map (value_parts (set_view set.now)) wanted.now)))
+        (way lines.old (W.contents to.old) (W.failures to.old))
+        (way lines.new (W.contents to.new) (W.failures to.new)) }
+{
+    for tag in wanted {
+        add_value(value_or_dash(set, *tag), lines, to)?;
+    }
+    Ok(())
+}
+
+/// Adds a value behind ` | `.
+fn add_value<W: Write>(value: &[u8], lines: &mut LineBuffer, to: &mut W) -> fmt::Result
+    ensures { Tells result (shown (concat (codes " | " ∷ value.now ∷ [])))
+        (way lines.old (W.contents to.old) (W.failures to.old))
+        (way lines.new (W.contents to.new) (W.failures to.new)) }
+{
+    lines.add_parts(&[b" | ", value], to)
+}
+
+/// The elements of records of this type whose values a listing of this form shows.
+pub(crate) fn tags_in(form: Form, kind: &[u8]) -> &'static [Tag]
+    ensures { result.now ≡ tags_in form kind.now }
+{
+    match form {
+        Form::Short => &[],
+        Form::Long => known_tags(kind),
+    }
+}
+
+/// The elements that a person knows records of this type by.
+fn known_tags(kind: &[u8]) -> &'static [Tag]
+    ensures { result.now ≡ known_tags kind.now }
+{
+    if kind == Level::Patient.kind() {
+        &OF_PATIENT
+    } else if kind == Level::Study.kind() {
+        &OF_STUDY
+    } else if kind == Level::Series.kind() {
+        &OF_SERIES
+    } else if kind == Level::Image.kind() {
+        &OF_IMAGE
+    } else {
+        &[]
+    }
+}
