@@ -93,7 +93,7 @@ found_told f (mark ∷ marks) file = by_test (is_one mark.1 file)
     (λ e. rw e refl)
     (λ e. rw e (found_told f marks file))
 
-told_by : {T U : Type 0} (f : T → U) (marks : List (T × FileKey)) (o : Option Parts)
+pub told_by : {T U : Type 0} (f : T → U) (marks : List (T × FileKey)) (o : Option Parts)
     → option_map f (found_by marks o) ≡ found_by (map (λ mark. (f mark.0, mark.1)) marks) o
 told_by f marks None = refl
 told_by f marks (Some version) = found_told f marks (file_of version)
@@ -123,7 +123,7 @@ holds_of_found P (mark ∷ marks) file at all is = by_test (is_one mark.1 file)
     (λ e. let here = rw e at is in subst P (same_Some mark.0 at here) all.0)
     (λ e. let there = rw e at is in holds_of_found P marks file at all.1 there)
 
-holds_by : {T : Type 0} (P : T → Type 0) (marks : List (T × FileKey)) (o : Option Parts) (at : T)
+pub holds_by : {T : Type 0} (P : T → Type 0) (marks : List (T × FileKey)) (o : Option Parts) (at : T)
     → AllByRecursion (λ mark. P mark.0) marks → found_by marks o ≡ Some at → P at
 holds_by P marks None at all is = absurd (nothing at is)
 holds_by P marks (Some version) at all is = holds_of_found P marks (file_of version) at all is
@@ -171,6 +171,16 @@ each_held versions left among_them k d below =
     (sym (get_or-map (agreed m) m k d d within))
     (among versions version (agreed m version) (own_file version)
     (among_them version (member_of version left from.member)))
+
+-- so does each version that is kept
+pub each_kept : (versions left : List Parts) → ((v : Parts) → Member v left → Member v versions)
+    → AreHeld (map (λ v. file_of v) versions) (best_of left)
+each_kept versions left among_them k d below =
+    let m = best_of left in
+    let version = get_or m k d in
+    let there : Contains m version = (k, below, get_or_default m k version d below) in
+    let from = ((best_is_best versions_ordered left).each version).0 there in
+    among versions version version (own_file version) (among_them version (member_of version left from.member))
 
 pub held_of_left : (versions left planned : List Parts) (files : List FileKey)
     → ((v : Parts) → Member v left → Member v versions) → planned ≡ harmonised (best_of left)

@@ -1,5 +1,7 @@
 mod Answering
+mod BothFound
 pub mod FaultsNamed
+mod FilesLeftOut
 mod FirstMarks
 mod FirstSaying
 mod ImagePicks
@@ -7,10 +9,15 @@ mod KeptImages
 mod Lending
 mod MergePlans
 mod MergedMaps
+mod NotedPlans
+mod NamedPatients
+mod NamingGroups
 mod OneOfVersions
 mod PicksWithin
 mod PlacePicks
 mod Planning
+mod RecordsNoted
 mod SamePlans
 mod SetsGathered
 mod SourcePicks
+mod SourcesNoted

@@ -1,7 +1,7 @@
 -- The places of the images of a plan, found by marks.
 use Rattle.std.specs.Prelude.{◌≡◌, ℕ, Bool, List, [], ◌∷◌, filter, map}
 use Rattle.std.specs.List.{zip}
-use Rattle.std.proofs.Common.{refl, sym, ◌∙◌, ap, ap₂, inl, inr}
+use Rattle.std.proofs.Common.{refl, sym, ◌∙◌, ap, ap₂, inl, inr, subst}
 use Rattle.dd_catalogue.specs.Contents.{kept_of, left_of}
 use Rattle.dd_catalogue.specs.Free.{is_free}
 use Rattle.dd_catalogue.specs.Harmony.{harmonised}
@@ -17,7 +17,7 @@ use Rattle.dd_engine.specs.declared.marks.Mark.{Mark}
 use Rattle.dd_engine.specs.declared.merge.Pick.{Pick}
 use Rattle.dd_engine.specs.Merging.{pick_view, place_key, place_pick, places_in, stands_at, versions_in}
 use Rattle.dd_engine.specs.Picking.{AreHeld, ArePicked, FileKey, file_of, files_of, found_of, key_of, mark_view}
-use Rattle.dd_engine.proofs.ImagePicks.{held_of_left, picks_told, twice}
+use Rattle.dd_engine.proofs.ImagePicks.{each_kept, held_of_left, picks_told, twice}
 use Rattle.dd_engine.proofs.SourcePicks.{files_viewed}
 
 -- ---- the files of versions and their places, side by side
@@ -91,3 +91,17 @@ places_held images marks files uids planned is m s =
     ∙ ap (map (λ (place : (ℕ × List ℕ) × FileKey). place.1)) s
     ∙ twice (λ (place : (ℕ × List ℕ) × FileKey). place.1) (λ place. stands_at place) (places_in images)
     ∙ sym (files_placed images))
+
+-- each version that is kept has a place
+pub places_kept : (images : List (ℕ × Listed)) (files : List (Pick × FileKey)) (uids : List (List ℕ)) (m : List Parts)
+    → m ≡ kept_of (versions_in images) uids → map told files ≡ map (λ place. stands_at place) (places_in images)
+    → AreHeld (map (λ file. file.1) files) m
+places_kept images files uids m is s =
+    let keys : map (λ file. file.1) files ≡ map (λ v. file_of v) (versions_in images) =
+    sym (twice (λ (place : (ℕ × List ℕ) × FileKey). place.1) told files)
+    ∙ ap (map (λ (place : (ℕ × List ℕ) × FileKey). place.1)) s
+    ∙ twice (λ (place : (ℕ × List ℕ) × FileKey). place.1) (λ place. stands_at place) (places_in images)
+    ∙ sym (files_placed images) in
+    subst (λ l. AreHeld l m) (sym keys) (subst (λ l. AreHeld (map (λ v. file_of v) (versions_in images)) l) (sym is)
+    (each_kept (versions_in images) (left_of (versions_in images) uids)
+    (λ v i. left_member (versions_in images) uids v i)))

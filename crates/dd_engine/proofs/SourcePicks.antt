@@ -12,7 +12,7 @@ use Rattle.dd_engine.specs.Indexing.{Sourced, best_of_sources, versions_of}
 use Rattle.dd_engine.specs.Picking.{AreHeld, ArePicked, file_of, files_of, found_of, key_of, mark_view}
 use Rattle.dd_engine.proofs.ImagePicks.{held}
 
-files_named : (sources : List Sourced)
+pub files_named : (sources : List Sourced)
     → map (λ mark. mark.1) (files_of sources) ≡ map (λ v. file_of v) (versions_of sources)
 files_named [] = refl
 files_named (source ∷ sources) = ap (λ l. file_of source.1 ∷ l) (files_named sources)

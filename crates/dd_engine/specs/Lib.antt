@@ -1,8 +1,13 @@
 pub mod Choosing
+pub mod IndexNotes
 pub mod Indexed
 pub mod Indexing
+pub mod MergeNotes
 pub mod MergeSteps
 pub mod Merging
+pub mod Noting
+pub mod Namings
+pub mod PatientNames
 pub mod Picking
 pub mod Published
 pub mod SameVersions

@@ -1,16 +1,13 @@
 //! From sources to the plan of their directory.
 
-ghost use Rattle.std.specs.Prelude.{◌≡◌, ◌+◌, List, IfErr, IfOk, IsOk, length};
-ghost use Rattle.dd_engine.specs.Indexed.{AnswersSupply, FailsBy, Indexes, IsNamed, IsWithin};
-ghost use Rattle.dd_engine.specs.Indexing.{Answer};
-ghost use Rattle.dd_engine.specs.Supply.{AllStay, EachGrows, Holds};
+ghost use Rattle.std.specs.Prelude.{◌≡◌, ◌+◌, IfErr, IfOk, IsOk};
+ghost use Rattle.dd_engine.specs.Indexed.{AnswersSupply, FailsBy, IsNamed, IsWithin};
+ghost use Rattle.dd_engine.specs.Supply.{AllStay, EachGrows};
 
-use crate::choice::{Choice, plan_for};
+use crate::choice::Choice;
 use crate::engine_fault::EngineFault;
-use crate::reading::{Sources, read_sources};
-use crate::source_picks::source_picks;
+use crate::noted_index::index_with_notes;
 use crate::supply::Supply;
-use dd_catalogue::Catalogue;
 use dd_keys::KeyFault;
 use dd_layout::{Limits, Plan};
 use std::alloc::Global;
@@ -68,28 +65,8 @@ pub fn index_engine<S: Supply>(
     ensures kept { (S.sources supply.new ≡ S.sources supply.old) × (S.told supply.new ≡ S.told supply.old)
         × (S.rest supply.new ≡ S.rest supply.old) }
 {
-    let sources = read_sources(alloc, supply, file_limit)?;
-    planned(alloc, sources, choice, limits)
-}
-
-/// What an index has of the sources that were read.
-fn planned(
-    alloc: Global,
-    sources: Sources,
-    choice: &Choice,
-    limits: Limits,
-) -> Result<Indexed, EngineFault>
-    requires { (answers : List Answer) × Holds answers sources }
-    ensures indexes { (answers : List Answer) → Holds answers sources → Indexes choice.now limits answers result }
-    ensures within { (answers : List Answer) → Holds answers sources → IfOk result (IsWithin (length answers)) }
-{
-    let (versions, numbers, skipped) = sources.into_parts();
-    let catalogue = Catalogue::from_versions(alloc, &versions)?;
-    let plan = plan_for(alloc, &catalogue, choice, limits)?;
-    let picks = source_picks(alloc, &plan, &versions, &numbers)?;
-    Ok(Indexed {
-        plan,
-        skipped,
-        picks,
-    })
+    match index_with_notes(alloc, supply, choice, limits, file_limit) {
+        Ok(noted) => Ok(noted.into_indexed()),
+        Err(noted) => Err(noted.fault),
+    }
 }

@@ -1,17 +1,25 @@
 //! The engines: from sources, or from directories, to the plan of the directory of the best versions of all
 //! their images (PS3.3 annex F); and `first_saying`, which finds the record that files an image as a plan does.
 //!
-//! What they promise stands at `index_engine`, `merge_engine`, `withdraw_engine` and `first_saying`.
+//! What they promise stands at `index_engine`, `merge_engine`, `withdraw_engine` and `first_saying`; and at
+//! `index_with_notes`, `merge_with_notes` and `withdraw_with_notes`, which also say which files are left out, and
+//! which Patient IDs have more than one Patient's Name.
 #![tactic(auto)]
 
 mod choice;
+mod clash;
 mod engine;
 mod engine_fault;
 mod gathering;
 mod laws;
+mod left_out;
 mod marks;
 mod merge;
 mod merge_fault;
+mod noted_index;
+mod noted_merge;
+mod notes;
+mod patient_names;
 mod place_picks;
 mod reading;
 mod saying;
@@ -25,6 +33,10 @@ pub use engine_fault::EngineFault;
 pub use laws::same_versions_have_one_plan;
 pub use merge::{Merged, Pick, merge_engine};
 pub use merge_fault::MergeFault;
+pub use noted_index::{NotedIndex, index_with_notes};
+pub use noted_merge::{NotedMerge, merge_with_notes, withdraw_with_notes};
+pub use notes::{Clash, LeftOut, NotedFault, Notes};
+pub use patient_names::PatientNames;
 pub use saying::first_saying;
 pub use supply::Supply;
 pub use withdraw::withdraw_engine;

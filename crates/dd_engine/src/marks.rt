@@ -2,7 +2,7 @@
 
 ghost use Rattle.std.specs.Prelude.{◌≡◌, ◌≢◌, [], Some, IfOk, map, filter};
 ghost use Rattle.std.specs.List.{zip};
-ghost use Rattle.std.specs.List.Sorted.{IsSorted};
+ghost use Rattle.std.specs.List.Sorted.{IsSorted, IsStable};
 ghost use Rattle.dd_layout.specs.Plans.{records_of};
 ghost use Rattle.dd_engine.specs.Picking.{AreHeld, ArePicked, file_cmp, file_of, files_of, found, is_one};
 ghost use Rattle.dd_engine.specs.Picking.{key_of, mark_cmp, mark_view};
@@ -50,18 +50,28 @@ pub(crate) fn marks_of<'a, T: Copy>(
 pub(crate) fn first_marks<T: Copy>(
     alloc: Global,
     plan: &Plan,
-    mut marks: Vec<Mark<'_, T>>,
+    marks: Vec<Mark<'_, T>>,
 ) -> Result<Vec<T>, Memory>
     requires { AreHeld (map (λ mark. key_of mark) marks.items) plan.now.versions }
     ensures { IfOk result (λ picks. ArePicked (map (λ mark. mark_view mark) marks.entry.items) plan.now.versions
         (records_of plan.now.label plan.now.versions) picks.items) }
+{
+    let marks = in_order(marks)?;
+    picks_among(alloc, plan, &marks)
+}
+
+/// Puts the marks into the order of their files. Those of one file stay in their order. Memory where a growth was
+/// refused.
+pub(crate) fn in_order<T: Copy>(mut marks: Vec<Mark<'_, T>>) -> Result<Vec<Mark<'_, T>>, Memory>
+    ensures order { IfOk result (λ ordered. IsSorted mark_cmp ordered.items) }
+    ensures stable { IfOk result (λ ordered. IsStable mark_cmp marks.entry.items ordered.items) }
 {
     marks.sort_by(|one: &Mark<'_, T>, other: &Mark<'_, T>| compare(
         one,
         other.instance,
         other.digest,
     ))?;
-    picks_among(alloc, plan, &marks)
+    Ok(marks)
 }
 
 /// Which file stands first, that of the mark or this one: by SOP Instance UID, then by digest?
@@ -92,7 +102,7 @@ fn picks_among<T: Copy>(alloc: Global, plan: &Plan, marks: &[Mark<'_, T>]) -> Re
 }
 
 /// Where the first of these files is that is the file of the version.
-fn first_mark<T: Copy>(marks: &[Mark<'_, T>], version: &Version) -> T
+pub(crate) fn first_mark<T: Copy>(marks: &[Mark<'_, T>], version: &Version) -> T
     requires order { IsSorted mark_cmp marks.now }
     requires held { filter (λ file. is_one file (file_of version.now)) (map (λ mark. key_of mark) marks.now) ≢ [] }
     ensures { Some result ≡ found (map (λ mark. mark_view mark) marks.now) (file_of version.now) }

@@ -1,16 +1,13 @@
 //! From directories to the plan of the directory of all their images.
 
-ghost use Rattle.std.specs.Prelude.{◌<◌, All, IfOk, List, [], ℕ, length, map};
+ghost use Rattle.std.specs.Prelude.{◌<◌, All, IfOk, List, [], length, map};
 ghost use Rattle.dd_catalogue.specs.Contents.{Contents};
-ghost use Rattle.dd_engine.specs.Merging.{Merges, SetListing};
-ghost use Rattle.dd_engine.specs.MergeSteps.{GathersOf, MergesAs};
+ghost use Rattle.dd_engine.specs.Merging.{Merges};
 ghost use Rattle.dd_engine.specs.Published.{ArePublished, MapsAgree, MergesMaps, NoneWithdrawn, PlansImages, joined};
 
-use crate::choice::{Choice, plan_for};
-use crate::gathering::{Gathered, gather};
+use crate::choice::Choice;
 use crate::merge_fault::MergeFault;
-use crate::place_picks::place_picks;
-use dd_catalogue::Catalogue;
+use crate::noted_merge::noted_sets;
 use dd_elem::Uid;
 use dd_layout::{Limits, Plan};
 use std::alloc::Global;
@@ -83,25 +80,8 @@ pub(crate) fn merge_sets<'a>(
     ensures withdrawn { (maps : List Contents) → ArePublished (map (λ set. set.now) sets.now) maps → MapsAgree maps
         → IfOk result (λ merged. PlansImages (joined given.now maps) merged.plan) }
 {
-    let gathered = gather(alloc, sets, given)?;
-    planned(alloc, gathered, choice, limits)
-}
-
-/// Plans the directory of what was gathered of all sets. The catalogue keeps the list of withdrawn UIDs, and the
-/// plan shares it.
-fn planned<'a>(
-    alloc: Global,
-    gathered: Gathered<'a>,
-    choice: &Choice,
-    limits: Limits,
-) -> Result<Merged<'a>, MergeFault>
-    requires { (given : List (List ℕ)) × (listings : List SetListing) × GathersOf given listings gathered }
-    ensures { (given : List (List ℕ)) (listings : List SetListing) → GathersOf given listings gathered.entry
-        → MergesAs choice.now limits given listings result }
-{
-    let (versions, picks, withdrawn) = gathered.into_parts();
-    let catalogue = Catalogue::from_parts(alloc, &versions, withdrawn)?;
-    let plan = plan_for(alloc, &catalogue, choice, limits)?;
-    let picks = place_picks(alloc, &plan, &versions, &picks)?;
-    Ok(Merged { plan, picks })
+    match noted_sets(alloc, sets, given, choice, limits) {
+        Ok(noted) => Ok(noted.into_merged()),
+        Err(noted) => Err(noted.fault),
+    }
 }

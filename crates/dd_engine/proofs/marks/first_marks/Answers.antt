@@ -1,31 +1,23 @@
-use Rattle.std.proofs.Common.{◌∙◌, ap, map, rules}
-use Rattle.std.specs.Ordering.{is_lt}
-use Rattle.std.proofs.lemmas.List.MinMax.{ranks_by}
-use Rattle.std.proofs.lemmas.List.Sorted.{answers_always}
+use Rattle.std.proofs.Common.{◌∙◌, ap, map}
 use Rattle.std.proofs.lemmas.Result.{IfOk-weaker}
 use Rattle.dd_layout.specs.Plans.{records_of}
-use Rattle.dd_engine.specs.Picking.{found_of, key_of, mark_cmp, mark_view}
-use Rattle.dd_engine.proofs.FirstMarks.{file_total, files_stay, found_stays}
+use Rattle.dd_engine.specs.Picking.{found_of, mark_view}
+use Rattle.dd_engine.proofs.FirstMarks.{files_stay, found_stays}
 use Rattle.dd_engine.proofs.ImagePicks.{held_too, same_found}
 use Rattle.dd_engine.proofs.marks.first_marks.Goals as goal
 
 pub picks_among-requires-clause-order : goal.picks_among-requires-clause-order
-picks_among-requires-clause-order g c = rw c.deref.ensures.value
-    (c.in_ok-sort_by.ensures.sorted (λ a b. is_lt (mark_cmp a b)) (ranks_by file_total (λ mark. key_of mark))
-    (answers_always _ _ _ (λ f a r h called. ap is_lt (search rules))))
+picks_among-requires-clause-order g c = rw c.deref.ensures.value c.in_ok-marks.ensures.order
 
 pub picks_among-requires-clause-held : goal.picks_among-requires-clause-held
 picks_among-requires-clause-held g c = rw c.deref.ensures.value
-    (held_too _ _ c.args.plan.now.versions c.requires (files_stay c.args.marks.items c.sort_by.new.self.items
-    (c.in_ok-sort_by.ensures.stable (λ a b. is_lt (mark_cmp a b)) (ranks_by file_total (λ mark. key_of mark))
-    (answers_always _ _ _ (λ f a r h called. ap is_lt (search rules))))))
+    (held_too _ _ c.args.plan.now.versions c.requires
+    (files_stay c.args.marks.items c.in_ok-marks.marks.items c.in_ok-marks.ensures.stable))
 
 pub returns : goal.returns
 returns g c = IfOk-weaker c.picks_among.result _ _ (λ picks is.
     is ∙ ap (λ l. found_of (map (λ mark. mark_view mark) l) c.args.plan.now.versions
     (records_of c.args.plan.now.label c.args.plan.now.versions)) c.deref.ensures.value
     ∙ same_found _ _ c.args.plan.now.versions (records_of c.args.plan.now.label c.args.plan.now.versions)
-    (found_stays c.args.marks.items c.sort_by.new.self.items
-    (c.in_ok-sort_by.ensures.stable (λ a b. is_lt (mark_cmp a b)) (ranks_by file_total (λ mark. key_of mark))
-    (answers_always _ _ _ (λ f a r h called. ap is_lt (search rules))))))
+    (found_stays c.args.marks.items c.in_ok-marks.marks.items c.in_ok-marks.ensures.stable))
     c.picks_among.ensures

@@ -1,0 +1,31 @@
+use Rattle.std.proofs.Common.{◌<◌, All, IfErr, IfOk, map, rules, subst, ℕ}
+use Rattle.std.proofs.lemmas.List.{length-map}
+use Rattle.dd_engine.specs.Noting.{AreBelow, IsBelow}
+use Rattle.dd_engine.proofs.RecordsNoted.{clash_below, files_found, merged_within, notes_below}
+use Rattle.dd_engine.proofs.noted_merge.noted_sets.Goals as goal
+
+pub returns-clause-within : goal.returns-clause-within
+returns-clause-within c =
+    let sets = map (λ set. set.now) c.args.sets.now in
+    subst (λ (n : ℕ). IfOk c.noted.result (λ noted. All (λ pick. pick.set < n) noted.merged.picks.items))
+    (length-map c.args.sets.now (λ set. set.now))
+    (merged_within c.args.choice.now c.args.limits c.args.given.now sets c.noted.result (search rules))
+
+pub returns-clause-below : goal.returns-clause-below
+returns-clause-below c =
+    let sets = map (λ set. set.now) c.args.sets.now in
+    subst (λ (n : ℕ). IfOk c.noted.result (λ noted. AreBelow (λ pick. pick.set) n noted.notes.left_out.items))
+    (length-map c.args.sets.now (λ set. set.now))
+    (notes_below c.args.choice.now c.args.limits c.args.given.now sets c.noted.result (search rules))
+
+pub returns-clause-clash : goal.returns-clause-clash
+returns-clause-clash c =
+    let sets = map (λ set. set.now) c.args.sets.now in
+    subst (λ (n : ℕ). IfErr c.noted.result (λ noted. IsBelow (λ pick. pick.set) n noted.clash))
+    (length-map c.args.sets.now (λ set. set.now))
+    (clash_below c.args.choice.now c.args.limits c.args.given.now sets c.noted.result (search rules))
+
+pub returns-clause-found : goal.returns-clause-found
+returns-clause-found c =
+    let sets = map (λ set. set.now) c.args.sets.now in
+    files_found c.args.choice.now c.args.limits c.args.given.now sets c.noted.result (search rules)

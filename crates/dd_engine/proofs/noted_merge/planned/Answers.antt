@@ -1,0 +1,48 @@
+-- The catalogue of what was gathered is planned, and its picks are those of the plan's images.
+use Rattle.std.proofs.Common.{ap, refl, subst, sym, ◌∙◌, ◌++◌}
+use Rattle.dd_catalogue.specs.Contents.{Contents}
+use Rattle.dd_layout.specs.Layouts.{layout_of}
+use Rattle.dd_engine.specs.Choosing.{label_for, refusal_for}
+use Rattle.dd_engine.specs.Merging.{held_in, numbered, stands_in, withdrawn_in}
+use Rattle.dd_engine.specs.PatientNames.{AreNamed}
+use Rattle.dd_engine.proofs.MergePlans.{picked_of, planned_of}
+use Rattle.dd_engine.proofs.PlacePicks.{places_kept, side_by_side}
+use Rattle.dd_engine.proofs.RecordsNoted.{leaves_out}
+use Rattle.dd_engine.proofs.noted_merge.planned.Goals as goal
+
+pub place_picks-requires : goal.place_picks-requires
+place_picks-requires c =
+    let given = c.requires.0 in
+    let listings = c.requires.1 in (
+      numbered 0 listings,
+      given ++ withdrawn_in listings,
+      planned_of c.args.choice.now (held_in given listings) c.args.catalogue.now c.in-Ok.plan c.requires.3
+          c.in-Ok.ensures.planned,
+      c.requires.2,
+    )
+
+pub left_out-requires : goal.left_out-requires
+left_out-requires c =
+    let given = c.requires.0 in
+    let listings = c.requires.1 in
+    places_kept (numbered 0 listings) _ (given ++ withdrawn_in listings) c.args.catalogue.now.versions
+    (ap (λ (d : Contents). d.versions) c.requires.3)
+    (side_by_side (numbered 0 listings) _ _ c.requires.2.versions c.requires.2.picks)
+
+pub returns : goal.returns
+returns c = λ given listings placed is.
+    let choice = c.args.choice.now in (
+      record {
+        plan = c.in-Ok.ensures.planned
+            ∙ ap (λ (d : Contents). layout_of (label_for choice d.versions d.withdrawn) d.versions d.withdrawn) is;
+        allowed = ap (λ (d : Contents). refusal_for choice c.args.limits d.versions d.withdrawn) (sym is)
+            ∙ c.in-Ok.ensures.allowed refl;
+        picks = picked_of (stands_in listings) choice (held_in given listings) c.args.catalogue.now c.in-Ok.plan
+            c.in_ok-picks.picks.items is c.in-Ok.ensures.planned
+            (c.in_ok-picks.ensures (numbered 0 listings) placed);
+      },
+      leaves_out given listings c.args.versions.now c.args.places.now c.args.catalogue.now.versions
+          c.in_ok-left_out.left_out.items placed (ap (λ (d : Contents). d.versions) is) c.in_ok-left_out.ensures,
+      subst (λ m. AreNamed m c.in_ok-names.names.items)
+          (c.versions.ensures.all ∙ ap (λ (d : Contents). d.versions) is) c.in_ok-names.ensures.named,
+    )

@@ -1,0 +1,94 @@
+-- What an index of a supply of sources answers with notes.
+use Rattle.std.specs.Prelude.{◌≡◌, ◌<◌, ℕ, List, [], length, Option, None, Result, Ok, Err}
+use Rattle.dd_catalogue.specs.Contents.{Contents}
+use Rattle.dd_catalogue.specs.Harmony.{harmonised}
+use Rattle.dd_layout.specs.Bounds.{Bounds}
+use Rattle.dd_layout.specs.Layouts.{Layout, layout_of}
+use Rattle.dd_layout.specs.Plans.{records_of}
+use Rattle.dd_engine.specs.declared.choice.Choice.{Choice}
+use Rattle.dd_engine.specs.declared.engine.Indexed.{Indexed}
+use Rattle.dd_engine.specs.declared.engine_fault.EngineFault.{EngineFault}
+use Rattle.dd_engine.specs.declared.engine_fault.EngineFault.TheVariants.{Memory, Absent, Unread, Plan}
+use Rattle.dd_engine.specs.declared.noted_index.NotedIndex.{NotedIndex}
+use Rattle.dd_engine.specs.declared.notes.Clash.{Clash}
+use Rattle.dd_engine.specs.declared.notes.LeftOut.{LeftOut}
+use Rattle.dd_engine.specs.declared.notes.NotedFault.{NotedFault}
+use Rattle.dd_engine.specs.declared.notes.Notes.{Notes}
+use Rattle.dd_engine.specs.Choosing.{label_for, refusal_for}
+use Rattle.dd_engine.specs.Indexed.{Indexes, IsIndexed}
+use Rattle.dd_engine.specs.Indexing.{Answer, accepted, best_of_sources}
+use Rattle.dd_engine.specs.Noting.{AreLeftOut, IsClashOf, IsFound}
+use Rattle.dd_engine.specs.PatientNames.{AreNamed}
+use Rattle.dd_engine.specs.Picking.{ArePicked, files_of}
+use Rattle.dd_engine.specs.Supply.{AreAnswers}
+
+-- the answer without its notes
+abbrev pub unnoted : Result NotedIndex (NotedFault EngineFault ℕ) → Result Indexed EngineFault
+unnoted (Ok noted) = Ok noted.indexed
+unnoted (Err noted) = Err noted.fault
+
+-- ---- where these are the answers for the sources
+
+-- the sources that are left out, since their instances are kept from others
+abbrev pub LeavesOut : List Answer → List (LeftOut ℕ) → Type 0
+LeavesOut answers notes = AreLeftOut (λ at. at) (best_of_sources (accepted answers)) (accepted answers) notes
+
+-- the first sources of the two kept versions that the refusal of a plan names, and None for another fault
+abbrev pub ClashesIn : List Answer → EngineFault → Option (Clash ℕ) → Type 0
+ClashesIn answers (Plan fault) clash =
+    IsClashOf (λ at. at) (best_of_sources (accepted answers)) (accepted answers) fault clash
+ClashesIn answers Memory clash = clash ≡ None
+ClashesIn answers (Absent at) clash = clash ≡ None
+ClashesIn answers (Unread at) clash = clash ≡ None
+
+-- two sources are named where the refusal of a plan names two versions
+abbrev pub FindsBoth : EngineFault → Option (Clash ℕ) → Type 0
+FindsBoth (Plan fault) clash = IsFound fault clash
+FindsBoth Memory clash = Unit {0}
+FindsBoth (Absent at) clash = Unit {0}
+FindsBoth (Unread at) clash = Unit {0}
+
+-- the refusal with the note
+abbrev pub IsRefused : Choice → Bounds → List Answer → NotedFault EngineFault ℕ → Type 0
+IsRefused choice limits answers noted =
+    Indexes choice limits answers (Err noted.fault) × ClashesIn answers noted.fault noted.clash
+
+-- the answer with notes
+abbrev pub NotesIndex : Choice → Bounds → List Answer → Result NotedIndex (NotedFault EngineFault ℕ) → Type 0
+NotesIndex choice limits answers (Ok noted) =
+    IsIndexed choice limits answers noted.indexed × LeavesOut answers noted.notes.left_out.items
+    × AreNamed (best_of_sources (accepted answers)) noted.notes.names.items
+NotesIndex choice limits answers (Err noted) = IsRefused choice limits answers noted
+
+-- ---- the answer for a number of sources with these bytes, where they are known
+
+abbrev pub NotesFault : Choice → Bounds → ℕ → (ℕ → Option (List ℕ)) → ℕ → EngineFault → Option (Clash ℕ) → Type 0
+NotesFault choice limits limit told sources (Absent at) clash = (at < sources) × (clash ≡ None)
+NotesFault choice limits limit told sources (Unread at) clash = (at < sources) × (clash ≡ None)
+NotesFault choice limits limit told sources Memory clash = clash ≡ None
+NotesFault choice limits limit told sources (Plan fault) clash = (answers : List Answer)
+    × (length answers ≡ sources) × AreAnswers limit told answers
+    × Indexes choice limits answers (Err (Plan fault)) × ClashesIn answers (Plan fault) clash
+
+abbrev pub NotesSupply : Choice → Bounds → ℕ → (ℕ → Option (List ℕ)) → ℕ
+    → Result NotedIndex (NotedFault EngineFault ℕ) → Type 0
+NotesSupply choice limits limit told sources (Err noted) =
+    NotesFault choice limits limit told sources noted.fault noted.clash
+NotesSupply choice limits limit told sources (Ok noted) = (answers : List Answer)
+    × (length answers ≡ sources) × AreAnswers limit told answers × NotesIndex choice limits answers (Ok noted)
+
+-- ---- steps
+
+-- the catalogue holds the best of the versions, and nothing is withdrawn
+abbrev pub IsHeldBest : List Answer → Contents → Type 0
+IsHeldBest answers c = (c.versions ≡ best_of_sources (accepted answers)) × (c.withdrawn ≡ [])
+
+-- what is planned of them: the plan, the sources of its images, and the notes
+pub record IsPlanned (choice : Choice) (limits : Bounds) (answers : List Answer) (laid : Layout) (from : List ℕ)
+    (noted : Notes ℕ) : Type 0 where
+  pub plan : let m = best_of_sources (accepted answers) in laid ≡ layout_of (label_for choice m []) m []
+  pub allowed : refusal_for choice limits (best_of_sources (accepted answers)) [] ≡ None
+  pub picks : let m = best_of_sources (accepted answers) in ArePicked (files_of (accepted answers)) (harmonised m)
+      (records_of (label_for choice m []) (harmonised m)) from
+  pub left : LeavesOut answers noted.left_out.items
+  pub names : AreNamed (best_of_sources (accepted answers)) noted.names.items

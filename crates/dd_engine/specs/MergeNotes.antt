@@ -1,0 +1,78 @@
+-- What a merge of directories answers with notes.
+use Rattle.std.specs.Prelude.{◌≡◌, ℕ, List, map, Option, None, Result, Ok, Err}
+use Rattle.dd_dir.specs.OwnVersions.{place_of, version_of}
+use Rattle.dd_dir.specs.Reading.{Refuses}
+use Rattle.dd_keys.specs.declared.parts.Parts.{Parts}
+use Rattle.dd_layout.specs.Bounds.{Bounds}
+use Rattle.dd_engine.specs.declared.choice.Choice.{Choice}
+use Rattle.dd_engine.specs.declared.merge.Merged.{Merged}
+use Rattle.dd_engine.specs.declared.merge.Pick.{Pick}
+use Rattle.dd_engine.specs.declared.merge_fault.MergeFault.{MergeFault}
+use Rattle.dd_engine.specs.declared.merge_fault.MergeFault.TheVariants.{Dir, Own, Plan, Memory}
+use Rattle.dd_engine.specs.declared.noted_merge.NotedMerge.{NotedMerge}
+use Rattle.dd_engine.specs.declared.notes.Clash.{Clash}
+use Rattle.dd_engine.specs.declared.notes.LeftOut.{LeftOut}
+use Rattle.dd_engine.specs.declared.notes.NotedFault.{NotedFault}
+use Rattle.dd_engine.specs.Merging.{AreOwn, IsFirst, IsForeign, IsMerged, SetListing, held_in, numbered, pick_view}
+use Rattle.dd_engine.specs.Merging.{place_pick}
+use Rattle.dd_engine.specs.MergeSteps.{MergesAs}
+use Rattle.dd_engine.specs.Noting.{AreLeftOut, IsClashOf, IsFound}
+use Rattle.dd_engine.specs.PatientNames.{AreNamed}
+
+-- the answer without its notes
+abbrev pub unnoted : Result NotedMerge (NotedFault MergeFault Pick) → Result Merged MergeFault
+unnoted (Ok noted) = Ok noted.merged
+unnoted (Err noted) = Err noted.fault
+
+-- ---- where the sets list this and these UIDs are withdrawn as well
+
+-- the versions of all images, each with the set and the File ID of its file
+abbrev pub filed_in : List SetListing → List ((ℕ × List ℕ) × Parts)
+filed_in listings =
+    map (λ image. (place_pick (image.0, place_of image.1), version_of image.1)) (numbered 0 listings)
+
+-- the files that are left out, since their instances are kept from others
+abbrev pub LeavesOut : List (List ℕ) → List SetListing → List (LeftOut Pick) → Type 0
+LeavesOut given listings notes =
+    AreLeftOut (λ pick. pick_view pick) (held_in given listings).versions (filed_in listings) notes
+
+-- the first files of the two kept versions that the refusal of a plan names, and None for another fault
+abbrev pub ClashesIn : List (List ℕ) → List SetListing → MergeFault → Option (Clash Pick) → Type 0
+ClashesIn given listings (Plan fault) clash =
+    IsClashOf (λ pick. pick_view pick) (held_in given listings).versions (filed_in listings) fault clash
+ClashesIn given listings (Dir at fault) clash = clash ≡ None
+ClashesIn given listings (Own at fault) clash = clash ≡ None
+ClashesIn given listings Memory clash = clash ≡ None
+
+-- two files are named where the refusal of a plan names two versions
+abbrev pub FindsBoth : MergeFault → Option (Clash Pick) → Type 0
+FindsBoth (Plan fault) clash = IsFound fault clash
+FindsBoth (Dir at fault) clash = Unit {0}
+FindsBoth (Own at fault) clash = Unit {0}
+FindsBoth Memory clash = Unit {0}
+
+-- the answer with notes
+abbrev pub NotesMerge : Choice → Bounds → List (List ℕ) → List SetListing
+    → Result NotedMerge (NotedFault MergeFault Pick) → Type 0
+NotesMerge choice limits given listings (Ok noted) =
+    IsMerged choice limits given listings noted.merged × LeavesOut given listings noted.notes.left_out.items
+    × AreNamed (held_in given listings).versions noted.notes.names.items
+NotesMerge choice limits given listings (Err noted) =
+    MergesAs choice limits given listings (Err noted.fault) × ClashesIn given listings noted.fault noted.clash
+
+-- ---- the answer for the bytes of these sets, where these UIDs are withdrawn as well
+
+abbrev pub NotesSetsFault : Choice → Bounds → List (List ℕ) → List (List ℕ) → MergeFault → Option (Clash Pick) → Type 0
+NotesSetsFault choice limits given sets (Dir at fault) clash =
+    IsFirst (λ set. Refuses set fault) sets at × (clash ≡ None)
+NotesSetsFault choice limits given sets (Own at fault) clash =
+    IsFirst (λ set. IsForeign set fault) sets at × (clash ≡ None)
+NotesSetsFault choice limits given sets (Plan fault) clash = (listings : List SetListing) × AreOwn sets listings
+    × MergesAs choice limits given listings (Err (Plan fault)) × ClashesIn given listings (Plan fault) clash
+NotesSetsFault choice limits given sets Memory clash = clash ≡ None
+
+abbrev pub NotesSets : Choice → Bounds → List (List ℕ) → List (List ℕ)
+    → Result NotedMerge (NotedFault MergeFault Pick) → Type 0
+NotesSets choice limits given sets (Ok noted) = (listings : List SetListing) × AreOwn sets listings
+    × NotesMerge choice limits given listings (Ok noted)
+NotesSets choice limits given sets (Err noted) = NotesSetsFault choice limits given sets noted.fault noted.clash

@@ -1,0 +1,81 @@
+-- What is noted beside a plan: which files are left out, since their instances are kept from other bytes, and from
+-- which files two versions come that clash.
+use Rattle.std.specs.Prelude.{◌≡◌, ◌<◌, Bool, false, not, ℕ, List, All, map, filter, find, Option, None, Some, IfSome}
+use Rattle.std.specs.Prelude.{IsSome, option_map}
+use Rattle.std.specs.Ordering.{is_eq}
+use Rattle.dd_catalogue.specs.Clash.{same}
+use Rattle.dd_catalogue.specs.Versions.{kept}
+use Rattle.dd_keys.specs.Orders.{parts_cmp}
+use Rattle.dd_keys.specs.declared.parts.Parts.{Parts}
+use Rattle.dd_layout.specs.declared.fault.PlanFault.{PlanFault}
+use Rattle.dd_layout.specs.declared.fault.PlanFault.TheVariants.{Conflict, TooMany, TooLarge, Memory}
+use Rattle.dd_engine.specs.declared.notes.Clash.{Clash}
+use Rattle.dd_engine.specs.declared.notes.LeftOut.{LeftOut}
+use Rattle.dd_engine.specs.Picking.{FileKey, files_of, found_by}
+
+-- ---- files that are left out
+
+-- the kept version has other bytes than this one: their digests differ
+abbrev pub is_other : Option Parts → Parts → Bool
+is_other None version = false
+is_other (Some one) version = not (same one.digest version.digest)
+
+-- where a version is, where the first file of the kept version of its instance is, and the SOP Instance UID of both
+abbrev pub LeftAs : Type 0 → Type 0
+LeftAs T = T × Option T × List ℕ
+
+abbrev pub left_as : {T : Type 0} → List (T × FileKey) → List Parts → T × Parts → LeftAs T
+left_as files m version = (version.0, found_by files (kept m version.1.instance), version.1.instance)
+
+-- of the versions as they came, with m kept of them: those whose instance is kept from other bytes
+abbrev pub left_out : {T : Type 0} → List Parts → List (T × Parts) → List (LeftAs T)
+left_out m versions = map (left_as (files_of versions) m)
+    (filter (λ version. is_other (kept m version.1.instance) version.1) versions)
+
+-- the notes name them in this order
+abbrev pub AreLeftOut : {T U : Type 0} → (T → U) → List Parts → List (U × Parts) → List (LeftOut T) → Type 0
+AreLeftOut place m versions notes =
+    map (λ note. (place note.file, Some (place note.kept), note.instance)) notes ≡ left_out m versions
+
+-- ---- where two versions come from that clash
+
+-- where the first of these versions is that is this one
+abbrev pub first_of : {T : Type 0} → List (T × Parts) → Parts → Option T
+first_of versions version = option_map (λ held. held.0) (find (λ held. is_eq (parts_cmp held.1 version)) versions)
+
+abbrev pub first_by : {T : Type 0} → List (T × Parts) → Option Parts → Option T
+first_by versions None = None
+first_by versions (Some version) = first_of versions version
+
+abbrev pub both : {T : Type 0} → Option T → Option T → Option (T × T)
+both None other = None
+both (Some one) None = None
+both (Some one) (Some other) = Some (one, other)
+
+-- of the versions as they came, with m kept of them: the first places of the two kept ones that the fault names
+abbrev pub clash_of : {T : Type 0} → List Parts → List (T × Parts) → PlanFault → Option (T × T)
+clash_of m versions (Conflict one other) = both (first_by versions (kept m one)) (first_by versions (kept m other))
+clash_of m versions (TooMany level) = None
+clash_of m versions TooLarge = None
+clash_of m versions Memory = None
+
+-- the note names them
+abbrev pub IsClashOf : {T U : Type 0} → (T → U) → List Parts → List (U × Parts) → PlanFault → Option (Clash T) → Type 0
+IsClashOf place m versions fault clash =
+    option_map (λ clash. (place clash.one, place clash.other)) clash ≡ clash_of m versions fault
+
+-- where the refusal of a plan names two versions, the note names both
+abbrev pub IsFound : {T : Type 0} → PlanFault → Option (Clash T) → Type 0
+IsFound (Conflict one other) clash = IsSome clash
+IsFound (TooMany level) clash = Unit {0}
+IsFound TooLarge clash = Unit {0}
+IsFound Memory clash = Unit {0}
+
+-- ---- numbers of sources or sets
+
+-- the numbers of all that is noted are below the count
+abbrev pub AreBelow : {T : Type 0} → (T → ℕ) → ℕ → List (LeftOut T) → Type 0
+AreBelow number count notes = All (λ note. (number note.file < count) × (number note.kept < count)) notes
+
+abbrev pub IsBelow : {T : Type 0} → (T → ℕ) → ℕ → Option (Clash T) → Type 0
+IsBelow number count clash = IfSome clash (λ clash. (number clash.one < count) × (number clash.other < count))

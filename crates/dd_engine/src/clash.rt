@@ -1,0 +1,54 @@
+//! Where two versions come from that clash.
+
+ghost use Rattle.std.specs.Prelude.{◌≡◌};
+ghost use Rattle.std.specs.List.{zip};
+ghost use Rattle.dd_catalogue.specs.Versions.{kept};
+ghost use Rattle.dd_engine.specs.Noting.{IsClashOf, first_by, first_of};
+
+use crate::notes::Clash;
+use dd_catalogue::Catalogue;
+use dd_elem::{Ordered, Uid};
+use dd_keys::Version;
+use dd_layout::PlanFault;
+
+/// Finds where the two kept versions come from that the fault names: the first place of each. The versions are
+/// those that the catalogue was made of and, in the same order, their places. None where the fault names no two
+/// versions.
+pub(crate) fn clash_of<T: Copy>(
+    catalogue: &Catalogue,
+    versions: &[Version],
+    places: &[T],
+    fault: &PlanFault,
+) -> Option<Clash<T>>
+    ensures { IsClashOf (λ at. at) catalogue.now.versions (zip places.now versions.now) fault.now result }
+{
+    let PlanFault::Conflict(one, other) = fault else {
+        return None;
+    };
+    let one = kept_place(catalogue, versions, places, one)?;
+    let other = kept_place(catalogue, versions, places, other)?;
+    Some(Clash { one, other })
+}
+
+/// The first place of the version that the catalogue keeps of this instance.
+fn kept_place<T: Copy>(
+    catalogue: &Catalogue,
+    versions: &[Version],
+    places: &[T],
+    instance: &Uid,
+) -> Option<T>
+    ensures { result ≡ first_by (zip places.now versions.now) (kept catalogue.now.versions instance.now) }
+{
+    first_place(versions, places, catalogue.get(instance)?)
+}
+
+/// The first place of this version.
+fn first_place<T: Copy>(versions: &[Version], places: &[T], version: &Version) -> Option<T>
+    ensures { result ≡ first_of (zip places.now versions.now) version.now }
+{
+    let mut held = places.iter().zip(versions);
+    match held.find(|held| held.1.compare(version).is_eq()) {
+        Some(held) => Some(*held.0),
+        None => None,
+    }
+}

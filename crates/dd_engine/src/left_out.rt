@@ -1,0 +1,81 @@
+//! Which files are left out, since their instances are kept from other bytes.
+
+ghost use Rattle.std.specs.Prelude.{◌≡◌, false, true, not, None, Some, IfOk, IfSome, map};
+ghost use Rattle.std.specs.List.{list_all, zip};
+ghost use Rattle.dd_catalogue.specs.Clash.{same};
+ghost use Rattle.dd_catalogue.specs.Versions.{kept};
+ghost use Rattle.dd_engine.specs.Noting.{AreLeftOut, is_other};
+ghost use Rattle.dd_engine.specs.Picking.{AreHeld, files_of};
+
+use crate::marks::{first_mark, in_order, marks_of};
+use crate::notes::LeftOut;
+use dd_catalogue::Catalogue;
+use dd_elem::Memory;
+use dd_keys::Version;
+use std::alloc::Global;
+
+/// Lists the files whose instance the catalogue keeps from other bytes, in the order in which they came, each with
+/// the first file of the kept version. The files are given by their versions and, in the same order, by where
+/// they are. Memory where a growth was refused.
+pub(crate) fn left_out<T: Copy>(
+    alloc: Global,
+    catalogue: &Catalogue,
+    versions: &[Version],
+    places: &[T],
+) -> Result<Vec<LeftOut<T>>, Memory>
+    requires { AreHeld (map (λ file. file.1) (files_of (zip places.now versions.now))) catalogue.now.versions }
+    ensures { IfOk result (λ notes. AreLeftOut (λ at. at) catalogue.now.versions (zip places.now versions.now)
+        notes.items) }
+{
+    if are_kept(catalogue, versions) {
+        return Ok(Vec::new(alloc));
+    }
+    let marks = in_order(marks_of(alloc, versions, places)?)?;
+    let mut notes = Vec::new(alloc);
+    for (at, version) in places.iter().zip(versions) {
+        if let Some(kept) = other_of(catalogue, version) {
+            notes.push(LeftOut {
+                file: *at,
+                kept: first_mark(&marks, kept),
+                instance: version.parts().instance,
+            })?;
+        }
+    }
+    Ok(notes)
+}
+
+/// The version that the catalogue keeps of the instance of this one, where its bytes are others.
+fn other_of<'a>(catalogue: &'a Catalogue, version: &Version) -> Option<&'a Version>
+    ensures some { IfSome result (λ one. (kept catalogue.now.versions version.now.instance ≡ Some one.now)
+        × (is_other (Some one.now) version.now ≡ true)) }
+    ensures none { result ≡ None → is_other (kept catalogue.now.versions version.now.instance) version.now ≡ false }
+{
+    let parts = version.parts();
+    let kept = catalogue.get(&parts.instance)?;
+    if are_same(&kept.parts().digest, &parts.digest) {
+        return None;
+    }
+    Some(kept)
+}
+
+/// Does the catalogue keep no instance of these versions from other bytes?
+fn are_kept(catalogue: &Catalogue, versions: &[Version]) -> bool
+    ensures { result ≡ list_all (λ version. not (is_other (kept catalogue.now.versions version.instance) version))
+        versions.now }
+{
+    versions.iter().all(|version| is_kept(catalogue, version))
+}
+
+/// Does the catalogue not keep the instance of this version from other bytes?
+fn is_kept(catalogue: &Catalogue, version: &Version) -> bool
+    ensures { result ≡ not (is_other (kept catalogue.now.versions version.now.instance) version.now) }
+{
+    other_of(catalogue, version).is_none()
+}
+
+/// Are the digests the same?
+fn are_same(one: &[u8; 32], other: &[u8; 32]) -> bool
+    ensures { result ≡ same one.now other.now }
+{
+    one[..].cmp(&other[..]).is_eq()
+}

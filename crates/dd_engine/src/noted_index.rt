@@ -1,0 +1,144 @@
+//! From sources to the plan of their directory, with notes.
+
+ghost use Rattle.std.specs.Prelude.{◌≡◌, ◌+◌, List, IfErr, IfOk, IsOk, length};
+ghost use Rattle.dd_engine.specs.Indexed.{FailsBy, IsNamed, IsWithin, as_engine};
+ghost use Rattle.dd_engine.specs.Indexing.{Answer};
+ghost use Rattle.dd_engine.specs.IndexNotes.{ClashesIn, FindsBoth, IsHeldBest, IsPlanned};
+ghost use Rattle.dd_engine.specs.IndexNotes.{IsRefused, NotesIndex, NotesSupply};
+ghost use Rattle.dd_engine.specs.Noting.{AreBelow, IsBelow};
+ghost use Rattle.dd_engine.specs.Supply.{AllStay, EachGrows, Holds};
+
+use crate::choice::{Choice, plan_for};
+use crate::clash::clash_of;
+use crate::engine::Indexed;
+use crate::engine_fault::EngineFault;
+use crate::left_out::left_out;
+use crate::notes::{NotedFault, Notes};
+use crate::patient_names::patient_names;
+use crate::reading::{Sources, read_sources};
+use crate::source_picks::source_picks;
+use crate::supply::Supply;
+use dd_catalogue::Catalogue;
+use dd_layout::{Limits, Plan, PlanFault};
+use std::alloc::Global;
+
+/// What an index of sources has, with notes of sources.
+#[derive(Debug, Drop)]
+pub struct NotedIndex {
+    /// What the index has.
+    pub indexed: Indexed,
+    /// What is noted of sources, by their numbers.
+    pub notes: Notes<usize>,
+}
+
+impl NotedIndex {
+    /// Gives what the index has.
+    pub(crate) fn into_indexed(self) -> Indexed
+        ensures { result ≡ self.indexed }
+    {
+        let NotedIndex {
+            indexed,
+            notes: _notes,
+        } = self;
+        indexed
+    }
+}
+
+/// Does what `index_engine` does, and notes which sources are left out: those whose instance is kept from a source
+/// with other bytes. It also notes the Patient IDs of which kept versions have more than one Patient's Name. Where two
+/// kept versions clash, the refusal says which source is the first of each.
+pub fn index_with_notes<S: Supply>(
+    alloc: Global,
+    supply: &mut S,
+    choice: &Choice,
+    limits: Limits,
+    file_limit: u64,
+) -> Result<NotedIndex, NotedFault<EngineFault, usize>>
+    ensures answers { NotesSupply choice.now limits file_limit (S.told supply.old) (S.sources supply.old) result }
+    ensures within { IfOk result (λ noted. IsWithin (S.sources supply.old) noted.indexed) }
+    ensures below { IfOk result (λ noted. AreBelow (λ at. at) (S.sources supply.old) noted.notes.left_out.items) }
+
+    // The source that a fault names failed, and none before it.
+    ensures named { IfErr result (λ noted. IsNamed (S.sources supply.old) noted.fault) }
+    ensures clash { IfErr result (λ noted. IsBelow (λ at. at) (S.sources supply.old) noted.clash) }
+    ensures found { IfErr result (λ noted. FindsBoth noted.fault noted.clash) }
+    ensures fault { IfErr result (λ noted. FailsBy noted.fault (S.sources supply.old)
+        (S.refusals supply.old) (S.refusals supply.new) (S.unread supply.old) (S.unread supply.new)) }
+    ensures worked { IsOk result → AllStay (S.refusals supply.old) (S.refusals supply.new)
+        × AllStay (S.unread supply.old) (S.unread supply.new) }
+
+    // Each reader is ended, and of each source there are at most `file_limit` + 1 reads.
+    ensures ended { AllStay (S.lent supply.old) (S.lent supply.new) }
+    ensures reads { EachGrows (file_limit + 1) (S.reads supply.old) (S.reads supply.new) }
+
+    // What stays.
+    ensures kept { (S.sources supply.new ≡ S.sources supply.old) × (S.told supply.new ≡ S.told supply.old)
+        × (S.rest supply.new ≡ S.rest supply.old) }
+{
+    let sources = read_sources(alloc, supply, file_limit)?;
+    noted(alloc, sources, choice, limits)
+}
+
+/// What an index has of the sources that were read, with notes.
+fn noted(
+    alloc: Global,
+    sources: Sources,
+    choice: &Choice,
+    limits: Limits,
+) -> Result<NotedIndex, NotedFault<EngineFault, usize>>
+    requires { (answers : List Answer) × Holds answers sources }
+    ensures { (answers : List Answer) → Holds answers sources → NotesIndex choice.now limits answers result }
+{
+    let catalogue = Catalogue::from_versions(alloc, &sources.versions)?;
+    let (plan, picks, notes) = planned(alloc, &sources, &catalogue, choice, limits)?;
+    let (_versions, _numbers, skipped) = sources.into_parts();
+    Ok(NotedIndex {
+        indexed: Indexed {
+            plan,
+            skipped,
+            picks,
+        },
+        notes,
+    })
+}
+
+/// The plan of the catalogue of what was read, the source of each of its images, and the notes.
+fn planned(
+    alloc: Global,
+    sources: &Sources,
+    catalogue: &Catalogue,
+    choice: &Choice,
+    limits: Limits,
+) -> Result<(Plan, Vec<usize>, Notes<usize>), NotedFault<EngineFault, usize>>
+    requires { (answers : List Answer) × Holds answers sources.now × IsHeldBest answers catalogue.now }
+    ensures planned { (answers : List Answer) → Holds answers sources.now → IsHeldBest answers catalogue.now
+        → IfOk result (λ planned. IsPlanned choice.now limits answers planned.0 planned.1.items planned.2) }
+    ensures refused { (answers : List Answer) → Holds answers sources.now → IsHeldBest answers catalogue.now
+        → IfErr result (λ noted. IsRefused choice.now limits answers noted) }
+{
+    let plan = match plan_for(alloc, catalogue, choice, limits) {
+        Ok(plan) => plan,
+        Err(fault) => return Err(refused(sources, catalogue, fault)),
+    };
+    let picks = source_picks(alloc, &plan, &sources.versions, &sources.numbers)?;
+    let left_out = left_out(alloc, catalogue, &sources.versions, &sources.numbers)?;
+    let names = patient_names(alloc, catalogue.versions())?;
+    Ok((plan, picks, Notes { left_out, names }))
+}
+
+/// The refusal of the plan, with the sources of the two versions that it names.
+fn refused(
+    sources: &Sources,
+    catalogue: &Catalogue,
+    fault: PlanFault,
+) -> NotedFault<EngineFault, usize>
+    ensures fault { result.fault ≡ as_engine fault }
+    ensures clash { (answers : List Answer) → Holds answers sources.now → IsHeldBest answers catalogue.now
+        → ClashesIn answers result.fault result.clash }
+{
+    let clash = clash_of(catalogue, &sources.versions, &sources.numbers, &fault);
+    NotedFault {
+        fault: EngineFault::from(fault),
+        clash,
+    }
+}

@@ -1,0 +1,164 @@
+//! From directories to the plan of the directory of all their images, with notes.
+
+ghost use Rattle.std.specs.Prelude.{◌≡◌, ◌<◌, ◌∷◌, All, IfErr, IfOk, List, [], ℕ, length, map};
+ghost use Rattle.dd_engine.specs.Merging.{IsNamedSet, SetListing, held_in, numbered};
+ghost use Rattle.dd_engine.specs.MergeNotes.{ClashesIn, FindsBoth, NotesMerge, NotesSets};
+ghost use Rattle.dd_engine.specs.MergeSteps.{ArePlaced, GathersOf, plan_fault};
+ghost use Rattle.dd_engine.specs.Noting.{AreBelow, IsBelow};
+
+use crate::choice::{Choice, plan_for};
+use crate::clash::clash_of;
+use crate::gathering::{Gathered, gather};
+use crate::left_out::left_out;
+use crate::merge::{Merged, Pick};
+use crate::merge_fault::MergeFault;
+use crate::notes::{NotedFault, Notes};
+use crate::patient_names::patient_names;
+use crate::place_picks::place_picks;
+use dd_catalogue::Catalogue;
+use dd_elem::Uid;
+use dd_keys::Version;
+use dd_layout::{Limits, PlanFault};
+use std::alloc::Global;
+
+/// What a merge of directories has, with notes of files of sets.
+#[derive(Debug, Drop)]
+pub struct NotedMerge<'a> {
+    /// What the merge has.
+    pub merged: Merged<'a>,
+    /// What is noted of files of sets.
+    pub notes: Notes<Pick<'a>>,
+}
+
+impl<'a> NotedMerge<'a> {
+    /// Gives what the merge has.
+    pub(crate) fn into_merged(self) -> Merged<'a>
+        ensures { result ≡ self.entry.merged }
+    {
+        let NotedMerge {
+            merged,
+            notes: _notes,
+        } = self;
+        merged
+    }
+}
+
+/// Does what `merge_engine` does, and notes which files are left out: those whose instance is kept from a file with
+/// other bytes. It also notes the Patient IDs of which kept versions have more than one Patient's Name. Where two
+/// kept versions clash, the refusal says which file is the first of each.
+pub fn merge_with_notes<'a>(
+    alloc: Global,
+    sets: &'a [&'a [u8]],
+    choice: &Choice,
+    limits: Limits,
+) -> Result<NotedMerge<'a>, NotedFault<MergeFault, Pick<'a>>>
+    ensures merges { NotesSets choice.now limits [] (map (λ set. set.now) sets.now) result }
+    ensures within { IfOk result (λ noted. All (λ pick. pick.set < length sets.now) noted.merged.picks.items) }
+    ensures below { IfOk result (λ noted. AreBelow (λ pick. pick.set) (length sets.now) noted.notes.left_out.items) }
+    ensures named { IfErr result (λ noted. IsNamedSet (length sets.now) noted.fault) }
+    ensures clash { IfErr result (λ noted. IsBelow (λ pick. pick.set) (length sets.now) noted.clash) }
+    ensures found { IfErr result (λ noted. FindsBoth noted.fault noted.clash) }
+{
+    noted_sets(alloc, sets, &[], choice, limits)
+}
+
+/// Does what `withdraw_engine` does, with the notes of `merge_with_notes`, the set being number 0.
+pub fn withdraw_with_notes<'a>(
+    alloc: Global,
+    set: &'a [u8],
+    uids: &[Uid],
+    choice: &Choice,
+    limits: Limits,
+) -> Result<NotedMerge<'a>, NotedFault<MergeFault, Pick<'a>>>
+    ensures merges { NotesSets choice.now limits uids.now (set.now ∷ []) result }
+    ensures within { IfOk result (λ noted. All (λ pick. pick.set < 1) noted.merged.picks.items) }
+    ensures below { IfOk result (λ noted. AreBelow (λ pick. pick.set) 1 noted.notes.left_out.items) }
+    ensures named { IfErr result (λ noted. IsNamedSet 1 noted.fault) }
+    ensures clash { IfErr result (λ noted. IsBelow (λ pick. pick.set) 1 noted.clash) }
+    ensures found { IfErr result (λ noted. FindsBoth noted.fault noted.clash) }
+{
+    noted_sets(alloc, &[set], uids, choice, limits)
+}
+
+/// Plans the directory of what all these sets list where these instances are withdrawn as well, with notes.
+pub(crate) fn noted_sets<'a>(
+    alloc: Global,
+    sets: &[&'a [u8]],
+    given: &[Uid],
+    choice: &Choice,
+    limits: Limits,
+) -> Result<NotedMerge<'a>, NotedFault<MergeFault, Pick<'a>>>
+    ensures merges { NotesSets choice.now limits given.now (map (λ set. set.now) sets.now) result }
+    ensures within { IfOk result (λ noted. All (λ pick. pick.set < length sets.now) noted.merged.picks.items) }
+    ensures below { IfOk result (λ noted. AreBelow (λ pick. pick.set) (length sets.now) noted.notes.left_out.items) }
+    ensures named { IfErr result (λ noted. IsNamedSet (length sets.now) noted.fault) }
+    ensures clash { IfErr result (λ noted. IsBelow (λ pick. pick.set) (length sets.now) noted.clash) }
+    ensures found { IfErr result (λ noted. FindsBoth noted.fault noted.clash) }
+{
+    let gathered = gather(alloc, sets, given)?;
+    noted(alloc, gathered, choice, limits)
+}
+
+/// Plans the directory of what was gathered of all sets, with notes. The catalogue keeps the list of withdrawn UIDs,
+/// and the plan shares it.
+fn noted<'a>(
+    alloc: Global,
+    gathered: Gathered<'a>,
+    choice: &Choice,
+    limits: Limits,
+) -> Result<NotedMerge<'a>, NotedFault<MergeFault, Pick<'a>>>
+    requires { (given : List (List ℕ)) × (listings : List SetListing) × GathersOf given listings gathered }
+    ensures { (given : List (List ℕ)) (listings : List SetListing) → GathersOf given listings gathered.entry
+        → NotesMerge choice.now limits given listings result }
+{
+    let (versions, places, withdrawn) = gathered.into_parts();
+    let catalogue = Catalogue::from_parts(alloc, &versions, withdrawn)?;
+    planned(alloc, &versions, &places, &catalogue, choice, limits)
+}
+
+/// Plans the directory of the catalogue of what was gathered, with notes.
+fn planned<'a>(
+    alloc: Global,
+    versions: &[Version],
+    places: &[Pick<'a>],
+    catalogue: &Catalogue,
+    choice: &Choice,
+    limits: Limits,
+) -> Result<NotedMerge<'a>, NotedFault<MergeFault, Pick<'a>>>
+    requires { (given : List (List ℕ)) × (listings : List SetListing)
+        × ArePlaced (numbered 0 listings) versions.now places.now × (catalogue.now ≡ held_in given listings) }
+    ensures { (given : List (List ℕ)) (listings : List SetListing)
+        → ArePlaced (numbered 0 listings) versions.now places.now → catalogue.now ≡ held_in given listings
+        → NotesMerge choice.now limits given listings result }
+{
+    let plan = match plan_for(alloc, catalogue, choice, limits) {
+        Ok(plan) => plan,
+        Err(fault) => return Err(refused(versions, places, catalogue, fault)),
+    };
+    let picks = place_picks(alloc, &plan, versions, places)?;
+    let left_out = left_out(alloc, catalogue, versions, places)?;
+    let names = patient_names(alloc, catalogue.versions())?;
+    Ok(NotedMerge {
+        merged: Merged { plan, picks },
+        notes: Notes { left_out, names },
+    })
+}
+
+/// The refusal of the plan, with the files of the two versions that it names.
+fn refused<'a>(
+    versions: &[Version],
+    places: &[Pick<'a>],
+    catalogue: &Catalogue,
+    fault: PlanFault,
+) -> NotedFault<MergeFault, Pick<'a>>
+    ensures fault { result.fault ≡ plan_fault fault }
+    ensures clash { (given : List (List ℕ)) (listings : List SetListing)
+        → ArePlaced (numbered 0 listings) versions.now places.now → catalogue.now ≡ held_in given listings
+        → ClashesIn given listings result.fault result.clash }
+{
+    let clash = clash_of(catalogue, versions, places, &fault);
+    NotedFault {
+        fault: MergeFault::from(fault),
+        clash,
+    }
+}
