@@ -1,5 +1,10 @@
 mod BadUids
+mod CountLines
+mod DryRuns
 mod EmptyWords
+mod FirstPaths
 mod ImagesMade
+mod LinesRefused
 mod Masking
+mod NameParts
 mod Publishing

@@ -1,12 +1,23 @@
--- What a command that has made a file-set says at its end.
+-- What a command that makes a file-set says at its end: what it made, or with `--dry-run` what it would make.
 use Rattle.std.specs.Prelude.{ℕ, List, [], ◌∷◌, ◌++◌, codes}
 use Rattle.std.specs.Fmt.{decimal}
 use Rattle.std.specs.List.{concat}
 
--- the last line of a command that has written a file-set of so many instances, whose directory has so many bytes
-abbrev pub done_parts : List ℕ → List ℕ → List ℕ
-done_parts instances bytes =
-    concat (codes "DONE " ∷ instances ∷ codes " instances, " ∷ bytes ∷ codes " bytes" ∷ []) ++ 10 ∷ []
+-- a line of a word, of the texts of how many instances there are and how many bytes the directory has, and of what
+-- stands behind them
+abbrev pub count_parts : List ℕ → List ℕ → List ℕ → List (List ℕ) → List ℕ
+count_parts word instances bytes behind =
+    concat (word ∷ instances ∷ codes " instances, " ∷ bytes ∷ behind) ++ 10 ∷ []
 
+-- the last line of a command that has written a file-set of so many instances, whose directory has so many bytes
 abbrev pub done_text : ℕ → ℕ → List ℕ
-done_text instances bytes = done_parts (decimal instances) (decimal bytes)
+done_text instances bytes = count_parts (codes "DONE ") (decimal instances) (decimal bytes) (codes " bytes" ∷ [])
+
+-- the last line of one that would write it
+abbrev pub plan_text : ℕ → ℕ → List ℕ
+plan_text instances bytes = count_parts (codes "PLAN ") (decimal instances) (decimal bytes) (codes " bytes" ∷ [])
+
+-- the same, where the images have so many bytes
+abbrev pub images_text : ℕ → ℕ → ℕ → List ℕ
+images_text instances bytes images = count_parts (codes "PLAN ") (decimal instances) (decimal bytes)
+    (codes " bytes, " ∷ decimal images ∷ codes " bytes of images" ∷ [])

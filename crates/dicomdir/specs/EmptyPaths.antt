@@ -5,6 +5,8 @@ use Rattle.std.specs.declared.alloc.Global.{Global}
 use Rattle.clap.specs.Words.{Row, Text}
 use Rattle.dd_line.specs.Line.{given_paths}
 use Rattle.dd_line.specs.declared.line.Asked.{Asked}
+use Rattle.dd_line.specs.declared.line.Verb.{Verb}
+use Rattle.dd_line.specs.declared.line.Verb.TheVariants.{Index, Merge, Withdraw, Check, List as ListSet}
 
 -- the path of this number is there, and empty
 pub record IsEmptyAt (paths : List (String Global)) (at : ℕ) : Type 0 where
@@ -19,3 +21,11 @@ AsksEmptyPath a = (at : ℕ) × IsEmptyAt a.paths.items at
 abbrev pub HasEmptyPath : Option (Text × List Row) → Type 0
 HasEmptyPath None = ⊥
 HasEmptyPath (Some (command, given)) = Contains (given_paths given) []
+
+-- the least number of paths of its line that a command of this kind reads
+abbrev pub least_sources : Verb → ℕ
+least_sources Index = 0
+least_sources Merge = 0
+least_sources Withdraw = 1
+least_sources Check = 1
+least_sources ListSet = 1

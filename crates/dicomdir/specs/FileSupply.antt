@@ -10,7 +10,7 @@ told_by held paths at = option_and_then (λ files. option_and_then files.bytes_a
 
 -- those of a source that was not opened yet
 abbrev pub no_counts : SourceCounts
-no_counts = record { refusals = 0; reads = 0; failures = 0; lent = 0 }
+no_counts = record { refusals = 0; reads = 0; failures = 0; lent = 0; bytes = 0 }
 
 -- the counts of a source
 abbrev pub counts_at : List SourceCounts → ℕ → SourceCounts

@@ -30,6 +30,7 @@ IsAmong paths subject.Folder = Unit {0}
 IsAmong paths subject.Directory = Unit {0}
 IsAmong paths (subject.Image file) = Unit {0}
 IsAmong paths (subject.ImageFolder file) = Unit {0}
+IsAmong paths subject.List = Unit {0}
 IsAmong paths subject.Unstored = Unit {0}
 
 -- it is the source of this number
@@ -46,6 +47,7 @@ IsSetFile set subject.Folder = ⊥
 IsSetFile set subject.Directory = ⊥
 IsSetFile set (subject.Image file) = ⊥
 IsSetFile set (subject.ImageFolder file) = ⊥
+IsSetFile set subject.List = ⊥
 IsSetFile set subject.Unstored = ⊥
 
 -- why a run with these paths is refused when the command line is not at fault

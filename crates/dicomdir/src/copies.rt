@@ -11,7 +11,7 @@ use crate::image_path::{ImageFolder, ImagePathText};
 use crate::origins::Origins;
 use crate::refusal::{ProgramFault, Refusal, Subject};
 use dd_elem::FileId;
-use dd_files::{Files, SOURCE_LIMIT, file_path, path_in};
+use dd_files::{Files, SOURCE_LIMIT, Step, file_path, path_in};
 use dd_filing::{Filed, FilingFault, file_image};
 use dd_keys::Version;
 use dd_layout::{Plan, PlanRecord};
@@ -38,9 +38,11 @@ pub(crate) fn copy_images<F: Files, O: Origins>(
 {
     let versions = plan.versions();
     let mut picks = picks;
+    files.begin_progress(Step::Copying, picks.len() as u64);
     for record in plan.records() {
         picks = copy_record(alloc, folder, versions, record, origins, picks, files)?;
     }
+    files.hide_progress();
     Ok(())
 }
 
@@ -157,6 +159,7 @@ fn end_copy<F: Files, O: Origins>(
         return Err(Refusal::of(Subject::Image(file), ProgramFault::Unsent));
     }
     accept(alloc, planned, filed, origins, pick)?;
+    files.advance();
     store(files)
 }
 

@@ -4,21 +4,23 @@ ghost use Rattle.std.specs.Prelude.{◌≡◌};
 use dd_elem::{Counts, Read};
 use std::io;
 
-/// A reader that counts its calls and its failures from when it was made.
+/// A reader that counts its calls, its failures and its bytes from when it was made.
 #[derive(Drop)]
 pub(crate) struct CountedReader<R: Read + Drop> {
     reader: R,
     counts: Counts,
+    bytes: u64,
 }
 
 impl<R: Read + Drop> CountedReader<R> {
     /// The reader, not called yet.
     pub(crate) fn new(reader: R) -> Self
-        ensures { result ≡ record { reader = reader; counts = record { calls = 0; failures = 0 } } }
+        ensures { result ≡ record { reader = reader; counts = record { calls = 0; failures = 0 }; bytes = 0 } }
     {
         CountedReader {
             reader,
             counts: Counts::new(),
+            bytes: 0,
         }
     }
 
@@ -27,6 +29,13 @@ impl<R: Read + Drop> CountedReader<R> {
         ensures { result ≡ self.now.counts }
     {
         self.counts
+    }
+
+    /// How many bytes it gave, up to `u64::MAX`.
+    pub(crate) fn bytes(&self) -> u64
+        ensures { result ≡ self.now.bytes }
+    {
+        self.bytes
     }
 }
 
@@ -45,7 +54,10 @@ impl<R: Read + Drop> Read for CountedReader<R> {
     fn read(&mut self, buf: &mut [u8]) -> io::Result<usize> {
         self.counts.begin()?;
         match self.reader.read(buf) {
-            Ok(n) => Ok(n),
+            Ok(n) => {
+                self.bytes = self.bytes.saturating_add(n as u64);
+                Ok(n)
+            }
             Err(error) => {
                 self.counts.fail();
                 Err(error)

@@ -95,8 +95,9 @@ impl<F: Files> Supply for FileSupply<'_, F> {
     fn end(&mut self, at: usize, used: CountedReader<F::In>) {
         if at < self.counts.len() {
             let mut counts = self.counts[at];
-            counts.take_back(used.counts());
+            counts.take_back(used.counts(), used.bytes());
             self.counts[at] = counts;
         }
+        self.files.advance();
     }
 }

@@ -1,46 +1,113 @@
-//! A file-set of sources: the plan of its directory.
-ghost use Rattle.std.specs.Prelude.{◌≡◌, ℕ, IfErr, IfOk, length};
+//! A file-set of sources.
+ghost use Rattle.std.specs.Prelude.{◌≡◌, ◌≤◌, ℕ, IfErr, IfOk, IsErr, IsOk, length, true};
+ghost use Rattle.dd_elem.specs.Device.{HasFailed};
 ghost use Rattle.dd_engine.specs.Indexed.{IsNamed, IsWithin};
+ghost use Rattle.dd_engine.specs.Noting.{AreBelow, IsBelow};
+ghost use Rattle.dicomdir.specs.Made.{MakesFileSet};
 ghost use Rattle.dicomdir.specs.Refusal.{IsOfWork};
 
-use crate::file_set::{limits_of, refuse_taken};
+use crate::file_set::{limits_of, write_file_set};
 use crate::file_supply::FileSupply;
+use crate::making::{Making, tell_done, tell_plan_of_images};
+use crate::notes::{
+    has_notes, refuse_noted, tell_clash, tell_names, tell_skipped, tell_sources_left_out,
+};
+use crate::origins::SourceFiles;
 use crate::refusal::{ProgramFault, Refusal, Subject};
+use crate::shown_path::ShownPath;
 use crate::source_counts::SourceCounts;
-use dd_elem::Memory;
-use dd_engine::{Choice, EngineFault, Indexed, index_engine};
-use dd_files::{Files, SOURCE_LIMIT};
-use dd_layout::Limits;
+use dd_elem::{Memory, Write};
+use dd_engine::{Choice, EngineFault, Indexed, NotedFault, NotedIndex, index_with_notes};
+use dd_files::{Files, SOURCE_LIMIT, Step};
+use dd_layout::{Limits, PlanFault};
 use std::alloc::Global;
+use std::fmt;
 
-/// Reads all sources and plans the directory of their versions, which may have `max_bytes` bytes. Refused, in
-/// this order, where the folder has a directory already, where a source can't be opened or read, and where
-/// the versions have no place in a directory.
-pub(crate) fn plan_index<F: Files>(
+/// Runs `index`: reads all sources, tells what is skipped and what is noted, and makes the file-set of the
+/// others, or tells what would be made.
+pub(crate) fn run_index<F: Files, O: Write>(
+    alloc: Global,
+    making: Making<'_>,
+    sources: &[String],
+    choice: &Choice,
+    files: &mut F,
+    out: &mut O,
+) -> Result<u8, Refusal>
+    ensures refusal { IfErr result (IsOfWork (length sources.now)) }
+    ensures status { IfOk result (λ status. status ≤ 1) }
+    ensures dry { making.entry.dry_run ≡ true → F.held files.new ≡ F.held files.old }
+{
+    let mut counts = counts_of(alloc, sources.len())?;
+    let limits = limits_of(making.max_bytes);
+    files.begin_progress(Step::Reading, sources.len() as u64);
+    let answer = index_files(alloc, sources, &mut counts, choice, limits, files);
+    files.hide_progress();
+    let noted = match answer {
+        Ok(noted) => noted,
+        Err(fault) => return Err(refused(sources, &fault, out)),
+    };
+    if tell_noted(&noted, sources, out).is_err() {
+        return Ok(1);
+    }
+    let NotedIndex { indexed, notes } = &noted;
+    let is_noted = !indexed.skipped.is_empty() || has_notes(notes);
+    refuse_noted(making.strict, is_noted)?;
+    if making.dry_run {
+        let images = bytes_of(&indexed.picks, &counts);
+        return Ok(tell_plan_of_images(&indexed.plan, images, out));
+    }
+    write_indexed(alloc, making.folder, sources, indexed, files, out)
+}
+
+/// Tells the sources that are skipped, those that are left out, and the Patient IDs with more than one name. It
+/// fails only where the output did.
+fn tell_noted<O: Write>(noted: &NotedIndex, sources: &[String], out: &mut O) -> fmt::Result
+    requires within { IsWithin (length sources.now) noted.now.indexed }
+    requires below { AreBelow (λ at. at) (length sources.now) noted.now.notes.left_out.items }
+    ensures told { IsOk result → O.failures out.new ≡ O.failures out.old }
+    ensures failed { IsErr result → HasFailed (O.failures out.old) (O.failures out.new) }
+{
+    tell_skipped(&noted.indexed.skipped, sources, out)?;
+    tell_sources_left_out(&noted.notes.left_out, sources, out)?;
+    tell_names(&noted.notes.names, out)
+}
+
+/// Makes the file-set of what was indexed of these sources, and tells that.
+fn write_indexed<F: Files, O: Write>(
     alloc: Global,
     folder: &str,
     sources: &[String],
-    choice: &Choice,
-    max_bytes: u32,
+    indexed: &Indexed,
     files: &mut F,
-) -> Result<Indexed, Refusal>
+    out: &mut O,
+) -> Result<u8, Refusal>
+    requires { IsWithin (length sources.now) indexed.now }
     ensures refusal { IfErr result (IsOfWork (length sources.now)) }
-    ensures within { IfOk result (IsWithin (length sources.now)) }
-    ensures kept { F.held files.new ≡ F.held files.old }
+    ensures status { IfOk result (λ status. status ≤ 1) }
+    ensures made { IsOk result → MakesFileSet folder.now indexed.now.plan (length indexed.now.picks.items)
+        (F.held files.old) (F.held files.new) }
 {
-    refuse_taken(alloc, folder, files)?;
-    let mut counts = counts_of(alloc, sources.len())?;
-    match index_files(
+    let origins = SourceFiles { paths: sources };
+    write_file_set(
         alloc,
-        sources,
-        &mut counts,
-        choice,
-        limits_of(max_bytes),
+        folder,
+        &indexed.plan,
+        &origins,
+        &indexed.picks,
         files,
-    ) {
-        Ok(indexed) => Ok(indexed),
-        Err(fault) => Err(refusal_of(fault)),
+    )?;
+    Ok(tell_done(&indexed.plan, out))
+}
+
+/// Adds up the bytes of these sources, up to `u64::MAX`.
+fn bytes_of(picks: &[usize], counts: &[SourceCounts]) -> u64 {
+    let mut bytes = 0u64;
+    for at in picks {
+        if let Some(counts) = counts.get(*at) {
+            bytes = bytes.saturating_add(counts.bytes);
+        }
     }
+    bytes
 }
 
 /// Reads these files as sources, each with its counts, and plans the directory of their versions.
@@ -51,14 +118,16 @@ fn index_files<F: Files>(
     choice: &Choice,
     limits: Limits,
     files: &mut F,
-) -> Result<Indexed, EngineFault>
+) -> Result<NotedIndex, NotedFault<EngineFault, usize>>
     requires { length counts.old ≡ length sources.now }
-    ensures named { IfErr result (IsNamed (length sources.now)) }
-    ensures within { IfOk result (IsWithin (length sources.now)) }
+    ensures named { IfErr result (λ noted. IsNamed (length sources.now) noted.fault) }
+    ensures clash { IfErr result (λ noted. IsBelow (λ at. at) (length sources.now) noted.clash) }
+    ensures within { IfOk result (λ noted. IsWithin (length sources.now) noted.indexed) }
+    ensures below { IfOk result (λ noted. AreBelow (λ at. at) (length sources.now) noted.notes.left_out.items) }
     ensures kept { F.held files.new ≡ F.held files.old }
 {
     let mut supply = FileSupply::new(files, sources, counts);
-    index_engine(alloc, &mut supply, choice, limits, SOURCE_LIMIT)
+    index_with_notes(alloc, &mut supply, choice, limits, SOURCE_LIMIT)
 }
 
 /// The counts of a number of sources.
@@ -70,6 +139,26 @@ fn counts_of(alloc: Global, sources: usize) -> Result<Vec<SourceCounts>, Memory>
         counts.push(SourceCounts::new())?;
     }
     Ok(counts)
+}
+
+/// Tells which sources have the two instances that the plan is refused for, if it is, and gives the refusal.
+fn refused<O: Write>(
+    sources: &[String],
+    noted: &NotedFault<EngineFault, usize>,
+    out: &mut O,
+) -> Refusal
+    requires named { IsNamed (length sources.now) noted.now.fault }
+    requires clash { IsBelow (λ at. at) (length sources.now) noted.now.clash }
+    ensures { IsOfWork (length sources.now) result }
+{
+    if let EngineFault::Plan(PlanFault::Conflict(one, other)) = &noted.fault {
+        if let Some(clash) = &noted.clash {
+            let file = ShownPath::of_source(sources, clash.one);
+            let other_file = ShownPath::of_source(sources, clash.other);
+            tell_clash((file, one), (other_file, other), out);
+        }
+    }
+    refusal_of(noted.fault)
 }
 
 /// What the fault of an index comes to.

@@ -11,21 +11,28 @@ mod file_set;
 mod file_supply;
 mod image_path;
 mod index;
+mod inspecting;
 mod line_refusal;
+mod listed_names;
+mod making;
 mod masked_words;
 mod merging;
 mod names;
+mod notes;
 mod origins;
 mod program;
 mod refusal;
 mod set_directory;
+mod shown_path;
 mod source_counts;
+mod sources;
 
 pub use dd_engine::{
-    Choice, EngineFault, Indexed, MergeFault, Merged, Pick, Supply, first_saying, index_engine,
-    merge_engine, withdraw_engine,
+    Choice, Clash, EngineFault, Indexed, LeftOut, MergeFault, Merged, NotedFault, NotedIndex,
+    NotedMerge, Notes, PatientNames, Pick, Supply, first_saying, index_engine, index_with_notes,
+    merge_engine, merge_with_notes, withdraw_engine, withdraw_with_notes,
 };
-pub use dd_files::{CopyFault, DIRECTORY, Files, NotDone, NotThere, copy_image, digest_text};
+pub use dd_files::{CopyFault, DIRECTORY, Files, NotDone, NotThere, Step, copy_image, digest_text};
 pub use dd_filing::{Filed, FilingFault, copy_version, file_image, is_filed_as};
 pub use dd_line::{Asked, LineFault, Verb, read_words};
 pub use dd_mem_files::{MemFiles, MemReader};

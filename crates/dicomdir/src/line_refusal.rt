@@ -1,5 +1,6 @@
 //! Prints why a command line is refused, or the help that it asks for.
-ghost use Rattle.std.specs.Prelude.{◌≡◌, ◌≤◌};
+ghost use Rattle.std.specs.Prelude.{◌≡◌, ◌≤◌, true};
+ghost use Rattle.dicomdir.specs.Mistakes.{IsMistake};
 
 use crate::masked_words::{have_control, mask_words};
 use crate::refusal::{Paths, Refusal, tell};
@@ -21,37 +22,41 @@ pub(crate) fn refuse_line<O: Write, E: Write>(
     ensures status { result ≤ 2 }
     ensures memory { fault.now ≡ LineFault.Memory → (result ≡ 1) × (out.new ≡ out.old) }
     ensures line { result ≡ 2 → out.new ≡ out.old }
+    ensures mistake { IsMistake fault.now → (1 ≤ result) × (out.new ≡ out.old) }
     ensures done { result ≡ 0 → err.new ≡ err.old }
 {
     match fault {
         LineFault::Memory => tell(&Refusal::memory(), Paths::none(), err),
         LineFault::Refused(error) => {
+            let mistake = error.use_stderr();
             if have_control(words) {
-                refuse_masked(alloc, words, out, err)
+                refuse_masked(alloc, words, mistake, out, err)
             } else {
-                tell_parser(error, out, err)
+                tell_parser(error, mistake, out, err)
             }
         }
     }
 }
 
 /// Prints the parser's text for these words with `?` in place of each control character, and answers the
-/// status: 1 where a growth was refused.
+/// status: 1 where a growth was refused. `mistake` says whether the words themselves have a mistake.
 fn refuse_masked<O: Write, E: Write>(
     alloc: Global,
     words: &[String],
+    mistake: bool,
     out: &mut O,
     err: &mut E,
 ) -> u8
     ensures status { result ≤ 2 }
     ensures line { result ≡ 2 → out.new ≡ out.old }
+    ensures mistake { mistake ≡ true → (1 ≤ result) × (out.new ≡ out.old) }
     ensures done { result ≡ 0 → err.new ≡ err.old }
 {
     let Ok(shown) = mask_words(alloc, words) else {
         return tell(&Refusal::memory(), Paths::none(), err);
     };
     match read_words(alloc, shown.as_slice()) {
-        Err(LineFault::Refused(error)) => tell_parser(&error, out, err),
+        Err(LineFault::Refused(error)) => tell_parser(&error, mistake, out, err),
         Err(LineFault::Memory) => tell(&Refusal::memory(), Paths::none(), err),
 
         // Words that are refused are refused with `?` too: no name and no number has a `?`.
@@ -59,14 +64,20 @@ fn refuse_masked<O: Write, E: Write>(
     }
 }
 
-/// Prints the parser's text: a mistake to the error output, with status 2, and help to the output, with
+/// Prints the parser's text: that of a mistake to the error output, with status 2, and help to the output, with
 /// status 0, or 1 where the output failed.
-fn tell_parser<O: Write, E: Write>(error: &clap::Error, out: &mut O, err: &mut E) -> u8
+fn tell_parser<O: Write, E: Write>(
+    error: &clap::Error,
+    mistake: bool,
+    out: &mut O,
+    err: &mut E,
+) -> u8
     ensures status { result ≤ 2 }
     ensures line { result ≡ 2 → out.new ≡ out.old }
+    ensures mistake { mistake ≡ true → (1 ≤ result) × (out.new ≡ out.old) }
     ensures done { result ≡ 0 → err.new ≡ err.old }
 {
-    if error.use_stderr() {
+    if mistake {
         let _ = fmt::Write::write(&mut Text { to: err }, format_args!("{error}"));
         return 2;
     }

@@ -1,66 +1,176 @@
 //! A file-set of others.
-ghost use Rattle.std.specs.Prelude.{◌≡◌, ◌<◌, ℕ, All, IfErr, IfOk, length};
+ghost use Rattle.std.specs.Prelude.{◌≡◌, ◌<◌, ◌≤◌, ℕ, All, IfErr, IfOk, IsErr, IsOk, false, length, true};
+ghost use Rattle.dd_elem.specs.Device.{HasFailed};
 ghost use Rattle.dd_engine.specs.Merging.{IsNamedSet};
+ghost use Rattle.dd_engine.specs.Noting.{AreBelow, IsBelow};
+ghost use Rattle.dicomdir.specs.Made.{MakesFileSet};
 ghost use Rattle.dicomdir.specs.Refusal.{IsOfWork};
 
-use crate::file_set::{limits_of, refuse_taken};
+use crate::file_set::{limits_of, write_file_set};
+use crate::making::{Making, tell_done, tell_plan};
 use crate::names::Names;
+use crate::notes::{has_notes, refuse_noted, tell_clash, tell_names, tell_picks_left_out};
+use crate::origins::SetFiles;
 use crate::refusal::{ProgramFault, Refusal, Subject};
 use crate::set_directory::read_directories;
-use dd_elem::Memory;
-use dd_engine::{Choice, MergeFault, Merged, merge_engine, withdraw_engine};
+use crate::shown_path::ShownPath;
+use dd_elem::{Memory, Write};
+use dd_engine::{
+    Choice, MergeFault, Merged, NotedFault, NotedMerge, Notes, Pick, merge_with_notes,
+    withdraw_with_notes,
+};
 use dd_files::Files;
+use dd_layout::PlanFault;
 use std::alloc::Global;
+use std::fmt;
 
-/// The directories of all these sets, read whole. Refused, in this order, where the folder has a
-/// directory already, and where one of these can't be opened or read.
-pub(crate) fn read_sets<F: Files>(
+/// Runs `merge`: reads the directories of all these file-sets, tells what is noted, and makes a file-set of their
+/// images, or tells what would be made.
+pub(crate) fn run_merge<F: Files, O: Write>(
     alloc: Global,
-    folder: &str,
+    making: Making<'_>,
     sets: &[String],
-    files: &mut F,
-) -> Result<Vec<Vec<u8>>, Refusal>
-    ensures refusal { IfErr result (IsOfWork (length sets.now)) }
-    ensures all { IfOk result (λ all. length all.items ≡ length sets.now) }
-    ensures kept { F.held files.new ≡ F.held files.old }
-{
-    refuse_taken(alloc, folder, files)?;
-    read_directories(alloc, sets, files)
-}
-
-/// Plans the directory of the best versions of all these sets, each of which has the bytes of its
-/// directory. It may have `max_bytes` bytes.
-pub(crate) fn plan_merge<'a>(
-    alloc: Global,
-    sets: &'a [&'a [u8]],
     choice: &Choice,
-    max_bytes: u32,
-) -> Result<Merged<'a>, Refusal>
+    files: &mut F,
+    out: &mut O,
+) -> Result<u8, Refusal>
     ensures refusal { IfErr result (IsOfWork (length sets.now)) }
-    ensures within { IfOk result (λ merged. All (λ pick. pick.set < length sets.now) merged.picks.items) }
+    ensures status { IfOk result (λ status. status ≤ 1) }
+    ensures dry { making.entry.dry_run ≡ true → F.held files.new ≡ F.held files.old }
 {
-    match merge_engine(alloc, sets, choice, limits_of(max_bytes)) {
-        Ok(merged) => Ok(merged),
-        Err(fault) => Err(refusal_of(fault)),
+    let directories = read_directories(alloc, sets, files)?;
+    let slices = slices(alloc, &directories)?;
+    let limits = limits_of(making.max_bytes);
+    let noted = match merge_with_notes(alloc, &slices, choice, limits) {
+        Ok(noted) => noted,
+        Err(fault) => return Err(refused(sets, &fault, out)),
+    };
+    let origins = SetFiles {
+        folders: sets,
+        directories: &slices,
+    };
+    write_noted(alloc, making, &origins, &noted, files, out)
+}
+
+/// Runs `withdraw` on the first of these file-sets, as `run_merge` does.
+pub(crate) fn run_withdraw<F: Files, O: Write>(
+    alloc: Global,
+    making: Making<'_>,
+    sets: &[String],
+    names: &Names,
+    files: &mut F,
+    out: &mut O,
+) -> Result<u8, Refusal>
+    requires { 0 < length sets.now }
+    ensures refusal { IfErr result (IsOfWork (length sets.now)) }
+    ensures status { IfOk result (λ status. status ≤ 1) }
+    ensures dry { making.entry.dry_run ≡ true → F.held files.new ≡ F.held files.old }
+{
+    match withdraw_of(alloc, making, &sets[..1], names, files, out) {
+        Ok(status) => Ok(status),
+        Err(refusal) => Err(refusal),
     }
 }
 
-/// Plans the directory of what a set lists, which has the bytes of its directory, with the instances
-/// withdrawn that the line names. It may have `max_bytes` bytes.
-pub(crate) fn plan_withdrawal<'a>(
+/// Runs `withdraw` on this one file-set.
+fn withdraw_of<F: Files, O: Write>(
     alloc: Global,
-    set: &'a [u8],
+    making: Making<'_>,
+    sets: &[String],
     names: &Names,
-    max_bytes: u32,
-) -> Result<Merged<'a>, Refusal>
-    ensures refusal { (sets : ℕ) → 0 < sets → IfErr result (IsOfWork sets) }
-    ensures within { (sets : ℕ) → 0 < sets → IfOk result (λ merged. All (λ pick. pick.set < sets) merged.picks.items) }
+    files: &mut F,
+    out: &mut O,
+) -> Result<u8, Refusal>
+    requires { length sets.now ≡ 1 }
+    ensures refusal { IfErr result (IsOfWork 1) }
+    ensures status { IfOk result (λ status. status ≤ 1) }
+    ensures dry { making.entry.dry_run ≡ true → F.held files.new ≡ F.held files.old }
 {
-    let limits = limits_of(max_bytes);
-    match withdraw_engine(alloc, set, &names.withdrawn, &names.choice, limits) {
-        Ok(merged) => Ok(merged),
-        Err(fault) => Err(refusal_of(fault)),
+    let directories = read_directories(alloc, sets, files)?;
+    let slices = slices(alloc, &directories)?;
+    let limits = limits_of(making.max_bytes);
+    let noted = match withdraw_with_notes(
+        alloc,
+        slices[0],
+        &names.withdrawn,
+        &names.choice,
+        limits,
+    ) {
+        Ok(noted) => noted,
+        Err(fault) => return Err(refused(sets, &fault, out)),
+    };
+    let origins = SetFiles {
+        folders: sets,
+        directories: &slices,
+    };
+    write_noted(alloc, making, &origins, &noted, files, out)
+}
+
+/// Tells what is noted of these file-sets, and then makes what was planned of them, or tells it. Answers the status.
+fn write_noted<'a, F: Files, O: Write>(
+    alloc: Global,
+    making: Making<'_>,
+    sets: &SetFiles<'_, 'a>,
+    noted: &NotedMerge<'a>,
+    files: &mut F,
+    out: &mut O,
+) -> Result<u8, Refusal>
+    requires sets { length sets.now.directories.now ≡ length sets.now.folders.now }
+    requires within { All (λ pick. pick.set < length sets.now.folders.now) noted.now.merged.picks.items }
+    requires below { AreBelow (λ pick. pick.set) (length sets.now.folders.now) noted.now.notes.left_out.items }
+    ensures refusal { IfErr result (IsOfWork (length sets.now.folders.now)) }
+    ensures status { IfOk result (λ status. status ≤ 1) }
+    ensures dry { making.entry.dry_run ≡ true → F.held files.new ≡ F.held files.old }
+{
+    let NotedMerge { merged, notes } = noted;
+    if tell_noted(notes, sets.folders, out).is_err() {
+        return Ok(1);
     }
+    refuse_noted(making.strict, has_notes(notes))?;
+    write_merged(alloc, making, sets, merged, files, out)
+}
+
+/// Tells the files that are left out, and the Patient IDs with more than one name. It fails only where the output
+/// did.
+fn tell_noted<O: Write>(notes: &Notes<Pick<'_>>, folders: &[String], out: &mut O) -> fmt::Result
+    requires { AreBelow (λ pick. pick.set) (length folders.now) notes.now.left_out.items }
+    ensures told { IsOk result → O.failures out.new ≡ O.failures out.old }
+    ensures failed { IsErr result → HasFailed (O.failures out.old) (O.failures out.new) }
+{
+    tell_picks_left_out(&notes.left_out, folders, out)?;
+    tell_names(&notes.names, out)
+}
+
+/// Makes what a merge of these file-sets planned, or tells it, and answers the status.
+fn write_merged<'a, F: Files, O: Write>(
+    alloc: Global,
+    making: Making<'_>,
+    sets: &SetFiles<'_, 'a>,
+    merged: &Merged<'a>,
+    files: &mut F,
+    out: &mut O,
+) -> Result<u8, Refusal>
+    requires sets { length sets.now.directories.now ≡ length sets.now.folders.now }
+    requires within { All (λ pick. pick.set < length sets.now.folders.now) merged.now.picks.items }
+    ensures refusal { IfErr result (IsOfWork (length sets.now.folders.now)) }
+    ensures status { IfOk result (λ status. status ≤ 1) }
+    ensures dry { making.entry.dry_run ≡ true → F.held files.new ≡ F.held files.old }
+    ensures made { IsOk result → making.entry.dry_run ≡ false
+        → MakesFileSet making.entry.folder.now merged.now.plan (length merged.now.picks.items)
+        (F.held files.old) (F.held files.new) }
+{
+    if making.dry_run {
+        return Ok(tell_plan(&merged.plan, out));
+    }
+    write_file_set(
+        alloc,
+        making.folder,
+        &merged.plan,
+        sets,
+        &merged.picks,
+        files,
+    )?;
+    Ok(tell_done(&merged.plan, out))
 }
 
 /// The bytes of all directories.
@@ -72,6 +182,26 @@ pub(crate) fn slices<'a>(alloc: Global, all: &'a [Vec<u8>]) -> Result<Vec<&'a [u
         slices.push(bytes.as_slice())?;
     }
     Ok(slices)
+}
+
+/// Tells which files have the two instances that the plan is refused for, if it is, and gives the refusal.
+fn refused<O: Write>(
+    folders: &[String],
+    noted: &NotedFault<MergeFault, Pick<'_>>,
+    out: &mut O,
+) -> Refusal
+    requires named { IsNamedSet (length folders.now) noted.now.fault }
+    requires clash { IsBelow (λ pick. pick.set) (length folders.now) noted.now.clash }
+    ensures { IsOfWork (length folders.now) result }
+{
+    if let MergeFault::Plan(PlanFault::Conflict(one, other)) = &noted.fault {
+        if let Some(clash) = &noted.clash {
+            let file = ShownPath::of_pick(folders, &clash.one);
+            let other_file = ShownPath::of_pick(folders, &clash.other);
+            tell_clash((file, one), (other_file, other), out);
+        }
+    }
+    refusal_of(noted.fault)
 }
 
 /// What the fault of a merge comes to.

@@ -59,6 +59,9 @@ pub enum ProgramFault {
     /// A source was left out, and the command line has `--strict`.
     #[error("98 Strict")]
     Strict,
+    /// The name of this number in the list of names is empty or not UTF-8, or the list has none.
+    #[error("99 BadName {0}")]
+    BadName(usize),
 }
 
 impl From<AllocError> for ProgramFault {
@@ -88,6 +91,8 @@ pub(crate) enum Subject {
     Image(FileId),
     /// The folder of that copy.
     ImageFolder(FileId),
+    /// The list of names.
+    List,
     /// What the files say was not stored.
     Unstored,
 }
@@ -99,6 +104,8 @@ pub(crate) struct Paths<'a> {
     pub(crate) folder: &'a str,
     /// The sources, or the folders of the file-sets that are read.
     pub(crate) sources: &'a [String],
+    /// The list of names.
+    pub(crate) list: &'a str,
     /// What the files say was not stored.
     pub(crate) unstored: &'a str,
 }
@@ -109,6 +116,7 @@ impl Paths<'_> {
         Paths {
             folder: "",
             sources: &[],
+            list: "",
             unstored: "",
         }
     }
@@ -173,6 +181,7 @@ pub(crate) fn tell<W: Write>(refusal: &Refusal, paths: Paths<'_>, to: &mut W) ->
     let Paths {
         folder,
         sources,
+        list,
         unstored,
     } = paths;
     match refusal.subject {
@@ -192,6 +201,7 @@ pub(crate) fn tell<W: Write>(refusal: &Refusal, paths: Paths<'_>, to: &mut W) ->
             let name = ImagePathText::of(&ImageFolder(file));
             print_inside(folder, name.as_str(), words, to);
         }
+        Subject::List => print_fault(list, words, to),
         Subject::Unstored => print_fault(unstored, words, to),
     }
     status_of(&refusal.fault)

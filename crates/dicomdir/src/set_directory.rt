@@ -4,7 +4,7 @@ ghost use Rattle.dicomdir.specs.Refusal.{IsOfWork};
 
 use crate::refusal::{ProgramFault, Refusal, Subject};
 use dd_dir::DirFault;
-use dd_files::{DIRECTORY, Files, ReadFault, SOURCE_LIMIT, path_in, read_whole};
+use dd_files::{DIRECTORY, Files, ReadFault, SOURCE_LIMIT, Step, path_in, read_whole};
 use std::alloc::Global;
 
 /// Reads the directories of all these file-sets whole, in their order.
@@ -17,13 +17,16 @@ pub(crate) fn read_directories<F: Files>(
     ensures all { IfOk result (λ all. length all.items ≡ length folders.now) }
     ensures kept { F.held files.new ≡ F.held files.old }
 {
+    files.begin_progress(Step::Reading, folders.len() as u64);
     let mut all = Vec::new(alloc);
     for (at, folder) in folders.iter().enumerate() {
         let bytes = directory_bytes(alloc, at, folder.as_str(), files)?;
         if all.push(bytes).is_err() {
             return Err(Refusal::memory());
         }
+        files.advance();
     }
+    files.hide_progress();
     Ok(all)
 }
 

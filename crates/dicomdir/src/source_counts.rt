@@ -17,6 +17,8 @@ pub(crate) struct SourceCounts {
     pub(crate) failures: u64,
     /// How many of its readers are lent.
     pub(crate) lent: u64,
+    /// How many bytes the reader gave that was taken back last.
+    pub(crate) bytes: u64,
 }
 
 impl SourceCounts {
@@ -29,6 +31,7 @@ impl SourceCounts {
             reads: 0,
             failures: 0,
             lent: 0,
+            bytes: 0,
         }
     }
 
@@ -56,16 +59,18 @@ impl SourceCounts {
         self.lent = self.lent.saturating_add(1);
     }
 
-    /// Counts a reader less, and its reads and failures.
-    pub(crate) fn take_back(&mut self, used: Counts)
+    /// Counts a reader less, and its reads, failures and bytes.
+    pub(crate) fn take_back(&mut self, used: Counts, bytes: u64)
         ensures { self.new ≡ record self.old {
           reads = added self.old.reads used.calls;
           failures = added self.old.failures used.failures;
           lent = self.old.lent - 1;
+          bytes = bytes;
         } }
     {
         self.reads = self.reads.saturating_add(used.calls);
         self.failures = self.failures.saturating_add(used.failures);
         self.lent = self.lent.saturating_sub(1);
+        self.bytes = bytes;
     }
 }

@@ -1,0 +1,33 @@
+-- Lists of names whose names end in zero bytes.
+use Rattle.std.specs.Prelude.{◌≡◌, ◌≢◌, ◌≤◌, ◌-◌, ◌⊎◌, ◌++◌, ◌==◌, ℕ, List, [], ◌∷◌, if◌then◌else◌}
+use Rattle.std.specs.Prelude.{All, Contains, length, max, slice_index_or}
+use Rattle.std.specs.List.{AllWithin, flat_map, onto_first}
+use Rattle.std.specs.Str.{IsUtf8}
+
+-- the parts of a list: a zero byte ends each, and the end of the list ends a last one without it
+abbrev pub parts : List ℕ → List (List ℕ)
+parts [] = []
+parts (byte ∷ list) = if byte == 0 then [] ∷ parts list else onto_first byte (parts list)
+
+-- the list is these parts, none with a zero byte in it and each with one behind it; the last of these may lack
+pub record IsListOf (parts : List (List ℕ)) (list : List ℕ) : Type 0 where
+  pub apart : All (λ part. ¬ Contains part 0) parts
+  pub joined : (flat_map (λ part. part ++ 0 ∷ []) parts ≡ list)
+      ⊎ (flat_map (λ part. part ++ 0 ∷ []) parts ≡ list ++ 0 ∷ [])
+
+-- a part that is a name: UTF-8, and not empty
+pub record IsName (part : List ℕ) : Type 0 where
+  pub some : part ≢ []
+  pub utf8 : IsUtf8 part
+
+-- one or more parts, each a name
+pub record AreNames (parts : List (List ℕ)) : Type 0 where
+  pub some : parts ≢ []
+  pub each : All IsName parts
+
+-- the first part that is no name has this number, counted from 1; where there is no part, the number is 1
+pub record FailsAt (parts : List (List ℕ)) (number : ℕ) : Type 0 where
+  pub counted : 1 ≤ number
+  pub within : number ≤ max 1 (length parts)
+  pub before : AllWithin IsName parts 0 (number - 1)
+  pub fails : ¬ IsName (slice_index_or parts (number - 1) [])

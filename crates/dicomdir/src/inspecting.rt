@@ -1,0 +1,91 @@
+//! The commands that read one file-set.
+ghost use Rattle.std.specs.Prelude.{◌≡◌, ◌<◌, ◌≤◌, ◌⊎◌, ℕ, IfErr, IfOk, false, true};
+ghost use Rattle.dd_elem.specs.Device.{HasFailed};
+ghost use Rattle.dicomdir.specs.Refusal.{IsOfWork};
+
+use crate::refusal::{Refusal, Words};
+use crate::set_directory::{directory_bytes, refusal_of};
+use dd_dir::{DirFault, read_directory};
+use dd_elem::Write;
+use dd_files::Files;
+use dd_line::Asked;
+use dd_report::{CheckFault, Comparison, check_records, list_long, list_records, print_line};
+use std::alloc::Global;
+
+/// Gives the comparison that `check` makes: that of keys where the line has `--keys`, else that of digests.
+pub(crate) fn comparison_of(asked: &Asked) -> Comparison
+    ensures keys { asked.now.keys ≡ true → result ≡ Comparison.Keys }
+    ensures digests { asked.now.keys ≡ false → result ≡ Comparison.Digests }
+{
+    if asked.keys {
+        Comparison::Keys
+    } else {
+        Comparison::Digests
+    }
+}
+
+/// Runs `check` on the file-set in this folder.
+pub(crate) fn run_check<F: Files, O: Write>(
+    alloc: Global,
+    folder: &str,
+    comparison: Comparison,
+    files: &mut F,
+    out: &mut O,
+) -> Result<u8, Refusal>
+    ensures refusal { (paths : ℕ) → 0 < paths → IfErr result (IsOfWork paths) }
+    ensures status { IfOk result (λ status. (status ≤ 1) ⊎ (status ≡ 3)) }
+    ensures kept { F.held files.new ≡ F.held files.old }
+{
+    let bytes = directory_bytes(alloc, 0, folder, files)?;
+    let forest = match read_directory(alloc, &bytes) {
+        Ok(forest) => forest,
+        Err(fault) if fault.is_want_of_memory() => return Err(Refusal::memory()),
+        Err(fault) => return Ok(tell_broken(&fault, out)),
+    };
+    match check_records(alloc, folder, &forest, comparison, files, out) {
+        Ok(false) => Ok(0),
+        Ok(true) => Ok(3),
+        Err(CheckFault::Unsent) => Ok(1),
+        Err(CheckFault::Memory) => Err(Refusal::memory()),
+    }
+}
+
+/// Tells why a directory can't be read, as a finding, and answers the status.
+fn tell_broken<O: Write>(fault: &DirFault, out: &mut O) -> u8
+    ensures status { (result ≡ 1) ⊎ (result ≡ 3) }
+    ensures failed { result ≡ 1 → HasFailed (O.failures out.old) (O.failures out.new) }
+{
+    let words = Words::of(fault);
+    match print_line(&["BROKEN ", words.as_str()], out) {
+        Ok(()) => 3,
+        Err(_) => 1,
+    }
+}
+
+/// Runs `list` on the file-set in this folder, in the long form or the plain one.
+pub(crate) fn run_list<F: Files, O: Write>(
+    alloc: Global,
+    folder: &str,
+    long: bool,
+    files: &mut F,
+    out: &mut O,
+) -> Result<u8, Refusal>
+    ensures refusal { (paths : ℕ) → 0 < paths → IfErr result (IsOfWork paths) }
+    ensures status { IfOk result (λ status. status ≤ 1) }
+    ensures kept { F.held files.new ≡ F.held files.old }
+{
+    let bytes = directory_bytes(alloc, 0, folder, files)?;
+    let forest = match read_directory(alloc, &bytes) {
+        Ok(forest) => forest,
+        Err(fault) => return Err(refusal_of(0, fault)),
+    };
+    let listed = if long {
+        list_long(&forest, out)
+    } else {
+        list_records(&forest, out)
+    };
+    match listed {
+        Ok(()) => Ok(0),
+        Err(_) => Ok(1),
+    }
+}

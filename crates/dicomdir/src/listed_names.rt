@@ -1,0 +1,84 @@
+//! The names of a list whose names end in zero bytes.
+ghost use Rattle.std.specs.Prelude.{◌≡◌, ◌≢◌, ◌<◌, ◌++◌, ℕ, [], ◌∷◌, None, Err, length, map, string_bytes};
+ghost use Rattle.std.specs.Prelude.{IfOk, IfSome, IsOk, OnOk};
+ghost use Rattle.dicomdir.specs.ListedNames.{AreNames, FailsAt, IsListOf, IsName, parts};
+ghost use Rattle.dicomdir.specs.declared.listed_names.NamesFault.TheVariants as faults;
+
+use dd_elem::Memory;
+use std::alloc::Global;
+use std::str;
+
+/// Why a list gives no names.
+#[derive(Debug, Drop)]
+pub(crate) enum NamesFault {
+    /// A growth was refused.
+    Memory,
+    /// The name of this number, counted from 1, is empty or not UTF-8.
+    BadName(usize),
+}
+
+impl From<Memory> for NamesFault {
+    ghost from_gives = { λ _ fault. fault ≡ faults.Memory };
+
+    fn from(_refused: Memory) -> NamesFault {
+        NamesFault::Memory
+    }
+}
+
+/// Reads the names of a list, of which a zero byte ends each, and the end of the list may end the last. Refused
+/// by the number of the first that is empty or not UTF-8, by number 1 where there is none, and as Memory where
+/// a growth was refused. Each name is copied once.
+pub(crate) fn names_in(alloc: Global, list: &[u8]) -> Result<Vec<String>, NamesFault>
+    ensures names { IfOk result (λ names. map (λ name. string_bytes name) names.items ≡ parts list.now) }
+    ensures good { IsOk result → AreNames (parts list.now) }
+    ensures bad { (number : ℕ) → result ≡ Err (NamesFault.BadName number) → FailsAt (parts list.now) number }
+
+    // What the parts of a list are, in other words.
+    ensures listed { IsListOf (parts list.now) list.now }
+{
+    let mut names = Vec::new(alloc);
+    let mut rest = list;
+    while !rest.is_empty() {
+        let (part, behind) = cut_first(rest);
+        let Some(name) = name_in(part) else {
+            return Err(NamesFault::BadName(names.len() + 1));
+        };
+        add(alloc, name, &mut names)?;
+        rest = behind;
+    }
+    if names.is_empty() {
+        return Err(NamesFault::BadName(1));
+    }
+    Ok(names)
+}
+
+/// Reads the first part of a list, and what stands behind it.
+fn cut_first(list: &[u8]) -> (&[u8], &[u8])
+    ensures parts { list.now ≢ [] → parts list.now ≡ result.0.now ∷ parts result.1.now }
+    ensures shorter { list.now ≢ [] → length result.1.now < length list.now }
+{
+    match list.iter().position(|byte| *byte == 0) {
+        Some(at) => (&list[..at], &list[at + 1..]),
+        None => (list, &[]),
+    }
+}
+
+/// Reads the name that the part is.
+fn name_in(part: &[u8]) -> Option<&str>
+    ensures name { IfSome result (λ name. (name.now ≡ part.now) × IsName part.now) }
+    ensures none { result ≡ None → ¬ IsName part.now }
+{
+    if part.is_empty() {
+        return None;
+    }
+    str::from_utf8(part).ok()
+}
+
+/// Puts a copy of the name behind the names.
+fn add(alloc: Global, name: &str, names: &mut Vec<String>) -> Result<(), Memory>
+    ensures { OnOk result (map (λ name. string_bytes name) names.new.items
+        ≡ map (λ name. string_bytes name) names.old.items ++ name.now ∷ []) }
+{
+    names.push(String::from_str(alloc, name)?)?;
+    Ok(())
+}

@@ -1,0 +1,104 @@
+//! How a command makes its file-set, and the last line that it prints.
+ghost use Rattle.std.specs.Prelude.{◌≡◌, ◌⊎◌, length};
+ghost use Rattle.dd_elem.specs.Device.{HasFailed};
+ghost use Rattle.dd_layout.specs.Plans.{size};
+ghost use Rattle.dd_report.specs.Text.{TakesAll};
+ghost use Rattle.dicomdir.specs.Done.{done_text, images_text, plan_text};
+
+use dd_elem::Write;
+use dd_layout::Plan;
+use dd_line::Asked;
+use dd_report::print_line;
+use itoa::Buffer;
+
+/// How a command makes its file-set.
+#[derive(Clone, Copy)]
+pub(crate) struct Making<'a> {
+    /// The folder that it is made in.
+    pub(crate) folder: &'a str,
+    /// The most bytes that its directory may have.
+    pub(crate) max_bytes: u32,
+    /// Whether a source that is skipped refuses the run.
+    pub(crate) strict: bool,
+    /// Whether nothing is made, and the plan is told.
+    pub(crate) dry_run: bool,
+}
+
+impl<'a> Making<'a> {
+    /// Takes over what the line asks for, in this folder.
+    pub(crate) fn asked(asked: &Asked, folder: &'a str) -> Making<'a>
+        ensures folder { result.folder.now ≡ folder.now }
+        ensures dry { result.dry_run ≡ asked.now.dry_run }
+    {
+        Making {
+            folder,
+            max_bytes: asked.max_bytes,
+            strict: asked.strict,
+            dry_run: asked.dry_run,
+        }
+    }
+}
+
+/// Tells how many images the file-set has and the size of its directory, and answers the status: 1 where
+/// the output failed.
+pub(crate) fn tell_done<O: Write>(plan: &Plan, out: &mut O) -> u8
+    ensures status { (result ≡ 0) ⊎ (result ≡ 1) }
+    ensures done { result ≡ 0 → TakesAll (O.contents out.old) (O.contents out.new)
+        (O.failures out.old) (O.failures out.new)
+        (done_text (length plan.now.versions) (size plan.now.label plan.now.versions plan.now.withdrawn)) }
+    ensures failed { result ≡ 1 → HasFailed (O.failures out.old) (O.failures out.new) }
+{
+    let (mut count, mut size) = (Buffer::new(), Buffer::new());
+    let count = count.format(plan.versions().len());
+    let size = size.format(plan.size());
+    match print_line(&["DONE ", count, " instances, ", size, " bytes"], out) {
+        Ok(()) => 0,
+        Err(_) => 1,
+    }
+}
+
+/// Tells what would be made: how many images, and the size of the directory. Answers the status: 1 where the
+/// output failed.
+pub(crate) fn tell_plan<O: Write>(plan: &Plan, out: &mut O) -> u8
+    ensures status { (result ≡ 0) ⊎ (result ≡ 1) }
+    ensures done { result ≡ 0 → TakesAll (O.contents out.old) (O.contents out.new)
+        (O.failures out.old) (O.failures out.new)
+        (plan_text (length plan.now.versions) (size plan.now.label plan.now.versions plan.now.withdrawn)) }
+    ensures failed { result ≡ 1 → HasFailed (O.failures out.old) (O.failures out.new) }
+{
+    let (mut count, mut size) = (Buffer::new(), Buffer::new());
+    let count = count.format(plan.versions().len());
+    let size = size.format(plan.size());
+    match print_line(&["PLAN ", count, " instances, ", size, " bytes"], out) {
+        Ok(()) => 0,
+        Err(_) => 1,
+    }
+}
+
+/// Tells what would be made, with the number of bytes of all images. Answers the status: 1 where the output
+/// failed.
+pub(crate) fn tell_plan_of_images<O: Write>(plan: &Plan, images: u64, out: &mut O) -> u8
+    ensures status { (result ≡ 0) ⊎ (result ≡ 1) }
+    ensures done { result ≡ 0 → TakesAll (O.contents out.old) (O.contents out.new)
+        (O.failures out.old) (O.failures out.new)
+        (images_text (length plan.now.versions) (size plan.now.label plan.now.versions plan.now.withdrawn) images) }
+    ensures failed { result ≡ 1 → HasFailed (O.failures out.old) (O.failures out.new) }
+{
+    let (mut count, mut size, mut all) = (Buffer::new(), Buffer::new(), Buffer::new());
+    let count = count.format(plan.versions().len());
+    let size = size.format(plan.size());
+    let all = all.format(images);
+    let parts = [
+        "PLAN ",
+        count,
+        " instances, ",
+        size,
+        " bytes, ",
+        all,
+        " bytes of images",
+    ];
+    match print_line(&parts, out) {
+        Ok(()) => 0,
+        Err(_) => 1,
+    }
+}

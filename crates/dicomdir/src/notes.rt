@@ -1,0 +1,259 @@
+//! What a command says of its sources before it makes anything.
+ghost use Rattle.std.specs.Prelude.{◌≡◌, ◌↔◌, ◌<◌, ℕ, All, IfErr, IsErr, IsOk, IsTrue, length, true};
+ghost use Rattle.dd_elem.specs.Device.{HasFailed};
+ghost use Rattle.dd_engine.specs.Noting.{AreBelow};
+ghost use Rattle.dicomdir.specs.Noted.{HasNotes};
+ghost use Rattle.dicomdir.specs.Refusal.{IsOfWork, IsStrict};
+
+use crate::refusal::{ProgramFault, Refusal, Words};
+use crate::shown_path::ShownPath;
+use dd_elem::{Key, Uid, Write};
+use dd_engine::{LeftOut, Notes, PatientNames, Pick};
+use dd_keys::KeyFault;
+use dd_report::{print_line, show_line};
+use itoa::Buffer;
+use std::fmt::{self, InlineText};
+
+/// The text of a UID: it has at most 64 characters (PS3.5 section 9.1).
+type UidText = InlineText<64>;
+
+/// Tells each source that is skipped, and why. It fails only where the output did.
+pub(crate) fn tell_skipped<O: Write>(
+    skipped: &[(usize, KeyFault)],
+    sources: &[String],
+    out: &mut O,
+) -> fmt::Result
+    requires { All (λ skip. skip.0 < length sources.now) skipped.now }
+    ensures told { IsOk result → O.failures out.new ≡ O.failures out.old }
+    ensures failed { IsErr result → HasFailed (O.failures out.old) (O.failures out.new) }
+{
+    for (at, fault) in skipped {
+        let words = Words::of(fault);
+        let path = sources[*at].as_str();
+        print_line(&["SKIP ", path, ": ", words.as_str()], out)?;
+    }
+    Ok(())
+}
+
+/// Tells each source that is left out, and for which. It fails only where the output did.
+pub(crate) fn tell_sources_left_out<O: Write>(
+    left_out: &[LeftOut<usize>],
+    sources: &[String],
+    out: &mut O,
+) -> fmt::Result
+    requires { AreBelow (λ at. at) (length sources.now) left_out.now }
+    ensures told { IsOk result → O.failures out.new ≡ O.failures out.old }
+    ensures failed { IsErr result → HasFailed (O.failures out.old) (O.failures out.new) }
+{
+    for note in left_out {
+        let file = ShownPath::of_source(sources, note.file);
+        let kept = ShownPath::of_source(sources, note.kept);
+        tell_left_out(file, kept, &note.instance, out)?;
+    }
+    Ok(())
+}
+
+/// Tells each file of the file-sets in these folders that is left out, and for which. It fails only where the
+/// output did.
+pub(crate) fn tell_picks_left_out<O: Write>(
+    left_out: &[LeftOut<Pick<'_>>],
+    folders: &[String],
+    out: &mut O,
+) -> fmt::Result
+    requires { AreBelow (λ pick. pick.set) (length folders.now) left_out.now }
+    ensures told { IsOk result → O.failures out.new ≡ O.failures out.old }
+    ensures failed { IsErr result → HasFailed (O.failures out.old) (O.failures out.new) }
+{
+    for note in left_out {
+        let file = ShownPath::of_pick(folders, &note.file);
+        let kept = ShownPath::of_pick(folders, &note.kept);
+        tell_left_out(file, kept, &note.instance, out)?;
+    }
+    Ok(())
+}
+
+/// Tells that a file is left out, since its instance is kept from another one.
+fn tell_left_out<O: Write>(
+    file: ShownPath<'_>,
+    kept: ShownPath<'_>,
+    instance: &Uid,
+    out: &mut O,
+) -> fmt::Result
+    ensures told { IsOk result → O.failures out.new ≡ O.failures out.old }
+    ensures failed { IsErr result → HasFailed (O.failures out.old) (O.failures out.new) }
+{
+    let (one, other) = (file.inside, kept.inside);
+    let uid = UidText::of(instance);
+    print_left_out(
+        (file.folder, file.joint, one.as_str()),
+        (kept.folder, kept.joint, other.as_str()),
+        uid.as_str(),
+        out,
+    )
+}
+
+/// Prints the line of a file that is left out, of the parts of both paths and the UID of both.
+fn print_left_out<O: Write>(
+    file: (&str, &str, &str),
+    kept: (&str, &str, &str),
+    uid: &str,
+    out: &mut O,
+) -> fmt::Result
+    ensures told { IsOk result → O.failures out.new ≡ O.failures out.old }
+    ensures failed { IsErr result → HasFailed (O.failures out.old) (O.failures out.new) }
+{
+    let (folder, joint, inside) = file;
+    let (kept_folder, kept_joint, kept_inside) = kept;
+    print_line(
+        &[
+            "NOTE ",
+            folder,
+            joint,
+            inside,
+            ": left out for ",
+            kept_folder,
+            kept_joint,
+            kept_inside,
+            ": same SOP Instance UID ",
+            uid,
+            ", other bytes",
+        ],
+        out,
+    )
+}
+
+/// Tells the Patient IDs that have more than one name. It fails only where the output did.
+pub(crate) fn tell_names<O: Write>(patients: &[PatientNames], out: &mut O) -> fmt::Result
+    ensures told { IsOk result → O.failures out.new ≡ O.failures out.old }
+    ensures failed { IsErr result → HasFailed (O.failures out.old) (O.failures out.new) }
+{
+    for patient in patients {
+        tell_names_of(patient, out)?;
+    }
+    Ok(())
+}
+
+/// Tells the names of a patient, ten of them at most.
+fn tell_names_of<O: Write>(patient: &PatientNames, out: &mut O) -> fmt::Result
+    ensures told { IsOk result → O.failures out.new ≡ O.failures out.old }
+    ensures failed { IsErr result → HasFailed (O.failures out.old) (O.failures out.new) }
+{
+    let names = patient.names();
+    let mut count = Buffer::new();
+    let count = count.format(names.len());
+    print_names(patient.id().as_bytes(), count.as_bytes(), names, out)
+}
+
+/// Prints the line of a Patient ID with so many names.
+fn print_names<O: Write>(id: &[u8], count: &[u8], names: &[Key], out: &mut O) -> fmt::Result
+    ensures told { IsOk result → O.failures out.new ≡ O.failures out.old }
+    ensures failed { IsErr result → HasFailed (O.failures out.old) (O.failures out.new) }
+{
+    show_line(
+        &[
+            b"NOTE -: Patient ID ",
+            id,
+            or_none(id),
+            b" has ",
+            count,
+            b" names: ",
+            name_at(names, 0),
+            mark_before(names, 1),
+            name_at(names, 1),
+            mark_before(names, 2),
+            name_at(names, 2),
+            mark_before(names, 3),
+            name_at(names, 3),
+            mark_before(names, 4),
+            name_at(names, 4),
+            mark_before(names, 5),
+            name_at(names, 5),
+            mark_before(names, 6),
+            name_at(names, 6),
+            mark_before(names, 7),
+            name_at(names, 7),
+            mark_before(names, 8),
+            name_at(names, 8),
+            mark_before(names, 9),
+            name_at(names, 9),
+            mark_behind(names),
+        ],
+        out,
+    )
+}
+
+/// Says of `NOID` that it also stands for no Patient ID.
+fn or_none(id: &[u8]) -> &[u8] {
+    if id == b"NOID".as_slice() {
+        b" or none"
+    } else {
+        b""
+    }
+}
+
+/// Gives the name of this number, `-` for an empty one, and nothing where there are fewer names.
+fn name_at(names: &[Key], at: usize) -> &[u8] {
+    match names.get(at) {
+        Some(name) if name.as_bytes().is_empty() => b"-",
+        Some(name) => name.as_bytes(),
+        None => b"",
+    }
+}
+
+/// Gives what stands before the name of this number, where there is one.
+fn mark_before(names: &[Key], at: usize) -> &[u8] {
+    if at < names.len() { b", " } else { b"" }
+}
+
+/// Gives what stands behind the tenth name where there are more.
+fn mark_behind(names: &[Key]) -> &[u8] {
+    if names.len() > 10 { b", .." } else { b"" }
+}
+
+/// Tells where the two instances come from that a plan is refused for. Where the output fails, nothing more is told.
+pub(crate) fn tell_clash<O: Write>(
+    (one, uid): (ShownPath<'_>, &Uid),
+    (other, other_uid): (ShownPath<'_>, &Uid),
+    out: &mut O,
+) {
+    if tell_has(one, uid, out).is_ok() {
+        let _ = tell_has(other, other_uid, out);
+    }
+}
+
+/// Tells that a file has this instance.
+fn tell_has<O: Write>(file: ShownPath<'_>, instance: &Uid, out: &mut O) -> fmt::Result {
+    let inside = file.inside;
+    let uid = UidText::of(instance);
+    print_has(file.folder, file.joint, inside.as_str(), uid.as_str(), out)
+}
+
+/// Prints the line of a file that has an instance, of the parts of its path and the UID.
+fn print_has<O: Write>(
+    folder: &str,
+    joint: &str,
+    inside: &str,
+    uid: &str,
+    out: &mut O,
+) -> fmt::Result {
+    print_line(&["NOTE ", folder, joint, inside, ": has ", uid], out)
+}
+
+/// Says whether there is a note to tell.
+pub(crate) fn has_notes<T>(notes: &Notes<T>) -> bool
+    ensures { IsTrue result ↔ HasNotes notes.now }
+{
+    !notes.left_out.is_empty() || !notes.names.is_empty()
+}
+
+/// Refuses a run with `--strict` where something was told of its sources: a line SKIP or NOTE.
+pub(crate) fn refuse_noted(strict: bool, is_noted: bool) -> Result<(), Refusal>
+    ensures refuses { IsErr result ↔ (strict ≡ true) × (is_noted ≡ true) }
+    ensures fault { IfErr result IsStrict }
+    ensures refusal { (paths : ℕ) → IfErr result (IsOfWork paths) }
+{
+    if strict && is_noted {
+        return Err(Refusal::general(ProgramFault::Strict));
+    }
+    Ok(())
+}

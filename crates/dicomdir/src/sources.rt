@@ -1,0 +1,93 @@
+//! The paths that a command reads: those of its line, and behind them those of its list of names.
+ghost use Rattle.std.specs.Prelude.{◌≡◌, ◌≤◌, ℕ, IfErr, IfOk, IfSome, length};
+ghost use Rattle.dicomdir.specs.Refusal.{IsOfWork};
+
+use crate::file_set::refuse_taken;
+use crate::listed_names::{NamesFault, names_in};
+use crate::refusal::{ProgramFault, Refusal, Subject};
+use dd_elem::Memory;
+use dd_files::{Files, ReadFault, SOURCE_LIMIT, read_whole};
+use dd_line::{Asked, Verb};
+use std::alloc::Global;
+
+/// Lists the paths that a command reads, those of its line in front, where it has a list of names; `None` where
+/// it has none. Refused, in this order, where the folder that it makes its file-set in has a directory already,
+/// and where the list can't be opened or read, or has a bad name.
+pub(crate) fn all_sources<F: Files>(
+    alloc: Global,
+    asked: &Asked,
+    folder: &str,
+    given: &[String],
+    files: &mut F,
+) -> Result<Option<Vec<String>>, Refusal>
+    ensures refusal { (paths : ℕ) → IfErr result (IsOfWork paths) }
+    ensures all { IfOk result (λ listed. IfSome listed (λ all. length given.now ≤ length all.items)) }
+    ensures kept { F.held files.new ≡ F.held files.old }
+{
+    match asked.verb {
+        Verb::Check | Verb::List => return Ok(None),
+        Verb::Index | Verb::Merge | Verb::Withdraw => {}
+    }
+    refuse_taken(alloc, folder, files)?;
+    match &asked.files0_from {
+        None => Ok(None),
+        Some(list) => {
+            let bytes = list_bytes(alloc, list.as_str(), files)?;
+            Ok(Some(with_listed(alloc, given, &bytes)?))
+        }
+    }
+}
+
+/// Reads a list of names whole. Absent where it can't be opened, Unread where a read fails, TooLong where it has
+/// more than 4,294,967,295 bytes.
+fn list_bytes<F: Files>(alloc: Global, path: &str, files: &mut F) -> Result<Vec<u8>, Refusal>
+    ensures refusal { (paths : ℕ) → IfErr result (IsOfWork paths) }
+    ensures kept { F.held files.new ≡ F.held files.old }
+{
+    let Ok(mut reader) = files.names(path) else {
+        return Err(Refusal::of(Subject::List, ProgramFault::Absent));
+    };
+    match read_whole(alloc, &mut reader, SOURCE_LIMIT) {
+        Ok(bytes) => Ok(bytes),
+        Err(ReadFault::Read) => Err(Refusal::of(Subject::List, ProgramFault::Unread)),
+        Err(ReadFault::TooLong) => Err(Refusal::of(Subject::List, ProgramFault::TooLong)),
+        Err(ReadFault::Memory) => Err(Refusal::memory()),
+    }
+}
+
+/// Lists the given paths, and behind them the names of a list.
+fn with_listed(alloc: Global, given: &[String], list: &[u8]) -> Result<Vec<String>, Refusal>
+    ensures refusal { (paths : ℕ) → IfErr result (IsOfWork paths) }
+    ensures all { IfOk result (λ all. length given.now ≤ length all.items) }
+{
+    let listed = match names_in(alloc, list) {
+        Ok(listed) => listed,
+        Err(NamesFault::Memory) => return Err(Refusal::memory()),
+        Err(NamesFault::BadName(at)) => {
+            return Err(Refusal::of(Subject::List, ProgramFault::BadName(at)));
+        }
+    };
+    let all = copies_of(alloc, given)?;
+    Ok(joined(all, listed)?)
+}
+
+/// Copies these paths.
+fn copies_of(alloc: Global, paths: &[String]) -> Result<Vec<String>, Memory>
+    ensures { IfOk result (λ copies. length copies.items ≡ length paths.now) }
+{
+    let mut copies = Vec::with_capacity(alloc, paths.len())?;
+    for path in paths {
+        copies.push(String::from_str(alloc, path.as_str())?)?;
+    }
+    Ok(copies)
+}
+
+/// Appends paths to others.
+fn joined(mut all: Vec<String>, more: Vec<String>) -> Result<Vec<String>, Memory>
+    ensures { IfOk result (λ joined. length all.items ≤ length joined.items) }
+{
+    for path in more {
+        all.push(path)?;
+    }
+    Ok(all)
+}
