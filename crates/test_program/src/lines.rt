@@ -7,8 +7,8 @@ use std::alloc::Global;
 use std::test::Fail;
 
 /// Lines, and what they ask for: the command, the ID and the UID (`-` where none is given), the most bytes, the
-/// paths, the UIDs of images, if any, behind `without`, and `with keys` or `with strict` where that is asked for. Or,
-/// where they are refused, the exit status and whether the text is for the error output.
+/// paths, the UIDs of images, if any, behind `without`, the list of names behind `from`, and each flag that is set
+/// behind `with`. Or, where they are refused, the exit status and whether the text is for the error output.
 const LINES: &str = "\
 dicomdir index set image.dcm > Index - - 4294967295 set image.dcm
 dicomdir index --id DISC1 --uid 2.25.1 --max-bytes 1000 set image.dcm > Index DISC1 2.25.1 1000 set image.dcm
@@ -31,14 +31,23 @@ dicomdir index --strict set image.dcm > Index - - 4294967295 set image.dcm with 
 dicomdir index set b.dcm --strict a.dcm --max-bytes 7 > Index - - 7 set b.dcm a.dcm with strict
 dicomdir index --strict --id A -- set --strict > Index A - 4294967295 set --strict with strict
 dicomdir index set -- --strict > Index - - 4294967295 set --strict
+dicomdir index set --files0-from list > Index - - 4294967295 set from list
+dicomdir index --files0-from=- set b.dcm a.dcm > Index - - 4294967295 set b.dcm a.dcm from -
+dicomdir index --files0-from '' set > Index - - 4294967295 set from ''
+dicomdir index --dry-run set --quiet image.dcm > Index - - 4294967295 set image.dcm with dry-run with quiet
 dicomdir merge set a > Merge - - 4294967295 set a
+dicomdir merge set --files0-from list > Merge - - 4294967295 set from list
+dicomdir merge --strict --dry-run set a --quiet > Merge - - 4294967295 set a with strict with dry-run with quiet
 dicomdir merge --id DISC1 set b a b --uid 2.25.1 > Merge DISC1 2.25.1 4294967295 set b a b
 dicomdir merge --max-bytes 7 set check > Merge - - 7 set check
 dicomdir withdraw set old 1.2.840 > Withdraw - - 4294967295 set old without 1.2.840
 dicomdir withdraw --id A --uid 2.25.1 --max-bytes 7 out set 1.2 1.3 > Withdraw A 2.25.1 7 out set without 1.2 1.3
 dicomdir withdraw set old 1.2 --uid 2.25.1 1.3 1.2 > Withdraw - 2.25.1 4294967295 set old without 1.2 1.3 1.2
 dicomdir withdraw -- set old --uid '' withdraw > Withdraw - - 4294967295 set old without --uid '' withdraw
+dicomdir withdraw set --strict old --quiet 1.2 --dry-run > \
+Withdraw - - 4294967295 set old without 1.2 with strict with dry-run with quiet
 dicomdir check set > Check - - 4294967295 set
+dicomdir check --quiet set > Check - - 4294967295 set with quiet
 dicomdir check -- --id > Check - - 4294967295 --id
 dicomdir check --keys set > Check - - 4294967295 set with keys
 dicomdir check set --keys > Check - - 4294967295 set with keys
@@ -46,6 +55,7 @@ dicomdir check --keys -- --keys > Check - - 4294967295 --keys with keys
 dicomdir check -- --keys > Check - - 4294967295 --keys
 dicomdir list set > List - - 4294967295 set
 dicomdir list '' > List - - 4294967295 ''
+dicomdir list --long set > List - - 4294967295 set with long
 dicomdir > 2 true
 dicomdir build --uid 2.25.1 set image.dcm > 2 true
 dicomdir index > 2 true
@@ -69,8 +79,16 @@ dicomdir index --strict --strict set image.dcm > 2 true
 dicomdir index --strict=true set image.dcm > 2 true
 dicomdir index -s set image.dcm > 2 true
 dicomdir --strict index set image.dcm > 2 true
-dicomdir merge --strict out set > 2 true
-dicomdir withdraw out set 1.2 --strict > 2 true
+dicomdir index --files0-from list > 2 true
+dicomdir index out --files0-from > 2 true
+dicomdir index --files0-from a --files0-from b out > 2 true
+dicomdir withdraw --files0-from list out set 1.2 > 2 true
+dicomdir check --files0-from list set > 2 true
+dicomdir list --files0-from list set > 2 true
+dicomdir index --long out a.dcm > 2 true
+dicomdir check --long a > 2 true
+dicomdir check --dry-run a > 2 true
+dicomdir list --quiet a > 2 true
 dicomdir check --strict a > 2 true
 dicomdir check --keys --strict a > 2 true
 dicomdir list --strict a > 2 true
@@ -144,13 +162,28 @@ fn told(alloc: Global, asked: &Asked) -> Result<String, Fail> {
         push_word(&mut text, "without")?;
     }
     push_words(&mut text, &asked.uids)?;
-    if asked.keys {
-        text.push_str(" with keys")?;
+    if let Some(list) = &asked.files0_from {
+        text.push_str(" from")?;
+        push_word(&mut text, list.as_str())?;
     }
-    if asked.strict {
-        text.push_str(" with strict")?;
-    }
+    push_flags(&mut text, asked)?;
     Ok(text)
+}
+
+fn push_flags(text: &mut String, asked: &Asked) -> Result<(), Fail> {
+    push_flag(text, asked.keys, " with keys")?;
+    push_flag(text, asked.strict, " with strict")?;
+    push_flag(text, asked.dry_run, " with dry-run")?;
+    push_flag(text, asked.quiet, " with quiet")?;
+    push_flag(text, asked.long, " with long")
+}
+
+/// Appends the words of a flag that is set.
+fn push_flag(text: &mut String, is_set: bool, words: &str) -> Result<(), Fail> {
+    if is_set {
+        text.push_str(words)?;
+    }
+    Ok(())
 }
 
 fn refused(alloc: Global, fault: &LineFault) -> Result<String, Fail> {

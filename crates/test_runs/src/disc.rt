@@ -7,7 +7,8 @@ use std::test::Fail;
 
 /// Images: the path of each, and how it differs from V1. The class of b.dcm is no image's. c.dcm and
 /// e.dcm are other versions of V1, and c.dcm has a greater digest than V1, e.dcm a smaller one. d.dcm is
-/// another instance. n.dcm has no Patient ID, and the transfer syntax of x.dcm is not read.
+/// another instance. n.dcm has no Patient ID. o.dcm has neither that nor a name, and is a third instance. p.dcm is a
+/// fourth, whose name has a byte that does not print. The transfer syntax of x.dcm is not read.
 const IMAGES: &str = "\
 a.dcm none
 b.dcm 0002,0000 UL 88000000; 0002,0002 UI '1.2.840.10008.5.1.4.1.1.88.11~
@@ -15,6 +16,8 @@ c.dcm 0010,0010 PN 'DOE^JUDY
 d.dcm 0002,0003 UI '1.2.3.4.6~; 0008,0018 UI '1.2.3.4.6~
 e.dcm 0010,0010 PN 'DOE^JANE
 n.dcm 0010,0020 LO
+o.dcm 0002,0003 UI '1.2.3.4.7~; 0008,0018 UI '1.2.3.4.7~; 0010,0010 PN; 0010,0020 LO
+p.dcm 0002,0003 UI '1.2.3.4.8~; 0008,0018 UI '1.2.3.4.8~; 0010,0010 PN 444f455e4ad65247
 x.dcm 0002,0010 UI '1.2.840.10008.1.2.2~";
 
 /// The path of the first image in its file-set.
@@ -39,6 +42,19 @@ fn put_others(alloc: Global, files: &mut MemFiles) -> Result<(), Fail> {
     files.put("note.txt", b"no image")?;
     files.put("full/DICOMDIR", b"")?;
     files.put("taken/PT000001/ST000001/SE000001/IM000001", b"")?;
+    put_lists(files)
+}
+
+/// Lists of names: two whose names are there, the second without its last end; one whose second name is empty, one
+/// whose second name is no UTF-8, and one without a name; one that names a file that is not there, and two sets.
+fn put_lists(files: &mut MemFiles) -> Result<(), Fail> {
+    files.put("two", b"a.dcm\0d.dcm\0")?;
+    files.put("open", b"d.dcm\0a.dcm")?;
+    files.put("gap", b"a.dcm\0\0d.dcm\0")?;
+    files.put("latin", b"a.dcm\0d\xe9.dcm\0")?;
+    files.put("void", b"")?;
+    files.put("gone", b"a.dcm\0none.dcm\0")?;
+    files.put("sets", b"d1\0d2\0")?;
     Ok(())
 }
 

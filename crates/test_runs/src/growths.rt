@@ -20,6 +20,7 @@ enum Call {
     Index,
     Member,
     Mistake,
+    Names,
     Put,
     PutLater,
     Source,
@@ -36,7 +37,7 @@ fn is_refused(alloc: Global, call: Call, chosen: u32) -> Result<bool, Fail> {
         Call::Mistake => mistake_refused(alloc, chosen),
         Call::Put => put_refused(alloc, chosen),
         Call::PutLater => put_later_refused(alloc, chosen),
-        Call::Member | Call::Source => opening_refused(alloc, call, chosen),
+        Call::Member | Call::Names | Call::Source => opening_refused(alloc, call, chosen),
         Call::Write => write_refused(alloc, chosen),
     }
 }
@@ -142,6 +143,7 @@ fn growths_of_fail_read(rt: HostRuntime) -> Result<(), Fail> {
 fn open(files: &mut MemFiles, call: Call) -> Result<MemReader, NotThere> {
     match call {
         Call::Member => files.member("", "note.txt"),
+        Call::Names => files.names("note.txt"),
         _ => files.source("note.txt"),
     }
 }
@@ -172,6 +174,11 @@ fn growths_of_source(rt: HostRuntime) -> Result<(), Fail> {
 #[test]
 fn growths_of_member(rt: HostRuntime) -> Result<(), Fail> {
     refuse_each(rt.alloc(), Call::Member)
+}
+
+#[test]
+fn growths_of_names(rt: HostRuntime) -> Result<(), Fail> {
+    refuse_each(rt.alloc(), Call::Names)
 }
 
 fn create_refused(alloc: Global, chosen: u32) -> Result<bool, Fail> {

@@ -48,3 +48,33 @@ d/DICOMDIR=empty: - 0 dicomdir list d > 0 [0 records, 0 unreached|] [] kept";
 fn records_are_listed(rt: HostRuntime) -> Result<(), Fail> {
     ask_all(&rt, rt.alloc(), Ask::Ran, LISTS)
 }
+
+/// The same of long listings, whose first line names the file-set: values that are empty, absent, items or do not
+/// print, and records of other types.
+const LONG_LISTS: &str = "\
+d/DICOMDIR=first: - - dicomdir list --long d > 0 [FILE-SET - 2.25.0|320 PATIENT P1 | DOE^JOHN\
+|  404 STUDY 1.2.3 | 20240115 | 101500 | -|    530 SERIES 1.2.3.4 | CT | 1\
+|      622 IMAGE PT000001\\ST000001\\SE000001\\IM000001 | 1|4 records, 0 unreached|] [] kept
+d/DICOMDIR=v3: - - dicomdir list d --long > 0 [FILE-SET - 2.25.0|320 PATIENT P1 | DOE^JOHN\
+|  412 STUDY 1.2.3 | 20240115 | 101500 | -|    546 SERIES 1.2.3.4 | CT | 1\
+|      646 IMAGE IMAGES\\IM1 inactive | 1|      818 SR DOCUMENT IMAGES\\SR1|5 records, 0 unreached|] [] kept
+d/DICOMDIR=empty: - - dicomdir list --long d > 0 [FILE-SET - 2.25.0|0 records, 0 unreached|] [] kept
+d/DICOMDIR=empty,199,'7: - - dicomdir list --long d > 0 [FILE-SET - 2.25.7|0 records, 0 unreached|] [] kept
+d/DICOMDIR=empty,194,000000000000: - - dicomdir list --long d > \
+1 [] [FAULT d: 51 File 24 MetaUid (0002,0003)|] kept
+index e b.dcm --id DISC1 --uid 2.25.7; d/DICOMDIR=e/DICOMDIR,275,07: - - dicomdir list d --long > \
+0 [FILE-SET D?SC1 2.25.7|0 records, 0 unreached|] [] kept
+d/DICOMDIR=v3,358,00000000,386,'DOE,389,09,390,'OHN_: - - dicomdir list --long d > \
+0 [FILE-SET - 2.25.0|320 PATIENT P1 | DOE?OHN|1 records, 4 unreached|] [] kept
+d/DICOMDIR=v3,358,00000000,378,100010005351000000000000,390,100020004c4f0600,398,'P12345: - - dicomdir list --long d > \
+0 [FILE-SET - 2.25.0|320 PATIENT P12345 | -|1 records, 4 unreached|] [] kept
+index d a.dcm --id DISC1 --uid 2.25.7; withdraw e d 1.2.3.4.5 --uid 2.25.8 --id DISC2: - - dicomdir list --long e > \
+0 [FILE-SET DISC2 2.25.8|WITHDRAWN 1.2.3.4.5|0 records, 0 unreached|] [] kept
+d/DICOMDIR=empty: 0 - dicomdir list --long d > 1 [] [] kept
+d/DICOMDIR=first: 29 - dicomdir list --long d > 1 [FILE-SET - 2.25.0|320 PATIENT] [] kept
+d/DICOMDIR=note.txt: - - dicomdir list --long d > 1 [] [FAULT d: 51 File 21 NotPart10|] kept";
+
+#[test]
+fn records_are_listed_with_what_they_are_known_by(rt: HostRuntime) -> Result<(), Fail> {
+    ask_all(&rt, rt.alloc(), Ask::Ran, LONG_LISTS)
+}

@@ -18,7 +18,15 @@ index d1 f.dcm; index d2 d.dcm: - - dicomdir merge o d1 d2 --uid 2.25.0 > \
 d1=set: - - dicomdir merge o d1 --uid 2.25.0 --max-bytes 876 > 0 [DONE 1 instances, 876 bytes|] [] changed
 d1=set: - - dicomdir merge o d1 --uid 2.25.0 --max-bytes 875 > 1 [] [FAULT -: 43 TooLarge|] kept
 d1=set d2/DICOMDIR=first,402,'P2,772,'6: - - dicomdir merge o d2 d1 > \
-1 [] [FAULT -: 41 Conflict 1.2.3.4.5 1.2.3.4.6|] kept
+1 [NOTE d1/PT000001/ST000001/SE000001/IM000001: has 1.2.3.4.5|\
+NOTE d2/PT000001/ST000001/SE000001/IM000001: has 1.2.3.4.6|] [FAULT -: 41 Conflict 1.2.3.4.5 1.2.3.4.6|] kept
+index d1 a.dcm; index d2 c.dcm: - - dicomdir merge o d1 d2/ d1 --uid 2.25.0 > \
+0 [NOTE d1/PT000001/ST000001/SE000001/IM000001: left out for d2/PT000001/ST000001/SE000001/IM000001: \
+same SOP Instance UID 1.2.3.4.5, other bytes|\
+NOTE d1/PT000001/ST000001/SE000001/IM000001: left out for d2/PT000001/ST000001/SE000001/IM000001: \
+same SOP Instance UID 1.2.3.4.5, other bytes|DONE 1 instances, 876 bytes|] [] changed
+index d1 c.dcm; index d2 d.dcm: - - dicomdir merge o d2 d1 --uid 2.25.0 --strict > \
+1 [NOTE -: Patient ID P1 has 2 names: DOE^JUDY, DOE^JOHN|] [FAULT -: 98 Strict|] kept
 d1=set d3/DICOMDIR=v3: - - dicomdir merge o d3 > 1 [] [FAULT d3: 62 ForeignRecord 646|] kept
 d1=set d3/DICOMDIR=v3: - - dicomdir merge o d1 d3/ > 1 [] [FAULT d3/: 62 ForeignRecord 646|] kept
 d3/DICOMDIR=v3,674,ffff: - - dicomdir merge o d3 > 1 [] [FAULT d3: 61 NoDigest 646|] kept
@@ -69,6 +77,16 @@ d1=set d1/DICOMDIR=first,402,'P9: - - dicomdir withdraw o d1 1.2.3 > \
 1 [] [FAULT d1/PT000001/ST000001/SE000001/IM000001: 97 Changed|] changed
 d1=set: - - dicomdir merge full nowhere --uid 1.02 > 2 [] [FAULT -: 71 BadUid|] kept
 d1=set: - - dicomdir merge full nowhere --id bad --uid 1.02 > 2 [] [FAULT -: 72 BadSetId|] kept
+d1=set: - - dicomdir merge o d1 --uid 2.25.0 --dry-run > 0 [PLAN 1 instances, 876 bytes|] [] kept
+d1/DICOMDIR=first: - - dicomdir merge --dry-run taken d1 --uid 2.25.0 > 0 [PLAN 1 instances, 876 bytes|] [] kept
+d1=set: - - dicomdir merge full d1 --dry-run > 1 [] [FAULT full/DICOMDIR: 94 Create|] kept
+d1=set: - - dicomdir merge o d1 --dry-run --max-bytes 875 > 1 [] [FAULT -: 43 TooLarge|] kept
+d1=set: - - dicomdir merge --strict --quiet o d1 --uid 2.25.0 > 0 [DONE 1 instances, 876 bytes|] [] changed
+d1=set d2=set: - - dicomdir merge o --files0-from sets --uid 2.25.0 > 0 [DONE 1 instances, 876 bytes|] [] changed
+d1=set: - - dicomdir merge o d1 --files0-from sets > 1 [] [FAULT d2/DICOMDIR: 92 Absent|] kept
+d1=set: - - dicomdir merge o d1 --files0-from gap > 1 [] [FAULT gap: 99 BadName 2|] kept
+d1=set: - - dicomdir merge full d1 --files0-from void > 1 [] [FAULT full/DICOMDIR: 94 Create|] kept
+d1=set: 0 - dicomdir merge o d1 --uid 2.25.0 --dry-run > 1 [] [] kept
 d1=set: 0 - dicomdir merge o d1 --uid 2.25.0 > 1 [] [] changed
 d1=set: - 0 dicomdir merge o d1 --uid 2.25.0 --max-bytes 0 > 1 [] [] kept";
 

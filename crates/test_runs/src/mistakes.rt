@@ -10,7 +10,7 @@ const MISTAKE: &str = "- - dicomdir list a \u{1b}[2J\u{9b}\nb\u{e9}";
 
 /// The end of its run, where each byte of the letter is a character of its own.
 const MISTAKE_END: &str = "2 [] [error: unexpected argument '?[2J??b\u{c3}\u{a9}' found||\
-Usage: dicomdir list <SET>||For more information, try '--help'.|]";
+Usage: dicomdir list [OPTIONS] <SET>||For more information, try '--help'.|]";
 
 #[test]
 fn a_mistake_shows_no_control_character(rt: HostRuntime) -> Result<(), Fail> {
@@ -23,7 +23,7 @@ fn a_mistake_shows_no_control_character(rt: HostRuntime) -> Result<(), Fail> {
 fn help_shows_no_control_character(rt: HostRuntime) -> Result<(), Fail> {
     let line = "- - dicom\n\u{7f}dir list --help";
     let end = end_of(rt.alloc(), line, &mut disc(rt.alloc())?)?;
-    let usage = "||Usage: dicom??dir list <SET>||";
+    let usage = "||Usage: dicom??dir list [OPTIONS] <SET>||";
     assert!(rt; end.as_str().starts_with("0 [Lists the records") && end.as_str().contains(usage));
     Ok(())
 }

@@ -31,7 +31,20 @@ const RUNS: &str = "\
 - - dicomdir index out part.dcm a.dcm note.txt part.dcm --uid 2.25.0 > \
 0 [SKIP part.dcm: 31 File 27 Set 1 Truncated|SKIP note.txt: 31 File 21 NotPart10|\
 SKIP part.dcm: 31 File 27 Set 1 Truncated|DONE 1 instances, 876 bytes|] [] changed
-- - dicomdir index out a.dcm c.dcm a.dcm e.dcm --uid 2.25.0 > 0 [DONE 1 instances, 876 bytes|] [] changed
+- - dicomdir index out a.dcm c.dcm a.dcm e.dcm --uid 2.25.0 > \
+0 [NOTE a.dcm: left out for c.dcm: same SOP Instance UID 1.2.3.4.5, other bytes|\
+NOTE a.dcm: left out for c.dcm: same SOP Instance UID 1.2.3.4.5, other bytes|\
+NOTE e.dcm: left out for c.dcm: same SOP Instance UID 1.2.3.4.5, other bytes|DONE 1 instances, 876 bytes|] [] changed
+- - dicomdir index out a.dcm d.dcm a.dcm --uid 2.25.0 > 0 [DONE 2 instances, 1130 bytes|] [] changed
+- - dicomdir index out note.txt e.dcm a.dcm --uid 2.25.0 --dry-run > \
+0 [SKIP note.txt: 31 File 21 NotPart10|\
+NOTE e.dcm: left out for a.dcm: same SOP Instance UID 1.2.3.4.5, other bytes|\
+PLAN 1 instances, 876 bytes, 454 bytes of images|] [] kept
+- - dicomdir index out d.dcm c.dcm --uid 2.25.0 > \
+0 [NOTE -: Patient ID P1 has 2 names: DOE^JUDY, DOE^JOHN|DONE 2 instances, 1130 bytes|] [] changed
+- - dicomdir index out a.dcm d.dcm c.dcm --uid 2.25.0 > \
+0 [NOTE a.dcm: left out for c.dcm: same SOP Instance UID 1.2.3.4.5, other bytes|\
+NOTE -: Patient ID P1 has 2 names: DOE^JUDY, DOE^JOHN|DONE 2 instances, 1130 bytes|] [] changed
 - - dicomdir index out a.dcm d.dcm --uid 2.25.0 > 0 [DONE 2 instances, 1130 bytes|] [] changed
 - - dicomdir index out f.dcm --uid 2.25.0 > 0 [DONE 1 instances, 878 bytes|] [] changed
 - - dicomdir index out f.dcm --uid 2.25.0 --max-bytes 877 > 1 [] [FAULT -: 43 TooLarge|] kept
@@ -65,16 +78,57 @@ SKIP part.dcm: 31 File 27 Set 1 Truncated|] [FAULT -: 98 Strict|] kept
 - - dicomdir index --strict taken note.txt a.dcm > \
 1 [SKIP note.txt: 31 File 21 NotPart10|] [FAULT -: 98 Strict|] kept
 - - dicomdir index --strict out a.dcm --uid 2.25.0 > 0 [DONE 1 instances, 876 bytes|] [] changed
-- - dicomdir index out a.dcm c.dcm a.dcm e.dcm --uid 2.25.0 --strict > 0 [DONE 1 instances, 876 bytes|] [] changed
+- - dicomdir index out e.dcm a.dcm --uid 2.25.0 --strict > \
+1 [NOTE e.dcm: left out for a.dcm: same SOP Instance UID 1.2.3.4.5, other bytes|] [FAULT -: 98 Strict|] kept
+- - dicomdir index --strict out n.dcm o.dcm > \
+1 [NOTE -: Patient ID NOID or none has 2 names: DOE^JOHN, -|] [FAULT -: 98 Strict|] kept
+- - dicomdir index --strict out a.dcm c.dcm d.dcm p.dcm > \
+1 [NOTE a.dcm: left out for c.dcm: same SOP Instance UID 1.2.3.4.5, other bytes|\
+NOTE -: Patient ID P1 has 3 names: DOE^J?RG, DOE^JUDY, DOE^JOHN|] [FAULT -: 98 Strict|] kept
+- - dicomdir index --strict out c.dcm d.dcm --uid 2.25.0 --dry-run > \
+1 [NOTE -: Patient ID P1 has 2 names: DOE^JUDY, DOE^JOHN|] [FAULT -: 98 Strict|] kept
+- - dicomdir index out a.dcm d.dcm a.dcm --uid 2.25.0 --strict > 0 [DONE 2 instances, 1130 bytes|] [] changed
 - - dicomdir index --strict taken a.dcm --uid 2.25.0 > \
 1 [] [FAULT taken/PT000001/ST000001/SE000001/IM000001: 94 Create|] kept
-- - dicomdir index --strict out n.dcm d.dcm b.dcm > 1 [] [FAULT -: 41 Conflict 1.2.3.4.5 1.2.3.4.6|] kept
+- - dicomdir index --strict out b.dcm d.dcm n.dcm n.dcm > \
+1 [NOTE n.dcm: has 1.2.3.4.5|NOTE d.dcm: has 1.2.3.4.6|] [FAULT -: 41 Conflict 1.2.3.4.5 1.2.3.4.6|] kept
+9 - dicomdir index out d.dcm n.dcm > 1 [NOTE n.dc] [FAULT -: 41 Conflict 1.2.3.4.5 1.2.3.4.6|] kept
+12 - dicomdir index out e.dcm a.dcm --uid 2.25.0 > 1 [NOTE e.dcm: ] [] kept
+12 - dicomdir index out d.dcm c.dcm --uid 2.25.0 > 1 [NOTE -: Pati] [] kept
 - - dicomdir index --strict out a.dcm b.dcm --max-bytes 875 > 1 [] [FAULT -: 43 TooLarge|] kept
 - - dicomdir index --strict out b.dcm a.dcm no.dcm > 1 [] [FAULT no.dcm: 92 Absent|] kept
 - - dicomdir index --strict full b.dcm > 1 [] [FAULT full/DICOMDIR: 94 Create|] kept
 - - dicomdir index --strict out b.dcm --uid 2.25.x > 2 [] [FAULT -: 71 BadUid|] kept
 9 - dicomdir index --strict out a.dcm b.dcm --uid 2.25.0 > 1 [SKIP b.dc] [] kept
 - 0 dicomdir index --strict out note.txt > 1 [SKIP note.txt: 31 File 21 NotPart10|] [] kept
+- - dicomdir index out a.dcm --uid 2.25.0 --dry-run > 0 [PLAN 1 instances, 876 bytes, 454 bytes of images|] [] kept
+- - dicomdir index --dry-run out d.dcm b.dcm a.dcm d.dcm --uid 2.25.0 > \
+0 [SKIP b.dcm: 32 NotImage 1.2.840.10008.5.1.4.1.1.88.11|PLAN 2 instances, 1130 bytes, 908 bytes of images|] [] kept
+- - dicomdir index --dry-run out b.dcm --uid 2.25.0 > \
+0 [SKIP b.dcm: 32 NotImage 1.2.840.10008.5.1.4.1.1.88.11|PLAN 0 instances, 320 bytes, 0 bytes of images|] [] kept
+- - dicomdir index --dry-run --quiet out f.dcm --uid 2.25.0 > \
+0 [PLAN 1 instances, 878 bytes, 496 bytes of images|] [] kept
+- - dicomdir index --dry-run taken a.dcm --uid 2.25.0 > \
+0 [PLAN 1 instances, 876 bytes, 454 bytes of images|] [] kept
+- - dicomdir index --dry-run full a.dcm > 1 [] [FAULT full/DICOMDIR: 94 Create|] kept
+- - dicomdir index --dry-run out a.dcm --uid 2.25.0 --max-bytes 875 > 1 [] [FAULT -: 43 TooLarge|] kept
+- - dicomdir index --dry-run --strict out a.dcm note.txt > \
+1 [SKIP note.txt: 31 File 21 NotPart10|] [FAULT -: 98 Strict|] kept
+0 - dicomdir index --dry-run out a.dcm --uid 2.25.0 > 1 [] [] kept
+- - dicomdir index --quiet out a.dcm --uid 2.25.0 > 0 [DONE 1 instances, 876 bytes|] [] changed
+- - dicomdir index out --files0-from two --uid 2.25.0 > 0 [DONE 2 instances, 1130 bytes|] [] changed
+- - dicomdir index out b.dcm --files0-from open --uid 2.25.0 > \
+0 [SKIP b.dcm: 32 NotImage 1.2.840.10008.5.1.4.1.1.88.11|DONE 2 instances, 1130 bytes|] [] changed
+- - dicomdir index out --files0-from gap > 1 [] [FAULT gap: 99 BadName 2|] kept
+- - dicomdir index out none.dcm --files0-from latin > 1 [] [FAULT latin: 99 BadName 2|] kept
+- - dicomdir index out a.dcm --files0-from void > 1 [] [FAULT void: 99 BadName 1|] kept
+- - dicomdir index out no.dcm --files0-from gone > 1 [] [FAULT no.dcm: 92 Absent|] kept
+- - dicomdir index out --files0-from gone > 1 [] [FAULT none.dcm: 92 Absent|] kept
+- - dicomdir index out no.dcm --files0-from nowhere > 1 [] [FAULT nowhere: 92 Absent|] kept
+- - dicomdir index out a.dcm --files0-from '' > 1 [] [FAULT : 92 Absent|] kept
+- - dicomdir index full --files0-from nowhere > 1 [] [FAULT full/DICOMDIR: 94 Create|] kept
+- - dicomdir index out '' --files0-from nowhere > 1 [] [FAULT : 92 Absent|] kept
+- - dicomdir index out --files0-from gap --uid 2.25.x > 2 [] [FAULT -: 71 BadUid|] kept
 - - dicomdir --version > 0 [dicomdir 1.0.0|] [] kept
 - 6 dicomdir index out none.dcm --uid 2.25.0 > 1 [] [FAULT ] kept
 - 0 dicomdir index out none.dcm --uid 2.25.x > 2 [] [] kept";
@@ -91,10 +145,12 @@ const TEXTS: &str = "\
 - - dicomdir merge out > 2 to the error output
 - - dicomdir withdraw out full > 2 to the error output
 - - dicomdir merge out full --max-bytes 4294967296 > 2 to the error output
-- - dicomdir merge --strict out full > 2 to the error output
+- - dicomdir withdraw --files0-from two out full 1.2 > 2 to the error output
+- - dicomdir check --dry-run full > 2 to the error output
 - - dicomdir check > 2 to the error output
 - - dicomdir list full full > 2 to the error output
 - - dicomdir list --keys full > 2 to the error output
+- - dicomdir list --quiet full > 2 to the error output
 0 - dicomdir burn out a.dcm --uid 2.25.0 > 2 to the error output
 - 0 dicomdir burn out a.dcm --uid 2.25.0 > 2 to none
 - - dicomdir --help > 0 to the output

@@ -42,6 +42,9 @@ d1=set; withdraw d2 d1 1.2.3.4.5 --uid 2.25.0; d3/DICOMDIR=d2/DICOMDIR,328,'E: -
 d1=set; withdraw d2 d1 1.2.3.4.5 --uid 2.25.0; d3/DICOMDIR=d2/DICOMDIR,352,'.: - - dicomdir merge o d1 d3 > \
 1 [] [FAULT d3: 65 BadWithdrawal|] kept
 d1=set; withdraw d2 d1 1.2.3.4.6 --uid 2.25.0: - - dicomdir check d2 > 0 [OK 4 records|] [] kept
+d1=set: - - dicomdir withdraw o d1 1.2.3.4.6 --uid 2.25.0 --dry-run > 0 [PLAN 1 instances, 918 bytes|] [] kept
+d1=set: - - dicomdir withdraw --strict o d1 1.2.3.4.5 --uid 2.25.0 --quiet > 0 [DONE 0 instances, 362 bytes|] [] changed
+d1=set: - - dicomdir withdraw --dry-run d1 d1 1.2.3.4.5 > 1 [] [FAULT d1/DICOMDIR: 94 Create|] kept
 d1=set: 0 - dicomdir withdraw o d1 1.2.3.4.5 --uid 2.25.0 > 1 [] [] changed";
 
 #[test]
