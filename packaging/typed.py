@@ -20,14 +20,22 @@ CASES = [
     ("wi", "withdraw "),
     ("index --m", "index --max-bytes "),
     ("index --s", "index --strict "),
+    ("index --d", "index --dry-run "),
+    ("index --f", "index --files0-from "),
+    ("index --files0-from onl", "index --files0-from only\\ file "),
+    ("index --files0-from one.dcm on", "index --files0-from one.dcm one/"),
     ("index o", "index one/"),
     ("index one/ one.", "index one/ one.dcm "),
     ("index --id DISC1 one/ on", "index --id DISC1 one/ on"),
     ("index one/ onl", "index one/ only\\ file "),
     ("merge one/ tw", "merge one/ two\\ folders/"),
+    ("merge one/ --files0-from=one.", "merge one/ --files0-from=one.dcm "),
+    ("withdraw --d", "withdraw --dry-run "),
     ("check --k", "check --keys "),
+    ("check --q", "check --quiet "),
     ("check --keys two\\ f", "check --keys two\\ folders/"),
     ("list on", "list one/"),
+    ("list --l", "list --long "),
     ("list onl", "list onl"),
     ("help li", "help list "),
 ]
@@ -35,8 +43,12 @@ CASES = [
 # By the ways of zsh an option that takes a value gets =, and where no folder begins so, files are offered. For fish
 # the first path of index may be a file, too.
 OTHERWISE = {
-    "zsh": {"index --m": "index --max-bytes=", "list onl": "list only\\ file "},
-    "fish": {"index o": "index on"},
+    "zsh": {
+        "index --m": "index --max-bytes=",
+        "index --f": "index --files0-from=",
+        "list onl": "list only\\ file ",
+    },
+    "fish": {"index o": "index on", "index --files0-from one.dcm on": "index --files0-from one.dcm on"},
 }
 
 START = {

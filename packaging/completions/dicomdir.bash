@@ -1,11 +1,11 @@
 # Completion of dicomdir(1) for bash.
 # shellcheck shell=bash
 
-# Offers the paths that begin so: -d folders, -f files and folders.
+# Offers the paths that begin so: -d folders, -f files and folders. Each has the third word in front.
 _dicomdir_paths()
 {
     compopt -o filenames 2>/dev/null
-    mapfile -t COMPREPLY < <(compgen "$1" -- "$2")
+    mapfile -t COMPREPLY < <(compgen "$1" -P "${3:-}" -- "$2")
 }
 
 _dicomdir()
@@ -29,8 +29,8 @@ _dicomdir()
             value=
         elif [[ ! $ended && $word == -- ]]; then
             ended=1
-        elif [[ ! $ended && $word == @(--id|--uid|--max-bytes) ]]; then
-            value=1
+        elif [[ ! $ended && $word == @(--id|--uid|--max-bytes|--files0-from) ]]; then
+            value=$word
         elif [[ ! $ended && $word == -?* ]]; then
             :
         elif [[ ! $command ]]; then
@@ -39,21 +39,26 @@ _dicomdir()
             ((paths += 1))
         fi
     done
-    [[ ! $value ]] || return 0
 
     local choice=''
-    case $command:$paths in
-        :* | help:0) choice='index merge withdraw check list help' ;;
-        index:0 | merge:* | withdraw:[01] | check:0 | list:0) _dicomdir_paths -d "$current" ;;
-        index:*) _dicomdir_paths -f "$current" ;;
+    case $value:$command:$paths in
+        --files0-from:*) _dicomdir_paths -f "$current" ;;
+        -*) ;;
+        ::* | :help:0) choice='index merge withdraw check list help' ;;
+        :index:0 | :merge:* | :withdraw:[01] | :check:0 | :list:0) _dicomdir_paths -d "$current" ;;
+        :index:*) _dicomdir_paths -f "$current" ;;
     esac
-    if [[ ! $ended && $current == -* ]]; then
-        case $command in
-            index) choice='--id --uid --max-bytes --strict -h --help' ;;
-            merge | withdraw) choice='--id --uid --max-bytes -h --help' ;;
-            check) choice='--keys -h --help' ;;
-            list) choice='-h --help' ;;
-            '') choice='-h --help -V --version' ;;
+    if [[ ! $value && ! $ended && $current == -* ]]; then
+        local writing='--id --uid --max-bytes --strict --dry-run --quiet'
+        case $command:$current in
+            index:--files0-from=* | merge:--files0-from=*)
+                _dicomdir_paths -f "${current#*=}" --files0-from=
+                ;;
+            index:* | merge:*) choice="$writing --files0-from -h --help" ;;
+            withdraw:*) choice="$writing -h --help" ;;
+            check:*) choice='--keys --quiet -h --help' ;;
+            list:*) choice='--long -h --help' ;;
+            :*) choice='-h --help -V --version' ;;
         esac
     fi
     [[ ! $choice ]] || mapfile -t COMPREPLY < <(compgen -W "$choice" -- "$current")

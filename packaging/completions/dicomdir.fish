@@ -20,12 +20,17 @@ complete -c dicomdir -n __fish_use_subcommand -a help \
 
 set -l writing '__fish_seen_subcommand_from index merge withdraw'
 complete -c dicomdir -n $writing -l id -x -d 'ID of the file-set, such as DISC1; by default empty'
-complete -c dicomdir -n $writing -l uid -x -d 'UID of the file-set; by default made from its content'
+complete -c dicomdir -n $writing -l uid -x -d 'UID of the file-set; else made from its content'
 complete -c dicomdir -n $writing -l max-bytes -x -d 'Most bytes of DICOMDIR; by default 4294967295'
-complete -c dicomdir -n '__fish_seen_subcommand_from index' -l strict \
-    -d 'Makes nothing where a source would be skipped'
+complete -c dicomdir -n $writing -l strict -d 'Makes nothing where something would be left out'
+complete -c dicomdir -n $writing -l dry-run -d 'Makes nothing, and says what it would make'
+complete -c dicomdir -n '__fish_seen_subcommand_from index merge withdraw check' -l quiet -d 'Shows no progress'
+complete -c dicomdir -n '__fish_seen_subcommand_from index merge' -l files0-from -r -F \
+    -d 'Reads names from FILE, or -, ended by zero bytes'
 complete -c dicomdir -n '__fish_seen_subcommand_from check' -l keys \
-    -d 'Also compares what each image file says of itself with its record'
+    -d 'Also compares what each image says of itself with its record'
+complete -c dicomdir -n '__fish_seen_subcommand_from list' -l long \
+    -d 'Also prints names, dates, times, modalities and numbers'
 
 complete -c dicomdir -n '__fish_seen_subcommand_from index' -F
 complete -c dicomdir -n '__fish_seen_subcommand_from merge withdraw check list' \
