@@ -133,6 +133,14 @@ def consequence(case, at, error, lasts):
     return of_reading(case, at, error, lasts)
 
 
+def line_of(case, found):
+    """The line on the error output. Where the output fails there is none, but for a fault 41, which is told behind its
+    notes all the same."""
+    if found == OUTPUT:
+        return case.right.err if case.right.err.startswith("FAULT -: 41 ") else ""
+    return f"{found}\n" if found.startswith("error") else f"FAULT {found}\n"
+
+
 def is_as_failed(case, run, task):
     """Has the run the status and the lines that must come of it that this call fails, and each later one of its name
     where that lasts?"""
@@ -146,8 +154,7 @@ def is_as_failed(case, run, task):
         if found.startswith(("MISSING", "UNREADABLE")):
             findings.append(found)
             continue
-        line = "" if found == OUTPUT else f"{found}\n" if found.startswith("error") else f"FAULT {found}\n"
-        return (run.status, run.err) == (1, line) and case.right.out.startswith(run.out)
+        return (run.status, run.err) == (1, line_of(case, found)) and case.right.out.startswith(run.out)
     if findings:
         return (run.status, run.out, run.err) == (3, "".join(f"{found}\n" for found in findings), "")
     return run.is_as(case.right)

@@ -34,11 +34,19 @@ COMMANDS = [
     Command("index of one image", "index OUT a.dcm --uid 2.25.0"),
     Command("index of three images and a text", "index OUT a.dcm b.dcm text c.dcm --uid 2.25.0"),
     Command("index of an image and a text, which is refused", "index OUT a.dcm text --uid 2.25.0 --strict"),
+    Command("index of a list of names, which makes nothing",
+            "index OUT a.dcm --files0-from names --dry-run --uid 2.25.0"),
+    Command("index of other bytes of an image, and of two names of a patient",
+            "index OUT a.dcm noted.dcm named.dcm --uid 2.25.0"),
+    Command("index of images that clash, which is refused", "index OUT a.dcm clash.dcm --uid 2.25.0"),
     Command("index into a folder that is there", "index OUT b.dcm --uid 2.25.0", before="OTHER"),
     Command("index into a folder that has a set", "index OUT a.dcm --uid 2.25.0", before="SETA"),
     Command("merge of two sets", "merge OUT SETA SETB --uid 2.25.0"),
+    Command("merge of two sets with other bytes of an image, which is refused",
+            "merge OUT SETA SETN --uid 2.25.0 --strict"),
     Command("withdraw of one image of two", "withdraw OUT SETA 1.2.3.1000 1.2.3.1 --uid 2.25.0"),
     Command("list of two images", "list SETA"),
+    Command("list of two images at length", "list --long SETA"),
     Command("check of two images", "check SETA"),
     Command("check of two images and what they say", "check --keys SETA"),
 ]
@@ -162,9 +170,13 @@ class Room:
         pathlib.Path("b.dcm").write_bytes(image(first, 6, is_large=True))
         pathlib.Path("c.dcm").write_bytes(image(first, 1))
         pathlib.Path("text").write_bytes(b"no image\n")
+        pathlib.Path("noted.dcm").write_bytes(image(first, 0).replace(b"DOE^JOHN", b"ROE^JANE"))
+        pathlib.Path("named.dcm").write_bytes(image(first, 3).replace(b"DOE^JOHN", b"ROE^JANE"))
+        pathlib.Path("clash.dcm").write_bytes(image(first, 6).replace(b"LO\x02\0P1", b"LO\x02\0P9"))
+        pathlib.Path("names").write_bytes(b"text\0b.dcm")
         os.mkdir("OTHER")
         pathlib.Path("OTHER/text").write_bytes(b"another file\n")
-        for words in ("index SETA a.dcm b.dcm", "index SETB b.dcm c.dcm"):
+        for words in ("index SETA a.dcm b.dcm", "index SETB b.dcm c.dcm", "index SETN noted.dcm"):
             subprocess.run([program] + words.split(), check=True, stdout=subprocess.DEVNULL)
         self.given = look()
 
