@@ -43,7 +43,7 @@ level_in (in_study patient study) = Some Series
 level_in (in_series patient study series) = Some Image
 level_in in_image = None
 
--- what is above those below a record with these elements
+-- what is above the records below a record with these elements
 abbrev pub below : Above → Elements → Above
 below root set = in_patient set
 below (in_patient patient) set = in_study patient set

@@ -75,9 +75,9 @@ pub record VisitsEachOnce (m : List Parts) (paths : List Path) : Type 0 where
   pub others : (x : Path) → Contains paths x → (v : Parts) × Contains m v × (leads_to x (path_of v) ≡ true)
 
 -- The versions are a catalogue: of each instance one. The bytes have one walk, with the UID and the File-set ID of the
--- label. The records that it visits are those of the tree of these versions in harmony, one by one: the keys of each
--- and of those above it as its bytes say them, its offset, that of the record above, its type and all its elements; all
--- are in use, and none is left unreached.
+-- label. The records that it visits are the records of the tree of these versions in harmony, one by one: each has the
+-- same keys as there, its own and of the records above it, read from its bytes. Each has the same offset, offset of the
+-- record above, type and elements. All are in use, and none is left unreached.
 pub record Realises (label : Label) (m : List Parts) (file : List ℕ) : Type 0 where
   pub catalogue : IsCatalogue m
   pub walk : Walk
