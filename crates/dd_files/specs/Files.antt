@@ -27,6 +27,10 @@ with_written (Some path) bytes files = with_file path bytes files
 abbrev pub started : List ℕ → Held → Held
 started path held = record { bytes_at = with_file path (Some []) held.bytes_at; current = Some path }
 
+-- the file at one path under a second one, too
+abbrev pub linked : List ℕ → List ℕ → Held → Held
+linked from path held = record held { bytes_at = with_file path (held.bytes_at from) held.bytes_at }
+
 -- the file that is being written grows by these bytes
 abbrev pub grown : List ℕ → Held → Held
 grown bytes held = record held {

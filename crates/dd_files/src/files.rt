@@ -2,7 +2,7 @@
 ghost use Rattle.std.specs.Prelude.{◌≡◌, ℕ, List, [], Option, None, IsSome, IfSome, IsOk, IsErr, IfOk, option_map};
 ghost use Rattle.std.specs.Io.KnownBytes.{Appends};
 ghost use Rattle.dd_elem.specs.Device.{counted, HasWorked};
-ghost use Rattle.dd_files.specs.Files.{Held, ended, grown, started, written};
+ghost use Rattle.dd_files.specs.Files.{Held, ended, grown, linked, started, written};
 
 use dd_elem::{Read, Write};
 use thiserror::Error;
@@ -19,6 +19,20 @@ pub struct NotThere;
 #[derive(Clone, Copy, Debug, PartialEq, Eq, Error)]
 #[error("not done")]
 pub struct NotDone;
+
+/// Says why a file was not given a second name.
+#[derive(Clone, Copy, Debug, PartialEq, Eq, Error)]
+pub enum LinkFault {
+    /// The file is not there, or it is no plain file.
+    #[error("not there")]
+    Absent,
+    /// The new name is taken.
+    #[error("taken")]
+    Taken,
+    /// The system does not give this second name.
+    #[error("no second name")]
+    Refused,
+}
 
 /// What a run is doing, as its progress shows it.
 #[derive(Clone, Copy, Debug, PartialEq, Eq)]
@@ -129,6 +143,25 @@ pub trait Files: Write {
         ensures free { IsOk result → IfSome (held self.old) (λ files. files.bytes_at path.now ≡ None) }
         ensures empty { IsOk result → IfSome (Self.contents self.new) (λ bytes. bytes ≡ []) }
         ensures started { IsOk result → held self.new ≡ option_map (started path.now) (held self.old) }
+
+        // What stays.
+        ensures counts { (Self.calls self.new ≡ Self.calls self.old)
+            × (Self.failures self.new ≡ Self.failures self.old) }
+        ensures kept { IsErr result → held self.new ≡ held self.old }
+        ensures bytes { IsErr result → Self.contents self.new ≡ Self.contents self.old };
+
+    /// Gives a file of a file-set a second name, `path`: the file at `from`, which is found below the folder `set` as
+    /// `member` finds it. Its bytes are not read. Absent where it is not there, is no plain file or is a symbolic
+    /// link, Taken where the new name is there, and Refused where the system gives no such name, as between two file
+    /// systems.
+    fn link(&mut self, set: &str, from: &str, path: &str) -> Result<(), LinkFault>
+        ensures worked { IsOk result → HasWorked (refusals self.old) (refusals self.new) }
+        ensures refused { IsErr result → refusals self.new ≡ counted (refusals self.old) }
+
+        // The file was there, the new name was not, and it has the bytes of the file.
+        ensures there { IsOk result → IfSome (held self.old) (λ files. IsSome (files.bytes_at from.now)) }
+        ensures free { IsOk result → IfSome (held self.old) (λ files. files.bytes_at path.now ≡ None) }
+        ensures linked { IsOk result → held self.new ≡ option_map (linked from.now path.now) (held self.old) }
 
         // What stays.
         ensures counts { (Self.calls self.new ≡ Self.calls self.old)

@@ -15,6 +15,6 @@ mod reading;
 
 pub use copy::{CopyFault, copy_image};
 pub use digest::{digest_of, digest_text};
-pub use files::{Files, NotDone, NotThere, SOURCE_LIMIT, Step};
+pub use files::{Files, LinkFault, NotDone, NotThere, SOURCE_LIMIT, Step};
 pub use paths::{DIRECTORY, file_path, is_joined_by_slash, path_in, slashed};
 pub use reading::{ReadFault, read_whole};

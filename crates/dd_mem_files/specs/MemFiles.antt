@@ -33,6 +33,13 @@ abbrev pub GrowsFile : List (List ℕ × List ℕ) → List (List ℕ × List �
 GrowsFile old new path bytes =
     (before : List ℕ) × (bytes_at old path ≡ Some before) × SetsFile old new path (before ++ bytes)
 
+-- the file at one path is there, and nothing at the other, which gets its bytes; all others are as they were
+pub record LinksFile (old new : List (List ℕ × List ℕ)) (from path : List ℕ) : Type 0 where
+  pub bytes : List ℕ
+  pub there : bytes_at old from ≡ Some bytes
+  pub free : bytes_at old path ≡ None
+  pub sets : SetsFile old new path bytes
+
 -- a change of the file at a path at its second opening
 pub record Change : Type 0 where
   pub path : List ℕ
@@ -130,6 +137,7 @@ pub record Unwritten : Type 0 where
   pub later : Option Change
   pub call : ℕ
   pub reader : Option FailingReader
+  pub no_links : Bool
 
 abbrev pub unwritten : Stored → Unwritten
 unwritten s = record {
@@ -139,4 +147,5 @@ unwritten s = record {
   later = s.later;
   call = s.planned.call;
   reader = s.planned.reader;
+  no_links = s.planned.no_links;
 }

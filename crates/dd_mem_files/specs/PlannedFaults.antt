@@ -1,6 +1,6 @@
 -- What is to fail in files in memory, as their callers see it.
 use Rattle.std.specs.Prelude.{◌-◌, ◌==◌, ◌&&◌, ℕ, List, Option, Some, None, Result, Ok, Err, if◌then◌else◌}
-use Rattle.std.specs.Prelude.{bytes_eq, option_map, string_bytes}
+use Rattle.std.specs.Prelude.{Bool, bytes_eq, false, option_map, string_bytes}
 use Rattle.dd_mem_files.specs.declared.planned_faults.ReaderFault.{ReaderFault}
 
 -- a reader that is to fail
@@ -23,10 +23,12 @@ pub record Planned : Type 0 where
   pub call : ℕ
   -- the reader that is to fail
   pub reader : Option FailingReader
+  -- whether no file gets a second name
+  pub no_links : Bool
 
 -- nothing is to fail
 abbrev pub nothing_planned : Planned
-nothing_planned = record { room = None; call = 0; reader = None }
+nothing_planned = record { room = None; call = 0; reader = None; no_links = false }
 
 -- what is to fail after a call that is numbered
 abbrev pub after_call : Planned → Planned

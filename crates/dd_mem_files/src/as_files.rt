@@ -1,13 +1,15 @@
 //! Files in memory as the files of a program.
-ghost use Rattle.std.specs.Prelude.{◌≡◌, ◌↔◌, ◌<◌, [], None, Some, IfOk, IsErr, IsOk, OnErr, OnOk, codes};
+ghost use Rattle.std.specs.Prelude.{◌≡◌, ◌↔◌, ◌<◌, [], Err, None, Some, IfOk, IsErr, IsOk, IsSome, OnErr, OnOk};
+ghost use Rattle.std.specs.Prelude.{codes, false};
 ghost use Rattle.dd_elem.specs.Device.{HasWorked, counted, last_count};
-ghost use Rattle.dd_mem_files.specs.MemFiles.{MayCall, Opens, SetsFile, bytes_at, called, refused, told_of, unread};
+ghost use Rattle.dd_mem_files.specs.MemFiles.{LinksFile, MayCall, Opens, SetsFile, bytes_at, called, refused};
+ghost use Rattle.dd_mem_files.specs.MemFiles.{told_of, unread};
 ghost use Rattle.dd_mem_files.specs.MemLaws.{held_grows, refusals_stay, told_contents};
 ghost use Rattle.dd_mem_files.specs.PlannedFaults.{fails_at};
 
 use crate::mem_files::MemFiles;
 use crate::mem_reader::MemReader;
-use dd_files::{Files, NotDone, NotThere, Step};
+use dd_files::{Files, LinkFault, NotDone, NotThere, Step};
 
 impl Files for MemFiles {
     type In = MemReader;
@@ -127,6 +129,30 @@ impl Files for MemFiles {
         }
         self.refuse();
         Err(NotDone)
+    }
+
+    /// Gives the path a copy of the bytes of the file at `from`; its names are spelled as they are recorded. Absent
+    /// where there is no such file, a copy is refused or the refusals are at their last value, Taken where the path is
+    /// there, and Refused where second names are refused or a growth is. The files are then as they were.
+    /// `fail_call` does not count this call.
+    fn link(&mut self, _set: &str, from: &str, path: &str) -> Result<(), LinkFault>
+        ensures worked { IsOk result → HasWorked self.old.refusals self.new.refusals }
+        ensures refused { IsErr result → self.new.refusals ≡ counted self.old.refusals }
+        ensures may { IsOk result → self.old.planned.no_links ≡ false }
+        ensures ok { OnOk result (LinksFile self.old.files self.new.files from.now path.now) }
+        ensures taken { result ≡ Err LinkFault.Taken → IsSome (bytes_at self.old.files path.now) }
+        ensures err { OnErr result (self.new ≡ record self.old { refusals = counted self.old.refusals }) }
+        ensures same { OnOk result (self.new ≡ record self.old { files = self.new.files }) }
+    {
+        let answer = if self.refusals < u64::MAX {
+            self.copy_to(from, path)
+        } else {
+            Err(LinkFault::Absent)
+        };
+        if answer.is_err() {
+            self.refuse();
+        }
+        answer
     }
 
     /// Ends the file that is being written. Later writes fail until the next file is started. NotDone only where

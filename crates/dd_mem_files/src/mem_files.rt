@@ -1,13 +1,13 @@
 //! Files in memory.
 ghost use Rattle.std.specs.Prelude.{◌≡◌, IsSome, is_ok, IfSome, ◌↔◌, [], length, None, Some, IsOk, take, false};
-ghost use Rattle.std.specs.Prelude.{IsTrue, IfOk, OnOk, OnErr, option_map, option_copied, string_bytes};
+ghost use Rattle.std.specs.Prelude.{Err, IsTrue, IfOk, OnOk, OnErr, option_map, option_copied, string_bytes, true};
 ghost use Rattle.std.specs.Io.{WritesAtMost};
 ghost use Rattle.std.specs.Io.KnownBytes.{WriteAppends};
 ghost use Rattle.dd_elem.specs.Counts.{counts_after};
 ghost use Rattle.dd_elem.specs.Device.{counted, IsBeforeFail, IsLive, passing};
 ghost use Rattle.dd_mem_files.specs.MemFiles.{Stored, Unwritten, listed, bytes_at, change_of, unread, unwritten};
 ghost use Rattle.dd_mem_files.specs.MemFiles.{written_of, SetsFile, GrowsWritten, MayCall, called};
-ghost use Rattle.dd_mem_files.specs.MemFiles.{KeepsFiles, Gets, Opens, due};
+ghost use Rattle.dd_mem_files.specs.MemFiles.{KeepsFiles, Gets, LinksFile, Opens, due};
 ghost use Rattle.dd_mem_files.specs.PlannedFaults.{after_write, fails_at, nothing_planned};
 
 use crate::contents::{append, set};
@@ -15,7 +15,7 @@ use crate::later::{Later, count_opening, due_bytes};
 use crate::mem_reader::MemReader;
 use crate::planned_faults::PlannedFaults;
 use dd_elem::{Counts, Memory, Write};
-use dd_files::NotDone;
+use dd_files::{LinkFault, NotDone};
 use std::alloc::Global;
 use std::collections::BTreeMap;
 use std::io;
@@ -145,6 +145,13 @@ impl MemFiles {
         Ok(())
     }
 
+    /// Makes the files refuse each second name from now on.
+    pub fn refuse_links(&mut self)
+        ensures { self.new ≡ record self.old { planned = record self.old.planned { no_links = true } } }
+    {
+        self.planned.refuse_links();
+    }
+
     /// Gives the bytes of the file at the path, where there is one.
     pub fn bytes(&self, path: &str) -> Option<&[u8]>
         ensures { option_copied result ≡ bytes_at self.now.files path.now }
@@ -210,6 +217,31 @@ impl MemFiles {
         self.put(path, &[])?;
         self.current = Some(name);
         Ok(())
+    }
+
+    /// Gives the path, which must be free, the bytes of the file at `from`. Absent where no file is at `from` or a copy
+    /// of its bytes is refused, Taken where the path is there, and Refused where second names are refused or a growth
+    /// is. The files are then as they were.
+    pub(crate) fn copy_to(&mut self, from: &str, path: &str) -> Result<(), LinkFault>
+        ensures ok { OnOk result (LinksFile self.old.files self.new.files from.now path.now) }
+        ensures may { IsOk result → self.old.planned.no_links ≡ false }
+        ensures taken { result ≡ Err LinkFault.Taken → IsSome (bytes_at self.old.files path.now) }
+        ensures err { OnErr result (self.new ≡ self.old) }
+        ensures same { self.new ≡ record self.old { files = self.new.files } }
+    {
+        let Some(copy) = self.copy(from) else {
+            return Err(LinkFault::Absent);
+        };
+        if self.bytes(path).is_some() {
+            return Err(LinkFault::Taken);
+        }
+        if self.planned.refuses_links() {
+            return Err(LinkFault::Refused);
+        }
+        match self.put(path, &copy) {
+            Ok(()) => Ok(()),
+            Err(_) => Err(LinkFault::Refused),
+        }
     }
 
     /// Counts a call, and says whether it may be done: not where it is to be refused, or the refusals are at their

@@ -1,5 +1,5 @@
 //! What is to fail in files in memory.
-ghost use Rattle.std.specs.Prelude.{◌≡◌, ◌↔◌, IsTrue, IsSome, IfSome, Some, option_map, string_bytes};
+ghost use Rattle.std.specs.Prelude.{◌≡◌, ◌↔◌, IsTrue, IsSome, IfSome, Some, option_map, string_bytes, true};
 ghost use Rattle.dd_elem.specs.Device.{IsBeforeFail, passing};
 ghost use Rattle.dd_mem_files.specs.PlannedFaults.{Planned, after_call, after_opening, after_taking, fails_at};
 ghost use Rattle.dd_mem_files.specs.PlannedFaults.{counted_down, failing_reader_of, nothing_planned};
@@ -14,12 +14,13 @@ struct ReaderFault {
     after: u64,
 }
 
-/// What is to fail: writes after a number of bytes, one of the next calls, and one reader.
+/// What is to fail: writes after a number of bytes, one of the next calls, one reader, and second names.
 #[derive(Debug, Drop)]
 pub(crate) struct PlannedFaults {
     room: Option<u64>,
     call: u32,
     reader: Option<ReaderFault>,
+    no_links: bool,
 }
 
 impl Model for PlannedFaults {
@@ -29,6 +30,7 @@ impl Model for PlannedFaults {
       room = s.room;
       call = s.call;
       reader = option_map failing_reader_of s.reader;
+      no_links = s.no_links;
     } };
 }
 
@@ -41,6 +43,7 @@ impl PlannedFaults {
             room: None,
             call: 0,
             reader: None,
+            no_links: false,
         }
     }
 
@@ -69,6 +72,20 @@ impl PlannedFaults {
             opening,
             after,
         });
+    }
+
+    /// Makes each second name be refused.
+    pub(crate) fn refuse_links(&mut self)
+        ensures { self.new ≡ record self.old { no_links = true } }
+    {
+        self.no_links = true;
+    }
+
+    /// Says whether second names are refused.
+    pub(crate) fn refuses_links(&self) -> bool
+        ensures { result ≡ self.now.no_links }
+    {
+        self.no_links
     }
 
     /// Says how many bytes of a piece of this length the next write takes. None where it fails.
