@@ -1,10 +1,11 @@
 -- What a command that makes a file-set changes in files that tell what they hold: it makes the file of each image,
 -- record by record, and then the directory.
-use Rattle.std.specs.Prelude.{◌≡◌, ◌<◌, ℕ, List, [], ◌∷◌, All, filter, take, Option, None, Some, is_some, option_map}
-use Rattle.std.specs.Prelude.{codes, slice_get}
+use Rattle.std.specs.Prelude.{◌≡◌, ◌⊎◌, ◌<◌, ℕ, List, [], ◌∷◌, All, filter, zip, Option, None, Some, is_some}
+use Rattle.std.specs.Prelude.{codes, option_map, slice_get, slice_index_or}
 use Rattle.dd_dir.specs.Directories.{directory_of}
 use Rattle.dd_elem.specs.FileId.{Ranks, text_of}
-use Rattle.dd_files.specs.Files.{Held, published, started}
+use Rattle.dd_engine.specs.declared.merge.Pick.{Pick}
+use Rattle.dd_files.specs.Files.{Held, linked, published, started}
 use Rattle.dd_files.specs.Paths.{IsPathIn, id_path}
 use Rattle.dd_filing.specs.declared.agreeing.Filed.TheVariants.{AsPlanned}
 use Rattle.dd_filing.specs.Filing.{IsFileAs}
@@ -24,49 +25,79 @@ pub record StartsImage (folder : List ℕ) (file : Ranks) (old new : Option Held
   pub started : new ≡ option_map (started path) old
 
 -- a file of the planned version was made there, and all other files are as they were
-pub record MakesImage (folder : List ℕ) (file : Ranks) (planned : Parts) (old new : Option Held) : Type 0 where
+pub record CopiesImage (folder : List ℕ) (file : Ranks) (planned : Parts) (old new : Option Held) : Type 0 where
   pub path : List ℕ
   pub bytes : List ℕ
   pub place : IsPlace folder file path
   pub is : IsFileAs planned AsPlanned bytes
   pub made : new ≡ option_map (published path bytes) old
 
+-- a file at one of these paths has a second name there, and all other files are as they were
+pub record LinksImage (From : List ℕ → Type 0) (folder : List ℕ) (file : Ranks) (old new : Option Held) : Type 0 where
+  pub path : List ℕ
+  pub from : List ℕ
+  pub place : IsPlace folder file path
+  pub picked : From from
+  pub made : new ≡ option_map (linked from path) old
+
+-- the image is there: copied, or a file at one of these paths under a second name
+abbrev pub MakesImage : (List ℕ → Type 0) → List ℕ → Ranks → Parts → Option Held → Option Held → Type 0
+MakesImage From folder file planned old new =
+    CopiesImage folder file planned old new ⊎ LinksImage From folder file old new
+
 -- the image of this record was made
-pub record MakesRow (folder : List ℕ) (versions : List Parts) (row : PlanRecord) (old new : Option Held) : Type 0 where
+pub record MakesRow (From : List ℕ → Type 0) (folder : List ℕ) (versions : List Parts) (row : PlanRecord)
+    (old new : Option Held) : Type 0 where
   pub file : Ranks
   pub named : row.file ≡ Some file
   pub planned : Parts
   pub of : slice_get versions row.of ≡ Some planned
-  pub made : MakesImage folder file planned old new
+  pub made : MakesImage From folder file planned old new
 
--- those of these records, one after the other
-abbrev pub MakesRows : List ℕ → List Parts → List PlanRecord → Option Held → Option Held → Type 0
-MakesRows folder versions [] old new = new ≡ old
-MakesRows folder versions (row ∷ rows) old new =
-    (mid : Option Held) × MakesRow folder versions row old mid × MakesRows folder versions rows mid new
+-- the images of these records, each with its pick, one after the other; by its pick, a file may be at these paths
+abbrev pub MakesRows : {P : Type 0} → (P → List ℕ → Type 0) → List ℕ → List Parts → List (PlanRecord × P)
+    → Option Held → Option Held → Type 0
+MakesRows From folder versions [] old new = new ≡ old
+MakesRows From folder versions (row ∷ rows) old new = (mid : Option Held)
+    × MakesRow (From row.1) folder versions row.0 old mid × MakesRows From folder versions rows mid new
 
--- the images of the first `count` records that have a file were made, and nothing else
-abbrev pub MakesImages : List ℕ → List Parts → List PlanRecord → ℕ → Option Held → Option Held → Type 0
-MakesImages folder versions records count old new =
-    MakesRows folder versions (take count (filter (λ row. is_some row.file) records)) old new
+-- the images of the records that have a file were made, as long as there are picks, and nothing else
+abbrev pub MakesImages : {P : Type 0} → (P → List ℕ → Type 0) → List ℕ → List Parts → List PlanRecord → List P
+    → Option Held → Option Held → Type 0
+MakesImages From folder versions records picks old new =
+    MakesRows From folder versions (zip (filter (λ row. is_some row.file) records) picks) old new
 
 -- a record with this file, where it has one, and these picks: its image was made, which uses the first one up
-abbrev pub CopiesTo : {P : Type 0} → List ℕ → List Parts → PlanRecord → Option Ranks → List P → List P
-    → Option Held → Option Held → Type 0
-CopiesTo folder versions row None picks later old new = (later ≡ picks) × (new ≡ old)
-CopiesTo folder versions row (Some file) [] later old new = (later ≡ []) × (new ≡ old)
-CopiesTo folder versions row (Some file) (pick ∷ more) later old new =
-    (later ≡ more) × MakesRow folder versions row old new
+abbrev pub CopiesTo : {P : Type 0} → (P → List ℕ → Type 0) → List ℕ → List Parts → PlanRecord → Option Ranks → List P
+    → List P → Option Held → Option Held → Type 0
+CopiesTo From folder versions row None picks later old new = (later ≡ picks) × (new ≡ old)
+CopiesTo From folder versions row (Some file) [] later old new = (later ≡ []) × (new ≡ old)
+CopiesTo From folder versions row (Some file) (pick ∷ more) later old new =
+    (later ≡ more) × MakesRow (From pick) folder versions row old new
 
-abbrev pub Copies : {P : Type 0} → List ℕ → List Parts → PlanRecord → List P → List P
+abbrev pub Copies : {P : Type 0} → (P → List ℕ → Type 0) → List ℕ → List Parts → PlanRecord → List P → List P
     → Option Held → Option Held → Type 0
-Copies folder versions row picks later old new = CopiesTo folder versions row row.file picks later old new
+Copies From folder versions row picks later old new = CopiesTo From folder versions row row.file picks later old new
 
--- the images of the first `count` records of the plan that have a file were made in the folder, and then its directory
--- (PS3.10 section 8.6)
-pub record MakesFileSet (folder : List ℕ) (plan : Layout) (count : ℕ) (old new : Option Held) : Type 0 where
+-- Where images get second names, a file gets one that stands at such a path by its pick.
+abbrev pub MayLink : {P : Type 0} → Type 0 → (P → List ℕ → Type 0) → P → List ℕ → Type 0
+MayLink GivesNames StandsAt pick from = GivesNames × StandsAt pick from
+
+-- the path of this number
+abbrev pub IsPathAt : List (List ℕ) → ℕ → List ℕ → Type 0
+IsPathAt paths at path = path ≡ slice_index_or paths at []
+
+-- a file of a file-set, by the number of the set and its File ID, stands at this path
+abbrev pub IsMemberPath : List (List ℕ) → Pick → List ℕ → Type 0
+IsMemberPath folders pick path = All (λ byte. byte < 128) pick.file.now
+    → IsPathIn (slice_index_or folders pick.set []) (id_path pick.file.now) path
+
+-- the images of the records of the plan were made in the folder, one for each pick, and then its directory (PS3.10
+-- section 8.6)
+pub record MakesFileSet {P : Type 0} (From : P → List ℕ → Type 0) (folder : List ℕ) (plan : Layout) (picks : List P)
+    (old new : Option Held) : Type 0 where
   pub copied : Option Held
-  pub images : MakesImages folder plan.versions (records_of plan.label plan.versions) count old copied
+  pub images : MakesImages From folder plan.versions (records_of plan.label plan.versions) picks old copied
   pub path : List ℕ
   pub place : IsPathIn folder (codes "DICOMDIR") path
   pub directory : new ≡ option_map (published path (directory_of plan.label plan.versions plan.withdrawn)) copied

@@ -1,9 +1,9 @@
-//! The images of a file-set, copied into its folder.
-ghost use Rattle.std.specs.Prelude.{◌≡◌, ◌<◌, ℕ, All, IfErr, IfOk, IsErr, IsOk, length, option_map};
+//! The images of a file-set, in its folder: copies of files, or their files under second names.
+ghost use Rattle.std.specs.Prelude.{◌≡◌, ◌<◌, ℕ, All, IfErr, IfOk, IsErr, IsOk, false, length, option_map, true};
 ghost use Rattle.dd_elem.specs.Device.{counted};
 ghost use Rattle.dd_files.specs.Files.{ended};
 ghost use Rattle.dd_layout.specs.Plans.{records_of};
-ghost use Rattle.dicomdir.specs.Made.{Copies, MakesImage, MakesImages, StartsImage};
+ghost use Rattle.dicomdir.specs.Made.{Copies, CopiesImage, LinksImage, MakesImage, MakesImages, MayLink, StartsImage};
 ghost use Rattle.dicomdir.specs.Claims.{IsRefusedAs};
 ghost use Rattle.dicomdir.specs.Refusal.{IsAmong, IsMemory, IsOfWork};
 
@@ -11,14 +11,14 @@ use crate::image_path::{ImageFolder, ImagePathText};
 use crate::origins::Origins;
 use crate::refusal::{ProgramFault, Refusal, Subject};
 use dd_elem::FileId;
-use dd_files::{Files, SOURCE_LIMIT, Step, file_path, path_in};
+use dd_files::{Files, LinkFault, SOURCE_LIMIT, Step, file_path, path_in};
 use dd_filing::{Filed, FilingFault, file_image};
 use dd_keys::Version;
 use dd_layout::{Plan, PlanRecord};
 use std::alloc::Global;
 
-/// Copies each image from its file to its File ID in the folder, in the order of the plan. Each copy must be
-/// a file of the version that is planned there.
+/// Makes each image at its File ID in the folder, in the order of the plan: a copy of its file, or that file under a
+/// second name. Each copy must be a file of the version that is planned there.
 pub(crate) fn copy_images<F: Files, O: Origins>(
     alloc: Global,
     folder: &str,
@@ -30,11 +30,11 @@ pub(crate) fn copy_images<F: Files, O: Origins>(
     requires { All (O.has origins.now) picks.now }
     ensures refusal { IfErr result (IsOfWork (O.paths origins.now)) }
 
-    // Where the files tell what they hold, an image was made for each pick, as a file of its planned version. All
-    // other files are as they were.
-    ensures made { IsOk result → MakesImages folder.now plan.now.versions
-        (records_of plan.now.label plan.now.versions)
-        (length picks.now) (F.held files.old) (F.held files.new) }
+    // Where the files tell what they hold, an image was made for each pick, as a file of its planned version, or it is
+    // the file of the pick. All other files are as they were.
+    ensures made { IsOk result → MakesImages (MayLink (O.gives_names origins.now) (O.stands_at origins.now))
+        folder.now plan.now.versions (records_of plan.now.label plan.now.versions) picks.now
+        (F.held files.old) (F.held files.new) }
 {
     let versions = plan.versions();
     let mut picks = picks;
@@ -46,7 +46,7 @@ pub(crate) fn copy_images<F: Files, O: Origins>(
     Ok(())
 }
 
-/// Copies the image of a record, where it has one, from the first of these picks, and answers the others.
+/// Makes the image of a record, where it has one, from the first of these picks, and answers the others.
 fn copy_record<'p, F: Files, O: Origins>(
     alloc: Global,
     folder: &str,
@@ -60,17 +60,39 @@ fn copy_record<'p, F: Files, O: Origins>(
     requires within { record.now.of < length versions.now }
     ensures refusal { IfErr result (IsOfWork (O.paths origins.now)) }
     ensures has { IfOk result (λ later. All (O.has origins.now) later.now) }
-    ensures copied { IfOk result (λ later. Copies folder.now versions.now record.now picks.now later.now
-        (F.held files.old) (F.held files.new)) }
+    ensures copied { IfOk result (λ later. Copies (MayLink (O.gives_names origins.now) (O.stands_at origins.now))
+        folder.now versions.now record.now picks.now later.now (F.held files.old) (F.held files.new)) }
 {
     match (record.file, picks) {
         (Some(file), [pick, later @ ..]) => {
             let planned = &versions[record.of];
-            copy_image(alloc, folder, file, planned, origins, *pick, files)?;
+            make_image(alloc, folder, file, planned, origins, *pick, files)?;
             Ok(later)
         }
         _ => Ok(picks),
     }
+}
+
+/// Makes an image at this File ID in the folder: a copy of its file, or that file under a second name, where the
+/// system gives one.
+fn make_image<F: Files, O: Origins>(
+    alloc: Global,
+    folder: &str,
+    file: FileId,
+    planned: &Version,
+    origins: &O,
+    pick: O::Pick,
+    files: &mut F,
+) -> Result<(), Refusal>
+    requires { O.has origins.now pick }
+    ensures refusal { IfErr result (IsOfWork (O.paths origins.now)) }
+    ensures made { IsOk result → MakesImage (MayLink (O.gives_names origins.now) (O.stands_at origins.now) pick)
+        folder.now file planned.now (F.held files.old) (F.held files.new) }
+{
+    if origins.gives_names() && link_image(alloc, folder, file, origins, pick, files)? {
+        return Ok(());
+    }
+    copy_image(alloc, folder, file, planned, origins, pick, files)
 }
 
 /// Copies an image to this File ID in the folder, as a file of its version in the plan.
@@ -85,7 +107,7 @@ fn copy_image<F: Files, O: Origins>(
 ) -> Result<(), Refusal>
     requires { O.has origins.now pick }
     ensures refusal { IfErr result (IsOfWork (O.paths origins.now)) }
-    ensures made { IsOk result → MakesImage folder.now file planned.now
+    ensures made { IsOk result → CopiesImage folder.now file planned.now
         (F.held files.old) (F.held files.new) }
 {
     let mut reader = open(alloc, origins, pick, files)?;
@@ -96,7 +118,45 @@ fn copy_image<F: Files, O: Origins>(
     }
 }
 
-/// Opens the file that an image is copied from.
+/// Gives the file of an image a second name, its File ID in the folder, and has it stored with others. Answers false
+/// where the system gives no such name. The file is opened first, so that it is refused where a copy is.
+fn link_image<F: Files, O: Origins>(
+    alloc: Global,
+    folder: &str,
+    file: FileId,
+    origins: &O,
+    pick: O::Pick,
+    files: &mut F,
+) -> Result<bool, Refusal>
+    requires { O.has origins.now pick }
+    ensures refusal { IfErr result (IsOfWork (O.paths origins.now)) }
+    ensures linked { IfOk result (λ is_linked. is_linked ≡ true
+        → LinksImage (O.stands_at origins.now pick) folder.now file (F.held files.old) (F.held files.new)) }
+    ensures kept { IfOk result (λ is_linked. is_linked ≡ false → F.held files.new ≡ F.held files.old) }
+{
+    let Some(set) = origins.set(pick) else {
+        return Ok(false);
+    };
+    open(alloc, origins, pick, files)?;
+    make_folder(alloc, folder, file, files)?;
+    let from = origins.path(alloc, pick)?;
+    let path = file_path(alloc, folder, &file.text())?;
+    match files.link(set, from.as_str(), path.as_str()) {
+        Ok(()) => {}
+        Err(LinkFault::Refused) => return Ok(false),
+        Err(LinkFault::Absent) => {
+            return Err(Refusal::of(origins.subject(pick), ProgramFault::Absent));
+        }
+        Err(LinkFault::Taken) => {
+            return Err(Refusal::of(Subject::Image(file), ProgramFault::Create));
+        }
+    }
+    files.advance();
+    store(files)?;
+    Ok(true)
+}
+
+/// Opens the file of an image.
 fn open<F: Files, O: Origins>(
     alloc: Global,
     origins: &O,
@@ -118,6 +178,24 @@ fn open<F: Files, O: Origins>(
     }
 }
 
+/// Makes the folder of an image.
+fn make_folder<F: Files>(
+    alloc: Global,
+    folder: &str,
+    file: FileId,
+    files: &mut F,
+) -> Result<(), Refusal>
+    ensures refusal { (paths : ℕ) → IfErr result (IsOfWork paths) }
+    ensures kept { F.held files.new ≡ F.held files.old }
+{
+    let below = ImagePathText::of(&ImageFolder(file));
+    let path = path_in(alloc, folder, below.as_str())?;
+    if files.folder_in(folder, path.as_str()).is_err() {
+        return Err(Refusal::of(Subject::ImageFolder(file), ProgramFault::Folder));
+    }
+    Ok(())
+}
+
 /// Makes the folder of an image, and starts its file.
 fn start_copy<F: Files>(
     alloc: Global,
@@ -128,11 +206,7 @@ fn start_copy<F: Files>(
     ensures refusal { (paths : ℕ) → IfErr result (IsOfWork paths) }
     ensures started { IsOk result → StartsImage folder.now file (F.held files.old) (F.held files.new) }
 {
-    let below = ImagePathText::of(&ImageFolder(file));
-    let path = path_in(alloc, folder, below.as_str())?;
-    if files.folder_in(folder, path.as_str()).is_err() {
-        return Err(Refusal::of(Subject::ImageFolder(file), ProgramFault::Folder));
-    }
+    make_folder(alloc, folder, file, files)?;
     let path = file_path(alloc, folder, &file.text())?;
     match files.create(path.as_str()) {
         Ok(()) => Ok(()),

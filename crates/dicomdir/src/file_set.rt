@@ -1,10 +1,10 @@
 //! A file-set in its folder: its images and its directory.
-ghost use Rattle.std.specs.Prelude.{◌≡◌, ℕ, All, IfErr, IsErr, IsOk, length, option_map};
+ghost use Rattle.std.specs.Prelude.{◌≡◌, ℕ, All, IfErr, IsErr, IsOk, option_map};
 ghost use Rattle.dd_dir.specs.Directories.{directory_of};
 ghost use Rattle.dd_elem.specs.Device.{counted, HasFailed};
 ghost use Rattle.dd_elem.specs.FileId.{max_rank};
 ghost use Rattle.dd_files.specs.Files.{ended, grown, published, started};
-ghost use Rattle.dicomdir.specs.Made.{MakesFileSet};
+ghost use Rattle.dicomdir.specs.Made.{MakesFileSet, MayLink};
 ghost use Rattle.dicomdir.specs.Refusal.{IsBadLine, IsOfWork};
 
 use crate::copies::{copy_images, store};
@@ -41,7 +41,7 @@ pub(crate) fn refuse_taken<F: Files>(
     Ok(())
 }
 
-/// Copies each image of the plan into the folder, from where it is picked, and then writes the directory
+/// Makes each image of the plan in the folder, of the file that is picked, and then writes the directory
 /// there. All that was made is stored before the directory is made, and the directory once it has ended.
 pub(crate) fn write_file_set<F: Files, O: Origins>(
     alloc: Global,
@@ -55,8 +55,8 @@ pub(crate) fn write_file_set<F: Files, O: Origins>(
     ensures refusal { IfErr result (IsOfWork (O.paths origins.now)) }
 
     // Where the files tell what they hold, an image was made for each pick, and then the directory.
-    ensures made { IsOk result → MakesFileSet folder.now plan.now (length picks.now)
-        (F.held files.old) (F.held files.new) }
+    ensures made { IsOk result → MakesFileSet (MayLink (O.gives_names origins.now) (O.stands_at origins.now))
+        folder.now plan.now picks.now (F.held files.old) (F.held files.new) }
 {
     copy_images(alloc, folder, plan, origins, picks, files)?;
     if files.folder(folder).is_err() {

@@ -3,7 +3,8 @@ ghost use Rattle.std.specs.Prelude.{◌≡◌, ◌≤◌, ℕ, IfErr, IfOk, IsEr
 ghost use Rattle.dd_elem.specs.Device.{HasFailed};
 ghost use Rattle.dd_engine.specs.Indexed.{IsNamed, IsWithin};
 ghost use Rattle.dd_engine.specs.Noting.{AreBelow, IsBelow};
-ghost use Rattle.dicomdir.specs.Made.{MakesFileSet};
+ghost use Rattle.dd_line.specs.Line.{words_of};
+ghost use Rattle.dicomdir.specs.Made.{IsPathAt, MakesFileSet, MayLink};
 ghost use Rattle.dicomdir.specs.Refusal.{IsOfWork};
 
 use crate::file_set::{limits_of, write_file_set};
@@ -84,8 +85,8 @@ fn write_indexed<F: Files, O: Write>(
     requires { IsWithin (length sources.now) indexed.now }
     ensures refusal { IfErr result (IsOfWork (length sources.now)) }
     ensures status { IfOk result (λ status. status ≤ 1) }
-    ensures made { IsOk result → MakesFileSet folder.now indexed.now.plan (length indexed.now.picks.items)
-        (F.held files.old) (F.held files.new) }
+    ensures made { IsOk result → MakesFileSet (MayLink ⊥ (IsPathAt (words_of sources.now)))
+        folder.now indexed.now.plan indexed.now.picks.items (F.held files.old) (F.held files.new) }
 {
     let origins = SourceFiles { paths: sources };
     write_file_set(

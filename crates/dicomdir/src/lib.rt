@@ -32,7 +32,9 @@ pub use dd_engine::{
     NotedMerge, Notes, PatientNames, Pick, Supply, first_saying, index_engine, index_with_notes,
     merge_engine, merge_with_notes, withdraw_engine, withdraw_with_notes,
 };
-pub use dd_files::{CopyFault, DIRECTORY, Files, NotDone, NotThere, Step, copy_image, digest_text};
+pub use dd_files::{
+    CopyFault, DIRECTORY, Files, LinkFault, NotDone, NotThere, Step, copy_image, digest_text,
+};
 pub use dd_filing::{Filed, FilingFault, copy_version, file_image, is_filed_as};
 pub use dd_line::{Asked, LineFault, Verb, read_words};
 pub use dd_mem_files::{MemFiles, MemReader};

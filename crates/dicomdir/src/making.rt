@@ -20,21 +20,27 @@ pub(crate) struct Making<'a> {
     pub(crate) max_bytes: u32,
     /// Whether a source that is skipped refuses the run.
     pub(crate) strict: bool,
-    /// Whether nothing is made, and the plan is told.
+    /// Whether nothing is made, and the last line says what would be made.
     pub(crate) dry_run: bool,
+    /// Whether images get second names in place of copies.
+    pub(crate) link: bool,
 }
 
 impl<'a> Making<'a> {
     /// Takes over what the line asks for, in this folder.
     pub(crate) fn asked(asked: &Asked, folder: &'a str) -> Making<'a>
         ensures folder { result.folder.now ≡ folder.now }
+        ensures limit { result.max_bytes ≡ asked.now.max_bytes }
+        ensures strict { result.strict ≡ asked.now.strict }
         ensures dry { result.dry_run ≡ asked.now.dry_run }
+        ensures link { result.link ≡ asked.now.link }
     {
         Making {
             folder,
             max_bytes: asked.max_bytes,
             strict: asked.strict,
             dry_run: asked.dry_run,
+            link: asked.link,
         }
     }
 }

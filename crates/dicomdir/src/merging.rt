@@ -3,7 +3,8 @@ ghost use Rattle.std.specs.Prelude.{◌≡◌, ◌<◌, ◌≤◌, ℕ, All, IfE
 ghost use Rattle.dd_elem.specs.Device.{HasFailed};
 ghost use Rattle.dd_engine.specs.Merging.{IsNamedSet};
 ghost use Rattle.dd_engine.specs.Noting.{AreBelow, IsBelow};
-ghost use Rattle.dicomdir.specs.Made.{MakesFileSet};
+ghost use Rattle.dd_line.specs.Line.{words_of};
+ghost use Rattle.dicomdir.specs.Made.{IsMemberPath, MakesFileSet, MayLink};
 ghost use Rattle.dicomdir.specs.Refusal.{IsOfWork};
 
 use crate::file_set::{limits_of, write_file_set};
@@ -48,6 +49,7 @@ pub(crate) fn run_merge<F: Files, O: Write>(
     let origins = SetFiles {
         folders: sets,
         directories: &slices,
+        link: making.link,
     };
     write_noted(alloc, making, &origins, &noted, files, out)
 }
@@ -102,6 +104,7 @@ fn withdraw_of<F: Files, O: Write>(
     let origins = SetFiles {
         folders: sets,
         directories: &slices,
+        link: false,
     };
     write_noted(alloc, making, &origins, &noted, files, out)
 }
@@ -156,8 +159,8 @@ fn write_merged<'a, F: Files, O: Write>(
     ensures status { IfOk result (λ status. status ≤ 1) }
     ensures dry { making.entry.dry_run ≡ true → F.held files.new ≡ F.held files.old }
     ensures made { IsOk result → making.entry.dry_run ≡ false
-        → MakesFileSet making.entry.folder.now merged.now.plan (length merged.now.picks.items)
-        (F.held files.old) (F.held files.new) }
+        → MakesFileSet (MayLink (sets.now.link ≡ true) (IsMemberPath (words_of sets.now.folders.now)))
+        making.entry.folder.now merged.now.plan merged.now.picks.items (F.held files.old) (F.held files.new) }
 {
     if making.dry_run {
         return Ok(tell_plan(&merged.plan, out));

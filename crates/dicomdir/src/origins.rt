@@ -1,7 +1,7 @@
 //! What the images of a file-set are copied from.
-ghost use Rattle.std.specs.Prelude.{◌≡◌, ◌<◌, ℕ, List, [], All, IfOk, length, map, slice_index_or, string_bytes};
-ghost use Rattle.dd_files.specs.Paths.{IsPathIn, id_path};
+ghost use Rattle.std.specs.Prelude.{◌≡◌, ◌<◌, ℕ, List, IfOk, IfSome, length, map, string_bytes, true};
 ghost use Rattle.dicomdir.specs.Claims.{IsClaimant};
+ghost use Rattle.dicomdir.specs.Made.{IsMemberPath, IsPathAt};
 ghost use Rattle.dicomdir.specs.Refusal.{IsAmong, IsSetFile, IsSource};
 
 use crate::image_path::{IdPath, PathText};
@@ -29,6 +29,12 @@ pub(crate) trait Origins {
     // It stands at this path.
     ghost stands_at: { Self → Self.Pick → List ℕ → Type 0 };
 
+    // It is a file of the file-set in this folder.
+    ghost is_in: { Self → Self.Pick → List ℕ → Type 0 };
+
+    // Images may get second names in place of copies.
+    ghost gives_names: { Self → Type 0 };
+
     // A refusal names this where the file can't be opened or read, or has changed.
     ghost is_subject: { Self → Self.Pick → Subject → Type 0 };
 
@@ -42,7 +48,12 @@ pub(crate) trait Origins {
 
     /// Gives the folder of the file-set that has the file, where one has it.
     fn set(&self, pick: Self::Pick) -> Option<&str>
-        requires { has self.now pick };
+        requires { has self.now pick }
+        ensures { IfSome result (λ set. is_in self.now pick set.now) };
+
+    /// Says whether files of file-sets get second names in place of copies.
+    fn gives_names(&self) -> bool
+        ensures { result ≡ true → gives_names self.now };
 
     /// Finds what a refusal names where the file is not what the plan says of it: the file of the first record
     /// that says what the plan says, or the picked file where no record does or a set can't be read again. Memory
@@ -76,7 +87,11 @@ impl Origins for SourceFiles<'_> {
 
     ghost has = { λ s at. at < length s.paths.now };
 
-    ghost stands_at = { λ s at path. path ≡ slice_index_or (map (λ path. string_bytes path) s.paths.now) at [] };
+    ghost stands_at = { λ s at path. IsPathAt (map (λ path. string_bytes path) s.paths.now) at path };
+
+    ghost is_in = { λ _ _ _. ⊥ };
+
+    ghost gives_names = { λ _. ⊥ };
 
     ghost is_subject = { λ _ at subject. IsSource at subject };
 
@@ -90,6 +105,10 @@ impl Origins for SourceFiles<'_> {
 
     fn set(&self, _at: usize) -> Option<&str> {
         None
+    }
+
+    fn gives_names(&self) -> bool {
+        false
     }
 
     fn claimant(&self, _alloc: Global, at: usize, _planned: &Version) -> Result<Subject, Memory> {
@@ -108,6 +127,8 @@ pub(crate) struct SetFiles<'s, 'a> {
     pub(crate) folders: &'s [String],
     /// The bytes of their directories.
     pub(crate) directories: &'s [&'a [u8]],
+    /// Whether images get second names in place of copies.
+    pub(crate) link: bool,
 }
 
 impl<'a> Origins for SetFiles<'_, 'a> {
@@ -116,9 +137,11 @@ impl<'a> Origins for SetFiles<'_, 'a> {
     ghost has = { λ s pick. (pick.set < length s.folders.now)
         × (length s.directories.now ≡ length s.folders.now) };
 
-    ghost stands_at = { λ s pick path. All (λ byte. byte < 128) pick.file.now
-        → IsPathIn (slice_index_or (map (λ folder. string_bytes folder) s.folders.now) pick.set [])
-        (id_path pick.file.now) path };
+    ghost stands_at = { λ s pick path. IsMemberPath (map (λ folder. string_bytes folder) s.folders.now) pick path };
+
+    ghost is_in = { λ s pick set. IsPathAt (map (λ folder. string_bytes folder) s.folders.now) pick.set set };
+
+    ghost gives_names = { λ s. s.link ≡ true };
 
     ghost is_subject = { λ _ pick subject. IsSetFile pick.set subject };
 
@@ -133,6 +156,10 @@ impl<'a> Origins for SetFiles<'_, 'a> {
 
     fn set(&self, pick: Pick<'a>) -> Option<&str> {
         Some(self.folders[pick.set].as_str())
+    }
+
+    fn gives_names(&self) -> bool {
+        self.link
     }
 
     fn claimant(

@@ -1,6 +1,7 @@
 -- The image of a record more is made behind those before it.
-use Rattle.std.proofs.Common.{arith, length}
+use Rattle.std.proofs.Common.{arith}
 use Rattle.dicomdir.proofs.ImagesMade.{so_far_more}
+use Rattle.dicomdir.specs.Made.{MayLink}
 use Rattle.dicomdir.proofs.copies.copy_images.Goals as goal
 
 pub loop-record-preserved : goal.loop-record-preserved
@@ -8,8 +9,10 @@ loop-record-preserved g c =
     let within = c.loop-record-test.true in
     record {
       has = c.in_ok-picks.ensures.has;
-      made = so_far_more c.args.folder.now c.versions-versions.result.now c.records-record-items.result.now
-          (length c.args.picks.now) c.loop-record.record-index c.record-item.result c.loop-record.picks.now
-          c.in_ok-picks.picks.now _ _ _ (omega (arith, within)) (rw (← c.record-item.is) c.in_ok-picks.ensures.copied)
+      made = so_far_more
+          (MayLink (g.O.Origins.gives_names c.args.origins.now) (g.O.Origins.stands_at c.args.origins.now))
+          c.args.folder.now c.versions-versions.result.now c.records-record-items.result.now c.args.picks.now
+          c.loop-record.record-index c.record-item.result c.loop-record.picks.now c.in_ok-picks.picks.now _ _ _
+          (omega (arith, within)) (rw (← c.record-item.is) c.in_ok-picks.ensures.copied)
           c.loop-record.invariant.made;
     }
