@@ -11,9 +11,8 @@ use dd_elem::{Ordered, Uid};
 use dd_keys::Version;
 use dd_layout::PlanFault;
 
-/// Finds where the two kept versions come from that the fault names: the first place of each. The versions are
-/// those that the catalogue was made of and, in the same order, their places. None where the fault names no two
-/// versions.
+/// Finds where the two kept versions come from that the fault names: the first place of each. The catalogue was made
+/// of these versions, which stand at these places, in the same order. None where the fault names no two versions.
 pub(crate) fn clash_of<T: Copy>(
     catalogue: &Catalogue,
     versions: &[Version],

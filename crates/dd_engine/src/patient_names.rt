@@ -28,7 +28,7 @@ impl Model for PatientNames {
     ghost view = { λ patient. record { id = patient.id; names = patient.names.items } };
 }
 
-// By hand, so that letting go of it is one call.
+// By hand, so that dropping it is one call.
 impl Drop for PatientNames {
     fn drop(self) {
         let PatientNames {

@@ -96,7 +96,7 @@ more_named rows at d file within some =
 
 -- ---- the images so far
 
--- those of the records before this place are made, and these picks are left for the others
+-- the images of the records before this place are made, and these picks are left for the others
 pub record SoFar {P : Type 0} (From : P → List ℕ → Type 0) (folder : List ℕ) (versions : List Parts)
     (rows : List PlanRecord) (all : List P) (at : ℕ) (left : List P) (old now : Option Held) : Type 0 where
   pub made : MakesRows From folder versions (zip (named (take at rows)) all) old now

@@ -9,7 +9,8 @@ abbrev pub count_parts : List ℕ → List ℕ → List ℕ → List (List ℕ) 
 count_parts word instances bytes behind =
     concat (word ∷ instances ∷ codes " instances, " ∷ bytes ∷ behind) ++ 10 ∷ []
 
--- the last line of a command that has written a file-set of so many instances, whose directory has so many bytes
+-- the last line of a command that has written a file-set with this number of instances, whose directory has this
+-- number of bytes
 abbrev pub done_text : ℕ → ℕ → List ℕ
 done_text instances bytes = count_parts (codes "DONE ") (decimal instances) (decimal bytes) (codes " bytes" ∷ [])
 
@@ -17,7 +18,7 @@ done_text instances bytes = count_parts (codes "DONE ") (decimal instances) (dec
 abbrev pub plan_text : ℕ → ℕ → List ℕ
 plan_text instances bytes = count_parts (codes "PLAN ") (decimal instances) (decimal bytes) (codes " bytes" ∷ [])
 
--- the same, where the images have so many bytes
+-- the same, with the number of bytes of the images
 abbrev pub images_text : ℕ → ℕ → ℕ → List ℕ
 images_text instances bytes images = count_parts (codes "PLAN ") (decimal instances) (decimal bytes)
     (codes " bytes, " ∷ decimal images ∷ codes " bytes of images" ∷ [])

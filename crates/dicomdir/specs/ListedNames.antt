@@ -3,6 +3,8 @@ use Rattle.std.specs.Prelude.{◌≡◌, ◌≢◌, ◌≤◌, ◌-◌, ◌⊎�
 use Rattle.std.specs.Prelude.{All, Contains, length, max, slice_index_or}
 use Rattle.std.specs.List.{AllWithin, flat_map, onto_first}
 use Rattle.std.specs.Str.{IsUtf8}
+use Rattle.std.specs.Prelude.{String, ◌×◌}
+use Rattle.dd_line.specs.Line.{words_of}
 
 -- the parts of a list: a zero byte ends each, and the end of the list ends a last one without it
 abbrev pub parts : List ℕ → List (List ℕ)
@@ -31,3 +33,7 @@ pub record FailsAt (parts : List (List ℕ)) (number : ℕ) : Type 0 where
   pub within : number ≤ max 1 (length parts)
   pub before : AllWithin IsName parts 0 (number - 1)
   pub fails : ¬ IsName (slice_index_or parts (number - 1) [])
+
+-- the paths are the given ones, and behind them the names of a list, in their order
+abbrev pub AreWithListed : {Z : Type 0} → List (String Z) → List (String Z) → Type 0
+AreWithListed given all = (list : List ℕ) × (words_of all ≡ words_of given ++ parts list)

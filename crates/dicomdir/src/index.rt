@@ -65,7 +65,7 @@ pub(crate) fn run_index<F: Files, O: Write>(
 fn tell_noted<O: Write>(noted: &NotedIndex, sources: &[String], out: &mut O) -> fmt::Result
     requires within { IsWithin (length sources.now) noted.now.indexed }
     requires below { AreBelow (λ at. at) (length sources.now) noted.now.notes.left_out.items }
-    ensures told { IsOk result → O.failures out.new ≡ O.failures out.old }
+    ensures worked { IsOk result → O.failures out.new ≡ O.failures out.old }
     ensures failed { IsErr result → HasFailed (O.failures out.old) (O.failures out.new) }
 {
     tell_skipped(&noted.indexed.skipped, sources, out)?;

@@ -137,7 +137,7 @@ fn write_noted<'a, F: Files, O: Write>(
 /// did.
 fn tell_noted<O: Write>(notes: &Notes<Pick<'_>>, folders: &[String], out: &mut O) -> fmt::Result
     requires { AreBelow (λ pick. pick.set) (length folders.now) notes.now.left_out.items }
-    ensures told { IsOk result → O.failures out.new ≡ O.failures out.old }
+    ensures worked { IsOk result → O.failures out.new ≡ O.failures out.old }
     ensures failed { IsErr result → HasFailed (O.failures out.old) (O.failures out.new) }
 {
     tell_picks_left_out(&notes.left_out, folders, out)?;

@@ -24,7 +24,7 @@ pub(crate) fn tell_skipped<O: Write>(
     out: &mut O,
 ) -> fmt::Result
     requires { All (λ skip. skip.0 < length sources.now) skipped.now }
-    ensures told { IsOk result → O.failures out.new ≡ O.failures out.old }
+    ensures worked { IsOk result → O.failures out.new ≡ O.failures out.old }
     ensures failed { IsErr result → HasFailed (O.failures out.old) (O.failures out.new) }
 {
     for (at, fault) in skipped {
@@ -42,7 +42,7 @@ pub(crate) fn tell_sources_left_out<O: Write>(
     out: &mut O,
 ) -> fmt::Result
     requires { AreBelow (λ at. at) (length sources.now) left_out.now }
-    ensures told { IsOk result → O.failures out.new ≡ O.failures out.old }
+    ensures worked { IsOk result → O.failures out.new ≡ O.failures out.old }
     ensures failed { IsErr result → HasFailed (O.failures out.old) (O.failures out.new) }
 {
     for note in left_out {
@@ -61,7 +61,7 @@ pub(crate) fn tell_picks_left_out<O: Write>(
     out: &mut O,
 ) -> fmt::Result
     requires { AreBelow (λ pick. pick.set) (length folders.now) left_out.now }
-    ensures told { IsOk result → O.failures out.new ≡ O.failures out.old }
+    ensures worked { IsOk result → O.failures out.new ≡ O.failures out.old }
     ensures failed { IsErr result → HasFailed (O.failures out.old) (O.failures out.new) }
 {
     for note in left_out {
@@ -79,7 +79,7 @@ fn tell_left_out<O: Write>(
     instance: &Uid,
     out: &mut O,
 ) -> fmt::Result
-    ensures told { IsOk result → O.failures out.new ≡ O.failures out.old }
+    ensures worked { IsOk result → O.failures out.new ≡ O.failures out.old }
     ensures failed { IsErr result → HasFailed (O.failures out.old) (O.failures out.new) }
 {
     let (one, other) = (file.inside, kept.inside);
@@ -99,7 +99,7 @@ fn print_left_out<O: Write>(
     uid: &str,
     out: &mut O,
 ) -> fmt::Result
-    ensures told { IsOk result → O.failures out.new ≡ O.failures out.old }
+    ensures worked { IsOk result → O.failures out.new ≡ O.failures out.old }
     ensures failed { IsErr result → HasFailed (O.failures out.old) (O.failures out.new) }
 {
     let (folder, joint, inside) = file;
@@ -124,7 +124,7 @@ fn print_left_out<O: Write>(
 
 /// Tells the Patient IDs that have more than one name. It fails only where the output did.
 pub(crate) fn tell_names<O: Write>(patients: &[PatientNames], out: &mut O) -> fmt::Result
-    ensures told { IsOk result → O.failures out.new ≡ O.failures out.old }
+    ensures worked { IsOk result → O.failures out.new ≡ O.failures out.old }
     ensures failed { IsErr result → HasFailed (O.failures out.old) (O.failures out.new) }
 {
     for patient in patients {
@@ -135,7 +135,7 @@ pub(crate) fn tell_names<O: Write>(patients: &[PatientNames], out: &mut O) -> fm
 
 /// Tells the names of a patient, ten of them at most.
 fn tell_names_of<O: Write>(patient: &PatientNames, out: &mut O) -> fmt::Result
-    ensures told { IsOk result → O.failures out.new ≡ O.failures out.old }
+    ensures worked { IsOk result → O.failures out.new ≡ O.failures out.old }
     ensures failed { IsErr result → HasFailed (O.failures out.old) (O.failures out.new) }
 {
     let names = patient.names();
@@ -144,9 +144,9 @@ fn tell_names_of<O: Write>(patient: &PatientNames, out: &mut O) -> fmt::Result
     print_names(patient.id().as_bytes(), count.as_bytes(), names, out)
 }
 
-/// Prints the line of a Patient ID with so many names.
+/// Prints the line of a Patient ID with this number of names.
 fn print_names<O: Write>(id: &[u8], count: &[u8], names: &[Key], out: &mut O) -> fmt::Result
-    ensures told { IsOk result → O.failures out.new ≡ O.failures out.old }
+    ensures worked { IsOk result → O.failures out.new ≡ O.failures out.old }
     ensures failed { IsErr result → HasFailed (O.failures out.old) (O.failures out.new) }
 {
     show_line(
@@ -210,7 +210,7 @@ fn mark_behind(names: &[Key]) -> &[u8] {
     if names.len() > 10 { b", .." } else { b"" }
 }
 
-/// Tells where the two instances come from that a plan is refused for. Where the output fails, nothing more is told.
+/// Tells where the two instances come from that a plan is refused for. Where the output fails, nothing more is printed.
 pub(crate) fn tell_clash<O: Write>(
     (one, uid): (ShownPath<'_>, &Uid),
     (other, other_uid): (ShownPath<'_>, &Uid),
@@ -246,7 +246,7 @@ pub(crate) fn has_notes<T>(notes: &Notes<T>) -> bool
     !notes.left_out.is_empty() || !notes.names.is_empty()
 }
 
-/// Refuses a run with `--strict` where something was told of its sources: a line SKIP or NOTE.
+/// Refuses a run with `--strict` where a line SKIP or NOTE was printed of its sources.
 pub(crate) fn refuse_noted(strict: bool, is_noted: bool) -> Result<(), Refusal>
     ensures refuses { IsErr result ↔ (strict ≡ true) × (is_noted ≡ true) }
     ensures fault { IfErr result IsStrict }

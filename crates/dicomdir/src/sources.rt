@@ -1,5 +1,7 @@
 //! The paths that a command reads: those of its line, and behind them those of its list of names.
-ghost use Rattle.std.specs.Prelude.{◌≡◌, ◌≤◌, ℕ, IfErr, IfOk, IfSome, length};
+ghost use Rattle.std.specs.Prelude.{◌≡◌, ◌≤◌, ◌++◌, ℕ, None, IfErr, IfOk, IfSome, length};
+ghost use Rattle.dd_line.specs.Line.{words_of};
+ghost use Rattle.dicomdir.specs.ListedNames.{AreWithListed, parts};
 ghost use Rattle.dicomdir.specs.Refusal.{IsOfWork};
 
 use crate::file_set::refuse_taken;
@@ -21,7 +23,9 @@ pub(crate) fn all_sources<F: Files>(
     files: &mut F,
 ) -> Result<Option<Vec<String>>, Refusal>
     ensures refusal { (paths : ℕ) → IfErr result (IsOfWork paths) }
-    ensures all { IfOk result (λ listed. IfSome listed (λ all. length given.now ≤ length all.items)) }
+    ensures none { asked.now.files0_from ≡ None → IfOk result (λ listed. listed ≡ None) }
+    ensures all { IfOk result (λ listed. IfSome listed (λ all. AreWithListed given.now all.items)) }
+    ensures least { IfOk result (λ listed. IfSome listed (λ all. length given.now ≤ length all.items)) }
     ensures kept { F.held files.new ≡ F.held files.old }
 {
     match asked.verb {
@@ -58,36 +62,29 @@ fn list_bytes<F: Files>(alloc: Global, path: &str, files: &mut F) -> Result<Vec<
 /// Lists the given paths, and behind them the names of a list.
 fn with_listed(alloc: Global, given: &[String], list: &[u8]) -> Result<Vec<String>, Refusal>
     ensures refusal { (paths : ℕ) → IfErr result (IsOfWork paths) }
-    ensures all { IfOk result (λ all. length given.now ≤ length all.items) }
+    ensures all { IfOk result (λ all. words_of all.items ≡ words_of given.now ++ parts list.now) }
+    ensures least { IfOk result (λ all. length given.now ≤ length all.items) }
 {
-    let listed = match names_in(alloc, list) {
+    let mut listed = match names_in(alloc, list) {
         Ok(listed) => listed,
         Err(NamesFault::Memory) => return Err(Refusal::memory()),
         Err(NamesFault::BadName(at)) => {
             return Err(Refusal::of(Subject::List, ProgramFault::BadName(at)));
         }
     };
-    let all = copies_of(alloc, given)?;
-    Ok(joined(all, listed)?)
+    let mut all = copies_of(alloc, given)?;
+    all.append(&mut listed)?;
+    Ok(all)
 }
 
 /// Copies these paths.
 fn copies_of(alloc: Global, paths: &[String]) -> Result<Vec<String>, Memory>
-    ensures { IfOk result (λ copies. length copies.items ≡ length paths.now) }
+    ensures same { IfOk result (λ copies. words_of copies.items ≡ words_of paths.now) }
+    ensures count { IfOk result (λ copies. length copies.items ≡ length paths.now) }
 {
     let mut copies = Vec::with_capacity(alloc, paths.len())?;
     for path in paths {
         copies.push(String::from_str(alloc, path.as_str())?)?;
     }
     Ok(copies)
-}
-
-/// Appends paths to others.
-fn joined(mut all: Vec<String>, more: Vec<String>) -> Result<Vec<String>, Memory>
-    ensures { IfOk result (λ joined. length all.items ≤ length joined.items) }
-{
-    for path in more {
-        all.push(path)?;
-    }
-    Ok(all)
 }
