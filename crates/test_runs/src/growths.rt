@@ -18,6 +18,7 @@ enum Call {
     FailRead,
     FolderFinishStore,
     Index,
+    Link,
     Member,
     Mistake,
     Names,
@@ -34,6 +35,7 @@ fn is_refused(alloc: Global, call: Call, chosen: u32) -> Result<bool, Fail> {
         Call::FailRead => fail_read_refused(alloc, chosen),
         Call::FolderFinishStore => folder_finish_store_refused(alloc, chosen),
         Call::Index => index_refused(alloc, chosen),
+        Call::Link => link_refused(alloc, chosen),
         Call::Mistake => mistake_refused(alloc, chosen),
         Call::Put => put_refused(alloc, chosen),
         Call::PutLater => put_later_refused(alloc, chosen),
@@ -198,6 +200,24 @@ fn create_refused(alloc: Global, chosen: u32) -> Result<bool, Fail> {
 #[test]
 fn growths_of_create(rt: HostRuntime) -> Result<(), Fail> {
     refuse_each(rt.alloc(), Call::Create)
+}
+
+fn link_refused(alloc: Global, chosen: u32) -> Result<bool, Fail> {
+    let mut files = disc(alloc)?;
+    refuse_growth(alloc, chosen)?;
+    let answer = files.link("", "a.dcm", "new.dcm");
+    let refused = was_refused(alloc, answer.is_err())?;
+    if refused {
+        require_files(alloc, &files, "")?;
+        files.link("", "a.dcm", "new.dcm")?;
+    }
+    require_files(alloc, &files, "new.dcm=a.dcm")?;
+    Ok(refused)
+}
+
+#[test]
+fn growths_of_link(rt: HostRuntime) -> Result<(), Fail> {
+    refuse_each(rt.alloc(), Call::Link)
 }
 
 fn write_refused(alloc: Global, chosen: u32) -> Result<bool, Fail> {

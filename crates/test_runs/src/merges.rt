@@ -81,6 +81,18 @@ d1=set: - - dicomdir merge o d1 --uid 2.25.0 --dry-run > 0 [PLAN 1 instances, 87
 d1/DICOMDIR=first: - - dicomdir merge --dry-run taken d1 --uid 2.25.0 > 0 [PLAN 1 instances, 876 bytes|] [] kept
 d1=set: - - dicomdir merge full d1 --dry-run > 1 [] [FAULT full/DICOMDIR: 94 Create|] kept
 d1=set: - - dicomdir merge o d1 --dry-run --max-bytes 875 > 1 [] [FAULT -: 43 TooLarge|] kept
+d1=set: - - dicomdir merge --link o d1 --uid 2.25.0 > 0 [DONE 1 instances, 876 bytes|] [] changed
+index d1 a.dcm; index d2 c.dcm: - - dicomdir merge o --link d1 d2 --uid 2.25.0 > \
+0 [NOTE d1/PT000001/ST000001/SE000001/IM000001: left out for d2/PT000001/ST000001/SE000001/IM000001: \
+same SOP Instance UID 1.2.3.4.5, other bytes|DONE 1 instances, 876 bytes|] [] changed
+d1=set: - - dicomdir merge taken d1 --link > 1 [] [FAULT taken/PT000001/ST000001/SE000001/IM000001: 94 Create|] kept
+d1/DICOMDIR=first: - - dicomdir merge --link o d1 > \
+1 [] [FAULT d1/PT000001/ST000001/SE000001/IM000001: 92 Absent|] kept
+d1=set d1/PT000001/ST000001/SE000001/IM000001=c.dcm: - - dicomdir merge --link o d1 --uid 2.25.0 > \
+0 [DONE 1 instances, 876 bytes|] [] changed
+d1=set d1/PT000001/ST000001/SE000001/IM000001=c.dcm; no links: - - dicomdir merge --link o d1 > \
+1 [] [FAULT d1/PT000001/ST000001/SE000001/IM000001: 97 Changed|] changed
+d1=set: - - dicomdir merge --link --dry-run o d1 --uid 2.25.0 > 0 [PLAN 1 instances, 876 bytes|] [] kept
 d1=set: - - dicomdir merge --strict --quiet o d1 --uid 2.25.0 > 0 [DONE 1 instances, 876 bytes|] [] changed
 d1=set d2=set: - - dicomdir merge o --files0-from sets --uid 2.25.0 > 0 [DONE 1 instances, 876 bytes|] [] changed
 d1=set: - - dicomdir merge o d1 --files0-from sets > 1 [] [FAULT d2/DICOMDIR: 92 Absent|] kept
@@ -117,6 +129,11 @@ index d1 a.dcm; index d2 d.dcm; index d3 c.dcm: merge o d1 d2 d3 > merge o d2 d3
 index d1 a.dcm; index d2 d.dcm; index d3 c.dcm: merge o d1 d2 d3 > merge o d3 d1 d2
 index d1 a.dcm; index d2 d.dcm; index d3 c.dcm: merge o d1 d2 d3 > merge o d3 d2 d1
 d1=set d2=set d2/DICOMDIR=first,402,'P0: merge o d2 d1 --uid 2.25.0 > o=set
+d1=set: merge --link o d1 d1 --uid 2.25.0 > o=set
+d1=set; no links: merge --link o d1 d1 --uid 2.25.0 > o=set
+index d1 a.dcm; index d2 c.dcm; index d3 e.dcm: merge --link o d1 d2 d3 > index o a.dcm c.dcm e.dcm
+d1=set d1/PT000001/ST000001/SE000001/IM000001=c.dcm: merge --link o d1 --uid 2.25.0 > \
+o/DICOMDIR=first o/PT000001/ST000001/SE000001/IM000001=c.dcm
 d1=set d2/DICOMDIR=first,402,'P9: merge o d1 d2 > o/PT000001/ST000001/SE000001/IM000001=a.dcm
 d1=set d2/DICOMDIR=first,772,'6: merge o d1 d2 > o/PT000001/ST000001/SE000001/IM000001=a.dcm
 d1=set d1/PT000001/ST000001/SE000001/IM000001=c.dcm: merge o d1 > \

@@ -146,6 +146,8 @@ const TEXTS: &str = "\
 - - dicomdir withdraw out full > 2 to the error output
 - - dicomdir merge out full --max-bytes 4294967296 > 2 to the error output
 - - dicomdir withdraw --files0-from two out full 1.2 > 2 to the error output
+- - dicomdir withdraw --link out full 1.2 > 2 to the error output
+- - dicomdir index --link out a.dcm > 2 to the error output
 - - dicomdir check --dry-run full > 2 to the error output
 - - dicomdir check > 2 to the error output
 - - dicomdir list full full > 2 to the error output

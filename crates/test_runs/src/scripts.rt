@@ -18,8 +18,12 @@ fn disc_after(alloc: Global, steps: &str) -> Result<MemFiles, Fail> {
 /// How the lines begin that steps run.
 const RUNS: [&str; 3] = ["index ", "merge ", "withdraw "];
 
-/// Runs a line, which must be done, or puts files.
+/// Runs a line, which must be done, has second names refused, or puts files.
 fn take_step(alloc: Global, step: &str, files: &mut MemFiles) -> Result<(), Fail> {
+    if step == "no links" {
+        files.refuse_links();
+        return Ok(());
+    }
     if !RUNS.iter().any(|run| step.starts_with(run)) {
         return put_files(alloc, files, step);
     }
