@@ -43,7 +43,7 @@ abbrev pub named_in : Text → List Rule → List Rule
 named_in name [] = []
 named_in name (a ∷ rest) = if bytes_eq a.id name then a ∷ named_in name rest else named_in name rest
 
--- what holds of each rule of another name, and of those of this name, holds of each
+-- P holds of each rule where it holds of the rules with this name and of the rules with another name
 pub each_named : (P : Rule → Type 0) (name : Text) (rules : List Rule)
     → ((a : Rule) → bytes_eq a.id name ≡ false → P a) → Each P (named_in name rules) → Each P rules
 each_named P name [] other own = tt
@@ -66,7 +66,7 @@ at_row_each P id change missing (r ∷ rows) changed more all =
     go true t rest = rw t (each_join P (change r) rows (changed r all.0 t) all.1)
     go false t rest = rw t (all.0, rest)
 
--- where it has none a use adds one
+-- where no row has the id, the missing rows are added at the end
 pub at_row_absent : (id : Text) (change : Row → List Row) (missing rows : List Row) → has_row id rows ≡ false
     → at_row id change missing rows ≡ rows ++ missing
 at_row_absent id change missing [] none = refl

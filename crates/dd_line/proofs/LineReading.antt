@@ -86,6 +86,7 @@ list_flags = record {
   dry_run = lacks_flag (codes "dry-run") _ listing.rules refl;
   quiet = lacks_flag (codes "quiet") _ listing.rules refl;
   long = has_flag (codes "long") _ listing.rules refl (λ other. other refl);
+  link = lacks_flag (codes "link") _ listing.rules refl;
 }
 
 pub list_serves : Serves listing
@@ -117,6 +118,7 @@ check_flags = record {
   dry_run = lacks_flag (codes "dry-run") _ checking.rules refl;
   quiet = has_flag (codes "quiet") _ checking.rules refl (λ lists. cc);
   long = lacks_flag (codes "long") _ checking.rules refl;
+  link = lacks_flag (codes "link") _ checking.rules refl;
 }
 
 pub check_serves : Serves checking

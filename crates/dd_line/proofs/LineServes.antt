@@ -12,7 +12,7 @@ use Rattle.clap.specs.Walk.{Row, Rule, Text, answers_to, first_of, nothing_held,
 use Rattle.dd_line.specs.Line.{GivesInstances, GivesOneSet, NamesCommand, OnlyReads, TakesSources, given_for}
 use Rattle.dd_line.specs.Line.{given_paths, least_paths, verb_name}
 use Rattle.dd_line.specs.declared.line.Verb.{Verb}
-use Rattle.dd_line.specs.declared.line.Verb.TheVariants.{Withdraw, Check, List as ListSet}
+use Rattle.dd_line.specs.declared.line.Verb.TheVariants.{Merge, Withdraw, Check, List as ListSet}
 use Rattle.dd_line.proofs.LineEach.{Each, each_found, named_in}
 use Rattle.dd_line.proofs.LineFlag.{TakesFlag, flag_said}
 use Rattle.dd_line.proofs.LineHelp.{NotHelp}
@@ -66,6 +66,7 @@ pub record TakesFlags (verb : Verb) (rules : List Rule) : Type 0 where
   pub dry_run : TakesFlag (codes "dry-run") (OnlyReads verb) rules
   pub quiet : TakesFlag (codes "quiet") (verb ≡ ListSet) rules
   pub long : TakesFlag (codes "long") (verb ≢ ListSet) rules
+  pub link : TakesFlag (codes "link") (verb ≢ Merge) rules
 
 -- it is given the paths that it needs, and images only where it withdraws them
 pub record GivesWords (verb : Verb) (given : List Row) : Type 0 where
@@ -92,12 +93,20 @@ verb_serves verb s is name met other words none =
     let dry_run = flag_said _ _ s words is.once none flags.dry_run in
     let quiet = flag_said _ _ s words is.once none flags.quiet in
     let long = flag_said _ _ s words is.once none flags.long in
+    let link = flag_said _ _ s words is.once none flags.link in
     let named = is.named in (
       verb,
       rows_after s.rules [] words,
       rw named refl,
       level_limit s words is.limits is.once none,
-      record { keys = keys.0; strict = strict.0; dry_run = dry_run.0; quiet = quiet.0; long = long.0 },
+      record {
+        keys = keys.0;
+        strict = strict.0;
+        dry_run = dry_run.0;
+        quiet = quiet.0;
+        long = long.0;
+        link = link.0;
+      },
       record {
         paths = given.paths;
         set = given.set;
@@ -110,6 +119,7 @@ verb_serves verb s is name met other words none =
         dry_run = dry_run.1;
         quiet = quiet.1;
         long = long.1;
+        link = link.1;
       },
     )
 

@@ -80,6 +80,7 @@ index_flags = record {
   dry_run = has_flag (codes "dry-run") _ indexing.rules refl (λ reads. reads);
   quiet = has_flag (codes "quiet") _ indexing.rules refl (λ lists. cc);
   long = lacks_flag (codes "long") _ indexing.rules refl;
+  link = lacks_flag (codes "link") _ indexing.rules refl;
 }
 
 index_writes : Writes Index indexing
@@ -105,6 +106,7 @@ merge_flags = record {
   dry_run = has_flag (codes "dry-run") _ merging.rules refl (λ reads. reads);
   quiet = has_flag (codes "quiet") _ merging.rules refl (λ lists. cc);
   long = lacks_flag (codes "long") _ merging.rules refl;
+  link = has_flag (codes "link") _ merging.rules refl (λ other. other refl);
 }
 
 merge_writes : Writes Merge merging
@@ -132,6 +134,7 @@ withdraw_flags = record {
   dry_run = has_flag (codes "dry-run") _ withdrawing.rules refl (λ reads. reads);
   quiet = has_flag (codes "quiet") _ withdrawing.rules refl (λ lists. cc);
   long = lacks_flag (codes "long") _ withdrawing.rules refl;
+  link = lacks_flag (codes "link") _ withdrawing.rules refl;
 }
 
 withdraw_writes : Writes Withdraw withdrawing

@@ -1,7 +1,7 @@
 -- The command line: which commands and arguments the program has, and what a line asks for.
 --
 --   dicomdir index [OPTIONS] [--files0-from FILE] OUT SRC...
---   dicomdir merge [OPTIONS] [--files0-from FILE] OUT SET...
+--   dicomdir merge [OPTIONS] [--files0-from FILE] [--link] OUT SET...
 --   dicomdir withdraw [OPTIONS] OUT SET UID...
 --   dicomdir check [--keys] [--quiet] SET
 --   dicomdir list [--long] SET
@@ -61,6 +61,9 @@ quiet_name = codes "quiet"
 
 abbrev pub long_name : Text
 long_name = codes "long"
+
+abbrev pub link_name : Text
+link_name = codes "link"
 
 -- the names of the paths
 abbrev pub out_name : Text
@@ -134,10 +137,12 @@ abbrev pub index_app : App
 index_app =
     with_rule (with_rule (writing_app (verb_name Index)) (text_option files0_from_name)) (any_paths source_name)
 
--- `merge`, with those options, and `[--files0-from FILE] OUT [SET]...`
+-- `merge`, with those options, and `[--files0-from FILE] [--link] OUT [SET]...`
 abbrev pub merge_app : App
-merge_app =
-    with_rule (with_rule (writing_app (verb_name Merge)) (text_option files0_from_name)) (any_paths set_name)
+merge_app = with_rule (with_rule (with_rule (writing_app (verb_name Merge))
+    (text_option files0_from_name))
+    (flag link_name))
+    (any_paths set_name)
 
 -- `withdraw`, with the options of a command that writes, and `OUT SET UID...`
 abbrev pub withdraw_app : App
@@ -184,7 +189,7 @@ words_of words = map (λ word. string_bytes word) words
 abbrev pub given_for : Text → List Row → List Text
 given_for name given = unwrap_or (all_of name given) []
 
--- the paths that a command was given: the folder that it writes to, and then those that it reads
+-- the paths that a command was given: the folder that it writes to, and then the paths that it reads
 abbrev pub given_paths : List Row → List Text
 given_paths given = given_for out_name given
     ++ (given_for source_name given ++ given_for set_name given)
@@ -233,6 +238,7 @@ pub record Asks (a : Asked) (command : Text) (given : List Row) : Type 0 where
   pub dry_run : a.dry_run ≡ is_given dry_run_name given
   pub quiet : a.quiet ≡ is_given quiet_name given
   pub long : a.long ≡ is_given long_name given
+  pub link : a.link ≡ is_given link_name given
   pub files0_from : option_map string_bytes a.files0_from ≡ first_of files0_from_name given
 
 -- the path of one file-set, no ID, no UID, and the limit that stands where none is given
@@ -282,6 +288,7 @@ pub record HasFlags (given : List Row) : Type 0 where
   pub dry_run : HasFlag dry_run_name given
   pub quiet : HasFlag quiet_name given
   pub long : HasFlag long_name given
+  pub link : HasFlag link_name given
 
 -- the path of one file-set was given, and no option with a value
 pub record GivesOneSet (given : List Row) : Type 0 where
@@ -307,6 +314,7 @@ pub record IsEnoughFor (verb : Verb) (given : List Row) : Type 0 where
   pub dry_run : OnlyReads verb → is_given dry_run_name given ≡ false
   pub quiet : verb ≡ ListSet → is_given quiet_name given ≡ false
   pub long : verb ≢ ListSet → is_given long_name given ≡ false
+  pub link : verb ≢ Merge → is_given link_name given ≡ false
   pub files0_from : ¬ TakesSources verb → first_of files0_from_name given ≡ None
   pub out : TakesSources verb → length (given_for out_name given) ≡ 1
 

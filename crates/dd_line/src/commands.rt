@@ -34,6 +34,8 @@ pub(crate) const QUIET: &str = "quiet";
 
 pub(crate) const LONG: &str = "long";
 
+pub(crate) const LINK: &str = "link";
+
 // The names of the paths.
 pub(crate) const OUT: &str = "out";
 
@@ -173,12 +175,15 @@ fn merge_command<'a>(alloc: Global) -> Result<Command<'a>, AllocError>
 {
     let about = "Makes a file-set of others: copies their images, writes its DICOMDIR";
     let command = writing(alloc, "merge", about)?.after_help(endings::MERGE);
-    command.arg(files0_from(alloc))?.arg(any_paths(
-        alloc,
-        SET,
-        "SET",
-        "Folders with a DICOMDIR of this program each; they are only read",
-    ))
+    command
+        .arg(files0_from(alloc))?
+        .arg(flag(alloc, LINK, "Gives images second names in place of copies"))?
+        .arg(any_paths(
+            alloc,
+            SET,
+            "SET",
+            "Folders with a DICOMDIR of this program each; they are only read",
+        ))
 }
 
 /// Makes the command `withdraw`.

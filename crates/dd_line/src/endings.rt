@@ -67,6 +67,11 @@ Lines of the output:
 
 Each image is compared with its record while it is copied. The order of the
 file-sets does not matter. Run 'dicomdir check' on each of them first.
+With --link an image is not copied: its file in SET gets a second name in OUT,
+and is not read or compared with its record. Use it only for file-sets that you
+have just made yourself. Whoever changes the file by one name changes it under
+both. Where the system gives no second name, as on another file system, the
+file is copied and compared.
 --files0-from FILE adds the names that FILE holds, each ended by a zero byte.
 Where FILE is -, they are read from the standard input.
 
@@ -109,8 +114,8 @@ pub(crate) const LIST: &str = "\
 Each line has the offset of a record, its type, and what it is known by: its
 Patient ID, Study or Series Instance UID, or File ID. It is indented by level,
 and ends in 'inactive' where the record is not in use. WITHDRAWN lines name the
-instances that no merge brings back. The last line counts the records, and
-those that no offset leads to.
+instances that no merge brings back. The last line counts the records that the
+offsets lead to, and the records that no offset leads to.
 
 With --long the first line is FILE-SET <id> <uid>, and these values stand
 behind ' | ': the patient's name; the date, time and description of a study;

@@ -11,8 +11,8 @@ ghost use Rattle.dd_line.specs.Line.{dicomdir_app, given_for, given_paths, insta
 ghost use Rattle.dd_line.specs.Line.{max_bytes_name, verb_name, words_of};
 
 use crate::commands::{
-    DRY_RUN, FILES0_FROM, ID, INSTANCE, KEYS, LONG, MAX_BYTES, OUT, QUIET, SET, SOURCE, STRICT,
-    UID, no_source, program,
+    DRY_RUN, FILES0_FROM, ID, INSTANCE, KEYS, LINK, LONG, MAX_BYTES, OUT, QUIET, SET, SOURCE,
+    STRICT, UID, no_source, program,
 };
 use clap::ArgMatches;
 use clap::error::ErrorKind;
@@ -25,8 +25,8 @@ pub enum Verb {
     /// Makes a file-set of files, with copies of them and its directory: `index OUT SRC...`, where
     /// `--files0-from FILE` may stand for SRC, or add to it.
     Index,
-    /// Makes a file-set of other file-sets likewise: `merge OUT SET...`, where `--files0-from FILE` may stand for SET,
-    /// or add to it.
+    /// Makes a file-set of other file-sets likewise: `merge [--link] OUT SET...`, where `--files0-from FILE` may stand
+    /// for SET, or add to it.
     Merge,
     /// Makes such a file-set of one file-set without some of its images, for good: `withdraw OUT SET UID...`.
     Withdraw,
@@ -49,7 +49,7 @@ pub struct Asked {
     pub uid: Option<String>,
     /// The most bytes that the directory may have: 4294967295 where the line does not say.
     pub max_bytes: u32,
-    /// The paths of the line: the folder that the command writes to, if it does, then those that it reads,
+    /// The paths of the line: the folder that the command writes to, if it does, then the paths that it reads,
     /// in their order.
     pub paths: Vec<String>,
     /// The SOP Instance UIDs of the line, as it spells them, in their order: none but for `withdraw`.
@@ -63,11 +63,13 @@ pub struct Asked {
     /// Whether the command says what it would make, and makes nothing: `--dry-run` of a command that writes.
     /// False for `check` and `list`.
     pub dry_run: bool,
-    /// Whether the command prints nothing where all is well: `--quiet`. False for `list`.
+    /// Whether the command shows no progress: `--quiet`. False for `list`.
     pub quiet: bool,
     /// Whether `list` also prints the names, dates, times, modalities and numbers of the records: `list --long`.
     /// False for every other command.
     pub long: bool,
+    /// Whether `merge` gives images second names in place of copies: `merge --link`. False for every other command.
+    pub link: bool,
     /// The file that holds names of more sources, each ended by a zero byte: `--files0-from FILE`. `None` where the
     /// line has none, and for every command but `index` and `merge`.
     pub files0_from: Option<String>,
@@ -151,7 +153,7 @@ fn append_values(
     Ok(())
 }
 
-/// Lists the paths: the folder that is written to, if any, and then those that are read.
+/// Lists the paths: the folder that is written to, if any, and then the paths that are read.
 fn paths_of(alloc: Global, given: &ArgMatches<'_>) -> Result<Vec<String>, AllocError>
     ensures { IfOk result (λ paths. words_of paths.items ≡ given_paths (rows_of (found_of given.now))) }
 {
@@ -186,6 +188,7 @@ fn asked_by(alloc: Global, verb: Verb, given: &ArgMatches<'_>) -> Result<Asked, 
     ensures dry { IfOk result (λ asked. OnlyReads asked.verb → asked.dry_run ≡ false) }
     ensures quiet { IfOk result (λ asked. asked.verb ≡ Verb.List → asked.quiet ≡ false) }
     ensures long { IfOk result (λ asked. asked.verb ≢ Verb.List → asked.long ≡ false) }
+    ensures link { IfOk result (λ asked. asked.verb ≢ Verb.Merge → asked.link ≡ false) }
     ensures files { IfOk result (λ asked. ¬ TakesSources asked.verb → asked.files0_from ≡ None) }
 {
     Ok(Asked {
@@ -200,6 +203,7 @@ fn asked_by(alloc: Global, verb: Verb, given: &ArgMatches<'_>) -> Result<Asked, 
         dry_run: flag_of(given, DRY_RUN),
         quiet: flag_of(given, QUIET),
         long: flag_of(given, LONG),
+        link: flag_of(given, LINK),
         files0_from: value_of(alloc, given, FILES0_FROM)?,
     })
 }
@@ -217,6 +221,7 @@ fn asked_of(alloc: Global, found: &ArgMatches<'_>) -> Result<Asked, AllocError>
     ensures dry { IfOk result (λ asked. OnlyReads asked.verb → asked.dry_run ≡ false) }
     ensures quiet { IfOk result (λ asked. asked.verb ≡ Verb.List → asked.quiet ≡ false) }
     ensures long { IfOk result (λ asked. asked.verb ≢ Verb.List → asked.long ≡ false) }
+    ensures link { IfOk result (λ asked. asked.verb ≢ Verb.Merge → asked.link ≡ false) }
     ensures files { IfOk result (λ asked. ¬ TakesSources asked.verb → asked.files0_from ≡ None) }
 {
     match found.subcommand() {
@@ -279,6 +284,7 @@ pub fn read_words(alloc: Global, words: &[String]) -> Result<Asked, LineFault>
     ensures dry { IfOk result (λ asked. OnlyReads asked.verb → asked.dry_run ≡ false) }
     ensures quiet { IfOk result (λ asked. asked.verb ≡ Verb.List → asked.quiet ≡ false) }
     ensures long { IfOk result (λ asked. asked.verb ≢ Verb.List → asked.long ≡ false) }
+    ensures link { IfOk result (λ asked. asked.verb ≢ Verb.Merge → asked.link ≡ false) }
     ensures files { IfOk result (λ asked. ¬ TakesSources asked.verb → asked.files0_from ≡ None) }
     ensures sources { IfOk result (λ asked.
         TakesSources asked.verb → asked.files0_from ≡ None → 2 ≤ length asked.paths.items) }
