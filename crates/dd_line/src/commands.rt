@@ -182,7 +182,7 @@ fn merge_command<'a>(alloc: Global) -> Result<Command<'a>, AllocError>
             alloc,
             SET,
             "SET",
-            "Folders with a DICOMDIR of this program each; they are only read",
+            "Folders with a DICOMDIR of this program each; they are not changed",
         ))
 }
 
@@ -197,7 +197,7 @@ fn withdraw_command<'a>(alloc: Global) -> Result<Command<'a>, AllocError>
             alloc,
             SET,
             "SET",
-            "Folder with a DICOMDIR of this program; it is only read",
+            "Folder with a DICOMDIR of this program; it is not changed",
         ))?
         .arg(paths(
             alloc,

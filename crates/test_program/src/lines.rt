@@ -38,6 +38,9 @@ dicomdir index --dry-run set --quiet image.dcm > Index - - 4294967295 set image.
 dicomdir merge set a > Merge - - 4294967295 set a
 dicomdir merge set --files0-from list > Merge - - 4294967295 set from list
 dicomdir merge --strict --dry-run set a --quiet > Merge - - 4294967295 set a with strict with dry-run with quiet
+dicomdir merge --link set a b > Merge - - 4294967295 set a b with link
+dicomdir merge set --files0-from list --link > Merge - - 4294967295 set from list with link
+dicomdir merge set -- --link > Merge - - 4294967295 set --link
 dicomdir merge --id DISC1 set b a b --uid 2.25.1 > Merge DISC1 2.25.1 4294967295 set b a b
 dicomdir merge --max-bytes 7 set check > Merge - - 7 set check
 dicomdir withdraw set old 1.2.840 > Withdraw - - 4294967295 set old without 1.2.840
@@ -95,6 +98,12 @@ dicomdir list --strict a > 2 true
 dicomdir merge > 2 true
 dicomdir merge out > 2 true
 dicomdir merge --max-bytes 4294967296 out set > 2 true
+dicomdir merge --link out > 2 true
+dicomdir merge --link --link out set > 2 true
+dicomdir index --link out a.dcm > 2 true
+dicomdir withdraw --link out set 1.2 > 2 true
+dicomdir check --link a > 2 true
+dicomdir list --link a > 2 true
 dicomdir withdraw > 2 true
 dicomdir withdraw out > 2 true
 dicomdir withdraw out set > 2 true
@@ -175,7 +184,8 @@ fn push_flags(text: &mut String, asked: &Asked) -> Result<(), Fail> {
     push_flag(text, asked.strict, " with strict")?;
     push_flag(text, asked.dry_run, " with dry-run")?;
     push_flag(text, asked.quiet, " with quiet")?;
-    push_flag(text, asked.long, " with long")
+    push_flag(text, asked.long, " with long")?;
+    push_flag(text, asked.link, " with link")
 }
 
 /// Appends the words of a flag that is set.
