@@ -1,5 +1,5 @@
 -- What waits to be stored.
-use Rattle.std.specs.Prelude.{◌≡◌, ℕ, List, [], ◌∷◌, ◌++◌, Option, None, String, string_bytes}
+use Rattle.std.specs.Prelude.{◌≡◌, ◌⊎◌, ℕ, List, [], ◌∷◌, ◌++◌, Option, None, String, string_bytes}
 use Rattle.std.specs.declared.alloc.Global.{Global}
 use Rattle.dicomdir_host.specs.Folders.{IsFolderOf}
 
@@ -12,3 +12,7 @@ pub record IsStored {F : Type 0} {P : Type 0} (files : List F) (folders : List P
 -- to the folders whose names wait comes the one that the path stands in
 abbrev pub Names : List ℕ → List (String Global) → List (String Global) → Type 0
 Names path old new = (folder : String Global) × IsFolderOf path (string_bytes folder) × (new ≡ old ++ folder ∷ [])
+
+-- behind the files that wait, or alone where these were stored, waits the one at this path
+abbrev pub Waits : List ℕ → List (List ℕ) → List (List ℕ) → Type 0
+Waits path old new = (new ≡ old ++ path ∷ []) ⊎ (new ≡ path ∷ [])

@@ -1,4 +1,4 @@
-//! Looks at files and makes folders, again where a signal interrupts the call (EINTR).
+//! Looks at files, makes folders and gives second names, again where a signal interrupts the call (EINTR).
 
 use crate::counted::TRIES;
 use std::fs::{self, Metadata, OpenFile};
@@ -45,6 +45,21 @@ pub(crate) fn is_folder<R: fs::Files>(rt: &R, path: &str, links: Links) -> bool 
         Ok(found) => found.is_dir(),
         Err(_) => false,
     }
+}
+
+/// Gives the file at a path a second name. A name that stands there after an interrupted call counts as given.
+pub(crate) fn link_file<R: fs::Files>(rt: &R, original: &str, name: &str) -> io::Result<()> {
+    let mut is_interrupted = false;
+    for _ in 0..TRIES {
+        match fs::hard_link(rt, original, name) {
+            Err(error) if error.kind() == ErrorKind::Interrupted => is_interrupted = true,
+            Err(error) if is_interrupted && error.kind() == ErrorKind::AlreadyExists => {
+                return Ok(());
+            }
+            answer => return answer,
+        }
+    }
+    Err(io::Error::from(ErrorKind::Interrupted))
 }
 
 /// Makes a folder. One that stands there after an interrupted call counts as made.

@@ -6,7 +6,7 @@ use crate::host_files::HostFiles;
 use crate::opening::Input;
 use crate::system::System;
 use dd_elem::Write;
-use dd_files::{Files, NotDone, NotThere, Step};
+use dd_files::{Files, LinkFault, NotDone, NotThere, Step};
 use std::io;
 
 impl<R: System> Write for HostFiles<'_, R> {
@@ -81,6 +81,18 @@ impl<R: System> Files for HostFiles<'_, R> {
             return Ok(());
         }
         self.answer(false)
+    }
+
+    fn link(&mut self, set: &str, from: &str, path: &str) -> Result<(), LinkFault> {
+        let mut fault = LinkFault::Absent;
+        if self.refusals < u64::MAX {
+            match self.add_link(set, from, path) {
+                Ok(()) => return Ok(()),
+                Err(found) => fault = found,
+            }
+        }
+        self.refusals = self.refusals.saturating_add(1);
+        Err(fault)
     }
 
     fn finish(&mut self) -> Result<(), NotDone> {

@@ -1,5 +1,5 @@
 //! The files of the system.
-ghost use Rattle.std.specs.Prelude.{◌≡◌, ◌↔◌, ◌<◌, ◌++◌, ◌∷◌, [], None, Some, length, map, option_map};
+ghost use Rattle.std.specs.Prelude.{◌≡◌, ◌↔◌, ◌⊎◌, ◌<◌, ◌++◌, ◌∷◌, [], None, Some, length, map, option_map};
 ghost use Rattle.std.specs.Prelude.{IfSome, IsErr, IsOk, IsSome, IsTrue, string_bytes};
 ghost use Rattle.dd_elem.specs.Device.{HasWorked, counted, last_count};
 ghost use Rattle.dicomdir_host.specs.Directory.{IsDirectoryPath};
@@ -44,6 +44,11 @@ const NO_MORE: [i32; 2] = [24, 23];
 /// A file of a file-set is a source that is looked up in each spelling in which systems show a disc. No link
 /// is followed below the folder of a file-set, nor below the folder that is written to.
 ///
+/// A second name is given to a plain file that is found as a file of a file-set, by a hard link: not to a folder,
+/// and not to a symbolic link. The new name is opened, and is refused where it is not the file that was found. From
+/// then on it is a file that has ended: it stays open until it is stored, and its name is stored as that of a new
+/// file is.
+///
 /// A list of names may be a pipe or a device, too, and `-` stands for the standard input: to open it and to read
 /// it may wait.
 ///
@@ -52,17 +57,17 @@ const NO_MORE: [i32; 2] = [24, 23];
 /// terminal does not take counts nowhere.
 pub struct HostFiles<'a, R: System> {
     pub(crate) rt: &'a R,
-    alloc: Global,
+    pub(crate) alloc: Global,
     pub(crate) output: Counted<Output<R::File>>,
     // The path of the file that is being written.
     path: Option<String>,
     pub(crate) unstored: Unstored<R::File>,
     // Is all to be stored at the next call?
-    is_due: bool,
+    pub(crate) is_due: bool,
     // The folder that was made last, and how much of its path may lead over links.
     folder: String,
     out_len: usize,
-    members: Members,
+    pub(crate) members: Members,
     pub(crate) progress: Progress<R::Terminal>,
     pub(crate) refusals: u64,
 }
@@ -87,7 +92,7 @@ impl<R: System> Drop for HostFiles<'_, R> {
 }
 
 /// Is it the path of a directory: does its last name say DICOMDIR (PS3.10 section 8.6)?
-fn is_directory(path: &str) -> bool
+pub(crate) fn is_directory(path: &str) -> bool
     ensures { IsTrue result ↔ IsDirectoryPath path.now }
 {
     match path.as_bytes().strip_suffix(DIRECTORY.as_bytes()) {
@@ -138,10 +143,12 @@ impl<'a, R: System> HostFiles<'a, R> {
         Err(NotDone)
     }
 
-    // Says whether a call with this answer is to be made again: where it got no descriptor, the files that wait are
-    // stored and closed.
-    fn makes_room<T>(&mut self, answer: &io::Result<T>) -> bool
+    /// Says whether a call with this answer is to be made again: where it got no descriptor, the files that wait are
+    /// stored and closed.
+    pub(crate) fn makes_room<T>(&mut self, answer: &io::Result<T>) -> bool
         ensures none { self.old.unstored.files.items ≡ [] → self.new.unstored ≡ self.old.unstored }
+        ensures files { (self.new.unstored ≡ self.old.unstored) ⊎ (self.new.unstored.files.items ≡ []) }
+        ensures lost { IsSome self.old.unstored.lost → self.new.unstored.lost ≡ self.old.unstored.lost }
         ensures folders { self.new.unstored.folders ≡ self.old.unstored.folders }
         ensures same { self.new ≡ record self.old { unstored = self.new.unstored; progress = self.new.progress } }
     {

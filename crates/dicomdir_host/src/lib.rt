@@ -8,6 +8,7 @@ mod again;
 mod as_files;
 mod counted;
 mod host_files;
+mod linking;
 mod members;
 mod opening;
 mod output;

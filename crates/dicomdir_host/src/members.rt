@@ -1,4 +1,6 @@
 //! Looks up the files of file-sets by the names that systems show.
+ghost use Rattle.std.specs.Prelude.{IfOk};
+ghost use Rattle.std.specs.Fs.{IsSymlink, file_type};
 
 use crate::again::{Links, look};
 use crate::path_buffer::PathBuffer;
@@ -44,7 +46,9 @@ impl Members {
         rt: &R,
         set: &str,
         path: &str,
-    ) -> io::Result<Metadata> {
+    ) -> io::Result<Metadata>
+        ensures no_link { IfOk result (λ found. ¬ IsSymlink (file_type found)) }
+    {
         let (folder, name) = split_name(path);
         if self.set_len != set.len() || self.recorded.as_str() != folder {
             self.enter(rt, set, folder)?;
@@ -91,8 +95,11 @@ fn split_set<'a>(set: &str, path: &'a str) -> (&'a str, &'a str) {
     path.split_at_checked(above).unwrap_or((path, ""))
 }
 
-/// Looks up a name in the folder at this place, adds it there as it is shown, and answers what stands there.
-fn find_name<R: fs::Files>(rt: &R, name: &str, place: &mut PathBuffer) -> io::Result<Metadata> {
+/// Looks up a name in the folder at this place, adds it there as it is shown, and answers what stands there. A
+/// symbolic link counts as not there.
+fn find_name<R: fs::Files>(rt: &R, name: &str, place: &mut PathBuffer) -> io::Result<Metadata>
+    ensures no_link { IfOk result (λ found. ¬ IsSymlink (file_type found)) }
+{
     let folder_len = place.len();
     for spelling in spellings() {
         place.truncate(folder_len);

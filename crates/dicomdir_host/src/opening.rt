@@ -3,7 +3,7 @@ ghost use Rattle.std.specs.Io.{ReadsAtMost};
 
 use crate::again::look_at_open;
 use crate::system::System;
-use std::fs::{File, Metadata};
+use std::fs::{self, File, Metadata};
 use std::io::{self, Read};
 use std::os::unix::fs::MetadataExt;
 
@@ -43,15 +43,26 @@ pub(crate) fn open_seen<R: System>(
     if !seen.is_file() && !seen.is_dir() {
         return Err(io::Error::other("no file and no folder"));
     }
+    let (file, opened) = open_same(rt, path, seen)?;
+    if opened.is_file() && opened.len() == 0 {
+        return Ok(Input::Empty);
+    }
+    Ok(Input::File(file))
+}
+
+/// Opens the file or the folder at the path, and answers what it is. Refused where that is another one than was
+/// seen.
+pub(crate) fn open_same<R: fs::Files>(
+    rt: &R,
+    path: &str,
+    seen: &Metadata,
+) -> io::Result<(R::File, Metadata)> {
     let file = File::open(rt, path)?;
     let opened = look_at_open(&file)?;
     if !is_same(seen, &opened) {
         return Err(io::Error::other("another file than was seen"));
     }
-    if opened.is_file() && opened.len() == 0 {
-        return Ok(Input::Empty);
-    }
-    Ok(Input::File(file))
+    Ok((file, opened))
 }
 
 /// Opens what stands at the path: a pipe or a device, too, and a file of any size. It may wait.

@@ -1,0 +1,114 @@
+//! Second names of the files of file-sets.
+ghost use Rattle.std.specs.Prelude.{◌≡◌, ◌↔◌, ◌⊎◌, ◌++◌, ◌∷◌, [], map, string_bytes};
+ghost use Rattle.std.specs.Prelude.{IfOk, IsOk, IsSome, IsTrue};
+ghost use Rattle.std.specs.Fs.{IsFile, file_type};
+ghost use Rattle.dicomdir_host.specs.Directory.{IsDirectoryPath};
+ghost use Rattle.dicomdir_host.specs.Folders.{IsFolderOf};
+ghost use Rattle.dicomdir_host.specs.Storing.{Names, Waits};
+
+use crate::again::link_file;
+use crate::host_files::{HostFiles, is_directory};
+use crate::opening::open_same;
+use crate::paths::folder_of;
+use crate::system::System;
+use dd_files::LinkFault;
+use std::alloc::AllocError;
+use std::fs::Metadata;
+use std::io::{self, ErrorKind};
+
+impl<'a, R: System> HostFiles<'a, R> {
+    // Finds the plain file at the path below the folder `set`.
+    fn plain_member(&mut self, set: &str, path: &str) -> io::Result<Metadata>
+        ensures plain { IfOk result (λ seen. IsFile (file_type seen)) }
+        ensures same { self.new ≡ record self.old { members = self.new.members } }
+    {
+        let seen = self.members.find(self.rt, set, path)?;
+        if !seen.is_file() {
+            return Err(io::Error::other("no plain file"));
+        }
+        Ok(seen)
+    }
+
+    // Makes room for a new name at the path, and gives its folder and the path.
+    fn room_for(&mut self, path: &str) -> Result<(String, String), AllocError>
+        ensures folder { IfOk result (λ both. IsFolderOf path.now (string_bytes both.0)) }
+        ensures path { IfOk result (λ both. string_bytes both.1 ≡ path.now) }
+        ensures files { self.new.unstored.files.items ≡ self.old.unstored.files.items }
+        ensures folders { self.new.unstored.folders.items ≡ self.old.unstored.folders.items }
+        ensures lost { self.new.unstored.lost ≡ self.old.unstored.lost }
+        ensures same { self.new ≡ record self.old { unstored = self.new.unstored } }
+    {
+        let folder = self.unstored.room(folder_of(path))?;
+        let name = String::from_str(self.alloc, path)?;
+        Ok((folder, name))
+    }
+
+    // Opens the new name at the path, where it is the file that was seen.
+    fn open_linked(&mut self, path: &str, seen: &Metadata) -> io::Result<(R::File, Metadata)>
+        ensures files { (self.new.unstored ≡ self.old.unstored) ⊎ (self.new.unstored.files.items ≡ []) }
+        ensures folders { self.new.unstored.folders ≡ self.old.unstored.folders }
+        ensures lost { IsSome self.old.unstored.lost → self.new.unstored.lost ≡ self.old.unstored.lost }
+        ensures same { self.new ≡ record self.old { unstored = self.new.unstored; progress = self.new.progress } }
+    {
+        let answer = open_same(self.rt, path, seen);
+        if self.makes_room(&answer) {
+            return open_same(self.rt, path, seen);
+        }
+        answer
+    }
+
+    // Remembers a new name of the file that was seen, and keeps it open until it is stored.
+    fn keep_linked(&mut self, folder: String, path: String, seen: &Metadata) -> io::Result<()>
+        ensures named { IsOk result
+            → self.new.unstored.folders.items ≡ self.old.unstored.folders.items ++ folder ∷ [] }
+        ensures waits { IsOk result → Waits (string_bytes path)
+            (map (λ ended. string_bytes ended.path) self.old.unstored.files.items)
+            (map (λ ended. string_bytes ended.path) self.new.unstored.files.items) }
+        ensures due { IsOk result → IsTrue self.new.is_due ↔ IsDirectoryPath (string_bytes path) }
+        ensures lost { IsSome self.old.unstored.lost → self.new.unstored.lost ≡ self.old.unstored.lost }
+        ensures same { self.new ≡ record self.old {
+          unstored = self.new.unstored;
+          is_due = self.new.is_due;
+          progress = self.new.progress;
+        } }
+    {
+        self.unstored.name(folder)?;
+        let (file, _opened) = self.open_linked(path.as_str(), seen)?;
+        self.is_due = is_directory(path.as_str());
+        self.unstored.keep(path, file)?;
+        Ok(())
+    }
+
+    /// Gives the file at `from` below the folder `set` a second name, which is to be stored.
+    pub(crate) fn add_link(&mut self, set: &str, from: &str, path: &str) -> Result<(), LinkFault>
+        ensures named { IsOk result
+            → Names path.now self.old.unstored.folders.items self.new.unstored.folders.items }
+        ensures waits { IsOk result → Waits path.now
+            (map (λ ended. string_bytes ended.path) self.old.unstored.files.items)
+            (map (λ ended. string_bytes ended.path) self.new.unstored.files.items) }
+        ensures due { IsOk result → IsTrue self.new.is_due ↔ IsDirectoryPath path.now }
+        ensures lost { IsSome self.old.unstored.lost → self.new.unstored.lost ≡ self.old.unstored.lost }
+        ensures same { self.new ≡ record self.old {
+          unstored = self.new.unstored;
+          is_due = self.new.is_due;
+          members = self.new.members;
+          progress = self.new.progress;
+        } }
+    {
+        let Ok(seen) = self.plain_member(set, from) else {
+            return Err(LinkFault::Absent);
+        };
+        let Ok((folder, name)) = self.room_for(path) else {
+            return Err(LinkFault::Refused);
+        };
+        match link_file(self.rt, self.members.place(), path) {
+            Ok(()) => {}
+            Err(error) if error.kind() == ErrorKind::AlreadyExists => return Err(LinkFault::Taken),
+            Err(_) => return Err(LinkFault::Refused),
+        }
+        match self.keep_linked(folder, name, &seen) {
+            Ok(()) => Ok(()),
+            Err(_) => Err(LinkFault::Absent),
+        }
+    }
+}
