@@ -3,7 +3,7 @@ use Rattle.std.specs.Prelude.{◌≡◌, ◌≢◌, ◌≤◌, ◌-◌, ◌⊎�
 use Rattle.std.specs.Prelude.{All, Contains, length, max, slice_index_or}
 use Rattle.std.specs.List.{AllWithin, flat_map, onto_first}
 use Rattle.std.specs.Str.{IsUtf8}
-use Rattle.std.specs.Prelude.{String, ◌×◌}
+use Rattle.std.specs.Prelude.{String}
 use Rattle.dd_line.specs.Line.{words_of}
 
 -- the parts of a list: a zero byte ends each, and the end of the list ends a last one without it

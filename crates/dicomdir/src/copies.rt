@@ -1,5 +1,6 @@
 //! The images of a file-set, in its folder: copies of files, or their files under second names.
-ghost use Rattle.std.specs.Prelude.{◌≡◌, ◌<◌, ℕ, All, IfErr, IfOk, IsErr, IsOk, false, length, option_map, true};
+ghost use Rattle.std.specs.Prelude.{◌≡◌, ◌<◌, ℕ, All, IfErr, IfOk, IsErr, IsOk, IsSome, false, length, option_map};
+ghost use Rattle.std.specs.Prelude.{true};
 ghost use Rattle.dd_elem.specs.Device.{counted};
 ghost use Rattle.dd_files.specs.Files.{ended};
 ghost use Rattle.dd_layout.specs.Plans.{records_of};
@@ -89,7 +90,7 @@ fn make_image<F: Files, O: Origins>(
     ensures made { IsOk result → MakesImage (MayLink (O.gives_names origins.now) (O.stands_at origins.now) pick)
         folder.now file planned.now (F.held files.old) (F.held files.new) }
 {
-    if origins.gives_names() && link_image(alloc, folder, file, origins, pick, files)? {
+    if link_image(alloc, folder, file, origins, pick, files)? {
         return Ok(());
     }
     copy_image(alloc, folder, file, planned, origins, pick, files)
@@ -118,8 +119,21 @@ fn copy_image<F: Files, O: Origins>(
     }
 }
 
+/// Gives the folder of the file-set that has the file, where it may get a second name.
+fn linked_set<O: Origins>(origins: &O, pick: O::Pick) -> Option<&str>
+    requires { O.has origins.now pick }
+    ensures { IsSome result → O.gives_names origins.now }
+{
+    if origins.gives_names() {
+        origins.set(pick)
+    } else {
+        None
+    }
+}
+
 /// Gives the file of an image a second name, its File ID in the folder, and has it stored with others. Answers false
-/// where the system gives no such name. The file is opened first, so that it is refused where a copy is.
+/// where it may get none, and where the system gives none. The file is opened first, so that it is refused where a
+/// copy is.
 fn link_image<F: Files, O: Origins>(
     alloc: Global,
     folder: &str,
@@ -131,10 +145,11 @@ fn link_image<F: Files, O: Origins>(
     requires { O.has origins.now pick }
     ensures refusal { IfErr result (IsOfWork (O.paths origins.now)) }
     ensures linked { IfOk result (λ is_linked. is_linked ≡ true
-        → LinksImage (O.stands_at origins.now pick) folder.now file (F.held files.old) (F.held files.new)) }
+        → LinksImage (MayLink (O.gives_names origins.now) (O.stands_at origins.now) pick)
+        folder.now file (F.held files.old) (F.held files.new)) }
     ensures kept { IfOk result (λ is_linked. is_linked ≡ false → F.held files.new ≡ F.held files.old) }
 {
-    let Some(set) = origins.set(pick) else {
+    let Some(set) = linked_set(origins, pick) else {
         return Ok(false);
     };
     open(alloc, origins, pick, files)?;

@@ -73,8 +73,10 @@ fn with_listed(alloc: Global, given: &[String], list: &[u8]) -> Result<Vec<Strin
         }
     };
     let mut all = copies_of(alloc, given)?;
-    all.append(&mut listed)?;
-    Ok(all)
+    match all.append(&mut listed) {
+        Ok(()) => Ok(all),
+        Err(_) => Err(Refusal::memory()),
+    }
 }
 
 /// Copies these paths.

@@ -1,4 +1,4 @@
-use Rattle.std.proofs.Common.{◌≡◌, ◌×◌, length, take}
+use Rattle.std.proofs.Common.{◌≡◌, length, take}
 use Rattle.dd_line.specs.Line.{words_of}
 use Rattle.dicomdir.proofs.sources.copies_of.Given as goal
 
