@@ -8,10 +8,11 @@ mod names;
 mod power_cut;
 mod progress;
 mod screen;
+mod second_names;
 
 use crate::HostFiles;
 use dd_elem::{Read, Write};
-use dd_files::{Files, Step};
+use dd_files::{Files, LinkFault, Step};
 use disc::{Call, Disc, DiscFiles};
 use power_cut::Kind;
 use std::alloc::Global;
@@ -75,6 +76,11 @@ create a, fail write, fill, finish, create DICOMDIR > + . - - + > make a, store 
 create a, finish, fail store, create DICOMDIR, finish, create DICOMDIR > + + . - - - > make a
 create a, finish, fail open, create DICOMDIR > + + . - > make a, store a
 file DICOMDIR, create a, finish, create DICOMDIR > . + + - > make a, store a, store .
+dir o, file d/A, second d: d/A at o/A, second d: d/A at o/B, store, create o/DICOMDIR, finish, store > \
+. . + + + + + + > link o/A, link o/B, store o/A, store o/B, store o, make o/DICOMDIR, store o/DICOMDIR, store o
+file d/A, second d: d/A at DICOMDIR, store > . + + > link DICOMDIR, store DICOMDIR, store .
+file d/A, fail open, second d: d/A at a, create b, finish, store, store > . . -absent + + + + > \
+link a, make b, store b, store .
 folder d, folder d, folder e, folder d, folder d > + + + + + > folder d, folder e, folder d
 folder d/e, folder d/f, store > + + + > folder d, folder d/e, folder d, folder d/f, store ., store d
 fail folder, folder d, folder d, folder d > . - + + > folder d
@@ -86,6 +92,7 @@ fn call_of(name: &str) -> Option<Call> {
         "open" => Some(Call::Open),
         "create" => Some(Call::Create),
         "folder" => Some(Call::Folder),
+        "link" => Some(Call::Link),
         "read" => Some(Call::Read),
         "write" => Some(Call::Write),
         "store" => Some(Call::Store),
@@ -128,6 +135,7 @@ fn prepare(disc: &RefCell<Disc>, verb: &str, what: &str) -> Result<bool, Fail> {
         "slow" => disc.screen.pause = what.parse().map_err(|_| "no number")?,
         "fail" => disc.fail(call_of(what).ok_or("no call")?, ErrorKind::Other),
         "pause" => disc.fail(call_of(what).ok_or("no call")?, ErrorKind::Interrupted),
+        "part" => disc.fail(call_of(what).ok_or("no call")?, ErrorKind::CrossesDevices),
         "bar" => disc.fail(call_of(what).ok_or("no call")?, ErrorKind::PermissionDenied),
         "spoil" => disc.fail(call_of(what).ok_or("no call")?, ErrorKind::InvalidInput),
         _ => return Ok(false),
@@ -214,6 +222,18 @@ fn read(
     }
 }
 
+// Gives a file of a file-set a second name, and answers what that came to.
+fn second(files: &mut HostFiles<'_, DiscFiles<'_>>, what: &str) -> &'static str {
+    let (set, paths) = named(what);
+    let (from, path) = paths.split_once(" at ").unwrap_or((paths, ""));
+    match files.link(set, from, path) {
+        Ok(()) => "+",
+        Err(LinkFault::Absent) => "-absent",
+        Err(LinkFault::Taken) => "-taken",
+        Err(LinkFault::Refused) => "-refused",
+    }
+}
+
 // Makes a call about progress, where it is one.
 fn counts(files: &mut HostFiles<'_, DiscFiles<'_>>, verb: &str, what: &str) -> Result<bool, Fail> {
     match verb {
@@ -245,6 +265,7 @@ fn tell(
     match verb {
         "read" | "find" | "names" => return read(alloc, files, verb, what, said),
         "unstored" => return Ok(said.push_str(files.unstored())?),
+        "second" => return Ok(said.push_str(second(files, what))?),
         _ => {}
     }
     let sign = if counts(files, verb, what)? || prepare(disc, verb, what)? {

@@ -18,6 +18,7 @@ dir o, folder o/p/s, create o/p/s/i, write abc, finish, store, folder o, store, 
 finish, store
 folder o/p/s, create o/p/s/i, write abc, finish, store, create o/p/s/j, write abc, finish, store, \
 folder o/p/t, create o/p/t/i, write abc, finish, store, folder o, store, create o/DICOMDIR, write xyz, finish, store
+file d/A, folder o/p/s, second d: d/A at o/p/s/A, store, folder o, store, create o/DICOMDIR, write xyz, finish, store
 folder o/p/s, create o/p/s/i, write abc, finish, folder o, create o/DICOMDIR, write xyz, finish, store
 limit 1, folder o/p/s, create o/p/s/i, write abc, finish, store, folder o/q/s, create o/q/s/i, write abc, finish, \
 store, folder o, store, create o/DICOMDIR, write xyz, finish, store";
@@ -38,11 +39,17 @@ fn a_power_cut_leaves_no_directory_without_its_images(rt: HostRuntime) -> Result
     Ok(())
 }
 
+// What stands there before a run, and what it makes of each image: a file, or a second name of one.
+const FILES: [&str; 3] = ["", "create", ", write abc, finish"];
+
+const NAMES: [&str; 3] = ["file d/A, ", "second d: d/A at", ""];
+
 // The calls of a run with `images` images, while `open` files can be open.
-fn calls_of(alloc: Global, images: u32, open: u32) -> Result<String, Fail> {
-    let mut calls = format!(in alloc; "limit {open}, folder o/s")?;
+fn calls_of(alloc: Global, kind: [&str; 3], images: u32, open: u32) -> Result<String, Fail> {
+    let [before, make, end] = kind;
+    let mut calls = format!(in alloc; "{before}limit {open}, folder o/s")?;
     for image in 0..images {
-        let more = format!(in alloc; ", create o/s/{image}, write abc, finish, store")?;
+        let more = format!(in alloc; ", {make} o/s/{image}{end}, store")?;
         calls.push_str(more.as_str())?;
     }
     calls.push_str(", folder o, store, create o/DICOMDIR, write xyz, finish, store")?;
@@ -51,8 +58,17 @@ fn calls_of(alloc: Global, images: u32, open: u32) -> Result<String, Fail> {
 
 #[test]
 fn many_images_are_stored_in_batches(rt: HostRuntime) -> Result<(), Fail> {
-    for (images, open) in [(120, 101), (99, 100), (40, 7), (5, 1)] {
-        let calls = calls_of(rt.alloc(), images, open)?;
+    let runs = [
+        (FILES, 120, 101),
+        (FILES, 99, 100),
+        (FILES, 40, 7),
+        (FILES, 5, 1),
+        (NAMES, 120, 101),
+        (NAMES, 40, 7),
+        (NAMES, 5, 1),
+    ];
+    for (kind, images, open) in runs {
+        let calls = calls_of(rt.alloc(), kind, images, open)?;
         assert!(rt; is_safe(rt.alloc(), calls.as_str())?, "of {images} images");
     }
     Ok(())

@@ -18,6 +18,8 @@ pub(super) enum Call {
     Open,
     Create,
     Folder,
+    /// A second name that is given.
+    Link,
     Read,
     Write,
     Store,
@@ -26,7 +28,7 @@ pub(super) enum Call {
     LookAtOpen,
     /// A file that stays what it was when it is opened.
     Stay,
-    /// A folder that is made by then.
+    /// A folder or a second name that is made by then.
     Made,
     /// A write to the terminal.
     Show,
@@ -38,7 +40,7 @@ pub(super) enum Call {
 /// be, after how many calls a power cut would have left a whole directory without its images, and the terminal.
 pub(super) struct Disc {
     alloc: Global,
-    entries: Vec<Entry>,
+    pub(super) entries: Vec<Entry>,
     failing: Option<Call>,
     kind: ErrorKind,
     log: String,
@@ -111,7 +113,7 @@ impl Disc {
         self.looks.as_str()
     }
 
-    fn note(&mut self, what: &str, path: &str) -> io::Result<()> {
+    pub(super) fn note(&mut self, what: &str, path: &str) -> io::Result<()> {
         if !self.log.is_empty() {
             self.log.push_str(", ")?;
         }
@@ -128,10 +130,10 @@ impl Disc {
         }
     }
 
-    // What stands at the place lasts, and the names in it.
-    fn keep(&mut self, place: usize, path: &str) {
-        for (at, entry) in self.entries.iter_mut().enumerate() {
-            if at == place {
+    // What stands at the place lasts, under each of its names, and the names in it.
+    fn keep(&mut self, node: usize, path: &str) {
+        for entry in self.entries.iter_mut() {
+            if entry.node == node {
                 entry.lasting = entry.bytes.len();
             }
             if parent(entry.path.as_str()) == path {
@@ -147,9 +149,10 @@ impl Disc {
         let Some(entry) = self.entries.get(place) else {
             return Err(io::Error::from(ErrorKind::NotFound));
         };
+        let node = entry.node;
         let path = String::from_str(self.alloc, entry.path.as_str())?;
         self.note("store", path.as_str())?;
-        self.keep(place, path.as_str());
+        self.keep(node, path.as_str());
         self.look();
         Ok(())
     }
@@ -161,11 +164,12 @@ impl Disc {
     }
 
     // Adds an empty entry, and answers its place.
-    fn make(&mut self, path: &str, kind: Kind, is_named: bool) -> io::Result<usize> {
+    pub(super) fn make(&mut self, path: &str, kind: Kind, is_named: bool) -> io::Result<usize> {
         let place = self.entries.len();
         self.entries.push(Entry {
             path: String::from_str(self.alloc, path)?,
             kind,
+            node: place,
             bytes: Vec::new(self.alloc),
             lasting: 0,
             is_named,
@@ -201,7 +205,7 @@ impl Disc {
         Some(entry.bytes.as_slice())
     }
 
-    fn find(&self, path: &str) -> Option<usize> {
+    pub(super) fn find(&self, path: &str) -> Option<usize> {
         self.entries
             .iter()
             .position(|entry| entry.path.as_str() == path)
@@ -272,8 +276,8 @@ impl Disc {
         }
     }
 
-    // Refuses a folder whose path is taken, or whose parent is no folder.
-    fn has_room_for(&self, path: &str) -> io::Result<()> {
+    // Refuses a new name whose path is taken, or whose parent is no folder.
+    pub(super) fn has_room_for(&self, path: &str) -> io::Result<()> {
         if self.kind(path).is_some() {
             return Err(io::Error::from(ErrorKind::AlreadyExists));
         }
@@ -357,6 +361,11 @@ impl<'a> Files for DiscFiles<'a> {
         disc.has_room_for(path)?;
         disc.make(path, Kind::Folder, false)?;
         disc.pass(Call::Made)
+    }
+
+    fn hard_link(&self, original: &str, link: &str) -> io::Result<()> {
+        let mut disc = self.0.try_borrow_mut().map_err(|_| in_use())?;
+        disc.link(original, link)
     }
 
     fn open_dir(&self, _path: &str) -> io::Result<Empty> {

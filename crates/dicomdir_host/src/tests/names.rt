@@ -1,4 +1,4 @@
-//! Files of file-sets in the spellings of systems, links, and what was opened.
+//! Files of file-sets in the spellings of systems, their second names, links, and what was opened.
 
 use super::disc::Disc;
 use super::told;
@@ -50,6 +50,28 @@ dir d, link d/P, folder d/P/S, make d: d/P/S > . . + -
 dir d, link d/P, pause folder, make d: d/P > . . . -
 dir d, pause made, make d: d/P > . . +";
 
+// In each line calls, and then what they came to.
+const SECONDS: &str = "\
+dir o, file d/A, second d: d/A at o/A, read o/A, read d/A > . . + old old
+dir o, file d/pt1/a, dir d/pt1, second d: d/PT1/A at o/A, read o/A > . . . + old
+dir o, file d/A.;1, second d: d/A at o/A, second d: d/B at o/B, read o/A > . . + -absent old
+dir o, file d/A, also o/A, second d: d/A at o/A, read o/A > . . . -taken two
+dir o, dir d/A, second d: d/A at o/A, second d: d/B at o/A > . . -absent -absent
+dir o, link d/A, second d: d/A at o/A > . . -absent
+dir o, link d/P, file d/P/A, second d: d/P/A at o/A > . . . -absent
+dir o, link d, file d/A, second d: d/A at o/A > . . . +
+file d/A, second d: d/A at o/A, dir o, second d: d/A at o/A > . -refused . +
+dir o, file d/A, fail link, second d: d/A at o/A, second d: d/A at o/A > . . . -refused +
+dir o, file d/A, part link, second d: d/A at o/A, read o/A > . . . -refused -
+dir o, file d/A, pause link, second d: d/A at o/A > . . . +
+dir o, file d/A, pause made, second d: d/A at o/A, second d: d/A at o/A > . . . + -taken
+dir o, file d/A, dir o/A, pause link, second d: d/A at o/A > . . . . -absent
+dir o, file d/A, fail stay, second d: d/A at o/A > . . . -absent
+dir o, file d/A, fail seen, second d: d/A at o/A, read o/A > . . . -absent old
+dir o, file d/A, fail store, second d: d/A at o/A, store, store, unstored > . . . + + - o/A
+dir o, file d/A, limit 1, second d: d/A at o/A, second d: d/A at o/B, second d: d/A at o/C > . . . + + +
+dir o, file d/A, create a, write x, second d: d/A at o/A, finish, read a > . . + + + + x";
+
 // In each line calls, and then the paths that they looked at.
 const LOOKS: &str = "\
 find d: d/PT1/IM1 > d/PT1, d/pt1, d/PT1.;1, d/PT1;1, d/PT1., d/pt1.;1, d/pt1;1, d/pt1.
@@ -75,6 +97,14 @@ fn is_looked_for(alloc: Global, case: &str) -> Result<bool, Fail> {
 #[test]
 fn finds_what_systems_show_and_follows_no_link(rt: HostRuntime) -> Result<(), Fail> {
     for case in CASES.split('\n') {
+        assert!(rt; is_found(rt.alloc(), case)?, "at {case}");
+    }
+    Ok(())
+}
+
+#[test]
+fn gives_second_names_and_follows_no_link(rt: HostRuntime) -> Result<(), Fail> {
+    for case in SECONDS.split('\n') {
         assert!(rt; is_found(rt.alloc(), case)?, "at {case}");
     }
     Ok(())

@@ -17,6 +17,8 @@ pub(super) enum Kind {
 pub(super) struct Entry {
     pub(super) path: String,
     pub(super) kind: Kind,
+    /// Where the first of its names stands.
+    pub(super) node: usize,
     pub(super) bytes: Vec<u8>,
     /// How many bytes last, and whether the name does.
     pub(super) lasting: usize,
@@ -29,6 +31,7 @@ impl Drop for Entry {
         let Entry {
             path: _path,
             kind: _,
+            node: _,
             bytes: _bytes,
             lasting: _,
             is_named: _,

@@ -1,0 +1,30 @@
+//! Second names of what stands on the disc in memory.
+
+use super::disc::{Call, Disc};
+use super::power_cut::Kind;
+use std::io::{self, ErrorKind};
+
+impl Disc {
+    /// Gives what stands at a path a second name, which a folder can't have, and a symbolic link can.
+    pub(super) fn link(&mut self, original: &str, name: &str) -> io::Result<()> {
+        self.pass(Call::Link)?;
+        let place = self.find(original).ok_or(ErrorKind::NotFound)?;
+        let Some(entry) = self.entries.get(place) else {
+            return Err(io::Error::from(ErrorKind::NotFound));
+        };
+        if entry.kind == Kind::Folder {
+            return Err(io::Error::from(ErrorKind::PermissionDenied));
+        }
+        let (kind, node, lasting) = (entry.kind, entry.node, entry.lasting);
+        let bytes = entry.bytes.clone()?;
+        self.has_room_for(name)?;
+        self.note("link", name)?;
+        let place = self.make(name, kind, false)?;
+        if let Some(entry) = self.entries.get_mut(place) {
+            entry.node = node;
+            entry.lasting = lasting;
+            entry.bytes = bytes;
+        }
+        self.pass(Call::Made)
+    }
+}
