@@ -44,10 +44,10 @@ const NO_MORE: [i32; 2] = [24, 23];
 /// A file of a file-set is a source that is looked up in each spelling in which systems show a disc. No link
 /// is followed below the folder of a file-set, nor below the folder that is written to.
 ///
-/// A second name is given to a plain file that is found as a file of a file-set, by a hard link: not to a folder,
-/// and not to a symbolic link. The new name is opened, and is refused where it is not the file that was found. From
-/// then on it is a file that has ended: it stays open until it is stored, and its name is stored as that of a new
-/// file is.
+/// A second name is a hard link to a plain file of a file-set, which is looked up as any file of one. A folder and
+/// a symbolic link get none. The new name is opened and looked at again. It is taken for not there where it is not
+/// the file that was found, and stays where it is. Else it counts as a file that has ended: it stays open until it
+/// is stored, and its name is stored as each new name is.
 ///
 /// A list of names may be a pipe or a device, too, and `-` stands for the standard input: to open it and to read
 /// it may wait.

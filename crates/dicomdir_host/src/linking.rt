@@ -79,7 +79,9 @@ impl<'a, R: System> HostFiles<'a, R> {
         Ok(())
     }
 
-    /// Gives the file at `from` below the folder `set` a second name, which is to be stored.
+    /// Gives the plain file at `from` below the folder `set` a second name, which is to be stored. Absent where there
+    /// is no such file, or the new name can't be opened as that file. Taken where something stands at the path, and
+    /// Refused where memory or the name is refused.
     pub(crate) fn add_link(&mut self, set: &str, from: &str, path: &str) -> Result<(), LinkFault>
         ensures named { IsOk result
             → Names path.now self.old.unstored.folders.items self.new.unstored.folders.items }
