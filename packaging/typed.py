@@ -30,6 +30,7 @@ CASES = [
     ("index one/ onl", "index one/ only\\ file "),
     ("merge one/ tw", "merge one/ two\\ folders/"),
     ("merge one/ --files0-from=one.", "merge one/ --files0-from=one.dcm "),
+    ("merge --l", "merge --link "),
     ("withdraw --d", "withdraw --dry-run "),
     ("check --k", "check --keys "),
     ("check --q", "check --quiet "),

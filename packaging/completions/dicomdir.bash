@@ -54,7 +54,8 @@ _dicomdir()
             index:--files0-from=* | merge:--files0-from=*)
                 _dicomdir_paths -f "${current#*=}" --files0-from=
                 ;;
-            index:* | merge:*) choice="$writing --files0-from -h --help" ;;
+            index:*) choice="$writing --files0-from -h --help" ;;
+            merge:*) choice="$writing --files0-from --link -h --help" ;;
             withdraw:*) choice="$writing -h --help" ;;
             check:*) choice='--keys --quiet -h --help' ;;
             list:*) choice='--long -h --help' ;;

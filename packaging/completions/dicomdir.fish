@@ -27,6 +27,8 @@ complete -c dicomdir -n $writing -l dry-run -d 'Makes nothing, and says what it 
 complete -c dicomdir -n '__fish_seen_subcommand_from index merge withdraw check' -l quiet -d 'Shows no progress'
 complete -c dicomdir -n '__fish_seen_subcommand_from index merge' -l files0-from -r -F \
     -d 'Reads names from FILE, or -, ended by zero bytes'
+complete -c dicomdir -n '__fish_seen_subcommand_from merge' -l link \
+    -d 'Gives images second names in place of copies'
 complete -c dicomdir -n '__fish_seen_subcommand_from check' -l keys \
     -d 'Also compares what each image says of itself with its record'
 complete -c dicomdir -n '__fish_seen_subcommand_from list' -l long \
