@@ -9,7 +9,8 @@ from rooms import DIRECTORY, OUTPUT, count_kinds, harm, result_of, tell_standing
 NULL = "/dev/null"
 
 # The errors that the calls fail with. EACCES and EINVAL are what a system says that can't store a folder, EMFILE is
-# what it says where the process has no more descriptors.
+# what it says where the process has no more descriptors. EXDEV, EPERM and EMLINK are what it says of a second name
+# on another file system, of one that it does not give, and of one too many.
 ERRORS = {
     "statx": ("EIO", "EACCES", "EINTR"),
     "fstat": ("EIO", "EACCES", "EINTR"),
@@ -18,6 +19,7 @@ ERRORS = {
     "read": ("EIO", "EINTR"),
     "write": ("EIO", "ENOSPC", "EINTR"),
     "mkdir": ("EIO", "ENOSPC", "EINTR"),
+    "link": ("EIO", "ENOSPC", "EXDEV", "EPERM", "EMLINK", "EEXIST", "EINTR"),
     "fsync": ("EIO", "ENOSPC", "EINVAL", "EINTR"),
     "close": ("EIO", "ENOSPC", "EINTR"),
 }
@@ -40,15 +42,15 @@ def tasks(case):
 
 
 def folder_to_make(calls, at):
-    """The folder that a call of mkdir, or a look behind it, is made for: that of the file that is created next."""
-    return next(os.path.dirname(call.path) for call in calls[at:] if call.name == "create")
+    """The folder that a call of mkdir, or a look behind it, is made for: that of the file that is made next."""
+    return next(os.path.dirname(call.path) for call in calls[at:] if call.name in ("create", "link"))
 
 
-def open_copies(calls, at):
-    """How many files that were created are open before this call."""
+def open_images(case, at):
+    """How many files that were created, or have got a second name, are open before this call."""
     paths = collections.Counter()
-    for call in calls[:at]:
-        if call.name == "create":
+    for call in case.right.calls[:at]:
+        if call.name == "create" or (call.name == "open" and call.path in case.right.second):
             paths[call.path] += 1
         elif call.name == "close" and paths[call.path] > 0:
             paths[call.path] -= 1
@@ -86,6 +88,9 @@ def of_reading(case, at, error, lasts):
         return of_reading(case, next_opened(calls, at), error, lasts)
     if is_folder(case, call.path):
         return of_folder(case, at, error)
+    # A new name that is not the file that was found: the line names that file.
+    if call.path in case.right.second:
+        return case.right.second[call.path] + ": 92 Absent"
     if case.command.words.startswith("check") and not call.path.endswith("/DICOMDIR"):
         finding = "UNREADABLE" if call.name == "read" else "MISSING"
         return finding + " " + call.path.split("/", 1)[1].replace("/", "\\")
@@ -119,14 +124,17 @@ def consequence(case, at, error, lasts):
     if call.name == "close" or (call.name == "mkdir" and call.answer == -errno.EEXIST):
         return None
     # Files that wait to be stored are closed, and the call is made again.
-    if error == "EMFILE" and not lasts and open_copies(calls, at) > 0:
+    if error == "EMFILE" and not lasts and open_images(case, at) > 0:
         return None
     # A folder that its system can't store is passed over.
     if call.name == "fsync" and error == "EINVAL" and is_folder(case, call.path):
         return None
     if call.name == "mkdir":
         return folder_to_make(calls, at) + ": 95 Folder"
-    if call.name == "create":
+    # A file whose new name is refused is copied, but where that name is taken.
+    if call.name == "link" and error != "EEXIST":
+        return None
+    if call.name in ("create", "link"):
         return call.path + ": 94 Create"
     if call.name in ("write", "fsync"):
         return call.path + ": 96 Unsent"
@@ -163,9 +171,18 @@ def is_as_failed(case, run, task):
 # ---- The runs ----
 
 
+def is_linked(case, run):
+    """Is each image a second name that is one in the undisturbed run, but where that name was refused?"""
+    refused = {call.path for call in run.calls
+               if call.name == "link" and call.is_refused and call.answer != -errno.EINTR}
+    return all(path in run.second or path in refused for path in run.left if path in case.right.second)
+
+
 def judge(case, run, task):
     """What is wrong in a run in which this call fails."""
     found = harm(case, run)
+    if not is_linked(case, run):
+        found.append("an image is copied whose second name was not refused")
     if not (is_as_failed(case, run, task) or (task[2] == "EINTR" and run.is_as(case.right))):
         found.append("it is not what has to come of this")
     return found
@@ -174,7 +191,7 @@ def judge(case, run, task):
 def kind_of(case, run, error):
     """What came of it that a call fails."""
     if run.is_as(case.right):
-        return "as if undisturbed"
+        return run.kind_as(case.right)
     if error == "EINTR":
         return "not made again"
     if run.status == 3:

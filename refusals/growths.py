@@ -37,7 +37,7 @@ def try_one(room, case, task):
     if growth > case.right.growths:
         wrong = ["the undisturbed run has no such growth"] if run.refused or not run.is_as(case.right) else []
         return result_of(case, what, run, "", wrong)
-    kind = "as if undisturbed" if run.is_as(case.right) else run.err.rsplit(": ", 1)[-1].strip()
+    kind = run.kind_as(case.right) if run.is_as(case.right) else run.err.rsplit(": ", 1)[-1].strip()
     return result_of(case, what, run, kind, judge(case, run))
 
 

@@ -5,11 +5,12 @@
  *   REFUSE_GROWTH=N        The N-th growth is refused, counted from 1. A growth is a request for memory: malloc,
  *                          calloc, realloc, posix_memalign and aligned_alloc count together.
  *   REFUSE_CALL='NAME N E' The N-th call of this name, counted from 1, is not made and fails with error E, a number.
- *                          NAME is statx, open, create (an open that makes the file), read, write, mkdir, fsync or
- *                          close.
+ *                          NAME is statx, fstat (a statx of an open file), open, create (an open that makes the
+ *                          file), read, write, mkdir, link, fsync or close.
  *   REFUSE_LATER=1         Each later growth, or each later call of this name, is refused as well.
  *   REFUSE_LOG=FILE        A line for each of these calls is appended: its name, what it answered (an error as
- *                          -E), and its path or descriptor. The line of a refused one begins with '!'.
+ *                          -E), and its path or descriptor. That of link has the new path, and behind it the old one.
+ *                          The line of a refused one begins with '!'.
  *   REFUSE_COUNTS=FILE     When the program ends, a line 'armed A growths G refused R' is appended: how often the
  *                          growths began to be counted, how many came while they were, and how many of them were
  *                          refused.
@@ -174,7 +175,7 @@ static int error_of(const char *name)
 /* Gives the answer of a call as libc does, and tells it: an error is -1, with the error in errno. */
 static long answer(const char *name, const char *of, long result, int error)
 {
-    char line[PATH_MAX + 64];
+    char line[2 * PATH_MAX + 64];
 
     if (error != 0) {
         errno = error;
@@ -226,6 +227,15 @@ int mkdir(const char *path, mode_t mode)
     int error = error_of("mkdir");
 
     return answer("mkdir", path, error ? 0 : syscall(SYS_mkdir, path, mode), error);
+}
+
+int link(const char *old, const char *new)
+{
+    char of[2 * PATH_MAX + 2];
+    int error = error_of("link");
+
+    snprintf(of, sizeof of, "%s %s", new, old);
+    return answer("link", of, error ? 0 : syscall(SYS_link, old, new), error);
 }
 
 ssize_t read(int file, void *bytes, size_t size)

@@ -14,7 +14,7 @@ import sys
 
 import calls
 import growths
-from rooms import COMMANDS, Room
+from rooms import COMMANDS, DIRECTORY, Room
 
 PARTS = {"growths": growths, "calls": calls}
 # It ends once this number of things are wrong.
@@ -41,6 +41,12 @@ class Worker:
         return result
 
 
+def are_linked(run):
+    """Are all images second names?"""
+    files = {path for path, content in run.left.items() if content is not None}
+    return files - {DIRECTORY} == set(run.second)
+
+
 def learn(words):
     """Runs each command undisturbed."""
     *program, folder = words
@@ -49,6 +55,8 @@ def learn(words):
         case = room.learn(command)
         if case.right.growths == 0 or not case.right.calls:
             sys.exit("refused.py: the library tells nothing of the program")
+        if "--link" in command.words and not are_linked(case.right):
+            sys.exit("refused.py: the program has copied an image that it can give a second name")
         Worker.cases.append(case)
 
 

@@ -42,6 +42,7 @@ COMMANDS = [
     Command("index into a folder that is there", "index OUT b.dcm --uid 2.25.0", before="OTHER"),
     Command("index into a folder that has a set", "index OUT a.dcm --uid 2.25.0", before="SETA"),
     Command("merge of two sets", "merge OUT SETA SETB --uid 2.25.0"),
+    Command("merge of two sets by second names", "merge OUT SETA SETB --link --uid 2.25.0"),
     Command("merge of two sets with other bytes of an image, which is refused",
             "merge OUT SETA SETN --uid 2.25.0 --strict"),
     Command("withdraw of one image of two", "withdraw OUT SETA 1.2.3.1000 1.2.3.1 --uid 2.25.0"),
@@ -54,12 +55,14 @@ COMMANDS = [
 
 @dataclasses.dataclass(frozen=True)
 class Call:
-    """A call that a run has made: its name, what it answered, and the path that it was about."""
+    """A call that a run has made: its name, what it answered, and the path that it was about. Of a file that gets a
+    second name that is the new path, and `old` the one that it had."""
 
     name: str
     answer: int
     path: str
     is_refused: bool
+    old: str = ""
 
 
 @dataclasses.dataclass(frozen=True)
@@ -72,6 +75,8 @@ class Run:
     err: str
     # The bytes of each file in OUT by its path, and None for a folder.
     left: dict
+    # The path of each file in OUT that is a second name of a given file, and that one's path.
+    second: dict
     calls: list
     growths: int
     refused: int
@@ -79,6 +84,15 @@ class Run:
     def told(self):
         """Its status and what it has printed, in one line."""
         return " ".join([str(self.status)] + (self.out + self.err).splitlines())
+
+    def linked(self):
+        """The path of each file that has got a second name in this run, and the path that it had."""
+        return {call.path: call.old for call in self.calls if call.name == "link" and call.answer == 0}
+
+    def kind_as(self, other):
+        """The kind of a run that has printed and left what another one has, and may have copied what that one has
+        given a second name."""
+        return "as if undisturbed" if self.second == other.second else "copied"
 
     def is_as(self, other):
         """Has it printed and left what another one has?"""
@@ -120,10 +134,12 @@ def calls_of(log):
     calls, paths = [], {"1": OUTPUT}
     for line in log.splitlines():
         name, answer, of = line.lstrip("!").split(" ", 2)
-        path = paths[of] if name in ("fstat", "read", "write", "fsync", "close") else of
+        path, _, old = of.partition(" ") if name == "link" else (of, "", "")
+        if name in ("fstat", "read", "write", "fsync", "close"):
+            path = paths[of]
         if name in ("open", "create") and int(answer) >= 0:
             paths[answer] = path
-        calls.append(Call(name, int(answer), path, line.startswith("!")))
+        calls.append(Call(name, int(answer), path, line.startswith("!"), old))
     return calls
 
 
@@ -134,8 +150,17 @@ def begin(command):
         shutil.copytree(command.before, "OUT")
 
 
+def seconds(given):
+    """The path of each file in OUT that is a second name of one of these files, and that one's path."""
+    paths = {node: os.path.relpath(path) for path, _, node, _, _ in given}
+    files = (os.path.join(top, name) for top, _, names in os.walk("OUT") for name in names)
+    nodes = ((path, os.stat(path).st_ino) for path in files)
+    return {path: paths[node] for path, node in nodes if node in paths}
+
+
 def look():
-    """All files that are there and are not to be changed: paths, modes, times and digests."""
+    """All files that are there and are not to be changed: paths, modes, times and digests. How many names a file has
+    is no part of this."""
     found = []
     for top, folders, names in os.walk("."):
         if top == "." and "OUT" in folders:
@@ -197,7 +222,8 @@ class Room:
         growths, refused = (int(counts[1]), int(counts[2])) if counts else (0, 0)
         calls = calls_of(text_of(self.log))
         refused += sum(call.is_refused for call in calls)
-        return Run(status, text_of(self.out), text_of(self.err), tree("OUT"), calls, growths, refused)
+        left, second = tree("OUT"), seconds(self.given)
+        return Run(status, text_of(self.out), text_of(self.err), left, second, calls, growths, refused)
 
     def learn(self, command):
         """Runs a command undisturbed."""
@@ -227,6 +253,10 @@ def harm(case, run):
             found.append(f"{path} is not of the file-set")
         elif content is not None and not right.left[path].startswith(content):
             found.append(f"{path} is no front of what it has to be")
+        elif path in run.second and content != right.left[path]:
+            found.append(f"{path} is a second name, and is not whole")
+    if run.second != run.linked():
+        found.append("the second names are not those that the calls have given")
     if run.err and right.status == 0 and right.out and run.out == right.out:
         found.append("it says that the work is done, and a fault")
     if run.refused == 0:
