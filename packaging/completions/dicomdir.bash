@@ -1,4 +1,4 @@
-# Completion of dicomdir(1) for bash.
+# Completion of dicomdir(1) and dicomdir-parallel(1) for bash.
 # shellcheck shell=bash
 
 # Offers the paths that begin so: -d folders, -f files and folders. Each has the third word in front.
@@ -10,8 +10,14 @@ _dicomdir_paths()
 
 _dicomdir()
 {
-    local word current command='' value='' ended='' before='' paths=0 words=()
+    local word current command='' own='' value='' ended='' before='' paths=0 words=()
     COMPREPLY=()
+
+    # dicomdir-parallel takes the words of index, and more options.
+    if [[ ${COMP_WORDS[0]##*/} == dicomdir-parallel ]]; then
+        command=index
+        own='-j --hosts'
+    fi
 
     # Bash splits words at = and : too. Here they are whole.
     for word in "${COMP_WORDS[@]:0:COMP_CWORD+1}"; do
@@ -29,7 +35,7 @@ _dicomdir()
             value=
         elif [[ ! $ended && $word == -- ]]; then
             ended=1
-        elif [[ ! $ended && $word == @(--id|--uid|--max-bytes|--files0-from) ]]; then
+        elif [[ ! $ended && $word == @(--id|--uid|--max-bytes|--files0-from|--hosts|-j) ]]; then
             value=$word
         elif [[ ! $ended && $word == -?* ]]; then
             :
@@ -42,7 +48,7 @@ _dicomdir()
 
     local choice=''
     case $value:$command:$paths in
-        --files0-from:*) _dicomdir_paths -f "$current" ;;
+        --files0-from:* | --hosts:*) _dicomdir_paths -f "$current" ;;
         -*) ;;
         ::* | :help:0) choice='index merge withdraw check list help' ;;
         :index:0 | :merge:* | :withdraw:[01] | :check:0 | :list:0) _dicomdir_paths -d "$current" ;;
@@ -54,7 +60,8 @@ _dicomdir()
             index:--files0-from=* | merge:--files0-from=*)
                 _dicomdir_paths -f "${current#*=}" --files0-from=
                 ;;
-            index:*) choice="$writing --files0-from -h --help" ;;
+            index:--hosts=*) _dicomdir_paths -f "${current#*=}" --hosts= ;;
+            index:*) choice="$own $writing --files0-from -h --help" ;;
             merge:*) choice="$writing --files0-from --link -h --help" ;;
             withdraw:*) choice="$writing -h --help" ;;
             check:*) choice='--keys --quiet -h --help' ;;
@@ -70,4 +77,4 @@ _dicomdir()
     COMPREPLY=("${COMPREPLY[@]#"${current%"$word"}"}")
 }
 
-complete -F _dicomdir dicomdir
+complete -F _dicomdir dicomdir dicomdir-parallel

@@ -1,0 +1,222 @@
+"""Ends runs of dicomdir-parallel by signals, in each of their phases, and looks at what is left. For
+interop/parallel."""
+import concurrent.futures
+import os
+import pathlib
+import pty
+import random
+import re
+import signal
+import subprocess
+import time
+
+from beside import TOP, image, tree
+
+# In which phase a run waits, by the beginning of a command of the program, or by a tool that is run in place of the
+# system's. The list of names is read to its end, which does not come.
+PHASES = {"reading": None, "cutting": "xargs", "indexing": "index --quiet", "merging": "merge --link", "removing": "rm"}
+# Waits where its words are those of that phase.
+TOOL = """#!/bin/sh
+case "$0 $*" in */xargs*stat*|*/rm\\ -rf*/1\\ */2\\ *) : >"$CALLS.paused"; exec sleep 60 ;; esac
+PATH=${PATH#*:}
+exec "${0##*/}" "$@"
+"""
+
+
+def processes(calls):
+    """The processes of a run, by what it notes its commands in."""
+    found = []
+    for path in pathlib.Path("/proc").glob("[0-9]*/environ"):
+        try:
+            if f"CALLS={calls}".encode() in path.read_bytes().split(b"\0"):
+                found.append(int(path.parent.name))
+        except OSError:
+            pass
+    return found
+
+
+def is_parallel(pid):
+    """Says whether a process is GNU parallel as it is called for the parts."""
+    try:
+        return b"--will-cite" in pathlib.Path(f"/proc/{pid}/cmdline").read_bytes().split(b"\0")
+    except OSError:
+        return False
+
+
+def wait_for(is_there, seconds=20):
+    """Waits until the condition holds. Says whether it did."""
+    end = time.monotonic() + seconds
+    while not is_there():
+        if time.monotonic() > end:
+            return False
+        time.sleep(0.02)
+    return True
+
+
+class Run:
+    """A run in a folder of its own, which waits in a phase, if one is named."""
+
+    def __init__(self, runs, name, phase=None, delay="0", out="OUT", terminal=False):
+        self.runs, self.name = runs, name
+        self.room = runs.work / f"signal-{name}"
+        self.inside, self.calls = self.room / "w", f"{self.room}.calls"
+        (self.room / "tmp").mkdir(parents=True)
+        self.inside.mkdir()
+        for at in range(16):
+            (self.inside / f"{at:03}").write_bytes(image(f"1.2.3.{at + 1}", f"P{at % 3}"))
+        waits = PHASES.get(phase) or "never"
+        tools = self.room / "tools"
+        tools.mkdir()
+        if waits in ("xargs", "rm"):
+            (tools / waits).write_text(TOOL)
+            (tools / waits).chmod(0o755)
+        environment = runs.environment(self.room, PAUSE_AT=waits, DELAY=delay, TMPDIR=str(self.room / "tmp"),
+                                       PATH=f"{tools}:{os.environ['PATH']}")
+        words = [str(TOP / "dicomdir-parallel"), "-j2", out, *(f"{at:03}" for at in range(16))]
+        if phase == "reading":
+            words += ["--files0-from", "-"]
+        self.begin(words, environment, terminal)
+
+    def begin(self, words, environment, terminal):
+        """Begins the run: on a terminal of its own, which all three descriptors are, or with pipes."""
+        self.terminal, self.child = None, None
+        if terminal:
+            self.pid, self.terminal = pty.fork()
+            if self.pid == 0:
+                os.chdir(self.inside)
+                os.execve(words[0], words, environment)
+            return
+        self.child = subprocess.Popen(words, cwd=self.inside, env=environment, stdin=subprocess.PIPE,
+                                      stdout=subprocess.PIPE, stderr=subprocess.PIPE)
+        self.pid = self.child.pid
+
+    def has_come(self, phase):
+        """Waits until the run is in this phase."""
+        if phase != "reading":
+            return wait_for(lambda: os.path.exists(f"{self.calls}.paused"))
+        begun = wait_for(lambda: os.path.exists(self.calls))
+        time.sleep(0.4)
+        return begun
+
+    def read(self):
+        """What a terminal got, to the end of the run."""
+        got = b""
+        try:
+            while more := os.read(self.terminal, 4096):
+                got += more
+        except OSError:
+            pass
+        return got.decode()
+
+    def end(self):
+        """Waits for the end of the run, and gives its status: that of a signal is below 0."""
+        if self.child:
+            # What the run waits for is not closed before its end.
+            try:
+                status = self.child.wait(30)
+            except subprocess.TimeoutExpired:
+                self.child.kill()
+                status = None
+            self.output, self.errors = self.child.stdout.read(), self.child.stderr.read()
+            for pipe in self.child.stdin, self.child.stdout, self.child.stderr:
+                pipe.close()
+            return status
+        return os.waitstatus_to_exitcode(os.waitpid(self.pid, 0)[1])
+
+    def looks_clean(self):
+        """Notes what is left but OUT."""
+        left = [name for name in tree(self.room) if "dicomdir-parallel" in name or name.startswith("tmp/")]
+        if left:
+            self.runs.fault(f"{self.name}: left there: {left[:5]}")
+        if not wait_for(lambda: not processes(self.calls), 2):
+            self.runs.fault(f"{self.name}: processes are left: {processes(self.calls)}")
+
+    def is_ended_by(self, number, status):
+        """Notes what is not as wanted where this signal ended the run. Bash is not ended by QUIT, but answers it."""
+        if status != (128 + number if number == signal.SIGQUIT else -number):
+            self.runs.fault(f"{self.name}: the status is {status}")
+        if (self.inside / "OUT").exists():
+            self.runs.fault(f"{self.name}: OUT is there")
+        if self.child and (self.output or self.errors):
+            self.runs.fault(f"{self.name}: it says {self.output + self.errors}")
+        self.looks_clean()
+
+
+def try_phase(runs, phase, number, out="OUT"):
+    """Sends a signal to a run that is in this phase, and to it alone."""
+    run = Run(runs, f"{phase}-{number.name}-{out.replace('/', '_')}", phase, out=out)
+    if not run.has_come(phase):
+        runs.fault(f"{run.name}: it did not come there")
+    sent = time.monotonic()
+    os.kill(run.pid, number)
+    run.is_ended_by(number, run.end())
+    if time.monotonic() - sent > 20:
+        runs.fault(f"{run.name}: it took {time.monotonic() - sent:.1f} seconds to end")
+
+
+def try_terminal(runs, phase):
+    """Types Ctrl-C."""
+    run = Run(runs, f"{phase}-typed", phase, terminal=True)
+    if not run.has_come(phase):
+        runs.fault(f"{run.name}: it did not come there")
+    os.write(run.terminal, b"\x03")
+    got = run.read()
+    run.is_ended_by(signal.SIGINT, run.end())
+    if got.rstrip("\x1b[K\r") not in ("", "^C") and "of 8 parts" not in got and phase not in got:
+        runs.fault(f"{run.name}: the terminal got {got!r}")
+
+
+def try_any_time(runs, seed):
+    """Sends a signal at any time. The run is ended by it, or whole."""
+    chance = random.Random(seed)
+    number = chance.choice([signal.SIGINT, signal.SIGTERM, signal.SIGHUP])
+    run = Run(runs, f"any-time-{seed}", delay="0.05")
+    time.sleep(chance.uniform(0, 3))
+    if run.child.poll() is None:
+        os.kill(run.pid, number)
+    status = run.end()
+    if status != 0:
+        run.is_ended_by(number, status)
+    else:
+        run.looks_clean()
+        if not (run.inside / "OUT" / "DICOMDIR").exists() or not run.output.startswith(b"DONE 16 instances, "):
+            runs.fault(f"{run.name}: it is not whole: {run.output + run.errors}")
+
+
+def try_killed(runs):
+    """Kills parallel while parts are indexed. One process does the work then."""
+    run = Run(runs, "parallel-killed", "indexing")
+    run.has_come("indexing")
+    for pid in filter(is_parallel, processes(run.calls)):
+        os.kill(pid, signal.SIGKILL)
+    if run.end() != 0 or not run.output.startswith(b"DONE 16 instances, ") or run.errors:
+        runs.fault(f"{run.name}: it says {run.output + run.errors}")
+    run.looks_clean()
+
+
+def try_progress(runs):
+    """Shows progress on a terminal, which is gone at the end."""
+    run = Run(runs, "progress", delay="0.4", terminal=True)
+    got = run.read()
+    lines = [line.removesuffix("\x1b[K") for line in got.split("\r")]
+    run.end()
+    run.looks_clean()
+    if not any(line.startswith("indexing ") and line.endswith(" of 8 parts") for line in lines):
+        runs.fault(f"{run.name}: no line of progress in {got!r}")
+    if not re.search("\r\x1b\\[KDONE 16 instances, [0-9]+ bytes\r\n$", got):
+        runs.fault(f"{run.name}: the terminal got {got!r}")
+
+
+def try_signals(runs):
+    """Ends runs in each phase. Gives how many there were."""
+    tries = [(try_phase, phase, number) for phase in PHASES for number in (signal.SIGINT, signal.SIGTERM)]
+    tries += [(try_phase, "indexing", number) for number in (signal.SIGHUP, signal.SIGQUIT)]
+    tries += [(try_phase, "merging", signal.SIGTERM, "OUT/a/b")]
+    tries += [(try_terminal, phase) for phase in ("cutting", "indexing", "merging", "removing")]
+    tries += [(try_any_time, seed) for seed in range(12)]
+    with concurrent.futures.ThreadPoolExecutor(2 * (os.cpu_count() or 1)) as at_once:
+        begun = [at_once.submit(what, runs, *words) for what, *words in tries]
+        begun += [at_once.submit(try_killed, runs), at_once.submit(try_progress, runs)]
+    for one in begun:
+        one.result()
+    return len(tries)
