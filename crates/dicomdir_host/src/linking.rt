@@ -8,7 +8,7 @@ ghost use Rattle.dicomdir_host.specs.Storing.{Names, Waits};
 
 use crate::again::link_file;
 use crate::host_files::{HostFiles, is_directory};
-use crate::opening::open_same;
+use crate::opening::{open_same, require_same};
 use crate::paths::folder_of;
 use crate::system::System;
 use dd_files::LinkFault;
@@ -43,13 +43,14 @@ impl<'a, R: System> HostFiles<'a, R> {
         Ok((folder, name))
     }
 
-    // Opens the new name at the path, where it is the file that was seen.
+    // Opens the new name at the path, where it is the file that was seen, and no symbolic link to it.
     fn open_linked(&mut self, path: &str, seen: &Metadata) -> io::Result<(R::File, Metadata)>
         ensures files { (self.new.unstored ≡ self.old.unstored) ⊎ (self.new.unstored.files.items ≡ []) }
         ensures folders { self.new.unstored.folders ≡ self.old.unstored.folders }
         ensures lost { IsSome self.old.unstored.lost → self.new.unstored.lost ≡ self.old.unstored.lost }
         ensures same { self.new ≡ record self.old { unstored = self.new.unstored; progress = self.new.progress } }
     {
+        require_same(self.rt, path, seen)?;
         let answer = open_same(self.rt, path, seen);
         if self.makes_room(&answer) {
             return open_same(self.rt, path, seen);

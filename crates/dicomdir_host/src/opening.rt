@@ -1,7 +1,7 @@
 //! Files that are opened for reading.
 ghost use Rattle.std.specs.Io.{ReadsAtMost};
 
-use crate::again::look_at_open;
+use crate::again::{Links, look, look_at_open};
 use crate::system::System;
 use std::fs::{self, File, Metadata};
 use std::io::{self, Read};
@@ -63,6 +63,15 @@ pub(crate) fn open_same<R: fs::Files>(
         return Err(io::Error::other("another file than was seen"));
     }
     Ok((file, opened))
+}
+
+/// Refuses the path of a file that was seen, where anything else stands there: also a symbolic link to it.
+pub(crate) fn require_same<R: fs::Files>(rt: &R, path: &str, seen: &Metadata) -> io::Result<()> {
+    let found = look(rt, path, Links::Kept)?;
+    if !is_same(seen, &found) {
+        return Err(io::Error::other("another file than was seen"));
+    }
+    Ok(())
 }
 
 /// Opens what stands at the path: a pipe or a device, too, and a file of any size. It may wait.
