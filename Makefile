@@ -1,5 +1,5 @@
-# Installs the prebuilt program, dicomdir-parallel, their man pages and completions, and the documents, and makes a
-# Debian package of them.
+# Installs the prebuilt program, its scripts, their man pages and completions, and the documents, and makes a Debian
+# package of them.
 # PREFIX and DESTDIR may hold spaces.
 SHELL := /bin/sh
 PREFIX ?= /usr/local
@@ -7,6 +7,8 @@ DESTDIR ?=
 export PREFIX DESTDIR
 
 program := prebuilt/x86_64-linux-gnu/dicomdir
+# They do the work of 'dicomdir index'. Each has a man page and completions by its name.
+scripts := dicomdir-parallel dicomdir-slurm
 version := $(shell cat packaging/version)
 share := "$$DESTDIR$$PREFIX/share"
 bin := "$$DESTDIR$$PREFIX/bin"
@@ -15,7 +17,7 @@ ours := $(share)/doc/dicomdir
 help:
 	@echo 'dicomdir $(version), a program for Linux on x86-64 with glibc 2.34 or newer'
 	@echo
-	@echo '  make install    copies it, dicomdir-parallel, man pages, completions and documents to PREFIX, /usr/local'
+	@echo '  make install    copies it, its scripts, man pages, completions and documents to PREFIX, /usr/local'
 	@echo '                  by default; where DESTDIR is given, to that folder in place of /'
 	@echo '  make uninstall  removes these files again, from the same PREFIX and DESTDIR'
 	@echo '  make deb        makes a Debian package of them, in packaging/out'
@@ -27,26 +29,28 @@ help:
 install:
 	@sed -n 's|^program \(.*\)|\1  $(program)|p' $(program).made-from | sha256sum --check --quiet -
 	install -D -m 755 $(program) $(bin)/dicomdir
-	install -m 755 dicomdir-parallel $(bin)/dicomdir-parallel
+	install -m 755 $(scripts) $(bin)
+	install -D -m 644 parts/functions $(share)/dicomdir/functions
+	install -m 755 parts/slurm-job $(share)/dicomdir/slurm-job
 	install -D -m 644 docs/dicomdir.1 $(share)/man/man1/dicomdir.1
-	install -m 644 docs/dicomdir-parallel.1 $(share)/man/man1/dicomdir-parallel.1
+	install -m 644 $(scripts:%=docs/%.1) $(share)/man/man1
 	install -D -m 644 packaging/completions/dicomdir.bash $(share)/bash-completion/completions/dicomdir
-	ln -sf dicomdir $(share)/bash-completion/completions/dicomdir-parallel
+	for name in $(scripts); do ln -sf dicomdir $(share)/bash-completion/completions/$$name || exit 1; done
 	install -D -m 644 packaging/completions/_dicomdir $(share)/zsh/site-functions/_dicomdir
 	install -D -m 644 packaging/completions/dicomdir.fish $(share)/fish/vendor_completions.d/dicomdir.fish
-	install -m 644 packaging/completions/dicomdir-parallel.fish $(share)/fish/vendor_completions.d
+	install -m 644 $(scripts:%=packaging/completions/%.fish) $(share)/fish/vendor_completions.d
 	install -D -m 644 README.md $(ours)/README.md
 	install -d $(ours)/docs
 	install -m 644 docs/*.md $(ours)/docs
 
 # Folders that other programs may have too are left.
 uninstall:
-	for name in dicomdir dicomdir-parallel; do \
+	for name in dicomdir $(scripts); do \
 		rm -f $(bin)/$$name $(share)/man/man1/$$name.1 $(share)/bash-completion/completions/$$name \
 			$(share)/fish/vendor_completions.d/$$name.fish || exit 1; done
-	rm -f $(share)/zsh/site-functions/_dicomdir
+	rm -f $(share)/zsh/site-functions/_dicomdir $(share)/dicomdir/functions $(share)/dicomdir/slurm-job
 	rm -f $(ours)/README.md $(ours)/docs/*.md
-	for folder in $(ours)/docs $(ours); do \
+	for folder in $(ours)/docs $(ours) $(share)/dicomdir; do \
 		if [ -d "$$folder" ]; then rmdir --ignore-fail-on-non-empty "$$folder"; fi; done
 
 deb:

@@ -14,8 +14,8 @@ import sys
 import tempfile
 import time
 
-# What is typed behind 'dicomdir ', and what stands there behind Tab. The folder has the files 'one.dcm' and
-# 'only file', and the folders 'one' and 'two folders'.
+# What is typed behind 'dicomdir ', or where it begins so in place of that, and what stands there behind Tab. The folder
+# has the files 'one.dcm' and 'only file', and the folders 'one' and 'two folders'.
 CASES = [
     ("wi", "withdraw "),
     ("index --m", "index --max-bytes "),
@@ -39,6 +39,13 @@ CASES = [
     ("list --l", "list --long "),
     ("list onl", "list onl"),
     ("help li", "help list "),
+    ("dicomdir-parallel --ho", "dicomdir-parallel --hosts "),
+    ("dicomdir-parallel --hosts onl", "dicomdir-parallel --hosts only\\ file "),
+    ("dicomdir-parallel -j 2 one/ one.", "dicomdir-parallel -j 2 one/ one.dcm "),
+    ("dicomdir-parallel --li", "dicomdir-parallel --li"),
+    ("dicomdir-slurm --w", "dicomdir-slurm --wait "),
+    ("dicomdir-slurm --wait -j 2 tw", "dicomdir-slurm --wait -j 2 two\\ folders/"),
+    ("dicomdir-slurm --ho", "dicomdir-slurm --ho"),
 ]
 
 # By the ways of zsh an option that takes a value gets =, and where no folder begins so, files are offered. For fish
@@ -48,6 +55,7 @@ OTHERWISE = {
         "index --m": "index --max-bytes=",
         "index --f": "index --files0-from=",
         "list onl": "list only\\ file ",
+        "dicomdir-parallel --ho": "dicomdir-parallel --hosts=",
     },
     "fish": {"index o": "index on", "index --files0-from one.dcm on": "index --files0-from one.dcm on"},
 }
@@ -79,7 +87,7 @@ cd '{room}/files'
     "fish": (
         ["fish", "--no-config", "--init-command", "source '{room}/start'"],
         """function fish_prompt; printf 'READY> '; end
-source '{folder}/dicomdir.fish'
+for file in '{folder}'/*.fish; source $file; end
 function said; commandline >'{room}/new'; mv '{room}/new' '{room}/said'; end
 bind \\cxd said
 cd '{room}/files'
@@ -106,7 +114,8 @@ def complete(words, environment, room, typed):
     if shell == 0:
         os.execvpe(words[0], words, environment)
     wait_for(ours, lambda shown: b"READY> " in shown)
-    os.write(ours, b"dicomdir " + typed.encode() + b"\t\x18d")
+    behind = "" if typed.startswith("dicomdir") else "dicomdir "
+    os.write(ours, behind.encode() + typed.encode() + b"\t\x18d")
     wait_for(ours, lambda shown: os.path.exists(said))
     with open(said, encoding="utf-8") as file:
         line = file.read().rstrip("\n")
@@ -114,7 +123,7 @@ def complete(words, environment, room, typed):
     os.kill(shell, signal.SIGKILL)
     os.waitpid(shell, 0)
     os.close(ours)
-    return line.removeprefix("dicomdir ")
+    return line.removeprefix(behind)
 
 
 def main():

@@ -1,4 +1,4 @@
-# Completion of dicomdir(1) and dicomdir-parallel(1) for bash.
+# Completion of dicomdir(1), dicomdir-parallel(1) and dicomdir-slurm(1) for bash.
 # shellcheck shell=bash
 
 # Offers the paths that begin so: -d folders, -f files and folders. Each has the third word in front.
@@ -13,11 +13,11 @@ _dicomdir()
     local word current command='' own='' value='' ended='' before='' paths=0 words=()
     COMPREPLY=()
 
-    # dicomdir-parallel takes the words of index, and more options.
-    if [[ ${COMP_WORDS[0]##*/} == dicomdir-parallel ]]; then
-        command=index
-        own='-j --hosts'
-    fi
+    # These take the words of index, and more options.
+    case ${COMP_WORDS[0]##*/} in
+        dicomdir-parallel) command=index own='-j --hosts' ;;
+        dicomdir-slurm) command=index own='-j --wait' ;;
+    esac
 
     # Bash splits words at = and : too. Here they are whole.
     for word in "${COMP_WORDS[@]:0:COMP_CWORD+1}"; do
@@ -77,4 +77,4 @@ _dicomdir()
     COMPREPLY=("${COMPREPLY[@]#"${current%"$word"}"}")
 }
 
-complete -F _dicomdir dicomdir dicomdir-parallel
+complete -F _dicomdir dicomdir dicomdir-parallel dicomdir-slurm
