@@ -18,6 +18,10 @@ def tasks(case):
 def judge(case, run):
     """What is wrong in a run in which growths were refused."""
     found = harm(case, run)
+    # A file whose new name finds no memory is copied.
+    copied = [path for path in case.right.second if path in run.left and path not in run.second]
+    if len(copied) > 1:
+        found.append("more than one image is copied")
     if run.is_as(case.right):
         return found
     if run.status != 1 or not (run.err == MEMORY or FAULT.fullmatch(run.err)):

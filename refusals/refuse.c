@@ -9,7 +9,7 @@
  *                          file), read, write, mkdir, link, fsync or close.
  *   REFUSE_LATER=1         Each later growth, or each later call of this name, is refused as well.
  *   REFUSE_LOG=FILE        A line for each of these calls is appended: its name, what it answered (an error as
- *                          -E), and its path or descriptor. That of link has the new path, and behind it the old one.
+ *                          -E), and its path or descriptor. Of link it has the new path, and behind that the old.
  *                          The line of a refused one begins with '!'.
  *   REFUSE_COUNTS=FILE     When the program ends, a line 'armed A growths G refused R' is appended: how often the
  *                          growths began to be counted, how many came while they were, and how many of them were
