@@ -1,11 +1,9 @@
 #!/usr/bin/python3
-"""Makes what discs, and second names, are tried with.
+"""Makes what discs are tried with.
 
     discs.py number FILE COUNT OUT      makes COUNT images of one series, of one whose UID has nine characters
     discs.py show SET FORM all|files    gives a folder the names that a system shows: FORM is how it shows N
-    discs.py name FILE OUT              gives a file more names in a new folder, as many as it can have or 65,000
 """
-import os
 import pathlib
 import sys
 
@@ -39,15 +37,5 @@ def show(folder, form, which):
         path.rename(path.with_name(name + (form[1:] if which == "all" or path.is_file() else "")))
 
 
-def name(file, out):
-    """Gives a file names in a new folder, until the system gives none: on ext4 a file can have 65,000."""
-    pathlib.Path(out).mkdir()
-    for place in range(65000):
-        try:
-            os.link(file, pathlib.Path(out, str(place)))
-        except OSError:
-            break
-
-
 if __name__ == "__main__":
-    {"number": number, "show": show, "name": name}[sys.argv[1]](*sys.argv[2:])
+    {"number": number, "show": show}[sys.argv[1]](*sys.argv[2:])
