@@ -208,7 +208,10 @@ def try_progress(runs):
 
 
 def try_signals(runs):
-    """Ends runs in each phase. Gives how many there were."""
+    """Ends runs in each phase. Gives how many there were. A shell that began this one in the background had it ignore
+    signals, and what is begun here would ignore them, too."""
+    for number in (signal.SIGHUP, signal.SIGINT, signal.SIGQUIT, signal.SIGTERM):
+        signal.signal(number, signal.SIG_DFL)
     tries = [(try_phase, phase, number) for phase in PHASES for number in (signal.SIGINT, signal.SIGTERM)]
     tries += [(try_phase, "indexing", number) for number in (signal.SIGHUP, signal.SIGQUIT)]
     tries += [(try_phase, "merging", signal.SIGTERM, "OUT/a/b")]
