@@ -30,7 +30,7 @@ install:
 	@sed -n 's|^program \(.*\)|\1  $(program)|p' $(program).made-from | sha256sum --check --quiet -
 	install -D -m 755 $(program) $(bin)/dicomdir
 	install -m 755 $(scripts) $(bin)
-	install -D -m 644 parts/functions $(share)/dicomdir/functions
+	install -D -m 644 -t $(share)/dicomdir parts/functions parts/lines
 	install -m 755 parts/slurm-job $(share)/dicomdir/slurm-job
 	install -D -m 644 docs/dicomdir.1 $(share)/man/man1/dicomdir.1
 	install -m 644 $(scripts:%=docs/%.1) $(share)/man/man1
@@ -48,7 +48,8 @@ uninstall:
 	for name in dicomdir $(scripts); do \
 		rm -f $(bin)/$$name $(share)/man/man1/$$name.1 $(share)/bash-completion/completions/$$name \
 			$(share)/fish/vendor_completions.d/$$name.fish || exit 1; done
-	rm -f $(share)/zsh/site-functions/_dicomdir $(share)/dicomdir/functions $(share)/dicomdir/slurm-job
+	rm -f $(share)/zsh/site-functions/_dicomdir $(share)/dicomdir/functions $(share)/dicomdir/lines \
+		$(share)/dicomdir/slurm-job
 	rm -f $(ours)/README.md $(ours)/docs/*.md
 	for folder in $(ours)/docs $(ours) $(share)/dicomdir; do \
 		if [ -d "$$folder" ]; then rmdir --ignore-fail-on-non-empty "$$folder"; fi; done

@@ -17,7 +17,7 @@ from beside import TOP, image, tree
 PHASES = {"reading": None, "cutting": "xargs", "indexing": "index --quiet", "merging": "merge --link", "removing": "rm"}
 # Waits where its words are those of that phase.
 TOOL = """#!/bin/sh
-case "$0 $*" in */xargs*stat*|*/rm\\ -rf*/1\\ */2\\ *) : >"$CALLS.paused"; exec sleep 60 ;; esac
+case "$0 $*" in */xargs*stat*|*/rm\\ -rf\\ --\\ */[0-9]) : >"$CALLS.paused"; exec sleep 60 ;; esac
 PATH=${PATH#*:}
 exec "${0##*/}" "$@"
 """
@@ -35,10 +35,11 @@ def processes(calls):
     return found
 
 
-def is_parallel(pid):
-    """Says whether a process is GNU parallel as it is called for the parts."""
+def has_parts_run(pid):
+    """Says whether a process is xargs or GNU parallel as it is called for the parts."""
     try:
-        return b"--will-cite" in pathlib.Path(f"/proc/{pid}/cmdline").read_bytes().split(b"\0")
+        words = pathlib.Path(f"/proc/{pid}/cmdline").read_bytes().split(b"\0")
+        return words[0] == b"xargs" or b"--will-cite" in words
     except OSError:
         return False
 
@@ -56,7 +57,7 @@ def wait_for(is_there, seconds=20):
 class Run:
     """A run in a folder of its own, which waits in a phase, if one is named."""
 
-    def __init__(self, runs, name, phase=None, delay="0", out="OUT", terminal=False):
+    def __init__(self, runs, name, phase=None, delay="0", out="OUT", terminal=False, hosts=False):
         self.runs, self.name = runs, name
         self.room = runs.work / f"signal-{name}"
         self.inside, self.calls = self.room / "w", f"{self.room}.calls"
@@ -72,7 +73,9 @@ class Run:
             (tools / waits).chmod(0o755)
         environment = runs.environment(self.room, PAUSE_AT=waits, DELAY=delay, TMPDIR=str(self.room / "tmp"),
                                        PATH=f"{tools}:{os.environ['PATH']}")
+        (self.inside / "hosts").write_text(":\n")
         words = [str(TOP / "dicomdir-parallel"), "-j2", out, *(f"{at:03}" for at in range(16))]
+        words += ["--hosts", "hosts"] * hosts
         if phase == "reading":
             words += ["--files0-from", "-"]
         self.begin(words, environment, terminal)
@@ -142,9 +145,10 @@ class Run:
         self.looks_clean()
 
 
-def try_phase(runs, phase, number, out="OUT"):
+def try_phase(runs, phase, number, out="OUT", hosts=False):
     """Sends a signal to a run that is in this phase, and to it alone."""
-    run = Run(runs, f"{phase}-{number.name}-{out.replace('/', '_')}", phase, out=out)
+    name = f"{phase}-{number.name}-{out.replace('/', '_')}{'-hosts' * hosts}"
+    run = Run(runs, name, phase, out=out, hosts=hosts)
     if not run.has_come(phase):
         runs.fault(f"{run.name}: it did not come there")
     sent = time.monotonic()
@@ -183,11 +187,11 @@ def try_any_time(runs, seed):
             runs.fault(f"{run.name}: it is not whole: {run.output + run.errors}")
 
 
-def try_killed(runs):
-    """Kills parallel while parts are indexed. One process does the work then."""
-    run = Run(runs, "parallel-killed", "indexing")
+def try_killed(runs, hosts):
+    """Kills what runs the parts while they are indexed. One process does the work then."""
+    run = Run(runs, f"killed{'-hosts' * hosts}", "indexing", hosts=hosts)
     run.has_come("indexing")
-    for pid in filter(is_parallel, processes(run.calls)):
+    for pid in filter(has_parts_run, processes(run.calls)):
         os.kill(pid, signal.SIGKILL)
     if run.end() != 0 or not run.output.startswith(b"DONE 16 instances, ") or run.errors:
         runs.fault(f"{run.name}: it says {run.output + run.errors}")
@@ -214,12 +218,14 @@ def try_signals(runs):
         signal.signal(number, signal.SIG_DFL)
     tries = [(try_phase, phase, number) for phase in PHASES for number in (signal.SIGINT, signal.SIGTERM)]
     tries += [(try_phase, "indexing", number) for number in (signal.SIGHUP, signal.SIGQUIT)]
+    tries += [(try_phase, "indexing", number, "OUT", True) for number in (signal.SIGINT, signal.SIGTERM)]
     tries += [(try_phase, "merging", signal.SIGTERM, "OUT/a/b")]
     tries += [(try_terminal, phase) for phase in ("cutting", "indexing", "merging", "removing")]
     tries += [(try_any_time, seed) for seed in range(12)]
     with concurrent.futures.ThreadPoolExecutor(2 * (os.cpu_count() or 1)) as at_once:
         begun = [at_once.submit(what, runs, *words) for what, *words in tries]
-        begun += [at_once.submit(try_killed, runs), at_once.submit(try_progress, runs)]
+        begun += [at_once.submit(try_killed, runs, hosts) for hosts in (False, True)]
+        begun += [at_once.submit(try_progress, runs)]
     for one in begun:
         one.result()
     return len(tries)
