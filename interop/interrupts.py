@@ -166,7 +166,7 @@ def try_terminal(runs, phase):
     os.write(run.terminal, b"\x03")
     got = run.read()
     run.is_ended_by(signal.SIGINT, run.end())
-    if got.rstrip("\x1b[K\r") not in ("", "^C") and "of 8 parts" not in got and phase not in got:
+    if got.rstrip("\x1b[K\r") not in ("", "^C") and "8 parts" not in got and phase not in got:
         runs.fault(f"{run.name}: the terminal got {got!r}")
 
 
