@@ -1,4 +1,4 @@
--- Where the refusal of a plan names two versions, each of them comes from somewhere.
+-- Where the refusal of a plan names two versions, the place of each is found.
 use Rattle.std.specs.Prelude.{◌≡◌, Bool, true, false, ℕ, List, [], ◌∷◌, find, map, nat_lt, Option, None, Some, IsSome}
 use Rattle.std.specs.Prelude.{option_map, if◌then◌else◌}
 use Rattle.std.specs.Ordering.{is_eq}
@@ -97,7 +97,7 @@ clash_has (v ∷ m) a b is = by_option (find (conflicts v) m)
       },
     ))
 
--- ---- and each comes from somewhere
+-- ---- and the place of each is found
 
 first_some : {T : Type 0} (versions : List (T × Parts)) (v : Parts) → Member v (map (λ held. held.1) versions)
     → IsSome (first_of versions v)

@@ -1,4 +1,4 @@
--- The files that are left out: those of one version more, and that the kept version has a mark.
+-- The files that are left out: what one more version adds to them, and that each kept version has a mark.
 use Rattle.std.specs.Prelude.{◌≡◌, ◌≢◌, Bool, true, not, ℕ, List, [], ◌∷◌, ◌++◌, Contains, filter, map}
 use Rattle.std.specs.Prelude.{Some}
 use Rattle.std.specs.List.{list_all, zip}
@@ -21,11 +21,11 @@ use Rattle.dd_engine.proofs.FirstMarks.{files_stay, found_stays}
 use Rattle.dd_engine.proofs.ImagePicks.{held_too}
 use Rattle.dd_engine.proofs.SourcePicks.{files_viewed}
 
--- what a note says
+-- the places and the UID of a note
 abbrev pub says : {T : Type 0} → LeftOut T → LeftAs T
 says note = (note.file, Some note.kept, note.instance)
 
--- of the files of all versions, and of these versions, those that are left out
+-- those of these versions that are left out, where `files` are the files of all versions
 abbrev pub named : {T : Type 0} → List (T × FileKey) → List Parts → List (T × Parts) → List (LeftAs T)
 named files m versions =
     map (left_as files m) (filter (λ version. is_other (kept m version.1.instance) version.1) versions)
@@ -38,7 +38,7 @@ module _ {T : Type 0} (files : List (T × FileKey)) (m : List Parts) where
       ap (map (left_as files m)) (filter-append test done (next ∷ []))
       ∙ map-append (left_as files m) (filter test done) (filter test (next ∷ []))
 
-  -- a version whose instance is kept from other bytes, with its note
+  -- one version more, of whose instance other bytes are kept, adds its note
   pub note_more : (done : List (T × Parts)) (next : T × Parts) (notes : List (LeftOut T)) (note : LeftOut T)
       (one : Parts) → kept m next.1.instance ≡ Some one → is_other (Some one) next.1 ≡ true → note.file ≡ next.0
       → Some note.kept ≡ found files (file_of one) → note.instance ≡ next.1.instance
@@ -55,7 +55,7 @@ module _ {T : Type 0} (files : List (T × FileKey)) (m : List Parts) where
       ∙ ap (λ l. named files m done ++ l) (sym here)
       ∙ sym (named_more done next)
 
--- no version has one
+-- where other bytes are kept of no version's instance, nothing is left out
 pub none_left : {T : Type 0} (files : List (T × FileKey)) (m : List Parts) (places : List T) (versions : List Parts)
     → list_all (λ version. not (is_other (kept m version.instance) version)) versions ≡ true
     → [] ≡ named files m (zip places versions)
@@ -67,7 +67,7 @@ none_left files m (at ∷ places) (version ∷ versions) all = by_test (is_other
 
 -- ---- marks in the order of their files
 
--- a version that is kept is one of those
+-- a version that m keeps is a member of m
 member_kept : (m : List Parts) (uid : List ℕ) (one : Parts) → kept m uid ≡ Some one → Member one m
 member_kept [] uid one is = absurd (none-some one is)
 member_kept (v ∷ m) uid one is = by_test (is_eq (bytes_cmp v.instance uid))
@@ -79,7 +79,7 @@ held_member : (files : List FileKey) (m : List Parts) (one : Parts) → AreHeld 
 held_member files m one all (k, below, is) =
     subst (λ v. filter (λ file. is_one file (file_of v)) files ≢ []) is (all k one below)
 
--- so it has a mark
+-- so the kept version has a mark
 pub marks_held : {T : Type 0} (files : List (T × FileKey)) (xs ys : List (Mark T)) (m : List Parts) (uid : List ℕ)
     (one : Parts) → AreHeld (map (λ file. file.1) files) m → map (λ mark. mark_view mark) xs ≡ files
     → IsStable mark_cmp xs ys → kept m uid ≡ Some one
@@ -91,7 +91,7 @@ marks_held files xs ys m uid one all marks stable is =
     held_member (map (λ mark. key_of mark) ys) m one (held_too _ _ m held (files_stay xs ys stable))
     (contained one m (member_kept m uid one is))
 
--- and the first one is found
+-- and its first mark is found
 pub first_in : {T : Type 0} (files : List (T × FileKey)) (xs ys zs : List (Mark T)) (one : Parts) (at : T)
     → map (λ mark. mark_view mark) xs ≡ files → IsStable mark_cmp xs ys → zs ≡ ys
     → Some at ≡ found (map (λ mark. mark_view mark) zs) (file_of one) → Some at ≡ found files (file_of one)

@@ -1,4 +1,5 @@
--- The files of the images of a plan: one image more, the same marks of each file, and that each version has a file.
+-- The files of the images of a plan: what one more image adds, the same files by other marks, and that each version
+-- has a file.
 use denote.Enum.Bare.{sameb}
 use Rattle.std.specs.Prelude.{◌≡◌, ◌≢◌, ◌+◌, ◌<◌, ℕ, true, false, List, [], ◌∷◌, ◌++◌, All, Contains, length, map}
 use Rattle.std.specs.Prelude.{filter, get_or, take, Option, None, Some, slice_get, option_map}
@@ -25,7 +26,7 @@ use Rattle.dd_engine.proofs.FirstMarks.{file_total, one_file}
 
 -- ---- one record more
 
--- what the test of a level says
+-- the test of the level says whether the record is an IMAGE record
 pub tested : (row : PlanRecord) → sameb the_type row.level Image ≡ is_image row
 tested row = by row.level where
   by : (level : Level) → sameb the_type level Image ≡ is_image (record row { level = level })
@@ -69,9 +70,9 @@ other_more marks versions rows i row picks below is other was =
     ∙ ap (λ l. found_of marks versions (take i rows) ++ l) (sym here)
     ∙ sym (picks_more marks versions rows i row below is)
 
--- ---- what is found, in other words
+-- ---- what is found, by other marks
 
--- where the same is found of each file
+-- where the same place is found for each file, the same places are found for the records
 pub same_found : {T : Type 0} (marks others : List (T × FileKey)) (versions : List Parts) (rows : List PlanRecord)
     → ((file : FileKey) → found marks file ≡ found others file)
     → found_of marks versions rows ≡ found_of others versions rows
@@ -85,7 +86,7 @@ pub twice : {A B C : Type 0} (g : B → C) (f : A → B) (xs : List A) → map g
 twice g f [] = refl
 twice g f (x ∷ xs) = ap (λ l. g (f x) ∷ l) (twice g f xs)
 
--- what is found where each place is mapped
+-- where each place is mapped, what is found is mapped too
 found_told : {T U : Type 0} (f : T → U) (marks : List (T × FileKey)) (file : FileKey)
     → option_map f (found marks file) ≡ found (map (λ mark. (f mark.0, mark.1)) marks) file
 found_told f [] file = refl
@@ -111,7 +112,7 @@ picks_told f marks versions rows picks is =
     ∙ twice (option_map f) (λ row. found_by marks (slice_get versions row.of)) (filter is_image rows)
     ∙ (λ j. map (λ row. told_by f marks (slice_get versions row.of) j) (filter is_image rows))
 
--- ---- what holds of all places holds of those that are picked
+-- ---- what holds for all places holds for those that are picked
 
 nothing : {T : Type 0} (at : T) → ◌≡◌ {A = Option T} None (Some at) → ⊥
 nothing at is = cc
@@ -172,7 +173,7 @@ each_held versions left among_them k d below =
     (among versions version (agreed m version) (own_file version)
     (among_them version (member_of version left from.member)))
 
--- so does each version that is kept
+-- each version that is kept of them has a file, too
 pub each_kept : (versions left : List Parts) → ((v : Parts) → Member v left → Member v versions)
     → AreHeld (map (λ v. file_of v) versions) (best_of left)
 each_kept versions left among_them k d below =
@@ -193,7 +194,7 @@ pub held : (versions planned : List Parts) (files : List FileKey) → planned �
     → files ≡ map (λ v. file_of v) versions → AreHeld files planned
 held versions planned files is all = held_of_left versions versions planned files (λ v i. i) is all
 
--- and it is held where the files of each version stay
+-- and so it is among other files, where each file has the same matches
 pub held_too : (files others : List FileKey) (planned : List Parts) → AreHeld others planned
     → ((file : FileKey) → filter (λ one. is_one one file) files ≡ filter (λ one. is_one one file) others)
     → AreHeld files planned

@@ -1,4 +1,4 @@
--- The patients of several names that namings make are those of the versions.
+-- Grouping the namings of versions gives exactly the patients that the versions name more than once.
 use Rattle.std.proofs.Common.{◌≡◌, ◌≢◌, ◌↔◌, refl, sym, ◌∙◌, ap, subst, arith, inl, inr, ℕ, Bool, true}
 use Rattle.std.proofs.Common.{List, [], ◌∷◌, length, map, filter, nat_lt, Contains}
 use Rattle.std.specs.List.{AllByRecursion}
@@ -21,7 +21,7 @@ use Rattle.dd_catalogue.proofs.Members.{Member, contained, member_of}
 
 -- ---- a patient among patients that rise
 
--- one below all has none of their IDs
+-- a patient whose ID is below the IDs of others shares none of these
 apart : (x y : NamedPatient) (patients : List NamedPatient)
     → AllByRecursion (λ z. bytes_cmp x.id z.id ≡ Less) patients → Member y patients → x.id ≡ y.id → ⊥
 apart x y [] h j is = j
@@ -32,7 +32,7 @@ apart x y (z ∷ patients) h (inl e) is =
     cc
 apart x y (z ∷ patients) h (inr j) is = apart x y patients h.1 j is
 
--- patients with one ID are one
+-- two patients of the list with the same ID are the same
 one_patient : (patients : List NamedPatient) (p q : NamedPatient)
     → IsStrictlySortedBy (on (λ patient. patient.id) bytes_cmp) patients
     → Member p patients → Member q patients → p.id ≡ q.id → p ≡ q
@@ -45,7 +45,7 @@ one_patient (x ∷ patients) p q h (inr i) (inl f) is =
     absurd (apart x p patients h.0 i (ap (λ patient. patient.id) f ∙ sym is))
 one_patient (x ∷ patients) p q h (inr i) (inr j) is = one_patient patients p q h.1 i j is
 
--- the patient with the ID and the name
+-- where the ID and the name are in the list, one patient has both
 named_patient : (patients : List NamedPatient) (id name : List ℕ) → IsNamed patients id name
     → (p : NamedPatient) × Member p patients × (p.id ≡ id) × Member name p.names
 named_patient [] id name h = absurd h
@@ -54,7 +54,7 @@ named_patient (p ∷ patients) id name (inr h) =
     let there = named_patient patients id name h in
     (there.0, inr there.1, there.2, there.3)
 
--- names that differ are more than one
+-- a list with two different names has more than one
 are_several : (names : List (List ℕ)) (one other : List ℕ) → Member one names → Member other names → one ≢ other
     → nat_lt 1 (length names) ≡ true
 are_several [] one other i j apart = absurd i
@@ -88,7 +88,7 @@ naming_from (v ∷ versions) id name (inr i) =
     let there = naming_from versions id name i in
     (there.0, contained there.0 (v ∷ versions) (inr (member_of there.0 versions there.1)), there.2, there.3)
 
--- namings with the members that the versions' have are theirs
+-- where namings are exactly the namings of the versions, they say which names the versions have with an ID
 pub same_names : (versions : List Parts) (namings : List Naming) (id name : List ℕ)
     → SameMembers namings (map naming_of versions)
     → Contains namings (record { id = id; name = name }) ↔ HasName versions id name
@@ -101,11 +101,11 @@ same_names versions namings id name same = (
 
 -- ---- the patients of the versions
 
--- namings have the ID of the patient with this name
+-- one of the namings has the patient's ID and this name
 abbrev IsAmong : List Naming → NamedPatient → List ℕ → Type 0
 IsAmong namings patient name = Contains namings (record { id = patient.id; name = name })
 
--- the names that a patient of these namings has are those that namings have with its ID
+-- the names of a patient are exactly the names that namings with its ID have
 its_names : (namings : List Naming) (patient : NamedPatient) (name : List ℕ)
     → IsStrictlySortedBy naming_cmp namings → Member patient (grouped namings)
     → Contains patient.names name ↔ IsAmong namings patient name
@@ -163,7 +163,7 @@ are_named versions namings members rising =
           (has.0, contained has.0 _ (kept has_several (grouped namings) has.0 has.1 several), has.2);
     }
 
--- no versions have none
+-- where there are no versions, there is no such patient
 pub none_named : AreNamed [] []
 unfolding IsStrictlySortedBy
 none_named = are_named [] [] (λ naming. (λ h. h, λ h. h)) tt

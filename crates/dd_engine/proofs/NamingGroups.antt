@@ -1,4 +1,4 @@
--- Namings in their order, each once, and the patients that they make.
+-- Namings in their order, each once, and the patients that they are grouped into.
 use Rattle.std.proofs.Common.{◌≡◌, ◌∙◌, ◌⊎◌, ◌+◌, ◌-◌, ◌<◌, ◌≤◌, refl, sym, ap, subst, arith, inl, inr, ℕ, suc, true}
 use Rattle.std.proofs.Common.{List, [], ◌∷◌, ◌++◌, filter, length, get_or, take, drop}
 use Rattle.std.specs.List.{AllByRecursion, prefix_len}
@@ -47,14 +47,14 @@ grouped_first first (next ∷ others) =
         let count : suc (prefix_len (has_id first.id) others) ≡ 1 + prefix_len (has_id first.id) others = omega arith in
         ap (λ (n : ℕ). patient_of first (take n (next ∷ others)) ∷ grouped (drop n (next ∷ others))) count
 
--- ---- what holds of namings holds of their patients
+-- ---- what holds for namings holds for their patients
 
 weaker : {X : Type 0} (P Q : X → Type 0) → ((x : X) → P x → Q x) → (xs : List X)
     → AllByRecursion P xs → AllByRecursion Q xs
 weaker P Q so [] h = tt
 weaker P Q so (x ∷ xs) h = (so x h.0, weaker P Q so xs h.1)
 
--- of each ID
+-- for each ID
 pub all_ids : (P : List ℕ → Type 0) (namings : List Naming)
     → AllByRecursion (λ n. P n.id) namings → AllByRecursion (λ p. P p.id) (grouped namings)
 all_ids P [] h = tt
@@ -67,7 +67,7 @@ all_ids P (first ∷ others) h = added_ids P first (grouped others) h.0 (all_ids
         (λ e. rw e (own, h.1))
         (λ e. rw e (own, h))
 
--- of each ID with each name
+-- for each ID together with each name
 abbrev pub AllNamed : (Naming → Type 0) → List NamedPatient → Type 0
 AllNamed P = AllByRecursion (λ p. AllByRecursion (λ name. P (record { id = p.id; name = name })) p.names)
 
@@ -92,7 +92,7 @@ all_named P (first ∷ others) h = added_named P first (grouped others) h.0 (all
 
 -- ---- the order of patients and of their names
 
--- the ID of the first is below, or the same
+-- the first ID is below the other, or the same
 abbrev AtMost : List ℕ → List ℕ → Type 0
 AtMost one other = (bytes_cmp one other ≡ Less) ⊎ (one ≡ other)
 
@@ -102,7 +102,7 @@ at_most n m less = by_order (bytes_cmp n.id m.id)
     (λ e. inr (exact_bytes n.id m.id e))
     (λ e. absurd (let no = rw e at less in cc))
 
--- below at one ID is below by the name
+-- of two namings with one ID, the first has the greater name
 name_below : (n m : Naming) → m.id ≡ n.id → naming_cmp n m ≡ Less → name_cmp n.name m.name ≡ Less
 name_below n m is less = rw (is, tied_itself nat_list_cmp_total n.id) at less
 
@@ -150,7 +150,7 @@ names_fall (first ∷ others) h = added_falls first (grouped others) (names_fall
         ))
         (λ e. rw e ((tt, tt), h))
 
--- ---- each naming is that of a patient
+-- ---- each naming belongs to a patient
 
 -- a patient has the ID and the name
 abbrev pub IsNamed : List NamedPatient → List ℕ → List ℕ → Type 0
@@ -180,9 +180,9 @@ each_named (first ∷ others) n (inl is) =
     subst (λ n. IsNamed (add_naming first (grouped others)) n.id n.name) is (added_first first (grouped others))
 each_named (first ∷ others) n (inr h) = added_later first (grouped others) n.id n.name (each_named others n h)
 
--- ---- the patients of several names, one after another
+-- ---- the patients with more than one name, found one after another
 
--- those of namings behind a first
+-- the first naming and those with its ID give at most one such patient, and the rest give the others
 pub several_first : (all rest : List Naming) (first : Naming) (done more : List NamedPatient) (n : ℕ)
     → 0 < length rest → first ≡ get_or rest 0 first → n ≡ prefix_len (has_id first.id) (rest_of rest)
     → more ≡ done ++ filter has_several (patient_of first (take n (rest_of rest)) ∷ [])
@@ -202,7 +202,7 @@ several_first all rest first done more n some read count added so =
     ∙ ap (λ l. l ++ filter has_several later) (sym added)
     ∙ ap (λ l. more ++ filter has_several (grouped l)) (sym (take_rest (rest_of rest) n))
 
--- they are no more
+-- the rest is not longer than all namings
 pub several_shorter : (all rest : List Naming) (n : ℕ) → length rest ≤ length all
     → length (take (length (rest_of rest) - n) (drop n (rest_of rest))) ≤ length all
 several_shorter all rest n less =

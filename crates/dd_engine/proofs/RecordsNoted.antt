@@ -1,4 +1,4 @@
--- What a merge with notes answers: notes of places as notes of sets and File IDs, and the numbers of sets in it.
+-- What a merge answers with notes: places become sets with File IDs, and each number of a set is below the count.
 use Rattle.std.specs.Prelude.{◌≡◌, ◌<◌, ℕ, List, [], ◌∷◌, ◌++◌, All, length, map, filter}
 use Rattle.std.specs.Prelude.{Option, None, Some, IfErr, IfOk, option_map, Result, Ok, Err}
 use Rattle.std.specs.List.{AllByRecursion, zip}
@@ -37,7 +37,7 @@ use Rattle.dd_engine.proofs.PicksWithin.{AreBelow as ImagesBelow}
 use Rattle.dd_engine.proofs.PlacePicks.{left_member}
 use Rattle.dd_engine.proofs.SourcesNoted.{holds_of_clash, holds_of_notes}
 
--- ---- notes of places that are mapped
+-- ---- notes where each place is mapped
 
 module _ {T U : Type 0} (f : T → U) where
   abbrev pub told : T × Parts → U × Parts
@@ -231,7 +231,7 @@ module _ (choice : Choice) (limits : Bounds) (given sets : List (List ℕ)) wher
         (filed_below (length sets) (numbered 0 is.0) (all_numbered_below sets is.0 is.1)) is.3
     by Memory clash is = none_below (length sets) clash is
 
-  -- each of two files is found
+  -- where two versions clash, a file of each is found
   pub files_found : (result : Result NotedMerge (NotedFault MergeFault Pick))
       → NotesSets choice limits given sets result → IfErr result (λ noted. FindsBoth noted.fault noted.clash)
   files_found (Ok noted) is = tt

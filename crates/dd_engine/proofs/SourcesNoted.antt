@@ -1,4 +1,4 @@
--- What an index with notes answers for a supply of sources, and that the numbers in it are below the count of sources.
+-- What an index of sources answers with notes, and that each number in the answer is below the count of sources.
 use Rattle.std.specs.Prelude.{◌≡◌, ◌<◌, ◌≤◌, ◌+◌, Bool, ℕ, suc, List, [], ◌∷◌, All, length, map, filter, Option}
 use Rattle.std.specs.Prelude.{None, Some, IfErr, IfOk, IfSome, Result, Ok, Err}
 use Rattle.std.specs.List.{AllByRecursion}
@@ -33,7 +33,7 @@ use Rattle.dd_engine.proofs.BothFound.{best_among, best_rises, both_found}
 use Rattle.dd_engine.proofs.ImagePicks.{holds_by, holds_of_picks}
 use Rattle.dd_engine.proofs.Planning.{accepted_below, skipped_below}
 
--- ---- what holds of all places holds of those that are noted
+-- ---- what holds for all places holds for those that the notes name
 
 module _ {T U : Type 0} (place : T → U) (P : U → Type 0) where
   each_chosen : (test : U × Parts → Bool) (versions : List (U × Parts)) → AllByRecursion (λ v. P v.0) versions
@@ -154,7 +154,7 @@ module _ (choice : Choice) (limits : Bounds) (answers : List Answer) where
     by (Absent at) clash is = none_below (length answers) clash is
     by (Unread at) clash is = none_below (length answers) clash is
 
-  -- each of two sources is found
+  -- where two versions clash, a source of each is found
   pub sources_found : (result : Result NotedIndex (NotedFault EngineFault ℕ)) → NotesIndex choice limits answers result
       → IfErr result (λ noted. FindsBoth noted.fault noted.clash)
   sources_found (Ok noted) is = tt

@@ -1,4 +1,4 @@
--- What an index of a supply of sources answers with notes.
+-- What an index of sources answers, together with its notes on these sources.
 use Rattle.std.specs.Prelude.{◌≡◌, ◌<◌, ℕ, List, [], length, Option, None, Result, Ok, Err}
 use Rattle.dd_catalogue.specs.Contents.{Contents}
 use Rattle.dd_catalogue.specs.Harmony.{harmonised}
@@ -27,13 +27,13 @@ abbrev pub unnoted : Result NotedIndex (NotedFault EngineFault ℕ) → Result I
 unnoted (Ok noted) = Ok noted.indexed
 unnoted (Err noted) = Err noted.fault
 
--- ---- where these are the answers for the sources
+-- ---- the answer, where each source was read with one of these results
 
--- the sources that are left out, since their instances are kept from others
+-- the notes name the sources that are left out: of the instance of each, a version with other bytes is kept
 abbrev pub LeavesOut : List Answer → List (LeftOut ℕ) → Type 0
 LeavesOut answers notes = AreLeftOut (λ at. at) (best_of_sources (accepted answers)) (accepted answers) notes
 
--- the first sources of the two kept versions that the refusal of a plan names, and None for another fault
+-- where the plan is refused for two versions that clash, the first source of each; None for any other fault
 abbrev pub ClashesIn : List Answer → EngineFault → Option (Clash ℕ) → Type 0
 ClashesIn answers (Plan fault) clash =
     IsClashOf (λ at. at) (best_of_sources (accepted answers)) (accepted answers) fault clash
@@ -41,26 +41,26 @@ ClashesIn answers Memory clash = clash ≡ None
 ClashesIn answers (Absent at) clash = clash ≡ None
 ClashesIn answers (Unread at) clash = clash ≡ None
 
--- two sources are named where the refusal of a plan names two versions
+-- where the plan is refused for two versions that clash, a source of each is named
 abbrev pub FindsBoth : EngineFault → Option (Clash ℕ) → Type 0
 FindsBoth (Plan fault) clash = IsFound fault clash
 FindsBoth Memory clash = Unit {0}
 FindsBoth (Absent at) clash = Unit {0}
 FindsBoth (Unread at) clash = Unit {0}
 
--- the refusal with the note
+-- the index is refused, with a note of the two sources that clash
 abbrev pub IsRefused : Choice → Bounds → List Answer → NotedFault EngineFault ℕ → Type 0
 IsRefused choice limits answers noted =
     Indexes choice limits answers (Err noted.fault) × ClashesIn answers noted.fault noted.clash
 
--- the answer with notes
+-- the index answers this, with notes
 abbrev pub NotesIndex : Choice → Bounds → List Answer → Result NotedIndex (NotedFault EngineFault ℕ) → Type 0
 NotesIndex choice limits answers (Ok noted) =
     IsIndexed choice limits answers noted.indexed × LeavesOut answers noted.notes.left_out.items
     × AreNamed (best_of_sources (accepted answers)) noted.notes.names.items
 NotesIndex choice limits answers (Err noted) = IsRefused choice limits answers noted
 
--- ---- the answer for a number of sources with these bytes, where they are known
+-- ---- the answer for this number of sources, where `told` gives the bytes of each source that are known
 
 abbrev pub NotesFault : Choice → Bounds → ℕ → (ℕ → Option (List ℕ)) → ℕ → EngineFault → Option (Clash ℕ) → Type 0
 NotesFault choice limits limit told sources (Absent at) clash = (at < sources) × (clash ≡ None)
@@ -83,7 +83,7 @@ NotesSupply choice limits limit told sources (Ok noted) = (answers : List Answer
 abbrev pub IsHeldBest : List Answer → Contents → Type 0
 IsHeldBest answers c = (c.versions ≡ best_of_sources (accepted answers)) × (c.withdrawn ≡ [])
 
--- what is planned of them: the plan, the sources of its images, and the notes
+-- what is planned: the plan, the sources of its images, and the notes
 pub record IsPlanned (choice : Choice) (limits : Bounds) (answers : List Answer) (laid : Layout) (from : List ℕ)
     (noted : Notes ℕ) : Type 0 where
   pub plan : let m = best_of_sources (accepted answers) in laid ≡ layout_of (label_for choice m []) m []

@@ -1,4 +1,4 @@
--- What a merge of directories answers with notes.
+-- What a merge of directories answers, together with its notes on the files that they list.
 use Rattle.std.specs.Prelude.{◌≡◌, ℕ, List, map, Option, None, Result, Ok, Err}
 use Rattle.dd_dir.specs.OwnVersions.{place_of, version_of}
 use Rattle.dd_dir.specs.Reading.{Refuses}
@@ -24,19 +24,19 @@ abbrev pub unnoted : Result NotedMerge (NotedFault MergeFault Pick) → Result M
 unnoted (Ok noted) = Ok noted.merged
 unnoted (Err noted) = Err noted.fault
 
--- ---- where the sets list this and these UIDs are withdrawn as well
+-- ---- the answer, where the sets list this, and the given UIDs are withdrawn as well
 
 -- the versions of all images, each with the set and the File ID of its file
 abbrev pub filed_in : List SetListing → List ((ℕ × List ℕ) × Parts)
 filed_in listings =
     map (λ image. (place_pick (image.0, place_of image.1), version_of image.1)) (numbered 0 listings)
 
--- the files that are left out, since their instances are kept from others
+-- the notes name the files that are left out: of the instance of each, a version with other bytes is kept
 abbrev pub LeavesOut : List (List ℕ) → List SetListing → List (LeftOut Pick) → Type 0
 LeavesOut given listings notes =
     AreLeftOut (λ pick. pick_view pick) (held_in given listings).versions (filed_in listings) notes
 
--- the first files of the two kept versions that the refusal of a plan names, and None for another fault
+-- where the plan is refused for two versions that clash, the first file of each; None for any other fault
 abbrev pub ClashesIn : List (List ℕ) → List SetListing → MergeFault → Option (Clash Pick) → Type 0
 ClashesIn given listings (Plan fault) clash =
     IsClashOf (λ pick. pick_view pick) (held_in given listings).versions (filed_in listings) fault clash
@@ -44,14 +44,14 @@ ClashesIn given listings (Dir at fault) clash = clash ≡ None
 ClashesIn given listings (Own at fault) clash = clash ≡ None
 ClashesIn given listings Memory clash = clash ≡ None
 
--- two files are named where the refusal of a plan names two versions
+-- where the plan is refused for two versions that clash, a file of each is named
 abbrev pub FindsBoth : MergeFault → Option (Clash Pick) → Type 0
 FindsBoth (Plan fault) clash = IsFound fault clash
 FindsBoth (Dir at fault) clash = Unit {0}
 FindsBoth (Own at fault) clash = Unit {0}
 FindsBoth Memory clash = Unit {0}
 
--- the answer with notes
+-- the merge answers this, with notes
 abbrev pub NotesMerge : Choice → Bounds → List (List ℕ) → List SetListing
     → Result NotedMerge (NotedFault MergeFault Pick) → Type 0
 NotesMerge choice limits given listings (Ok noted) =
@@ -60,7 +60,7 @@ NotesMerge choice limits given listings (Ok noted) =
 NotesMerge choice limits given listings (Err noted) =
     MergesAs choice limits given listings (Err noted.fault) × ClashesIn given listings noted.fault noted.clash
 
--- ---- the answer for the bytes of these sets, where these UIDs are withdrawn as well
+-- ---- the answer for sets with these bytes, where the given UIDs are withdrawn as well
 
 abbrev pub NotesSetsFault : Choice → Bounds → List (List ℕ) → List (List ℕ) → MergeFault → Option (Clash Pick) → Type 0
 NotesSetsFault choice limits given sets (Dir at fault) clash =

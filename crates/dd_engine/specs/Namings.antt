@@ -1,4 +1,4 @@
--- Patient IDs with Patient's Names, in their order, and the patients that they make.
+-- Namings, each a Patient ID with a Patient's Name: their order, and the patients that they are grouped into.
 use Rattle.std.specs.Prelude.{ℕ, Bool, List, [], ◌∷◌, length, map, nat_lt, if◌then◌else◌}
 use Rattle.std.specs.Cmp.{IsTotalOrder}
 use Rattle.std.specs.Ordering.{on}
@@ -17,11 +17,11 @@ pub record Naming : Type 0 where
   pub id : List ℕ
   pub name : List ℕ
 
--- those of a version
+-- the Patient ID and the Patient's Name of a version
 abbrev pub naming_of : Parts → Naming
 naming_of v = record { id = v.patient.id; name = v.patient.name }
 
--- the order of namings: IDs rise, and names with one ID fall
+-- the order of namings: the IDs rise, and the names that stand with the same ID fall
 abbrev pub naming_cmp : Naming → Naming → Ordering
 naming_cmp = by_bytes (λ n. n.id) then on (λ n. n.name) name_cmp
 
@@ -42,7 +42,8 @@ naming_apart x y tie =
 abbrev pub has_id : List ℕ → Naming → Bool
 has_id id naming = bytes_eq naming.id id
 
--- a naming, and the patients of those behind it: the first gets its name, where it has its ID
+-- a naming in front of others that are grouped into patients: the first patient gets its name where the IDs are the
+-- same, and else a new patient stands in front
 abbrev pub add_naming : Naming → List NamedPatient → List NamedPatient
 add_naming naming [] = record { id = naming.id; names = naming.name ∷ [] } ∷ []
 add_naming naming (patient ∷ patients) =
@@ -50,15 +51,15 @@ add_naming naming (patient ∷ patients) =
     then record { id = naming.id; names = naming.name ∷ patient.names } ∷ patients
     else record { id = naming.id; names = naming.name ∷ [] } ∷ patient ∷ patients
 
--- the patient that namings with the ID of the first have
+-- the patient of namings that all have the ID of the first
 abbrev pub patient_of : Naming → List Naming → NamedPatient
 patient_of first like = record { id = first.id; names = first.name ∷ map (λ n. n.name) like }
 
--- the patients of such namings
+-- the patients of namings in their order
 abbrev pub grouped : List Naming → List NamedPatient
 grouped [] = []
 grouped (naming ∷ namings) = add_naming naming (grouped namings)
 
--- it has more than one name
+-- the patient has more than one name
 abbrev pub has_several : NamedPatient → Bool
 has_several patient = nat_lt 1 (length patient.names)

@@ -1,5 +1,5 @@
--- What is noted beside a plan: which files are left out, since their instances are kept from other bytes, and from
--- which files two versions come that clash.
+-- What is noted beside a plan: which files are left out, since other bytes are kept of their instance, and which files
+-- have two versions that clash.
 use Rattle.std.specs.Prelude.{◌≡◌, ◌<◌, Bool, false, not, ℕ, List, All, map, filter, find, Option, None, Some, IfSome}
 use Rattle.std.specs.Prelude.{IsSome, option_map}
 use Rattle.std.specs.Ordering.{is_eq}
@@ -27,19 +27,19 @@ LeftAs T = T × Option T × List ℕ
 abbrev pub left_as : {T : Type 0} → List (T × FileKey) → List Parts → T × Parts → LeftAs T
 left_as files m version = (version.0, found_by files (kept m version.1.instance), version.1.instance)
 
--- of the versions as they came, with m kept of them: those whose instance is kept from other bytes
+-- of the versions, in the order in which they came, those of whose instance m keeps other bytes
 abbrev pub left_out : {T : Type 0} → List Parts → List (T × Parts) → List (LeftAs T)
 left_out m versions = map (left_as (files_of versions) m)
     (filter (λ version. is_other (kept m version.1.instance) version.1) versions)
 
--- the notes name them in this order
+-- the notes name the files that are left out, in this order
 abbrev pub AreLeftOut : {T U : Type 0} → (T → U) → List Parts → List (U × Parts) → List (LeftOut T) → Type 0
 AreLeftOut place m versions notes =
     map (λ note. (place note.file, Some (place note.kept), note.instance)) notes ≡ left_out m versions
 
--- ---- where two versions come from that clash
+-- ---- the places of two versions that clash
 
--- where the first of these versions is that is this one
+-- the place of the first of these versions that equals this one
 abbrev pub first_of : {T : Type 0} → List (T × Parts) → Parts → Option T
 first_of versions version = option_map (λ held. held.0) (find (λ held. is_eq (parts_cmp held.1 version)) versions)
 
@@ -52,19 +52,19 @@ both None other = None
 both (Some one) None = None
 both (Some one) (Some other) = Some (one, other)
 
--- of the versions as they came, with m kept of them: the first places of the two kept ones that the fault names
+-- where the fault names two versions that m keeps, the first place of each among the versions as they came
 abbrev pub clash_of : {T : Type 0} → List Parts → List (T × Parts) → PlanFault → Option (T × T)
 clash_of m versions (Conflict one other) = both (first_by versions (kept m one)) (first_by versions (kept m other))
 clash_of m versions (TooMany level) = None
 clash_of m versions TooLarge = None
 clash_of m versions Memory = None
 
--- the note names them
+-- the note names these two places, and is None where there are none
 abbrev pub IsClashOf : {T U : Type 0} → (T → U) → List Parts → List (U × Parts) → PlanFault → Option (Clash T) → Type 0
 IsClashOf place m versions fault clash =
     option_map (λ clash. (place clash.one, place clash.other)) clash ≡ clash_of m versions fault
 
--- where the refusal of a plan names two versions, the note names both
+-- where the refusal of a plan names two versions, there is a note
 abbrev pub IsFound : {T : Type 0} → PlanFault → Option (Clash T) → Type 0
 IsFound (Conflict one other) clash = IsSome clash
 IsFound (TooMany level) clash = Unit {0}
@@ -73,7 +73,7 @@ IsFound Memory clash = Unit {0}
 
 -- ---- numbers of sources or sets
 
--- the numbers of all that is noted are below the count
+-- the number of each source or set that the notes name is below the count
 abbrev pub AreBelow : {T : Type 0} → (T → ℕ) → ℕ → List (LeftOut T) → Type 0
 AreBelow number count notes = All (λ note. (number note.file < count) × (number note.kept < count)) notes
 

@@ -1,4 +1,4 @@
--- Patient IDs with which versions have more than one Patient's Name.
+-- Patient IDs that stand with more than one Patient's Name in versions.
 use Rattle.std.specs.Prelude.{◌≡◌, ◌≢◌, ◌<◌, ◌↔◌, ℕ, List, length, All, Contains}
 use Rattle.std.specs.List.Sorted.{IsStrictlySortedBy}
 use Rattle.std.specs.Ordering.{flip_args}
@@ -7,27 +7,27 @@ use Rattle.dd_elem.specs.Ordered.{bytes_cmp}
 use Rattle.dd_keys.specs.Orders.{by_bytes}
 use Rattle.dd_keys.specs.declared.parts.Parts.{Parts}
 
--- a Patient ID and Patient's Names
+-- a Patient ID, and the Patient's Names that stand with it
 pub record NamedPatient : Type 0 where
   pub id : List ℕ
   pub names : List (List ℕ)
 
--- the order of a patient's names: they fall by bytes
+-- the order of a patient's names: they fall, compared by their bytes
 abbrev pub name_cmp : List ℕ → List ℕ → Ordering
 name_cmp = flip_args bytes_cmp
 
--- a version has this Patient ID and this Patient's Name
+-- one of the versions has this Patient ID and this Patient's Name
 abbrev pub HasName : List Parts → List ℕ → List ℕ → Type 0
 HasName versions id name = (v : Parts) × Contains versions v × (v.patient.id ≡ id) × (v.patient.name ≡ name)
 
--- the patient's names are more than one, fall, and are exactly those that the versions have with its ID
+-- the patient has more than one name; they fall, and are exactly the names that versions with its ID have
 pub record HasItsNames (versions : List Parts) (patient : NamedPatient) : Type 0 where
   pub several : 1 < length patient.names
   pub falling : IsStrictlySortedBy name_cmp patient.names
   pub each : (name : List ℕ) → Contains patient.names name ↔ HasName versions patient.id name
 
--- the patients rise by Patient ID, each has its names, and each ID with two names is there. Versions have one such
--- list at most, since members and order are given.
+-- the patients rise by Patient ID, each has its names, and each ID with two names is there. There is one such list at
+-- most, since its members and their order are given.
 pub record AreNamed (versions : List Parts) (patients : List NamedPatient) : Type 0 where
   pub rising : IsStrictlySortedBy (by_bytes (λ patient. patient.id)) patients
   pub own : All (HasItsNames versions) patients

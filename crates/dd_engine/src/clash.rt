@@ -1,4 +1,4 @@
-//! Where two versions come from that clash.
+//! Finds the files of two versions that clash.
 
 ghost use Rattle.std.specs.Prelude.{◌≡◌};
 ghost use Rattle.std.specs.List.{zip};
@@ -11,8 +11,8 @@ use dd_elem::{Ordered, Uid};
 use dd_keys::Version;
 use dd_layout::PlanFault;
 
-/// Finds where the two kept versions come from that the fault names: the first place of each. The catalogue was made
-/// of these versions, which stand at these places, in the same order. None where the fault names no two versions.
+/// Finds the first place of each of the two kept versions that the fault names. The catalogue was made of these
+/// versions, and `places` has the place of each, in the same order. None where the fault does not name two versions.
 pub(crate) fn clash_of<T: Copy>(
     catalogue: &Catalogue,
     versions: &[Version],
@@ -29,7 +29,7 @@ pub(crate) fn clash_of<T: Copy>(
     Some(Clash { one, other })
 }
 
-/// The first place of the version that the catalogue keeps of this instance.
+/// Finds the first place of the version that the catalogue keeps of this instance.
 fn kept_place<T: Copy>(
     catalogue: &Catalogue,
     versions: &[Version],
@@ -41,7 +41,7 @@ fn kept_place<T: Copy>(
     first_place(versions, places, catalogue.get(instance)?)
 }
 
-/// The first place of this version.
+/// Finds the first place of this version.
 fn first_place<T: Copy>(versions: &[Version], places: &[T], version: &Version) -> Option<T>
     ensures { result ≡ first_of (zip places.now versions.now) version.now }
 {

@@ -37,8 +37,8 @@ impl Drop for Indexed {
 /// Reads all sources, each to its end or to `file_limit` bytes and one more, and plans the directory of
 /// the best of their versions under the label that is asked for. A source without a version is skipped.
 ///
-/// Absent and Unread name the first source that could not be opened or whose reader failed; a Plan fault
-/// is the refusal of these versions; Memory where a growth was refused. Each reader is ended before the
+/// Absent and Unread name the first source that failed: it could not be opened, or its reader failed. A Plan
+/// fault is the refusal of these versions. Memory where a growth was refused. Each reader is ended before the
 /// answer.
 pub fn index_engine<S: Supply>(
     alloc: Global,

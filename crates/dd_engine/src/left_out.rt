@@ -1,4 +1,4 @@
-//! Which files are left out, since their instances are kept from other bytes.
+//! Finds the files that are left out, since other bytes are kept of their instance.
 
 ghost use Rattle.std.specs.Prelude.{◌≡◌, false, true, not, None, Some, IfOk, IfSome, map};
 ghost use Rattle.std.specs.List.{list_all, zip};
@@ -14,9 +14,9 @@ use dd_elem::Memory;
 use dd_keys::Version;
 use std::alloc::Global;
 
-/// Lists the files whose instance the catalogue keeps from other bytes, in the order in which they came, each with
-/// the first file of the kept version. The files are given by their versions and, in the same order, by where
-/// they are. Memory where a growth was refused.
+/// Lists the files of whose instance the catalogue keeps other bytes, in the order in which they came, each with
+/// the first file of the kept version. The files are given by their versions and, in the same order, by their
+/// places. Memory where a growth was refused.
 pub(crate) fn left_out<T: Copy>(
     alloc: Global,
     catalogue: &Catalogue,
@@ -44,7 +44,7 @@ pub(crate) fn left_out<T: Copy>(
     Ok(notes)
 }
 
-/// The version that the catalogue keeps of the instance of this one, where its bytes are others.
+/// Finds the version that the catalogue keeps of this version's instance, where the two have different bytes.
 fn other_of<'a>(catalogue: &'a Catalogue, version: &Version) -> Option<&'a Version>
     ensures some { IfSome result (λ one. (kept catalogue.now.versions version.now.instance ≡ Some one.now)
         × (is_other (Some one.now) version.now ≡ true)) }
@@ -58,7 +58,7 @@ fn other_of<'a>(catalogue: &'a Catalogue, version: &Version) -> Option<&'a Versi
     Some(kept)
 }
 
-/// Does the catalogue keep no instance of these versions from other bytes?
+/// Says whether there is no version among these of whose instance the catalogue keeps other bytes.
 fn are_kept(catalogue: &Catalogue, versions: &[Version]) -> bool
     ensures { result ≡ list_all (λ version. not (is_other (kept catalogue.now.versions version.instance) version))
         versions.now }
@@ -66,7 +66,7 @@ fn are_kept(catalogue: &Catalogue, versions: &[Version]) -> bool
     versions.iter().all(|version| is_kept(catalogue, version))
 }
 
-/// Does the catalogue not keep the instance of this version from other bytes?
+/// Says whether the catalogue does not keep other bytes of this version's instance.
 fn is_kept(catalogue: &Catalogue, version: &Version) -> bool
     ensures { result ≡ not (is_other (kept catalogue.now.versions version.now.instance) version.now) }
 {

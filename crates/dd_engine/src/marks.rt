@@ -1,4 +1,4 @@
-//! Where the first file of each image of a plan is, of many.
+//! Finds the first file of each image of a plan among many files.
 
 ghost use Rattle.std.specs.Prelude.{◌≡◌, ◌≢◌, [], Some, IfOk, map, filter};
 ghost use Rattle.std.specs.List.{zip};
@@ -24,7 +24,7 @@ pub(crate) struct Mark<'a, T> {
     pub(crate) at: T,
 }
 
-/// A mark of the file of each version, which is where the place beside it says.
+/// Makes a mark for the file of each version, which is at the place that stands beside the version.
 pub(crate) fn marks_of<'a, T: Copy>(
     alloc: Global,
     versions: &'a [Version],
@@ -45,8 +45,8 @@ pub(crate) fn marks_of<'a, T: Copy>(
     Ok(marks)
 }
 
-/// For each image of the plan, in the order of the records, where the first of these files is that is
-/// its file. Memory where a growth was refused.
+/// Finds for each image of the plan, in the order of the records, the place of its file: of the first one where
+/// several of these files are the same. Memory where a growth was refused.
 pub(crate) fn first_marks<T: Copy>(
     alloc: Global,
     plan: &Plan,
@@ -74,7 +74,7 @@ pub(crate) fn in_order<T: Copy>(mut marks: Vec<Mark<'_, T>>) -> Result<Vec<Mark<
     Ok(marks)
 }
 
-/// Which file stands first, that of the mark or this one: by SOP Instance UID, then by digest?
+/// Compares the file of the mark with this one: by SOP Instance UID, then by digest.
 fn compare<T>(mark: &Mark<'_, T>, instance: &Uid, digest: &[u8; 32]) -> Ordering
     ensures { result ≡ file_cmp (key_of mark.now) (record { instance = instance.now; digest = digest.now }) }
 {
@@ -84,7 +84,7 @@ fn compare<T>(mark: &Mark<'_, T>, instance: &Uid, digest: &[u8; 32]) -> Ordering
         .then(own[..].cmp(&digest[..]))
 }
 
-/// The same, of marks in the order of their files.
+/// Does the same with marks that are in the order of their files.
 fn picks_among<T: Copy>(alloc: Global, plan: &Plan, marks: &[Mark<'_, T>]) -> Result<Vec<T>, Memory>
     requires order { IsSorted mark_cmp marks.now }
     requires held { AreHeld (map (λ mark. key_of mark) marks.now) plan.now.versions }
@@ -101,7 +101,7 @@ fn picks_among<T: Copy>(alloc: Global, plan: &Plan, marks: &[Mark<'_, T>]) -> Re
     Ok(picks)
 }
 
-/// Where the first of these files is that is the file of the version.
+/// Finds the place of the first of these files that is the file of the version.
 pub(crate) fn first_mark<T: Copy>(marks: &[Mark<'_, T>], version: &Version) -> T
     requires order { IsSorted mark_cmp marks.now }
     requires held { filter (λ file. is_one file (file_of version.now)) (map (λ mark. key_of mark) marks.now) ≢ [] }

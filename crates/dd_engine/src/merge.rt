@@ -40,12 +40,12 @@ impl Drop for Merged<'_> {
     }
 }
 
-/// Reads the directories of all sets, each from its bytes, and plans the directory of the best of the
-/// versions that they list and of which no set withdraws the instance, with all that they withdraw, under the
-/// label that is asked for.
+/// Reads the directories of all sets, each from its bytes, and plans one directory under the label that is asked
+/// for. It has the best of the versions that they list and of which no set withdraws the instance. It names all
+/// instances that they withdraw.
 ///
-/// Dir and Own name the first set that is no directory, or none that is written here; a Plan fault is
-/// the refusal of these versions; Memory where a growth was refused. Where the sets are the directories of
+/// Dir names the first set that is no directory, and Own the first that was not written here. A Plan fault is
+/// the refusal of these versions. Memory where a growth was refused. Where the sets are the directories of
 /// catalogues that agree in pairs, the plan has the images of the catalogue that joins these, whatever labels
 /// they were published under. It is the plan of that catalogue where none of them withdraws an instance of
 /// another.
@@ -65,7 +65,7 @@ pub fn merge_engine<'a>(
     merge_sets(alloc, sets, &[], choice, limits)
 }
 
-/// Plans the directory of what all these sets list where these instances are withdrawn as well.
+/// Plans the directory of what all these sets list, where the given instances are withdrawn as well.
 pub(crate) fn merge_sets<'a>(
     alloc: Global,
     sets: &[&'a [u8]],

@@ -22,12 +22,12 @@ use dd_catalogue::Catalogue;
 use dd_layout::{Limits, Plan, PlanFault};
 use std::alloc::Global;
 
-/// What an index of sources has, with notes of sources.
+/// What an index of sources has, with notes on these sources.
 #[derive(Debug, Drop)]
 pub struct NotedIndex {
     /// What the index has.
     pub indexed: Indexed,
-    /// What is noted of sources, by their numbers.
+    /// The notes on sources, each source by its number.
     pub notes: Notes<usize>,
 }
 
@@ -44,9 +44,9 @@ impl NotedIndex {
     }
 }
 
-/// Does what `index_engine` does, and notes which sources are left out: those whose instance is kept from a source
-/// with other bytes. It also notes the Patient IDs of which kept versions have more than one Patient's Name. Where two
-/// kept versions clash, the refusal says which source is the first of each.
+/// Does what `index_engine` does, and notes which sources are left out: of the instance of each, a version with
+/// other bytes is kept. It also notes each Patient ID that stands with more than one Patient's Name in the kept
+/// versions. Where two kept versions clash, the refusal names the first source of each.
 pub fn index_with_notes<S: Supply>(
     alloc: Global,
     supply: &mut S,
@@ -79,7 +79,7 @@ pub fn index_with_notes<S: Supply>(
     noted(alloc, sources, choice, limits)
 }
 
-/// What an index has of the sources that were read, with notes.
+/// Plans the directory of the sources that were read, with notes.
 fn noted(
     alloc: Global,
     sources: Sources,
@@ -102,7 +102,7 @@ fn noted(
     })
 }
 
-/// The plan of the catalogue of what was read, the source of each of its images, and the notes.
+/// Makes the plan of the catalogue of what was read, and gives the source of each of its images and the notes.
 fn planned(
     alloc: Global,
     sources: &Sources,
@@ -126,7 +126,7 @@ fn planned(
     Ok((plan, picks, Notes { left_out, names }))
 }
 
-/// The refusal of the plan, with the sources of the two versions that it names.
+/// Makes the refusal of the plan, with the first source of each of the two versions that it names, if it names two.
 fn refused(
     sources: &Sources,
     catalogue: &Catalogue,

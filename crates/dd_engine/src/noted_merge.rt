@@ -21,12 +21,12 @@ use dd_keys::Version;
 use dd_layout::{Limits, PlanFault};
 use std::alloc::Global;
 
-/// What a merge of directories has, with notes of files of sets.
+/// What a merge of directories has, with notes on files of the sets.
 #[derive(Debug, Drop)]
 pub struct NotedMerge<'a> {
     /// What the merge has.
     pub merged: Merged<'a>,
-    /// What is noted of files of sets.
+    /// The notes on files of the sets.
     pub notes: Notes<Pick<'a>>,
 }
 
@@ -43,9 +43,9 @@ impl<'a> NotedMerge<'a> {
     }
 }
 
-/// Does what `merge_engine` does, and notes which files are left out: those whose instance is kept from a file with
-/// other bytes. It also notes the Patient IDs of which kept versions have more than one Patient's Name. Where two
-/// kept versions clash, the refusal says which file is the first of each.
+/// Does what `merge_engine` does, and notes which files are left out: of the instance of each, a version with
+/// other bytes is kept. It also notes each Patient ID that stands with more than one Patient's Name in the kept
+/// versions. Where two kept versions clash, the refusal names the first file of each.
 pub fn merge_with_notes<'a>(
     alloc: Global,
     sets: &'a [&'a [u8]],
@@ -62,7 +62,7 @@ pub fn merge_with_notes<'a>(
     noted_sets(alloc, sets, &[], choice, limits)
 }
 
-/// Does what `withdraw_engine` does, with the notes of `merge_with_notes`, the set being number 0.
+/// Does what `withdraw_engine` does, with the notes that `merge_with_notes` gives. The set has the number 0.
 pub fn withdraw_with_notes<'a>(
     alloc: Global,
     set: &'a [u8],
@@ -80,7 +80,7 @@ pub fn withdraw_with_notes<'a>(
     noted_sets(alloc, &[set], uids, choice, limits)
 }
 
-/// Plans the directory of what all these sets list where these instances are withdrawn as well, with notes.
+/// Plans the directory of what all these sets list, where the given instances are withdrawn as well, with notes.
 pub(crate) fn noted_sets<'a>(
     alloc: Global,
     sets: &[&'a [u8]],
@@ -144,7 +144,7 @@ fn planned<'a>(
     })
 }
 
-/// The refusal of the plan, with the files of the two versions that it names.
+/// Makes the refusal of the plan, with the first file of each of the two versions that it names, if it names two.
 fn refused<'a>(
     versions: &[Version],
     places: &[Pick<'a>],

@@ -1,4 +1,4 @@
-//! What is noted of files beside the plan of their directory.
+//! Notes on files, which stand beside the plan of their directory.
 
 ghost use Rattle.std.specs.Prelude.{◌≡◌, None};
 
@@ -7,7 +7,7 @@ use crate::merge_fault::MergeFault;
 use crate::patient_names::PatientNames;
 use dd_elem::{self, Uid};
 
-/// A file that is left out, since its instance is kept from other bytes.
+/// A file that is left out, since other bytes are kept of its instance.
 #[derive(Clone, Copy, Debug)]
 pub struct LeftOut<T> {
     /// Where the file is.
@@ -18,37 +18,37 @@ pub struct LeftOut<T> {
     pub instance: Uid,
 }
 
-/// Where two kept versions come from, of which the keys clash.
+/// The files of two kept versions whose keys clash.
 #[derive(Clone, Copy, Debug)]
 pub struct Clash<T> {
-    /// Where the first file of the version is that the fault names first.
+    /// Where the first file is of the version that the fault names first.
     pub one: T,
-    /// Where the first file of the other one is.
+    /// Where the first file of the other version is.
     pub other: T,
 }
 
-/// What is noted of files beside the plan of their directory.
+/// Notes on files, which stand beside the plan of their directory.
 #[derive(Debug, Drop)]
 pub struct Notes<T> {
     /// The files that are left out, in the order in which they came.
     pub left_out: Vec<LeftOut<T>>,
-    /// The Patient IDs of which kept versions have more than one Patient's Name, rising.
+    /// The Patient IDs that stand with more than one Patient's Name in the kept versions, in rising order.
     pub names: Vec<PatientNames>,
 }
 
-/// Why there is no plan, and where two versions come from that clash.
+/// Why there is no plan, with the files of two versions that clash, if that is why.
 #[derive(Clone, Copy, Debug)]
 pub struct NotedFault<F, T> {
     /// Why there is no plan.
     pub fault: F,
-    /// Where the two versions come from that the fault names. None where it names no two versions.
+    /// The files of the two versions that the fault names. None where it does not name two versions.
     pub clash: Option<Clash<T>>,
 }
 
 impl<T> From<EngineFault> for NotedFault<EngineFault, T> {
     ghost from_gives = { λ fault noted. noted ≡ record { fault = fault; clash = None } };
 
-    /// Names no two versions.
+    /// Gives the fault, with no clash.
     fn from(fault: EngineFault) -> NotedFault<EngineFault, T> {
         NotedFault { fault, clash: None }
     }
@@ -59,7 +59,7 @@ impl<T> From<dd_elem::Memory> for NotedFault<EngineFault, T> {
 
     ghost from_gives = { λ _ noted. noted ≡ record { fault = faults.Memory; clash = None } };
 
-    /// Names no two versions.
+    /// Gives the fault, with no clash.
     fn from(_refused: dd_elem::Memory) -> NotedFault<EngineFault, T> {
         NotedFault {
             fault: EngineFault::Memory,
@@ -71,7 +71,7 @@ impl<T> From<dd_elem::Memory> for NotedFault<EngineFault, T> {
 impl<T> From<MergeFault> for NotedFault<MergeFault, T> {
     ghost from_gives = { λ fault noted. noted ≡ record { fault = fault; clash = None } };
 
-    /// Names no two versions.
+    /// Gives the fault, with no clash.
     fn from(fault: MergeFault) -> NotedFault<MergeFault, T> {
         NotedFault { fault, clash: None }
     }
@@ -82,7 +82,7 @@ impl<T> From<dd_elem::Memory> for NotedFault<MergeFault, T> {
 
     ghost from_gives = { λ _ noted. noted ≡ record { fault = faults.Memory; clash = None } };
 
-    /// Names no two versions.
+    /// Gives the fault, with no clash.
     fn from(_refused: dd_elem::Memory) -> NotedFault<MergeFault, T> {
         NotedFault {
             fault: MergeFault::Memory,

@@ -85,7 +85,7 @@ impl<'a> PartialEq for Naming<'a> {
     }
 }
 
-/// By the ID, then by the name, the greatest name first.
+/// Orders namings by the ID, then by the name, the greatest name first.
 impl<'a> Ordered for Naming<'a> {
     ghost use Rattle.dd_engine.specs.Namings.{naming_cmp, naming_total, naming_apart};
 
@@ -102,8 +102,8 @@ impl<'a> Ordered for Naming<'a> {
     }
 }
 
-/// Finds the Patient IDs with which these versions have more than one Patient's Name. They rise by bytes, and the
-/// names of each fall by bytes. Memory where a growth was refused: never where there are no versions.
+/// Finds the Patient IDs that stand with more than one Patient's Name in these versions. The IDs rise by bytes, and
+/// the names of each fall by bytes. Memory where a growth was refused, which can't be where there are no versions.
 pub(crate) fn patient_names(
     alloc: Global,
     versions: &[Version],
@@ -157,7 +157,7 @@ fn of_several_names<'a>(alloc: Global, namings: &[Naming<'a>]) -> Result<Vec<Pat
     Ok(patients)
 }
 
-/// Adds the patient of these namings, which all have the ID of the first, where there are several.
+/// Adds the patient of the first naming and of others with its ID, where there are others.
 fn add<'a>(
     alloc: Global,
     patients: &mut Vec<PatientNames>,
@@ -173,7 +173,7 @@ fn add<'a>(
     Ok(())
 }
 
-/// Counts the namings in front that have the ID.
+/// Counts the namings at the front that have this ID, up to the first with another one.
 fn like_len<'a>(id: &Key, namings: &[Naming<'a>]) -> usize
     ensures count { result ≡ prefix_len (has_id id.now) namings.now }
     ensures within { result ≤ length namings.now }
@@ -188,7 +188,7 @@ fn like_len<'a>(id: &Key, namings: &[Naming<'a>]) -> usize
     len
 }
 
-/// Makes the patient with the names of these namings, which all have the ID of the first.
+/// Makes the patient of the first naming and of others with its ID.
 fn patient<'a>(
     alloc: Global,
     first: &Naming<'a>,

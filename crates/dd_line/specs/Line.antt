@@ -91,7 +91,7 @@ verb_name ListSet = codes "list"
 abbrev pub text_option : Text → Rule
 text_option name = record (new_rule name) { long = Some name; value_names = 1 }
 
--- the greatest limit: the most bytes that a length of 32 bits tells
+-- the greatest limit: the most bytes that a length of 32 bits can state
 abbrev pub most_bytes : ℕ
 most_bytes = 4294967295
 
@@ -107,7 +107,7 @@ flag name = record (new_rule name) { long = Some name; action = Some SetTrue }
 abbrev pub one_path : Text → Rule
 one_path name = record (new_rule name) { value_names = 1; required = true }
 
--- one path or more, or other words that have to be given
+-- one or more paths or other words, which have to be given
 abbrev pub some_paths : Text → Rule
 some_paths name = record (one_path name) {
   range = Some (record { start_inclusive = 1; end_inclusive = 18446744073709551615 });
@@ -218,7 +218,7 @@ TakesSources Withdraw = ⊥
 TakesSources Check = ⊥
 TakesSources ListSet = ⊥
 
--- the number that the text of `--max-bytes` spells in decimal, or the most that there is where it is not given
+-- the number that the text of `--max-bytes` spells in decimal, or the greatest limit where it is not given
 abbrev pub IsLimit : Option Text → ℕ → Type 0
 IsLimit None limit = limit ≡ most_bytes
 IsLimit (Some text) limit =
@@ -241,7 +241,7 @@ pub record Asks (a : Asked) (command : Text) (given : List Row) : Type 0 where
   pub link : a.link ≡ is_given link_name given
   pub files0_from : option_map string_bytes a.files0_from ≡ first_of files0_from_name given
 
--- the path of one file-set, no ID, no UID, and the limit that stands where none is given
+-- the line gives the path of one file-set, no ID and no UID, and has the greatest limit
 pub record AsksForOneSet (a : Asked) : Type 0 where
   pub id : a.id ≡ None
   pub uid : a.uid ≡ None
@@ -249,12 +249,12 @@ pub record AsksForOneSet (a : Asked) : Type 0 where
   pub paths : length a.paths.items ≡ 1
   pub uids : a.uids.items ≡ []
 
--- the folder that is written to, one file-set, and one image at least
+-- the line gives the folder that is written to, one file-set, and at least one image
 pub record AsksToWithdraw (a : Asked) : Type 0 where
   pub paths : length a.paths.items ≡ 2
   pub uids : 1 ≤ length a.uids.items
 
--- a command that takes sources, with the folder that it writes to alone, and no file of names
+-- the command takes sources, and the line gives none: only the folder that is written to, and no file of names
 pub record AsksNoSource (a : Asked) : Type 0 where
   pub takes : TakesSources a.verb
   pub paths : length a.paths.items ≤ 1
@@ -271,8 +271,8 @@ HasLimit given = (text : Text) → first_of max_bytes_name given ≡ Some text
     → (one_of max_bytes_name given ≡ Some (without_minus text))
     × IsSignedIn (pos 0) (pos most_bytes) text
 
--- the text of a flag is `true` where the flag is set; where it is not set, the text is `false`, or there is no text as
--- the command has no such flag
+-- the text of a flag is `true` where the flag is set. Where it is not set the text is `false`, or there is no text,
+-- since the command has no such flag
 abbrev pub IsFlagText : Bool → Option Text → Type 0
 IsFlagText true text = text ≡ Some (codes "true")
 IsFlagText false text = (text ≡ None) ⊎ (text ≡ Some (codes "false"))
@@ -281,7 +281,7 @@ IsFlagText false text = (text ≡ None) ⊎ (text ≡ Some (codes "false"))
 abbrev pub HasFlag : Text → List Row → Type 0
 HasFlag name given = IsFlagText (is_given name given) (one_of name given)
 
--- so does the text of each flag
+-- the text of each flag says whether the words set it
 pub record HasFlags (given : List Row) : Type 0 where
   pub keys : HasFlag keys_name given
   pub strict : HasFlag strict_name given
@@ -297,13 +297,13 @@ pub record GivesOneSet (given : List Row) : Type 0 where
   pub max_bytes : first_of max_bytes_name given ≡ None
   pub paths : length (given_paths given) ≡ 1
 
--- the folder that is written to was given, one file-set, and one image at least
+-- the folder that is written to was given, one file-set, and at least one image
 pub record GivesInstances (given : List Row) : Type 0 where
   pub paths : length (given_paths given) ≡ 2
   pub instances : 1 ≤ length (given_for instance_name given)
 
--- such a command was given what it needs: images only where it withdraws them, each flag only where it has the flag,
--- a file of names only where it takes sources, and then one folder to write to
+-- a command of this kind was given what it needs, and nothing that it lacks. Images go to `withdraw` alone, and a flag
+-- to a command that has it. A file of names goes to one that takes sources, which has one folder to write to
 pub record IsEnoughFor (verb : Verb) (given : List Row) : Type 0 where
   pub paths : least_paths verb ≤ length (given_paths given)
   pub set : OnlyReads verb → GivesOneSet given
@@ -350,19 +350,19 @@ abbrev pub GivesInstance : Option (Text × List Row) → Text → Type 0
 GivesInstance None uid = ⊥
 GivesInstance (Some (command, given)) uid = Contains (given_for instance_name given) uid
 
--- the words give an ID or a UID of the wrong form, of the file-set or of an image
+-- the words give the file-set an ID or a UID of the wrong form, or give such a UID of an image
 abbrev pub HasBadName : Option (Text × List Row) → Type 0
 HasBadName found = ((id : Text) × GivesOption id_name found id × ¬ IsSetId id)
     ⊎ (((uid : Text) × GivesOption uid_name found uid × ¬ IsUid uid)
     ⊎ ((uid : Text) × GivesInstance found uid × ¬ IsUid uid))
 
--- the same of what a line asks for
+-- what a line asks for has an ID or a UID of the wrong form, likewise
 abbrev pub AsksBadName : Asked → Type 0
 AsksBadName a = ((id : Text) × (option_map string_bytes a.id ≡ Some id) × ¬ IsSetId id)
     ⊎ (((uid : Text) × (option_map string_bytes a.uid ≡ Some uid) × ¬ IsUid uid)
     ⊎ ((uid : Text) × Contains (words_of a.uids.items) uid × ¬ IsUid uid))
 
--- a refusal is for want of memory, or has one of the kinds
+-- a refusal is for want of memory, or of one of these kinds
 abbrev pub IsRefusedFor : Kinds → LineFault → Type 0
 IsRefusedFor kinds (Refused e) = (kind_of e ≢ OutOfMemory) × IsAmong (kind_of e) kinds
 IsRefusedFor kinds Memory = Unit {0}

@@ -109,7 +109,7 @@ fn files0_from<'a>(alloc: Global) -> Arg<'a>
     )
 }
 
-/// Makes a command that labels a directory of some size, with the options for that.
+/// Makes a command with the options for the label of a directory and for its size.
 fn labelled<'a>(alloc: Global, name: &'a str, about: &'a str) -> Result<Command<'a>, AllocError>
     ensures { IfOk result (HasApp (labelled_app name.entry.now)) }
 {

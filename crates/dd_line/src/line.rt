@@ -36,9 +36,9 @@ pub enum Verb {
     List,
 }
 
-/// Says what a command line asks for. `index` and `merge` have one path at least, and two where they have no file
-/// of names. `withdraw` has two paths, and one SOP Instance UID at least. `check` and `list` have one path alone, no
-/// ID, no UID, and 4294967295 as the most bytes.
+/// Says what a command line asks for. `index` and `merge` have at least one path, and at least two where they have
+/// no file of names. `withdraw` has two paths, and at least one SOP Instance UID. `check` and `list` have one path
+/// alone, no ID, no UID, and 4294967295 as the most bytes.
 #[derive(Debug, Drop)]
 pub struct Asked {
     /// The command.
@@ -49,10 +49,10 @@ pub struct Asked {
     pub uid: Option<String>,
     /// The most bytes that the directory may have: 4294967295 where the line does not say.
     pub max_bytes: u32,
-    /// The paths of the line: the folder that the command writes to, if it does, then the paths that it reads,
+    /// The paths of the line: the folder that the command writes to, if it writes, then the paths that it reads,
     /// in their order.
     pub paths: Vec<String>,
-    /// The SOP Instance UIDs of the line, as it spells them, in their order: none but for `withdraw`.
+    /// The SOP Instance UIDs of the line, as it spells them, in their order. Only `withdraw` has any.
     pub uids: Vec<String>,
     /// Whether the flag `--keys` is set, by which `check` also compares what each file says of itself with its
     /// record. False for every other command.

@@ -33,7 +33,7 @@ abbrev pub GrowsFile : List (List ℕ × List ℕ) → List (List ℕ × List �
 GrowsFile old new path bytes =
     (before : List ℕ) × (bytes_at old path ≡ Some before) × SetsFile old new path (before ++ bytes)
 
--- the file at one path is there, and nothing at the other, which gets its bytes; all others are as they were
+-- a file stands at `from` and none at `path`, which gets its bytes; all other files are as they were
 pub record LinksFile (old new : List (List ℕ × List ℕ)) (from path : List ℕ) : Type 0 where
   pub bytes : List ℕ
   pub there : bytes_at old from ≡ Some bytes

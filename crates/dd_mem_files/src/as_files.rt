@@ -132,8 +132,8 @@ impl Files for MemFiles {
     }
 
     /// Gives the path a copy of the bytes of the file at `from`; its names are spelled as they are recorded. Absent
-    /// where there is no such file, a copy is refused or the refusals are at their last value, Taken where the path is
-    /// there, and Refused where second names are refused or a growth is. The files are then as they were.
+    /// where there is no such file, a copy is refused or the refusals are at their last value. Taken where the path is
+    /// there. Refused where second names or a growth are refused. The files are then as they were.
     /// `fail_call` does not count this call.
     fn link(&mut self, _set: &str, from: &str, path: &str) -> Result<(), LinkFault>
         ensures worked { IsOk result → HasWorked self.old.refusals self.new.refusals }
@@ -156,7 +156,7 @@ impl Files for MemFiles {
     }
 
     /// Ends the file that is being written. Later writes fail until the next file is started. NotDone only where
-    /// the call is to be refused or the refusals are at their last value; the file has then not ended.
+    /// the call is to be refused or the refusals are at their last value. The file has then not ended.
     fn finish(&mut self) -> Result<(), NotDone>
         ensures worked { IsOk result → HasWorked self.old.refusals self.new.refusals }
         ensures refused { IsErr result → self.new.refusals ≡ counted self.old.refusals }

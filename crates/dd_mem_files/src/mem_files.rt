@@ -220,8 +220,8 @@ impl MemFiles {
     }
 
     /// Gives the path, which must be free, the bytes of the file at `from`. Absent where no file is at `from` or a copy
-    /// of its bytes is refused, Taken where the path is there, and Refused where second names are refused or a growth
-    /// is. The files are then as they were.
+    /// of its bytes is refused. Taken where the path is there. Refused where second names or a growth are refused.
+    /// The files are then as they were.
     pub(crate) fn copy_to(&mut self, from: &str, path: &str) -> Result<(), LinkFault>
         ensures ok { OnOk result (LinksFile self.old.files self.new.files from.now path.now) }
         ensures may { IsOk result → self.old.planned.no_links ≡ false }

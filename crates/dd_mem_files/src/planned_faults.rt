@@ -74,7 +74,7 @@ impl PlannedFaults {
         });
     }
 
-    /// Makes each second name be refused.
+    /// Refuses every second name from now on.
     pub(crate) fn refuse_links(&mut self)
         ensures { self.new ≡ record self.old { no_links = true } }
     {

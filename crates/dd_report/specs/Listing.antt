@@ -1,5 +1,5 @@
--- What a listing of a directory says of its records (PS3.3 section F.3) and of what is withdrawn, and what a long one
--- says of its file-set too.
+-- What a listing of a directory says: of its records (PS3.3 section F.3), of what is withdrawn, and in the long form
+-- also of its file-set.
 use Rattle.std.specs.Prelude.{ℕ, min, List, [], ◌∷◌, ◌++◌, length, Option, None, Some, codes}
 use Rattle.std.specs.Prelude.{if◌then◌else◌}
 use Rattle.std.specs.Fmt.{decimal}
@@ -45,7 +45,7 @@ flag_of node = if node.in_use then [] else codes " inactive"
 abbrev pub spaced : List ℕ → List ℕ → List ℕ → List ℕ → List (List ℕ)
 spaced first second third mark = first ∷ codes " " ∷ second ∷ codes " " ∷ third ∷ mark ∷ []
 
--- the elements that a person knows a record of this type by: the name of the patient; the date, the time and the
+-- the elements by which a person recognises a record of this type: the name of the patient; the date, the time and the
 -- description of the study; the modality and the number of the series; the number of the image
 abbrev pub known_tags : List ℕ → List Tag
 known_tags kind =
@@ -54,7 +54,7 @@ known_tags kind =
     else (if bytes_eq kind (kind_of Series) then tag 0x0008 0x0060 ∷ tag 0x0020 0x0011 ∷ []
     else (if bytes_eq kind (kind_of Image) then tag 0x0020 0x0013 ∷ [] else [])))
 
--- those that a listing of this form shows
+-- the elements of a record of this type whose values a listing of this form shows
 abbrev pub tags_in : Form → List ℕ → List Tag
 tags_in Short kind = []
 tags_in Long kind = known_tags kind
@@ -63,7 +63,8 @@ tags_in Long kind = known_tags kind
 abbrev pub value_parts : Elements → Tag → List (List ℕ)
 value_parts set wanted = codes " | " ∷ or_dash (value_at wanted set) ∷ []
 
--- two spaces for each level, then what the record says, and in a long listing what a person knows it by
+-- what the line of a record says behind its spaces: two for each level. A long listing adds the values by which a
+-- person recognises the record
 abbrev pub record_parts : Form → Node → List (List ℕ)
 record_parts form node = spaced (decimal node.at) node.kind (label_of node) (flag_of node)
     ++ flat_map (value_parts node.set) (tags_in form node.kind)
@@ -79,7 +80,7 @@ lines_of form level no_trees = []
 lines_of form level (tree node below after) =
     (record_line form level node ++ lines_of form (counted level) below) ++ lines_of form level after
 
--- those of a record and of the records below it
+-- the lines of a record and of the records below it
 abbrev pub branch_lines : Form → ℕ → Branch → List ℕ
 branch_lines form level branch = record_line form level branch.node ++ lines_of form (counted level) branch.below
 
@@ -108,15 +109,15 @@ lines_in form walk = lines_of form 0 walk.trees ++ (withdrawn_lines (withdrawn_o
 abbrev pub listing_text : Walk → List ℕ
 listing_text walk = lines_in Short walk
 
--- the ID and the UID of a file-set
+-- what names a file-set: its ID and its UID
 abbrev pub set_parts : List ℕ → List ℕ → List (List ℕ)
 set_parts id uid = codes "FILE-SET " ∷ id ∷ codes " " ∷ uid ∷ []
 
--- those that the directory says, of which the UID is never empty
+-- the line with the ID and the UID that the directory gives; its UID is never empty
 abbrev pub set_line : Walk → List ℕ
 set_line walk = shown_line (set_parts (or_dash (Some walk.beside.id)) walk.beside.uid)
 
--- the long listing: what names the file-set, and then each line as in the short one, with what a person knows its
--- record by
+-- the long listing: the line that names the file-set, and then each line of the short one, in that of a record with
+-- the values by which a person recognises it
 abbrev pub long_listing : Walk → List ℕ
 long_listing walk = set_line walk ++ lines_in Long walk

@@ -55,9 +55,9 @@ struct Check<'a> {
     comparison: Comparison,
 }
 
-/// Checks the files that the records of a directory name, in this folder, by this comparison, and prints what
-/// is found, depth first and once for each record. The files show meanwhile how many records are checked.
-/// Answers whether something is found. Memory where a growth is refused; Unsent where the output fails. The
+/// Checks the files in this folder that the records of a directory name, by this comparison. Prints what is
+/// found, depth first and once for each record. Meanwhile `files` shows how many records are checked.
+/// Answers whether anything is found. Memory where a growth is refused; Unsent where the output fails. The
 /// findings of the records before that are sent.
 pub fn check_records<F: Files, W: Write>(
     alloc: Global,
@@ -108,7 +108,7 @@ fn is_unsent(checked: &Result<bool, CheckFault>) -> bool
     matches!(checked, Err(CheckFault::Unsent))
 }
 
-/// Checks all records, and prints then the line about all of them.
+/// Checks all records, and then prints the line about all of them.
 fn check_forest<F: Files, W: Write>(
     check: Check<'_>,
     forest: &Forest<'_>,
@@ -152,8 +152,8 @@ fn check_counted<F: Files, W: Write>(
     checked
 }
 
-/// Prints how many items no offset reaches, where there are some; or else how many records there are, where
-/// nothing is found of them.
+/// Prints how many items no offset reaches, if there are any. Else prints how many records there are, if nothing
+/// is found.
 fn tell_end<W: Write>(
     forest: &Forest<'_>,
     found: bool,

@@ -1,4 +1,4 @@
-//! What a person knows a record by.
+//! The values by which a person recognises a record.
 ghost use Rattle.std.specs.Prelude.{◌≡◌, ◌∷◌, [], codes};
 ghost use Rattle.std.specs.List.{concat, flat_map};
 ghost use Rattle.dd_set.specs.Views.{set_view};
@@ -15,22 +15,22 @@ use std::fmt;
 /// Says how much a listing shows of each record.
 #[derive(Clone, Copy)]
 pub(crate) enum Form {
-    /// What a program knows it by.
+    /// What identifies it: its offset, its type and one value.
     Short,
-    /// What a person knows it by, too.
+    /// Also the values by which a person recognises it.
     Long,
 }
 
-/// The element that a person knows a PATIENT record by.
+/// The element by which a person recognises a PATIENT record.
 const OF_PATIENT: [Tag; 1] = [tags::PATIENT_NAME];
 
-/// The elements that a person knows a STUDY record by.
+/// The elements by which a person recognises a STUDY record.
 const OF_STUDY: [Tag; 3] = [tags::STUDY_DATE, tags::STUDY_TIME, tags::STUDY_DESCRIPTION];
 
-/// The elements that a person knows a SERIES record by.
+/// The elements by which a person recognises a SERIES record.
 const OF_SERIES: [Tag; 2] = [tags::MODALITY, tags::SERIES_NUMBER];
 
-/// The element that a person knows an IMAGE record by.
+/// The element by which a person recognises an IMAGE record.
 const OF_IMAGE: [Tag; 1] = [tags::INSTANCE_NUMBER];
 
 /// Adds the values of these elements, each behind ` | `.
@@ -59,7 +59,7 @@ fn add_value<W: Write>(value: &[u8], lines: &mut LineBuffer, to: &mut W) -> fmt:
     lines.add_parts(&[b" | ", value], to)
 }
 
-/// The elements of records of this type whose values a listing of this form shows.
+/// Gives the elements of a record of this type whose values a listing of this form shows.
 pub(crate) fn tags_in(form: Form, kind: &[u8]) -> &'static [Tag]
     ensures { result.now ≡ tags_in form kind.now }
 {
@@ -69,7 +69,7 @@ pub(crate) fn tags_in(form: Form, kind: &[u8]) -> &'static [Tag]
     }
 }
 
-/// The elements that a person knows records of this type by.
+/// Gives the elements by which a person recognises a record of this type.
 fn known_tags(kind: &[u8]) -> &'static [Tag]
     ensures { result.now ≡ known_tags kind.now }
 {

@@ -37,9 +37,9 @@ pub fn list_records<W: Write>(forest: &Forest<'_>, to: &mut W) -> fmt::Result
     lines.flush(to)
 }
 
-/// Lists a directory as `list_records` does, for a person: before all a line with the File-set ID and the UID of
-/// the directory, and in the line of each PATIENT, STUDY, SERIES and IMAGE record the values that a person knows
-/// it by. It fails only where the output does, and takes no memory.
+/// Lists a directory as `list_records` does, with more for a person to read. A first line has the File-set ID and
+/// the UID of the directory. The line of each PATIENT, STUDY, SERIES and IMAGE record also has the values by which
+/// a person recognises it. It fails only where the output does, and takes no memory.
 pub fn list_long<W: Write>(forest: &Forest<'_>, to: &mut W) -> fmt::Result
     ensures sent { OnOk result (TakesAll (W.contents to.old) (W.contents to.new)
         (W.failures to.old) (W.failures to.new) (long_listing (walk_view forest.now))) }
@@ -179,7 +179,7 @@ fn label_of<'t>(tree: &'t Tree<'_>) -> &'t [u8]
     value_or_dash(&tree.set, label_tag(tree.kind))
 }
 
-/// The value of this element, or `-` where it is absent or empty or a sequence.
+/// Gives the value of this element, or `-` where it is absent, empty or a sequence.
 pub(crate) fn value_or_dash<'t>(set: &'t DataSet<'_>, tag: Tag) -> &'t [u8]
     ensures { result.now ≡ or_dash (value_at tag (set_view set.now)) }
 {

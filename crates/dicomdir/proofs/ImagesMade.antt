@@ -27,7 +27,7 @@ rows_then From folder versions (first ∷ rows) row pick a b c so_far made =
 
 -- ---- records, each with its pick
 
--- there is a pick for one more
+-- where a pick is left, one more record is paired with it
 zip_more : {P : Type 0} (xs : List PlanRecord) (x : PlanRecord) (picks : List P) (pick : P) (more : List P)
     → drop (length xs) picks ≡ pick ∷ more → zip (xs ++ x ∷ []) picks ≡ zip xs picks ++ (x, pick) ∷ []
 zip_more [] x picks pick more is = rw is refl
@@ -41,7 +41,7 @@ drop_more [] x picks pick more is = rw is refl
 drop_more (y ∷ xs) x [] pick more is = absurd (cc)
 drop_more (y ∷ xs) x (first ∷ picks) pick more is = drop_more xs x picks pick more is
 
--- there is none for others
+-- where no pick is left, further records are not paired
 zip_none : {P : Type 0} (ys : List PlanRecord) → zip {X = P} ys [] ≡ []
 zip_none [] = refl
 zip_none (y ∷ ys) = refl
@@ -78,7 +78,7 @@ named_more rows at d within =
     ap named (take_more rows at d within)
     ∙ filter-append (λ row. is_some row.file) (take at rows) (get_or rows at d ∷ [])
 
--- it has no file
+-- where the next record has no file, the records with a file stay the same
 more_unnamed : (rows : List PlanRecord) (at : ℕ) (d : PlanRecord) → at < length rows
     → (get_or rows at d).file ≡ None → named (take (at + 1) rows) ≡ named (take at rows)
 more_unnamed rows at d within unnamed =
@@ -86,7 +86,7 @@ more_unnamed rows at d within unnamed =
     ∙ ap (λ (xs : List PlanRecord). named (take at rows) ++ xs) (left_out (get_or rows at d) unnamed)
     ∙ append-nil (named (take at rows))
 
--- it has a file
+-- where the next record has a file, it is one more of them
 more_named : (rows : List PlanRecord) (at : ℕ) (d : PlanRecord) (file : Ranks) → at < length rows
     → (get_or rows at d).file ≡ Some file
     → named (take (at + 1) rows) ≡ named (take at rows) ++ get_or rows at d ∷ []
@@ -133,7 +133,7 @@ so_far_by From folder versions rows all at d (Some file) (pick ∷ more) later a
       rest = rw (more_named rows at d file within is) (copied.0 ∙ drop_more front row all pick more some);
     }
 
--- one record more
+-- after one more record, the same holds
 pub so_far_more : {P : Type 0} (From : P → List ℕ → Type 0) (folder : List ℕ) (versions : List Parts)
     (rows : List PlanRecord) (all : List P) (at : ℕ) (d : PlanRecord) (left later : List P) (a b c : Option Held)
     → at < length rows → Copies From folder versions (get_or rows at d) left later b c
@@ -141,7 +141,7 @@ pub so_far_more : {P : Type 0} (From : P → List ℕ → Type 0) (folder : List
 so_far_more From folder versions rows all at d left later a b c within copied so_far =
     so_far_by From folder versions rows all at d (get_or rows at d).file left later a b c within refl copied so_far
 
--- all of them
+-- after all records, the images of all of them are made
 pub made_all : {P : Type 0} (From : P → List ℕ → Type 0) (folder : List ℕ) (versions : List Parts)
     (rows : List PlanRecord) (all : List P) (at : ℕ) (left : List P) (a b : Option Held) → length rows ≤ at
     → SoFar From folder versions rows all at left a b → MakesImages From folder versions rows all a b
@@ -160,7 +160,7 @@ copied_one From folder versions row (Some file) f [] d a b some one made = absur
 copied_one From folder versions row (Some file) f (pick ∷ more) d a b some one made =
     (take_all (length (pick ∷ more) - 1) more (omega arith), made)
 
--- its image was made, of the first pick
+-- the image of the record was made, of the first pick
 pub copies_one : {P : Type 0} (From : P → List ℕ → Type 0) (folder : List ℕ) (versions : List Parts)
     (row : PlanRecord) (picks : List P) (d : P) (a b : Option Held) → 1 ≤ length picks
     → MakesRow (From (get_or picks 0 d)) folder versions row a b

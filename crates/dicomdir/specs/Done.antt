@@ -3,8 +3,8 @@ use Rattle.std.specs.Prelude.{ℕ, List, [], ◌∷◌, ◌++◌, codes}
 use Rattle.std.specs.Fmt.{decimal}
 use Rattle.std.specs.List.{concat}
 
--- a line of a word, of the texts of how many instances there are and how many bytes the directory has, and of what
--- stands behind them
+-- a line of these parts: a word, the number of instances, the number of bytes of the directory, both as texts, and
+-- what stands behind them
 abbrev pub count_parts : List ℕ → List ℕ → List ℕ → List (List ℕ) → List ℕ
 count_parts word instances bytes behind =
     concat (word ∷ instances ∷ codes " instances, " ∷ bytes ∷ behind) ++ 10 ∷ []
@@ -14,11 +14,11 @@ count_parts word instances bytes behind =
 abbrev pub done_text : ℕ → ℕ → List ℕ
 done_text instances bytes = count_parts (codes "DONE ") (decimal instances) (decimal bytes) (codes " bytes" ∷ [])
 
--- the last line of one that would write it
+-- the last line of a command that would write such a file-set
 abbrev pub plan_text : ℕ → ℕ → List ℕ
 plan_text instances bytes = count_parts (codes "PLAN ") (decimal instances) (decimal bytes) (codes " bytes" ∷ [])
 
--- the same, with the number of bytes of the images
+-- the same line, with the number of bytes of the images
 abbrev pub images_text : ℕ → ℕ → ℕ → List ℕ
 images_text instances bytes images = count_parts (codes "PLAN ") (decimal instances) (decimal bytes)
     (codes " bytes, " ∷ decimal images ∷ codes " bytes of images" ∷ [])

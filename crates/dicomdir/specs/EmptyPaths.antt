@@ -22,7 +22,7 @@ abbrev pub HasEmptyPath : Option (Text × List Row) → Type 0
 HasEmptyPath None = ⊥
 HasEmptyPath (Some (command, given)) = Contains (given_paths given) []
 
--- the least number of paths of its line that a command of this kind reads
+-- the least number of paths to read that the line of a command of this kind has
 abbrev pub least_sources : Verb → ℕ
 least_sources Index = 0
 least_sources Merge = 0

@@ -1,4 +1,4 @@
--- Lists of names whose names end in zero bytes.
+-- Lists of names in which a zero byte ends each name.
 use Rattle.std.specs.Prelude.{◌≡◌, ◌≢◌, ◌≤◌, ◌-◌, ◌⊎◌, ◌++◌, ◌==◌, ℕ, List, [], ◌∷◌, if◌then◌else◌}
 use Rattle.std.specs.Prelude.{All, Contains, length, max, slice_index_or}
 use Rattle.std.specs.List.{AllWithin, flat_map, onto_first}
@@ -6,12 +6,12 @@ use Rattle.std.specs.Str.{IsUtf8}
 use Rattle.std.specs.Prelude.{String}
 use Rattle.dd_line.specs.Line.{words_of}
 
--- the parts of a list: a zero byte ends each, and the end of the list ends a last one without it
+-- the parts of a list: a zero byte ends each, but the last one may end with the list
 abbrev pub parts : List ℕ → List (List ℕ)
 parts [] = []
 parts (byte ∷ list) = if byte == 0 then [] ∷ parts list else onto_first byte (parts list)
 
--- the list is these parts, none with a zero byte in it and each with one behind it; the last of these may lack
+-- the list is these parts: none has a zero byte in it, and each has one behind it, which the last part may lack
 pub record IsListOf (parts : List (List ℕ)) (list : List ℕ) : Type 0 where
   pub apart : All (λ part. ¬ Contains part 0) parts
   pub joined : (flat_map (λ part. part ++ 0 ∷ []) parts ≡ list)

@@ -40,7 +40,7 @@ pub record LinksImage (From : List ℕ → Type 0) (folder : List ℕ) (file : R
   pub picked : From from
   pub made : new ≡ option_map (linked from path) old
 
--- the image is there: copied, or a file at one of these paths under a second name
+-- the image was made: as a copy, or as a second name of a file at one of these paths
 abbrev pub MakesImage : (List ℕ → Type 0) → List ℕ → Ranks → Parts → Option Held → Option Held → Type 0
 MakesImage From folder file planned old new =
     CopiesImage folder file planned old new ⊎ LinksImage From folder file old new
@@ -54,20 +54,20 @@ pub record MakesRow (From : List ℕ → Type 0) (folder : List ℕ) (versions :
   pub of : slice_get versions row.of ≡ Some planned
   pub made : MakesImage From folder file planned old new
 
--- the images of these records, each with its pick, one after the other; by its pick, a file may be at these paths
+-- the images of these records were made one after the other, each with its pick, which says where its file may be
 abbrev pub MakesRows : {P : Type 0} → (P → List ℕ → Type 0) → List ℕ → List Parts → List (PlanRecord × P)
     → Option Held → Option Held → Type 0
 MakesRows From folder versions [] old new = new ≡ old
 MakesRows From folder versions (row ∷ rows) old new = (mid : Option Held)
     × MakesRow (From row.1) folder versions row.0 old mid × MakesRows From folder versions rows mid new
 
--- the images of the records that have a file were made, as long as there are picks, and nothing else
+-- the images of the records that have a file were made, as long as there were picks, and nothing else
 abbrev pub MakesImages : {P : Type 0} → (P → List ℕ → Type 0) → List ℕ → List Parts → List PlanRecord → List P
     → Option Held → Option Held → Type 0
 MakesImages From folder versions records picks old new =
     MakesRows From folder versions (zip (filter (λ row. is_some row.file) records) picks) old new
 
--- a record with this file, where it has one, and these picks: its image was made, which uses the first one up
+-- the image of a record with this file was made, which uses up the first pick; without a file or a pick, nothing was
 abbrev pub CopiesTo : {P : Type 0} → (P → List ℕ → Type 0) → List ℕ → List Parts → PlanRecord → Option Ranks → List P
     → List P → Option Held → Option Held → Type 0
 CopiesTo From folder versions row None picks later old new = (later ≡ picks) × (new ≡ old)
@@ -79,7 +79,7 @@ abbrev pub Copies : {P : Type 0} → (P → List ℕ → Type 0) → List ℕ �
     → Option Held → Option Held → Type 0
 Copies From folder versions row picks later old new = CopiesTo From folder versions row row.file picks later old new
 
--- Where images get second names, a file gets one that stands at such a path by its pick.
+-- where images get second names, a file may get one that stands at a path that its pick gives
 abbrev pub MayLink : {P : Type 0} → Type 0 → (P → List ℕ → Type 0) → P → List ℕ → Type 0
 MayLink GivesNames StandsAt pick from = GivesNames × StandsAt pick from
 

@@ -1,4 +1,4 @@
--- What is noted of sources.
+-- The notes on sources.
 use Rattle.std.specs.Prelude.{◌<◌, ◌⊎◌, length}
 use Rattle.dd_engine.specs.declared.notes.Notes.{Notes}
 

@@ -1,4 +1,4 @@
-//! A file-set of sources.
+//! The command `index`: makes a file-set of sources.
 ghost use Rattle.std.specs.Prelude.{◌≡◌, ◌≤◌, ℕ, IfErr, IfOk, IsErr, IsOk, length, true};
 ghost use Rattle.dd_elem.specs.Device.{HasFailed};
 ghost use Rattle.dd_engine.specs.Indexed.{IsNamed, IsWithin};
@@ -24,8 +24,8 @@ use dd_layout::{Limits, PlanFault};
 use std::alloc::Global;
 use std::fmt;
 
-/// Runs `index`: reads all sources, tells what is skipped and what is noted, and makes the file-set of the
-/// others, or tells what would be made.
+/// Runs `index`: reads all sources, prints what is skipped and what is noted, and makes the file-set of the
+/// others, or prints what would be made.
 pub(crate) fn run_index<F: Files, O: Write>(
     alloc: Global,
     making: Making<'_>,
@@ -60,8 +60,8 @@ pub(crate) fn run_index<F: Files, O: Write>(
     write_indexed(alloc, making.folder, sources, indexed, files, out)
 }
 
-/// Tells the sources that are skipped, those that are left out, and the Patient IDs with more than one name. It
-/// fails only where the output did.
+/// Prints which sources are skipped, which are left out, and which Patient IDs have more than one name. It fails
+/// only where the output failed.
 fn tell_noted<O: Write>(noted: &NotedIndex, sources: &[String], out: &mut O) -> fmt::Result
     requires within { IsWithin (length sources.now) noted.now.indexed }
     requires below { AreBelow (λ at. at) (length sources.now) noted.now.notes.left_out.items }
@@ -73,7 +73,7 @@ fn tell_noted<O: Write>(noted: &NotedIndex, sources: &[String], out: &mut O) -> 
     tell_names(&noted.notes.names, out)
 }
 
-/// Makes the file-set of what was indexed of these sources, and tells that.
+/// Makes the file-set of what was indexed of these sources, prints that, and answers the status.
 fn write_indexed<F: Files, O: Write>(
     alloc: Global,
     folder: &str,
@@ -142,7 +142,7 @@ fn counts_of(alloc: Global, sources: usize) -> Result<Vec<SourceCounts>, Memory>
     Ok(counts)
 }
 
-/// Tells which sources have the two instances that the plan is refused for, if it is, and gives the refusal.
+/// Prints which sources have the two instances that clash, if the plan is refused for two, and gives the refusal.
 fn refused<O: Write>(
     sources: &[String],
     noted: &NotedFault<EngineFault, usize>,
@@ -162,7 +162,7 @@ fn refused<O: Write>(
     refusal_of(noted.fault)
 }
 
-/// What the fault of an index comes to.
+/// Gives the refusal of a run whose index has this fault.
 fn refusal_of(fault: EngineFault) -> Refusal
     ensures { (sources : ℕ) → IsNamed sources fault → IsOfWork sources result }
 {

@@ -12,7 +12,7 @@ use dd_line::Asked;
 use dd_report::{CheckFault, Comparison, check_records, list_long, list_records, print_line};
 use std::alloc::Global;
 
-/// Gives the comparison that `check` makes: that of keys where the line has `--keys`, else that of digests.
+/// Gives the comparison that `check` makes: of keys where the line has `--keys`, else of digests.
 pub(crate) fn comparison_of(asked: &Asked) -> Comparison
     ensures keys { asked.now.keys ≡ true → result ≡ Comparison.Keys }
     ensures digests { asked.now.keys ≡ false → result ≡ Comparison.Digests }
@@ -50,7 +50,7 @@ pub(crate) fn run_check<F: Files, O: Write>(
     }
 }
 
-/// Tells why a directory can't be read, as a finding, and answers the status.
+/// Prints why a directory can't be read, as a finding, and answers the status.
 fn tell_broken<O: Write>(fault: &DirFault, out: &mut O) -> u8
     ensures status { (result ≡ 1) ⊎ (result ≡ 3) }
     ensures failed { result ≡ 1 → HasFailed (O.failures out.old) (O.failures out.new) }

@@ -64,8 +64,8 @@ fn refuse_masked<O: Write, E: Write>(
     }
 }
 
-/// Prints the parser's text: that of a mistake to the error output, with status 2, and help to the output, with
-/// status 0, or 1 where the output failed.
+/// Prints the parser's text, and answers the status. A mistake goes to the error output, with status 2. Help goes
+/// to the output, with status 0, or 1 where the output failed.
 fn tell_parser<O: Write, E: Write>(
     error: &clap::Error,
     mistake: bool,

@@ -1,4 +1,4 @@
-//! The names of a list whose names end in zero bytes.
+//! Reads lists of names in which a zero byte ends each name.
 ghost use Rattle.std.specs.Prelude.{◌≡◌, ◌≢◌, ◌<◌, ◌++◌, ℕ, [], ◌∷◌, None, Err, length, map, string_bytes};
 ghost use Rattle.std.specs.Prelude.{IfOk, IfSome, IsOk, OnOk};
 ghost use Rattle.dicomdir.specs.ListedNames.{AreNames, FailsAt, IsListOf, IsName, parts};
@@ -25,15 +25,15 @@ impl From<Memory> for NamesFault {
     }
 }
 
-/// Reads the names of a list, of which a zero byte ends each, and the end of the list may end the last. Refused
-/// by the number of the first that is empty or not UTF-8, by number 1 where there is none, and as Memory where
-/// a growth was refused. Each name is copied once.
+/// Reads the names of a list. A zero byte ends each name, but the last one may end with the list. BadName has the
+/// number of the first name that is empty or not UTF-8, and number 1 where there is no name. Memory where a growth
+/// was refused. Each name is copied once.
 pub(crate) fn names_in(alloc: Global, list: &[u8]) -> Result<Vec<String>, NamesFault>
     ensures names { IfOk result (λ names. map (λ name. string_bytes name) names.items ≡ parts list.now) }
     ensures good { IsOk result → AreNames (parts list.now) }
     ensures bad { (number : ℕ) → result ≡ Err (NamesFault.BadName number) → FailsAt (parts list.now) number }
 
-    // What the parts of a list are, in other words.
+    // The parts make up the list, each with a zero byte behind it.
     ensures listed { IsListOf (parts list.now) list.now }
 {
     let mut names = Vec::new(alloc);
@@ -52,7 +52,7 @@ pub(crate) fn names_in(alloc: Global, list: &[u8]) -> Result<Vec<String>, NamesF
     Ok(names)
 }
 
-/// Reads the first part of a list, and what stands behind it.
+/// Splits a list into its first part and what stands behind that.
 fn cut_first(list: &[u8]) -> (&[u8], &[u8])
     ensures parts { list.now ≢ [] → parts list.now ≡ result.0.now ∷ parts result.1.now }
     ensures shorter { list.now ≢ [] → length result.1.now < length list.now }
@@ -63,7 +63,7 @@ fn cut_first(list: &[u8]) -> (&[u8], &[u8])
     }
 }
 
-/// Reads the name that the part is.
+/// Reads the part as a name. None where it is empty or not UTF-8.
 fn name_in(part: &[u8]) -> Option<&str>
     ensures name { IfSome result (λ name. (name.now ≡ part.now) × IsName part.now) }
     ensures none { result ≡ None → ¬ IsName part.now }

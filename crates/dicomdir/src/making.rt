@@ -18,7 +18,7 @@ pub(crate) struct Making<'a> {
     pub(crate) folder: &'a str,
     /// The most bytes that its directory may have.
     pub(crate) max_bytes: u32,
-    /// Whether a source that is skipped refuses the run.
+    /// Whether the run is refused where a line SKIP or NOTE was printed.
     pub(crate) strict: bool,
     /// Whether nothing is made, and the last line says what would be made.
     pub(crate) dry_run: bool,
@@ -45,7 +45,7 @@ impl<'a> Making<'a> {
     }
 }
 
-/// Tells how many images the file-set has and the size of its directory, and answers the status: 1 where
+/// Prints how many images the file-set has and the size of its directory, and answers the status: 1 where
 /// the output failed.
 pub(crate) fn tell_done<O: Write>(plan: &Plan, out: &mut O) -> u8
     ensures status { (result ≡ 0) ⊎ (result ≡ 1) }
@@ -63,7 +63,7 @@ pub(crate) fn tell_done<O: Write>(plan: &Plan, out: &mut O) -> u8
     }
 }
 
-/// Tells what would be made: how many images, and the size of the directory. Answers the status: 1 where the
+/// Prints what would be made: how many images, and the size of the directory. Answers the status: 1 where the
 /// output failed.
 pub(crate) fn tell_plan<O: Write>(plan: &Plan, out: &mut O) -> u8
     ensures status { (result ≡ 0) ⊎ (result ≡ 1) }
@@ -81,7 +81,7 @@ pub(crate) fn tell_plan<O: Write>(plan: &Plan, out: &mut O) -> u8
     }
 }
 
-/// Tells what would be made, with the number of bytes of all images. Answers the status: 1 where the output
+/// Prints what would be made, with the number of bytes of all images. Answers the status: 1 where the output
 /// failed.
 pub(crate) fn tell_plan_of_images<O: Write>(plan: &Plan, images: u64, out: &mut O) -> u8
     ensures status { (result ≡ 0) ⊎ (result ≡ 1) }

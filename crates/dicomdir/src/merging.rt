@@ -1,4 +1,4 @@
-//! A file-set of others.
+//! The commands `merge` and `withdraw`: make a file-set of others.
 ghost use Rattle.std.specs.Prelude.{◌≡◌, ◌<◌, ◌≤◌, ℕ, All, IfErr, IfOk, IsErr, IsOk, false, length, true};
 ghost use Rattle.dd_elem.specs.Device.{HasFailed};
 ghost use Rattle.dd_engine.specs.Merging.{IsNamedSet};
@@ -25,8 +25,8 @@ use dd_layout::PlanFault;
 use std::alloc::Global;
 use std::fmt;
 
-/// Runs `merge`: reads the directories of all these file-sets, tells what is noted, and makes a file-set of their
-/// images, or tells what would be made.
+/// Runs `merge`: reads the directories of all these file-sets, prints what is noted, and makes a file-set of their
+/// images, or prints what would be made.
 pub(crate) fn run_merge<F: Files, O: Write>(
     alloc: Global,
     making: Making<'_>,
@@ -54,7 +54,8 @@ pub(crate) fn run_merge<F: Files, O: Write>(
     write_noted(alloc, making, &origins, &noted, files, out)
 }
 
-/// Runs `withdraw` on the first of these file-sets, as `run_merge` does.
+/// Runs `withdraw` on the first of these file-sets: makes a file-set of its images, without those that the line
+/// withdraws, or prints what would be made.
 pub(crate) fn run_withdraw<F: Files, O: Write>(
     alloc: Global,
     making: Making<'_>,
@@ -109,7 +110,8 @@ fn withdraw_of<F: Files, O: Write>(
     write_noted(alloc, making, &origins, &noted, files, out)
 }
 
-/// Tells what is noted of these file-sets, and then makes what was planned of them, or tells it. Answers the status.
+/// Prints what is noted of these file-sets, and then makes what was planned of them, or prints what would be made.
+/// Answers the status.
 fn write_noted<'a, F: Files, O: Write>(
     alloc: Global,
     making: Making<'_>,
@@ -133,8 +135,8 @@ fn write_noted<'a, F: Files, O: Write>(
     write_merged(alloc, making, sets, merged, files, out)
 }
 
-/// Tells the files that are left out, and the Patient IDs with more than one name. It fails only where the output
-/// did.
+/// Prints which files are left out, and which Patient IDs have more than one name. It fails only where the output
+/// failed.
 fn tell_noted<O: Write>(notes: &Notes<Pick<'_>>, folders: &[String], out: &mut O) -> fmt::Result
     requires { AreBelow (λ pick. pick.set) (length folders.now) notes.now.left_out.items }
     ensures worked { IsOk result → O.failures out.new ≡ O.failures out.old }
@@ -144,7 +146,7 @@ fn tell_noted<O: Write>(notes: &Notes<Pick<'_>>, folders: &[String], out: &mut O
     tell_names(&notes.names, out)
 }
 
-/// Makes what a merge of these file-sets planned, or tells it, and answers the status.
+/// Makes what a merge of these file-sets planned, or prints what would be made, and answers the status.
 fn write_merged<'a, F: Files, O: Write>(
     alloc: Global,
     making: Making<'_>,
@@ -187,7 +189,7 @@ pub(crate) fn slices<'a>(alloc: Global, all: &'a [Vec<u8>]) -> Result<Vec<&'a [u
     Ok(slices)
 }
 
-/// Tells which files have the two instances that the plan is refused for, if it is, and gives the refusal.
+/// Prints which files have the two instances that clash, if the plan is refused for two, and gives the refusal.
 fn refused<O: Write>(
     folders: &[String],
     noted: &NotedFault<MergeFault, Pick<'_>>,
@@ -207,7 +209,7 @@ fn refused<O: Write>(
     refusal_of(noted.fault)
 }
 
-/// What the fault of a merge comes to.
+/// Gives the refusal of a run whose merge has this fault.
 fn refusal_of(fault: MergeFault) -> Refusal
     ensures { (sets : ℕ) → IsNamedSet sets fault → IsOfWork sets result }
 {

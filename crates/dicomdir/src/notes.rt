@@ -17,7 +17,7 @@ use std::fmt::{self, InlineText};
 /// The text of a UID: it has at most 64 characters (PS3.5 section 9.1).
 type UidText = InlineText<64>;
 
-/// Tells each source that is skipped, and why. It fails only where the output did.
+/// Prints each source that is skipped, and why. It fails only where the output failed.
 pub(crate) fn tell_skipped<O: Write>(
     skipped: &[(usize, KeyFault)],
     sources: &[String],
@@ -35,7 +35,7 @@ pub(crate) fn tell_skipped<O: Write>(
     Ok(())
 }
 
-/// Tells each source that is left out, and for which. It fails only where the output did.
+/// Prints each source that is left out, and which one is kept. It fails only where the output failed.
 pub(crate) fn tell_sources_left_out<O: Write>(
     left_out: &[LeftOut<usize>],
     sources: &[String],
@@ -53,8 +53,8 @@ pub(crate) fn tell_sources_left_out<O: Write>(
     Ok(())
 }
 
-/// Tells each file of the file-sets in these folders that is left out, and for which. It fails only where the
-/// output did.
+/// Prints each file of the file-sets in these folders that is left out, and which one is kept. It fails only where
+/// the output failed.
 pub(crate) fn tell_picks_left_out<O: Write>(
     left_out: &[LeftOut<Pick<'_>>],
     folders: &[String],
@@ -72,7 +72,7 @@ pub(crate) fn tell_picks_left_out<O: Write>(
     Ok(())
 }
 
-/// Tells that a file is left out, since its instance is kept from another one.
+/// Prints that a file is left out, since another file of its instance is kept.
 fn tell_left_out<O: Write>(
     file: ShownPath<'_>,
     kept: ShownPath<'_>,
@@ -92,7 +92,7 @@ fn tell_left_out<O: Write>(
     )
 }
 
-/// Prints the line of a file that is left out, of the parts of both paths and the UID of both.
+/// Prints the line of a file that is left out, with the parts of both paths and the UID that both files have.
 fn print_left_out<O: Write>(
     file: (&str, &str, &str),
     kept: (&str, &str, &str),
@@ -122,7 +122,7 @@ fn print_left_out<O: Write>(
     )
 }
 
-/// Tells the Patient IDs that have more than one name. It fails only where the output did.
+/// Prints the Patient IDs that have more than one name. It fails only where the output failed.
 pub(crate) fn tell_names<O: Write>(patients: &[PatientNames], out: &mut O) -> fmt::Result
     ensures worked { IsOk result → O.failures out.new ≡ O.failures out.old }
     ensures failed { IsErr result → HasFailed (O.failures out.old) (O.failures out.new) }
@@ -133,7 +133,7 @@ pub(crate) fn tell_names<O: Write>(patients: &[PatientNames], out: &mut O) -> fm
     Ok(())
 }
 
-/// Tells the names of a patient, ten of them at most.
+/// Prints the names of a patient, at most ten of them.
 fn tell_names_of<O: Write>(patient: &PatientNames, out: &mut O) -> fmt::Result
     ensures worked { IsOk result → O.failures out.new ≡ O.failures out.old }
     ensures failed { IsErr result → HasFailed (O.failures out.old) (O.failures out.new) }
@@ -182,7 +182,7 @@ fn print_names<O: Write>(id: &[u8], count: &[u8], names: &[Key], out: &mut O) ->
     )
 }
 
-/// Says of `NOID` that it also stands for no Patient ID.
+/// Gives what stands behind the ID: for `NOID` that it also stands for a patient without an ID.
 fn or_none(id: &[u8]) -> &[u8] {
     if id == b"NOID".as_slice() {
         b" or none"
@@ -210,7 +210,7 @@ fn mark_behind(names: &[Key]) -> &[u8] {
     if names.len() > 10 { b", .." } else { b"" }
 }
 
-/// Tells where the two instances come from that a plan is refused for. Where the output fails, nothing more is printed.
+/// Prints which files have the two instances that clash. Where the output fails, nothing more is printed.
 pub(crate) fn tell_clash<O: Write>(
     (one, uid): (ShownPath<'_>, &Uid),
     (other, other_uid): (ShownPath<'_>, &Uid),
@@ -221,14 +221,14 @@ pub(crate) fn tell_clash<O: Write>(
     }
 }
 
-/// Tells that a file has this instance.
+/// Prints that a file has this instance.
 fn tell_has<O: Write>(file: ShownPath<'_>, instance: &Uid, out: &mut O) -> fmt::Result {
     let inside = file.inside;
     let uid = UidText::of(instance);
     print_has(file.folder, file.joint, inside.as_str(), uid.as_str(), out)
 }
 
-/// Prints the line of a file that has an instance, of the parts of its path and the UID.
+/// Prints the line of a file that has an instance, with the parts of its path and the UID.
 fn print_has<O: Write>(
     folder: &str,
     joint: &str,
@@ -246,7 +246,7 @@ pub(crate) fn has_notes<T>(notes: &Notes<T>) -> bool
     !notes.left_out.is_empty() || !notes.names.is_empty()
 }
 
-/// Refuses a run with `--strict` where a line SKIP or NOTE was printed of its sources.
+/// Refuses a run with `--strict` where a line SKIP or NOTE was printed about its sources.
 pub(crate) fn refuse_noted(strict: bool, is_noted: bool) -> Result<(), Refusal>
     ensures refuses { IsErr result ↔ (strict ≡ true) × (is_noted ≡ true) }
     ensures fault { IfErr result IsStrict }

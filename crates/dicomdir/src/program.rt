@@ -28,28 +28,28 @@ use std::alloc::Global;
 /// `index [--id ID] [--uid UID] [--max-bytes N] [--files0-from FILE] OUT SRC...` copies the images to their
 /// File IDs in the folder OUT and writes OUT/DICOMDIR. It prints `SKIP <path>: <fault>` for each source that
 /// has no version, and `DONE <n> instances, <size> bytes`. A refusal is one line on the error output, `FAULT
-/// <path>: <fault>`, with `-` where it concerns no path; a text about the command line is the parser's, of its
-/// words with `?` for each control character. What is printed to the error output may get lost.
+/// <path>: <fault>`, with `-` where it concerns no path. A text about the command line is the parser's, with `?`
+/// for each control character of the words. What is printed to the error output may get lost.
 ///
 /// `merge [--id ID] [--uid UID] [--max-bytes N] [--files0-from FILE] OUT SET...` makes such a file-set of the
-/// images of other file-sets, each a folder with the DICOMDIR that was written here. All these are read before
-/// the first is looked at, and the plan stands before the first image is copied.
+/// images of other file-sets, each a folder with a DICOMDIR that this program wrote. All these are read before
+/// the first is examined, and the plan is made before the first image is copied.
 ///
 /// `withdraw [--id ID] [--uid UID] [--max-bytes N] OUT SET UID...` makes one as `merge OUT SET` does, with
 /// these instances withdrawn as well: the directory names them and lists no record of them, and a merge
 /// with it leaves them out.
 ///
-/// With `--strict` a source that is skipped refuses each of these, behind the lines SKIP and before anything is
-/// made. With `--dry-run` they stop before anything is made and print `PLAN <n> instances, <size> bytes`, and
-/// `index` `, <total> bytes of images` behind that. `--files0-from` reads further names from FILE, each ended by a
-/// zero byte, once OUT is looked at and before any of them is opened.
+/// With `--strict` each of these is refused where it printed a line SKIP or NOTE, before anything is made. With
+/// `--dry-run` they stop before anything is made and print `PLAN <n> instances, <size> bytes`, to which `index` adds
+/// `, <total> bytes of images`. `--files0-from` reads further names from FILE, each ended by a zero byte. It does so
+/// after OUT is looked at and before any source is opened.
 ///
 /// A path that is empty is refused before any file is opened: OUT as a folder that is not made, any other
 /// as a file that is not there.
 ///
-/// `check [--keys] SET` compares the files of a file-set with its directory, of any producer, and prints
-/// what it finds, or `OK <n> records`; with `--keys` what image files say of themselves with their records,
-/// too. `list [--long] SET` prints its records and the instances that it withdraws.
+/// `check [--keys] SET` compares the files of a file-set with its directory, which any program may have written.
+/// It prints what it finds, or `OK <n> records`. With `--keys` it also compares what image files say of themselves
+/// with their records. `list [--long] SET` prints its records and the instances that it withdraws.
 ///
 /// The files show the progress of all but `list`, unless the line has `--quiet`.
 pub fn run<F: Files, O: Write, E: Write>(
@@ -67,8 +67,8 @@ pub fn run<F: Files, O: Write, E: Write>(
     // A command line at fault leaves the files and the output as they were.
     ensures line { result ≡ 2 → (files.new ≡ files.old) × (out.new ≡ out.old) }
 
-    // It is at fault only where the program does not take the words, or takes them with an ID or a UID that is
-    // none, or with no source; and such a line is never done.
+    // It is at fault only where the program does not take the words, or where they give an ID or a UID of the
+    // wrong form, or no source. The work of such a line is never done.
     ensures words { result ≡ 2 → takes dicomdir_app (words_of words.items) ≡ true
         → HasBadName (subcommand_of dicomdir_app (words_of words.items))
         ⊎ LacksSources (subcommand_of dicomdir_app (words_of words.items)) }
@@ -78,7 +78,7 @@ pub fn run<F: Files, O: Write, E: Write>(
         → LacksSources (subcommand_of dicomdir_app (words_of words.items))
         → (1 ≤ result) × (files.new ≡ files.old) × (out.new ≡ out.old) }
 
-    // With an empty path it leaves them so, too, and is not done.
+    // With an empty path a line leaves the files and the output as they were, too, and its work is not done.
     ensures empty { takes dicomdir_app (words_of words.items) ≡ true
         → HasEmptyPath (subcommand_of dicomdir_app (words_of words.items))
         → (1 ≤ result) × (files.new ≡ files.old) × (out.new ≡ out.old) }
@@ -98,7 +98,7 @@ pub fn run<F: Files, O: Write, E: Write>(
     }
 }
 
-/// Runs the command and answers the status, once a refusal is told.
+/// Runs the command, prints a refusal if there is one, and answers the status.
 fn run_asked<F: Files, O: Write, E: Write>(
     alloc: Global,
     asked: &Asked,
@@ -128,7 +128,7 @@ fn run_asked<F: Files, O: Write, E: Write>(
     }
 }
 
-/// Runs the command, whose names and paths are looked at, and answers the status, once a refusal is told.
+/// Runs the command, whose names and paths have passed. Prints a refusal if there is one, and answers the status.
 fn run_named<F: Files, O: Write, E: Write>(
     alloc: Global,
     asked: &Asked,
@@ -161,7 +161,7 @@ fn run_named<F: Files, O: Write, E: Write>(
     }
 }
 
-/// Tells why the work was refused, behind what shows of its progress, and answers the status.
+/// Erases the line of progress, prints why the work was refused, and answers the status.
 fn tell_refusal<F: Files, E: Write>(
     refusal: &Refusal,
     asked: &Asked,
@@ -184,7 +184,7 @@ fn tell_refusal<F: Files, E: Write>(
     tell(refusal, paths, err)
 }
 
-/// Tells that the path of this number is empty, and answers the status.
+/// Prints that the path of this number is empty, and answers the status.
 fn tell_empty<E: Write>(asked: &Asked, at: usize, err: &mut E) -> u8
     requires paths { least_paths asked.now.verb ≤ length asked.now.paths.items }
     requires within { at < length asked.now.paths.items }

@@ -17,7 +17,7 @@ pub(crate) struct SourceCounts {
     pub(crate) failures: u64,
     /// How many of its readers are lent.
     pub(crate) lent: u64,
-    /// How many bytes the reader gave that was taken back last.
+    /// How many bytes the reader that was taken back last had given.
     pub(crate) bytes: u64,
 }
 
@@ -59,7 +59,7 @@ impl SourceCounts {
         self.lent = self.lent.saturating_add(1);
     }
 
-    /// Counts a reader less, and its reads, failures and bytes.
+    /// Counts one reader less as lent, and takes over its reads, failures and bytes.
     pub(crate) fn take_back(&mut self, used: Counts, bytes: u64)
         ensures { self.new ≡ record self.old {
           reads = added self.old.reads used.calls;

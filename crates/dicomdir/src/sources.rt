@@ -12,9 +12,9 @@ use dd_files::{Files, ReadFault, SOURCE_LIMIT, read_whole};
 use dd_line::{Asked, Verb};
 use std::alloc::Global;
 
-/// Lists the paths that a command reads, those of its line in front, where it has a list of names; `None` where
-/// it has none. Refused, in this order, where the folder that it makes its file-set in has a directory already,
-/// and where the list can't be opened or read, or has a bad name.
+/// Lists the paths that a command with a list of names reads: those of its line, and behind them the names. `None`
+/// where it has no list. Refused where the folder of the new file-set already has a directory. After that, refused
+/// where the list can't be opened or read, or has a bad name.
 pub(crate) fn all_sources<F: Files>(
     alloc: Global,
     asked: &Asked,

@@ -1,18 +1,18 @@
--- A line that is put together of texts.
+-- A line that is put together from several texts.
 use Rattle.std.proofs.Common.{◌≡◌, ◌≤◌, ◌<◌, ◌+◌, ℕ, List, ◌++◌, ◌∙◌, length, length-append, refl, ap, arith, le-leb}
 use Rattle.std.specs.Fmt.Cut.{cut_to}
 
--- what has room stays as it is
+-- a text that fits the room is not cut
 pub cut_to_fits : (room : ℕ) (text : List ℕ) → length text ≤ room → cut_to room text ≡ text
 unfolding cut_to
 cut_to_fits room text fits = rw (le-leb (length text) room fits) refl
 
--- a text that has at most so many bytes
+-- the text is `is`, and has at most `most` bytes
 pub record IsShort (text is : List ℕ) (most : ℕ) : Type 0 where
   pub same : text ≡ is
   pub short : length text ≤ most
 
--- one more text is added to a line of 64 bytes
+-- one more text is added to a line that has room for 64 bytes
 pub adds : (old new text before more : List ℕ) (m n : ℕ) → IsShort old before m → IsShort text more n → m + n < 64
     → (length old + length text < 64 → new ≡ old ++ text) → IsShort new (before ++ more) (m + n)
 adds old new text before more m n was has room add =

@@ -45,16 +45,16 @@ const NO_MORE: [i32; 2] = [24, 23];
 /// is followed below the folder of a file-set, nor below the folder that is written to.
 ///
 /// A second name is a hard link to a plain file of a file-set, which is looked up as any file of one. A folder and
-/// a symbolic link get none. The new name is opened and looked at again. It is taken for not there where it is not
-/// the file that was found, and stays where it is. Else it counts as a file that has ended: it stays open until it
-/// is stored, and its name is stored as each new name is.
+/// a symbolic link get no second name. The new name is opened and compared with the file that was found. Where it
+/// is another file, the call is refused as for an absent file, and the name stays. Else it counts as a file that has
+/// ended: it stays open until it is stored, and its name is stored as each new name is.
 ///
-/// A list of names may be a pipe or a device, too, and `-` stands for the standard input: to open it and to read
-/// it may wait.
+/// A list of names may be a pipe or a device, too, and `-` stands for the standard input. A call that opens or
+/// reads it may wait.
 ///
 /// Progress is one line on the error output, where that is a terminal. Nothing is shown in the first half second,
-/// and a line stands for a tenth of one at least. Where files are stored one by one, it counts these. What the
-/// terminal does not take counts nowhere.
+/// and a line stays for at least a tenth of a second. While files are stored one by one, it counts these. A failed
+/// write to the terminal counts as no failure.
 pub struct HostFiles<'a, R: System> {
     pub(crate) rt: &'a R,
     pub(crate) alloc: Global,

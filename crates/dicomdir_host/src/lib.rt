@@ -1,7 +1,7 @@
 //! The files of the system for `dicomdir`: a new file never takes the place of one that is there, and
 //! takes nothing more once a write to it has failed.
 //!
-//! Its one promise: no call of the system fails without being counted, but for those that show progress.
+//! It promises one thing more: each call of the system that fails is counted, except those that show progress.
 #![tactic(auto)]
 
 mod again;

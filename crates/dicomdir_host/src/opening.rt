@@ -50,7 +50,7 @@ pub(crate) fn open_seen<R: System>(
     Ok(Input::File(file))
 }
 
-/// Opens the file or the folder at the path, and answers what it is. Refused where that is another one than was
+/// Opens the file or the folder at the path, and answers what it is. Refused where it is not the one that was
 /// seen.
 pub(crate) fn open_same<R: fs::Files>(
     rt: &R,
@@ -65,7 +65,7 @@ pub(crate) fn open_same<R: fs::Files>(
     Ok((file, opened))
 }
 
-/// Refuses the path of a file that was seen, where anything else stands there: also a symbolic link to it.
+/// Refuses the path unless the file that was seen stands there. A symbolic link to that file is refused, too.
 pub(crate) fn require_same<R: fs::Files>(rt: &R, path: &str, seen: &Metadata) -> io::Result<()> {
     let found = look(rt, path, Links::Kept)?;
     if !is_same(seen, &found) {

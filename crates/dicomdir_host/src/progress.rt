@@ -10,19 +10,19 @@ use std::fmt::InlineText;
 use std::io;
 use std::time::{Clock, Duration, Instant};
 
-/// For how many milliseconds nothing is shown.
+/// How many milliseconds pass before the first line is shown.
 const FIRST: u64 = 500;
 
-/// For how many milliseconds a line stands at least before the next one.
+/// The least number of milliseconds for which a line stays before the next one.
 const PAUSE: u64 = 100;
 
-/// Erases the line of a terminal (ECMA-48, EL).
+/// Goes back to the start of the line of a terminal, and erases it (ECMA-48, CR and EL).
 const ERASE: &str = "\r\x1b[K";
 
 /// The most bytes of a line, with those that erase the one before it.
 const LINE: usize = 64;
 
-/// What is done of a step, and the terminal that shows it in one line, at most ten times a second.
+/// Counts what is done of a step, and shows that in one line of a terminal, at most ten times a second.
 pub(crate) struct Progress<W: io::Write + Drop> {
     /// None where nothing is shown.
     terminal: Option<W>,
@@ -49,7 +49,7 @@ impl<W: io::Write + Drop> Drop for Progress<W> {
 }
 
 impl<W: io::Write + Drop> Progress<W> {
-    /// Makes the progress of a run that has begun nothing, which this terminal shows.
+    /// Makes the progress of a run that has begun no step yet, to be shown on this terminal, if there is one.
     pub(crate) fn new(terminal: Option<W>) -> Self {
         Progress {
             terminal,
@@ -75,7 +75,7 @@ impl<W: io::Write + Drop> Progress<W> {
         self.show(clock, doing(self.step), self.done, self.of);
     }
 
-    /// Shows how many of all are done, where it is time to.
+    /// Shows how many of all are done, if it is time to show a line.
     pub(crate) fn show<C: Clock>(&mut self, clock: &C, doing: &str, done: u64, of: u64) {
         if self.terminal.is_some() && self.is_due(clock) {
             self.print(line(doing, done, of).as_str());
@@ -91,13 +91,13 @@ impl<W: io::Write + Drop> Progress<W> {
         }
     }
 
-    /// Erases the line that is shown, and shows no other one.
+    /// Erases the line that is shown, and shows no line from then on.
     pub(crate) fn end(&mut self) {
         self.hide();
         self.terminal = None;
     }
 
-    /// Is it time to show a line? Then the next one has to wait.
+    /// Says whether it is time to show a line. If so, sets when the next one may be shown.
     fn is_due<C: Clock>(&mut self, clock: &C) -> bool {
         let Ok(now) = Instant::now(clock) else {
             return false;
@@ -113,7 +113,7 @@ impl<W: io::Write + Drop> Progress<W> {
         true
     }
 
-    /// Writes this to the terminal. What it does not take is not shown.
+    /// Writes this text to the terminal, and ignores a failure to.
     fn print(&mut self, text: &str) {
         if let Some(terminal) = &mut self.terminal {
             let _ = write_again(terminal, text.as_bytes());
@@ -121,7 +121,7 @@ impl<W: io::Write + Drop> Progress<W> {
     }
 }
 
-/// Says what is done in a step.
+/// Gives the word that a line has for a step.
 fn doing(step: Step) -> &'static str {
     match step {
         Step::Reading => "reading",

@@ -123,7 +123,7 @@ impl<F: OpenFile + Drop> Unstored<F> {
         }
     }
 
-    /// Makes the system store the files, and closes them. Shows how many are. Refused where something is lost.
+    /// Makes the system store the files, and closes them. Shows how many are stored. Refused where something is lost.
     pub(crate) fn store_files<C: Clock, W: io::Write + Drop>(
         &mut self,
         clock: &C,

@@ -197,7 +197,7 @@ fn named(what: &str) -> (&str, &str) {
     }
 }
 
-// Adds what a source gives, a file of a file-set, or a list of names.
+// Adds the bytes of a source, of a file of a file-set, or of a list of names.
 fn read(
     alloc: Global,
     files: &mut HostFiles<'_, DiscFiles<'_>>,

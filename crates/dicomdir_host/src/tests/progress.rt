@@ -6,8 +6,9 @@ use std::alloc::Global;
 use std::cell::RefCell;
 use std::test::Fail;
 
-// In each line calls, and then what they wrote to the terminal: `<` goes back to the start of the line, and `^[K`
-// erases it from there on. A pass is of so many milliseconds, and a slow disc takes so many to store a file.
+// Each line has calls, and behind ` >` what they wrote to the terminal: `<` goes back to the start of the line, and
+// `^[K` erases it from there on. `pass N` lets N milliseconds pass. After `slow N` the disc takes N milliseconds to
+// store a file.
 const CASES: &str = "\
 reading 3, pass 499, advance, hide >
 reading 3, pass 500, advance, hide, hide > <reading 1 of 3^[K<^[K

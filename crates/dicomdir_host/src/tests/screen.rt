@@ -36,7 +36,7 @@ impl Screen {
         }
     }
 
-    /// So many milliseconds pass.
+    /// Lets this number of milliseconds pass.
     pub(super) fn wait(&mut self, millis: u64) {
         self.time = self.time.saturating_add(millis);
     }
