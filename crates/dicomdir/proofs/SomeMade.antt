@@ -1,12 +1,18 @@
 -- A file-set was made, whichever files its images were made of.
-use Rattle.std.proofs.Common.{◌≡◌, ◌⊎◌, ℕ, List, [], ◌∷◌, Option, inl, inr, map, refl}
-use Rattle.std.specs.Prelude.{zip}
+use Rattle.std.proofs.Common.{◌≡◌, ◌⊎◌, ℕ, List, [], ◌∷◌, Option, Result, Ok, Err, IfOk, IsOk, inl, inr, map, refl}
+use Rattle.std.proofs.Common.{subst, true}
+use Rattle.std.specs.Prelude.{slice_index_or, zip}
+use Rattle.clap.specs.Words.{Row, Text}
 use Rattle.dd_elem.specs.FileId.{Ranks}
 use Rattle.dd_files.specs.Files.{Held}
 use Rattle.dd_keys.specs.declared.parts.Parts.{Parts}
+use Rattle.dd_line.specs.Line.{IsAsked, words_of}
+use Rattle.dd_line.specs.declared.line.Asked.{Asked}
 use Rattle.dd_layout.specs.declared.record.PlanRecord.{PlanRecord}
 use Rattle.dd_layout.specs.Layouts.{Layout}
+use Rattle.dicomdir.specs.DryRun.{HasLink, first_path}
 use Rattle.dicomdir.specs.Made.{MakesFileSet, MakesImage, MakesRow, MakesRows, MakesSome, MayLink}
+use Rattle.dicomdir.proofs.DryRuns.{given_folder, given_link}
 
 -- what an image was made of may be said otherwise
 image_by : (From To : List ℕ → Type 0) (folder : List ℕ) (file : Ranks) (planned : Parts) (old new : Option Held)
@@ -57,7 +63,7 @@ module _ {P Q : Type 0} (From : P → List ℕ → Type 0) (To : Q → List ℕ 
   }
 
 -- the file-set of these picks is some file-set
-pub some_made : {P : Type 0} (GivesNames : Type 0) (StandsAt : P → List ℕ → Type 0) (folder : List ℕ) (plan : Layout)
+some_made : {P : Type 0} (GivesNames : Type 0) (StandsAt : P → List ℕ → Type 0) (folder : List ℕ) (plan : Layout)
     (picks : List P) (old new : Option Held)
     → MakesFileSet (MayLink GivesNames StandsAt) folder plan picks old new → MakesSome GivesNames folder old new
 some_made GivesNames StandsAt folder plan picks old new made = record {
@@ -68,7 +74,7 @@ some_made GivesNames StandsAt folder plan picks old new made = record {
 }
 
 -- where images get second names for one reason, they get them for what follows from it
-pub some_by : (GivesNames Asked : Type 0) (folder : List ℕ) (old new : Option Held) → (GivesNames → Asked)
+some_by : (GivesNames Asked : Type 0) (folder : List ℕ) (old new : Option Held) → (GivesNames → Asked)
     → MakesSome GivesNames folder old new → MakesSome Asked folder old new
 some_by GivesNames Asked folder old new follows some = record {
   plan = some.plan;
@@ -76,3 +82,29 @@ some_by GivesNames Asked folder old new follows some = record {
   made = set_by (λ _ _. GivesNames) (λ _ _. Asked) (λ pick. pick) (λ pick path may. follows may) folder some.plan
       some.picks old new some.made;
 }
+
+-- the same of a command that is done
+abbrev pub DoneMakes : {E : Type 0} → Result ℕ E → Type 0 → List ℕ → Option Held → Option Held → Type 0
+DoneMakes r GivesNames folder old new = IfOk r (λ status. status ≡ 0 → MakesSome GivesNames folder old new)
+
+pub done_makes : {P E : Type 0} (r : Result ℕ E) (GivesNames : Type 0) (StandsAt : P → List ℕ → Type 0)
+    (folder : List ℕ) (plan : Layout) (picks : List P) (old new : Option Held)
+    → (IsOk r → MakesFileSet (MayLink GivesNames StandsAt) folder plan picks old new)
+    → DoneMakes r GivesNames folder old new
+done_makes (Ok status) GivesNames StandsAt folder plan picks old new made =
+    λ done. some_made GivesNames StandsAt folder plan picks old new (made refl)
+done_makes (Err refusal) GivesNames StandsAt folder plan picks old new made = tt
+
+pub done_by : {E : Type 0} (r : Result ℕ E) (GivesNames Asked : Type 0) (folder : List ℕ) (old new : Option Held)
+    → (GivesNames → Asked) → DoneMakes r GivesNames folder old new → DoneMakes r Asked folder old new
+done_by (Ok status) GivesNames Asked folder old new follows makes =
+    λ done. some_by GivesNames Asked folder old new follows (makes done)
+done_by (Err refusal) GivesNames Asked folder old new follows makes = tt
+
+-- the same of what the words of a line say
+pub asked_makes : (a : Asked) (found : Option (Text × List Row)) (old new : Option Held) → IsAsked a found
+    → MakesSome (a.link ≡ true) (slice_index_or (words_of a.paths.items) 0 []) old new
+    → MakesSome (HasLink found) (first_path found) old new
+asked_makes a found old new h some =
+    subst (λ (folder : List ℕ). MakesSome (HasLink found) folder old new) (given_folder a found h)
+    (some_by (a.link ≡ true) (HasLink found) _ old new (given_link a found h) some)
