@@ -8,3 +8,4 @@ mod LinesRefused
 mod Masking
 mod NameParts
 mod Publishing
+mod SomeMade

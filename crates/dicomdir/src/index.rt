@@ -1,10 +1,10 @@
 //! The command `index`: makes a file-set of sources.
-ghost use Rattle.std.specs.Prelude.{◌≡◌, ◌≤◌, ℕ, IfErr, IfOk, IsErr, IsOk, length, true};
+ghost use Rattle.std.specs.Prelude.{◌≡◌, ◌≤◌, ℕ, IfErr, IfOk, IsErr, IsOk, false, length, true};
 ghost use Rattle.dd_elem.specs.Device.{HasFailed};
 ghost use Rattle.dd_engine.specs.Indexed.{IsNamed, IsWithin};
 ghost use Rattle.dd_engine.specs.Noting.{AreBelow, IsBelow};
 ghost use Rattle.dd_line.specs.Line.{words_of};
-ghost use Rattle.dicomdir.specs.Made.{IsPathAt, MakesFileSet, MayLink};
+ghost use Rattle.dicomdir.specs.Made.{IsPathAt, MakesFileSet, MakesSome, MayLink};
 ghost use Rattle.dicomdir.specs.Refusal.{IsOfWork};
 
 use crate::file_set::{limits_of, write_file_set};
@@ -37,6 +37,8 @@ pub(crate) fn run_index<F: Files, O: Write>(
     ensures refusal { IfErr result (IsOfWork (length sources.now)) }
     ensures status { IfOk result (λ status. status ≤ 1) }
     ensures dry { making.entry.dry_run ≡ true → F.held files.new ≡ F.held files.old }
+    ensures made { making.entry.dry_run ≡ false → IfOk result (λ status. status ≡ 0
+        → MakesSome ⊥ making.entry.folder.now (F.held files.old) (F.held files.new)) }
 {
     let mut counts = counts_of(alloc, sources.len())?;
     let limits = limits_of(making.max_bytes);

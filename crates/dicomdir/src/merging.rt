@@ -4,7 +4,7 @@ ghost use Rattle.dd_elem.specs.Device.{HasFailed};
 ghost use Rattle.dd_engine.specs.Merging.{IsNamedSet};
 ghost use Rattle.dd_engine.specs.Noting.{AreBelow, IsBelow};
 ghost use Rattle.dd_line.specs.Line.{words_of};
-ghost use Rattle.dicomdir.specs.Made.{IsMemberPath, MakesFileSet, MayLink};
+ghost use Rattle.dicomdir.specs.Made.{IsMemberPath, MakesFileSet, MakesSome, MayLink};
 ghost use Rattle.dicomdir.specs.Refusal.{IsOfWork};
 
 use crate::file_set::{limits_of, write_file_set};
@@ -38,6 +38,8 @@ pub(crate) fn run_merge<F: Files, O: Write>(
     ensures refusal { IfErr result (IsOfWork (length sets.now)) }
     ensures status { IfOk result (λ status. status ≤ 1) }
     ensures dry { making.entry.dry_run ≡ true → F.held files.new ≡ F.held files.old }
+    ensures made { making.entry.dry_run ≡ false → IfOk result (λ status. status ≡ 0
+        → MakesSome (making.entry.link ≡ true) making.entry.folder.now (F.held files.old) (F.held files.new)) }
 {
     let directories = read_directories(alloc, sets, files)?;
     let slices = slices(alloc, &directories)?;
@@ -68,6 +70,8 @@ pub(crate) fn run_withdraw<F: Files, O: Write>(
     ensures refusal { IfErr result (IsOfWork (length sets.now)) }
     ensures status { IfOk result (λ status. status ≤ 1) }
     ensures dry { making.entry.dry_run ≡ true → F.held files.new ≡ F.held files.old }
+    ensures made { making.entry.dry_run ≡ false → IfOk result (λ status. status ≡ 0
+        → MakesSome ⊥ making.entry.folder.now (F.held files.old) (F.held files.new)) }
 {
     match withdraw_of(alloc, making, &sets[..1], names, files, out) {
         Ok(status) => Ok(status),
@@ -88,6 +92,8 @@ fn withdraw_of<F: Files, O: Write>(
     ensures refusal { IfErr result (IsOfWork 1) }
     ensures status { IfOk result (λ status. status ≤ 1) }
     ensures dry { making.entry.dry_run ≡ true → F.held files.new ≡ F.held files.old }
+    ensures made { making.entry.dry_run ≡ false → IfOk result (λ status. status ≡ 0
+        → MakesSome ⊥ making.entry.folder.now (F.held files.old) (F.held files.new)) }
 {
     let directories = read_directories(alloc, sets, files)?;
     let slices = slices(alloc, &directories)?;
@@ -126,6 +132,8 @@ fn write_noted<'a, F: Files, O: Write>(
     ensures refusal { IfErr result (IsOfWork (length sets.now.folders.now)) }
     ensures status { IfOk result (λ status. status ≤ 1) }
     ensures dry { making.entry.dry_run ≡ true → F.held files.new ≡ F.held files.old }
+    ensures made { making.entry.dry_run ≡ false → IfOk result (λ status. status ≡ 0
+        → MakesSome (sets.now.link ≡ true) making.entry.folder.now (F.held files.old) (F.held files.new)) }
 {
     let NotedMerge { merged, notes } = noted;
     if tell_noted(notes, sets.folders, out).is_err() {

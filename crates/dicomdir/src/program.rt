@@ -1,10 +1,11 @@
 //! The program's run.
-ghost use Rattle.std.specs.Prelude.{◌≡◌, ◌<◌, ◌≤◌, ◌+◌, ◌⊎◌, IfErr, IfOk, length, true};
+ghost use Rattle.std.specs.Prelude.{◌≡◌, ◌<◌, ◌≤◌, ◌+◌, ◌⊎◌, [], IfErr, IfOk, false, length, slice_index_or, true};
 ghost use Rattle.clap.specs.Words.{subcommand_of, takes};
 ghost use Rattle.dd_line.specs.Line.{AsksBadName, HasBadName, IsCheck, IsReading, LacksSources, OnlyReads};
 ghost use Rattle.dd_line.specs.Line.{dicomdir_app, least_paths, words_of};
-ghost use Rattle.dicomdir.specs.DryRun.{HasDryRun};
+ghost use Rattle.dicomdir.specs.DryRun.{HasDryRun, HasLink, first_path};
 ghost use Rattle.dicomdir.specs.EmptyPaths.{AsksEmptyPath, HasEmptyPath, least_sources};
+ghost use Rattle.dicomdir.specs.Made.{MakesSome};
 ghost use Rattle.dicomdir.specs.Refusal.{IsOfWork};
 
 use crate::empty_paths::{empty_path, first_empty};
@@ -89,6 +90,15 @@ pub fn run<F: Files, O: Write, E: Write>(
     ensures dry { takes dicomdir_app (words_of words.items) ≡ true
         → HasDryRun (subcommand_of dicomdir_app (words_of words.items)) → F.held files.new ≡ F.held files.old }
 
+    // Where they tell that, each other command that is done has made a file-set in the first of its paths. Each image
+    // is a copy, a file of the version that is planned there. Only where the words set `--link` may it be a file under
+    // a second name.
+    ensures made { result ≡ 0 → takes dicomdir_app (words_of words.items) ≡ true
+        → ¬ IsReading (subcommand_of dicomdir_app (words_of words.items))
+        → ¬ HasDryRun (subcommand_of dicomdir_app (words_of words.items))
+        → MakesSome (HasLink (subcommand_of dicomdir_app (words_of words.items)))
+        (first_path (subcommand_of dicomdir_app (words_of words.items))) (F.held files.old) (F.held files.new) }
+
     // Where the work is done nothing goes to the error output.
     ensures done { result ≡ 0 → err.new ≡ err.old }
 {
@@ -117,6 +127,9 @@ fn run_asked<F: Files, O: Write, E: Write>(
     ensures done { result ≡ 0 → err.new ≡ err.old }
     ensures kept { OnlyReads asked.now.verb → F.held files.new ≡ F.held files.old }
     ensures dry { asked.now.dry_run ≡ true → F.held files.new ≡ F.held files.old }
+    ensures made { result ≡ 0 → ¬ OnlyReads asked.now.verb → asked.now.dry_run ≡ false
+        → MakesSome (asked.now.link ≡ true) (slice_index_or (words_of asked.now.paths.items) 0 [])
+        (F.held files.old) (F.held files.new) }
 {
     let names = match names_of(alloc, asked) {
         Ok(names) => names,
@@ -142,6 +155,9 @@ fn run_named<F: Files, O: Write, E: Write>(
     ensures done { result ≡ 0 → err.new ≡ err.old }
     ensures kept { OnlyReads asked.now.verb → F.held files.new ≡ F.held files.old }
     ensures dry { asked.now.dry_run ≡ true → F.held files.new ≡ F.held files.old }
+    ensures made { result ≡ 0 → ¬ OnlyReads asked.now.verb → asked.now.dry_run ≡ false
+        → MakesSome (asked.now.link ≡ true) (slice_index_or (words_of asked.now.paths.items) 0 [])
+        (F.held files.old) (F.held files.new) }
 {
     if asked.quiet {
         files.be_quiet();
@@ -204,6 +220,8 @@ fn tell_empty<E: Write>(asked: &Asked, at: usize, err: &mut E) -> u8
 fn paths_of(asked: &Asked) -> (&str, &[String])
     requires { least_paths asked.now.verb ≤ length asked.now.paths.items }
     ensures least { least_sources asked.now.verb ≤ length result.1.now }
+    ensures folder { ¬ OnlyReads asked.now.verb
+        → result.0.now ≡ slice_index_or (words_of asked.now.paths.items) 0 [] }
     ensures writes { ¬ OnlyReads asked.now.verb → length asked.now.paths.items ≡ length result.1.now + 1 }
     ensures reads { OnlyReads asked.now.verb → length asked.now.paths.items ≡ length result.1.now }
 {
@@ -240,6 +258,11 @@ fn run_verb<F: Files, O: Write>(
     // only plans.
     ensures kept { OnlyReads asked.now.verb → F.held files.new ≡ F.held files.old }
     ensures dry { asked.now.dry_run ≡ true → F.held files.new ≡ F.held files.old }
+
+    // A command that writes and is done has made a file-set in the folder, with second names only where it is asked for
+    // them.
+    ensures made { ¬ OnlyReads asked.now.verb → asked.now.dry_run ≡ false → IfOk result (λ status. status ≡ 0
+        → MakesSome (asked.now.link ≡ true) folder.now (F.held files.old) (F.held files.new)) }
 {
     let making = Making::asked(asked, folder);
     match asked.verb {

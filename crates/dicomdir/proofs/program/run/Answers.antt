@@ -3,11 +3,13 @@ use Rattle.std.specs.Prelude.{◌⊎◌}
 use Rattle.clap.specs.Words.{subcommand_of, takes}
 use Rattle.dd_line.specs.Line.{HasBadName, IsCheck, IsReading, LacksSources, dicomdir_app, words_of}
 use Rattle.dd_line.proofs.LineLemmas.{asked_bad, asked_check, given_bad}
-use Rattle.dicomdir.specs.DryRun.{HasDryRun}
+use Rattle.dicomdir.specs.DryRun.{HasDryRun, HasLink, first_path}
 use Rattle.dicomdir.specs.EmptyPaths.{HasEmptyPath}
-use Rattle.dicomdir.proofs.DryRuns.{asked_dry}
+use Rattle.dicomdir.specs.Made.{MakesSome}
+use Rattle.dicomdir.proofs.DryRuns.{asked_dry, asked_work}
 use Rattle.dicomdir.proofs.EmptyWords.{asked_empty}
 use Rattle.dicomdir.proofs.LinesRefused.{taken_lacks, taken_mistake}
+use Rattle.dicomdir.proofs.SomeMade.{asked_makes}
 use Rattle.dicomdir.proofs.program.run.Goals as goal
 
 -- ---- a line that is read
@@ -47,6 +49,19 @@ returns-in-Ok-clause-dry g c = λ _ has.
     c.run_asked.ensures.dry (asked_dry c.in-Ok.asked _ c.in-Ok.ensures.asked
     (subst (λ words. HasDryRun (subcommand_of dicomdir_app (words_of words))) (sym c.as_slice.ensures.value) has))
 
+pub returns-in-Ok-clause-made : goal.returns-in-Ok-clause-made
+returns-in-Ok-clause-made g c = λ is _ writes works.
+    let found = subcommand_of dicomdir_app (words_of c.as_slice.result.now) in
+    subst (λ words. MakesSome (HasLink (subcommand_of dicomdir_app (words_of words)))
+    (first_path (subcommand_of dicomdir_app (words_of words))) (g.F.Files.held c.args.files.now)
+    (g.F.Files.held c.run_asked.new.files)) c.as_slice.ensures.value
+    (asked_makes c.in-Ok.asked found _ _ c.in-Ok.ensures.asked (c.run_asked.ensures.made is
+    (λ reads. writes (subst (λ words. IsReading (subcommand_of dicomdir_app (words_of words))) c.as_slice.ensures.value
+    (c.in-Ok.ensures.reading.0 reads)))
+    (asked_work c.in-Ok.asked found c.in-Ok.ensures.asked
+    (λ dry. works (subst (λ words. HasDryRun (subcommand_of dicomdir_app (words_of words))) c.as_slice.ensures.value
+    dry)))))
+
 -- ---- a line that is refused
 
 pub returns-clause-words : goal.returns-clause-words
@@ -74,3 +89,9 @@ returns-clause-empty g c = λ taken _.
     let still = subst (λ words. takes dicomdir_app (words_of words) ≡ true) (sym c.as_slice.ensures.value) taken in
     let amiss = c.refuse_line.ensures.mistake (taken_mistake c.in-Err.fault _ (c.in-Err.ensures.passes still)) in
     (amiss.0, cc, amiss.1)
+
+pub returns-clause-made : goal.returns-clause-made
+returns-clause-made g c = λ is taken _ _.
+    let still = subst (λ words. takes dicomdir_app (words_of words) ≡ true) (sym c.as_slice.ensures.value) taken in
+    let amiss = c.refuse_line.ensures.mistake (taken_mistake c.in-Err.fault _ (c.in-Err.ensures.passes still)) in
+    absurd (omega (arith, is, amiss.0))

@@ -1,0 +1,110 @@
+-- A file-set was made, whichever files its images were made of.
+use Rattle.std.proofs.Common.{◌≡◌, ◌⊎◌, ℕ, List, [], ◌∷◌, Option, Result, Ok, Err, IfOk, IsOk, inl, inr, map, refl}
+use Rattle.std.proofs.Common.{subst, true}
+use Rattle.std.specs.Prelude.{slice_index_or, zip}
+use Rattle.clap.specs.Words.{Row, Text}
+use Rattle.dd_elem.specs.FileId.{Ranks}
+use Rattle.dd_files.specs.Files.{Held}
+use Rattle.dd_keys.specs.declared.parts.Parts.{Parts}
+use Rattle.dd_line.specs.Line.{IsAsked, words_of}
+use Rattle.dd_line.specs.declared.line.Asked.{Asked}
+use Rattle.dd_layout.specs.declared.record.PlanRecord.{PlanRecord}
+use Rattle.dd_layout.specs.Layouts.{Layout}
+use Rattle.dicomdir.specs.DryRun.{HasLink, first_path}
+use Rattle.dicomdir.specs.Made.{MakesFileSet, MakesImage, MakesRow, MakesRows, MakesSome, MayLink}
+use Rattle.dicomdir.proofs.DryRuns.{given_folder, given_link}
+
+-- what an image was made of may be said otherwise
+image_by : (From To : List ℕ → Type 0) (folder : List ℕ) (file : Ranks) (planned : Parts) (old new : Option Held)
+    → ((path : List ℕ) → From path → To path) → MakesImage From folder file planned old new
+    → MakesImage To folder file planned old new
+image_by From To folder file planned old new same (inl copied) = inl copied
+image_by From To folder file planned old new same (inr linked) = inr (record {
+  path = linked.path;
+  from = linked.from;
+  place = linked.place;
+  picked = same linked.from linked.picked;
+  made = linked.made;
+})
+
+row_by : (From To : List ℕ → Type 0) (folder : List ℕ) (versions : List Parts) (row : PlanRecord)
+    (old new : Option Held) → ((path : List ℕ) → From path → To path) → MakesRow From folder versions row old new
+    → MakesRow To folder versions row old new
+row_by From To folder versions row old new same made = record {
+  file = made.file;
+  named = made.named;
+  planned = made.planned;
+  of = made.of;
+  made = image_by From To folder made.file made.planned old new same made.made;
+}
+
+-- so may what all of them were made of, with another pick for each
+module _ {P Q : Type 0} (From : P → List ℕ → Type 0) (To : Q → List ℕ → Type 0) (other : P → Q)
+    (same : (pick : P) (path : List ℕ) → From pick path → To (other pick) path) (folder : List ℕ) where
+  rows_by : (versions : List Parts) (rows : List PlanRecord) (picks : List P) (old new : Option Held)
+      → MakesRows From folder versions (zip rows picks) old new
+      → MakesRows To folder versions (zip rows (map other picks)) old new
+  rows_by versions [] picks old new made = made
+  rows_by versions (row ∷ rows) [] old new made = made
+  rows_by versions (row ∷ rows) (pick ∷ picks) old new made = (
+    made.0,
+    row_by (From pick) (To (other pick)) folder versions row old made.0 (same pick) made.1,
+    rows_by versions rows picks made.0 new made.2,
+  )
+
+  set_by : (plan : Layout) (picks : List P) (old new : Option Held) → MakesFileSet From folder plan picks old new
+      → MakesFileSet To folder plan (map other picks) old new
+  set_by plan picks old new made = record {
+    copied = made.copied;
+    images = rows_by plan.versions _ picks old made.copied made.images;
+    path = made.path;
+    place = made.place;
+    directory = made.directory;
+  }
+
+-- the file-set of these picks is some file-set
+some_made : {P : Type 0} (GivesNames : Type 0) (StandsAt : P → List ℕ → Type 0) (folder : List ℕ) (plan : Layout)
+    (picks : List P) (old new : Option Held)
+    → MakesFileSet (MayLink GivesNames StandsAt) folder plan picks old new → MakesSome GivesNames folder old new
+some_made GivesNames StandsAt folder plan picks old new made = record {
+  plan = plan;
+  picks = map (λ _. tt) picks;
+  made = set_by (MayLink GivesNames StandsAt) (λ _ _. GivesNames) (λ _. tt) (λ pick path may. may.0) folder plan picks
+      old new made;
+}
+
+-- where images get second names for one reason, they get them for what follows from it
+some_by : (GivesNames Asked : Type 0) (folder : List ℕ) (old new : Option Held) → (GivesNames → Asked)
+    → MakesSome GivesNames folder old new → MakesSome Asked folder old new
+some_by GivesNames Asked folder old new follows some = record {
+  plan = some.plan;
+  picks = map (λ pick. pick) some.picks;
+  made = set_by (λ _ _. GivesNames) (λ _ _. Asked) (λ pick. pick) (λ pick path may. follows may) folder some.plan
+      some.picks old new some.made;
+}
+
+-- the same of a command that is done
+abbrev pub DoneMakes : {E : Type 0} → Result ℕ E → Type 0 → List ℕ → Option Held → Option Held → Type 0
+DoneMakes r GivesNames folder old new = IfOk r (λ status. status ≡ 0 → MakesSome GivesNames folder old new)
+
+pub done_makes : {P E : Type 0} (r : Result ℕ E) (GivesNames : Type 0) (StandsAt : P → List ℕ → Type 0)
+    (folder : List ℕ) (plan : Layout) (picks : List P) (old new : Option Held)
+    → (IsOk r → MakesFileSet (MayLink GivesNames StandsAt) folder plan picks old new)
+    → DoneMakes r GivesNames folder old new
+done_makes (Ok status) GivesNames StandsAt folder plan picks old new made =
+    λ done. some_made GivesNames StandsAt folder plan picks old new (made refl)
+done_makes (Err refusal) GivesNames StandsAt folder plan picks old new made = tt
+
+pub done_by : {E : Type 0} (r : Result ℕ E) (GivesNames Asked : Type 0) (folder : List ℕ) (old new : Option Held)
+    → (GivesNames → Asked) → DoneMakes r GivesNames folder old new → DoneMakes r Asked folder old new
+done_by (Ok status) GivesNames Asked folder old new follows makes =
+    λ done. some_by GivesNames Asked folder old new follows (makes done)
+done_by (Err refusal) GivesNames Asked folder old new follows makes = tt
+
+-- the same of what the words of a line say
+pub asked_makes : (a : Asked) (found : Option (Text × List Row)) (old new : Option Held) → IsAsked a found
+    → MakesSome (a.link ≡ true) (slice_index_or (words_of a.paths.items) 0 []) old new
+    → MakesSome (HasLink found) (first_path found) old new
+asked_makes a found old new h some =
+    subst (λ (folder : List ℕ). MakesSome (HasLink found) folder old new) (given_folder a found h)
+    (some_by (a.link ≡ true) (HasLink found) _ old new (given_link a found h) some)
