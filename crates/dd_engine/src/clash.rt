@@ -8,8 +8,8 @@ ghost use Rattle.dd_engine.specs.Noting.{IsClashOf, first_by, first_of};
 use crate::notes::Clash;
 use dd_catalogue::Catalogue;
 use dd_elem::{Ordered, Uid};
-use dd_keys::Version;
 use dd_layout::PlanFault;
+use dd_version::Version;
 
 /// Finds where the two kept versions come from that the fault names: the first place of each. The catalogue was made
 /// of these versions, which stand at these places, in the same order. None where the fault names no two versions.
