@@ -6,8 +6,8 @@ use Rattle.std.specs.declared.cmp.Ordering.TheVariants.{Less, Equal, Greater}
 use Rattle.std.proofs.Common.{refl, sym, ◌∙◌, ap, subst, inl, inr}
 use Rattle.std.proofs.lemmas.Cmp.{nat_list_cmp_total, tied_itself}
 use Rattle.dd_elem.specs.Ordered.{bytes_cmp}
-use Rattle.dd_keys.specs.Orders.{patient_cmp, study_cmp, series_cmp, parts_cmp}
-use Rattle.dd_keys.specs.declared.parts.Parts.{Parts}
+use Rattle.dd_version.specs.Orders.{patient_cmp, study_cmp, series_cmp, parts_cmp}
+use Rattle.dd_version.specs.declared.parts.Parts.{Parts}
 use Rattle.dd_catalogue.specs.Best.{IsGreatest}
 use Rattle.dd_catalogue.proofs.Members.{Member, member_of, contained}
 use Rattle.dd_catalogue.specs.Harmony.{greatest_like, patient_of, patient_key, study_of, study_key}

@@ -9,13 +9,13 @@ use Rattle.std.proofs.Common.{refl, sym, ◌∙◌, ap, subst, inl, inr}
 use Rattle.std.proofs.lemmas.List.Elements.{Contains-get_or}
 use Rattle.std.proofs.lemmas.List.{take_more, map-append}
 use Rattle.dd_elem.specs.Ordered.{bytes_cmp}
-use Rattle.dd_keys.specs.Fitting.{Fits}
-use Rattle.dd_keys.specs.Orders.{patient_cmp, patient_total, patient_apart, study_cmp, study_total, study_apart}
-use Rattle.dd_keys.specs.Orders.{series_cmp, series_total, series_apart}
-use Rattle.dd_keys.specs.declared.keys.PatientKeys.{PatientKeys}
-use Rattle.dd_keys.specs.declared.keys.StudyKeys.{StudyKeys}
-use Rattle.dd_keys.specs.declared.keys.SeriesKeys.{SeriesKeys}
-use Rattle.dd_keys.specs.declared.parts.Parts.{Parts}
+use Rattle.dd_version.specs.Fitting.{Fits}
+use Rattle.dd_version.specs.Orders.{patient_cmp, patient_total, patient_apart, study_cmp, study_total, study_apart}
+use Rattle.dd_version.specs.Orders.{series_cmp, series_total, series_apart}
+use Rattle.dd_version.specs.declared.keys.PatientKeys.{PatientKeys}
+use Rattle.dd_version.specs.declared.keys.StudyKeys.{StudyKeys}
+use Rattle.dd_version.specs.declared.keys.SeriesKeys.{SeriesKeys}
+use Rattle.dd_version.specs.declared.parts.Parts.{Parts}
 use Rattle.dd_catalogue.specs.Agreeing.{agreed_by}
 use Rattle.dd_catalogue.specs.Best.{IsAbove, at, best, greater}
 use Rattle.dd_catalogue.specs.Rising.{Orders, by_test, either, either_assoc}

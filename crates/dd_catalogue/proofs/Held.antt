@@ -4,8 +4,8 @@ use Rattle.std.specs.Prelude.{filter, length, map}
 use Rattle.std.proofs.Common.{refl, sym, ◌∙◌, ap, subst, append-nil, arith, length-append}
 use Rattle.std.proofs.lemmas.List.Elements.{filter_agree, filter_passes, All-contains}
 use Rattle.dd_elem.specs.Ordered.{bytes_cmp}
-use Rattle.dd_keys.specs.Orders.{parts_cmp}
-use Rattle.dd_keys.specs.declared.parts.Parts.{Parts}
+use Rattle.dd_version.specs.Orders.{parts_cmp}
+use Rattle.dd_version.specs.declared.parts.Parts.{Parts}
 use Rattle.dd_catalogue.specs.Compared.{compared}
 use Rattle.dd_catalogue.specs.BestLaws.{best_of_rising, same_best_at}
 use Rattle.dd_catalogue.specs.CatalogueJoin.{uids_ordered, same_contents}

@@ -2,8 +2,8 @@
 use Rattle.std.specs.Prelude.{◌≡◌, false, Option, Some, None}
 use Rattle.std.specs.Ordering.{is_lt}
 use Rattle.std.proofs.Common.{refl, ◌∙◌, ap}
-use Rattle.dd_keys.specs.Orders.{parts_cmp}
-use Rattle.dd_keys.specs.declared.parts.Parts.{Parts}
+use Rattle.dd_version.specs.Orders.{parts_cmp}
+use Rattle.dd_version.specs.declared.parts.Parts.{Parts}
 use Rattle.dd_catalogue.specs.Rising.{by_test}
 use Rattle.dd_catalogue.specs.Table.{taken_by}
 use Rattle.dd_catalogue.specs.Contents.{Contents, is_withdrawn}

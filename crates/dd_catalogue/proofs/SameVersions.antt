@@ -9,8 +9,8 @@ use Rattle.std.proofs.lemmas.Bool.{and_parts}
 use Rattle.std.proofs.lemmas.Cmp.{nat_list_cmp_total, tied_itself}
 use Rattle.std.proofs.lemmas.Map.Lookups.{exact_bytes}
 use Rattle.dd_elem.specs.Ordered.{bytes_cmp}
-use Rattle.dd_keys.specs.Orders.{parts_cmp, parts_total, parts_apart}
-use Rattle.dd_keys.specs.declared.parts.Parts.{Parts}
+use Rattle.dd_version.specs.Orders.{parts_cmp, parts_total, parts_apart}
+use Rattle.dd_version.specs.declared.parts.Parts.{Parts}
 use Rattle.dd_catalogue.specs.CatalogueJoin.{same_contents}
 use Rattle.dd_catalogue.specs.Contents.{Contents}
 use Rattle.dd_catalogue.specs.Equal.{is_same, are_same_uids, holds_same}

@@ -1,10 +1,10 @@
 -- A version with the tuples that tables have for its patient, its study and its series.
 use Rattle.std.specs.Prelude.{List, unwrap_or}
 use Rattle.dd_elem.specs.Ordered.{bytes_cmp}
-use Rattle.dd_keys.specs.declared.parts.Parts.{Parts}
-use Rattle.dd_keys.specs.declared.keys.PatientKeys.{PatientKeys}
-use Rattle.dd_keys.specs.declared.keys.StudyKeys.{StudyKeys}
-use Rattle.dd_keys.specs.declared.keys.SeriesKeys.{SeriesKeys}
+use Rattle.dd_version.specs.declared.parts.Parts.{Parts}
+use Rattle.dd_version.specs.declared.keys.PatientKeys.{PatientKeys}
+use Rattle.dd_version.specs.declared.keys.StudyKeys.{StudyKeys}
+use Rattle.dd_version.specs.declared.keys.SeriesKeys.{SeriesKeys}
 use Rattle.dd_catalogue.specs.Best.{at}
 use Rattle.dd_catalogue.specs.Harmony.{patient_key, study_key, series_key}
 

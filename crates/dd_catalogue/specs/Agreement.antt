@@ -1,6 +1,6 @@
 -- Versions of one image, and sets of versions that agree on them.
 use Rattle.std.specs.Prelude.{◌≡◌, List, Contains}
-use Rattle.dd_keys.specs.declared.parts.Parts.{Parts}
+use Rattle.dd_version.specs.declared.parts.Parts.{Parts}
 
 -- two versions of one image that differ at most in what they tell of its patient, its study and its series: they have
 -- one path (PS3.3 section F.4), which is Patient ID and the UIDs of study, series and instance, and one value of each

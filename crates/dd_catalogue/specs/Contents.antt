@@ -2,8 +2,8 @@
 -- best of the versions whose instances are not withdrawn.
 use Rattle.std.specs.Prelude.{◌≡◌, ℕ, List, [], ◌∷◌, ◌++◌, Bool, not}
 use Rattle.dd_elem.specs.Ordered.{bytes_cmp}
-use Rattle.dd_keys.specs.Orders.{parts_cmp}
-use Rattle.dd_keys.specs.declared.parts.Parts.{Parts}
+use Rattle.dd_version.specs.Orders.{parts_cmp}
+use Rattle.dd_version.specs.declared.parts.Parts.{Parts}
 use Rattle.dd_catalogue.specs.Best.{IsRising, SameMembers}
 use Rattle.dd_catalogue.specs.Free.{is_free, free, set_of, best_free}
 use Rattle.dd_catalogue.specs.Versions.{IsCatalogue, instance_of}

@@ -4,11 +4,11 @@ use Rattle.std.specs.List.{fold}
 use Rattle.std.specs.Ordering.{is_eq}
 use Rattle.std.specs.declared.cmp.Ordering.{Ordering}
 use Rattle.dd_elem.specs.Ordered.{bytes_cmp}
-use Rattle.dd_keys.specs.Orders.{patient_cmp, study_cmp, series_cmp}
-use Rattle.dd_keys.specs.declared.parts.Parts.{Parts}
-use Rattle.dd_keys.specs.declared.keys.PatientKeys.{PatientKeys}
-use Rattle.dd_keys.specs.declared.keys.StudyKeys.{StudyKeys}
-use Rattle.dd_keys.specs.declared.keys.SeriesKeys.{SeriesKeys}
+use Rattle.dd_version.specs.Orders.{patient_cmp, study_cmp, series_cmp}
+use Rattle.dd_version.specs.declared.parts.Parts.{Parts}
+use Rattle.dd_version.specs.declared.keys.PatientKeys.{PatientKeys}
+use Rattle.dd_version.specs.declared.keys.StudyKeys.{StudyKeys}
+use Rattle.dd_version.specs.declared.keys.SeriesKeys.{SeriesKeys}
 use Rattle.dd_catalogue.specs.Best.{greater, IsGreatest}
 use Rattle.dd_catalogue.specs.Versions.{IsCatalogue}
 

@@ -1,8 +1,8 @@
 -- What becomes of a version that a catalogue takes.
 use Rattle.std.specs.Prelude.{ℕ, List, Option, Some, None, if◌then◌else◌}
 use Rattle.std.specs.Ordering.{is_lt}
-use Rattle.dd_keys.specs.Orders.{parts_cmp}
-use Rattle.dd_keys.specs.declared.parts.Parts.{Parts}
+use Rattle.dd_version.specs.Orders.{parts_cmp}
+use Rattle.dd_version.specs.declared.parts.Parts.{Parts}
 use Rattle.dd_catalogue.specs.Versions.{kept}
 use Rattle.dd_catalogue.specs.Contents.{Contents, is_withdrawn}
 use Rattle.dd_catalogue.specs.declared.table.Taken.{Taken}

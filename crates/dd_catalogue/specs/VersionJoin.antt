@@ -1,9 +1,9 @@
 -- The join of versions: the greater one.
 use Rattle.std.specs.Prelude.{◌≡◌, true}
 use Rattle.std.specs.Ordering.{is_lt}
-use Rattle.dd_keys.specs.Fitting.{Fits}
-use Rattle.dd_keys.specs.Orders.{parts_cmp, parts_total, parts_apart}
-use Rattle.dd_keys.specs.declared.parts.Parts.{Parts}
+use Rattle.dd_version.specs.Fitting.{Fits}
+use Rattle.dd_version.specs.Orders.{parts_cmp, parts_total, parts_apart}
+use Rattle.dd_version.specs.declared.parts.Parts.{Parts}
 use Rattle.dd_catalogue.specs.Best.{greater}
 use Rattle.dd_catalogue.specs.Rising.{by_test, greater_self, greater_comm, greater_assoc}
 use Rattle.dd_catalogue.specs.Joins.{JoinLaws}

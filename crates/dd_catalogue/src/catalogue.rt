@@ -21,7 +21,7 @@ use crate::table::Table;
 use crate::taking::{Refused, Took, Withdrew, told};
 use crate::withdrawals::{Withdrawals, distinct};
 use dd_elem::{Memory, Uid};
-use dd_keys::Version;
+use dd_version::Version;
 use std::alloc::Global;
 use std::marker::Model;
 

@@ -9,7 +9,7 @@ ghost use Rattle.dd_catalogue.specs.Owners.{uid_of, series_filing, study_filing}
 use crate::lent::Greatest;
 use crate::owners::{Filed, of_two_owners, owners};
 use dd_elem::{Memory, Uid};
-use dd_keys::{PatientKeys, SeriesKeys, StudyKeys, Version};
+use dd_version::{PatientKeys, SeriesKeys, StudyKeys, Version};
 use std::alloc::Global;
 
 /// The first version that conflicts with a later one, and the first later one with which it does.

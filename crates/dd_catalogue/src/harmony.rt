@@ -9,7 +9,7 @@ use crate::lent::Greatest;
 use crate::table::Table;
 use crate::tuples::greatest;
 use dd_elem::Memory;
-use dd_keys::{Parts, PatientKeys, SeriesKeys, StudyKeys, Version};
+use dd_version::{Parts, PatientKeys, SeriesKeys, StudyKeys, Version};
 use std::alloc::Global;
 
 /// The versions with the greatest keys of each patient, study and series among them. Memory where a

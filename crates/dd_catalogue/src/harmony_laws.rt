@@ -2,8 +2,8 @@
 
 ghost use Rattle.std.specs.Prelude.{◌≡◌, List, Contains, false, map};
 ghost use Rattle.std.specs.Ordering.{is_lt};
-ghost use Rattle.dd_keys.specs.Orders.{parts_cmp};
-ghost use Rattle.dd_keys.specs.declared.parts.Parts.{Parts};
+ghost use Rattle.dd_version.specs.Orders.{parts_cmp};
+ghost use Rattle.dd_version.specs.declared.parts.Parts.{Parts};
 ghost use Rattle.dd_catalogue.specs.Agreement.{Agree, AllAgree, HaveSameImages};
 ghost use Rattle.dd_catalogue.specs.Clash.{clash};
 ghost use Rattle.dd_catalogue.specs.Harmony.{harmonised};

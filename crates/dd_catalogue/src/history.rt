@@ -7,7 +7,7 @@ ghost use Rattle.dd_catalogue.specs.declared.history.History.{History};
 
 use crate::catalogue::Catalogue;
 use dd_elem::{Memory, Uid};
-use dd_keys::Version;
+use dd_version::Version;
 use std::alloc::Global;
 
 /// How a catalogue came about.

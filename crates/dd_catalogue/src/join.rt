@@ -5,7 +5,7 @@ ghost use Rattle.std.specs.List.{fold};
 ghost use Rattle.dd_catalogue.specs.Joins.{AreJoined, GatherIsFree, JoinLaws, OrderIsFree};
 
 use dd_elem::{Memory, Ordered};
-use dd_keys::Version;
+use dd_version::Version;
 
 /// A type whose values can be joined: what is joined, in whatever order and however often, gives the
 /// same.
@@ -63,8 +63,8 @@ pub fn gather_order_is_free<J: Join>()
 
 /// The join of two versions is the greater one. It takes memory where the other is greater.
 impl Join for Version {
-    ghost use Rattle.dd_keys.specs.Fitting.{Fits};
-    ghost use Rattle.dd_keys.specs.Orders.{parts_cmp};
+    ghost use Rattle.dd_version.specs.Fitting.{Fits};
+    ghost use Rattle.dd_version.specs.Orders.{parts_cmp};
     ghost use Rattle.dd_catalogue.specs.Best.{greater};
     ghost use Rattle.dd_catalogue.specs.VersionJoin.{IsLess, version_laws};
 

@@ -1,7 +1,7 @@
 //! What holds of every set of versions, whatever the order in which they arrive.
 
 ghost use Rattle.std.specs.Prelude.{◌≡◌, ◌↔◌, [], ◌++◌, ℕ, List, Option, Contains, Decides, true};
-ghost use Rattle.dd_keys.specs.declared.parts.Parts.{Parts};
+ghost use Rattle.dd_version.specs.declared.parts.Parts.{Parts};
 ghost use Rattle.dd_catalogue.specs.Best.{SameMembers};
 ghost use Rattle.dd_catalogue.specs.Clash.{Conflict, IsClash, clash, conflicts};
 ghost use Rattle.dd_catalogue.specs.Contents.{Contents, IsHeld, is_withdrawn, kept_of, left_of};

@@ -6,7 +6,7 @@ ghost use Rattle.dd_catalogue.specs.Owners.{HasThoseOfTwoOwners, filing_by, is_o
 use crate::lent::{Greatest, Keyed, lent};
 use crate::tuples::Tuple;
 use dd_elem::{Memory, Ordered};
-use dd_keys::Version;
+use dd_version::Version;
 use std::alloc::Global;
 use std::cmp::Ordering;
 use std::marker::Model;

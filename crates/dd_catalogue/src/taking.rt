@@ -4,7 +4,7 @@ ghost use Rattle.std.specs.Prelude.{◌≡◌};
 ghost use Rattle.dd_catalogue.specs.Taking.{as_took};
 
 use crate::table::Taken;
-use dd_keys::Version;
+use dd_version::Version;
 use thiserror::Error;
 
 /// What became of a version that was taken.

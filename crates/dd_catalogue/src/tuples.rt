@@ -2,14 +2,14 @@
 
 ghost use Rattle.std.specs.Prelude.{◌≡◌, map, IfOk, OnOk, All};
 ghost use Rattle.dd_elem.specs.Ordered.{bytes_cmp};
-ghost use Rattle.dd_keys.specs.Fitting.{Fits};
-ghost use Rattle.dd_keys.specs.declared.parts.Parts.{Parts};
+ghost use Rattle.dd_version.specs.Fitting.{Fits};
+ghost use Rattle.dd_version.specs.declared.parts.Parts.{Parts};
 ghost use Rattle.dd_catalogue.specs.Best.{best};
 ghost use Rattle.dd_catalogue.specs.Harmony.{patient_of, patient_key, study_of, study_key, series_of, series_key};
 
 use crate::lent::{Greatest, Keyed};
 use dd_elem::Memory;
-use dd_keys::{PatientKeys, SeriesKeys, StudyKeys, Version};
+use dd_version::{PatientKeys, SeriesKeys, StudyKeys, Version};
 use std::alloc::Global;
 
 /// The keys that a version has of its patient, its study or its series.

@@ -3,7 +3,7 @@
 use crate::lent::Keyed;
 use crate::table::Copied;
 use dd_elem::{Memory, Uid};
-use dd_keys::Version;
+use dd_version::Version;
 
 /// A version has its SOP Instance UID as key.
 impl Keyed for Version {

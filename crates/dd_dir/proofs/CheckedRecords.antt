@@ -9,8 +9,9 @@ use Rattle.dd_elem.proofs.Cleaning.{clean_of-clean_of}
 use Rattle.dd_elem.specs.Clean.{clean_of}
 use Rattle.dd_elem.specs.Key.{IsKey}
 use Rattle.dd_elem.specs.Uid.{is_uid}
-use Rattle.dd_keys.proofs.ImageClasses.{is_image_class_decides}
-use Rattle.dd_keys.specs.Fitting.{Fits, is_empty}
+use Rattle.dd_version.proofs.ImageClasses.{is_image_class_decides}
+use Rattle.dd_version.proofs.KnownSyntaxes.{is_known_syntax_decides}
+use Rattle.dd_version.specs.Fitting.{Fits, is_empty}
 use Rattle.dd_keys.specs.Values.{content_value, entry_value, value_at}
 use Rattle.dd_layout.specs.declared.field.Field.{Field}
 use Rattle.dd_layout.specs.declared.level.Level.{Level}
@@ -176,7 +177,8 @@ version_fits image is =
     let series = series_held image.series is.series in
     let own = image_held image.own is.own in
     record {
-      transfer = (and_parts _ _ own.transfer.suits).1;
+      transfer = (is_known_syntax_decides (key_of row.TRANSFER.tag image.own)).0
+          (and_parts _ _ own.transfer.suits).1;
       class = (is_image_class_decides (key_of row.CLASS.tag image.own)).0 (and_parts _ _ own.class.suits).1;
       study_date = some_bytes (key_of row.STUDY_DATE.tag image.study) study.date.suits;
       study_time = some_bytes (key_of row.STUDY_TIME.tag image.study) study.time.suits;

@@ -6,7 +6,7 @@ use Rattle.std.proofs.lemmas.List.Elements.{All-from_recursion, recursion_from_A
 use Rattle.dd_elem.specs.SetId.{max_set_id_length}
 use Rattle.dd_elem.specs.Uid.{IsUid, is_uid}
 use Rattle.dd_elem.proofs.UidForm.{IsUid_from_is_uid}
-use Rattle.dd_keys.specs.declared.parts.Parts.{Parts}
+use Rattle.dd_version.specs.declared.parts.Parts.{Parts}
 use Rattle.dd_part10.specs.Head.{head_text}
 use Rattle.dd_part10.proofs.HeadLaw.{head_is_file}
 use Rattle.dd_part10.proofs.Heads.{length_head}

@@ -8,7 +8,7 @@ use Rattle.std.proofs.lemmas.List.Elements.{recursion_from_All}
 use Rattle.std.proofs.lemmas.List.Sums.{sum_by-cons}
 use Rattle.std.proofs.lemmas.Option.{slice_get-get_or}
 use Rattle.dd_elem.specs.declared.vr.Vr.TheVariants.{SQ}
-use Rattle.dd_keys.specs.declared.parts.Parts.{Parts}
+use Rattle.dd_version.specs.declared.parts.Parts.{Parts}
 use Rattle.dd_part10.specs.Head.{head_text}
 use Rattle.dd_part10.specs.declared.meta.Meta.{Meta}
 use Rattle.dd_set.specs.Elements.{Entry, Part, items_of}

@@ -3,9 +3,9 @@ use Rattle.std.specs.Prelude.{◌≡◌, ◌≢◌, ℕ, suc, true, List, [], �
 use Rattle.std.specs.declared.cmp.Ordering.{Ordering}
 use Rattle.std.proofs.Common.{refl, sym, ◌∙◌, ap, subst, inl, inr}
 use Rattle.dd_elem.specs.Ordered.{bytes_cmp}
-use Rattle.dd_keys.specs.Orders.{patient_total, patient_apart, study_total, study_apart}
-use Rattle.dd_keys.specs.Orders.{series_total, series_apart}
-use Rattle.dd_keys.specs.declared.parts.Parts.{Parts}
+use Rattle.dd_version.specs.Orders.{patient_total, patient_apart, study_total, study_apart}
+use Rattle.dd_version.specs.Orders.{series_total, series_apart}
+use Rattle.dd_version.specs.declared.parts.Parts.{Parts}
 use Rattle.dd_catalogue.proofs.Members.{Member, contained, member_of}
 use Rattle.dd_catalogue.proofs.BestMembers.{above_member, best_at_key}
 use Rattle.dd_catalogue.specs.Harmony.{agreed, greatest_like, harmonised, patient_key, patient_of, series_key}

@@ -11,7 +11,7 @@ use Rattle.dd_catalogue.specs.Harmony.{harmonised}
 use Rattle.dd_catalogue.specs.Versions.{IsCatalogue, versions_ordered}
 use Rattle.dd_catalogue.proofs.Clashes.{one_version}
 use Rattle.dd_catalogue.proofs.Harmonies.{harmonised_rises, member-map}
-use Rattle.dd_keys.specs.declared.parts.Parts.{Parts}
+use Rattle.dd_version.specs.declared.parts.Parts.{Parts}
 use Rattle.dd_layout.specs.declared.label.Label.{Label}
 use Rattle.dd_layout.specs.Paths.{Path, leads_to}
 use Rattle.dd_layout.specs.Plans.{file_of, path_of, tree}

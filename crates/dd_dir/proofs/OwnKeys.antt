@@ -3,7 +3,7 @@ use Rattle.std.specs.Prelude.{◌≡◌, ◌<◌, ◌+◌, ℕ, suc, true, false
 use Rattle.std.proofs.Common.{refl, ◌∙◌, ap, arith}
 use Rattle.dd_elem.specs.Clean.{clean_of}
 use Rattle.dd_catalogue.specs.Rising.{by_test}
-use Rattle.dd_keys.specs.declared.parts.Parts.{Parts}
+use Rattle.dd_version.specs.declared.parts.Parts.{Parts}
 use Rattle.dd_set.specs.Elements.{elements_of}
 use Rattle.dd_layout.specs.declared.label.Label.{Label}
 use Rattle.dd_layout.specs.Entries.{tag}

@@ -11,7 +11,7 @@ use Rattle.byteorder.specs.Endian.{little_bytes}
 use Rattle.dd_elem.specs.declared.vr.Vr.TheVariants.{CS, SQ, UL, US}
 use Rattle.dd_catalogue.proofs.Members.{Member}
 use Rattle.dd_catalogue.proofs.Harmonies.{member-map}
-use Rattle.dd_keys.specs.declared.parts.Parts.{Parts}
+use Rattle.dd_version.specs.declared.parts.Parts.{Parts}
 use Rattle.dd_part10.specs.Head.{head_text}
 use Rattle.dd_set.specs.Elements.{Elements, Entry, elements_of, items_of}
 use Rattle.dd_set.specs.Single.{entry_text, part_text}

@@ -6,10 +6,11 @@ use Rattle.std.proofs.lemmas.Bool.{and_from, le-leb}
 use Rattle.dd_elem.specs.FileId.{AreRanks, Ranks, text_of}
 use Rattle.dd_elem.specs.Uid.{IsUid}
 use Rattle.dd_elem.proofs.UidForm.{is_uid_from_IsUid}
-use Rattle.dd_keys.proofs.ImageClasses.{is_image_class_decides}
-use Rattle.dd_keys.specs.Fitting.{is_empty}
+use Rattle.dd_version.proofs.ImageClasses.{is_image_class_decides}
+use Rattle.dd_version.proofs.KnownSyntaxes.{is_known_syntax_decides}
+use Rattle.dd_version.specs.Fitting.{is_empty}
 use Rattle.dd_keys.specs.Values.{value_at}
-use Rattle.dd_keys.specs.declared.parts.Parts.{Parts}
+use Rattle.dd_version.specs.declared.parts.Parts.{Parts}
 use Rattle.dd_layout.specs.declared.level.Level.TheVariants.{Patient, Study, Series, Image}
 use Rattle.dd_layout.specs.declared.table.Row.{Row}
 use Rattle.dd_layout.specs.declared.table.TheConstants as row
@@ -112,7 +113,8 @@ image_rest set ranks v formed says =
     ∙ good_row set row.INSTANCE (row.TRANSFER ∷ rest) v.instance says.instance (uid_short v.instance own.instance)
     (is_uid_from_IsUid v.instance own.instance)
     ∙ good_row set row.TRANSFER rest v.transfer says.transfer (uid_short v.transfer own.transfer)
-    (and_from _ _ (is_uid_from_IsUid v.transfer own.transfer) formed.fits.transfer)
+    (and_from _ _ (is_uid_from_IsUid v.transfer own.transfer)
+    ((is_known_syntax_decides v.transfer).1 formed.fits.transfer))
     ∙ good_row set row.NUMBER [] v.number says.number own.number.short
     (some_bytes v.number formed.fits.instance_number)
 

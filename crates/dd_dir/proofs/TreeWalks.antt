@@ -8,7 +8,7 @@ use Rattle.std.proofs.lemmas.List.{take_at}
 use Rattle.std.proofs.lemmas.Nat.{from_le_bytes-to_le_bytes_4}
 use Rattle.dd_catalogue.proofs.Members.{Member, contained}
 use Rattle.dd_catalogue.specs.Rising.{by_test}
-use Rattle.dd_keys.specs.declared.parts.Parts.{Parts}
+use Rattle.dd_version.specs.declared.parts.Parts.{Parts}
 use Rattle.dd_part10.specs.Head.{head_text}
 use Rattle.dd_set.specs.Elements.{Entry, elements_of}
 use Rattle.dd_set.specs.Spelling.{elements_text}

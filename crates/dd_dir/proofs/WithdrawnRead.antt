@@ -9,7 +9,7 @@ use Rattle.dd_elem.specs.Characters.{IsDigit}
 use Rattle.dd_elem.specs.Clean.{clean_of}
 use Rattle.dd_elem.specs.Uid.{IsComponent, IsUid}
 use Rattle.dd_elem.proofs.Cleaning.{clean_of-unpadded}
-use Rattle.dd_keys.specs.declared.parts.Parts.{Parts}
+use Rattle.dd_version.specs.declared.parts.Parts.{Parts}
 use Rattle.dd_layout.specs.declared.label.Label.{Label}
 use Rattle.dd_layout.specs.Withdrawals.{withdrawn_value}
 use Rattle.dd_dir.specs.Directories.{directory_set}

@@ -4,7 +4,7 @@ use Rattle.std.specs.List.{last_or}
 use Rattle.dd_catalogue.specs.Harmony.{harmonised}
 use Rattle.dd_elem.specs.Digests.{uid_of_digest}
 use Rattle.dd_elem.specs.declared.vr.Vr.TheVariants.{SQ}
-use Rattle.dd_keys.specs.declared.parts.Parts.{Parts}
+use Rattle.dd_version.specs.declared.parts.Parts.{Parts}
 use Rattle.dd_part10.specs.File.{IsFile}
 use Rattle.dd_part10.specs.Head.{head_text}
 use Rattle.dd_set.specs.Elements.{Elements, Entry, elements_of}

@@ -7,8 +7,8 @@ use Rattle.std.specs.Str.{bytes_eq}
 use Rattle.dd_elem.specs.FileIdForm.{is_file_id_form}
 use Rattle.dd_elem.specs.Key.{max_key_length}
 use Rattle.dd_elem.specs.Uid.{is_uid}
-use Rattle.dd_keys.specs.Classes.{is_image_class}
-use Rattle.dd_keys.specs.Fitting.{is_empty}
+use Rattle.dd_version.specs.Classes.{is_image_class}
+use Rattle.dd_version.specs.Fitting.{is_empty}
 use Rattle.dd_keys.specs.Values.{value_at}
 use Rattle.dd_layout.specs.declared.field.Field.{Field}
 use Rattle.dd_layout.specs.declared.field.Field.TheVariants as fields
@@ -18,7 +18,7 @@ use Rattle.dd_layout.specs.declared.table.Row.{Row}
 use Rattle.dd_layout.specs.Entries.{tag}
 use Rattle.dd_layout.specs.Records.{kind_of}
 use Rattle.dd_layout.specs.Tables.{table_of}
-use Rattle.dd_part10.specs.Syntaxes.{syntax_of}
+use Rattle.dd_version.specs.Syntaxes.{is_known_syntax}
 use Rattle.dd_set.specs.Elements.{Elements}
 use Rattle.dd_dir.specs.declared.own_fault.OwnFault.{OwnFault}
 use Rattle.dd_dir.specs.declared.own_fault.OwnFault.TheVariants.{NoDigest, ForeignRecord, RecordKey}
@@ -75,12 +75,12 @@ is_key fields.Creator = false
 is_key fields.Digest = false
 is_key field = true
 
--- the bytes suit the field: a File ID, an image class that is taken, a transfer syntax that is read, a UID, or a key,
+-- the bytes suit the field: a File ID, an image class that is taken, a transfer syntax that is known, a UID, or a key,
 -- which is not empty where the record must have it (type 1, PS3.3 section F.5)
 abbrev pub suits : Field → List ℕ → Bool
 suits fields.File v = is_file_id_form v
 suits fields.Class v = is_uid v && is_image_class v
-suits fields.Transfer v = is_uid v && is_some (syntax_of v)
+suits fields.Transfer v = is_uid v && is_known_syntax v
 suits fields.Instance v = is_uid v
 suits fields.StudyUid v = is_uid v
 suits fields.SeriesUid v = is_uid v

@@ -4,7 +4,7 @@ use Rattle.std.specs.Prelude.{◌≡◌, ℕ, Bool, true, false, List, [], ◌�
 use Rattle.dd_catalogue.specs.Best.{SameMembers}
 use Rattle.dd_catalogue.specs.Harmony.{harmonised}
 use Rattle.dd_catalogue.specs.Versions.{best_of}
-use Rattle.dd_keys.specs.declared.parts.Parts.{Parts}
+use Rattle.dd_version.specs.declared.parts.Parts.{Parts}
 use Rattle.dd_layout.specs.Paths.{Path}
 use Rattle.dd_layout.specs.Plans.{file_of, path_of, tree}
 use Rattle.dd_layout.specs.Records.{file_text}

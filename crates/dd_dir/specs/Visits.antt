@@ -1,6 +1,6 @@
 -- What following the offsets of a directory visits, told by the records in its bytes (PS3.3 sections F.4 and F.5).
 use Rattle.std.specs.Prelude.{◌≡◌, ℕ, true, List, [], ◌∷◌, ◌++◌, length, map, filter, Contains, Option, Some, None}
-use Rattle.dd_keys.specs.declared.parts.Parts.{Parts}
+use Rattle.dd_version.specs.declared.parts.Parts.{Parts}
 use Rattle.dd_catalogue.specs.Harmony.{harmonised}
 use Rattle.dd_catalogue.specs.Versions.{IsCatalogue}
 use Rattle.dd_set.specs.Elements.{Elements, elements_of}

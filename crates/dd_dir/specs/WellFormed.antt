@@ -3,11 +3,11 @@
 use Rattle.std.specs.Prelude.{◌≡◌, length}
 use Rattle.dd_elem.specs.Key.{IsKey}
 use Rattle.dd_elem.specs.Uid.{IsUid}
-use Rattle.dd_keys.specs.Fitting.{Fits}
-use Rattle.dd_keys.specs.declared.keys.PatientKeys.{PatientKeys}
-use Rattle.dd_keys.specs.declared.keys.SeriesKeys.{SeriesKeys}
-use Rattle.dd_keys.specs.declared.keys.StudyKeys.{StudyKeys}
-use Rattle.dd_keys.specs.declared.parts.Parts.{Parts}
+use Rattle.dd_version.specs.Fitting.{Fits}
+use Rattle.dd_version.specs.declared.keys.PatientKeys.{PatientKeys}
+use Rattle.dd_version.specs.declared.keys.SeriesKeys.{SeriesKeys}
+use Rattle.dd_version.specs.declared.keys.StudyKeys.{StudyKeys}
+use Rattle.dd_version.specs.declared.parts.Parts.{Parts}
 
 pub record IsWellFormedPatient (patient : PatientKeys) : Type 0 where
   pub id : IsKey patient.id

@@ -9,9 +9,9 @@ ghost use Rattle.dd_set.specs.Single.{entry_text};
 ghost use Rattle.dd_set.specs.Spelling.{elements_text};
 
 use dd_elem::Write;
-use dd_keys::Parts;
 use dd_layout::{Cell, PlanRecord, Row};
 use dd_set::{WriteFault, send, send_header};
+use dd_version::Parts;
 
 /// Sends an element behind `sent` bytes: its header, its value and the padding.
 fn send_cell<W: Write>(cell: &Cell<'_>, writer: &mut W, sent: u64) -> Result<u64, WriteFault>

@@ -16,8 +16,8 @@ use crate::record_keys::held;
 use crate::withdrawn::{check_withdrawn, withdrawn_uids};
 use dd_catalogue::Catalogue;
 use dd_elem::{Memory, Uid};
-use dd_keys::Version;
 use dd_layout::table::{FILE, INSTANCE};
+use dd_version::Version;
 use std::alloc::Global;
 
 /// Where the file of an image is, in a file-set.

@@ -9,11 +9,11 @@ ghost use Rattle.dd_dir.specs.Own.{lacks_digest, suits};
 use crate::forest::Tree;
 use crate::own_fault::OwnFault;
 use dd_elem::{Key, Uid, is_file_id};
-use dd_keys::{is_image_class, value_at};
+use dd_keys::value_at;
 use dd_layout::table::{CREATOR, DIGEST};
 use dd_layout::{Field, Level, PRIVATE_CREATOR, Row, rows};
-use dd_part10::Meta;
 use dd_set::{DataSet, Value};
+use dd_version::{is_image_class, is_known_syntax};
 
 /// The first check that a record of this level fails: below an image there is none.
 pub(crate) fn fault_at(level: Option<Level>, tree: &Tree<'_>) -> Option<OwnFault>
@@ -139,12 +139,12 @@ fn is_class(bytes: &[u8]) -> bool
     }
 }
 
-/// Are the bytes the UID of a transfer syntax that is read?
+/// Are the bytes the UID of a transfer syntax that is known?
 fn is_transfer(bytes: &[u8]) -> bool
     ensures { result ≡ suits Field.Transfer bytes.now }
 {
     match Uid::new(bytes) {
-        Ok(transfer) => Meta::syntax_of(&transfer).is_some(),
+        Ok(transfer) => is_known_syntax(&transfer),
         Err(_) => false,
     }
 }

@@ -16,9 +16,9 @@ use crate::listing::Listed;
 use crate::own_checks::digest_in;
 use crate::record_keys::{PatientRecord, SeriesRecord, StudyRecord, held};
 use dd_elem::{Key, KeyRefused, Memory, Uid};
-use dd_keys::{Parts, PatientKeys, SeriesKeys, StudyKeys, Version};
 use dd_layout::table::{CLASS, INSTANCE, NUMBER, TRANSFER};
 use dd_set::DataSet;
+use dd_version::{Parts, PatientKeys, SeriesKeys, StudyKeys, Version};
 use std::alloc::Global;
 
 /// The key with these bytes: a copy of this one, where it has the same.

@@ -14,9 +14,9 @@ ghost use Rattle.dd_dir.specs.Keyed.{IsKeyed};
 use crate::cells::send_rows;
 use crate::well_formed::parts_of;
 use dd_elem::Write;
-use dd_keys::Version;
 use dd_layout::{PlanRecord, record_size, rows};
 use dd_set::{HEADER_SIZE, WriteFault, item_header, send};
+use dd_version::Version;
 
 /// Sends these records behind `sent` bytes.
 pub(crate) fn send_records<W: Write>(

@@ -1,7 +1,7 @@
 //! The offsets of the first and of the last root record.
 
 ghost use Rattle.std.specs.Prelude.{◌≡◌, List};
-ghost use Rattle.dd_keys.specs.declared.parts.Parts.{Parts};
+ghost use Rattle.dd_version.specs.declared.parts.Parts.{Parts};
 ghost use Rattle.dd_layout.specs.declared.label.Label.{Label};
 ghost use Rattle.dd_layout.specs.Plans.{records_of};
 ghost use Rattle.dd_dir.specs.Directories.{first_root, last_root};

@@ -11,7 +11,7 @@ ghost use Rattle.dd_dir.specs.WellFormed.{IsWellFormedSeries, IsWellFormedStudy}
 
 use dd_catalogue::Catalogue;
 use dd_elem::{Key, SetId, Uid};
-use dd_keys::{Parts, PatientKeys, SeriesKeys, StudyKeys, Version};
+use dd_version::{Parts, PatientKeys, SeriesKeys, StudyKeys, Version};
 
 /// What a version is made of, which is well formed.
 pub(crate) fn parts_of(version: &Version) -> &Parts

@@ -6,7 +6,7 @@ ghost use Rattle.dd_catalogue.specs.Harmony.{harmonised};
 ghost use Rattle.dd_catalogue.specs.Versions.{IsCatalogue};
 ghost use Rattle.dd_elem.specs.Ordered.{bytes_cmp};
 ghost use Rattle.dd_elem.specs.Uid.{IsUid};
-ghost use Rattle.dd_keys.specs.declared.parts.Parts.{Parts};
+ghost use Rattle.dd_version.specs.declared.parts.Parts.{Parts};
 ghost use Rattle.dd_layout.specs.Directory.{first_offset};
 ghost use Rattle.dd_layout.specs.Plans.{records_end, size};
 ghost use Rattle.dd_set.specs.Sends.{SendsTo};

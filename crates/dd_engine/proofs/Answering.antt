@@ -9,7 +9,7 @@ use Rattle.dd_elem.specs.Device.{HasFailed, HasWorked, IsLive, counted, last_cou
 use Rattle.dd_keys.specs.Answers.{Answers, AnswersReader}
 use Rattle.dd_keys.specs.declared.fault.KeyFault.{KeyFault}
 use Rattle.dd_keys.specs.declared.fault.KeyFault.TheVariants.{FileTooLong}
-use Rattle.dd_keys.specs.declared.parts.Parts.{Parts}
+use Rattle.dd_version.specs.declared.parts.Parts.{Parts}
 use Rattle.dd_engine.specs.Indexing.{Answer, Sourced, accepted_from, accepted, skipped_from, versions_of}
 use Rattle.dd_engine.specs.declared.engine_fault.EngineFault.{EngineFault}
 use Rattle.dd_engine.specs.declared.engine_fault.EngineFault.TheVariants.{Memory, Absent, Unread, Plan}

@@ -13,8 +13,8 @@ use Rattle.dd_catalogue.specs.Harmony.{harmonised}
 use Rattle.dd_catalogue.specs.Rising.{by_test}
 use Rattle.dd_catalogue.specs.Versions.{IsCatalogue, best_of, instance_of, kept, versions_ordered}
 use Rattle.dd_dir.specs.Directories.{unnamed_label}
-use Rattle.dd_keys.specs.Orders.{parts_cmp, parts_total}
-use Rattle.dd_keys.specs.declared.parts.Parts.{Parts}
+use Rattle.dd_version.specs.Orders.{parts_cmp, parts_total}
+use Rattle.dd_version.specs.declared.parts.Parts.{Parts}
 use Rattle.dd_layout.specs.Bounds.{Bounds}
 use Rattle.dd_layout.specs.Plans.{size, tree}
 use Rattle.dd_layout.specs.Refusal.{conflict_or, crowded, crowding_or, excess, refusal}

@@ -12,7 +12,7 @@ use Rattle.dd_catalogue.proofs.Members.{Member, contained}
 use Rattle.dd_catalogue.specs.Rising.{by_test}
 use Rattle.dd_catalogue.specs.Versions.{kept}
 use Rattle.dd_elem.specs.Ordered.{bytes_cmp}
-use Rattle.dd_keys.specs.declared.parts.Parts.{Parts}
+use Rattle.dd_version.specs.declared.parts.Parts.{Parts}
 use Rattle.dd_engine.specs.declared.marks.Mark.{Mark}
 use Rattle.dd_engine.specs.declared.notes.LeftOut.{LeftOut}
 use Rattle.dd_engine.specs.Noting.{LeftAs, is_other, left_as}

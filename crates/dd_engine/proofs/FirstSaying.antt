@@ -8,7 +8,7 @@ use Rattle.std.proofs.lemmas.List.Elements.{All-from_recursion}
 use Rattle.std.proofs.lemmas.Option.{get_or_from_slice_get, slice_get-map, slice_get_read, slice_get_within}
 use Rattle.dd_dir.specs.Own.{Listed}
 use Rattle.dd_dir.specs.OwnVersions.{place_of, version_of}
-use Rattle.dd_keys.specs.declared.parts.Parts.{Parts}
+use Rattle.dd_version.specs.declared.parts.Parts.{Parts}
 use Rattle.dd_engine.specs.declared.gathering.Gathered.{Gathered}
 use Rattle.dd_engine.specs.declared.merge.Pick.{Pick}
 use Rattle.dd_engine.specs.declared.merge_fault.MergeFault.{MergeFault}

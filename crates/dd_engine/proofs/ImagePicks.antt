@@ -16,7 +16,7 @@ use Rattle.dd_catalogue.proofs.BestMembers.{best_is_best}
 use Rattle.dd_catalogue.specs.Harmony.{agreed, harmonised}
 use Rattle.dd_catalogue.specs.Rising.{by_test}
 use Rattle.dd_catalogue.specs.Versions.{best_of, versions_ordered}
-use Rattle.dd_keys.specs.declared.parts.Parts.{Parts}
+use Rattle.dd_version.specs.declared.parts.Parts.{Parts}
 use Rattle.dd_layout.specs.contracts.level.Level.{the_type}
 use Rattle.dd_layout.specs.declared.level.Level.{Level}
 use Rattle.dd_layout.specs.declared.level.Level.TheVariants.{Patient, Study, Series, Image}

@@ -17,7 +17,7 @@ use Rattle.dd_catalogue.proofs.Held.{sifted}
 use Rattle.dd_catalogue.proofs.Images.{agreed_image}
 use Rattle.dd_catalogue.proofs.Members.{Member, contained}
 use Rattle.dd_elem.specs.Ordered.{bytes_cmp}
-use Rattle.dd_keys.specs.declared.parts.Parts.{Parts}
+use Rattle.dd_version.specs.declared.parts.Parts.{Parts}
 use Rattle.dd_layout.specs.Paths.{Path}
 use Rattle.dd_engine.specs.Published.{filed_as}
 

@@ -3,7 +3,7 @@ use Rattle.std.specs.Prelude.{◌≡◌, ℕ, List, map}
 use Rattle.std.proofs.Common.{◌∙◌, ap, ap₂}
 use Rattle.dd_catalogue.specs.Contents.{Contents, held_of}
 use Rattle.dd_catalogue.specs.Harmony.{harmonised}
-use Rattle.dd_keys.specs.declared.parts.Parts.{Parts}
+use Rattle.dd_version.specs.declared.parts.Parts.{Parts}
 use Rattle.dd_layout.specs.Layouts.{Layout, layout_of}
 use Rattle.dd_layout.specs.Plans.{records_of}
 use Rattle.dd_engine.specs.declared.choice.Choice.{Choice}

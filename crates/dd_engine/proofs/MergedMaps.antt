@@ -20,7 +20,7 @@ use Rattle.dd_dir.specs.SaysItself.{SaysItself}
 use Rattle.dd_dir.specs.Trees.{Walk}
 use Rattle.dd_dir.specs.Withdrawn.{AreRisingUids, withdrawn_of}
 use Rattle.dd_dir.proofs.WalkFiles.{walk_or_not}
-use Rattle.dd_keys.specs.declared.parts.Parts.{Parts}
+use Rattle.dd_version.specs.declared.parts.Parts.{Parts}
 use Rattle.dd_layout.specs.Bounds.{Bounds}
 use Rattle.dd_layout.specs.Layouts.{Layout}
 use Rattle.dd_engine.specs.declared.choice.Choice.{Choice}

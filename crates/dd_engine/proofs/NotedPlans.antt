@@ -1,7 +1,7 @@
 -- What is noted of sources whose answers are known.
 use Rattle.std.specs.Prelude.{◌≡◌, ℕ, List, map, Option, None, Some, option_map}
 use Rattle.std.proofs.Common.{refl, sym, ◌∙◌, ap₂, subst}
-use Rattle.dd_keys.specs.declared.parts.Parts.{Parts}
+use Rattle.dd_version.specs.declared.parts.Parts.{Parts}
 use Rattle.dd_layout.specs.declared.fault.PlanFault.{PlanFault}
 use Rattle.dd_layout.specs.declared.fault.PlanFault.TheVariants as plans
 use Rattle.dd_engine.specs.declared.notes.Clash.{Clash}

@@ -13,7 +13,7 @@ use Rattle.dd_keys.specs.Faults.{IsWantOfMemory, SaysMemory}
 use Rattle.dd_keys.specs.Versions.{IsVersion}
 use Rattle.dd_keys.specs.declared.fault.KeyFault.{KeyFault}
 use Rattle.dd_keys.specs.declared.fault.KeyFault.TheVariants.{File, Memory}
-use Rattle.dd_keys.specs.declared.parts.Parts.{Parts}
+use Rattle.dd_version.specs.declared.parts.Parts.{Parts}
 use Rattle.dd_part10.specs.declared.fault.FileFault.TheVariants.{Meta, Set}
 use Rattle.dd_part10.specs.Memory.{SetWants}
 use Rattle.dd_set.specs.declared.fault.SetFault.TheVariants as parsing

@@ -6,7 +6,7 @@ use Rattle.std.specs.List.{AllByRecursion, zip}
 use Rattle.std.proofs.Common.{refl, sym, ap, ap₂, ◌∙◌, arith}
 use Rattle.dd_catalogue.specs.Harmony.{harmonised}
 use Rattle.dd_catalogue.specs.Versions.{best_of}
-use Rattle.dd_keys.specs.declared.parts.Parts.{Parts}
+use Rattle.dd_version.specs.declared.parts.Parts.{Parts}
 use Rattle.dd_layout.specs.Layouts.{Layout, layout_of}
 use Rattle.dd_layout.specs.Plans.{records_of}
 use Rattle.dd_engine.specs.declared.choice.Choice.{Choice}

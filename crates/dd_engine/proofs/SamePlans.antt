@@ -6,7 +6,7 @@ use Rattle.dd_catalogue.specs.Harmony.{harmonised}
 use Rattle.dd_catalogue.proofs.Images.{harmony_keeps_clash}
 use Rattle.dd_dir.specs.Directories.{directory_of, unnamed_label}
 use Rattle.dd_elem.specs.Digests.{uid_of_digest}
-use Rattle.dd_keys.specs.declared.parts.Parts.{Parts}
+use Rattle.dd_version.specs.declared.parts.Parts.{Parts}
 use Rattle.dd_layout.specs.declared.fault.PlanFault.{PlanFault}
 use Rattle.dd_layout.specs.declared.label.Label.{Label}
 use Rattle.dd_layout.specs.Bounds.{Bounds}

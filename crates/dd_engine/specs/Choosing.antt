@@ -1,6 +1,6 @@
 -- The label that a file-set gets, and why its catalogue is not laid out.
 use Rattle.std.specs.Prelude.{ℕ, List, Option, None, Some}
-use Rattle.dd_keys.specs.declared.parts.Parts.{Parts}
+use Rattle.dd_version.specs.declared.parts.Parts.{Parts}
 use Rattle.dd_layout.specs.declared.fault.PlanFault.{PlanFault}
 use Rattle.dd_layout.specs.declared.label.Label.{Label}
 use Rattle.dd_layout.specs.Bounds.{Bounds}

@@ -3,7 +3,7 @@
 use Rattle.std.specs.Prelude.{ℕ, suc, List, [], ◌∷◌, map, Result, Ok, Err}
 use Rattle.dd_catalogue.specs.Versions.{best_of}
 use Rattle.dd_keys.specs.declared.fault.KeyFault.{KeyFault}
-use Rattle.dd_keys.specs.declared.parts.Parts.{Parts}
+use Rattle.dd_version.specs.declared.parts.Parts.{Parts}
 
 -- ---- what was read
 

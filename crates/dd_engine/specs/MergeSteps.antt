@@ -4,7 +4,7 @@ use Rattle.dd_dir.specs.declared.own_fault.OwnFault.{OwnFault}
 use Rattle.dd_dir.specs.declared.own_fault.OwnFault.TheVariants as owns
 use Rattle.dd_dir.specs.Own.{Listed}
 use Rattle.dd_dir.specs.Reading.{Refuses}
-use Rattle.dd_keys.specs.declared.parts.Parts.{Parts}
+use Rattle.dd_version.specs.declared.parts.Parts.{Parts}
 use Rattle.dd_layout.specs.Bounds.{Bounds}
 use Rattle.dd_layout.specs.declared.fault.PlanFault.{PlanFault}
 use Rattle.dd_layout.specs.declared.fault.PlanFault.TheVariants as plans

@@ -8,8 +8,8 @@ use Rattle.std.proofs.Common.{sym}
 use Rattle.std.proofs.lemmas.Cmp.{then_total, on_total, back_total, nat_list_cmp_total}
 use Rattle.std.proofs.lemmas.Map.Lookups.{exact_bytes}
 use Rattle.dd_elem.specs.Ordered.{TellsApart}
-use Rattle.dd_keys.specs.Orders.{by_bytes, ◌then◌, both_tie}
-use Rattle.dd_keys.specs.declared.parts.Parts.{Parts}
+use Rattle.dd_version.specs.Orders.{by_bytes, ◌then◌, both_tie}
+use Rattle.dd_version.specs.declared.parts.Parts.{Parts}
 use Rattle.dd_engine.specs.PatientNames.{NamedPatient, name_cmp}
 
 -- a Patient ID and a Patient's Name

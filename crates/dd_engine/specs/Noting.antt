@@ -5,8 +5,8 @@ use Rattle.std.specs.Prelude.{IsSome, option_map}
 use Rattle.std.specs.Ordering.{is_eq}
 use Rattle.dd_catalogue.specs.Clash.{same}
 use Rattle.dd_catalogue.specs.Versions.{kept}
-use Rattle.dd_keys.specs.Orders.{parts_cmp}
-use Rattle.dd_keys.specs.declared.parts.Parts.{Parts}
+use Rattle.dd_version.specs.Orders.{parts_cmp}
+use Rattle.dd_version.specs.declared.parts.Parts.{Parts}
 use Rattle.dd_layout.specs.declared.fault.PlanFault.{PlanFault}
 use Rattle.dd_layout.specs.declared.fault.PlanFault.TheVariants.{Conflict, TooMany, TooLarge, Memory}
 use Rattle.dd_engine.specs.declared.notes.Clash.{Clash}

@@ -4,8 +4,8 @@ use Rattle.std.specs.List.Sorted.{IsStrictlySortedBy}
 use Rattle.std.specs.Ordering.{flip_args}
 use Rattle.std.specs.declared.cmp.Ordering.{Ordering}
 use Rattle.dd_elem.specs.Ordered.{bytes_cmp}
-use Rattle.dd_keys.specs.Orders.{by_bytes}
-use Rattle.dd_keys.specs.declared.parts.Parts.{Parts}
+use Rattle.dd_version.specs.Orders.{by_bytes}
+use Rattle.dd_version.specs.declared.parts.Parts.{Parts}
 
 -- a Patient ID, and the Patient's Names that stand with it
 pub record NamedPatient : Type 0 where

@@ -4,7 +4,7 @@ use Rattle.dd_catalogue.specs.Agreement.{AllAgree}
 use Rattle.dd_catalogue.specs.Contents.{Contents, held_of}
 use Rattle.dd_catalogue.specs.Histories.{all_together}
 use Rattle.dd_dir.specs.SaysItself.{SaysItself}
-use Rattle.dd_keys.specs.declared.parts.Parts.{Parts}
+use Rattle.dd_version.specs.declared.parts.Parts.{Parts}
 use Rattle.dd_layout.specs.Bounds.{Bounds}
 use Rattle.dd_layout.specs.Layouts.{Layout, layout_of}
 use Rattle.dd_layout.specs.Paths.{Path}

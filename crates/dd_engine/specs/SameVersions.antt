@@ -3,7 +3,7 @@ use Rattle.std.specs.Prelude.{◌≡◌, ◌<◌, ◌≤◌, ℕ, List, length, 
 use Rattle.std.specs.Prelude.{Result, Ok, Err}
 use Rattle.dd_dir.specs.Directories.{directory_of}
 use Rattle.dd_keys.specs.Versions.{IsVersion}
-use Rattle.dd_keys.specs.declared.parts.Parts.{Parts}
+use Rattle.dd_version.specs.declared.parts.Parts.{Parts}
 use Rattle.dd_layout.specs.Bounds.{Bounds}
 use Rattle.dd_layout.specs.Layouts.{Layout}
 use Rattle.dd_engine.specs.declared.choice.Choice.{Choice}

@@ -8,8 +8,8 @@ ghost use Rattle.dd_engine.specs.Noting.{IsClashOf, first_by, first_of};
 use crate::notes::Clash;
 use dd_catalogue::Catalogue;
 use dd_elem::{Ordered, Uid};
-use dd_keys::Version;
 use dd_layout::PlanFault;
+use dd_version::Version;
 
 /// Finds the first place of each of the two kept versions that the fault names. The catalogue was made of these
 /// versions, and `places` has the place of each, in the same order. None where the fault does not name two versions.

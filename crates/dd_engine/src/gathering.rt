@@ -12,7 +12,7 @@ use crate::merge::Pick;
 use crate::merge_fault::MergeFault;
 use dd_dir::{DirFault, Own, OwnFault, Place, own_of, read_directory};
 use dd_elem::{Memory, Uid};
-use dd_keys::Version;
+use dd_version::Version;
 use std::alloc::Global;
 use std::mem;
 

@@ -1,7 +1,7 @@
 //! What holds of every index, whatever the order in which its sources come.
 
 ghost use Rattle.std.specs.Prelude.{◌↔◌, ℕ, List, Option, Result};
-ghost use Rattle.dd_keys.specs.declared.parts.Parts.{Parts};
+ghost use Rattle.dd_version.specs.declared.parts.Parts.{Parts};
 ghost use Rattle.dd_layout.specs.Bounds.{Bounds};
 ghost use Rattle.dd_engine.specs.declared.choice.Choice.{Choice};
 ghost use Rattle.dd_engine.specs.declared.engine.Indexed.{Indexed};

@@ -11,7 +11,7 @@ use crate::marks::{first_mark, in_order, marks_of};
 use crate::notes::LeftOut;
 use dd_catalogue::Catalogue;
 use dd_elem::Memory;
-use dd_keys::Version;
+use dd_version::Version;
 use std::alloc::Global;
 
 /// Lists the files of whose instance the catalogue keeps other bytes, in the order in which they came, each with

@@ -8,8 +8,8 @@ ghost use Rattle.dd_engine.specs.Picking.{AreHeld, ArePicked, file_cmp, file_of,
 ghost use Rattle.dd_engine.specs.Picking.{key_of, mark_cmp, mark_view};
 
 use dd_elem::{Memory, Ordered, Uid};
-use dd_keys::Version;
 use dd_layout::{Level, Plan};
+use dd_version::Version;
 use std::alloc::Global;
 use std::cmp::Ordering;
 

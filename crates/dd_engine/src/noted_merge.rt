@@ -17,8 +17,8 @@ use crate::patient_names::patient_names;
 use crate::place_picks::place_picks;
 use dd_catalogue::Catalogue;
 use dd_elem::Uid;
-use dd_keys::Version;
 use dd_layout::{Limits, PlanFault};
+use dd_version::Version;
 use std::alloc::Global;
 
 /// What a merge of directories has, with notes on files of the sets.

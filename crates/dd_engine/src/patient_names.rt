@@ -8,7 +8,7 @@ ghost use Rattle.dd_engine.specs.Namings.{grouped, has_id, has_several, naming_c
 ghost use Rattle.dd_engine.specs.PatientNames.{AreNamed};
 
 use dd_elem::{Key, Memory, Ordered};
-use dd_keys::Version;
+use dd_version::Version;
 use std::alloc::Global;
 use std::cmp::Ordering;
 use std::marker::Model;

@@ -12,8 +12,8 @@ ghost use Rattle.dd_engine.specs.Picking.{ArePicked};
 use crate::marks::{first_marks, marks_of};
 use crate::merge::Pick;
 use dd_elem::Memory;
-use dd_keys::Version;
 use dd_layout::Plan;
+use dd_version::Version;
 use std::alloc::Global;
 
 /// Picks for each image of the plan, in the order of the records, the first of these places whose version has its

@@ -9,7 +9,8 @@ ghost use Rattle.dd_engine.specs.Supply.{IsUsed};
 use crate::engine_fault::EngineFault;
 use crate::supply::Supply;
 use dd_elem::Memory;
-use dd_keys::{KeyFault, Version, ingest};
+use dd_keys::{KeyFault, ingest};
+use dd_version::Version;
 use std::alloc::Global;
 
 /// What was read of sources, in their order.

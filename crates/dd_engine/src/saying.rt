@@ -7,7 +7,7 @@ use crate::gathering::gather;
 use crate::merge::Pick;
 use crate::merge_fault::MergeFault;
 use dd_filing::is_filed_as;
-use dd_keys::{Parts, Version};
+use dd_version::{Parts, Version};
 use std::alloc::Global;
 
 /// Finds the first record that files an image as this version: with its digest, and with the keys that

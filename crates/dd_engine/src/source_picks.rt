@@ -9,8 +9,8 @@ ghost use Rattle.dd_engine.specs.Picking.{ArePicked, files_of};
 
 use crate::marks::{first_marks, marks_of};
 use dd_elem::Memory;
-use dd_keys::Version;
 use dd_layout::Plan;
+use dd_version::Version;
 use std::alloc::Global;
 
 /// For each image of the plan, in the order of the records, the number of the first source with its SOP

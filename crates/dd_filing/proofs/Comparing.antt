@@ -1,6 +1,6 @@
 -- What a copied file is, compared with the planned version, from the version that was read of it.
 use Rattle.std.proofs.Common.{◌≡◌, ℕ, List, Option, None, Some, Ok, refl, sym, ◌∙◌, subst}
-use Rattle.dd_keys.specs.declared.parts.Parts.{Parts}
+use Rattle.dd_version.specs.declared.parts.Parts.{Parts}
 use Rattle.dd_keys.specs.Versions.{IsVersion}
 use Rattle.dd_filing.specs.declared.agreeing.Filed.{Filed}
 use Rattle.dd_filing.specs.declared.agreeing.Filed.TheVariants.{AsPlanned, OtherVersion, Mislabelled}

@@ -9,7 +9,7 @@ use Rattle.dd_keys.specs.Answers.{AnswersReader}
 use Rattle.dd_keys.specs.Faults.{IsWantOfMemory, SaysMemory}
 use Rattle.dd_keys.specs.declared.fault.KeyFault.{KeyFault}
 use Rattle.dd_keys.specs.declared.fault.KeyFault.TheVariants as faults
-use Rattle.dd_keys.specs.declared.parts.Parts.{Parts}
+use Rattle.dd_version.specs.declared.parts.Parts.{Parts}
 use Rattle.dd_filing.specs.CopySteps.{IsCopyAnswer, IsFilingFault}
 use Rattle.dd_filing.specs.Filing.{IsCopyOfVersion}
 use Rattle.dd_filing.proofs.Sending.{sent_whole}

@@ -5,7 +5,7 @@ use Rattle.dd_set.specs.Streams.{Ends}
 use Rattle.dd_set.specs.declared.end.End.TheVariants.{Ended, Failed, TooLong}
 use Rattle.dd_part10.specs.Memory.{ScanWants}
 use Rattle.dd_keys.specs.declared.fault.KeyFault.{KeyFault}
-use Rattle.dd_keys.specs.declared.parts.Parts.{Parts}
+use Rattle.dd_version.specs.declared.parts.Parts.{Parts}
 use Rattle.dd_keys.specs.Faults.{IsWantOfMemory}
 use Rattle.dd_keys.specs.Table.{wanted_tags}
 use Rattle.dd_keys.specs.Versions.{IsVersion}

@@ -1,11 +1,11 @@
 //! Compares the version of a copied file with the planned one.
 
 ghost use Rattle.std.specs.Prelude.{◌≡◌, ◌↔◌, ℕ, List, IsTrue};
-ghost use Rattle.dd_keys.specs.declared.parts.Parts.{Parts};
+ghost use Rattle.dd_version.specs.declared.parts.Parts.{Parts};
 ghost use Rattle.dd_filing.specs.Filing.{FiledAs, IsFileAs, IsVersionAs};
 ghost use Rattle.dd_filing.specs.declared.agreeing.Filed.{Filed};
 
-use dd_keys::Parts;
+use dd_version::Parts;
 
 /// Says what a copied file is, compared with the planned version.
 #[derive(Clone, Copy, Debug, PartialEq, Eq)]

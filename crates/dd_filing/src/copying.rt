@@ -9,7 +9,8 @@ ghost use Rattle.dd_filing.specs.Filing.{IsCopyOfVersion, IsFiled};
 use crate::agreeing::Filed;
 use crate::tee::Tee;
 use dd_elem::{Read, Write};
-use dd_keys::{KeyFault, Version, ingest, one_version};
+use dd_keys::{KeyFault, ingest, one_version};
+use dd_version::Version;
 use std::alloc::Global;
 use thiserror::Error;
 

@@ -17,7 +17,7 @@ use Rattle.dd_set.specs.declared.fault.SetFault.TheVariants.{Memory}
 use Rattle.dd_part10.proofs.Only.{file_only}
 use Rattle.dd_keys.specs.declared.fault.KeyFault.{KeyFault}
 use Rattle.dd_keys.specs.declared.fault.KeyFault.TheVariants.{File, NotImage}
-use Rattle.dd_keys.specs.Classes.{image_classes, is_image_class}
+use Rattle.dd_version.specs.Classes.{image_classes, is_image_class}
 use Rattle.dd_keys.specs.Faults.{table_fault, fault_of, first_fault, IsWantOfMemory}
 use Rattle.dd_keys.specs.Answers.{Answers}
 use Rattle.dd_keys.specs.Table.{charset_row, class_row, instance_row, study_date_row, study_time_row, accession_row}
@@ -26,13 +26,13 @@ use Rattle.dd_keys.specs.Table.{study_id_row, series_number_row, instance_number
 use Rattle.dd_keys.specs.Values.{or_other}
 use Rattle.dd_keys.proofs.SetValues.{parts_in, patient_in, study_in, series_in}
 use Rattle.dd_keys.specs.Versions.{HasPatient, HasStudy, HasSeries, IsVersion}
-use Rattle.dd_keys.specs.declared.keys.PatientKeys.{PatientKeys}
-use Rattle.dd_keys.specs.declared.keys.StudyKeys.{StudyKeys}
-use Rattle.dd_keys.specs.declared.keys.SeriesKeys.{SeriesKeys}
-use Rattle.dd_keys.specs.declared.parts.Parts.{Parts}
+use Rattle.dd_version.specs.declared.keys.PatientKeys.{PatientKeys}
+use Rattle.dd_version.specs.declared.keys.StudyKeys.{StudyKeys}
+use Rattle.dd_version.specs.declared.keys.SeriesKeys.{SeriesKeys}
+use Rattle.dd_version.specs.declared.parts.Parts.{Parts}
 use Rattle.dd_keys.proofs.Held.{continues, has_key, has_uid, has_wanted_uid, key_passes, key_in-is, uid_passes}
 use Rattle.dd_keys.proofs.Held.{uid_in-is}
-use Rattle.dd_keys.proofs.ImageClasses.{is_image_class_decides}
+use Rattle.dd_version.proofs.ImageClasses.{is_image_class_decides}
 use Rattle.dd_keys.proofs.Passes.{passes, table_fault_none}
 
 -- ---- what is read is the version

@@ -16,10 +16,10 @@ use Rattle.dd_part10.specs.declared.stream_fault.StreamFault.TheVariants as faul
 use Rattle.dd_part10.specs.declared.fault.FileFault.{FileFault}
 use Rattle.dd_part10.specs.declared.fault.FileFault.TheVariants.{Meta, Set}
 use Rattle.dd_keys.specs.Answers.{Answers, AnswersReader, refusal_of}
-use Rattle.dd_keys.specs.Classes.{is_image_class}
+use Rattle.dd_version.specs.Classes.{is_image_class}
 use Rattle.dd_keys.specs.declared.fault.KeyFault.{KeyFault}
 use Rattle.dd_keys.specs.declared.fault.KeyFault.TheVariants.{File, Read, FileTooLong, MetaMismatch, Memory}
-use Rattle.dd_keys.specs.declared.parts.Parts.{Parts}
+use Rattle.dd_version.specs.declared.parts.Parts.{Parts}
 use Rattle.dd_keys.specs.Faults.{key_fault_of, wanted_uid, mismatch_of, uid_fault_of, row_fault, table_fault, first}
 use Rattle.dd_keys.specs.Faults.{fault_of, IsWantOfMemory, SaysMemory}
 use Rattle.dd_keys.specs.Table.{Row, key, uid, rows, wanted_tags}

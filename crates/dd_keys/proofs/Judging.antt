@@ -17,13 +17,13 @@ use Rattle.dd_part10.specs.declared.fault.FileFault.{FileFault}
 use Rattle.dd_part10.specs.declared.meta.Meta.{Meta}
 use Rattle.dd_keys.specs.declared.fault.KeyFault.{KeyFault}
 use Rattle.dd_keys.specs.declared.fault.KeyFault.TheVariants.{BadKeyUid, NotImage}
-use Rattle.dd_keys.specs.declared.parts.Parts.{Parts}
+use Rattle.dd_version.specs.declared.parts.Parts.{Parts}
 use Rattle.dd_keys.specs.Answers.{Answers}
-use Rattle.dd_keys.specs.Classes.{is_image_class}
+use Rattle.dd_version.specs.Classes.{is_image_class}
 use Rattle.dd_keys.specs.Faults.{first, key_fault_of, uid_fault_of, wanted_uid, key_fault, uid_fault, row_fault}
 use Rattle.dd_keys.specs.Faults.{table_fault, fault_of, IsWantOfMemory}
 use Rattle.dd_part10.specs.Memory.{SetWants}
-use Rattle.dd_keys.specs.Fitting.{Fits}
+use Rattle.dd_version.specs.Fitting.{Fits}
 use Rattle.dd_keys.specs.Table.{KeyRow, UidRow, Row, key, uid, rows, charset_row, study_date_row, study_time_row}
 use Rattle.dd_keys.specs.Table.{accession_row, modality_row, description_row, patient_name_row, patient_id_row}
 use Rattle.dd_keys.specs.Table.{study_row, series_row, study_id_row, series_number_row, instance_number_row}
@@ -35,8 +35,9 @@ use Rattle.dd_keys.specs.Values.{value_at, or_other}
 use Rattle.dd_keys.proofs.SetValues.{key_in, uid_in, parts_in}
 use Rattle.dd_keys.proofs.FoundVersions.{found_version, or_other_some, file_of, version_parts, refusal_answers}
 use Rattle.dd_keys.proofs.Held.{continues, key_held, uid_held}
-use Rattle.dd_keys.proofs.ImageClasses.{is_image_class_decides}
+use Rattle.dd_version.proofs.ImageClasses.{is_image_class_decides}
 use Rattle.dd_keys.proofs.Passes.{passes}
+use Rattle.dd_part10.proofs.KnownSyntaxes.{syntax_decides}
 use Rattle.dd_part10.proofs.Only.{file_only}
 
 -- ---- the checks
@@ -159,7 +160,7 @@ pub told_fit : (digest : List ℕ) (meta : Meta) (tells : Tag → Told) → IsSo
     → is_image_class meta.class ≡ true
     → Fits (told_parts tells digest meta)
 told_fit digest meta tells known image = record {
-  transfer = known;
+  transfer = (syntax_decides meta.transfer).0 known;
   class = (is_image_class_decides meta.class).0 image;
   study_date = or_other_some (unwrap_or (front_of (tells study_date_row.tag)) []) _ _;
   study_time = or_other_some (unwrap_or (front_of (tells study_time_row.tag)) []) _ _;

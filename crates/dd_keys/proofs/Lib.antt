@@ -1,10 +1,8 @@
 pub mod Carrying
 pub mod FoundVersions
 pub mod Held
-pub mod ImageClasses
 pub mod Ingesting
 pub mod Judging
-pub mod Misfits
 pub mod Passes
 pub mod SetValues
 pub mod Telling

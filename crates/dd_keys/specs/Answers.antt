@@ -8,7 +8,7 @@ use Rattle.dd_part10.specs.declared.stream_fault.StreamFault.{StreamFault}
 use Rattle.dd_part10.specs.declared.stream_fault.StreamFault.TheVariants as faults
 use Rattle.dd_keys.specs.declared.fault.KeyFault.{KeyFault}
 use Rattle.dd_keys.specs.declared.fault.KeyFault.TheVariants.{File, Read, FileTooLong}
-use Rattle.dd_keys.specs.declared.parts.Parts.{Parts}
+use Rattle.dd_version.specs.declared.parts.Parts.{Parts}
 use Rattle.dd_keys.specs.Faults.{IsWantOfMemory, SaysMemory, first_fault}
 use Rattle.dd_keys.specs.Table.{wanted_tags}
 use Rattle.dd_keys.specs.Versions.{IsVersion}

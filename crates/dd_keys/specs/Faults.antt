@@ -19,7 +19,7 @@ use Rattle.dd_keys.specs.declared.fault.KeyFault.TheVariants.{File, NotImage, Mi
 use Rattle.dd_keys.specs.declared.fault.KeyFault.TheVariants.{KeyIsSequence, MetaMismatch, Memory}
 use Rattle.dd_keys.specs.declared.rows.MetaUid.{MetaUid}
 use Rattle.dd_keys.specs.declared.rows.MetaUid.TheVariants.{Class, Instance}
-use Rattle.dd_keys.specs.Classes.{is_image_class}
+use Rattle.dd_version.specs.Classes.{is_image_class}
 use Rattle.dd_keys.specs.Table.{KeyRow, UidRow, Row, key, uid, rows}
 use Rattle.dd_keys.specs.Values.{value_at}
 

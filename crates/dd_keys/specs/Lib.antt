@@ -1,9 +1,5 @@
 pub mod Answers
-pub mod Classes
-pub mod Copies
 pub mod Faults
-pub mod Fitting
-pub mod Orders
 pub mod RowViews
 pub mod Table
 pub mod Told

@@ -13,11 +13,11 @@ use Rattle.dd_keys.specs.declared.fault.KeyFault.{KeyFault}
 use Rattle.dd_keys.specs.declared.fault.KeyFault.TheVariants.{NotImage, KeyTooLong, KeyIsSequence, Memory}
 use Rattle.dd_keys.specs.declared.told.Shown.{Shown}
 use Rattle.dd_keys.specs.declared.told.Shown.TheVariants.{Items, Bytes}
-use Rattle.dd_keys.specs.declared.parts.Parts.{Parts}
-use Rattle.dd_keys.specs.declared.keys.PatientKeys.{PatientKeys}
-use Rattle.dd_keys.specs.declared.keys.StudyKeys.{StudyKeys}
-use Rattle.dd_keys.specs.declared.keys.SeriesKeys.{SeriesKeys}
-use Rattle.dd_keys.specs.Classes.{is_image_class}
+use Rattle.dd_version.specs.declared.parts.Parts.{Parts}
+use Rattle.dd_version.specs.declared.keys.PatientKeys.{PatientKeys}
+use Rattle.dd_version.specs.declared.keys.StudyKeys.{StudyKeys}
+use Rattle.dd_version.specs.declared.keys.SeriesKeys.{SeriesKeys}
+use Rattle.dd_version.specs.Classes.{is_image_class}
 use Rattle.dd_keys.specs.Faults.{wanted_uid, uid_fault_of, first}
 use Rattle.dd_keys.specs.Table.{KeyRow, UidRow, Row, key, uid, rows}
 use Rattle.dd_keys.specs.Values.{value_at, key_by, uid_by, patient_by, study_by, series_by, parts_by}

@@ -8,10 +8,10 @@ use Rattle.dd_part10.specs.declared.meta.Meta.{Meta}
 use Rattle.dd_keys.specs.Table.{KeyRow, charset_row, study_date_row, study_time_row, accession_row, modality_row}
 use Rattle.dd_keys.specs.Table.{description_row, patient_name_row, patient_id_row, study_row, series_row, study_id_row}
 use Rattle.dd_keys.specs.Table.{series_number_row, instance_number_row}
-use Rattle.dd_keys.specs.declared.keys.PatientKeys.{PatientKeys}
-use Rattle.dd_keys.specs.declared.keys.StudyKeys.{StudyKeys}
-use Rattle.dd_keys.specs.declared.keys.SeriesKeys.{SeriesKeys}
-use Rattle.dd_keys.specs.declared.parts.Parts.{Parts}
+use Rattle.dd_version.specs.declared.keys.PatientKeys.{PatientKeys}
+use Rattle.dd_version.specs.declared.keys.StudyKeys.{StudyKeys}
+use Rattle.dd_version.specs.declared.keys.SeriesKeys.{SeriesKeys}
+use Rattle.dd_version.specs.declared.parts.Parts.{Parts}
 
 -- a value without its padding, where it is no sequence
 abbrev pub content_value : Content → Option (List ℕ)

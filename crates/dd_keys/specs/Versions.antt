@@ -8,15 +8,15 @@ use Rattle.dd_elem.specs.declared.tag.Tag.{Tag}
 use Rattle.dd_set.specs.Elements.{Elements}
 use Rattle.dd_part10.specs.File.{IsFile}
 use Rattle.dd_part10.specs.declared.meta.Meta.{Meta}
-use Rattle.dd_keys.specs.Classes.{image_classes}
+use Rattle.dd_version.specs.Classes.{image_classes}
 use Rattle.dd_keys.specs.Table.{KeyRow, charset_row, class_row, instance_row, study_date_row, study_time_row}
 use Rattle.dd_keys.specs.Table.{accession_row, modality_row, description_row, patient_name_row, patient_id_row}
 use Rattle.dd_keys.specs.Table.{study_row, series_row, study_id_row, series_number_row, instance_number_row}
 use Rattle.dd_keys.specs.Values.{value_at, or_other}
-use Rattle.dd_keys.specs.declared.keys.PatientKeys.{PatientKeys}
-use Rattle.dd_keys.specs.declared.keys.StudyKeys.{StudyKeys}
-use Rattle.dd_keys.specs.declared.keys.SeriesKeys.{SeriesKeys}
-use Rattle.dd_keys.specs.declared.parts.Parts.{Parts}
+use Rattle.dd_version.specs.declared.keys.PatientKeys.{PatientKeys}
+use Rattle.dd_version.specs.declared.keys.StudyKeys.{StudyKeys}
+use Rattle.dd_version.specs.declared.keys.SeriesKeys.{SeriesKeys}
+use Rattle.dd_version.specs.declared.parts.Parts.{Parts}
 
 -- the key is the data set's value at the row's tag, of at most 1,024 bytes, or what stands for an empty value
 pub record HasKey (set : Elements) (row : KeyRow) (key : List ℕ) : Type 0 where

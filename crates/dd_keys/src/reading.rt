@@ -5,22 +5,21 @@ ghost use Rattle.std.specs.Io.KnownBytes.{Consumes};
 ghost use Rattle.dd_elem.specs.Device.{Gives};
 ghost use Rattle.dd_set.specs.Bytes.{AreBytes};
 ghost use Rattle.dd_part10.specs.Syntaxes.{syntax_of};
-ghost use Rattle.dd_keys.specs.declared.parts.Parts.{Parts};
+ghost use Rattle.dd_version.specs.declared.parts.Parts.{Parts};
 ghost use Rattle.dd_keys.specs.Answers.{Answers, AnswersReader};
 ghost use Rattle.dd_keys.specs.Faults.{first_fault};
 ghost use Rattle.dd_keys.specs.Told.{AreFronts, IsJudged, told_fault, told_parts};
 ghost use Rattle.dd_keys.specs.Versions.{IsVersion};
 
 use crate::checks::table_fault;
-use crate::classes::is_image_class;
 use crate::digesting::{Digested, read_digested};
 use crate::fault::KeyFault;
 use crate::rows::WANTED;
 use crate::told::Values;
 use crate::values::parts_in;
-use crate::version::Version;
 use dd_elem::Read;
 use dd_part10::{Meta, parse_file};
+use dd_version::{Version, is_image_class};
 use sha2::{Digest, Sha256};
 use std::alloc::Global;
 
@@ -74,7 +73,7 @@ fn version_from<V: Values>(
         return Err(fault);
     }
     let parts = parts_in(alloc, meta, values, digest)?;
-    Ok(Version::fitting(parts))
+    Ok(Version::of(parts).unwrap())
 }
 
 /// Law: bytes of any memory are a file of a version exactly where they fail no check, and then of one

@@ -10,8 +10,6 @@ ghost use Rattle.dd_keys.specs.Told.{AreFronts, told_key_fault, told_uid_fault, 
 ghost use Rattle.dd_keys.specs.Told.{told_key, told_uid, told_patient, told_study, told_series, told_parts};
 ghost use Rattle.dd_keys.specs.Values.{value_at};
 
-use crate::keys::{PatientKeys, SeriesKeys, StudyKeys};
-use crate::parts::Parts;
 use crate::rows::{
     ACCESSION, CHARSET, DESCRIPTION, INSTANCE_NUMBER, KeyRow, MODALITY, PATIENT_ID, PATIENT_NAME,
     SERIES, SERIES_NUMBER, STUDY, STUDY_DATE, STUDY_ID, STUDY_TIME, UidRow,
@@ -20,6 +18,7 @@ use crate::told::{Shown, Values};
 use dd_elem::{Key, KeyRefused, Memory, Tag, Uid, clean};
 use dd_part10::Meta;
 use dd_set::{DataSet, Value};
+use dd_version::{Parts, PatientKeys, SeriesKeys, StudyKeys};
 use std::alloc::Global;
 
 /// The value of the first element with this tag, without its padding: no bytes where there is no such

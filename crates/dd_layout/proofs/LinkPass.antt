@@ -1,6 +1,6 @@
 -- The links of records by one pass from the back.
 use Rattle.std.specs.Prelude.{ℕ, zero, suc, List, [], ◌∷◌}
-use Rattle.dd_keys.specs.declared.parts.Parts.{Parts}
+use Rattle.dd_version.specs.declared.parts.Parts.{Parts}
 use Rattle.dd_layout.specs.declared.label.Label.{Label}
 use Rattle.dd_layout.specs.declared.links.Behind.{Behind}
 use Rattle.dd_layout.specs.declared.record.PlanRecord.{PlanRecord}

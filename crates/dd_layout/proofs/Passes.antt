@@ -7,7 +7,7 @@ use Rattle.std.proofs.lemmas.List.{length-map}
 use Rattle.dd_catalogue.proofs.Members.{Member}
 use Rattle.dd_catalogue.specs.Rising.{by_test}
 use Rattle.dd_elem.specs.FileId.{Ranks, AreRanks, IsRank, max_rank, ranks_of}
-use Rattle.dd_keys.specs.declared.parts.Parts.{Parts}
+use Rattle.dd_version.specs.declared.parts.Parts.{Parts}
 use Rattle.dd_layout.specs.declared.level.Level.{Level}
 use Rattle.dd_layout.specs.declared.ranks.Counters.{Counters}
 use Rattle.dd_layout.specs.Neighbours.{counted, counts_after}

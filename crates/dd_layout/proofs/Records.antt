@@ -2,7 +2,7 @@
 use Rattle.std.proofs.Common.{◌≡◌, ℕ, ◌+◌, List, Option, ap, subst, ◌∙◌}
 use Rattle.std.specs.List.{AllByRecursion}
 use Rattle.dd_elem.specs.FileId.{Ranks}
-use Rattle.dd_keys.specs.declared.parts.Parts.{Parts}
+use Rattle.dd_version.specs.declared.parts.Parts.{Parts}
 use Rattle.dd_set.specs.Elements.{elements_of}
 use Rattle.dd_set.specs.Spelling.{AreElements}
 use Rattle.dd_set.specs.declared.syntax.Syntax.TheVariants.{Explicit}

@@ -6,7 +6,7 @@ use Rattle.dd_catalogue.specs.Clash.{clash}
 use Rattle.dd_catalogue.specs.Harmony.{agreed, harmonised}
 use Rattle.dd_catalogue.proofs.Images.{agreed_image}
 use Rattle.dd_catalogue.proofs.Members.{Member}
-use Rattle.dd_keys.specs.declared.parts.Parts.{Parts}
+use Rattle.dd_version.specs.declared.parts.Parts.{Parts}
 use Rattle.dd_layout.specs.declared.label.Label.{Label}
 use Rattle.dd_layout.specs.Bounds.{Bounds}
 use Rattle.dd_layout.specs.Plans.{path_of, size, tree}

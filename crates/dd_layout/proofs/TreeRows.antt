@@ -2,7 +2,7 @@
 use Rattle.std.specs.Prelude.{◌≡◌, ◌≢◌, ◌≤◌, true, List, [], ◌∷◌, ◌++◌, length, map}
 use Rattle.std.proofs.Common.{refl, sym, ◌∙◌, ap, inl, inr, arith}
 use Rattle.dd_catalogue.proofs.Members.{Member, member_of, contained}
-use Rattle.dd_keys.specs.declared.parts.Parts.{Parts}
+use Rattle.dd_version.specs.declared.parts.Parts.{Parts}
 use Rattle.dd_layout.specs.Neighbours.{counts_after}
 use Rattle.dd_layout.specs.Paths.{Path, prefixes, parent_of, leads_to}
 use Rattle.dd_layout.specs.Plans.{path_of, tree}

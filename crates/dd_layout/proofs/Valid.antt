@@ -9,7 +9,7 @@ use Rattle.dd_elem.specs.Vr.{is_long_of}
 use Rattle.dd_elem.specs.declared.tag.Tag.{Tag}
 use Rattle.dd_elem.specs.declared.vr.Vr.{Vr}
 use Rattle.dd_elem.specs.declared.vr.Vr.TheVariants.{CS, DA, LO, PN, SH, SQ, TM}
-use Rattle.dd_keys.specs.declared.parts.Parts.{Parts}
+use Rattle.dd_version.specs.declared.parts.Parts.{Parts}
 use Rattle.dd_set.specs.Elements.{Elements, Entry, Content, bytes, items, fragments, element, elements_of}
 use Rattle.dd_set.specs.Spelling.{AreElements, delimiter_group, length_limit}
 use Rattle.dd_set.specs.declared.syntax.Syntax.TheVariants.{Explicit}

@@ -3,10 +3,10 @@ use Rattle.std.specs.Prelude.{◌≡◌, IsSomeAnd, ℕ, List, [], ◌∷◌, �
 use Rattle.std.specs.Prelude.{if◌then◌else◌, ◌==◌, ◌-◌}
 use Rattle.dd_elem.specs.FileId.{Ranks, AreRanks, text_of}
 use Rattle.dd_elem.specs.declared.vr.Vr.TheVariants.{CS, DA, IS, LO, OB, PN, SH, TM}
-use Rattle.dd_keys.specs.declared.parts.Parts.{Parts}
-use Rattle.dd_keys.specs.declared.keys.PatientKeys.{PatientKeys}
-use Rattle.dd_keys.specs.declared.keys.SeriesKeys.{SeriesKeys}
-use Rattle.dd_keys.specs.declared.keys.StudyKeys.{StudyKeys}
+use Rattle.dd_version.specs.declared.parts.Parts.{Parts}
+use Rattle.dd_version.specs.declared.keys.PatientKeys.{PatientKeys}
+use Rattle.dd_version.specs.declared.keys.SeriesKeys.{SeriesKeys}
+use Rattle.dd_version.specs.declared.keys.StudyKeys.{StudyKeys}
 use Rattle.dd_set.specs.declared.syntax.Length.TheVariants.{Defined}
 use Rattle.dd_set.specs.declared.syntax.Syntax.TheVariants.{Explicit}
 use Rattle.dd_set.specs.Elements.{Entry, Part, elements_of}

@@ -3,7 +3,7 @@ use Rattle.std.specs.Prelude.{ℕ, ◌==◌, ◌&&◌, Bool, List, [], ◌∷◌
 use Rattle.std.specs.Prelude.{if◌then◌else◌}
 use Rattle.dd_catalogue.specs.Clash.{clash}
 use Rattle.dd_catalogue.specs.Harmony.{harmonised}
-use Rattle.dd_keys.specs.declared.parts.Parts.{Parts}
+use Rattle.dd_version.specs.declared.parts.Parts.{Parts}
 use Rattle.dd_layout.specs.declared.fault.PlanFault.{PlanFault}
 use Rattle.dd_layout.specs.declared.fault.PlanFault.TheVariants.{Conflict, TooMany, TooLarge}
 use Rattle.dd_layout.specs.declared.label.Label.{Label}

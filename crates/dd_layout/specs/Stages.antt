@@ -1,7 +1,7 @@
 -- The records of a plan before all of it is known: first each record's level and version, then its File ID, then its
 -- offset.
 use Rattle.std.specs.Prelude.{ℕ, List, None}
-use Rattle.dd_keys.specs.declared.parts.Parts.{Parts}
+use Rattle.dd_version.specs.declared.parts.Parts.{Parts}
 use Rattle.dd_layout.specs.declared.label.Label.{Label}
 use Rattle.dd_layout.specs.declared.level.Level.{Level}
 use Rattle.dd_layout.specs.declared.record.PlanRecord.{PlanRecord}

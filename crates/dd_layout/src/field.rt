@@ -9,7 +9,7 @@ use crate::cell::{CellValue, long_value};
 use crate::level::Level;
 use crate::record::PlanRecord;
 use dd_elem::{FileId, Key, Uid};
-use dd_keys::Parts;
+use dd_version::Parts;
 
 /// What an element of a record holds (PS3.3 section F.3.2.2 and annex F.5).
 #[derive(Clone, Copy, Debug, PartialEq, Eq)]

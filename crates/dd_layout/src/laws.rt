@@ -4,7 +4,7 @@ ghost use Rattle.std.specs.Prelude.{◌≡◌, ◌≢◌, ◌<◌, ◌∷◌, �
 ghost use Rattle.dd_catalogue.specs.Best.{IsRising};
 ghost use Rattle.dd_catalogue.specs.Clash.{clash};
 ghost use Rattle.dd_catalogue.specs.Harmony.{harmonised};
-ghost use Rattle.dd_keys.specs.declared.parts.Parts.{Parts};
+ghost use Rattle.dd_version.specs.declared.parts.Parts.{Parts};
 ghost use Rattle.dd_layout.specs.declared.label.Label.{Label};
 ghost use Rattle.dd_layout.specs.Bounds.{Bounds};
 ghost use Rattle.dd_layout.specs.Layouts.{StandsWithin};

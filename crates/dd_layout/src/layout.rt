@@ -19,7 +19,7 @@ use crate::record::PlanRecord;
 use crate::withdrawals::withdrawals_size;
 use dd_catalogue::Catalogue;
 use dd_elem::Uid;
-use dd_keys::Version;
+use dd_version::Version;
 use std::alloc::Global;
 
 /// Lays out the directory of these versions, in harmony, and of what is withdrawn, under this label.

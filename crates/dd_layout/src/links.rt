@@ -1,7 +1,7 @@
 //! The links of records.
 
 ghost use Rattle.std.specs.Prelude.{◌≡◌, List, map};
-ghost use Rattle.dd_keys.specs.declared.parts.Parts.{Parts};
+ghost use Rattle.dd_version.specs.declared.parts.Parts.{Parts};
 ghost use Rattle.dd_layout.specs.declared.label.Label.{Label};
 ghost use Rattle.dd_layout.specs.Linking.{behind_from, lower_of, next_of};
 ghost use Rattle.dd_layout.specs.Plans.{records_of, tree};

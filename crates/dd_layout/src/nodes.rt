@@ -12,7 +12,7 @@ use crate::level::Level;
 use crate::order::{Placed, in_path_order, shared};
 use crate::record::PlanRecord;
 use dd_elem::Memory;
-use dd_keys::Version;
+use dd_version::Version;
 use std::alloc::Global;
 
 /// The levels, from the root down.

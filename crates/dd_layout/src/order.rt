@@ -7,7 +7,7 @@ ghost use Rattle.dd_layout.specs.Plans.{path_of};
 ghost use Rattle.dd_layout.specs.WalkedRecords.{AreInOrder, shared, standing, standings};
 
 use dd_elem::{Memory, Ordered};
-use dd_keys::Version;
+use dd_version::Version;
 use std::alloc::Global;
 use std::cmp::Ordering;
 

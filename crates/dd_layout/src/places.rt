@@ -9,7 +9,7 @@ use crate::front::first_offset;
 use crate::label::Label;
 use crate::record::PlanRecord;
 use crate::sizes::record_size;
-use dd_keys::Version;
+use dd_version::Version;
 
 /// Gives each record its offset, and answers how many bytes there are up to the end of the last one: None
 /// where they are more than `most`.

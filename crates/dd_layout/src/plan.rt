@@ -10,7 +10,7 @@ use crate::label::Label;
 use crate::record::PlanRecord;
 use dd_catalogue::Catalogue;
 use dd_elem::Uid;
-use dd_keys::Version;
+use dd_version::Version;
 use std::marker::Model;
 
 /// Where each record of a directory stands, which instances are withdrawn, and how long the file is. Only

@@ -2,7 +2,7 @@
 
 ghost use Rattle.std.specs.Prelude.{◌≡◌, ◌+◌, ◌<◌, ◌≤◌, ◌^◌, All, List, None, Some, map};
 ghost use Rattle.dd_elem.specs.FileId.{max_rank};
-ghost use Rattle.dd_keys.specs.declared.parts.Parts.{Parts};
+ghost use Rattle.dd_version.specs.declared.parts.Parts.{Parts};
 ghost use Rattle.dd_layout.specs.Numbering.{after, count_of, counted_file, topmost};
 ghost use Rattle.dd_layout.specs.Plans.{tree};
 ghost use Rattle.dd_layout.specs.Records.{IsFileOf};

@@ -14,8 +14,8 @@ use crate::level::Level;
 use crate::record::PlanRecord;
 use crate::table::{Row, rows};
 use dd_elem::FileId;
-use dd_keys::Parts;
 use dd_set::HEADER_SIZE;
+use dd_version::Parts;
 
 /// The Item tag and the length before the elements of a record (PS3.5 section 7.5).
 const ITEM_HEADER: u64 = HEADER_SIZE as u64;

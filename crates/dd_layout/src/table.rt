@@ -2,7 +2,7 @@
 
 ghost use Rattle.std.specs.Prelude.{◌≡◌, ◌≤◌, ℕ, Option, IfSome, length};
 ghost use Rattle.dd_elem.specs.FileId.{Ranks};
-ghost use Rattle.dd_keys.specs.declared.parts.Parts.{Parts};
+ghost use Rattle.dd_version.specs.declared.parts.Parts.{Parts};
 ghost use Rattle.dd_layout.specs.Cells.{IsShort, cell_entries, even_value, row_entries, table_entries};
 ghost use Rattle.dd_layout.specs.Records.{record_entries};
 ghost use Rattle.dd_layout.specs.Tables.{table_of};
@@ -12,7 +12,7 @@ use crate::field::Field;
 use crate::level::Level;
 use crate::record::PlanRecord;
 use dd_elem::{Tag, Vr, tags};
-use dd_keys::Parts;
+use dd_version::Parts;
 
 /// An element of the records of a level.
 #[derive(Clone, Copy, Debug)]

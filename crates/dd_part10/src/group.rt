@@ -17,6 +17,7 @@ use crate::meta::Meta;
 use crate::places::{COUNT_HEADER, COUNT_LENGTH, COUNT_SIZE};
 use dd_elem::{Tag, Uid, clean};
 use dd_set::{DataSet, Syntax, Value, parse};
+use dd_version::TRANSFER;
 use std::alloc::Global;
 
 /// The most bytes that group 0002 may have behind its group length.
@@ -41,12 +42,6 @@ pub const CLASS: Tag = Tag {
 pub const INSTANCE: Tag = Tag {
     group: META_GROUP,
     element: 0x0003,
-};
-
-/// The tag of the Transfer Syntax UID (0002,0010).
-pub const TRANSFER: Tag = Tag {
-    group: META_GROUP,
-    element: 0x0010,
 };
 
 /// What stands behind `front`, where the bytes begin with it.

@@ -11,11 +11,12 @@ ghost use Rattle.dd_part10.specs.File.{StartsAbove, IsFile};
 ghost use Rattle.dd_part10.specs.Head.{head_text, group_text, uids_text, uid_text, padded, padding_of};
 ghost use Rattle.dd_part10.specs.Syntaxes.{syntax_of};
 
-use crate::group::{CLASS, GROUP_LENGTH, INSTANCE, META_GROUP, TRANSFER};
+use crate::group::{CLASS, GROUP_LENGTH, INSTANCE, META_GROUP};
 use crate::meta::Meta;
 use crate::places::{GROUP_AT, PREAMBLE_LENGTH, PREFIX};
 use dd_elem::{Tag, Vr, Write};
 use dd_set::{HEADER_SIZE, LONG_HEADER_SIZE, WriteFault, send, send_header};
+use dd_version::TRANSFER;
 
 /// The tag of the File Meta Information Version.
 const VERSION: Tag = Tag {

@@ -22,9 +22,9 @@ mod streaming;
 mod syntaxes;
 mod taking;
 
+pub use dd_version::TRANSFER;
 pub use fault::FileFault;
 pub use file::DicomFile;
-pub use group::TRANSFER;
 pub use head::{head_makes_file, head_size, write_head};
 pub use meta::Meta;
 pub use reading::parse_file;

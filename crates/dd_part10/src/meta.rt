@@ -16,7 +16,8 @@ pub struct Meta {
 }
 
 impl Meta {
-    ghost use Rattle.std.specs.Prelude.{◌≡◌};
+    ghost use Rattle.std.specs.Prelude.{◌≡◌, ◌↔◌, Contains, IsSome};
+    ghost use Rattle.dd_version.specs.Syntaxes.{known_syntaxes};
     ghost use Rattle.dd_part10.specs.Syntaxes.{syntax_of};
 
     /// The syntax of the data set, and None where the transfer syntax is none of those that are read.
@@ -26,10 +27,11 @@ impl Meta {
         Meta::syntax_of(&self.transfer)
     }
 
-    /// The syntax of the data sets of this transfer syntax, and None where it is none of those that are
-    /// read (PS3.5 annex A.1, A.2 and A.4).
+    /// The syntax of the data sets of this transfer syntax, and None where it is not known: where it is
+    /// none of those that are read (PS3.5 annex A.1, A.2 and A.4).
     pub fn syntax_of(transfer: &Uid) -> Option<Syntax>
-        ensures { result ≡ syntax_of transfer.now }
+        ensures value { result ≡ syntax_of transfer.now }
+        ensures known { IsSome result ↔ Contains known_syntaxes transfer.now }
     {
         syntax_of(transfer.as_bytes())
     }

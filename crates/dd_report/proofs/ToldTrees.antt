@@ -10,7 +10,7 @@ use Rattle.std.specs.List.{concat, flat_map}
 use Rattle.std.proofs.lemmas.List.{take_all}
 use Rattle.dd_elem.specs.Device.{Gives, HasWorked}
 use Rattle.dd_elem.specs.FileIdForm.{IsFileId}
-use Rattle.dd_keys.specs.Fitting.{is_empty}
+use Rattle.dd_version.specs.Fitting.{is_empty}
 use Rattle.dd_dir.specs.declared.forest.Tree.{Tree, out-Tree, the_lemmas}
 use Rattle.dd_dir.specs.ForestViews.{tree_view, trees_view, walk_view}
 use Rattle.dd_dir.specs.Trees.{Node, Trees, Walk}

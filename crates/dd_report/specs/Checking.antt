@@ -7,7 +7,7 @@ use Rattle.hex.specs.Hex.{encode_lower}
 use Rattle.dd_elem.specs.Device.{HasWorked, counted}
 use Rattle.dd_elem.specs.FileIdForm.{IsFileId}
 use Rattle.dd_elem.specs.Tag.{text_of}
-use Rattle.dd_keys.specs.Fitting.{is_empty}
+use Rattle.dd_version.specs.Fitting.{is_empty}
 use Rattle.dd_dir.specs.Trees.{Node, Walk}
 use Rattle.dd_report.specs.declared.checking.CheckFault.{CheckFault}
 use Rattle.dd_report.specs.declared.checking.CheckFault.TheVariants.{Memory, Unsent}

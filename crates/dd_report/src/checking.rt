@@ -2,7 +2,7 @@
 ghost use Rattle.std.specs.Prelude.{◌≡◌, ◌↔◌, ◌∷◌, List, [], ℕ, IfOk, IsErr, IsTrue, not};
 ghost use Rattle.dd_dir.specs.ForestViews.{tree_view, trees_view, walk_view};
 ghost use Rattle.dd_dir.specs.Trees.{Node};
-ghost use Rattle.dd_keys.specs.Fitting.{is_empty};
+ghost use Rattle.dd_version.specs.Fitting.{is_empty};
 ghost use Rattle.dd_report.specs.Agreements.{IsInherited, branch_standings, found_in, is_image, standing_below};
 ghost use Rattle.dd_report.specs.Agreements.{standings_below};
 ghost use Rattle.dd_report.specs.Checking.{Checks, ChecksAll, FindsFile, TellsFirst, TellsSome, TellsWalk};

@@ -2,8 +2,9 @@
 
 use dd_catalogue::Catalogue;
 use dd_elem::{Key, Uid};
-use dd_keys::{Parts, Version, version_of};
+use dd_keys::version_of;
 use dd_vectors::{bytes_of, text_of, v1, v1_with};
+use dd_version::{Parts, Version};
 use std::alloc::Global;
 use std::test::Fail;
 

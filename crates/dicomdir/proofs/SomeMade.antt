@@ -5,7 +5,7 @@ use Rattle.std.specs.Prelude.{slice_index_or, zip}
 use Rattle.clap.specs.Words.{Row, Text}
 use Rattle.dd_elem.specs.FileId.{Ranks}
 use Rattle.dd_files.specs.Files.{Held}
-use Rattle.dd_keys.specs.declared.parts.Parts.{Parts}
+use Rattle.dd_version.specs.declared.parts.Parts.{Parts}
 use Rattle.dd_line.specs.Line.{IsAsked, words_of}
 use Rattle.dd_line.specs.declared.line.Asked.{Asked}
 use Rattle.dd_layout.specs.declared.record.PlanRecord.{PlanRecord}

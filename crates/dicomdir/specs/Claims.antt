@@ -6,7 +6,7 @@ use Rattle.dd_engine.specs.declared.merge_fault.MergeFault.TheVariants as faults
 use Rattle.dd_engine.specs.Saying.{AnswersSaying}
 use Rattle.dd_filing.specs.declared.agreeing.Filed.{Filed}
 use Rattle.dd_filing.specs.declared.agreeing.Filed.TheVariants.{AsPlanned, OtherVersion, Mislabelled}
-use Rattle.dd_keys.specs.declared.parts.Parts.{Parts}
+use Rattle.dd_version.specs.declared.parts.Parts.{Parts}
 use Rattle.dicomdir.specs.declared.refusal.ProgramFault.TheVariants.{Changed}
 use Rattle.dicomdir.specs.declared.refusal.Refusal.{Refusal}
 use Rattle.dicomdir.specs.declared.refusal.Subject.{Subject}

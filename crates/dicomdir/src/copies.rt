@@ -14,8 +14,8 @@ use crate::refusal::{ProgramFault, Refusal, Subject};
 use dd_elem::FileId;
 use dd_files::{Files, LinkFault, SOURCE_LIMIT, Step, file_path, path_in};
 use dd_filing::{Filed, FilingFault, file_image};
-use dd_keys::Version;
 use dd_layout::{Plan, PlanRecord};
+use dd_version::Version;
 use std::alloc::Global;
 
 /// Makes each image at its File ID in the folder, in the order of the plan: a copy of its file, or that file under a

@@ -9,12 +9,12 @@ use crate::refusal::Subject;
 use dd_elem::Memory;
 use dd_engine::{MergeFault, Pick, first_saying};
 use dd_files::file_path;
-use dd_keys::Version;
+use dd_version::Version;
 use std::alloc::Global;
 
 /// Files that images are copied from.
 pub(crate) trait Origins {
-    ghost use Rattle.dd_keys.specs.declared.parts.Parts.{Parts};
+    ghost use Rattle.dd_version.specs.declared.parts.Parts.{Parts};
     ghost use Rattle.dicomdir.specs.declared.refusal.Subject.{Subject};
 
     /// Says which of the files is meant.

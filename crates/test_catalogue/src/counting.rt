@@ -3,8 +3,8 @@
 use crate::cases::{Ask, ask_all};
 use dd_catalogue::Catalogue;
 use dd_elem::Uid;
-use dd_keys::Version;
 use dd_samples::{fitting, image, parts_of, taken};
+use dd_version::Version;
 use std::alloc::Global;
 use std::test::Fail;
 

@@ -4,9 +4,9 @@ use crate::joining::{batches, catalogues};
 use crate::studies::studies;
 use dd_catalogue::{Catalogue, History, Join, Refused, Took, Withdrew, build, gather};
 use dd_elem::{Memory, Uid};
-use dd_keys::Version;
 use dd_samples::{image, images, taken};
 use dd_vectors::{growth_numbers, refuse_growth, require, was_refused};
+use dd_version::Version;
 use std::alloc::Global;
 use std::test::Fail;
 

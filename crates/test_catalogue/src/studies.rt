@@ -2,9 +2,9 @@
 
 use crate::cases::{Ask, ask_all};
 use dd_catalogue::Catalogue;
-use dd_keys::Parts;
 use dd_samples::taken;
 use dd_vectors::text_of;
+use dd_version::Parts;
 use std::alloc::Global;
 use std::test::Fail;
 

@@ -2,9 +2,9 @@
 
 use crate::cases::{Ask, ask_all};
 use crate::plans::plan;
-use dd_keys::Version;
 use dd_layout::{Plan, PlanRecord};
 use dd_vectors::text_of;
+use dd_version::Version;
 use std::alloc::Global;
 use std::test::Fail;
 

@@ -1,7 +1,7 @@
 use Rattle.std.proofs.Common.{◌≡◌, [], ◌∷◌, ◌++◌, map, ◌∙◌, ap, subst, IfOk}
 use Rattle.std.proofs.lemmas.List.{take_all}
 use Rattle.std.proofs.lemmas.List.Elements.{All-contains}
-use Rattle.dd_keys.specs.Fitting.{Fits}
+use Rattle.dd_version.specs.Fitting.{Fits}
 use Rattle.dd_catalogue.proofs.Members.{contained}
 use Rattle.dd_catalogue.specs.Harmony.{agreed, harmonised}
 use Rattle.dd_catalogue.proofs.Harmonies.{agreed_from, agreed_fits, harmonised_rises, item_member, map_more}

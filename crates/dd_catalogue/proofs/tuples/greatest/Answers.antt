@@ -1,7 +1,7 @@
 use Rattle.std.proofs.Common.{◌≡◌, ◌∙◌, subst, ap, [], ◌∷◌, ◌++◌, map, All, OnOk, Ok, Err}
 use Rattle.std.proofs.lemmas.List.{take_all, map-append}
 use Rattle.std.proofs.lemmas.List.Elements.{All-more}
-use Rattle.dd_keys.specs.Fitting.{Fits}
+use Rattle.dd_version.specs.Fitting.{Fits}
 use Rattle.dd_catalogue.proofs.Harmonies.{map_more}
 use Rattle.dd_catalogue.proofs.tuples.greatest.Goals as goal
 

@@ -1,5 +1,5 @@
 use Rattle.std.proofs.Common.{◌≡◌, take, map, All}
-use Rattle.dd_keys.specs.Fitting.{Fits}
+use Rattle.dd_version.specs.Fitting.{Fits}
 use Rattle.dd_catalogue.proofs.tuples.greatest.Given as goal
 
 abbrev pub invariant-loop-version : goal.invariant-loop-version

@@ -1,4 +1,4 @@
-use Rattle.dd_keys.specs.Fitting.{Fits}
+use Rattle.dd_version.specs.Fitting.{Fits}
 use Rattle.dd_dir.specs.OwnViews.{listed_view}
 use Rattle.dd_dir.proofs.CheckedRecords.{version_fits}
 use Rattle.dd_dir.proofs.own_keys.version_of.Goals as goal

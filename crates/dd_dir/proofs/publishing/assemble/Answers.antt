@@ -1,5 +1,5 @@
 use Rattle.std.proofs.Common.{◌≡◌, List, length, IfOk, ap, subst}
-use Rattle.dd_keys.specs.declared.parts.Parts.{Parts}
+use Rattle.dd_version.specs.declared.parts.Parts.{Parts}
 use Rattle.dd_catalogue.specs.Contents.{Contents}
 use Rattle.dd_catalogue.specs.Harmony.{harmonised}
 use Rattle.dd_dir.specs.Directories.{IsDirectory, OffsetsWithin, directory}

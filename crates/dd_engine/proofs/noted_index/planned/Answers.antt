@@ -1,5 +1,5 @@
 use Rattle.std.proofs.Common.{List, ap₂, refl, subst, sym, ◌∙◌, ℕ}
-use Rattle.dd_keys.specs.declared.parts.Parts.{Parts}
+use Rattle.dd_version.specs.declared.parts.Parts.{Parts}
 use Rattle.dd_layout.specs.Layouts.{layout_of}
 use Rattle.dd_engine.specs.Choosing.{label_for, refusal_for}
 use Rattle.dd_engine.specs.Indexing.{accepted}

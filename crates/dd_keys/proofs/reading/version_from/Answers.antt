@@ -1,6 +1,6 @@
 use Rattle.std.proofs.Common.{inr, sym, ◌∙◌}
 use Rattle.std.proofs.lemmas.Bool.{cond-true}
-use Rattle.dd_keys.specs.Classes.{is_image_class}
+use Rattle.dd_version.specs.Classes.{is_image_class}
 use Rattle.dd_keys.proofs.Judging.{told_fit}
 use Rattle.dd_keys.proofs.reading.version_from.Goals as goal
 
@@ -9,7 +9,7 @@ returns-in-Some g c =
     inr (cond-true (is_image_class c.args.meta.now.class) _ _ (sym c.if-not-is_image_class.ensures.test)
     ∙ sym c.in-Some.ensures)
 
-pub fitting-requires : goal.fitting-requires
-fitting-requires g c =
-    rw c.in_ok-parts.ensures (told_fit c.args.digest c.args.meta.now (g.V.Values.tells c.args.values.now)
-    c.requires.known (sym c.if-not-is_image_class.ensures.test))
+pub unwrap-requires : goal.unwrap-requires
+unwrap-requires g c =
+    c.of.ensures.accepted.1 (rw c.in_ok-parts.ensures (told_fit c.args.digest c.args.meta.now
+    (g.V.Values.tells c.args.values.now) c.requires.known (sym c.if-not-is_image_class.ensures.test)))

@@ -1,6 +1,6 @@
 use Rattle.std.proofs.Common.{refl}
-use Rattle.dd_keys.proofs.Misfits.{fits_from_none, least_from_found, misfit_from_found}
-use Rattle.dd_keys.proofs.version.Version.of.Goals as goal
+use Rattle.dd_version.proofs.Misfits.{fits_from_none, least_from_found, misfit_from_found}
+use Rattle.dd_version.proofs.version.Version.of.Goals as goal
 
 pub invariant_of-result : goal.invariant_of-result
 invariant_of-result c = fits_from_none c.args.parts c.in-None.ensures

@@ -3,7 +3,7 @@
 ghost use Rattle.std.specs.Prelude.{◌≡◌, ◌↔◌, IsTrue, Contains};
 ghost use Rattle.std.specs.List.{list_any};
 ghost use Rattle.std.specs.Str.{bytes_eq};
-ghost use Rattle.dd_keys.specs.Classes.{image_classes, is_image_class};
+ghost use Rattle.dd_version.specs.Classes.{image_classes, is_image_class};
 
 use dd_elem::Uid;
 

@@ -1,8 +1,8 @@
 //! What a version is made of.
 
 ghost use Rattle.std.specs.Prelude.{◌≡◌, IfOk, IsErr};
-ghost use Rattle.dd_keys.specs.Copies.{PartsAreLong};
-ghost use Rattle.dd_keys.specs.Orders.{parts_cmp, parts_total, parts_apart};
+ghost use Rattle.dd_version.specs.Copies.{PartsAreLong};
+ghost use Rattle.dd_version.specs.Orders.{parts_cmp, parts_total, parts_apart};
 
 use crate::keys::{PatientKeys, SeriesKeys, StudyKeys};
 use dd_elem::{Key, Memory, Ordered, Uid};

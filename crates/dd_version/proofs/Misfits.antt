@@ -7,9 +7,10 @@ use Rattle.std.proofs.lemmas.List.Elements.{All-nil, All-cons, All-contains, Con
 use Rattle.std.proofs.lemmas.List.Elements.{Contains-append_right}
 use Rattle.dd_elem.specs.Tag.{number_of}
 use Rattle.dd_elem.specs.declared.tag.Tag.{Tag}
-use Rattle.dd_keys.specs.Fitting.{Fits, Fitting, IsLeastMisfit, fittings, is_empty, least_misfit}
-use Rattle.dd_keys.specs.declared.parts.Parts.{Parts}
-use Rattle.dd_keys.proofs.ImageClasses.{is_image_class_decides}
+use Rattle.dd_version.specs.Fitting.{Fits, Fitting, IsLeastMisfit, fittings, is_empty, least_misfit}
+use Rattle.dd_version.specs.declared.parts.Parts.{Parts}
+use Rattle.dd_version.proofs.ImageClasses.{is_image_class_decides}
+use Rattle.dd_version.proofs.KnownSyntaxes.{is_known_syntax_decides}
 
 -- the first tag of a list whose part does not fit
 abbrev first : List Fitting → Option Tag
@@ -117,7 +118,7 @@ pub fits_from_none : (parts : Parts) → None ≡ least_misfit parts → Fits pa
 fits_from_none parts e =
     let all = all_fit (fittings parts) (sym e) in
     record {
-      transfer = all.0;
+      transfer = (is_known_syntax_decides parts.transfer).0 all.0;
       class = (is_image_class_decides parts.class).0 all.1.0;
       study_date = some_bytes parts.study.date all.1.1.0;
       study_time = some_bytes parts.study.time all.1.1.1.0;
@@ -132,7 +133,7 @@ fits_from_none parts e =
 pub none_from_fits : (parts : Parts) → Fits parts → least_misfit parts ≡ None
 none_from_fits parts fits =
     none_of (fittings parts) (
-      fits.transfer,
+      (is_known_syntax_decides parts.transfer).1 fits.transfer,
       (
         (is_image_class_decides parts.class).1 fits.class,
         (

@@ -1,5 +1,5 @@
 use Rattle.std.proofs.Common.{refl, sym}
-use Rattle.dd_keys.proofs.version.Version.copy.Goals as goal
+use Rattle.dd_version.proofs.version.Version.copy.Goals as goal
 
 pub returns-in_err-parts-clause-memory : goal.returns-in_err-parts-clause-memory
 returns-in_err-parts-clause-memory c = λ _. rw (sym c.self.view_is) (c.in_err-parts.ensures.memory refl)

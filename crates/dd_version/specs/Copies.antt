@@ -1,10 +1,10 @@
 -- Where an equal copy may want memory: some key has more bytes than are held in place.
 use Rattle.std.specs.Prelude.{◌<◌, ◌⊎◌, ℕ, List, [], ◌∷◌, length}
 use Rattle.dd_elem.specs.Held.{most_in_place}
-use Rattle.dd_keys.specs.declared.keys.PatientKeys.{PatientKeys}
-use Rattle.dd_keys.specs.declared.keys.SeriesKeys.{SeriesKeys}
-use Rattle.dd_keys.specs.declared.keys.StudyKeys.{StudyKeys}
-use Rattle.dd_keys.specs.declared.parts.Parts.{Parts}
+use Rattle.dd_version.specs.declared.keys.PatientKeys.{PatientKeys}
+use Rattle.dd_version.specs.declared.keys.SeriesKeys.{SeriesKeys}
+use Rattle.dd_version.specs.declared.keys.StudyKeys.{StudyKeys}
+use Rattle.dd_version.specs.declared.parts.Parts.{Parts}
 
 -- one of these keys has
 abbrev pub HasLong : List (List ℕ) → Type 0

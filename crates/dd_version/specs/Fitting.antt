@@ -1,18 +1,14 @@
 -- Which parts are a version: what a directory needs of each file that it lists.
-use Rattle.std.specs.Prelude.{◌≢◌, ◌≤◌, ℕ, Bool, true, false, not, List, [], ◌∷◌, Option, is_some, find, option_map}
-use Rattle.std.specs.Prelude.{Contains, IsSome}
+use Rattle.std.specs.Prelude.{◌≢◌, ◌≤◌, ℕ, Bool, true, false, not, List, [], ◌∷◌, Option, find, option_map, Contains}
 use Rattle.dd_elem.specs.Tag.{number_of}
 use Rattle.dd_elem.specs.declared.tag.Tag.{Tag}
-use Rattle.dd_part10.specs.Meta.{transfer_tag}
-use Rattle.dd_part10.specs.Syntaxes.{syntax_of}
-use Rattle.dd_keys.specs.Classes.{image_classes, is_image_class}
-use Rattle.dd_keys.specs.Table.{class_row, study_date_row, study_time_row, modality_row, patient_id_row, study_id_row}
-use Rattle.dd_keys.specs.Table.{series_number_row, instance_number_row}
-use Rattle.dd_keys.specs.declared.parts.Parts.{Parts}
+use Rattle.dd_version.specs.Classes.{image_classes, is_image_class}
+use Rattle.dd_version.specs.Syntaxes.{known_syntaxes, is_known_syntax}
+use Rattle.dd_version.specs.declared.parts.Parts.{Parts}
 
--- the transfer syntax is one of those that are read, the class is taken, and no type 1 key is empty
+-- the transfer syntax is known, the class is taken, and no type 1 key is empty
 pub record Fits (parts : Parts) : Type 0 where
-  pub transfer : IsSome (syntax_of parts.transfer)
+  pub transfer : Contains known_syntaxes parts.transfer
   pub class : Contains image_classes parts.class
   pub study_date : parts.study.date ≢ []
   pub study_time : parts.study.time ≢ []
@@ -33,18 +29,21 @@ abbrev pub is_empty : List ℕ → Bool
 is_empty [] = true
 is_empty (byte ∷ bytes) = false
 
+abbrev pub tag : ℕ → ℕ → Tag
+tag group number = record { group = group; element = number }
+
 -- the tags whose parts may not fit, in their order
 abbrev pub fittings : Parts → List Fitting
 fittings parts =
-    (transfer_tag, is_some (syntax_of parts.transfer)) ∷
-    (class_row.tag, is_image_class parts.class) ∷
-    (study_date_row.tag, not (is_empty parts.study.date)) ∷
-    (study_time_row.tag, not (is_empty parts.study.time)) ∷
-    (modality_row.tag, not (is_empty parts.series.modality)) ∷
-    (patient_id_row.tag, not (is_empty parts.patient.id)) ∷
-    (study_id_row.tag, not (is_empty parts.study.id)) ∷
-    (series_number_row.tag, not (is_empty parts.series.number)) ∷
-    (instance_number_row.tag, not (is_empty parts.number)) ∷ []
+    (tag 0x0002 0x0010, is_known_syntax parts.transfer) ∷
+    (tag 0x0008 0x0016, is_image_class parts.class) ∷
+    (tag 0x0008 0x0020, not (is_empty parts.study.date)) ∷
+    (tag 0x0008 0x0030, not (is_empty parts.study.time)) ∷
+    (tag 0x0008 0x0060, not (is_empty parts.series.modality)) ∷
+    (tag 0x0010 0x0020, not (is_empty parts.patient.id)) ∷
+    (tag 0x0020 0x0010, not (is_empty parts.study.id)) ∷
+    (tag 0x0020 0x0011, not (is_empty parts.series.number)) ∷
+    (tag 0x0020 0x0013, not (is_empty parts.number)) ∷ []
 
 -- the part that this tag stands for does not fit
 abbrev pub IsMisfit : Parts → Tag → Type 0

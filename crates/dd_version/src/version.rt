@@ -1,17 +1,13 @@
 //! Versions of image instances.
 
-ghost use Rattle.std.specs.Prelude.{◌≡◌, ◌↔◌, IsOk, IsErr, IfOk, IfErr, is_some};
-ghost use Rattle.dd_keys.specs.Copies.{PartsAreLong};
-ghost use Rattle.dd_keys.specs.Fitting.{Fits, IsLeastMisfit, is_empty, least_misfit};
-ghost use Rattle.dd_part10.specs.Syntaxes.{syntax_of};
+ghost use Rattle.std.specs.Prelude.{◌≡◌, ◌↔◌, IsOk, IsErr, IfOk, IfErr};
+ghost use Rattle.dd_version.specs.Copies.{PartsAreLong};
+ghost use Rattle.dd_version.specs.Fitting.{Fits, IsLeastMisfit, is_empty, least_misfit};
 
 use crate::classes::is_image_class;
 use crate::parts::Parts;
-use crate::rows::{
-    CLASS, INSTANCE_NUMBER, MODALITY, PATIENT_ID, SERIES_NUMBER, STUDY_DATE, STUDY_ID, STUDY_TIME,
-};
-use dd_elem::{Key, Memory, Ordered, Tag};
-use dd_part10::{Meta, TRANSFER};
+use crate::syntaxes::{TRANSFER, is_known_syntax};
+use dd_elem::{Key, Memory, Ordered, Tag, tags};
 use std::cmp::Ordering;
 use std::marker::Model;
 use thiserror::Error;
@@ -25,8 +21,8 @@ pub struct Version {
 }
 
 impl Model for Version {
-    ghost use Rattle.dd_keys.specs.declared.parts.Parts.{Parts};
-    ghost use Rattle.dd_keys.specs.Fitting.{Fits};
+    ghost use Rattle.dd_version.specs.declared.parts.Parts.{Parts};
+    ghost use Rattle.dd_version.specs.Fitting.{Fits};
 
     ghost Value = { Parts };
 
@@ -70,14 +66,6 @@ impl Version {
         }
     }
 
-    /// The version of parts that fit.
-    pub(crate) fn fitting(parts: Parts) -> Version
-        requires { Fits parts }
-        ensures { result ≡ parts }
-    {
-        Version { parts }
-    }
-
     /// What the version is made of.
     pub fn parts(&self) -> &Parts
         ensures value { result.now ≡ self.now }
@@ -101,7 +89,7 @@ impl PartialEq for Version {
     ghost use Rattle.std.specs.Cmp.{partial_equiv_from_equiv};
     ghost use Rattle.std.specs.Ordering.{eq_by_cmp};
     ghost use Rattle.std.proofs.lemmas.Cmp.{eq_by_cmp_equiv};
-    ghost use Rattle.dd_keys.specs.Orders.{parts_cmp, parts_total};
+    ghost use Rattle.dd_version.specs.Orders.{parts_cmp, parts_total};
 
     ghost eq = { eq_by_cmp parts_cmp };
 
@@ -115,7 +103,7 @@ impl PartialEq for Version {
 /// The dictionary order of the parts: digest, patient, study, series, instance number, class, transfer
 /// syntax, instance.
 impl Ordered for Version {
-    ghost use Rattle.dd_keys.specs.Orders.{parts_cmp, parts_total, parts_apart};
+    ghost use Rattle.dd_version.specs.Orders.{parts_cmp, parts_total, parts_apart};
 
     ghost order = { parts_cmp };
 
@@ -133,15 +121,15 @@ fn least_misfit(parts: &Parts) -> Option<Tag>
     ensures { result ≡ least_misfit parts.now }
 {
     let fitting = [
-        (TRANSFER, has_known_syntax(parts)),
-        (CLASS.tag, is_image_class(&parts.class)),
-        (STUDY_DATE.tag, !is_empty(&parts.study.date)),
-        (STUDY_TIME.tag, !is_empty(&parts.study.time)),
-        (MODALITY.tag, !is_empty(&parts.series.modality)),
-        (PATIENT_ID.tag, !is_empty(&parts.patient.id)),
-        (STUDY_ID.tag, !is_empty(&parts.study.id)),
-        (SERIES_NUMBER.tag, !is_empty(&parts.series.number)),
-        (INSTANCE_NUMBER.tag, !is_empty(&parts.number)),
+        (TRANSFER, is_known_syntax(&parts.transfer)),
+        (tags::SOP_CLASS_UID, is_image_class(&parts.class)),
+        (tags::STUDY_DATE, !is_empty(&parts.study.date)),
+        (tags::STUDY_TIME, !is_empty(&parts.study.time)),
+        (tags::MODALITY, !is_empty(&parts.series.modality)),
+        (tags::PATIENT_ID, !is_empty(&parts.patient.id)),
+        (tags::STUDY_ID, !is_empty(&parts.study.id)),
+        (tags::SERIES_NUMBER, !is_empty(&parts.series.number)),
+        (tags::INSTANCE_NUMBER, !is_empty(&parts.number)),
     ];
     fitting.iter().find(|(_, fits)| !*fits).map(|(tag, _)| *tag)
 }
@@ -151,11 +139,4 @@ fn is_empty(key: &Key) -> bool
     ensures { result ≡ is_empty key.now }
 {
     key.as_bytes().is_empty()
-}
-
-/// Is the transfer syntax one of those that are read?
-fn has_known_syntax(parts: &Parts) -> bool
-    ensures { result ≡ is_some (syntax_of parts.now.transfer) }
-{
-    Meta::syntax_of(&parts.transfer).is_some()
 }

@@ -1,9 +1,9 @@
 //! The keys of patients, studies and series.
 
 ghost use Rattle.std.specs.Prelude.{◌≡◌, IfOk, IsErr};
-ghost use Rattle.dd_keys.specs.Copies.{PatientIsLong, StudyIsLong, SeriesIsLong};
-ghost use Rattle.dd_keys.specs.Orders.{patient_cmp, patient_total, patient_apart, study_cmp, study_total, study_apart};
-ghost use Rattle.dd_keys.specs.Orders.{series_cmp, series_total, series_apart};
+ghost use Rattle.dd_version.specs.Copies.{PatientIsLong, StudyIsLong, SeriesIsLong};
+ghost use Rattle.dd_version.specs.Orders.{patient_cmp, patient_total, patient_apart, study_cmp, study_total};
+ghost use Rattle.dd_version.specs.Orders.{study_apart, series_cmp, series_total, series_apart};
 
 use dd_elem::{Key, Memory, Ordered, Uid};
 use std::cmp::Ordering;

@@ -1,0 +1,4 @@
+pub mod ImageClasses
+pub mod KnownSyntaxes
+mod Listed
+mod Misfits
