@@ -1,5 +1,5 @@
 -- A file-set was made, whichever files its images were made of.
-use Rattle.std.proofs.Common.{◌≡◌, ◌⊎◌, ℕ, List, [], ◌∷◌, Option, Result, Ok, Err, IfOk, IsOk, inl, inr, map, refl}
+use Rattle.std.proofs.Common.{◌≡◌, ℕ, List, [], ◌∷◌, Option, Result, Ok, Err, IfOk, IsOk, inl, inr, map, refl}
 use Rattle.std.proofs.Common.{subst, true}
 use Rattle.std.specs.Prelude.{slice_index_or, zip}
 use Rattle.clap.specs.Words.{Row, Text}

@@ -94,4 +94,6 @@ pub returns-clause-made : goal.returns-clause-made
 returns-clause-made g c = λ is taken _ _.
     let still = subst (λ words. takes dicomdir_app (words_of words) ≡ true) (sym c.as_slice.ensures.value) taken in
     let amiss = c.refuse_line.ensures.mistake (taken_mistake c.in-Err.fault _ (c.in-Err.ensures.passes still)) in
-    absurd (omega (arith, is, amiss.0))
+    absurd {A = MakesSome (HasLink (subcommand_of dicomdir_app (words_of c.args.words.items)))
+    (first_path (subcommand_of dicomdir_app (words_of c.args.words.items))) (g.F.Files.held c.args.files.now)
+    (g.F.Files.held c.args.files.now)} (omega (arith, is, amiss.0))
