@@ -155,17 +155,13 @@ def is_as_failed(case, run, task):
     at, _, error, lasts = task
     calls = case.right.calls
     places = range(at, len(calls)) if lasts else [at]
-    all_found = [consequence(case, place, error, lasts) for place in places if calls[place].name == calls[at].name]
     findings = []
-    for number, found in enumerate(all_found):
+    for found in [consequence(case, place, error, lasts) for place in places if calls[place].name == calls[at].name]:
         if found is None or found in findings:
             continue
         if found.startswith(("MISSING", "UNREADABLE")):
             findings.append(found)
             continue
-        # Where the folder of a second name can't be made, its file is looked at, and comes first as for a copy.
-        if found.endswith(": 95 Folder") and case.right.second:
-            found = next((later for later in all_found[number:] if later and later.endswith(": 92 Absent")), found)
         return (run.status, run.err) == (1, line_of(case, found)) and case.right.out.startswith(run.out)
     if findings:
         return (run.status, run.out, run.err) == (3, "".join(f"{found}\n" for found in findings), "")

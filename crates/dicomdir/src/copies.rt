@@ -132,7 +132,8 @@ fn linked_set<O: Origins>(origins: &O, pick: O::Pick) -> Option<&str>
 }
 
 /// Gives the file of an image a second name, its File ID in the folder, and has it stored with others. Answers false
-/// where it may get none, and where the system gives none. Of two faults it gives the one that a copy gives.
+/// where it may get none, and where the system gives none. The file is opened first, so that it is refused where a
+/// copy is.
 fn link_image<F: Files, O: Origins>(
     alloc: Global,
     folder: &str,
@@ -151,10 +152,8 @@ fn link_image<F: Files, O: Origins>(
     let Some(set) = linked_set(origins, pick) else {
         return Ok(false);
     };
-    if let Err(refusal) = make_folder(alloc, folder, file, files) {
-        open(alloc, origins, pick, files)?;
-        return Err(refusal);
-    }
+    open(alloc, origins, pick, files)?;
+    make_folder(alloc, folder, file, files)?;
     let from = origins.path(alloc, pick)?;
     let path = file_path(alloc, folder, &file.text())?;
     match files.link(set, from.as_str(), path.as_str()) {

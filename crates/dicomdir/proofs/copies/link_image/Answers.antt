@@ -9,5 +9,5 @@ returns-clause-linked g c = λ done. record {
   place = rw (c.as_str-2.ensures.value, ← c.text.ensures.exact) c.in_ok-path.ensures;
   picked = (c.in-Some.ensures cc, rw c.as_str.ensures.value c.in_ok-from.ensures);
   made = c.in_ok-store.ensures.kept ∙ c.advance.ensures.kept
-      ∙ (rw c.make_folder.ensures.kept at c.in-Ok.ensures.linked cc);
+      ∙ (rw (c.in_ok-make_folder.ensures.kept, c.in_ok-open.ensures.kept) at c.in-Ok.ensures.linked cc);
 }
