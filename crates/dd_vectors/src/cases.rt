@@ -22,6 +22,40 @@ pub fn answered<T: Display>(alloc: Global, case: &str, answer: &T) -> Result<Str
     format!(in alloc; "{question}{ARROW}{answer}")
 }
 
+/// Asks the question of each case, one to a line. What is found has to be the case.
+pub fn ask_all<A: Fn(Global, &str) -> Result<String, Fail>>(
+    alloc: Global,
+    cases: &str,
+    answer: A,
+) -> Result<(), Fail>
+    requires { A.IsAlwaysCallable answer }
+{
+    for case in cases.split('\n') {
+        let found = answered(alloc, case, &answer(alloc, question(case))?)?;
+        if found.as_str() != case {
+            return Err(Fail::new(format_args!("found  {found:?}\nwanted {case:?}")));
+        }
+    }
+    Ok(())
+}
+
+/// Claims it of each case. The separator stands between them.
+pub fn claim_all<C: Fn(Global, &str) -> Result<bool, Fail>>(
+    alloc: Global,
+    cases: &str,
+    separator: char,
+    is_right: C,
+) -> Result<(), Fail>
+    requires { C.IsAlwaysCallable is_right }
+{
+    for case in cases.split(separator) {
+        if !is_right(alloc, case)? {
+            return Err(Fail::new(format_args!("of {case}")));
+        }
+    }
+    Ok(())
+}
+
 /// The words of a command line, where `''` stands for an empty one.
 pub fn words_of(alloc: Global, line: &str) -> Result<Vec<String>, AllocError> {
     let mut words = Vec::new(alloc);

@@ -11,7 +11,7 @@ mod readers;
 mod source_file;
 mod texts;
 
-pub use cases::{answered, failing, push_lines, question, words_of};
+pub use cases::{answered, ask_all, claim_all, failing, push_lines, question, words_of};
 pub use directories::{deep, first_directory, v2, v3};
 pub use growths::{ends_refused, growth_numbers, refuse_growth, require, was_refused};
 pub use readers::{reader_of, tags_of};

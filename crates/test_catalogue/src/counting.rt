@@ -1,9 +1,9 @@
 //! How many pairs of instances a merge compares.
 
-use crate::cases::{Ask, ask_all};
 use dd_catalogue::Catalogue;
 use dd_elem::Uid;
 use dd_samples::{fitting, image, parts_of, taken};
+use dd_vectors::ask_all;
 use dd_version::Version;
 use std::alloc::Global;
 use std::test::Fail;
@@ -31,7 +31,7 @@ fn holds(alloc: Global, catalogue: &Catalogue, left: &str, right: &str) -> Resul
     Ok(*catalogue == taken(alloc, letters.as_str())?)
 }
 
-pub(crate) fn count(alloc: Global, question: &str) -> Result<String, Fail> {
+fn count(alloc: Global, question: &str) -> Result<String, Fail> {
     let (left, right) = question.split_once('+').ok_or("one catalogue")?;
     let mut catalogue = taken(alloc, left)?;
     let count = merge(alloc, &mut catalogue, right)?;
@@ -43,7 +43,7 @@ pub(crate) fn count(alloc: Global, question: &str) -> Result<String, Fail> {
 
 #[test]
 fn a_merge_counts_what_it_compares(rt: HostRuntime) -> Result<(), Fail> {
-    ask_all(&rt, rt.alloc(), Ask::Count, COUNTS)
+    ask_all(rt.alloc(), COUNTS, count)
 }
 
 /// The first image with the instance `1.2.3.NUMBER`.

@@ -1,7 +1,7 @@
 //! Which versions and which catalogues are equal, and which catalogues are empty.
 
-use crate::cases::{Ask, ask_all};
 use dd_samples::{image, taken};
+use dd_vectors::ask_all;
 use std::alloc::Global;
 use std::test::Fail;
 
@@ -23,7 +23,7 @@ const CATALOGUES: &str = "\
 a=b > false false
 A=B > false false";
 
-pub(crate) fn versions(alloc: Global, question: &str) -> Result<String, Fail> {
+fn versions(alloc: Global, question: &str) -> Result<String, Fail> {
     let mut letters = question.chars();
     let left = image(alloc, letters.next().ok_or("no letter")?)?;
     let right = image(alloc, letters.next_back().ok_or("no letter")?)?;
@@ -33,10 +33,10 @@ pub(crate) fn versions(alloc: Global, question: &str) -> Result<String, Fail> {
 
 #[test]
 fn versions_of_the_same_parts_are_equal(rt: HostRuntime) -> Result<(), Fail> {
-    ask_all(&rt, rt.alloc(), Ask::Versions, VERSIONS)
+    ask_all(rt.alloc(), VERSIONS, versions)
 }
 
-pub(crate) fn catalogues(alloc: Global, question: &str) -> Result<String, Fail> {
+fn catalogues(alloc: Global, question: &str) -> Result<String, Fail> {
     let (left, right) = question.split_once('=').ok_or("one catalogue")?;
     let first = taken(alloc, left)?;
     let are_equal = first == taken(alloc, right)?;
@@ -46,5 +46,5 @@ pub(crate) fn catalogues(alloc: Global, question: &str) -> Result<String, Fail> 
 
 #[test]
 fn catalogues_of_the_same_versions_are_equal(rt: HostRuntime) -> Result<(), Fail> {
-    ask_all(&rt, rt.alloc(), Ask::Catalogues, CATALOGUES)
+    ask_all(rt.alloc(), CATALOGUES, catalogues)
 }

@@ -1,12 +1,11 @@
 //! Joins of versions, of catalogues and of histories.
 
-use crate::cases::{Ask, Claim, ask_all, claim_all};
 use dd_catalogue::{
     Catalogue, History, best_is_best, best_is_one, best_of_bests, build, build_order_is_free,
     equal_is_same, gather, gather_order_is_free, join_is_lawful, join_order_is_free,
 };
 use dd_samples::{images, taken};
-use dd_vectors::text_of;
+use dd_vectors::{ask_all, claim_all, text_of};
 use dd_version::Version;
 use std::alloc::Global;
 use std::test::Fail;
@@ -71,35 +70,35 @@ fn holds_four(alloc: Global, catalogue: &Catalogue) -> Result<bool, Fail> {
     Ok(*catalogue == four && catalogue.copy()? == four)
 }
 
-pub(crate) fn merge_to_four(alloc: Global, groups: &str) -> Result<bool, Fail> {
+fn merge_to_four(alloc: Global, groups: &str) -> Result<bool, Fail> {
     holds_four(alloc, &merged(alloc, groups)?)
 }
 
 #[test]
 fn merges_have_no_order(rt: HostRuntime) -> Result<(), Fail> {
-    claim_all(&rt, rt.alloc(), Claim::MergeToFour, (FOUR, ' '))
+    claim_all(rt.alloc(), FOUR, ' ', merge_to_four)
 }
 
-pub(crate) fn gather_to_four(alloc: Global, groups: &str) -> Result<bool, Fail> {
+fn gather_to_four(alloc: Global, groups: &str) -> Result<bool, Fail> {
     holds_four(alloc, &gathered(alloc, groups)?)
 }
 
 #[test]
 fn joins_have_no_order(rt: HostRuntime) -> Result<(), Fail> {
-    claim_all(&rt, rt.alloc(), Claim::GatherToFour, (FOUR, ' '))
+    claim_all(rt.alloc(), FOUR, ' ', gather_to_four)
 }
 
-pub(crate) fn build_to_four(alloc: Global, groups: &str) -> Result<bool, Fail> {
+fn build_to_four(alloc: Global, groups: &str) -> Result<bool, Fail> {
     holds_four(alloc, &built(alloc, groups)?)
 }
 
 #[test]
 fn histories_give_the_best_that_they_took(rt: HostRuntime) -> Result<(), Fail> {
-    claim_all(&rt, rt.alloc(), Claim::BuildToFour, (FOUR, ' '))
+    claim_all(rt.alloc(), FOUR, ' ', build_to_four)
 }
 
 /// The description of the first version, joined with the others.
-pub(crate) fn described(alloc: Global, question: &str) -> Result<String, Fail> {
+fn described(alloc: Global, question: &str) -> Result<String, Fail> {
     let mut versions = images(alloc, question)?;
     let (first, rest) = versions.split_first_mut().ok_or("there is none")?;
     gather(first, rest)?;
@@ -108,7 +107,7 @@ pub(crate) fn described(alloc: Global, question: &str) -> Result<String, Fail> {
 
 #[test]
 fn the_join_of_versions_is_the_greater_one(rt: HostRuntime) -> Result<(), Fail> {
-    ask_all(&rt, rt.alloc(), Ask::Described, DESCRIBED)
+    ask_all(rt.alloc(), DESCRIBED, described)
 }
 
 /// The laws are proved; they hold of the types that are joined.

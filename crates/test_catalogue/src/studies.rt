@@ -1,9 +1,8 @@
 //! Conflicts between the versions of a catalogue, and the keys on which they agree in harmony.
 
-use crate::cases::{Ask, ask_all};
 use dd_catalogue::Catalogue;
 use dd_samples::taken;
-use dd_vectors::text_of;
+use dd_vectors::{ask_all, text_of};
 use dd_version::Parts;
 use std::alloc::Global;
 use std::test::Fail;
@@ -24,7 +23,7 @@ AC > 1.2.3.4.5 101500 'B, 1.2.3.4.6 101500 'B
 ZL > 1.2.3.4.5 101600 'A, 1.2.3.4.6 101600 'A
 Z4 > 1.2.3.4.5 101500 'Z, 1.2.9.1.1 101500 '";
 
-pub(crate) fn conflict(alloc: Global, question: &str) -> Result<String, Fail> {
+fn conflict(alloc: Global, question: &str) -> Result<String, Fail> {
     let catalogue = taken(alloc, question)?;
     match catalogue.conflict()? {
         Some((first, second)) => Ok(format!(in alloc; "{first} {second}")?),
@@ -34,7 +33,7 @@ pub(crate) fn conflict(alloc: Global, question: &str) -> Result<String, Fail> {
 
 #[test]
 fn the_least_instances_that_conflict(rt: HostRuntime) -> Result<(), Fail> {
-    ask_all(&rt, rt.alloc(), Ask::Conflict, CONFLICTS)
+    ask_all(rt.alloc(), CONFLICTS, conflict)
 }
 
 /// Puts the instance, and the time and the description of its study, behind the text.
@@ -59,7 +58,7 @@ pub(crate) fn studies(alloc: Global, catalogue: &Catalogue) -> Result<String, Fa
     Ok(text)
 }
 
-pub(crate) fn harmony(alloc: Global, question: &str) -> Result<String, Fail> {
+fn harmony(alloc: Global, question: &str) -> Result<String, Fail> {
     let catalogue = taken(alloc, question)?;
     let harmonised = catalogue.harmonise()?;
     studies(alloc, &harmonised)
@@ -67,5 +66,5 @@ pub(crate) fn harmony(alloc: Global, question: &str) -> Result<String, Fail> {
 
 #[test]
 fn harmonised_versions_agree(rt: HostRuntime) -> Result<(), Fail> {
-    ask_all(&rt, rt.alloc(), Ask::Harmony, HARMONIES)
+    ask_all(rt.alloc(), HARMONIES, harmony)
 }

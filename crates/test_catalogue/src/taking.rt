@@ -1,9 +1,9 @@
 //! What a catalogue takes, hands back and keeps.
 
-use crate::cases::{Ask, ask_all};
 use dd_catalogue::{Catalogue, Refused, Took};
 use dd_elem::Uid;
 use dd_samples::{image, taken, told};
+use dd_vectors::ask_all;
 use dd_version::Version;
 use std::alloc::Global;
 use std::test::Fail;
@@ -52,7 +52,7 @@ fn push_held(alloc: Global, text: &mut String, catalogue: &Catalogue) -> Result<
     Ok(())
 }
 
-pub(crate) fn takes(alloc: Global, question: &str) -> Result<String, Fail> {
+fn takes(alloc: Global, question: &str) -> Result<String, Fail> {
     let mut catalogue = Catalogue::new(alloc);
     let mut text = String::new(alloc);
     for letter in question.chars() {
@@ -65,10 +65,10 @@ pub(crate) fn takes(alloc: Global, question: &str) -> Result<String, Fail> {
 
 #[test]
 fn the_greatest_version_of_each_instance_stays(rt: HostRuntime) -> Result<(), Fail> {
-    ask_all(&rt, rt.alloc(), Ask::Takes, TAKES)
+    ask_all(rt.alloc(), TAKES, takes)
 }
 
-pub(crate) fn got(alloc: Global, question: &str) -> Result<String, Fail> {
+fn got(alloc: Global, question: &str) -> Result<String, Fail> {
     let catalogue = taken(alloc, "12")?;
     match catalogue.get(&Uid::new(question.as_bytes())?) {
         Some(version) => told(alloc, version),
@@ -78,7 +78,7 @@ pub(crate) fn got(alloc: Global, question: &str) -> Result<String, Fail> {
 
 #[test]
 fn versions_are_got_by_their_instances(rt: HostRuntime) -> Result<(), Fail> {
-    ask_all(&rt, rt.alloc(), Ask::Got, GOT)
+    ask_all(rt.alloc(), GOT, got)
 }
 
 /// How many instances the catalogue of these letters holds.

@@ -1,8 +1,7 @@
 //! A directory that is cut short anywhere, and one in which an offset is anything.
 
-use crate::cases::{Ask, ask_all};
 use dd_dir::read_directory;
-use dd_vectors::{first_directory, put_at};
+use dd_vectors::{ask_all, first_directory, put_at};
 use std::alloc::Global;
 use std::test::Fail;
 
@@ -83,7 +82,7 @@ fn said_of_front(alloc: Global, bytes: &[u8], size: usize) -> Result<String, Fai
 }
 
 /// What is said of each front of the range, or of the first of which something else is said.
-pub(crate) fn cut(alloc: Global, question: &str) -> Result<String, Fail> {
+fn cut(alloc: Global, question: &str) -> Result<String, Fail> {
     let (first, last) = question.split_once(' ').ok_or("no last")?;
     let (first, last): (usize, usize) = (first.parse()?, last.parse()?);
     let bytes = first_directory(alloc)?;
@@ -99,7 +98,7 @@ pub(crate) fn cut(alloc: Global, question: &str) -> Result<String, Fail> {
 
 #[test]
 fn directories_that_are_cut_short(rt: HostRuntime) -> Result<(), Fail> {
-    ask_all(&rt, rt.alloc(), Ask::Cut, CUTS)
+    ask_all(rt.alloc(), CUTS, cut)
 }
 
 /// What is said of the directory with this offset at the place, where the last word is `itself` if it is the offset.
@@ -131,7 +130,7 @@ fn said_of_offsets(alloc: Global, place: usize, first: u32, last: u32) -> Result
     Ok(common)
 }
 
-pub(crate) fn offset(alloc: Global, question: &str) -> Result<String, Fail> {
+fn offset(alloc: Global, question: &str) -> Result<String, Fail> {
     let (place, rest) = question.split_once(' ').ok_or("no offset")?;
     let (first, last) = rest.split_once(' ').ok_or("no last")?;
     said_of_offsets(alloc, place.parse()?, first.parse()?, last.parse()?)
@@ -139,5 +138,5 @@ pub(crate) fn offset(alloc: Global, question: &str) -> Result<String, Fail> {
 
 #[test]
 fn offsets_of_any_value(rt: HostRuntime) -> Result<(), Fail> {
-    ask_all(&rt, rt.alloc(), Ask::Offset, OFFSETS)
+    ask_all(rt.alloc(), OFFSETS, offset)
 }

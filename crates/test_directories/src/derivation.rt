@@ -1,12 +1,12 @@
 //! UIDs of file-sets that follow from what they hold.
 
-use crate::cases::{Ask, ask_all};
 use crate::publishing::limits_of;
 use crate::sending::first_catalogue;
 use dd_catalogue::Catalogue;
 use dd_dir::derived_uid;
 use dd_elem::SetId;
 use dd_samples::taken;
+use dd_vectors::ask_all;
 use std::alloc::Global;
 use std::test::Fail;
 
@@ -33,7 +33,7 @@ fn catalogue(alloc: Global, letters: &str) -> Result<Catalogue, Fail> {
     }
 }
 
-pub(crate) fn derived(alloc: Global, question: &str) -> Result<String, Fail> {
+fn derived(alloc: Global, question: &str) -> Result<String, Fail> {
     let mut words = question.split(' ');
     let catalogue = catalogue(alloc, words.next().ok_or("no images")?)?;
     let id = SetId::new(words.next().ok_or("no ID")?.as_bytes())?;
@@ -46,5 +46,5 @@ pub(crate) fn derived(alloc: Global, question: &str) -> Result<String, Fail> {
 
 #[test]
 fn file_sets_are_named_by_what_they_hold(rt: HostRuntime) -> Result<(), Fail> {
-    ask_all(&rt, rt.alloc(), Ask::Derived, DERIVED)
+    ask_all(rt.alloc(), DERIVED, derived)
 }

@@ -1,12 +1,11 @@
 //! The elements of records, as they are read back.
 
-use crate::cases::{Claim, claim_all};
 use crate::publishing::published;
 use dd_dir::{Forest, Tree, catalogue_of, read_directory};
 use dd_elem::Sink;
 use dd_samples::taken;
 use dd_set::{Syntax, write_set};
-use dd_vectors::bytes_of;
+use dd_vectors::{bytes_of, claim_all};
 use std::alloc::Global;
 use std::test::Fail;
 
@@ -81,7 +80,7 @@ fn has(alloc: Global, forest: &Forest<'_>, place: &str, elements: &str) -> Resul
 }
 
 /// Has the record of a case its elements in the directory of four images?
-pub(crate) fn has_elements(alloc: Global, case: &str) -> Result<bool, Fail> {
+fn has_elements(alloc: Global, case: &str) -> Result<bool, Fail> {
     let (place, elements) = case.split_once(" > ").ok_or("no elements")?;
     let bytes = published(alloc, "1234")?;
     let forest = read_directory(alloc, &bytes)?;
@@ -90,11 +89,11 @@ pub(crate) fn has_elements(alloc: Global, case: &str) -> Result<bool, Fail> {
 
 #[test]
 fn elements_of_records(rt: HostRuntime) -> Result<(), Fail> {
-    claim_all(&rt, rt.alloc(), Claim::HasElements, (ELEMENTS, '\n'))
+    claim_all(rt.alloc(), ELEMENTS, '\n', has_elements)
 }
 
 /// Is the catalogue of these images, in harmony, what their directory says of itself?
-pub(crate) fn says_itself(alloc: Global, letters: &str) -> Result<bool, Fail> {
+fn says_itself(alloc: Global, letters: &str) -> Result<bool, Fail> {
     let bytes = published(alloc, letters)?;
     let forest = read_directory(alloc, &bytes)?;
     Ok(catalogue_of(alloc, &forest)? == taken(alloc, letters)?.harmonise()?)
@@ -102,10 +101,5 @@ pub(crate) fn says_itself(alloc: Global, letters: &str) -> Result<bool, Fail> {
 
 #[test]
 fn directories_say_their_versions(rt: HostRuntime) -> Result<(), Fail> {
-    claim_all(
-        &rt,
-        rt.alloc(),
-        Claim::SaysItself,
-        ("1 1234 AC ZL pqr", ' '),
-    )
+    claim_all(rt.alloc(), "1 1234 AC ZL pqr", ' ', says_itself)
 }

@@ -1,11 +1,11 @@
 //! Directories that are written here, read back: their catalogues, where their files are, and what they list.
 
-use crate::cases::{Ask, ask_all};
 use crate::walks::changed;
 use dd_catalogue::Catalogue;
 use dd_dir::{Own, Place, catalogue_of, own_of, places_of, read_directory};
 use dd_elem::Uid;
 use dd_samples::told;
+use dd_vectors::ask_all;
 use std::alloc::{AllocError, Global};
 use std::test::Fail;
 
@@ -99,7 +99,7 @@ pub(crate) fn instances(alloc: Global, catalogue: &Catalogue) -> Result<String, 
     Ok(text)
 }
 
-pub(crate) fn catalogue(alloc: Global, question: &str) -> Result<String, Fail> {
+fn catalogue(alloc: Global, question: &str) -> Result<String, Fail> {
     let bytes = changed(alloc, question)?;
     let forest = read_directory(alloc, &bytes)?;
     match catalogue_of(alloc, &forest) {
@@ -110,7 +110,7 @@ pub(crate) fn catalogue(alloc: Global, question: &str) -> Result<String, Fail> {
 
 #[test]
 fn catalogues_of_directories(rt: HostRuntime) -> Result<(), Fail> {
-    ask_all(&rt, rt.alloc(), Ask::Catalogue, CATALOGUES)
+    ask_all(rt.alloc(), CATALOGUES, catalogue)
 }
 
 /// How many images there are, and the instance and the File ID of each.
@@ -124,7 +124,7 @@ pub(crate) fn files(alloc: Global, places: &[Place<'_>]) -> Result<String, Fail>
     Ok(text)
 }
 
-pub(crate) fn places(alloc: Global, question: &str) -> Result<String, Fail> {
+fn places(alloc: Global, question: &str) -> Result<String, Fail> {
     let bytes = changed(alloc, question)?;
     let forest = read_directory(alloc, &bytes)?;
     match places_of(alloc, &forest) {
@@ -135,7 +135,7 @@ pub(crate) fn places(alloc: Global, question: &str) -> Result<String, Fail> {
 
 #[test]
 fn files_of_directories(rt: HostRuntime) -> Result<(), Fail> {
-    ask_all(&rt, rt.alloc(), Ask::Places, PLACES)
+    ask_all(rt.alloc(), PLACES, places)
 }
 
 /// How many images there are, the version of each with its File ID, and the instances that are withdrawn.
@@ -153,7 +153,7 @@ pub(crate) fn images(alloc: Global, own: &Own<'_>) -> Result<String, Fail> {
     Ok(text)
 }
 
-pub(crate) fn own(alloc: Global, question: &str) -> Result<String, Fail> {
+fn own(alloc: Global, question: &str) -> Result<String, Fail> {
     let bytes = changed(alloc, question)?;
     let forest = read_directory(alloc, &bytes)?;
     match own_of(alloc, &forest) {
@@ -164,5 +164,5 @@ pub(crate) fn own(alloc: Global, question: &str) -> Result<String, Fail> {
 
 #[test]
 fn images_of_directories(rt: HostRuntime) -> Result<(), Fail> {
-    ask_all(&rt, rt.alloc(), Ask::Own, IMAGES)
+    ask_all(rt.alloc(), IMAGES, own)
 }

@@ -1,13 +1,12 @@
 //! Directories of catalogues and of histories.
 
-use crate::cases::{Ask, Claim, ask_all, claim_all};
 use crate::sending::first_catalogue;
 use dd_catalogue::History;
 use dd_dir::{assemble, publish};
 use dd_elem::{FileId, SetId, Uid};
 use dd_layout::{Label, Limits};
 use dd_samples::{catalogue_of, images, taken};
-use dd_vectors::{bytes_of, first_directory, v2};
+use dd_vectors::{ask_all, bytes_of, claim_all, first_directory, v2};
 use std::alloc::Global;
 use std::test::Fail;
 
@@ -100,7 +99,7 @@ fn number(bytes: &[u8], place: usize) -> Result<u32, Fail> {
     Ok(u32::from_le_bytes(four.try_into()?))
 }
 
-pub(crate) fn front(alloc: Global, question: &str) -> Result<String, Fail> {
+fn front(alloc: Global, question: &str) -> Result<String, Fail> {
     let bytes = published(alloc, question)?;
     let (first, last) = (number(&bytes, 282)?, number(&bytes, 294)?);
     let (size, length) = (bytes.len(), number(&bytes, 316)?);
@@ -109,10 +108,10 @@ pub(crate) fn front(alloc: Global, question: &str) -> Result<String, Fail> {
 
 #[test]
 fn roots_and_lengths(rt: HostRuntime) -> Result<(), Fail> {
-    ask_all(&rt, rt.alloc(), Ask::Front, FRONTS)
+    ask_all(rt.alloc(), FRONTS, front)
 }
 
-pub(crate) fn record(alloc: Global, question: &str) -> Result<String, Fail> {
+fn record(alloc: Global, question: &str) -> Result<String, Fail> {
     let (letters, place) = question.split_once(' ').ok_or("no place")?;
     let (bytes, place) = (published(alloc, letters)?, place.parse::<usize>()?);
     let item = bytes.get(place..).ok_or("no record there")?;
@@ -123,7 +122,7 @@ pub(crate) fn record(alloc: Global, question: &str) -> Result<String, Fail> {
 
 #[test]
 fn lengths_and_links_of_records(rt: HostRuntime) -> Result<(), Fail> {
-    ask_all(&rt, rt.alloc(), Ask::Record, RECORDS)
+    ask_all(rt.alloc(), RECORDS, record)
 }
 
 /// Does the study of two images that tell different descriptions have the greater one?
@@ -138,7 +137,7 @@ fn a_study_has_one_description(rt: HostRuntime) -> Result<(), Fail> {
     Ok(())
 }
 
-pub(crate) fn limited(alloc: Global, question: &str) -> Result<String, Fail> {
+fn limited(alloc: Global, question: &str) -> Result<String, Fail> {
     let limits = limits_of(question)?;
     match publish(alloc, &taken(alloc, "1")?, &label_of("")?, limits) {
         Ok(bytes) => {
@@ -151,7 +150,7 @@ pub(crate) fn limited(alloc: Global, question: &str) -> Result<String, Fail> {
 
 #[test]
 fn directories_keep_to_their_limits(rt: HostRuntime) -> Result<(), Fail> {
-    ask_all(&rt, rt.alloc(), Ask::Limited, LIMITS)
+    ask_all(rt.alloc(), LIMITS, limited)
 }
 
 /// The join of the batches with these letters.
@@ -164,7 +163,7 @@ pub(crate) fn history(alloc: Global, groups: &str) -> Result<History, Fail> {
 }
 
 /// Do these batches have the directory of the four images?
-pub(crate) fn have_four(alloc: Global, groups: &str) -> Result<bool, Fail> {
+fn have_four(alloc: Global, groups: &str) -> Result<bool, Fail> {
     let history = history(alloc, groups)?;
     let assembled = assemble(alloc, &history, &label_of("")?, limits_of("")?)?;
     Ok(assembled == published(alloc, "1234")?)
@@ -172,5 +171,5 @@ pub(crate) fn have_four(alloc: Global, groups: &str) -> Result<bool, Fail> {
 
 #[test]
 fn histories_have_no_order(rt: HostRuntime) -> Result<(), Fail> {
-    claim_all(&rt, rt.alloc(), Claim::HaveFour, (FOUR, ' '))
+    claim_all(rt.alloc(), FOUR, ' ', have_four)
 }

@@ -1,6 +1,5 @@
 //! Directories sent to a writer.
 
-use crate::cases::{Ask, ask_all};
 use crate::publishing::{label_of, limits_of, published};
 use dd_catalogue::Catalogue;
 use dd_dir::write_directory;
@@ -8,7 +7,7 @@ use dd_elem::Sink;
 use dd_layout::{Plan, lay_out};
 use dd_samples::{taken, v1_version};
 use dd_set::WriteFault;
-use dd_vectors::first_directory;
+use dd_vectors::{ask_all, first_directory};
 use std::alloc::Global;
 use std::test::Fail;
 
@@ -56,7 +55,7 @@ fn held(alloc: Global, sink: &Sink) -> Result<usize, Fail> {
     }
 }
 
-pub(crate) fn directory(alloc: Global, question: &str) -> Result<String, Fail> {
+fn directory(alloc: Global, question: &str) -> Result<String, Fail> {
     let mut sink = Sink::new(alloc, Some(question.parse()?));
     sink.reserve(876)?;
     let answer = sent(alloc, &mut sink)?;
@@ -66,7 +65,7 @@ pub(crate) fn directory(alloc: Global, question: &str) -> Result<String, Fail> {
 
 #[test]
 fn the_directory_of_v1(rt: HostRuntime) -> Result<(), Fail> {
-    ask_all(&rt, rt.alloc(), Ask::Directory, SENT)
+    ask_all(rt.alloc(), SENT, directory)
 }
 
 /// After how many bytes at least and at most a writer fails that gets the directory of four images, and what comes
@@ -118,12 +117,12 @@ pub(crate) fn outcomes(
     Ok(common)
 }
 
-pub(crate) fn four_sent(alloc: Global, question: &str) -> Result<String, Fail> {
+fn four_sent(alloc: Global, question: &str) -> Result<String, Fail> {
     let (plan, bytes) = (plan_of_four(alloc)?, published(alloc, "1234")?);
     outcomes(alloc, &plan, &bytes, question)
 }
 
 #[test]
 fn a_directory_stops_where_its_writer_fails(rt: HostRuntime) -> Result<(), Fail> {
-    ask_all(&rt, rt.alloc(), Ask::FourSent, FOUR_SENT)
+    ask_all(rt.alloc(), FOUR_SENT, four_sent)
 }

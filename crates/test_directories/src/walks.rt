@@ -1,9 +1,8 @@
 //! Directories of any producer, read.
 
-use crate::cases::{Ask, ask_all};
 use crate::publishing::{named, published};
 use dd_dir::{Forest, Tree, read_directory};
-use dd_vectors::{deep, first_directory, put_words, v1, v2, v3};
+use dd_vectors::{ask_all, deep, first_directory, put_words, v1, v2, v3};
 use std::alloc::Global;
 use std::test::Fail;
 
@@ -99,7 +98,7 @@ fn records(alloc: Global, forest: &Forest<'_>) -> Result<String, Fail> {
     Ok(text)
 }
 
-pub(crate) fn read(alloc: Global, question: &str) -> Result<String, Fail> {
+fn read(alloc: Global, question: &str) -> Result<String, Fail> {
     let bytes = changed(alloc, question)?;
     match read_directory(alloc, &bytes) {
         Ok(forest) => {
@@ -112,7 +111,7 @@ pub(crate) fn read(alloc: Global, question: &str) -> Result<String, Fail> {
 
 #[test]
 fn walks_of_directories(rt: HostRuntime) -> Result<(), Fail> {
-    ask_all(&rt, rt.alloc(), Ask::Read, CHANGED)
+    ask_all(rt.alloc(), CHANGED, read)
 }
 
 /// How many levels a record and those below it have.
@@ -136,7 +135,7 @@ fn levels_or_fault(alloc: Global, bytes: &[u8]) -> Result<String, Fail> {
     }
 }
 
-pub(crate) fn read_deep(alloc: Global, question: &str) -> Result<String, Fail> {
+fn read_deep(alloc: Global, question: &str) -> Result<String, Fail> {
     let bytes = deep(alloc, question.parse()?)?;
     let (size, said) = (bytes.len(), levels_or_fault(alloc, &bytes)?);
     Ok(format!(in alloc; "{size} bytes, {said}")?)
@@ -144,5 +143,5 @@ pub(crate) fn read_deep(alloc: Global, question: &str) -> Result<String, Fail> {
 
 #[test]
 fn levels_of_directories(rt: HostRuntime) -> Result<(), Fail> {
-    ask_all(&rt, rt.alloc(), Ask::ReadDeep, DEEP)
+    ask_all(rt.alloc(), DEEP, read_deep)
 }

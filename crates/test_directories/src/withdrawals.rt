@@ -1,6 +1,5 @@
 //! Directories of catalogues in which instances are withdrawn.
 
-use crate::cases::{Ask, Claim, ask_all, claim_all};
 use crate::publishing::{label_of, limits_of, published};
 use crate::sending::outcomes;
 use dd_catalogue::History;
@@ -8,7 +7,7 @@ use dd_dir::{assemble, publish};
 use dd_elem::Uid;
 use dd_layout::lay_out;
 use dd_samples::{catalogue_of, images};
-use dd_vectors::bytes_of;
+use dd_vectors::{ask_all, bytes_of, claim_all};
 use std::alloc::Global;
 use std::test::Fail;
 
@@ -36,7 +35,7 @@ const SENT: &str = "\
 918 925 > 918 bytes";
 
 /// Does the directory end so, behind the directory of the images?
-pub(crate) fn ends_so(alloc: Global, case: &str) -> Result<bool, Fail> {
+fn ends_so(alloc: Global, case: &str) -> Result<bool, Fail> {
     let (words, end) = case.split_once(" > ").ok_or("no end")?;
     let (letters, _) = words.split_once('/').ok_or("no instances")?;
     let mut bytes = published(alloc, letters)?;
@@ -46,10 +45,10 @@ pub(crate) fn ends_so(alloc: Global, case: &str) -> Result<bool, Fail> {
 
 #[test]
 fn withdrawn_instances_are_named_behind_the_records(rt: HostRuntime) -> Result<(), Fail> {
-    claim_all(&rt, rt.alloc(), Claim::EndsSo, (ENDS, '\n'))
+    claim_all(rt.alloc(), ENDS, '\n', ends_so)
 }
 
-pub(crate) fn limited(alloc: Global, question: &str) -> Result<String, Fail> {
+fn limited(alloc: Global, question: &str) -> Result<String, Fail> {
     let catalogue = catalogue_of(alloc, "1/1.2.3.4.6")?;
     match publish(alloc, &catalogue, &label_of("")?, limits_of(question)?) {
         Ok(bytes) => {
@@ -62,10 +61,10 @@ pub(crate) fn limited(alloc: Global, question: &str) -> Result<String, Fail> {
 
 #[test]
 fn their_names_count_towards_the_limit(rt: HostRuntime) -> Result<(), Fail> {
-    ask_all(&rt, rt.alloc(), Ask::EndLimited, LIMITS)
+    ask_all(rt.alloc(), LIMITS, limited)
 }
 
-pub(crate) fn sent(alloc: Global, question: &str) -> Result<String, Fail> {
+fn sent(alloc: Global, question: &str) -> Result<String, Fail> {
     let catalogue = catalogue_of(alloc, "1/1.2.3.4.6")?;
     let plan = lay_out(alloc, &catalogue, &label_of("")?, limits_of("")?)?;
     outcomes(alloc, &plan, &published(alloc, "1/1.2.3.4.6")?, question)
@@ -73,7 +72,7 @@ pub(crate) fn sent(alloc: Global, question: &str) -> Result<String, Fail> {
 
 #[test]
 fn their_names_stop_where_the_writer_fails(rt: HostRuntime) -> Result<(), Fail> {
-    ask_all(&rt, rt.alloc(), Ask::EndSent, SENT)
+    ask_all(rt.alloc(), SENT, sent)
 }
 
 /// The history in which an instance is withdrawn and another image is taken.

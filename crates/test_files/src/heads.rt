@@ -1,9 +1,9 @@
 //! Heads of files, which are what stands before their data sets.
 
-use crate::cases::{Ask, ask_all};
 use crate::vectors::{file_named, meta_of};
 use dd_elem::Sink;
 use dd_part10::{Meta, head_size, write_head};
+use dd_vectors::ask_all;
 use std::alloc::Global;
 use std::test::Fail;
 
@@ -37,7 +37,7 @@ fn sent(alloc: Global, meta: &Meta, bytes: &[u8], mut sink: Sink) -> Result<Stri
     Ok(format!(in alloc; "{size}, {answer} [{held}]")?)
 }
 
-pub(crate) fn head(alloc: Global, question: &str) -> Result<String, Fail> {
+fn head(alloc: Global, question: &str) -> Result<String, Fail> {
     let bytes = file_named(alloc, question)?;
     let meta = meta_of(alloc, &bytes)?;
     let sink = Sink::new(alloc, None);
@@ -46,10 +46,10 @@ pub(crate) fn head(alloc: Global, question: &str) -> Result<String, Fail> {
 
 #[test]
 fn heads_of_files(rt: HostRuntime) -> Result<(), Fail> {
-    ask_all(&rt, rt.alloc(), Ask::Head, HEADS)
+    ask_all(rt.alloc(), HEADS, head)
 }
 
-pub(crate) fn cut(alloc: Global, question: &str) -> Result<String, Fail> {
+fn cut(alloc: Global, question: &str) -> Result<String, Fail> {
     let bytes = file_named(alloc, "v2")?;
     let meta = meta_of(alloc, &bytes)?;
     let sink = Sink::new(alloc, Some(question.parse()?));
@@ -58,5 +58,5 @@ pub(crate) fn cut(alloc: Global, question: &str) -> Result<String, Fail> {
 
 #[test]
 fn a_writer_that_fails_within_the_head(rt: HostRuntime) -> Result<(), Fail> {
-    ask_all(&rt, rt.alloc(), Ask::HeadCut, FAILING)
+    ask_all(rt.alloc(), FAILING, cut)
 }

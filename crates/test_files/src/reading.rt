@@ -1,11 +1,10 @@
 //! Files read from bytes.
 
-use crate::cases::{Ask, ask_all};
 use crate::vectors::file_named;
 use dd_elem::Uid;
 use dd_part10::{DicomFile, Meta, parse_file};
 use dd_set::{Element, Value};
-use dd_vectors::{SOURCE_ROWS, text_of, v1};
+use dd_vectors::{SOURCE_ROWS, ask_all, text_of, v1};
 use std::alloc::Global;
 use std::test::Fail;
 
@@ -48,7 +47,7 @@ pub(crate) fn told(alloc: Global, size: usize, file: &DicomFile<'_>) -> Result<S
     Ok(format!(in alloc; "{size} {place} {class} {instance} {transfer} {count}")?)
 }
 
-pub(crate) fn described(alloc: Global, question: &str) -> Result<String, Fail> {
+fn described(alloc: Global, question: &str) -> Result<String, Fail> {
     let bytes = file_named(alloc, question)?;
     let file = parse_file(alloc, &bytes)?;
     told(alloc, bytes.len(), &file)
@@ -56,7 +55,7 @@ pub(crate) fn described(alloc: Global, question: &str) -> Result<String, Fail> {
 
 #[test]
 fn files_have_a_head_and_a_set(rt: HostRuntime) -> Result<(), Fail> {
-    ask_all(&rt, rt.alloc(), Ask::Described, FILES)
+    ask_all(rt.alloc(), FILES, described)
 }
 
 /// An element as a row of V1 has it, without its place.
@@ -94,7 +93,7 @@ fn a_file_without_elements(rt: HostRuntime) -> Result<(), Fail> {
     Ok(())
 }
 
-pub(crate) fn syntax(alloc: Global, question: &str) -> Result<String, Fail> {
+fn syntax(alloc: Global, question: &str) -> Result<String, Fail> {
     let meta = Meta {
         class: Uid::new(b"1.2.840.10008.5.1.4.1.1.2")?,
         instance: Uid::new(b"1.2.3.4.5")?,
@@ -106,5 +105,5 @@ pub(crate) fn syntax(alloc: Global, question: &str) -> Result<String, Fail> {
 
 #[test]
 fn transfer_syntaxes_that_are_read(rt: HostRuntime) -> Result<(), Fail> {
-    ask_all(&rt, rt.alloc(), Ask::Syntax, SYNTAXES)
+    ask_all(rt.alloc(), SYNTAXES, syntax)
 }

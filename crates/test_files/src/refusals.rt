@@ -1,11 +1,10 @@
 //! Bytes that are no file, each with the first check that they fail.
 
-use crate::cases::{Ask, ask_all};
 use crate::vectors::{v1_changed, v1_with_private};
 use dd_elem::ByteSource;
 use dd_part10::{FileFault, StreamFault, parse_file, read_file};
 use dd_set::SetFault;
-use dd_vectors::{v1, v1_with};
+use dd_vectors::{ask_all, v1, v1_with};
 use std::alloc::Global;
 use std::test::Fail;
 
@@ -80,7 +79,7 @@ fn answer(alloc: Global, bytes: &[u8]) -> Result<String, Fail> {
     }
 }
 
-pub(crate) fn cut(alloc: Global, question: &str) -> Result<String, Fail> {
+fn cut(alloc: Global, question: &str) -> Result<String, Fail> {
     let bytes = v1(alloc)?;
     let front = bytes
         .get(..question.parse::<usize>()?)
@@ -90,10 +89,10 @@ pub(crate) fn cut(alloc: Global, question: &str) -> Result<String, Fail> {
 
 #[test]
 fn a_file_cut_short(rt: HostRuntime) -> Result<(), Fail> {
-    ask_all(&rt, rt.alloc(), Ask::Cut, CUT)
+    ask_all(rt.alloc(), CUT, cut)
 }
 
-pub(crate) fn cut_long(alloc: Global, question: &str) -> Result<String, Fail> {
+fn cut_long(alloc: Global, question: &str) -> Result<String, Fail> {
     let (count, lengths) = question.split_once(' ').ok_or("no lengths")?;
     let bytes = v1_with_private(alloc, lengths)?;
     let front = bytes.get(..count.parse::<usize>()?).ok_or("fewer bytes")?;
@@ -102,7 +101,7 @@ pub(crate) fn cut_long(alloc: Global, question: &str) -> Result<String, Fail> {
 
 #[test]
 fn a_long_group_cut_short(rt: HostRuntime) -> Result<(), Fail> {
-    ask_all(&rt, rt.alloc(), Ask::CutLong, CUT_LONG)
+    ask_all(rt.alloc(), CUT_LONG, cut_long)
 }
 
 /// The fault of the first n bytes of V1.
@@ -136,7 +135,7 @@ fn a_file_cut_anywhere(rt: HostRuntime) -> Result<(), Fail> {
     Ok(())
 }
 
-pub(crate) fn changed(alloc: Global, question: &str) -> Result<String, Fail> {
+fn changed(alloc: Global, question: &str) -> Result<String, Fail> {
     let (place, change) = question.split_once(' ').ok_or("no change")?;
     let bytes = v1_changed(alloc, place, change)?;
     answer(alloc, &bytes)
@@ -144,17 +143,17 @@ pub(crate) fn changed(alloc: Global, question: &str) -> Result<String, Fail> {
 
 #[test]
 fn a_file_with_changed_bytes(rt: HostRuntime) -> Result<(), Fail> {
-    ask_all(&rt, rt.alloc(), Ask::Changed, CHANGED)
+    ask_all(rt.alloc(), CHANGED, changed)
 }
 
-pub(crate) fn other(alloc: Global, question: &str) -> Result<String, Fail> {
+fn other(alloc: Global, question: &str) -> Result<String, Fail> {
     let bytes = v1_with(alloc, question)?;
     answer(alloc, &bytes)
 }
 
 #[test]
 fn a_file_with_other_elements(rt: HostRuntime) -> Result<(), Fail> {
-    ask_all(&rt, rt.alloc(), Ask::Other, OTHER)
+    ask_all(rt.alloc(), OTHER, other)
 }
 
 #[test]

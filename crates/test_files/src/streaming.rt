@@ -1,11 +1,10 @@
 //! Files read from a reader.
 
-use crate::cases::{Ask, ask_all};
 use crate::vectors::{file_named, meta_of, v1_changed, v1_with_private};
 use dd_elem::{ByteSource, Tag};
 use dd_part10::{Meta, Scanned, StreamFault, parse_file, read_file};
 use dd_set::{Found, FoundValue};
-use dd_vectors::{reader_of, tag_of, tags_of, text_of, v1};
+use dd_vectors::{ask_all, reader_of, tag_of, tags_of, text_of, v1};
 use std::alloc::Global;
 use std::test::Fail;
 
@@ -95,7 +94,7 @@ fn file_of(alloc: Global, question: &str) -> Result<(Vec<u8>, &str), Fail> {
     Ok((v1_changed(alloc, place, change)?, rest))
 }
 
-pub(crate) fn read(alloc: Global, question: &str) -> Result<String, Fail> {
+fn read(alloc: Global, question: &str) -> Result<String, Fail> {
     let (file, rest) = file_of(alloc, question)?;
     let (mut reader, limit, words) = reader_of(&file, rest)?;
     let wanted = tags_of(alloc, words)?;
@@ -105,10 +104,10 @@ pub(crate) fn read(alloc: Global, question: &str) -> Result<String, Fail> {
 
 #[test]
 fn one_file_read_in_many_ways(rt: HostRuntime) -> Result<(), Fail> {
-    ask_all(&rt, rt.alloc(), Ask::Read, READS)
+    ask_all(rt.alloc(), READS, read)
 }
 
-pub(crate) fn read_whole(alloc: Global, piece: u64, question: &str) -> Result<String, Fail> {
+fn read_whole(alloc: Global, piece: u64, question: &str) -> Result<String, Fail> {
     let bytes = file_named(alloc, question)?;
     let parsed = meta_of(alloc, &bytes)?;
     let mut reader = ByteSource::new(&bytes, piece, None);
@@ -124,12 +123,17 @@ pub(crate) fn read_whole(alloc: Global, piece: u64, question: &str) -> Result<St
 
 #[test]
 fn files_read_for_some_elements(rt: HostRuntime) -> Result<(), Fail> {
-    ask_all(&rt, rt.alloc(), Ask::ReadWhole(1), FILES)?;
-    ask_all(&rt, rt.alloc(), Ask::ReadWhole(7), FILES)?;
-    ask_all(&rt, rt.alloc(), Ask::ReadWhole(4096), FILES)
+    for piece in [1, 7, 4096] {
+        ask_all(
+            rt.alloc(),
+            FILES,
+            |alloc, question| read_whole(alloc, piece, question),
+        )?;
+    }
+    Ok(())
 }
 
-pub(crate) fn read_long(alloc: Global, piece: u64, question: &str) -> Result<String, Fail> {
+fn read_long(alloc: Global, piece: u64, question: &str) -> Result<String, Fail> {
     let bytes = v1_with_private(alloc, question)?;
     let file = parse_file(alloc, &bytes)?;
     let mut reader = ByteSource::new(&bytes, piece, None);
@@ -141,6 +145,12 @@ pub(crate) fn read_long(alloc: Global, piece: u64, question: &str) -> Result<Str
 
 #[test]
 fn a_long_group_read_as_parsed(rt: HostRuntime) -> Result<(), Fail> {
-    ask_all(&rt, rt.alloc(), Ask::ReadLong(44), LONG_GROUPS)?;
-    ask_all(&rt, rt.alloc(), Ask::ReadLong(4096), LONG_GROUPS)
+    for piece in [44, 4096] {
+        ask_all(
+            rt.alloc(),
+            LONG_GROUPS,
+            |alloc, question| read_long(alloc, piece, question),
+        )?;
+    }
+    Ok(())
 }

@@ -1,11 +1,11 @@
 //! The keys that images have after a merge of catalogues, and after one of their directories.
 
-use crate::cases::{Ask, ask_all};
 use crate::directories::{directories, label, slices, widest};
 use dd_dir::write_directory;
 use dd_elem::Sink;
 use dd_layout::{Label, lay_out};
 use dd_samples::{catalogue_of, told};
+use dd_vectors::ask_all;
 use dd_version::Version;
 use dicomdir::{Choice, merge_engine};
 use std::alloc::Global;
@@ -53,14 +53,14 @@ fn joined(alloc: Global, one: &str, other: &str) -> Result<String, Fail> {
     all_told(alloc, plan.versions())
 }
 
-pub(crate) fn catalogues(alloc: Global, question: &str) -> Result<String, Fail> {
+fn catalogues(alloc: Global, question: &str) -> Result<String, Fail> {
     let (one, other) = question.split_once(' ').ok_or("no other")?;
     joined(alloc, one, other)
 }
 
 #[test]
 fn catalogues_are_joined_before_studies_agree(rt: HostRuntime) -> Result<(), Fail> {
-    ask_all(&rt, rt.alloc(), Ask::Catalogues, CATALOGUES)
+    ask_all(rt.alloc(), CATALOGUES, catalogues)
 }
 
 /// The images of a merge of these directories.
@@ -72,14 +72,14 @@ fn merged(alloc: Global, sets: &[Vec<u8>]) -> Result<String, Fail> {
     all_told(alloc, merged.plan.versions())
 }
 
-pub(crate) fn read_back(alloc: Global, question: &str) -> Result<String, Fail> {
+fn read_back(alloc: Global, question: &str) -> Result<String, Fail> {
     let sets = directories(alloc, question)?;
     merged(alloc, &sets)
 }
 
 #[test]
 fn directories_are_merged_as_they_are_written(rt: HostRuntime) -> Result<(), Fail> {
-    ask_all(&rt, rt.alloc(), Ask::ReadBack, DIRECTORIES)
+    ask_all(rt.alloc(), DIRECTORIES, read_back)
 }
 
 /// Directories.

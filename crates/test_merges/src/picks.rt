@@ -1,8 +1,8 @@
 //! Which files a merge picks, and why there is none.
 
-use crate::cases::{Ask, ask_all};
 use crate::directories::{directories, label, slices, widest};
 use dd_layout::{Label, Limits};
+use dd_vectors::ask_all;
 use dicomdir::{Choice, MergeFault, Merged, first_saying, merge_engine};
 use std::alloc::Global;
 use std::test::Fail;
@@ -70,7 +70,7 @@ fn merged(alloc: Global, limits: Limits, sets: &[Vec<u8>]) -> Result<String, Fai
     }
 }
 
-pub(crate) fn picked(alloc: Global, question: &str) -> Result<String, Fail> {
+fn picked(alloc: Global, question: &str) -> Result<String, Fail> {
     let (bytes, rest) = question.split_once(' ').ok_or("no bytes")?;
     let (per_level, words) = rest.split_once(' ').ok_or("no count")?;
     let limits = Limits::new(bytes.parse()?, per_level.parse()?).ok_or("no limits")?;
@@ -80,7 +80,7 @@ pub(crate) fn picked(alloc: Global, question: &str) -> Result<String, Fail> {
 
 #[test]
 fn files_are_picked_or_sets_refused(rt: HostRuntime) -> Result<(), Fail> {
-    ask_all(&rt, rt.alloc(), Ask::Picked, PICKS)
+    ask_all(rt.alloc(), PICKS, picked)
 }
 
 /// Directories that are merged, and behind the bar others, which are searched for the first record that says of the
@@ -95,7 +95,7 @@ first | empty first,834,00 first,874,'2 first,754,'4 > none
 first | 12 first,336,40010000 > Dir 1: 55 Twice 320";
 
 /// Answers what the search finds in the directories behind the bar.
-pub(crate) fn first(alloc: Global, question: &str) -> Result<String, Fail> {
+fn first(alloc: Global, question: &str) -> Result<String, Fail> {
     let (merged, sought) = question.split_once(" | ").ok_or("no others")?;
     let sets = directories(alloc, merged)?;
     let Label { id, uid } = label()?;
@@ -118,5 +118,5 @@ pub(crate) fn first(alloc: Global, question: &str) -> Result<String, Fail> {
 
 #[test]
 fn first_records_that_say_it_are_found(rt: HostRuntime) -> Result<(), Fail> {
-    ask_all(&rt, rt.alloc(), Ask::First, FIRSTS)
+    ask_all(rt.alloc(), FIRSTS, first)
 }

@@ -1,10 +1,10 @@
 //! Instances that are withdrawn from a directory.
 
-use crate::cases::{Ask, ask_all};
 use crate::directories::{directories, label};
 use crate::picks::{refused, told};
 use dd_elem::Uid;
 use dd_layout::{Label, Limits};
+use dd_vectors::ask_all;
 use dicomdir::{Choice, withdraw_engine};
 use std::alloc::Global;
 use std::test::Fail;
@@ -45,7 +45,7 @@ fn withdrawn(alloc: Global, limits: Limits, set: &[u8], uids: &[Uid]) -> Result<
     }
 }
 
-pub(crate) fn planned(alloc: Global, question: &str) -> Result<String, Fail> {
+fn planned(alloc: Global, question: &str) -> Result<String, Fail> {
     let (bytes, rest) = question.split_once(' ').ok_or("no bytes")?;
     let (name, words) = rest.split_once(' ').ok_or("no instances")?;
     let limits = Limits::new(bytes.parse()?, 2).ok_or("no limits")?;
@@ -56,5 +56,5 @@ pub(crate) fn planned(alloc: Global, question: &str) -> Result<String, Fail> {
 
 #[test]
 fn instances_are_withdrawn(rt: HostRuntime) -> Result<(), Fail> {
-    ask_all(&rt, rt.alloc(), Ask::Withdrawn, WITHDRAWALS)
+    ask_all(rt.alloc(), WITHDRAWALS, planned)
 }

@@ -1,8 +1,8 @@
 //! Which plans there are within limits, and how many bytes the directories have.
 
-use crate::cases::{Ask, ask_all};
 use crate::plans::planned;
 use dd_layout::{Level, Limits, PlanFault};
+use dd_vectors::ask_all;
 use std::alloc::Global;
 use std::test::Fail;
 
@@ -51,7 +51,7 @@ fn size(
     }
 }
 
-pub(crate) fn limited(alloc: Global, question: &str) -> Result<String, Fail> {
+fn limited(alloc: Global, question: &str) -> Result<String, Fail> {
     let mut words = question.split(' ');
     let bytes = words.next().ok_or("no bytes")?.parse()?;
     let per_level = words.next().ok_or("no count")?.parse()?;
@@ -68,7 +68,7 @@ pub(crate) fn limited(alloc: Global, question: &str) -> Result<String, Fail> {
 
 #[test]
 fn a_plan_keeps_to_its_limits(rt: HostRuntime) -> Result<(), Fail> {
-    ask_all(&rt, rt.alloc(), Ask::Limited, LIMITS)
+    ask_all(rt.alloc(), LIMITS, limited)
 }
 
 /// The level with this name.
@@ -82,7 +82,7 @@ fn level_of(name: &str) -> Option<Level> {
     }
 }
 
-pub(crate) fn too_many(alloc: Global, question: &str) -> Result<String, Fail> {
+fn too_many(alloc: Global, question: &str) -> Result<String, Fail> {
     let level = level_of(question).ok_or("no level")?;
     let fault = PlanFault::TooMany(level);
     Ok(format!(in alloc; "{fault}")?)
@@ -90,7 +90,7 @@ pub(crate) fn too_many(alloc: Global, question: &str) -> Result<String, Fail> {
 
 #[test]
 fn levels_have_names(rt: HostRuntime) -> Result<(), Fail> {
-    ask_all(&rt, rt.alloc(), Ask::TooMany, LEVELS)
+    ask_all(rt.alloc(), LEVELS, too_many)
 }
 
 #[test]

@@ -1,9 +1,8 @@
 //! Where the records of plans stand, what they name, and the versions that they are of.
 
-use crate::cases::{Ask, ask_all};
 use crate::plans::plan;
 use dd_layout::{Plan, PlanRecord};
-use dd_vectors::text_of;
+use dd_vectors::{ask_all, text_of};
 use dd_version::Version;
 use std::alloc::Global;
 use std::test::Fail;
@@ -137,7 +136,7 @@ fn push_version(alloc: Global, text: &mut String, version: &Version) -> Result<(
     Ok(())
 }
 
-pub(crate) fn versions(alloc: Global, question: &str) -> Result<String, Fail> {
+fn versions(alloc: Global, question: &str) -> Result<String, Fail> {
     let plan = plan(alloc, question)?;
     let mut text = String::new(alloc);
     for version in plan.versions() {
@@ -148,5 +147,5 @@ pub(crate) fn versions(alloc: Global, question: &str) -> Result<String, Fail> {
 
 #[test]
 fn versions_are_in_harmony(rt: HostRuntime) -> Result<(), Fail> {
-    ask_all(&rt, rt.alloc(), Ask::Versions, VERSIONS)
+    ask_all(rt.alloc(), VERSIONS, versions)
 }

@@ -1,10 +1,10 @@
 //! Plans of catalogues in which instances are withdrawn: how many bytes the directories have, and the UIDs.
 
-use crate::cases::{Ask, ask_all};
 use crate::plans::label_of;
 use dd_elem::FileId;
 use dd_layout::{Limits, Plan, PlanFault, lay_out};
 use dd_samples::catalogue_of;
+use dd_vectors::ask_all;
 use std::alloc::Global;
 use std::test::Fail;
 
@@ -46,7 +46,7 @@ fn planned(alloc: Global, words: &str, bytes: u32) -> Result<Result<Plan, PlanFa
     Ok(lay_out(alloc, &catalogue, &label_of("")?, limits))
 }
 
-pub(crate) fn size(alloc: Global, question: &str) -> Result<String, Fail> {
+fn size(alloc: Global, question: &str) -> Result<String, Fail> {
     let (bytes, words) = question.split_once(' ').ok_or("no bytes")?;
     match planned(alloc, words, bytes.parse()?)? {
         Ok(plan) => {
@@ -59,10 +59,10 @@ pub(crate) fn size(alloc: Global, question: &str) -> Result<String, Fail> {
 
 #[test]
 fn withdrawn_instances_take_bytes(rt: HostRuntime) -> Result<(), Fail> {
-    ask_all(&rt, rt.alloc(), Ask::Size, SIZES)
+    ask_all(rt.alloc(), SIZES, size)
 }
 
-pub(crate) fn uids(alloc: Global, question: &str) -> Result<String, Fail> {
+fn uids(alloc: Global, question: &str) -> Result<String, Fail> {
     let plan = planned(alloc, question, u32::MAX)??;
     let mut text = String::new(alloc);
     for uid in plan.withdrawn() {
@@ -77,5 +77,5 @@ pub(crate) fn uids(alloc: Global, question: &str) -> Result<String, Fail> {
 
 #[test]
 fn a_plan_names_what_is_withdrawn(rt: HostRuntime) -> Result<(), Fail> {
-    ask_all(&rt, rt.alloc(), Ask::Uids, UIDS)
+    ask_all(rt.alloc(), UIDS, uids)
 }

@@ -1,8 +1,7 @@
 //! Images that are copied from one device to another.
 
-use crate::cases::{Ask, ask_all};
 use dd_elem::{ByteSource, Sink};
-use dd_vectors::{bytes_of, failing, v1};
+use dd_vectors::{ask_all, bytes_of, failing, v1};
 use dicomdir::copy_image;
 use std::alloc::Global;
 use std::test::Fail;
@@ -62,16 +61,16 @@ pub(crate) fn sent_of(image: &[u8], sent: &[u8]) -> Result<usize, Fail> {
     Ok(sent.len())
 }
 
-pub(crate) fn copied_v1(alloc: Global, question: &str) -> Result<String, Fail> {
+fn copied_v1(alloc: Global, question: &str) -> Result<String, Fail> {
     copied(alloc, &v1(alloc)?, DIGEST, question)
 }
 
 #[test]
 fn images_are_copied_or_refused(rt: HostRuntime) -> Result<(), Fail> {
-    ask_all(&rt, rt.alloc(), Ask::CopiedV1, COPIES)
+    ask_all(rt.alloc(), COPIES, copied_v1)
 }
 
-pub(crate) fn copied_long(alloc: Global, question: &str) -> Result<String, Fail> {
+fn copied_long(alloc: Global, question: &str) -> Result<String, Fail> {
     let mut image = Vec::new(alloc);
     for _ in 0..131_073u32 {
         image.push(0u8)?;
@@ -81,5 +80,5 @@ pub(crate) fn copied_long(alloc: Global, question: &str) -> Result<String, Fail>
 
 #[test]
 fn long_images_are_copied_or_refused(rt: HostRuntime) -> Result<(), Fail> {
-    ask_all(&rt, rt.alloc(), Ask::CopiedLong, LONG_COPIES)
+    ask_all(rt.alloc(), LONG_COPIES, copied_long)
 }

@@ -1,10 +1,9 @@
 //! Two sources in memory, which are indexed.
 ghost use Rattle.std.specs.Prelude.{None, slice_index, slice_index_or};
 
-use crate::cases::{Ask, ask_all};
 use dd_elem::{ByteSource, Counts, FileId, Read, SetId, Uid};
 use dd_layout::Limits;
-use dd_vectors::{refuse_growth, require, v1, v1_with, was_refused};
+use dd_vectors::{ask_all, refuse_growth, require, v1, v1_with, was_refused};
 use dicomdir::{Choice, EngineFault, Indexed, NotThere, Supply, index_engine};
 use std::alloc::Global;
 use std::io;
@@ -142,14 +141,14 @@ fn told(alloc: Global, indexed: &Indexed) -> Result<String, Fail> {
     Ok(format!(in alloc; "{text}{size} bytes")?)
 }
 
-pub(crate) fn indexed(alloc: Global, question: &str) -> Result<String, Fail> {
+fn indexed(alloc: Global, question: &str) -> Result<String, Fail> {
     let indexed = indexed_by(alloc, question.parse()?)?;
     told(alloc, &indexed)
 }
 
 #[test]
 fn sources_are_skipped_or_picked(rt: HostRuntime) -> Result<(), Fail> {
-    ask_all(&rt, rt.alloc(), Ask::Indexed, INDEXES)
+    ask_all(rt.alloc(), INDEXES, indexed)
 }
 
 /// Indexes both with the chosen growth refused, and answers whether one was. Where it was the index wants memory, and

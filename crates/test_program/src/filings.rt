@@ -1,10 +1,11 @@
 //! Images that are copied as files of planned versions.
 
-use crate::cases::{Ask, ask_all};
 use crate::copies::sent_of;
 use dd_elem::{ByteSource, SetId, Sink};
 use dd_layout::Limits;
-use dd_vectors::{failing, first_directory, put_words, refuse_growth, require, v1, was_refused};
+use dd_vectors::{
+    ask_all, failing, first_directory, put_words, refuse_growth, require, v1, was_refused,
+};
 use dicomdir::{Choice, Filed, file_image, merge_engine};
 use std::alloc::Global;
 use std::test::Fail;
@@ -56,7 +57,7 @@ fn limits() -> Result<Limits, Fail> {
     Ok(Limits::new(u32::MAX, 1).ok_or("no limits")?)
 }
 
-pub(crate) fn filed(alloc: Global, question: &str) -> Result<String, Fail> {
+fn filed(alloc: Global, question: &str) -> Result<String, Fail> {
     let (name, rest) = question.split_once(' ').ok_or("no image")?;
     let (piece, rest) = rest.split_once(' ').ok_or("no piece")?;
     let (reader, rest) = rest.split_once(' ').ok_or("no reader")?;
@@ -79,7 +80,7 @@ pub(crate) fn filed(alloc: Global, question: &str) -> Result<String, Fail> {
 
 #[test]
 fn images_are_filed_or_refused(rt: HostRuntime) -> Result<(), Fail> {
-    ask_all(&rt, rt.alloc(), Ask::Filed, FILINGS)
+    ask_all(rt.alloc(), FILINGS, filed)
 }
 
 /// Files V1 by a writer without room. A growth that is refused is a write that fails, or want of memory once V1 was

@@ -1,10 +1,9 @@
 //! What is found of the files that records name.
 
-use crate::cases::{Ask, ask_all};
 use dd_dir::Tree;
 use dd_elem::ByteSource;
 use dd_set::{Syntax, parse};
-use dd_vectors::{bytes_of, failing, v1};
+use dd_vectors::{ask_all, bytes_of, failing, v1};
 use dicomdir::{Finding, finding_of};
 use std::alloc::Global;
 use std::test::Fail;
@@ -90,7 +89,7 @@ fn words(alloc: Global, found: Option<Finding>) -> Result<&'static str, Fail> {
     })
 }
 
-pub(crate) fn found(alloc: Global, question: &str) -> Result<String, Fail> {
+fn found(alloc: Global, question: &str) -> Result<String, Fail> {
     let (in_use, rest) = question.split_once(' ').ok_or("no flag")?;
     let (name, rest) = rest.split_once(' ').ok_or("no record")?;
     let (piece, rest) = rest.split_once(' ').ok_or("no piece")?;
@@ -115,5 +114,5 @@ pub(crate) fn found(alloc: Global, question: &str) -> Result<String, Fail> {
 
 #[test]
 fn files_of_records_are_found_as_they_are(rt: HostRuntime) -> Result<(), Fail> {
-    ask_all(&rt, rt.alloc(), Ask::Found, FINDINGS)
+    ask_all(rt.alloc(), FINDINGS, found)
 }

@@ -1,7 +1,6 @@
 //! What lines are taken, and the status and output of those that are not.
 
-use crate::cases::{Ask, ask_all};
-use dd_vectors::words_of;
+use dd_vectors::{ask_all, words_of};
 use dicomdir::{Asked, LineFault, read_words};
 use std::alloc::Global;
 use std::test::Fail;
@@ -212,7 +211,7 @@ pub(crate) fn said(alloc: Global, answer: &Result<Asked, LineFault>) -> Result<S
     }
 }
 
-pub(crate) fn line(alloc: Global, question: &str) -> Result<String, Fail> {
+fn line(alloc: Global, question: &str) -> Result<String, Fail> {
     let words = words_of(alloc, question)?;
     let answer = read_words(alloc, words.as_slice());
     said(alloc, &answer)
@@ -220,7 +219,7 @@ pub(crate) fn line(alloc: Global, question: &str) -> Result<String, Fail> {
 
 #[test]
 fn lines_are_taken_or_refused(rt: HostRuntime) -> Result<(), Fail> {
-    ask_all(&rt, rt.alloc(), Ask::Line, LINES)
+    ask_all(rt.alloc(), LINES, line)
 }
 
 #[test]

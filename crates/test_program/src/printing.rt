@@ -1,8 +1,7 @@
 //! What is printed to a device.
 
-use crate::cases::{Ask, ask_all};
 use dd_elem::Sink;
-use dd_vectors::push_lines;
+use dd_vectors::{ask_all, push_lines};
 use dicomdir::{print_line, send_text};
 use std::alloc::{AllocError, Global};
 use std::test::Fail;
@@ -17,7 +16,7 @@ const PRINTED: &str = "\
 7 > false false [91 Memo]
 0 > false false []";
 
-pub(crate) fn printed(alloc: Global, question: &str) -> Result<String, Fail> {
+fn printed(alloc: Global, question: &str) -> Result<String, Fail> {
     let mut sink = Sink::new(alloc, Some(question.parse()?));
     let first = print_line(&["91 ", "Memory"], &mut sink).is_ok();
     let more = print_line(&["more"], &mut sink).is_ok();
@@ -28,7 +27,7 @@ pub(crate) fn printed(alloc: Global, question: &str) -> Result<String, Fail> {
 
 #[test]
 fn lines_are_printed_as_far_as_they_go(rt: HostRuntime) -> Result<(), Fail> {
-    ask_all(&rt, rt.alloc(), Ask::Printed, PRINTED)
+    ask_all(rt.alloc(), PRINTED, printed)
 }
 
 /// After how many bytes a device fails to which a line of 5,000, 5,000 and 9,000 characters is printed, whether it
@@ -51,7 +50,7 @@ fn repeated(alloc: Global, character: char, count: u32) -> Result<String, AllocE
     Ok(text)
 }
 
-pub(crate) fn printed_long(alloc: Global, question: &str) -> Result<String, Fail> {
+fn printed_long(alloc: Global, question: &str) -> Result<String, Fail> {
     let mut sink = Sink::new(alloc, Some(question.parse()?));
     let first = repeated(alloc, 'a', 5000)?;
     let second = repeated(alloc, 'b', 5000)?;
@@ -67,7 +66,7 @@ pub(crate) fn printed_long(alloc: Global, question: &str) -> Result<String, Fail
 
 #[test]
 fn long_lines_are_printed_as_far_as_they_go(rt: HostRuntime) -> Result<(), Fail> {
-    ask_all(&rt, rt.alloc(), Ask::PrintedLong, LONG)
+    ask_all(rt.alloc(), LONG, printed_long)
 }
 
 /// Parts of a line, between which a blank stands, and the line as it prints. `|` stands for a line feed. All other
@@ -81,7 +80,7 @@ a|DONE b > a?DONEb
 \u{e9}\u{c2}\u{9b}\u{c3} > \u{e9}\u{c2}?\u{c3}
 \u{7ff}\u{800}\u{ffff} \u{10000}| \u{10ffff} > \u{7ff}\u{800}\u{ffff}\u{10000}?\u{10ffff}";
 
-pub(crate) fn masked(alloc: Global, question: &str) -> Result<String, Fail> {
+fn masked(alloc: Global, question: &str) -> Result<String, Fail> {
     let mut sink = Sink::new(alloc, None);
     let text = question.replace(alloc, '|', "\n")?;
     let mut parts = Vec::new(alloc);
@@ -98,7 +97,7 @@ pub(crate) fn masked(alloc: Global, question: &str) -> Result<String, Fail> {
 
 #[test]
 fn control_characters_print_as_question_marks(rt: HostRuntime) -> Result<(), Fail> {
-    ask_all(&rt, rt.alloc(), Ask::Masked, MASKED)
+    ask_all(rt.alloc(), MASKED, masked)
 }
 
 #[test]

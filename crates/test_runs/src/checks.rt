@@ -1,6 +1,7 @@
 //! File-sets that are checked against their directories.
 
-use crate::cases::{Ask, ask_all};
+use crate::scripts::ran;
+use dd_vectors::ask_all;
 use std::test::Fail;
 
 /// What is on the disc beside the rest, the line, its status, what both outputs hold, and whether some file has
@@ -55,7 +56,7 @@ d/DICOMDIR=first: - 0 dicomdir check d > 3 [MISSING PT000001\\ST000001\\SE000001
 
 #[test]
 fn sets_are_checked(rt: HostRuntime) -> Result<(), Fail> {
-    ask_all(&rt, rt.alloc(), Ask::Ran, CHECKS)
+    ask_all(rt.alloc(), CHECKS, ran)
 }
 
 /// What `check --keys` finds in a file-set of another program whose image is a.dcm with other bytes at a place: every
@@ -86,7 +87,7 @@ fn faults_of_files_are_told(rt: HostRuntime) -> Result<(), Fail> {
             "d/DICOMDIR=v3,674,ffff d/IMAGES/IM1=a.dcm,{change} \
 d/IMAGES/SR1=a.dcm: - - dicomdir check --keys d > 3 [MISLABELLED IMAGES\\IM1 31 File {words}|] [] kept"
         )?;
-        ask_all(&rt, alloc, Ask::Ran, case.as_str())?;
+        ask_all(alloc, case.as_str(), ran)?;
     }
     Ok(())
 }
@@ -145,5 +146,5 @@ d=set d/DICOMDIR=first,402,'P9: 13 - dicomdir check --keys d > 1 [MISLABELLED P]
 
 #[test]
 fn files_are_compared_with_their_records(rt: HostRuntime) -> Result<(), Fail> {
-    ask_all(&rt, rt.alloc(), Ask::Ran, KEYS)
+    ask_all(rt.alloc(), KEYS, ran)
 }

@@ -1,8 +1,7 @@
 //! Runs over files of which one part fails: writes from some byte on, one call, or one reader.
 
-use crate::cases::{Ask, ask_all};
 use crate::scripts::end_by;
-use dd_vectors::{first_directory, v1};
+use dd_vectors::{ask_all, first_directory, v1};
 use dicomdir::MemFiles;
 use std::alloc::Global;
 use std::test::Fail;
@@ -158,7 +157,7 @@ fn unsent_after(alloc: Global, sample: &Sample, after: u64) -> Result<String, Fa
 }
 
 /// How each run of the range ends, or the first that ends otherwise.
-pub(crate) fn unsent(alloc: Global, question: &str) -> Result<String, Fail> {
+fn unsent(alloc: Global, question: &str) -> Result<String, Fail> {
     let (first, last) = question.split_once(' ').ok_or("no last")?;
     let (first, last): (u64, u64) = (first.parse()?, last.parse()?);
     let sample = made_sample(alloc)?;
@@ -174,10 +173,10 @@ pub(crate) fn unsent(alloc: Global, question: &str) -> Result<String, Fail> {
 
 #[test]
 fn writes_fail_after_each_byte(rt: HostRuntime) -> Result<(), Fail> {
-    ask_all(&rt, rt.alloc(), Ask::Unsent, UNSENT)
+    ask_all(rt.alloc(), UNSENT, unsent)
 }
 
-pub(crate) fn refused(alloc: Global, question: &str) -> Result<String, Fail> {
+fn refused(alloc: Global, question: &str) -> Result<String, Fail> {
     let (number, line) = question.split_once(": ").unwrap_or((question, INDEX));
     let sample = made_sample(alloc)?;
     let mut files = disc_of(alloc, &sample)?;
@@ -190,7 +189,7 @@ pub(crate) fn refused(alloc: Global, question: &str) -> Result<String, Fail> {
 
 #[test]
 fn each_call_is_refused(rt: HostRuntime) -> Result<(), Fail> {
-    ask_all(&rt, rt.alloc(), Ask::Refused, REFUSED)
+    ask_all(rt.alloc(), REFUSED, refused)
 }
 
 /// The second word of a line.
@@ -239,7 +238,7 @@ fn unread_in(
     Ok(common)
 }
 
-pub(crate) fn unread(alloc: Global, question: &str) -> Result<String, Fail> {
+fn unread(alloc: Global, question: &str) -> Result<String, Fail> {
     let (words, line) = question.split_once(": ").ok_or("no line")?;
     let (words, last) = words.rsplit_once(' ').ok_or("no last")?;
     let (reader, first) = words.rsplit_once(' ').ok_or("no first")?;
@@ -248,5 +247,5 @@ pub(crate) fn unread(alloc: Global, question: &str) -> Result<String, Fail> {
 
 #[test]
 fn a_reader_fails_after_each_byte(rt: HostRuntime) -> Result<(), Fail> {
-    ask_all(&rt, rt.alloc(), Ask::Unread, UNREAD)
+    ask_all(rt.alloc(), UNREAD, unread)
 }

@@ -1,6 +1,7 @@
 //! Listings of directories.
 
-use crate::cases::{Ask, ask_all};
+use crate::scripts::ran;
+use dd_vectors::ask_all;
 use std::test::Fail;
 
 /// What is on the disc beside the rest, the line, its status, what both outputs hold, and whether some file has
@@ -46,7 +47,7 @@ d/DICOMDIR=empty: - 0 dicomdir list d > 0 [0 records, 0 unreached|] [] kept";
 
 #[test]
 fn records_are_listed(rt: HostRuntime) -> Result<(), Fail> {
-    ask_all(&rt, rt.alloc(), Ask::Ran, LISTS)
+    ask_all(rt.alloc(), LISTS, ran)
 }
 
 /// The same of long listings, whose first line names the file-set: values that are empty, absent, items or do not
@@ -76,5 +77,5 @@ d/DICOMDIR=note.txt: - - dicomdir list --long d > 1 [] [FAULT d: 51 File 21 NotP
 
 #[test]
 fn records_are_listed_with_what_they_are_known_by(rt: HostRuntime) -> Result<(), Fail> {
-    ask_all(&rt, rt.alloc(), Ask::Ran, LONG_LISTS)
+    ask_all(rt.alloc(), LONG_LISTS, ran)
 }

@@ -1,6 +1,7 @@
 //! File-sets that are merged.
 
-use crate::cases::{Ask, Claim, ask_all, claim_all};
+use crate::scripts::{leave_the_same, ran};
+use dd_vectors::{ask_all, claim_all};
 use std::test::Fail;
 
 /// What is on the disc beside the rest, the line, its status, what both outputs hold, and whether some file is new
@@ -104,7 +105,7 @@ d1=set: - 0 dicomdir merge o d1 --uid 2.25.0 --max-bytes 0 > 1 [] [] kept";
 
 #[test]
 fn merges_say_how_they_ended(rt: HostRuntime) -> Result<(), Fail> {
-    ask_all(&rt, rt.alloc(), Ask::Ran, MERGES)
+    ask_all(rt.alloc(), MERGES, ran)
 }
 
 /// Steps, a line, and a step that leaves the same files: sets in any order and number, and their sources; the
@@ -141,5 +142,5 @@ o/PT000001/ST000001/SE000001/IM000001=c.dcm";
 
 #[test]
 fn merges_leave_the_same_files(rt: HostRuntime) -> Result<(), Fail> {
-    claim_all(&rt, rt.alloc(), Claim::LeaveTheSame, (SAME, '\n'))
+    claim_all(rt.alloc(), SAME, '\n', leave_the_same)
 }

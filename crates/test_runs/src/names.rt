@@ -1,8 +1,8 @@
 //! Runs over paths with control characters, which lines show as `?`.
 
-use crate::cases::{Ask, ask_all};
 use crate::disc::disc;
 use crate::runs::end_of;
+use dd_vectors::ask_all;
 use std::alloc::Global;
 use std::test::Fail;
 
@@ -25,7 +25,7 @@ merge out *none > 1 [] [FAULT *none/DICOMDIR: 92 Absent|]
 check *none > 1 [] [FAULT *none/DICOMDIR: 92 Absent|]
 list *set > 1 [] [FAULT *set: 51 File 21 NotPart10|]";
 
-pub(crate) fn shown(alloc: Global, question: &str) -> Result<String, Fail> {
+fn shown(alloc: Global, question: &str) -> Result<String, Fail> {
     let mut files = disc(alloc)?;
     files.put(PATH, b"no image")?;
     let directory = format!(in alloc; "{PATH}set/DICOMDIR")?;
@@ -38,5 +38,5 @@ pub(crate) fn shown(alloc: Global, question: &str) -> Result<String, Fail> {
 
 #[test]
 fn lines_show_no_control_character(rt: HostRuntime) -> Result<(), Fail> {
-    ask_all(&rt, rt.alloc(), Ask::Shown, LINES)
+    ask_all(rt.alloc(), LINES, shown)
 }

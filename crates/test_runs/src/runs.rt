@@ -1,9 +1,8 @@
 //! Runs over files in memory, each with its status, what it prints, and what becomes of the files.
 
-use crate::cases::{Ask, Claim, ask_all, claim_all};
 use crate::disc::{FIRST_IMAGE, are_equal, disc, disc_with};
 use dd_elem::Sink;
-use dd_vectors::{failing, push_lines, words_of};
+use dd_vectors::{ask_all, claim_all, failing, push_lines, words_of};
 use dicomdir::{MemFiles, run};
 use std::alloc::Global;
 use std::test::Fail;
@@ -192,7 +191,7 @@ fn ended(alloc: Global, line: &str) -> Result<(String, bool), Fail> {
     Ok((end, are_equal(alloc, &files, &disc(alloc)?)?))
 }
 
-pub(crate) fn end(alloc: Global, question: &str) -> Result<String, Fail> {
+fn end(alloc: Global, question: &str) -> Result<String, Fail> {
     let (end, are_kept) = ended(alloc, question)?;
     let files = if are_kept { "kept" } else { "changed" };
     Ok(format!(in alloc; "{end} {files}")?)
@@ -200,7 +199,7 @@ pub(crate) fn end(alloc: Global, question: &str) -> Result<String, Fail> {
 
 #[test]
 fn runs_say_how_they_ended(rt: HostRuntime) -> Result<(), Fail> {
-    ask_all(&rt, rt.alloc(), Ask::Ended, RUNS)
+    ask_all(rt.alloc(), RUNS, end)
 }
 
 /// Which of the outputs of an end are not empty.
@@ -213,7 +212,7 @@ fn place_of(outputs: &str) -> &'static str {
     }
 }
 
-pub(crate) fn text(alloc: Global, question: &str) -> Result<String, Fail> {
+fn text(alloc: Global, question: &str) -> Result<String, Fail> {
     let (end, are_kept) = ended(alloc, question)?;
     let (status, outputs) = end.as_str().split_once(" [").ok_or("no output")?;
     let place = if are_kept {
@@ -226,7 +225,7 @@ pub(crate) fn text(alloc: Global, question: &str) -> Result<String, Fail> {
 
 #[test]
 fn texts_of_the_parser_go_to_one_output(rt: HostRuntime) -> Result<(), Fail> {
-    ask_all(&rt, rt.alloc(), Ask::Text, TEXTS)
+    ask_all(rt.alloc(), TEXTS, text)
 }
 
 /// Runs, and which files are new then, each as a copy of which.
@@ -244,7 +243,7 @@ fn files_after(alloc: Global, line: &str) -> Result<MemFiles, Fail> {
     Ok(files)
 }
 
-pub(crate) fn makes(alloc: Global, case: &str) -> Result<bool, Fail> {
+fn makes(alloc: Global, case: &str) -> Result<bool, Fail> {
     let (line, words) = case.split_once(" > ").ok_or("no files")?;
     let files = files_after(alloc, line)?;
     are_equal(alloc, &files, &disc_with(alloc, words)?)
@@ -252,7 +251,7 @@ pub(crate) fn makes(alloc: Global, case: &str) -> Result<bool, Fail> {
 
 #[test]
 fn a_run_adds_the_directory_and_its_images_alone(rt: HostRuntime) -> Result<(), Fail> {
-    claim_all(&rt, rt.alloc(), Claim::Makes, (FILES, '\n'))
+    claim_all(rt.alloc(), FILES, '\n', makes)
 }
 
 /// Sources, and others of which the same files are made.
@@ -264,7 +263,7 @@ a.dcm c.dcm > c.dcm a.dcm
 a.dcm c.dcm > c.dcm
 a.dcm c.dcm e.dcm d.dcm > d.dcm e.dcm c.dcm";
 
-pub(crate) fn are_same(alloc: Global, case: &str) -> Result<bool, Fail> {
+fn are_same(alloc: Global, case: &str) -> Result<bool, Fail> {
     let (one, other) = case.split_once(" > ").ok_or("no others")?;
     let one = format!(in alloc; "index out {one}")?;
     let other = format!(in alloc; "index out {other}")?;
@@ -274,7 +273,7 @@ pub(crate) fn are_same(alloc: Global, case: &str) -> Result<bool, Fail> {
 
 #[test]
 fn neither_order_nor_repeats_change_the_files(rt: HostRuntime) -> Result<(), Fail> {
-    claim_all(&rt, rt.alloc(), Claim::AreSame, (SAME, '\n'))
+    claim_all(rt.alloc(), SAME, '\n', are_same)
 }
 
 /// Versions of one instance, and which is copied.
@@ -289,7 +288,7 @@ e.dcm a.dcm > a.dcm
 a.dcm e.dcm > a.dcm
 e.dcm c.dcm a.dcm > c.dcm";
 
-pub(crate) fn is_kept(alloc: Global, case: &str) -> Result<bool, Fail> {
+fn is_kept(alloc: Global, case: &str) -> Result<bool, Fail> {
     let (sources, kept) = case.split_once(" > ").ok_or("no version")?;
     let line = format!(in alloc; "index out {sources}")?;
     let files = files_after(alloc, line.as_str())?;
@@ -299,7 +298,7 @@ pub(crate) fn is_kept(alloc: Global, case: &str) -> Result<bool, Fail> {
 
 #[test]
 fn the_greater_version_is_copied(rt: HostRuntime) -> Result<(), Fail> {
-    claim_all(&rt, rt.alloc(), Claim::IsKept, (KEPT, '\n'))
+    claim_all(rt.alloc(), KEPT, '\n', is_kept)
 }
 
 /// Sources that change at their second opening to what another has, how a run over them ends, and which
@@ -332,7 +331,7 @@ fn changed(alloc: Global, question: &str, end: &str, words: &str) -> Result<bool
     Ok(is_end && are_equal(alloc, &files, &disc_with(alloc, words.as_str())?)?)
 }
 
-pub(crate) fn change_is_told(alloc: Global, case: &str) -> Result<bool, Fail> {
+fn change_is_told(alloc: Global, case: &str) -> Result<bool, Fail> {
     let (question, rest) = case.split_once(" > ").ok_or("no end")?;
     let (end, words) = rest.split_once(" > ").ok_or("no files")?;
     changed(alloc, question, end, words)
@@ -340,5 +339,5 @@ pub(crate) fn change_is_told(alloc: Global, case: &str) -> Result<bool, Fail> {
 
 #[test]
 fn sources_that_change_are_refused(rt: HostRuntime) -> Result<(), Fail> {
-    claim_all(&rt, rt.alloc(), Claim::ChangeIsTold, (CHANGED, '\n'))
+    claim_all(rt.alloc(), CHANGED, '\n', change_is_told)
 }

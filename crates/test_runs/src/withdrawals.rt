@@ -1,6 +1,7 @@
 //! Instances that are withdrawn.
 
-use crate::cases::{Ask, Claim, ask_all, claim_all};
+use crate::scripts::{leave_the_same, ran};
+use dd_vectors::{ask_all, claim_all};
 use std::test::Fail;
 
 /// What is on the disc beside the rest, the line, its status, what both outputs hold, and whether some file is new
@@ -49,7 +50,7 @@ d1=set: 0 - dicomdir withdraw o d1 1.2.3.4.5 --uid 2.25.0 > 1 [] [] changed";
 
 #[test]
 fn withdrawals_say_how_they_ended(rt: HostRuntime) -> Result<(), Fail> {
-    ask_all(&rt, rt.alloc(), Ask::Ran, WITHDRAWALS)
+    ask_all(rt.alloc(), WITHDRAWALS, ran)
 }
 
 /// Steps, a line, and a step that leaves the same files: what one set withdraws no merge brings back, in any order
@@ -67,5 +68,5 @@ d1=set; withdraw d2 d1 1.2.3.4.6: merge o d2 > merge o d1 d2";
 
 #[test]
 fn withdrawals_leave_the_same_files(rt: HostRuntime) -> Result<(), Fail> {
-    claim_all(&rt, rt.alloc(), Claim::LeaveTheSame, (SAME, '\n'))
+    claim_all(rt.alloc(), SAME, '\n', leave_the_same)
 }

@@ -1,11 +1,10 @@
 //! Data sets read from bytes.
 
-use crate::cases::{Ask, ask_all};
 use crate::outlines::outline;
 use crate::spellings::{IMAGES, PATIENT_ID, set_of, spelled};
 use dd_elem::Tag;
 use dd_set::{DataSet, Element, Syntax, Value};
-use dd_vectors::{tag_of, text_of};
+use dd_vectors::{ask_all, tag_of, text_of};
 use std::alloc::Global;
 use std::test::Fail;
 
@@ -103,7 +102,7 @@ const FOUND: &str = "\
 0008,0060 > CS 'CT
 0008,0061 > none";
 
-pub(crate) fn held(alloc: Global, question: &str) -> Result<String, Fail> {
+fn held(alloc: Global, question: &str) -> Result<String, Fail> {
     let (syntax, bytes) = spelled(alloc, question)?;
     let set = set_of(alloc, syntax, &bytes)?;
     outline(alloc, &set)
@@ -111,8 +110,8 @@ pub(crate) fn held(alloc: Global, question: &str) -> Result<String, Fail> {
 
 #[test]
 fn sets_hold_what_their_bytes_spell(rt: HostRuntime) -> Result<(), Fail> {
-    ask_all(&rt, rt.alloc(), Ask::Held, SETS)?;
-    ask_all(&rt, rt.alloc(), Ask::Held, ENCAPSULATED_SETS)
+    ask_all(rt.alloc(), SETS, held)?;
+    ask_all(rt.alloc(), ENCAPSULATED_SETS, held)
 }
 
 /// Where the items of the last element start.
@@ -132,7 +131,7 @@ fn numbers(alloc: Global, syntax: Syntax, set: &DataSet<'_>) -> Result<String, F
     Ok(format!(in alloc; "{explicit:?} {implicit:?} {encapsulated:?}, {starts:?}")?)
 }
 
-pub(crate) fn measured(alloc: Global, question: &str) -> Result<String, Fail> {
+fn measured(alloc: Global, question: &str) -> Result<String, Fail> {
     let (syntax, bytes) = spelled(alloc, question)?;
     let set = set_of(alloc, syntax, &bytes)?;
     numbers(alloc, syntax, &set)
@@ -140,8 +139,8 @@ pub(crate) fn measured(alloc: Global, question: &str) -> Result<String, Fail> {
 
 #[test]
 fn sets_have_the_size_of_their_bytes(rt: HostRuntime) -> Result<(), Fail> {
-    ask_all(&rt, rt.alloc(), Ask::Measured, SIZES)?;
-    ask_all(&rt, rt.alloc(), Ask::Measured, ENCAPSULATED_SIZES)
+    ask_all(rt.alloc(), SIZES, measured)?;
+    ask_all(rt.alloc(), ENCAPSULATED_SIZES, measured)
 }
 
 /// Has the set no items of this tag in this syntax?
@@ -174,7 +173,7 @@ fn told(alloc: Global, element: Option<&Element<'_>>) -> Result<String, Fail> {
     Ok(format!(in alloc; "{vr:?} {value}")?)
 }
 
-pub(crate) fn found(alloc: Global, question: &str) -> Result<String, Fail> {
+fn found(alloc: Global, question: &str) -> Result<String, Fail> {
     let line = "explicit 08006000 4353 0200 4354 10002000 4c4f 0200 5031";
     let (syntax, bytes) = spelled(alloc, line)?;
     let set = set_of(alloc, syntax, &bytes)?;
@@ -184,5 +183,5 @@ pub(crate) fn found(alloc: Global, question: &str) -> Result<String, Fail> {
 
 #[test]
 fn elements_are_found_by_their_tags(rt: HostRuntime) -> Result<(), Fail> {
-    ask_all(&rt, rt.alloc(), Ask::Found, FOUND)
+    ask_all(rt.alloc(), FOUND, found)
 }

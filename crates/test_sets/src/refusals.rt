@@ -1,9 +1,9 @@
 //! Bytes that spell no data set, each with the first check that they fail.
 
-use crate::cases::{Ask, ask_all};
 use crate::spellings::{PIXEL_DATA, nested, set_of, spelled};
 use dd_elem::ByteSource;
 use dd_set::{ScanFault, SetFault, Syntax, scan};
+use dd_vectors::ask_all;
 use std::alloc::Global;
 use std::test::Fail;
 
@@ -115,19 +115,19 @@ fn answer(alloc: Global, syntax: Syntax, bytes: &[u8]) -> Result<String, Fail> {
     }
 }
 
-pub(crate) fn refused(alloc: Global, question: &str) -> Result<String, Fail> {
+fn refused(alloc: Global, question: &str) -> Result<String, Fail> {
     let (syntax, bytes) = spelled(alloc, question)?;
     answer(alloc, syntax, &bytes)
 }
 
 #[test]
 fn the_first_check_that_fails(rt: HostRuntime) -> Result<(), Fail> {
-    ask_all(&rt, rt.alloc(), Ask::Refused, REFUSED)?;
-    ask_all(&rt, rt.alloc(), Ask::Refused, FRAGMENTS)?;
-    ask_all(&rt, rt.alloc(), Ask::Refused, NO_FRAGMENTS)
+    ask_all(rt.alloc(), REFUSED, refused)?;
+    ask_all(rt.alloc(), FRAGMENTS, refused)?;
+    ask_all(rt.alloc(), NO_FRAGMENTS, refused)
 }
 
-pub(crate) fn cut(alloc: Global, question: &str) -> Result<String, Fail> {
+fn cut(alloc: Global, question: &str) -> Result<String, Fail> {
     let (syntax, bytes) = spelled(alloc, question)?;
     let size = bytes.len();
     let mut count = 0u32;
@@ -142,7 +142,7 @@ pub(crate) fn cut(alloc: Global, question: &str) -> Result<String, Fail> {
 
 #[test]
 fn fragments_cut_anywhere(rt: HostRuntime) -> Result<(), Fail> {
-    ask_all(&rt, rt.alloc(), Ask::CutFront, CUT)
+    ask_all(rt.alloc(), CUT, cut)
 }
 
 /// Sequences nested so deep, and what the innermost item holds: how many bytes spell them, and what becomes of
@@ -153,7 +153,7 @@ const DEEP: &str = "\
 32 encapsulated e07f1000 4f42 0000 ffffffff feff00e0 00000000 feffdde0 00000000 > 1180 taken
 33 encapsulated ' > 1188 10 TooDeep";
 
-pub(crate) fn deep(alloc: Global, question: &str) -> Result<String, Fail> {
+fn deep(alloc: Global, question: &str) -> Result<String, Fail> {
     let (levels, line) = question.split_once(' ').ok_or("no syntax")?;
     let (syntax, inside) = spelled(alloc, line)?;
     let bytes = nested(alloc, levels.parse()?, &inside)?;
@@ -164,7 +164,7 @@ pub(crate) fn deep(alloc: Global, question: &str) -> Result<String, Fail> {
 
 #[test]
 fn items_nest_32_levels_deep(rt: HostRuntime) -> Result<(), Fail> {
-    ask_all(&rt, rt.alloc(), Ask::Deep, DEEP)
+    ask_all(rt.alloc(), DEEP, deep)
 }
 
 #[test]

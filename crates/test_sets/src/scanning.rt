@@ -1,10 +1,9 @@
 //! Data sets scanned from a reader.
 
-use crate::cases::{Ask, ask_all};
 use crate::spellings::{IMAGES, PATIENT_ID, PIXEL_DATA, spelled};
 use dd_elem::{ByteSource, Tag};
 use dd_set::{FoundValue, Scan, ScanFault, SetFault, Syntax, scan};
-use dd_vectors::{bytes_of, reader_of, tags_of, text_of, v1};
+use dd_vectors::{ask_all, bytes_of, reader_of, tags_of, text_of, v1};
 use std::alloc::Global;
 use std::test::Fail;
 
@@ -122,18 +121,18 @@ fn scanned(alloc: Global, set: &[u8], question: &str) -> Result<String, Fail> {
     told(alloc, answer)
 }
 
-pub(crate) fn scanned_v1(alloc: Global, question: &str) -> Result<String, Fail> {
+fn scanned_v1(alloc: Global, question: &str) -> Result<String, Fail> {
     let file = v1(alloc)?;
     scanned(alloc, file.get(276..).ok_or("no data set")?, question)
 }
 
 #[test]
 fn scans_of_one_set(rt: HostRuntime) -> Result<(), Fail> {
-    ask_all(&rt, rt.alloc(), Ask::ScannedV1, SCANS)
+    ask_all(rt.alloc(), SCANS, scanned_v1)
 }
 
 /// Scans where a read gives at most so many bytes.
-pub(crate) fn scanned_set(alloc: Global, piece: u64, question: &str) -> Result<String, Fail> {
+fn scanned_set(alloc: Global, piece: u64, question: &str) -> Result<String, Fail> {
     let (syntax, bytes) = spelled(alloc, question)?;
     let mut reader = ByteSource::new(&bytes, piece, None);
     let wanted: [Tag; 3] = [PATIENT_ID, IMAGES, PIXEL_DATA];
@@ -143,26 +142,36 @@ pub(crate) fn scanned_set(alloc: Global, piece: u64, question: &str) -> Result<S
 
 #[test]
 fn scans_of_many_sets(rt: HostRuntime) -> Result<(), Fail> {
-    ask_all(&rt, rt.alloc(), Ask::ScannedSet(1), SETS)?;
-    ask_all(&rt, rt.alloc(), Ask::ScannedSet(7), SETS)?;
-    ask_all(&rt, rt.alloc(), Ask::ScannedSet(4096), SETS)
+    for piece in [1, 7, 4096] {
+        ask_all(
+            rt.alloc(),
+            SETS,
+            |alloc, question| scanned_set(alloc, piece, question),
+        )?;
+    }
+    Ok(())
 }
 
 #[test]
 fn scans_of_fragments(rt: HostRuntime) -> Result<(), Fail> {
-    ask_all(&rt, rt.alloc(), Ask::ScannedSet(1), FRAGMENTS)?;
-    ask_all(&rt, rt.alloc(), Ask::ScannedSet(7), FRAGMENTS)?;
-    ask_all(&rt, rt.alloc(), Ask::ScannedSet(4096), FRAGMENTS)
+    for piece in [1, 7, 4096] {
+        ask_all(
+            rt.alloc(),
+            FRAGMENTS,
+            |alloc, question| scanned_set(alloc, piece, question),
+        )?;
+    }
+    Ok(())
 }
 
-pub(crate) fn scanned_faulty(alloc: Global, question: &str) -> Result<String, Fail> {
+fn scanned_faulty(alloc: Global, question: &str) -> Result<String, Fail> {
     let set = bytes_of(alloc, "10002000 4c4f 0200 5031 10002000 4c4f 0200 5031")?;
     scanned(alloc, &set, question)
 }
 
 #[test]
 fn scans_of_a_set_with_a_fault(rt: HostRuntime) -> Result<(), Fail> {
-    ask_all(&rt, rt.alloc(), Ask::ScannedFaulty, FAULTY)
+    ask_all(rt.alloc(), FAULTY, scanned_faulty)
 }
 
 /// Is this one of the places where an element ends?
@@ -228,12 +237,12 @@ fn lengths(alloc: Global, set: &[u8]) -> Result<String, Fail> {
     Ok(format!(in alloc; "{kept} {last} {length}")?)
 }
 
-pub(crate) fn long(alloc: Global, question: &str) -> Result<String, Fail> {
+fn long(alloc: Global, question: &str) -> Result<String, Fail> {
     let set = padded_within(alloc, question)?;
     lengths(alloc, &set)
 }
 
 #[test]
 fn the_front_of_a_long_value(rt: HostRuntime) -> Result<(), Fail> {
-    ask_all(&rt, rt.alloc(), Ask::Long, LONG)
+    ask_all(rt.alloc(), LONG, long)
 }

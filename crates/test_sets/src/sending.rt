@@ -1,10 +1,9 @@
 //! Data sets, headers and pieces sent to a writer.
 
-use crate::cases::{Ask, ask_all};
 use crate::spellings::{PATIENT_ID, nested, set_of, spelled};
 use dd_elem::{Sink, Tag, Vr};
 use dd_set::{DataSet, Element, Syntax, Value, WriteFault, send, send_header, write_set};
-use dd_vectors::{bytes_of, tag_of};
+use dd_vectors::{ask_all, bytes_of, tag_of};
 use std::alloc::Global;
 use std::test::Fail;
 
@@ -117,7 +116,7 @@ fn sent_again(alloc: Global, syntax: Syntax, bytes: &[u8], mut sink: Sink) -> Re
     Ok(format!(in alloc; "{answer} [{held}]")?)
 }
 
-pub(crate) fn sent(alloc: Global, question: &str) -> Result<String, Fail> {
+fn sent(alloc: Global, question: &str) -> Result<String, Fail> {
     let (syntax, bytes) = spelled(alloc, question)?;
     let sink = Sink::new(alloc, None);
     sent_again(alloc, syntax, &bytes, sink)
@@ -125,8 +124,8 @@ pub(crate) fn sent(alloc: Global, question: &str) -> Result<String, Fail> {
 
 #[test]
 fn sets_give_their_bytes_back(rt: HostRuntime) -> Result<(), Fail> {
-    ask_all(&rt, rt.alloc(), Ask::Sent, SENT)?;
-    ask_all(&rt, rt.alloc(), Ask::Sent, FRAGMENTS)
+    ask_all(rt.alloc(), SENT, sent)?;
+    ask_all(rt.alloc(), FRAGMENTS, sent)
 }
 
 /// The 32 nested sequences, or the set of this line.
@@ -137,7 +136,7 @@ fn named(alloc: Global, line: &str) -> Result<(Syntax, Vec<u8>), Fail> {
     spelled(alloc, line)
 }
 
-pub(crate) fn cut(alloc: Global, question: &str) -> Result<String, Fail> {
+fn cut(alloc: Global, question: &str) -> Result<String, Fail> {
     let (fails, line) = question.split_once(' ').ok_or("no set")?;
     let (syntax, bytes) = named(alloc, line)?;
     let sink = Sink::new(alloc, Some(fails.parse()?));
@@ -146,7 +145,7 @@ pub(crate) fn cut(alloc: Global, question: &str) -> Result<String, Fail> {
 
 #[test]
 fn a_writer_that_fails_keeps_what_it_took(rt: HostRuntime) -> Result<(), Fail> {
-    ask_all(&rt, rt.alloc(), Ask::Cut, FAILING)
+    ask_all(rt.alloc(), FAILING, cut)
 }
 
 /// The data set of one element.
@@ -188,7 +187,7 @@ fn size_and_sent(alloc: Global, syntax: Syntax, set: &DataSet<'_>) -> Result<Str
     Ok(format!(in alloc; "{size:?} {told}")?)
 }
 
-pub(crate) fn made(alloc: Global, question: &str) -> Result<String, Fail> {
+fn made(alloc: Global, question: &str) -> Result<String, Fail> {
     let (tag, rest) = question.split_once(' ').ok_or("no tag")?;
     let (letters, line) = rest.split_once(' ').ok_or("no letters")?;
     let (syntax, fragment) = spelled(alloc, line)?;
@@ -199,7 +198,7 @@ pub(crate) fn made(alloc: Global, question: &str) -> Result<String, Fail> {
 
 #[test]
 fn fragments_are_written_where_they_may_stand(rt: HostRuntime) -> Result<(), Fail> {
-    ask_all(&rt, rt.alloc(), Ask::Made, MADE)
+    ask_all(rt.alloc(), MADE, made)
 }
 
 /// What comes of sending this header.
@@ -216,7 +215,7 @@ fn header_sent(header: &str, sink: &mut Sink) -> Result<Result<u64, WriteFault>,
     }
 }
 
-pub(crate) fn header(alloc: Global, question: &str) -> Result<String, Fail> {
+fn header(alloc: Global, question: &str) -> Result<String, Fail> {
     let mut sink = Sink::new(alloc, None);
     sink.reserve(12)?;
     let answer = header_sent(question, &mut sink)?;
@@ -225,10 +224,10 @@ pub(crate) fn header(alloc: Global, question: &str) -> Result<String, Fail> {
 
 #[test]
 fn headers_are_sent_where_the_length_has_room(rt: HostRuntime) -> Result<(), Fail> {
-    ask_all(&rt, rt.alloc(), Ask::Header, HEADERS)
+    ask_all(rt.alloc(), HEADERS, header)
 }
 
-pub(crate) fn piece(alloc: Global, question: &str) -> Result<String, Fail> {
+fn piece(alloc: Global, question: &str) -> Result<String, Fail> {
     let bytes = bytes_of(alloc, "10002000 4c4f 0200 5031")?;
     let mut sink = Sink::new(alloc, Some(question.parse()?));
     sink.reserve(10)?;
@@ -238,5 +237,5 @@ pub(crate) fn piece(alloc: Global, question: &str) -> Result<String, Fail> {
 
 #[test]
 fn a_piece_is_sent_behind_others(rt: HostRuntime) -> Result<(), Fail> {
-    ask_all(&rt, rt.alloc(), Ask::Piece, PIECES)
+    ask_all(rt.alloc(), PIECES, piece)
 }

@@ -1,9 +1,11 @@
 //! The words of cases, by which every other test asks and compares: an answer that is not the one of the case
-//! has to make it another text, and a reader gives the pieces that its question asks for, which no answer of a
-//! parser tells.
+//! has to make it another text, and a case that is wrong has to fail. A reader gives the pieces that its
+//! question asks for, which no answer of a parser tells.
 
 use dd_elem::Read;
-use dd_vectors::{answered, question, reader_of};
+use dd_vectors::{answered, ask_all, claim_all, question, reader_of};
+use std::alloc::Global;
+use std::process::{ExitCode, Termination};
 use std::test::Fail;
 
 #[test]
@@ -32,5 +34,26 @@ fn the_reader_of_a_question(rt: HostRuntime) -> Result<(), Fail> {
     assert_eq!(rt; reader.read(&mut room).ok(), None);
     assert_eq!(rt; limit, 9);
     assert_eq!(rt; words, "0008,0018 0010,0020");
+    Ok(())
+}
+
+/// The question itself.
+fn echo(alloc: Global, question: &str) -> Result<String, Fail> {
+    Ok(String::from_str(alloc, question)?)
+}
+
+/// Says whether the case is this one letter.
+fn is_a(_: Global, case: &str) -> Result<bool, Fail> {
+    Ok(case == "a")
+}
+
+#[test]
+fn a_wrong_case_fails_behind_a_right_one(rt: HostRuntime) -> Result<(), Fail> {
+    ask_all(rt.alloc(), "a > a\nb > b", echo)?;
+    let asked = ask_all(rt.alloc(), "a > a\nb > c", echo).report(&rt);
+    assert_eq!(rt; asked, ExitCode::FAILURE);
+    claim_all(rt.alloc(), "a a", ' ', is_a)?;
+    let claimed = claim_all(rt.alloc(), "a b", ' ', is_a).report(&rt);
+    assert_eq!(rt; claimed, ExitCode::FAILURE);
     Ok(())
 }

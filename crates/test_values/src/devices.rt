@@ -1,8 +1,7 @@
 //! Readers and writers over memory.
 
-use crate::cases::{Ask, ask_all};
 use dd_elem::{ByteSource, Read, Sink, Write};
-use dd_vectors::failing;
+use dd_vectors::{ask_all, failing};
 use std::alloc::Global;
 use std::test::Fail;
 
@@ -39,7 +38,7 @@ fn push_read(text: &mut String, source: &mut ByteSource<'_>) -> Result<(), Fail>
     Ok(())
 }
 
-pub(crate) fn reads(alloc: Global, question: &str) -> Result<String, Fail> {
+fn reads(alloc: Global, question: &str) -> Result<String, Fail> {
     let (piece, fails) = question.split_once(' ').ok_or("no reader")?;
     let mut source = ByteSource::new(b"ABCDE", piece.parse()?, failing(fails)?);
     let mut text = String::new(alloc);
@@ -51,7 +50,7 @@ pub(crate) fn reads(alloc: Global, question: &str) -> Result<String, Fail> {
 
 #[test]
 fn sources_give_pieces_and_fail_for_good(rt: HostRuntime) -> Result<(), Fail> {
-    ask_all(&rt, rt.alloc(), Ask::Reads, READERS)
+    ask_all(rt.alloc(), READERS, reads)
 }
 
 /// How many bytes a write took, and a space.
@@ -73,7 +72,7 @@ fn push_held(text: &mut String, sink: Sink) -> Result<(), Fail> {
     Ok(())
 }
 
-pub(crate) fn writes(alloc: Global, question: &str) -> Result<String, Fail> {
+fn writes(alloc: Global, question: &str) -> Result<String, Fail> {
     let mut sink = Sink::new(alloc, failing(question)?);
     sink.reserve(9)?;
     let mut text = String::new(alloc);
@@ -86,5 +85,5 @@ pub(crate) fn writes(alloc: Global, question: &str) -> Result<String, Fail> {
 
 #[test]
 fn sinks_hold_what_they_took(rt: HostRuntime) -> Result<(), Fail> {
-    ask_all(&rt, rt.alloc(), Ask::Writes, WRITERS)
+    ask_all(rt.alloc(), WRITERS, writes)
 }

@@ -1,8 +1,7 @@
 //! UIDs, IDs of file-sets and File IDs.
 
-use crate::cases::{Ask, ask_all};
 use dd_elem::{FileId, SetId, Uid, is_file_id};
-use dd_vectors::{bytes_of, text_of};
+use dd_vectors::{ask_all, bytes_of, text_of};
 use std::alloc::Global;
 use std::test::Fail;
 
@@ -70,7 +69,7 @@ const FILE_IDS: &str = "\
 'IMAGES/IM1 > false
 'IM1_ > false";
 
-pub(crate) fn uid(alloc: Global, question: &str) -> Result<String, Fail> {
+fn uid(alloc: Global, question: &str) -> Result<String, Fail> {
     let bytes = bytes_of(alloc, question)?;
     match Uid::new(&bytes) {
         Ok(uid) => Ok(text_of(alloc, uid.as_bytes())?),
@@ -78,12 +77,12 @@ pub(crate) fn uid(alloc: Global, question: &str) -> Result<String, Fail> {
     }
 }
 
-pub(crate) fn digest_uid(alloc: Global, question: &str) -> Result<String, Fail> {
+fn digest_uid(alloc: Global, question: &str) -> Result<String, Fail> {
     let uid = Uid::from_digest(&[question.parse()?; 32]);
     Ok(format!(in alloc; "{uid}")?)
 }
 
-pub(crate) fn set_id(alloc: Global, question: &str) -> Result<String, Fail> {
+fn set_id(alloc: Global, question: &str) -> Result<String, Fail> {
     let bytes = bytes_of(alloc, question)?;
     match SetId::new(&bytes) {
         Ok(id) => Ok(text_of(alloc, id.as_bytes())?),
@@ -102,40 +101,40 @@ fn ranked(ranks: &str) -> Result<Option<FileId>, Fail> {
     Ok(FileId::ranked(patient, study, series, image))
 }
 
-pub(crate) fn file_id(alloc: Global, question: &str) -> Result<String, Fail> {
+fn file_id(alloc: Global, question: &str) -> Result<String, Fail> {
     match ranked(question)? {
         Some(id) => Ok(String::from_str(alloc, str::from_utf8(&id.text())?)?),
         None => Ok(String::from_str(alloc, "none")?),
     }
 }
 
-pub(crate) fn is_taken(alloc: Global, question: &str) -> Result<String, Fail> {
+fn is_taken(alloc: Global, question: &str) -> Result<String, Fail> {
     let is_taken = is_file_id(&bytes_of(alloc, question)?);
     Ok(format!(in alloc; "{is_taken}")?)
 }
 
 #[test]
 fn uids_have_components_of_digits(rt: HostRuntime) -> Result<(), Fail> {
-    ask_all(&rt, rt.alloc(), Ask::Uid, UIDS)
+    ask_all(rt.alloc(), UIDS, uid)
 }
 
 #[test]
 fn digests_have_uids(rt: HostRuntime) -> Result<(), Fail> {
-    ask_all(&rt, rt.alloc(), Ask::DigestUid, DIGESTS)
+    ask_all(rt.alloc(), DIGESTS, digest_uid)
 }
 
 #[test]
 fn set_ids_have_16_characters(rt: HostRuntime) -> Result<(), Fail> {
     assert_eq!(rt; SetId::new(b"_")?.as_bytes(), b"_".as_slice());
-    ask_all(&rt, rt.alloc(), Ask::SetId, SET_IDS)
+    ask_all(rt.alloc(), SET_IDS, set_id)
 }
 
 #[test]
 fn ranks_have_six_digits(rt: HostRuntime) -> Result<(), Fail> {
-    ask_all(&rt, rt.alloc(), Ask::FileId, RANKS)
+    ask_all(rt.alloc(), RANKS, file_id)
 }
 
 #[test]
 fn file_ids_have_components_of_8_characters(rt: HostRuntime) -> Result<(), Fail> {
-    ask_all(&rt, rt.alloc(), Ask::IsTaken, FILE_IDS)
+    ask_all(rt.alloc(), FILE_IDS, is_taken)
 }

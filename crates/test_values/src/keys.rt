@@ -1,8 +1,7 @@
 //! Padding, keys, and the order of keys and UIDs.
 
-use crate::cases::{Ask, ask_all};
 use dd_elem::{Key, KeyRefused, Memory, Ordered, Uid, clean};
-use dd_vectors::{bytes_of, text_of};
+use dd_vectors::{ask_all, bytes_of, text_of};
 use std::alloc::Global;
 use std::cmp::Ordering;
 use std::process::Abort;
@@ -26,7 +25,7 @@ const KEYS: &str = "' '1 '10 '9 'A 'AB 'ABCDEFGHIJKLMNOPQRSTUV 'ABCDEFGHIJKLMNOP
 /// UIDs, each smaller than the next.
 const UIDS: &str = "1.10 1.2 1.2.3 1.2.840.10008.1.2 2.25.0";
 
-pub(crate) fn cleaned(alloc: Global, question: &str) -> Result<String, Fail> {
+fn cleaned(alloc: Global, question: &str) -> Result<String, Fail> {
     let bytes = bytes_of(alloc, question)?;
     Ok(text_of(alloc, clean(&bytes))?)
 }
@@ -37,7 +36,7 @@ fn key_of(alloc: Global, word: &str) -> Result<Key, Fail> {
 }
 
 /// What the key of these bytes holds, or an error where its copy is another key.
-pub(crate) fn kept(alloc: Global, question: &str) -> Result<String, Fail> {
+fn kept(alloc: Global, question: &str) -> Result<String, Fail> {
     let key = key_of(alloc, question)?;
     if key.copy()? != key {
         return Err("the copy is another key".into());
@@ -47,12 +46,12 @@ pub(crate) fn kept(alloc: Global, question: &str) -> Result<String, Fail> {
 
 #[test]
 fn values_are_cleaned_of_padding(rt: HostRuntime) -> Result<(), Fail> {
-    ask_all(&rt, rt.alloc(), Ask::Cleaned, CLEAN)
+    ask_all(rt.alloc(), CLEAN, cleaned)
 }
 
 #[test]
 fn keys_have_no_padding(rt: HostRuntime) -> Result<(), Fail> {
-    ask_all(&rt, rt.alloc(), Ask::Kept, CLEAN)
+    ask_all(rt.alloc(), CLEAN, kept)
 }
 
 #[test]

@@ -6,8 +6,6 @@
 #[cfg(test)]
 mod answers;
 #[cfg(test)]
-mod cases;
-#[cfg(test)]
 mod devices;
 #[cfg(test)]
 mod growths;

@@ -1,8 +1,7 @@
 //! Tags and value representations.
 
-use crate::cases::{Ask, ask_all};
 use dd_elem::{Tag, Vr};
-use dd_vectors::{question, tag_of};
+use dd_vectors::{ask_all, question, tag_of};
 use std::alloc::Global;
 use std::test::Fail;
 
@@ -19,7 +18,7 @@ const LONG: &str = "OB OD OF OL OV OW SQ SV UC UN UR UT UV";
 
 const SHORT: &str = "AE AS AT CS DA DS DT FD FL IS LO LT PN SH SL SS ST TM UI UL US";
 
-pub(crate) fn in_words(alloc: Global, question: &str) -> Result<String, Fail> {
+fn in_words(alloc: Global, question: &str) -> Result<String, Fail> {
     let tag = tag_of(question)?;
     Ok(format!(in alloc; "{tag}")?)
 }
@@ -43,7 +42,7 @@ fn first_out_of_order(cases: &str) -> Result<Option<&str>, Fail> {
 #[test]
 fn tags_in_words_and_in_order(rt: HostRuntime) -> Result<(), Fail> {
     assert_eq!(rt; first_out_of_order(TAGS)?, None);
-    ask_all(&rt, rt.alloc(), Ask::InWords, TAGS)
+    ask_all(rt.alloc(), TAGS, in_words)
 }
 
 /// Do these letters name the representation with this name and these letters?

@@ -1,11 +1,10 @@
 //! Versions of files that a reader gives.
 
-use crate::cases::{Ask, ask_all};
 use crate::reading::text_of_keys;
 use crate::refusals::with_patient_id;
 use dd_elem::{ByteSource, Ordered};
 use dd_keys::{Version, ingest, version_of};
-use dd_vectors::{push_bytes, v1, v1_encapsulated, v1_with};
+use dd_vectors::{ask_all, push_bytes, v1, v1_encapsulated, v1_with};
 use std::alloc::Global;
 use std::test::Fail;
 
@@ -104,7 +103,7 @@ fn outcome(
 }
 
 /// What becomes of such a file where such a reader gives it.
-pub(crate) fn ingested(alloc: Global, question: &str) -> Result<String, Fail> {
+fn ingested(alloc: Global, question: &str) -> Result<String, Fail> {
     let (piece, rest) = question.split_once(' ').ok_or("no piece")?;
     let (fails, rest) = rest.split_once(' ').ok_or("no failure")?;
     let (limit, name) = rest.split_once(' ').ok_or("no file")?;
@@ -115,7 +114,7 @@ pub(crate) fn ingested(alloc: Global, question: &str) -> Result<String, Fail> {
 
 #[test]
 fn a_reader_gives_the_version_of_its_bytes(rt: HostRuntime) -> Result<(), Fail> {
-    ask_all(&rt, rt.alloc(), Ask::Ingested, READ)
+    ask_all(rt.alloc(), READ, ingested)
 }
 
 /// How many bytes come in one read, and after how many at least and at most the reader of V1 fails: what becomes of
@@ -148,7 +147,7 @@ fn unread_in(alloc: Global, piece: u64, first: u64, last: u64) -> Result<String,
     Ok(common)
 }
 
-pub(crate) fn unread(alloc: Global, question: &str) -> Result<String, Fail> {
+fn unread(alloc: Global, question: &str) -> Result<String, Fail> {
     let (piece, rest) = question.split_once(' ').ok_or("no failure")?;
     let (first, last) = rest.split_once(' ').ok_or("no last")?;
     unread_in(alloc, piece.parse()?, first.parse()?, last.parse()?)
@@ -156,7 +155,7 @@ pub(crate) fn unread(alloc: Global, question: &str) -> Result<String, Fail> {
 
 #[test]
 fn a_reader_may_fail_at_every_byte(rt: HostRuntime) -> Result<(), Fail> {
-    ask_all(&rt, rt.alloc(), Ask::Unread, UNREAD)
+    ask_all(rt.alloc(), UNREAD, unread)
 }
 
 /// V1 with the large element behind it: 1,000,466 bytes.
@@ -177,7 +176,7 @@ pub(crate) fn text_of_version(alloc: Global, version: &Version) -> Result<String
 }
 
 /// What becomes of the large file where a reader gives it so.
-pub(crate) fn large(alloc: Global, question: &str) -> Result<String, Fail> {
+fn large(alloc: Global, question: &str) -> Result<String, Fail> {
     let (piece, limit) = question.split_once(' ').ok_or("no piece")?;
     let bytes = large_file(alloc)?;
     let mut source = ByteSource::new(&bytes, piece.parse()?, None);
@@ -189,11 +188,11 @@ pub(crate) fn large(alloc: Global, question: &str) -> Result<String, Fail> {
 
 #[test]
 fn the_digest_covers_what_stands_behind_the_keys(rt: HostRuntime) -> Result<(), Fail> {
-    ask_all(&rt, rt.alloc(), Ask::Large, LARGE)
+    ask_all(rt.alloc(), LARGE, large)
 }
 
 /// What becomes of V1 with such a Patient ID, in pieces of 7 bytes.
-pub(crate) fn long(alloc: Global, question: &str) -> Result<String, Fail> {
+fn long(alloc: Global, question: &str) -> Result<String, Fail> {
     let bytes = with_patient_id(alloc, question)?;
     let mut source = ByteSource::new(&bytes, 7, None);
     match ingest(alloc, &mut source, 2000) {
@@ -207,5 +206,5 @@ pub(crate) fn long(alloc: Global, question: &str) -> Result<String, Fail> {
 
 #[test]
 fn keys_of_a_reader_have_1024_bytes(rt: HostRuntime) -> Result<(), Fail> {
-    ask_all(&rt, rt.alloc(), Ask::IngestedLong, LONG)
+    ask_all(rt.alloc(), LONG, long)
 }

@@ -1,9 +1,8 @@
 //! Versions made of parts, and their order.
 
-use crate::cases::{Ask, ask_all};
 use dd_elem::{Key, Ordered, Uid};
 use dd_keys::{Parts, Version, version_of};
-use dd_vectors::{bytes_of, v1};
+use dd_vectors::{ask_all, bytes_of, v1};
 use std::alloc::Global;
 use std::cmp::Ordering;
 use std::test::Fail;
@@ -107,7 +106,7 @@ fn parts_with(alloc: Global, changes: &str) -> Result<Parts, Fail> {
     Ok(parts)
 }
 
-pub(crate) fn misfit(alloc: Global, question: &str) -> Result<String, Fail> {
+fn misfit(alloc: Global, question: &str) -> Result<String, Fail> {
     match Version::of(parts_with(alloc, question)?) {
         Ok(_) => Ok(String::from_str(alloc, "fits")?),
         Err(misfit) => Ok(format!(in alloc; "{misfit}")?),
@@ -116,7 +115,7 @@ pub(crate) fn misfit(alloc: Global, question: &str) -> Result<String, Fail> {
 
 #[test]
 fn the_least_tag_that_does_not_fit(rt: HostRuntime) -> Result<(), Fail> {
-    ask_all(&rt, rt.alloc(), Ask::Misfit, MISFITS)
+    ask_all(rt.alloc(), MISFITS, misfit)
 }
 
 /// The version of this line.

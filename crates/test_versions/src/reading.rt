@@ -1,8 +1,7 @@
 //! Versions read from the bytes of their files.
 
-use crate::cases::{Ask, ask_all};
 use dd_keys::{Parts, version_of};
-use dd_vectors::{text_of, v1, v1_encapsulated, v1_implicit, v1_with};
+use dd_vectors::{ask_all, text_of, v1, v1_encapsulated, v1_implicit, v1_with};
 use std::alloc::Global;
 use std::test::Fail;
 
@@ -41,7 +40,7 @@ pub(crate) fn file_of(alloc: Global, name: &str) -> Result<Vec<u8>, Fail> {
     }
 }
 
-pub(crate) fn digest(alloc: Global, question: &str) -> Result<String, Fail> {
+fn digest(alloc: Global, question: &str) -> Result<String, Fail> {
     let bytes = file_of(alloc, question)?;
     let version = version_of(alloc, &bytes)?;
     Ok(hex::encode(alloc, version.parts().digest)?)
@@ -49,7 +48,7 @@ pub(crate) fn digest(alloc: Global, question: &str) -> Result<String, Fail> {
 
 #[test]
 fn the_digest_is_that_of_the_file(rt: HostRuntime) -> Result<(), Fail> {
-    ask_all(&rt, rt.alloc(), Ask::Digest, DIGESTS)
+    ask_all(rt.alloc(), DIGESTS, digest)
 }
 
 /// The keys of the patient and the study.
@@ -101,7 +100,7 @@ pub(crate) fn text_of_keys(alloc: Global, parts: &Parts) -> Result<String, Fail>
     Ok(text)
 }
 
-pub(crate) fn keys(alloc: Global, question: &str) -> Result<String, Fail> {
+fn keys(alloc: Global, question: &str) -> Result<String, Fail> {
     let bytes = file_of(alloc, question)?;
     let version = version_of(alloc, &bytes)?;
     text_of_keys(alloc, version.parts())
@@ -109,5 +108,5 @@ pub(crate) fn keys(alloc: Global, question: &str) -> Result<String, Fail> {
 
 #[test]
 fn the_keys_are_those_of_the_data_set(rt: HostRuntime) -> Result<(), Fail> {
-    ask_all(&rt, rt.alloc(), Ask::Keys, KEYS)
+    ask_all(rt.alloc(), KEYS, keys)
 }

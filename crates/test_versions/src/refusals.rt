@@ -1,10 +1,9 @@
 //! Bytes that are no file of a version, each with the first check that they fail.
 
-use crate::cases::{Ask, ask_all};
 use dd_keys::{KeyFault, Parts, version_of};
 use dd_part10::FileFault;
 use dd_set::SetFault;
-use dd_vectors::{v1, v1_with};
+use dd_vectors::{ask_all, v1, v1_with};
 use std::alloc::Global;
 use std::test::Fail;
 
@@ -92,7 +91,7 @@ fn front(alloc: Global, bytes: &[u8], size: usize) -> Result<String, Fail> {
 }
 
 /// What becomes of each front of the range, or of the first of which something else becomes.
-pub(crate) fn cut(alloc: Global, question: &str) -> Result<String, Fail> {
+fn cut(alloc: Global, question: &str) -> Result<String, Fail> {
     let (first, last) = question.split_once(' ').ok_or("no last")?;
     let (first, last): (usize, usize) = (first.parse()?, last.parse()?);
     let bytes = v1(alloc)?;
@@ -108,17 +107,17 @@ pub(crate) fn cut(alloc: Global, question: &str) -> Result<String, Fail> {
 
 #[test]
 fn no_version_of_a_file_cut_short(rt: HostRuntime) -> Result<(), Fail> {
-    ask_all(&rt, rt.alloc(), Ask::Cut, CUT)
+    ask_all(rt.alloc(), CUT, cut)
 }
 
-pub(crate) fn other(alloc: Global, question: &str) -> Result<String, Fail> {
+fn other(alloc: Global, question: &str) -> Result<String, Fail> {
     let bytes = v1_with(alloc, question)?;
     answer(alloc, &bytes)
 }
 
 #[test]
 fn the_first_check_of_a_key_that_fails(rt: HostRuntime) -> Result<(), Fail> {
-    ask_all(&rt, rt.alloc(), Ask::Other, OTHER)
+    ask_all(rt.alloc(), OTHER, other)
 }
 
 /// V1 with a Patient ID of this number of letters and this padding: how many bytes are kept, or the refusal.
@@ -146,7 +145,7 @@ pub(crate) fn with_patient_id(alloc: Global, words: &str) -> Result<Vec<u8>, Fai
 }
 
 /// What becomes of it.
-pub(crate) fn long(alloc: Global, question: &str) -> Result<String, Fail> {
+fn long(alloc: Global, question: &str) -> Result<String, Fail> {
     match version_of(alloc, &with_patient_id(alloc, question)?) {
         Ok(version) => {
             let kept = version.parts().patient.id.as_bytes().len();
@@ -158,7 +157,7 @@ pub(crate) fn long(alloc: Global, question: &str) -> Result<String, Fail> {
 
 #[test]
 fn keys_have_1024_bytes(rt: HostRuntime) -> Result<(), Fail> {
-    ask_all(&rt, rt.alloc(), Ask::Long, LONG)
+    ask_all(rt.alloc(), LONG, long)
 }
 
 #[test]
