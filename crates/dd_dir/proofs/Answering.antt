@@ -2,19 +2,20 @@
 use Rattle.std.proofs.Common.{◌≡◌, ◌⊎◌, inl, inr, ℕ, ◌+◌, ◌<◌, Bool, true, List, ◌++◌, length, take, Option, Some, None}
 use Rattle.std.proofs.Common.{Result, Ok, Err, IfOk, IfErr, if◌then◌else◌, refl, sym, ap, subst, ◌∙◌, arith}
 use Rattle.std.proofs.Common.{length-append, bytes_eq}
-use Rattle.dd_set.specs.Elements.{Elements}
-use Rattle.dd_set.specs.Spelling.{elements_text, Spells}
-use Rattle.dd_set.specs.declared.syntax.Syntax.{Syntax}
-use Rattle.dd_set.specs.declared.syntax.Syntax.TheVariants.{Explicit}
+use Rattle.dd_encoding.specs.Elements.{Elements}
+use Rattle.dd_encoding.specs.Spelling.{elements_text, Spells}
+use Rattle.dd_encoding.specs.declared.syntax.Syntax.{Syntax}
+use Rattle.dd_encoding.specs.declared.syntax.Syntax.TheVariants.{Explicit}
 use Rattle.dd_set.proofs.Steps.{some_is}
-use Rattle.dd_part10.specs.Syntaxes.{syntax_of}
-use Rattle.dd_part10.proofs.KnownSyntaxes.{explicit_known}
+use Rattle.dd_encoding.specs.Syntaxes.{syntax_of}
+use Rattle.dd_encoding.proofs.KnownSyntaxes.{explicit_known}
 use Rattle.dd_layout.specs.Directory.{directory_class, directory_syntax}
 use Rattle.std.proofs.lemmas.Bool.{and_parts}
 use Rattle.std.proofs.lemmas.Slice.Eq.{bytes_eq-Decides}
 use Rattle.dd_part10.specs.declared.fault.FileFault.{FileFault}
-use Rattle.dd_part10.specs.declared.meta.Meta.{Meta}
-use Rattle.dd_part10.specs.File.{IsFile, prefix, group_length_text}
+use Rattle.dd_encoding.specs.declared.meta.Meta.{Meta}
+use Rattle.dd_part10.specs.File.{IsFile}
+use Rattle.dd_encoding.specs.Head.{prefix, group_length_text}
 use Rattle.dd_dir.specs.declared.fault.DirFault.{DirFault}
 use Rattle.dd_dir.specs.declared.fault.DirFault.TheVariants as faults
 use Rattle.dd_dir.specs.declared.forest.Forest.{Forest}

@@ -7,10 +7,10 @@ use Rattle.std.proofs.lemmas.List.{at_drop_more}
 use Rattle.dd_elem.specs.declared.tag.Tag.{Tag}
 use Rattle.dd_elem.specs.declared.vr.Vr.{Vr}
 use Rattle.dd_elem.specs.Vr.{is_long_of}
-use Rattle.dd_set.specs.Elements.{bytes, elements_of}
-use Rattle.dd_set.specs.Sends.{header_limit}
+use Rattle.dd_encoding.specs.Elements.{bytes, elements_of}
+use Rattle.dd_encoding.specs.Spelling.{header_limit}
 use Rattle.dd_set.specs.Single.{entry_text}
-use Rattle.dd_set.specs.Spelling.{elements_text, tag_text, shape_text, header_text, content_text}
+use Rattle.dd_encoding.specs.Spelling.{elements_text, tag_text, shape_text, header_text, content_text}
 use Rattle.dd_set.proofs.Counting.{entry_first}
 use Rattle.dd_layout.specs.declared.cell.Cell.{Cell}
 use Rattle.dd_layout.specs.Cells.{IsShort, IsShortEntry, cell_entry}

@@ -19,7 +19,7 @@ use Rattle.dd_layout.specs.declared.level.Level.TheVariants.{Patient, Study, Ser
 use Rattle.dd_layout.specs.declared.table.Row.{Row}
 use Rattle.dd_layout.specs.declared.table.TheConstants as row
 use Rattle.dd_layout.specs.Tables.{table_of}
-use Rattle.dd_set.specs.Elements.{Elements, Content, Entry, bytes, items, fragments}
+use Rattle.dd_encoding.specs.Elements.{Elements, Content, Entry, bytes, items, fragments}
 use Rattle.dd_set.specs.Find.{find_in}
 use Rattle.dd_dir.specs.declared.own_fault.OwnFault.{OwnFault}
 use Rattle.dd_dir.specs.Own.{Above, root, in_patient, in_study, in_series, in_image, Listed, below, fault_at}

@@ -2,7 +2,7 @@
 use Rattle.std.proofs.Common.{◌≡◌, ℕ, ◌+◌, ◌<◌, List, [], length, map, Option, Some, None, option_map, IsSomeAnd}
 use Rattle.std.proofs.Common.{refl, sym, ap, ◌∙◌, arith}
 use Rattle.std.proofs.lemmas.List.{length-map}
-use Rattle.dd_set.specs.Elements.{Elements}
+use Rattle.dd_encoding.specs.Elements.{Elements}
 use Rattle.dd_set.specs.Starts.{places_in}
 use Rattle.dd_layout.specs.Entries.{tag}
 use Rattle.dd_dir.specs.Reading.{Contents, contents_by, contents_in}

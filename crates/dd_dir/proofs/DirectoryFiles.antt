@@ -7,12 +7,12 @@ use Rattle.dd_elem.specs.SetId.{max_set_id_length}
 use Rattle.dd_elem.specs.Uid.{IsUid, is_uid}
 use Rattle.dd_elem.proofs.UidForm.{IsUid_from_is_uid}
 use Rattle.dd_version.specs.declared.parts.Parts.{Parts}
-use Rattle.dd_part10.specs.Head.{head_text}
+use Rattle.dd_encoding.specs.Head.{head_text}
 use Rattle.dd_part10.proofs.HeadLaw.{head_is_file}
-use Rattle.dd_part10.proofs.Heads.{length_head}
-use Rattle.dd_set.specs.Spelling.{Spells, elements_text}
-use Rattle.dd_set.specs.declared.syntax.Syntax.TheVariants.{Explicit}
-use Rattle.dd_part10.proofs.KnownSyntaxes.{explicit_known}
+use Rattle.dd_encoding.proofs.Heads.{length_head}
+use Rattle.dd_encoding.specs.Spelling.{Spells, elements_text}
+use Rattle.dd_encoding.specs.declared.syntax.Syntax.TheVariants.{Explicit}
+use Rattle.dd_encoding.proofs.KnownSyntaxes.{explicit_known}
 use Rattle.dd_layout.specs.declared.label.Label.{Label}
 use Rattle.dd_layout.specs.declared.record.PlanRecord.{PlanRecord}
 use Rattle.dd_layout.specs.Directory.{meta_of}

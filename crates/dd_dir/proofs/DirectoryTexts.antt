@@ -9,12 +9,12 @@ use Rattle.std.proofs.lemmas.List.Sums.{sum_by-cons}
 use Rattle.std.proofs.lemmas.Option.{slice_get-get_or}
 use Rattle.dd_elem.specs.declared.vr.Vr.TheVariants.{SQ}
 use Rattle.dd_version.specs.declared.parts.Parts.{Parts}
-use Rattle.dd_part10.specs.Head.{head_text}
-use Rattle.dd_part10.specs.declared.meta.Meta.{Meta}
-use Rattle.dd_set.specs.Elements.{Entry, Part, items_of}
-use Rattle.dd_set.specs.Sends.{Sends}
-use Rattle.dd_set.specs.declared.write_fault.WriteFault.{WriteFault}
-use Rattle.dd_set.specs.Spelling.{header_text, items_text, shape_text, tag_text}
+use Rattle.dd_encoding.specs.Head.{head_text}
+use Rattle.dd_encoding.specs.declared.meta.Meta.{Meta}
+use Rattle.dd_encoding.specs.Elements.{Entry, Part, items_of}
+use Rattle.dd_stream.specs.Sends.{Sends}
+use Rattle.dd_stream.specs.declared.write_fault.WriteFault.{WriteFault}
+use Rattle.dd_encoding.specs.Spelling.{header_text, items_text, shape_text, tag_text}
 use Rattle.dd_layout.specs.declared.label.Label.{Label}
 use Rattle.dd_layout.specs.Directory.{directory_entries, first_offset, front_entries, meta_of, records_entry}
 use Rattle.dd_layout.specs.Entries.{tag}

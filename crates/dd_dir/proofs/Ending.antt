@@ -4,7 +4,7 @@ use Rattle.std.proofs.Common.{None, option_map}
 use Rattle.std.proofs.Common.{if◌then◌else◌, refl, sym, ap, subst, ◌∙◌, arith, ◌≢◌, ◌⊎◌, inl, inr}
 use Rattle.std.proofs.lemmas.List.{length-map}
 use Rattle.dd_part10.proofs.Tags.{neq_eqb}
-use Rattle.dd_set.specs.Elements.{Elements}
+use Rattle.dd_encoding.specs.Elements.{Elements}
 use Rattle.dd_set.specs.declared.set.DataSet.{DataSet}
 use Rattle.dd_set.specs.declared.set.Item.{Item}
 use Rattle.dd_set.specs.Views.{set_view, items_view}

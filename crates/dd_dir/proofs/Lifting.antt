@@ -10,7 +10,7 @@ use Rattle.std.specs.Ordering.{nat_cmp}
 use Rattle.std.specs.List.Sorted.{IsBinarySearchResult}
 use Rattle.dd_part10.proofs.Tags.{neq_eqb}
 use Rattle.dd_set.specs.declared.set.DataSet.{DataSet}
-use Rattle.dd_set.specs.Elements.{Elements}
+use Rattle.dd_encoding.specs.Elements.{Elements}
 use Rattle.dd_set.specs.Views.{set_view}
 use Rattle.dd_dir.specs.declared.fault.DirFault.TheVariants.{Dangling, Twice}
 use Rattle.dd_dir.specs.ReadAnswers.{Leaves}

@@ -5,16 +5,17 @@ use Rattle.std.proofs.Common.{Option, Some, None, if◌then◌else◌, option_ma
 use Rattle.std.proofs.Common.{length-append, ◌⊎◌, inl, inr}
 use Rattle.dd_elem.specs.declared.tag.Tag.{Tag}
 use Rattle.dd_elem.specs.declared.vr.Vr.{Vr}
-use Rattle.dd_set.specs.declared.syntax.Length.TheVariants.{Defined, Undefined}
-use Rattle.dd_set.specs.declared.syntax.Length.{Length}
+use Rattle.dd_encoding.specs.declared.syntax.Length.TheVariants.{Defined, Undefined}
+use Rattle.dd_encoding.specs.declared.syntax.Length.{Length}
 use Rattle.dd_set.specs.declared.set.Item.{Item}
-use Rattle.dd_set.specs.Elements.{Elements, no_elements, element, Content, bytes, items, fragments, Items, no_items}
-use Rattle.dd_set.specs.Elements.{item}
-use Rattle.dd_set.specs.Elements.{Entry, Part}
+use Rattle.dd_encoding.specs.Elements.{Elements, no_elements, element, Content, bytes, items, fragments, Items}
+use Rattle.dd_encoding.specs.Elements.{no_items}
+use Rattle.dd_encoding.specs.Elements.{item}
+use Rattle.dd_encoding.specs.Elements.{Entry, Part}
 use Rattle.dd_set.specs.Find.{same_tag}
 use Rattle.dd_set.specs.Single.{entry_text, part_text}
-use Rattle.dd_set.specs.Spelling.{elements_text, items_text, header_text, length_of, closed, sequence_end_text}
-use Rattle.dd_set.specs.Spelling.{tag_text, shape_text}
+use Rattle.dd_encoding.specs.Spelling.{elements_text, items_text, header_text, length_of, closed, sequence_end_text}
+use Rattle.dd_encoding.specs.Spelling.{tag_text, shape_text}
 use Rattle.dd_set.specs.Starts.{item_places, content_places, places_in}
 use Rattle.dd_set.specs.Views.{items_view}
 use Rattle.dd_set.proofs.Counting.{with_entry, with_part, entry_first, part_first}

@@ -3,7 +3,7 @@ use Rattle.std.specs.Prelude.{◌≡◌, ℕ, List, [], None, Result, Ok, Err, I
 use Rattle.std.specs.List.{last_or}
 use Rattle.std.proofs.Common.{sym, subst}
 use Rattle.dd_version.specs.declared.parts.Parts.{Parts}
-use Rattle.dd_set.specs.declared.write_fault.WriteFault.{WriteFault}
+use Rattle.dd_stream.specs.declared.write_fault.WriteFault.{WriteFault}
 use Rattle.dd_layout.specs.declared.label.Label.{Label}
 use Rattle.dd_layout.specs.Paths.{is_path, parent_of}
 use Rattle.dd_layout.specs.Plans.{size, tree}

@@ -4,7 +4,7 @@ use Rattle.std.proofs.Common.{refl, ◌∙◌, ap, arith}
 use Rattle.dd_elem.specs.Clean.{clean_of}
 use Rattle.dd_catalogue.specs.Rising.{by_test}
 use Rattle.dd_version.specs.declared.parts.Parts.{Parts}
-use Rattle.dd_set.specs.Elements.{elements_of}
+use Rattle.dd_encoding.specs.Elements.{elements_of}
 use Rattle.dd_layout.specs.declared.label.Label.{Label}
 use Rattle.dd_layout.specs.Entries.{tag}
 use Rattle.dd_layout.specs.Paths.{Path, leads_to}

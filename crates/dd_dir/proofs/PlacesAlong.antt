@@ -12,12 +12,12 @@ use Rattle.dd_elem.specs.declared.vr.Vr.TheVariants.{CS, SQ, UL, US}
 use Rattle.dd_catalogue.proofs.Members.{Member}
 use Rattle.dd_catalogue.proofs.Harmonies.{member-map}
 use Rattle.dd_version.specs.declared.parts.Parts.{Parts}
-use Rattle.dd_part10.specs.Head.{head_text}
-use Rattle.dd_set.specs.Elements.{Elements, Entry, elements_of, items_of}
+use Rattle.dd_encoding.specs.Head.{head_text}
+use Rattle.dd_encoding.specs.Elements.{Elements, Entry, elements_of, items_of}
 use Rattle.dd_set.specs.Single.{entry_text, part_text}
-use Rattle.dd_set.specs.Spelling.{header_text, items_text}
+use Rattle.dd_encoding.specs.Spelling.{header_text, items_text}
 use Rattle.dd_set.specs.Starts.{places_in}
-use Rattle.dd_set.proofs.Even.{length-header_text}
+use Rattle.dd_encoding.proofs.Even.{length-header_text}
 use Rattle.dd_set.proofs.Places.{places_in-sums, starts_from}
 use Rattle.dd_layout.specs.declared.label.Label.{Label}
 use Rattle.dd_layout.specs.declared.record.PlanRecord.{PlanRecord}

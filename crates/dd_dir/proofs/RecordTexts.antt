@@ -6,9 +6,9 @@ use Rattle.std.proofs.lemmas.List.{at_drop_more}
 use Rattle.std.proofs.lemmas.Option.{slice_get-get_or}
 use Rattle.byteorder.specs.Endian.{little_bytes}
 use Rattle.dd_version.specs.declared.parts.Parts.{Parts}
-use Rattle.dd_set.specs.Elements.{Entry, items_of}
+use Rattle.dd_encoding.specs.Elements.{Entry, items_of}
 use Rattle.dd_set.specs.Single.{part_text}
-use Rattle.dd_set.specs.Spelling.{item_tag_text, items_text}
+use Rattle.dd_encoding.specs.Spelling.{item_tag_text, items_text}
 use Rattle.dd_set.proofs.Counting.{part_first}
 use Rattle.dd_layout.specs.declared.record.PlanRecord.{PlanRecord}
 use Rattle.dd_layout.specs.Records.{IsRecord, record_entries, record_part}

@@ -15,7 +15,7 @@ use Rattle.dd_layout.specs.declared.level.Level.TheVariants.{Patient, Study, Ser
 use Rattle.dd_layout.specs.declared.table.Row.{Row}
 use Rattle.dd_layout.specs.declared.table.TheConstants as row
 use Rattle.dd_layout.specs.Records.{kind_of}
-use Rattle.dd_set.specs.Elements.{Elements}
+use Rattle.dd_encoding.specs.Elements.{Elements}
 use Rattle.dd_dir.specs.declared.own_fault.OwnFault.{OwnFault}
 use Rattle.dd_dir.specs.declared.own_fault.OwnFault.TheVariants.{NoDigest, RecordKey}
 use Rattle.dd_dir.specs.Own.{fault_at, is_bad, is_key, is_sound, key_fault, suits}

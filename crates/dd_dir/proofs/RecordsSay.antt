@@ -7,7 +7,7 @@ use Rattle.dd_elem.specs.FileId.{Ranks}
 use Rattle.dd_elem.specs.declared.vr.Vr.TheVariants.{CS, DA, LO, PN, SH, TM}
 use Rattle.dd_elem.proofs.Cleaning.{clean_of_push_padding}
 use Rattle.dd_version.specs.declared.parts.Parts.{Parts}
-use Rattle.dd_set.specs.Elements.{elements_of}
+use Rattle.dd_encoding.specs.Elements.{elements_of}
 use Rattle.dd_layout.specs.declared.level.Level.{Level}
 use Rattle.dd_layout.specs.declared.level.Level.TheVariants.{Patient, Study, Series, Image}
 use Rattle.dd_layout.specs.Entries.{tag, padded, text_entry, uid_entry}

@@ -3,9 +3,9 @@ use Rattle.std.proofs.Common.{◌≡◌, ℕ, ◌+◌, ◌<◌, List, [], ◌∷
 use Rattle.std.proofs.Common.{refl, sym, ap, ◌∙◌, append_assoc, append-nil}
 use Rattle.std.proofs.lemmas.List.{at_drop_more}
 use Rattle.dd_version.specs.declared.parts.Parts.{Parts}
-use Rattle.dd_set.specs.Elements.{Entry, elements_of}
+use Rattle.dd_encoding.specs.Elements.{Entry, elements_of}
 use Rattle.dd_set.specs.Single.{entry_text}
-use Rattle.dd_set.specs.Spelling.{elements_text}
+use Rattle.dd_encoding.specs.Spelling.{elements_text}
 use Rattle.dd_set.proofs.Counting.{entry_first}
 use Rattle.dd_layout.specs.declared.cell.Cell.{Cell}
 use Rattle.dd_layout.specs.declared.record.PlanRecord.{PlanRecord}

@@ -11,7 +11,7 @@ use Rattle.dd_elem.specs.FileId.{AreRanks, Ranks, text_of}
 use Rattle.dd_elem.specs.Ordered.{bytes_cmp}
 use Rattle.dd_catalogue.proofs.Members.{Member, contained, member_of}
 use Rattle.dd_version.specs.declared.parts.Parts.{Parts}
-use Rattle.dd_set.specs.Elements.{Elements, elements_of}
+use Rattle.dd_encoding.specs.Elements.{Elements, elements_of}
 use Rattle.dd_layout.specs.declared.label.Label.{Label}
 use Rattle.dd_layout.specs.declared.level.Level.TheVariants.{Image}
 use Rattle.dd_layout.specs.declared.record.PlanRecord.{PlanRecord}

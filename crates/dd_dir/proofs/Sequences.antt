@@ -3,7 +3,7 @@ use Rattle.std.proofs.Common.{◌≡◌, Bool, true, false, List, ◌∷◌, Opt
 use Rattle.std.proofs.Common.{option_and_then}
 use Rattle.dd_elem.specs.declared.tag.Tag.{Tag}
 use Rattle.dd_set.specs.declared.set.Element.{Element}
-use Rattle.dd_set.specs.Elements.{Elements, no_elements, element, Entry}
+use Rattle.dd_encoding.specs.Elements.{Elements, no_elements, element, Entry}
 use Rattle.dd_set.specs.Find.{find_in, same_tag}
 use Rattle.dd_set.specs.Views.{elements_view, value_view}
 use Rattle.dd_set.proofs.Seen.{element_view-is}

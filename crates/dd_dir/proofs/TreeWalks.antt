@@ -9,9 +9,9 @@ use Rattle.std.proofs.lemmas.Nat.{from_le_bytes-to_le_bytes_4}
 use Rattle.dd_catalogue.proofs.Members.{Member, contained}
 use Rattle.dd_catalogue.specs.Rising.{by_test}
 use Rattle.dd_version.specs.declared.parts.Parts.{Parts}
-use Rattle.dd_part10.specs.Head.{head_text}
-use Rattle.dd_set.specs.Elements.{Entry, elements_of}
-use Rattle.dd_set.specs.Spelling.{elements_text}
+use Rattle.dd_encoding.specs.Head.{head_text}
+use Rattle.dd_encoding.specs.Elements.{Entry, elements_of}
+use Rattle.dd_encoding.specs.Spelling.{elements_text}
 use Rattle.dd_layout.specs.declared.label.Label.{Label}
 use Rattle.dd_layout.specs.Directory.{meta_of}
 use Rattle.dd_layout.specs.Layouts.{IsSound}

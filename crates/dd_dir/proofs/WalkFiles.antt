@@ -2,10 +2,10 @@
 use Rattle.std.proofs.Common.{◌≡◌, ◌⊎◌, inl, inr, ℕ, ◌<◌, ◌^◌, List, length, Option, Some}
 use Rattle.std.proofs.Common.{None, Result, Ok, Err, refl, sym, ap, subst, ◌∙◌}
 use Rattle.std.proofs.lemmas.Bool.{cases_eq}
-use Rattle.dd_set.specs.Bytes.{AreBytes}
-use Rattle.dd_set.specs.Elements.{Elements}
+use Rattle.dd_stream.specs.Bytes.{AreBytes}
+use Rattle.dd_encoding.specs.Elements.{Elements}
 use Rattle.dd_part10.specs.declared.fault.FileFault.{FileFault}
-use Rattle.dd_part10.specs.declared.meta.Meta.{Meta}
+use Rattle.dd_encoding.specs.declared.meta.Meta.{Meta}
 use Rattle.dd_part10.specs.File.{IsFile}
 use Rattle.dd_part10.specs.Reading.{FileParts, file_in}
 use Rattle.dd_part10.proofs.Found.{file_found}

@@ -5,14 +5,16 @@ use Rattle.std.proofs.lemmas.Bool.{eqb-true}
 use Rattle.std.proofs.lemmas.List.{length-take-le}
 use Rattle.dd_elem.specs.declared.tag.Tag.{Tag}
 use Rattle.dd_elem.specs.declared.vr.Vr.{Vr}
-use Rattle.dd_set.specs.Elements.{Elements, no_elements, element, Content, bytes, items, fragments, Items, no_items}
-use Rattle.dd_set.specs.Elements.{item}
+use Rattle.dd_encoding.specs.Elements.{Elements, no_elements, element, Content, bytes, items, fragments, Items}
+use Rattle.dd_encoding.specs.Elements.{no_items}
+use Rattle.dd_encoding.specs.Elements.{item}
 use Rattle.dd_set.specs.Find.{same_tag}
 use Rattle.dd_set.specs.Single.{entry_text, part_text}
-use Rattle.dd_set.specs.Spelling.{header_text, items_text, length_of}
+use Rattle.dd_encoding.specs.Spelling.{header_text, items_text, length_of}
 use Rattle.dd_set.specs.Starts.{item_places, content_places, places_in}
-use Rattle.dd_part10.specs.declared.meta.Meta.{Meta}
-use Rattle.dd_part10.specs.File.{IsFile, prefix, group_length_text}
+use Rattle.dd_encoding.specs.declared.meta.Meta.{Meta}
+use Rattle.dd_part10.specs.File.{IsFile}
+use Rattle.dd_encoding.specs.Head.{prefix, group_length_text}
 use Rattle.dd_layout.specs.Entries.{tag}
 use Rattle.dd_dir.specs.Reading.{Contents, contents_by, contents_in, contents_of, is_directory_meta}
 use Rattle.dd_dir.specs.Reading.{stands_in, stands_of, IsDirectoryFile}

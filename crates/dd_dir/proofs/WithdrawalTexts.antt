@@ -4,8 +4,8 @@ use Rattle.std.proofs.Common.{get_or, Some, if◌then◌else◌}
 use Rattle.std.proofs.Common.{refl, sym, ap, ◌∙◌, arith, append_assoc, append-nil}
 use Rattle.std.specs.List.{join_with_byte}
 use Rattle.dd_elem.specs.declared.vr.Vr.TheVariants.{UC}
-use Rattle.dd_set.specs.Elements.{Entry}
-use Rattle.dd_set.specs.Spelling.{header_text, shape_text, tag_text}
+use Rattle.dd_encoding.specs.Elements.{Entry}
+use Rattle.dd_encoding.specs.Spelling.{header_text, shape_text, tag_text}
 use Rattle.dd_catalogue.proofs.FirstAndRest.{first_and_rest, rest_of}
 use Rattle.dd_layout.specs.Entries.{bytes_entry, tag}
 use Rattle.dd_layout.specs.Withdrawals.{creator_entry, withdrawal_entries, withdrawals_size, withdrawn_value}

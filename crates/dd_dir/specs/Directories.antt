@@ -6,9 +6,9 @@ use Rattle.dd_elem.specs.Digests.{uid_of_digest}
 use Rattle.dd_elem.specs.declared.vr.Vr.TheVariants.{SQ}
 use Rattle.dd_version.specs.declared.parts.Parts.{Parts}
 use Rattle.dd_part10.specs.File.{IsFile}
-use Rattle.dd_part10.specs.Head.{head_text}
-use Rattle.dd_set.specs.Elements.{Elements, Entry, elements_of}
-use Rattle.dd_set.specs.Spelling.{elements_text, header_text}
+use Rattle.dd_encoding.specs.Head.{head_text}
+use Rattle.dd_encoding.specs.Elements.{Elements, Entry, elements_of}
+use Rattle.dd_encoding.specs.Spelling.{elements_text, header_text}
 use Rattle.dd_layout.specs.declared.label.Label.{Label}
 use Rattle.dd_layout.specs.declared.record.PlanRecord.{PlanRecord}
 use Rattle.dd_layout.specs.Directory.{directory_entries, front_entries, meta_of}

@@ -19,7 +19,7 @@ use Rattle.dd_layout.specs.Entries.{tag}
 use Rattle.dd_layout.specs.Records.{kind_of}
 use Rattle.dd_layout.specs.Tables.{table_of}
 use Rattle.dd_version.specs.Syntaxes.{is_known_syntax}
-use Rattle.dd_set.specs.Elements.{Elements}
+use Rattle.dd_encoding.specs.Elements.{Elements}
 use Rattle.dd_dir.specs.declared.own_fault.OwnFault.{OwnFault}
 use Rattle.dd_dir.specs.declared.own_fault.OwnFault.TheVariants.{NoDigest, ForeignRecord, RecordKey}
 use Rattle.dd_dir.specs.Saying.{is_creator, value_of}

@@ -1,6 +1,6 @@
 -- What the values of the pass over a directory's records stand for.
 use Rattle.std.specs.Prelude.{◌≡◌, true, List, [], ◌∷◌, ◌++◌, find, Option, Some, None, is_some, Result}
-use Rattle.dd_set.specs.Elements.{Elements}
+use Rattle.dd_encoding.specs.Elements.{Elements}
 use Rattle.dd_set.specs.Views.{set_view}
 use Rattle.dd_layout.specs.declared.level.Level.{Level}
 use Rattle.dd_layout.specs.declared.level.Level.TheVariants.{Patient, Study, Series, Image}

@@ -3,7 +3,7 @@ use Rattle.std.specs.Prelude.{◌≡◌, ℕ, ◌+◌, ◌<◌, ◌⊎◌, false
 use Rattle.std.specs.declared.alloc.Global.{Global}
 use Rattle.dd_part10.specs.Faults as file_faults
 use Rattle.dd_set.specs.declared.set.DataSet.{DataSet}
-use Rattle.dd_set.specs.Elements.{Elements}
+use Rattle.dd_encoding.specs.Elements.{Elements}
 use Rattle.dd_set.specs.Views.{set_view, items_view}
 use Rattle.dd_dir.specs.declared.directory.Directory.{Directory}
 use Rattle.dd_dir.specs.declared.fault.DirFault.{DirFault}

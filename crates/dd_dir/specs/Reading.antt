@@ -3,9 +3,9 @@
 use Rattle.std.specs.Prelude.{◌≡◌, ◌≢◌, ◌+◌, ℕ, Bool, List, [], ◌∷◌, take, Option, Some, None, Err}
 use Rattle.std.specs.Prelude.{if◌then◌else◌, ◌&&◌, ◌==◌}
 use Rattle.std.specs.Str.{bytes_eq}
-use Rattle.dd_set.specs.Elements.{Elements}
+use Rattle.dd_encoding.specs.Elements.{Elements}
 use Rattle.dd_set.specs.Starts.{places_in}
-use Rattle.dd_part10.specs.declared.meta.Meta.{Meta}
+use Rattle.dd_encoding.specs.declared.meta.Meta.{Meta}
 use Rattle.dd_part10.specs.File.{IsFile}
 use Rattle.dd_part10.specs.Reading.{file_in}
 use Rattle.dd_layout.specs.Directory.{directory_class, directory_syntax}

@@ -1,6 +1,6 @@
 -- Records as trees: each with those below it and those that come after it (PS3.3 section F.4).
 use Rattle.std.specs.Prelude.{ℕ, Bool, List, [], ◌∷◌, ◌++◌, Option}
-use Rattle.dd_set.specs.Elements.{Elements}
+use Rattle.dd_encoding.specs.Elements.{Elements}
 
 -- a record: its offset, its type, whether it is in use, and its elements
 pub record Node : Type 0 where

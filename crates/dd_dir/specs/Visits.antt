@@ -3,7 +3,7 @@ use Rattle.std.specs.Prelude.{◌≡◌, ℕ, true, List, [], ◌∷◌, ◌++�
 use Rattle.dd_version.specs.declared.parts.Parts.{Parts}
 use Rattle.dd_catalogue.specs.Harmony.{harmonised}
 use Rattle.dd_catalogue.specs.Versions.{IsCatalogue}
-use Rattle.dd_set.specs.Elements.{Elements, elements_of}
+use Rattle.dd_encoding.specs.Elements.{Elements, elements_of}
 use Rattle.dd_layout.specs.declared.label.Label.{Label}
 use Rattle.dd_layout.specs.Entries.{tag}
 use Rattle.dd_layout.specs.Paths.{Path, is_path, leads_to, parent_of}

@@ -2,7 +2,7 @@
 -- `stands` tells the elements of the item that starts at an offset, where one does.
 use Rattle.std.specs.Prelude.{◌≡◌, ◌≢◌, ◌<◌, ◌+◌, ℕ, ◌==◌, Bool, true, false, List, [], ◌∷◌, Option, Some, None}
 use Rattle.std.specs.Prelude.{Result, Ok, Err, nat_le, if◌then◌else◌}
-use Rattle.dd_set.specs.Elements.{Elements}
+use Rattle.dd_encoding.specs.Elements.{Elements}
 use Rattle.dd_dir.specs.declared.fault.DirFault.{DirFault}
 use Rattle.dd_dir.specs.declared.fault.DirFault.TheVariants.{RecordShape, Dangling, Twice, TooDeep}
 use Rattle.dd_dir.specs.Saying.{Says, says_of}

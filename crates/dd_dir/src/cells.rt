@@ -3,14 +3,15 @@
 ghost use Rattle.std.specs.Prelude.{◌+◌, ◌<◌, ◌^◌, length, map};
 ghost use Rattle.std.specs.List.{AllByRecursion};
 ghost use Rattle.dd_layout.specs.Cells.{IsShort, IsShortEntry, cell_entry, even_value, table_entries};
-ghost use Rattle.dd_set.specs.Elements.{elements_of};
-ghost use Rattle.dd_set.specs.Sends.{SendsTo};
+ghost use Rattle.dd_encoding.specs.Elements.{elements_of};
+ghost use Rattle.dd_stream.specs.Sends.{SendsTo};
 ghost use Rattle.dd_set.specs.Single.{entry_text};
-ghost use Rattle.dd_set.specs.Spelling.{elements_text};
+ghost use Rattle.dd_encoding.specs.Spelling.{elements_text};
 
 use dd_elem::Write;
+use dd_encoding::send_header;
 use dd_layout::{Cell, PlanRecord, Row};
-use dd_set::{WriteFault, send, send_header};
+use dd_stream::{WriteFault, send};
 use dd_version::Parts;
 
 /// Sends an element behind `sent` bytes: its header, its value and the padding.
@@ -18,7 +19,7 @@ fn send_cell<W: Write>(cell: &Cell<'_>, writer: &mut W, sent: u64) -> Result<u64
     requires short { IsShort (even_value cell.now.value) }
     requires fits { sent + length (entry_text (cell_entry cell.now)) < 2 ^ 64 }
     ensures { let text = entry_text (cell_entry cell.now)
-        in SendsTo W.contents W.rest W.failures text sent result writer.old writer.new }
+        in SendsTo W.Write text sent result writer.old writer.new }
 {
     let value = cell.value.as_bytes();
     let padding = cell.value.padding();
@@ -37,7 +38,7 @@ pub(crate) fn send_cells<W: Write>(
     requires short { AllByRecursion IsShortEntry (map cell_entry cells.now) }
     requires fits { sent + length (elements_text (elements_of (map cell_entry cells.now))) < 2 ^ 64 }
     ensures { let text = elements_text (elements_of (map cell_entry cells.now))
-        in SendsTo W.contents W.rest W.failures text sent result writer.old writer.new }
+        in SendsTo W.Write text sent result writer.old writer.new }
 {
     for cell in cells {
         sent = send_cell(cell, writer, sent)?;
@@ -58,7 +59,7 @@ pub(crate) fn send_rows<W: Write>(
         in sent + length text < 2 ^ 64 }
     ensures { let text = elements_text (elements_of (table_entries rows.now
         planned.now.level planned.now.next planned.now.lower planned.now.file parts.now))
-        in SendsTo W.contents W.rest W.failures text sent result writer.old writer.new }
+        in SendsTo W.Write text sent result writer.old writer.new }
 {
     for row in rows {
         if let Some(cell) = row.cell(planned, parts) {

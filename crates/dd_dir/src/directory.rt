@@ -1,8 +1,8 @@
 //! What a directory says of its records.
 
 ghost use Rattle.std.specs.Prelude.{◌≡◌, ◌+◌, ◌<◌, ◌^◌, EachIndex, List, ℕ, length, map, slice_index, option_map};
-ghost use Rattle.dd_set.specs.declared.syntax.Syntax.TheVariants.{Explicit};
-ghost use Rattle.dd_set.specs.Spelling.{Spells, elements_text};
+ghost use Rattle.dd_encoding.specs.declared.syntax.Syntax.TheVariants.{Explicit};
+ghost use Rattle.dd_encoding.specs.Spelling.{Spells, elements_text};
 ghost use Rattle.dd_set.specs.Views.{set_view};
 ghost use Rattle.dd_dir.specs.ReadAnswers.{TellsContents};
 ghost use Rattle.dd_dir.specs.Reading.{is_directory_meta, contents_in};

@@ -4,18 +4,19 @@ ghost use Rattle.std.specs.Prelude.{◌+◌, ◌<◌, ◌^◌, All, IsOk, length
 ghost use Rattle.std.specs.List.{AllByRecursion};
 ghost use Rattle.dd_layout.specs.Layouts.{IsSound};
 ghost use Rattle.dd_layout.specs.Records.{IsRecord, record_part};
-ghost use Rattle.dd_set.specs.Elements.{items_of};
-ghost use Rattle.dd_set.specs.Sends.{SendsTo};
+ghost use Rattle.dd_encoding.specs.Elements.{items_of};
+ghost use Rattle.dd_stream.specs.Sends.{SendsTo};
 ghost use Rattle.dd_set.specs.Single.{part_text};
-ghost use Rattle.dd_set.specs.Spelling.{items_text};
+ghost use Rattle.dd_encoding.specs.Spelling.{items_text};
 ghost use Rattle.dd_dir.specs.Directories.{entries_of};
 ghost use Rattle.dd_dir.specs.Keyed.{IsKeyed};
 
 use crate::cells::send_rows;
 use crate::well_formed::parts_of;
 use dd_elem::Write;
+use dd_encoding::{HEADER_SIZE, item_header};
 use dd_layout::{PlanRecord, record_size, rows};
-use dd_set::{HEADER_SIZE, WriteFault, item_header, send};
+use dd_stream::{WriteFault, send};
 use dd_version::Version;
 
 /// Sends these records behind `sent` bytes.
@@ -29,7 +30,7 @@ pub(crate) fn send_records<W: Write>(
     requires fits { let parts = map record_part (map (entries_of versions.now) records.now)
         in sent + length (items_text (items_of parts)) < 2 ^ 64 }
     ensures sends { let parts = map record_part (map (entries_of versions.now) records.now)
-        in SendsTo W.contents W.rest W.failures (items_text (items_of parts)) sent result writer.old writer.new }
+        in SendsTo W.Write (items_text (items_of parts)) sent result writer.old writer.new }
     ensures valid { IsOk result → AllByRecursion IsRecord (map (entries_of versions.now) records.now) }
     ensures keyed { IsOk result → AllByRecursion (IsKeyed versions.now) records.now }
 {
@@ -49,7 +50,7 @@ fn send_record<W: Write>(
     requires sound { IsSound (length versions.now) planned.now }
     requires fits { sent + length (part_text (record_part (entries_of versions.now planned.now))) < 2 ^ 64 }
     ensures sends { let text = part_text (record_part (entries_of versions.now planned.now))
-        in SendsTo W.contents W.rest W.failures text sent result writer.old writer.new }
+        in SendsTo W.Write text sent result writer.old writer.new }
     ensures valid { IsOk result → IsRecord (entries_of versions.now planned.now) }
     ensures keyed { IsKeyed versions.now planned.now }
 {

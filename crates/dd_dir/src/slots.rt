@@ -2,7 +2,7 @@
 
 ghost use Rattle.std.specs.Prelude.{◌≡◌, ◌≢◌, ◌<◌, ◌+◌, List, IfOk};
 ghost use Rattle.std.specs.Prelude.{OnErr, Some, Err, length, map, option_and_then, option_map};
-ghost use Rattle.dd_set.specs.Elements.{Elements, Entry};
+ghost use Rattle.dd_encoding.specs.Elements.{Elements, Entry};
 ghost use Rattle.dd_set.specs.Find.{find_in};
 ghost use Rattle.dd_set.specs.Views.{set_view, value_view, items_view};
 ghost use Rattle.dd_dir.specs.Saying.{sets_of, item_sets_of};

@@ -1,7 +1,7 @@
 //! Records as trees, by their offsets.
 
 ghost use Rattle.std.specs.Prelude.{◌≡◌, ◌≢◌, ◌<◌, ◌≤◌, List, IfOk, Err, length};
-ghost use Rattle.dd_set.specs.Elements.{Elements};
+ghost use Rattle.dd_encoding.specs.Elements.{Elements};
 ghost use Rattle.dd_dir.specs.declared.fault.DirFault.TheVariants.{Memory};
 ghost use Rattle.dd_dir.specs.ForestViews.{trees_view};
 ghost use Rattle.dd_dir.specs.ReadAnswers.{IsStep, IsTree, AreFollowed};

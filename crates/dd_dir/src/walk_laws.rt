@@ -1,7 +1,7 @@
 //! What holds of every directory that is read.
 
 ghost use Rattle.std.specs.Prelude.{◌≡◌, ◌⊎◌, ◌<◌, ◌^◌, ℕ, List, length};
-ghost use Rattle.dd_set.specs.Bytes.{AreBytes};
+ghost use Rattle.dd_stream.specs.Bytes.{AreBytes};
 ghost use Rattle.dd_dir.specs.declared.fault.DirFault.{DirFault};
 ghost use Rattle.dd_dir.specs.Reading.{IsWalk, Refuses};
 ghost use Rattle.dd_dir.specs.Trees.{Walk};

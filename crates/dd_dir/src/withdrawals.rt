@@ -4,14 +4,15 @@ ghost use Rattle.std.specs.Prelude.{◌≡◌, ◌+◌, ◌<◌, ◌^◌, ◌++�
 ghost use Rattle.std.specs.List.{join_with_byte};
 ghost use Rattle.dd_layout.specs.Entries.{padded};
 ghost use Rattle.dd_layout.specs.Withdrawals.{withdrawal_entries, withdrawals_size, withdrawn_value};
-ghost use Rattle.dd_set.specs.Elements.{elements_of};
-ghost use Rattle.dd_set.specs.Sends.{SendsTo};
-ghost use Rattle.dd_set.specs.Spelling.{elements_text};
+ghost use Rattle.dd_encoding.specs.Elements.{elements_of};
+ghost use Rattle.dd_stream.specs.Sends.{SendsTo};
+ghost use Rattle.dd_encoding.specs.Spelling.{elements_text};
 
 use crate::cells::send_cells;
 use dd_elem::{Uid, Vr, Write};
+use dd_encoding::send_header;
 use dd_layout::{WITHDRAWN, creator_cell, withdrawn_length};
-use dd_set::{WriteFault, send, send_header};
+use dd_stream::{WriteFault, send};
 
 /// Sends the elements with these withdrawn UIDs behind `sent` bytes, and nothing where no UID is withdrawn.
 pub(crate) fn send_withdrawals<W: Write>(
@@ -22,7 +23,7 @@ pub(crate) fn send_withdrawals<W: Write>(
     requires small { withdrawals_size withdrawn.now < 2 ^ 32 }
     requires fits { sent + withdrawals_size withdrawn.now < 2 ^ 64 }
     ensures { let text = elements_text (elements_of (withdrawal_entries withdrawn.now))
-        in SendsTo W.contents W.rest W.failures text sent result writer.old writer.new }
+        in SendsTo W.Write text sent result writer.old writer.new }
 {
     if withdrawn.is_empty() {
         return Ok(sent);
@@ -38,7 +39,7 @@ pub(crate) fn send_withdrawals<W: Write>(
 fn send_value<W: Write>(withdrawn: &[Uid], writer: &mut W, sent: u64) -> Result<u64, WriteFault>
     requires { sent + length (withdrawn_value withdrawn.now) < 2 ^ 64 }
     ensures { let text = withdrawn_value withdrawn.now
-        in SendsTo W.contents W.rest W.failures text sent result writer.old writer.new }
+        in SendsTo W.Write text sent result writer.old writer.new }
 {
     let end = send_joined(withdrawn, writer, sent)?;
     send(padding(end - sent), writer, end)
@@ -59,7 +60,7 @@ fn send_joined<W: Write>(
 ) -> Result<u64, WriteFault>
     requires { sent + length (join_with_byte 0x5c withdrawn.now) < 2 ^ 64 }
     ensures { let text = join_with_byte 0x5c withdrawn.entry.now
-        in SendsTo W.contents W.rest W.failures text sent result writer.old writer.new }
+        in SendsTo W.Write text sent result writer.old writer.new }
 {
     while let [uid, rest @ ..] = withdrawn {
         sent = send(uid.as_bytes(), writer, sent)?;

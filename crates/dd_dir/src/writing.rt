@@ -9,7 +9,7 @@ ghost use Rattle.dd_elem.specs.Uid.{IsUid};
 ghost use Rattle.dd_version.specs.declared.parts.Parts.{Parts};
 ghost use Rattle.dd_layout.specs.Directory.{first_offset};
 ghost use Rattle.dd_layout.specs.Plans.{records_end, size};
-ghost use Rattle.dd_set.specs.Sends.{SendsTo};
+ghost use Rattle.dd_stream.specs.Sends.{SendsTo};
 ghost use Rattle.dd_dir.specs.Directories.{IsDirectory, OffsetsWithin, directory_of, opening_text};
 ghost use Rattle.dd_dir.specs.SaysItself.{SaysItself};
 ghost use Rattle.dd_dir.specs.Visits.{Realises};
@@ -20,15 +20,15 @@ use crate::roots::{first_root, last_root};
 use crate::well_formed::{set_id_is_valid, withdrawn_are_uids};
 use crate::withdrawals::send_withdrawals;
 use dd_elem::{Vr, Write};
+use dd_encoding::{send_header, write_head};
 use dd_layout::{Plan, RECORDS, directory_meta, first_offset, front_cells, withdrawals_size};
-use dd_part10::write_head;
-use dd_set::{WriteFault, send_header};
+use dd_stream::WriteFault;
 
 /// Sends the bytes of the directory, and answers how many they are (PS3.3 section F.3.2, PS3.10 section
 /// 8.6). 12 Write where the writer failed, with how many of the bytes went before.
 pub fn write_directory<W: Write>(plan: &Plan, writer: &mut W) -> Result<u64, WriteFault>
     ensures sends { let text = directory_of plan.now.label plan.now.versions plan.now.withdrawn
-        in SendsTo W.contents W.rest W.failures text 0 result writer.old writer.new }
+        in SendsTo W.Write text 0 result writer.old writer.new }
 
     // Where the bytes were sent whole, they are as many as the plan says, and a file of the class of directories. All
     // offsets in them are smaller than their number.
@@ -71,7 +71,7 @@ fn records_size(plan: &Plan) -> u32
 fn send_opening<W: Write>(plan: &Plan, count: u32, writer: &mut W) -> Result<u64, WriteFault>
     requires { length (opening_text plan.now.label plan.now.versions count) < 2 ^ 64 }
     ensures { let text = opening_text plan.now.label plan.now.versions count
-        in SendsTo W.contents W.rest W.failures text 0 result writer.old writer.new }
+        in SendsTo W.Write text 0 result writer.old writer.new }
 {
     let label = plan.label();
     let records = plan.records();

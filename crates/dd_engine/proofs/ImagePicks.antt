@@ -112,7 +112,7 @@ picks_told f marks versions rows picks is =
     ∙ twice (option_map f) (λ row. found_by marks (slice_get versions row.of)) (filter is_image rows)
     ∙ (λ j. map (λ row. told_by f marks (slice_get versions row.of) j) (filter is_image rows))
 
--- ---- what holds for all places holds for those that are picked
+-- ---- what holds for every place holds for each picked place
 
 nothing : {T : Type 0} (at : T) → ◌≡◌ {A = Option T} None (Some at) → ⊥
 nothing at is = cc

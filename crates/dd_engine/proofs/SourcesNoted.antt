@@ -33,7 +33,7 @@ use Rattle.dd_engine.proofs.BothFound.{best_among, best_rises, both_found}
 use Rattle.dd_engine.proofs.ImagePicks.{holds_by, holds_of_picks}
 use Rattle.dd_engine.proofs.Planning.{accepted_below, skipped_below}
 
--- ---- what holds for all places holds for those that the notes name
+-- ---- what holds for every place holds for each place that the notes name
 
 module _ {T U : Type 0} (place : T → U) (P : U → Type 0) where
   each_chosen : (test : U × Parts → Bool) (versions : List (U × Parts)) → AllByRecursion (λ v. P v.0) versions

@@ -78,7 +78,7 @@ impl<'a> Gathered<'a> {
 
 /// Gathers what all these sets list, and withdraws these UIDs as well. Refused by the first set that is not a
 /// directory as dd_dir writes one.
-pub(crate) fn gather<'a>(
+pub(crate) fn gather_sets<'a>(
     alloc: Global,
     sets: &[&'a [u8]],
     given: &[Uid],

@@ -8,7 +8,7 @@ ghost use Rattle.dd_engine.specs.Noting.{AreBelow, IsBelow};
 
 use crate::choice::{Choice, plan_for};
 use crate::clash::clash_of;
-use crate::gathering::{Gathered, gather};
+use crate::gathering::{Gathered, gather_sets};
 use crate::left_out::left_out;
 use crate::merge::{Merged, Pick};
 use crate::merge_fault::MergeFault;
@@ -95,7 +95,7 @@ pub(crate) fn noted_sets<'a>(
     ensures clash { IfErr result (λ noted. IsBelow (λ pick. pick.set) (length sets.now) noted.clash) }
     ensures found { IfErr result (λ noted. FindsBoth noted.fault noted.clash) }
 {
-    let gathered = gather(alloc, sets, given)?;
+    let gathered = gather_sets(alloc, sets, given)?;
     noted(alloc, gathered, choice, limits)
 }
 

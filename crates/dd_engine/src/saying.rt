@@ -3,7 +3,7 @@
 ghost use Rattle.std.specs.Prelude.{◌≡◌, ◌<◌, ℕ, IfOk, IfSome, None, length, map};
 ghost use Rattle.dd_engine.specs.Saying.{AnswersSaying, IsFiledAt, IsFirstFiled};
 
-use crate::gathering::gather;
+use crate::gathering::gather_sets;
 use crate::merge::Pick;
 use crate::merge_fault::MergeFault;
 use dd_filing::is_filed_as;
@@ -23,7 +23,7 @@ pub fn first_saying<'a>(
     ensures answer { AnswersSaying planned.now (map (λ set. set.now) sets.now) result }
     ensures within { IfOk result (λ found. IfSome found (λ pick. pick.set < length sets.now)) }
 {
-    let gathered = gather(alloc, sets, &[])?;
+    let gathered = gather_sets(alloc, sets, &[])?;
     match first_filed(&gathered.versions, planned.parts()) {
         Some(at) => Ok(Some(gathered.picks[at])),
         None => Ok(None),

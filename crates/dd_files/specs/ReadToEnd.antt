@@ -4,8 +4,8 @@ use Rattle.std.specs.Prelude.{◌≡◌, ◌⊎◌, ℕ, ◌<◌, ◌≤◌, Lis
 use Rattle.std.specs.declared.alloc.Global.{Global}
 use Rattle.sha2.specs.Sha256.{sha256}
 use Rattle.dd_elem.specs.Device.{HasWorked}
-use Rattle.dd_set.specs.Streams.{Ends}
-use Rattle.dd_set.specs.declared.end.End.TheVariants.{Ended, Failed, TooLong}
+use Rattle.dd_stream.specs.Streams.{Ends}
+use Rattle.dd_stream.specs.declared.end.End.TheVariants.{Ended, Failed, TooLong}
 use Rattle.dd_files.specs.declared.reading.ReadFault.{ReadFault}
 use Rattle.dd_files.specs.declared.reading.ReadFault.TheVariants as faults
 

@@ -1,12 +1,10 @@
 //! An image copied.
-ghost use Rattle.std.specs.Prelude.{ℕ, List, ◌+◌, ◌≤◌};
-ghost use Rattle.std.specs.Io.KnownBytes.{Consumes};
-ghost use Rattle.dd_elem.specs.Device.{Gives};
 ghost use Rattle.dd_files.specs.Copying.{IsCopied};
+ghost use Rattle.dd_stream.specs.Reads.{ReadsUpTo};
 
 use crate::piece::{PIECE, PieceFault, read_piece};
 use dd_elem::{Read, Write};
-use dd_set::send;
+use dd_stream::send;
 use sha2::{Digest, Sha256};
 use thiserror::Error;
 
@@ -34,13 +32,7 @@ pub fn copy_image<R: Read, W: Write>(
     writer: &mut W,
     limit: u64,
 ) -> Result<[u8; 32], CopyFault>
-    ensures copied { (given : List ℕ) × Gives R.has_given reader.old reader.new given
-        × Consumes (R.remaining reader.old) (R.remaining reader.new) given
-        × IsCopied result limit given (R.remaining reader.new)
-        (R.failures reader.old) (R.failures reader.new)
-        (W.contents writer.old, W.rest writer.old) (W.contents writer.new, W.rest writer.new)
-        (W.failures writer.old) (W.failures writer.new) }
-    ensures calls { R.calls reader.new ≤ R.calls reader.old + limit + 1 }
+    ensures { ReadsUpTo R.Read limit reader.old reader.new (IsCopied W.Write writer.old writer.new result limit) }
 {
     let mut hasher = Sha256::new();
     let mut left = limit;

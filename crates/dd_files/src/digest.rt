@@ -1,8 +1,7 @@
 //! The digest of a file, and its text.
-ghost use Rattle.std.specs.Prelude.{◌≡◌, ◌≤◌, ◌+◌, ℕ, List};
-ghost use Rattle.std.specs.Io.KnownBytes.{Consumes};
-ghost use Rattle.dd_elem.specs.Device.{Gives};
+ghost use Rattle.std.specs.Prelude.{◌≡◌};
 ghost use Rattle.dd_files.specs.ReadToEnd.{IsDigest};
+ghost use Rattle.dd_stream.specs.Reads.{ReadsUpTo};
 ghost use Rattle.hex.specs.Hex.{encode_lower};
 
 use crate::piece::{PIECE, read_piece};
@@ -21,10 +20,7 @@ pub fn digest_text(digest: &[u8; 32]) -> [u8; 64]
 /// Computes the SHA-256 of what a reader gives to its end, at most `limit` bytes. None where it fails or
 /// gives more than `limit` bytes. Makes at most `limit` + 1 reads, and takes no memory.
 pub fn digest_of<R: Read>(reader: &mut R, limit: u64) -> Option<[u8; 32]>
-    ensures digest { (given : List ℕ) × Gives R.has_given reader.old reader.new given
-        × Consumes (R.remaining reader.old) (R.remaining reader.new) given
-        × IsDigest result limit given (R.remaining reader.new) (R.failures reader.old) (R.failures reader.new) }
-    ensures calls { R.calls reader.new ≤ R.calls reader.old + limit + 1 }
+    ensures { ReadsUpTo R.Read limit reader.old reader.new (IsDigest result limit) }
 {
     let mut hasher = Sha256::new();
     let mut left = limit;

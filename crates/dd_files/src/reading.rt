@@ -1,8 +1,6 @@
 //! A file read whole.
-ghost use Rattle.std.specs.Prelude.{ℕ, List, ◌+◌, ◌≤◌};
-ghost use Rattle.std.specs.Io.KnownBytes.{Consumes};
-ghost use Rattle.dd_elem.specs.Device.{Gives};
 ghost use Rattle.dd_files.specs.ReadToEnd.{IsWholeAnswer};
+ghost use Rattle.dd_stream.specs.Reads.{ReadsUpTo};
 
 use crate::piece::{PIECE, PieceFault, read_piece};
 use dd_elem::Read;
@@ -24,11 +22,7 @@ pub enum ReadFault {
 /// Refuses with Read where the reader fails, with TooLong where it gives more than `limit` bytes, and with
 /// Memory where a growth is refused. Makes at most `limit` + 1 reads.
 pub fn read_whole<R: Read>(alloc: Global, reader: &mut R, limit: u64) -> Result<Vec<u8>, ReadFault>
-    ensures gave { (given : List ℕ) × Gives R.has_given reader.old reader.new given
-        × Consumes (R.remaining reader.old) (R.remaining reader.new) given
-        × IsWholeAnswer result limit given (R.remaining reader.new)
-        (R.failures reader.old) (R.failures reader.new) }
-    ensures calls { R.calls reader.new ≤ R.calls reader.old + limit + 1 }
+    ensures { ReadsUpTo R.Read limit reader.old reader.new (IsWholeAnswer result limit) }
 {
     let mut all = Vec::new(alloc);
     let mut left = limit;

@@ -1,5 +1,6 @@
 -- What a copied file is, compared with the planned version, from the version that was read of it.
 use Rattle.std.proofs.Common.{◌≡◌, ℕ, List, Option, None, Some, Ok, refl, sym, ◌∙◌, subst}
+use Rattle.dd_elem.specs.declared.device.Write.{Ghosts as WriteOf}
 use Rattle.dd_version.specs.declared.parts.Parts.{Parts}
 use Rattle.dd_keys.specs.Versions.{IsVersion}
 use Rattle.dd_filing.specs.declared.agreeing.Filed.{Filed}
@@ -16,24 +17,24 @@ version_as planned version Mislabelled file one is same =
     λ other its. subst (IsVersionAs planned Mislabelled) (one file version other is its) same
 
 -- the copied bytes are a file of a version
-pub version_filed : {R : Type 0} (planned version : Parts) (filed : Filed) (limit : ℕ) (given : List ℕ)
-    (left : Option (List ℕ)) (read_old read_new : ℕ) (old new : Option (List ℕ) × R) (f g : ℕ)
+pub version_filed : {W : Type 0} (writer : WriteOf W) (planned version : Parts) (filed : Filed) (limit : ℕ)
+    (given : List ℕ) (left : Option (List ℕ)) (read_old read_new : ℕ) (old new : W)
     → ((file : List ℕ) (one other : Parts) → IsVersion file one → IsVersion file other → one ≡ other)
     → (found : Option Parts) → found ≡ Some version
-    → IsCopyOfVersion (Ok found) limit given left read_old read_new old new f g
+    → IsCopyOfVersion writer old new (Ok found) limit given left read_old read_new
     → IsVersionAs planned filed version
-    → IsFiled planned (Ok filed) limit given left read_old read_new old new f g
-version_filed planned version filed limit given left read_old read_new old new f g one found some h same =
+    → IsFiled writer old new planned (Ok filed) limit given left read_old read_new
+version_filed writer planned version filed limit given left read_old read_new old new one found some h same =
     let is : IsVersion given version = subst (λ (v : Option Parts). IsVersionOrNone given v) some h.0 in
     (version_as planned version filed given one is same, h.1)
 
 -- the copied bytes are a file of no version
-pub no_version_filed : {R : Type 0} (planned : Parts) (limit : ℕ) (given : List ℕ)
-    (left : Option (List ℕ)) (read_old read_new : ℕ) (old new : Option (List ℕ) × R) (f g : ℕ)
+pub no_version_filed : {W : Type 0} (writer : WriteOf W) (planned : Parts) (limit : ℕ) (given : List ℕ)
+    (left : Option (List ℕ)) (read_old read_new : ℕ) (old new : W)
     → (found : Option Parts) → found ≡ None
-    → IsCopyOfVersion (Ok found) limit given left read_old read_new old new f g
-    → IsFiled planned (Ok Mislabelled) limit given left read_old read_new old new f g
-no_version_filed planned limit given left read_old read_new old new f g found none h =
+    → IsCopyOfVersion writer old new (Ok found) limit given left read_old read_new
+    → IsFiled writer old new planned (Ok Mislabelled) limit given left read_old read_new
+no_version_filed writer planned limit given left read_old read_new old new found none h =
     let no : (version : Parts) → ¬ IsVersion given version =
     subst (λ (v : Option Parts). IsVersionOrNone given v) none h.0 in
     (λ version is. absurd (no version is), h.1)

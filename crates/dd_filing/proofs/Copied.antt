@@ -1,7 +1,8 @@
 -- The answer of a copy, from the answer of reading the version and from what was written.
 use Rattle.std.proofs.Common.{◌≡◌, ◌≢◌, ℕ, ◌+◌, ◌≤◌, List, length, Option, None, Some, Result, Ok, Err}
 use Rattle.std.proofs.Common.{refl, ap, subst, arith}
-use Rattle.dd_set.specs.Sends.{Goes}
+use Rattle.dd_elem.specs.declared.device.Write.{Ghosts as WriteOf}
+use Rattle.dd_stream.specs.Sends.{GoesTo}
 use Rattle.dd_set.specs.declared.fault.SetFault.TheVariants as parsing
 use Rattle.dd_part10.specs.Memory.{SetWants}
 use Rattle.dd_part10.specs.declared.fault.FileFault.TheVariants.{Meta, Set}
@@ -13,7 +14,7 @@ use Rattle.dd_version.specs.declared.parts.Parts.{Parts}
 use Rattle.dd_filing.specs.CopySteps.{IsCopyAnswer, IsFilingFault}
 use Rattle.dd_filing.specs.Filing.{IsCopyOfVersion}
 use Rattle.dd_filing.proofs.Sending.{sent_whole}
-use Rattle.dd_filing.specs.Sent.{IsCounted, IsSent, late_count}
+use Rattle.dd_filing.specs.Sent.{IsCounted, SentTo, late_count}
 use Rattle.dd_filing.specs.declared.copying.FilingFault.{FilingFault}
 use Rattle.dd_filing.specs.declared.copying.FilingFault.TheVariants.{Memory, Unread, Unsent, Changed}
 
@@ -43,12 +44,12 @@ err_same : (one other : KeyFault) → refused one ≡ refused other → one ≡ 
 err_same one other e = cc
 
 -- a version was read
-version_read : {R : Type 0} (limit : ℕ) (given : List ℕ) (left : Option (List ℕ)) (read_old read_new : ℕ)
-    (version : Parts) (old new : Option (List ℕ) × R) (f g : ℕ)
+version_read : {W : Type 0} (writer : WriteOf W) (limit : ℕ) (given : List ℕ) (left : Option (List ℕ))
+    (read_old read_new : ℕ) (version : Parts) (old new : W)
     → AnswersReader limit given left read_old read_new (Ok version)
-    → Goes given old new f g
-    → IsCopyOfVersion (Ok (Some version)) limit given left read_old read_new old new f g
-version_read limit given left read_old read_new version old new f g h went =
+    → GoesTo writer given old new
+    → IsCopyOfVersion writer old new (Ok (Some version)) limit given left read_old read_new
+version_read writer limit given left read_old read_new version old new h went =
     let unread : Ok version ≢ Err faults.Read = λ e. absurd (cc) in
     let short : Ok version ≢ Err faults.FileTooLong = λ e. absurd (cc) in (
       (h.whole unread short tt).found,
@@ -64,12 +65,12 @@ no_want set_wants file (faults.File (Set parsing.Memory)) silent want = silent t
 no_want set_wants file fault silent want = want
 
 -- the bytes were read to their end, and are no file of a version
-no_version_read : {R : Type 0} (limit : ℕ) (given : List ℕ) (left : Option (List ℕ)) (read_old read_new : ℕ)
-    (fault : KeyFault) (old new : Option (List ℕ) × R) (f g : ℕ)
+no_version_read : {W : Type 0} (writer : WriteOf W) (limit : ℕ) (given : List ℕ) (left : Option (List ℕ))
+    (read_old read_new : ℕ) (fault : KeyFault) (old new : W)
     → AnswersReader limit given left read_old read_new (Err fault)
-    → IsFilingFault fault None → Goes given old new f g
-    → IsCopyOfVersion (Ok None) limit given left read_old read_new old new f g
-no_version_read limit given left read_old read_new fault old new f g h by went =
+    → IsFilingFault fault None → GoesTo writer given old new
+    → IsCopyOfVersion writer old new (Ok None) limit given left read_old read_new
+no_version_read writer limit given left read_old read_new fault old new h by went =
     let unread : refused fault ≢ refused faults.Read = λ e. by.0 (err_same fault faults.Read e) in
     let short : refused fault ≢ refused faults.FileTooLong = λ e. by.1.0 (err_same fault faults.FileTooLong e) in (
       λ version is. no_want SetWants given fault by.1.1 ((h.whole unread short by.1.1).only version is),
@@ -77,12 +78,12 @@ no_version_read limit given left read_old read_new fault old new f g h by went =
     )
 
 -- the copy is refused, though no write failed
-version_refused : {R : Type 0} (limit : ℕ) (given : List ℕ) (left : Option (List ℕ)) (read_old read_new : ℕ)
-    (fault : KeyFault) (is : FilingFault) (old new : Option (List ℕ) × R) (f g : ℕ)
+version_refused : {W : Type 0} (writer : WriteOf W) (limit : ℕ) (given : List ℕ) (left : Option (List ℕ))
+    (read_old read_new : ℕ) (fault : KeyFault) (is : FilingFault) (old new : W)
     → AnswersReader limit given left read_old read_new (Err fault)
-    → IsFilingFault fault (Some is) → Goes given old new f g
-    → IsCopyOfVersion (Err is) limit given left read_old read_new old new f g
-version_refused limit given left read_old read_new fault Memory old new f g h by went =
+    → IsFilingFault fault (Some is) → GoesTo writer given old new
+    → IsCopyOfVersion writer old new (Err is) limit given left read_old read_new
+version_refused writer limit given left read_old read_new fault Memory old new h by went =
     let unread : refused fault ≢ refused faults.Read =
     λ e. subst SaysMemory (err_same fault faults.Read e) by in
     let short : refused fault ≢ refused faults.FileTooLong =
@@ -90,41 +91,41 @@ version_refused limit given left read_old read_new fault Memory old new f g h by
       (fault, h.memory by),
       ((h.ended unread short), went),
     )
-version_refused limit given left read_old read_new fault Unread old new f g h by went =
+version_refused writer limit given left read_old read_new fault Unread old new h by went =
     ((h.read (ap (λ e. Err e) by)), went)
-version_refused limit given left read_old read_new fault Changed old new f g h by went =
+version_refused writer limit given left read_old read_new fault Changed old new h by went =
     ((h.long (ap (λ e. Err e) by)), went)
-version_refused limit given left read_old read_new fault Unsent old new f g h by went = absurd by
+version_refused writer limit given left read_old read_new fault Unsent old new h by went = absurd by
 
 -- the answer of a copy, where no write failed
-pub copied : {R : Type 0} (limit : ℕ) (given : List ℕ) (left : Option (List ℕ)) (read_old read_new : ℕ)
-    (was now : Option ℕ) (answer : Result Parts KeyFault) (is : Result (Option Parts) FilingFault)
-    (old new : Option (List ℕ) × R) (f g : ℕ) → was ≡ None → now ≡ None
+pub copied : {W : Type 0} (writer : WriteOf W) (limit : ℕ) (given : List ℕ) (left : Option (List ℕ))
+    (read_old read_new : ℕ) (was now : Option ℕ) (answer : Result Parts KeyFault)
+    (is : Result (Option Parts) FilingFault) (old new : W) → was ≡ None → now ≡ None
     → AnswersReader limit given left (late_count read_old was) (late_count read_new now) answer
-    → IsCopyAnswer answer is → IsSent now given old new f g
-    → IsCopyOfVersion is limit given left read_old read_new old new f g
-copied limit given left read_old read_new was now (Ok version) is old new f g e unfailed h by sent =
-    rw by (version_read limit given left read_old read_new version old new f g
+    → IsCopyAnswer answer is → SentTo writer now given old new
+    → IsCopyOfVersion writer old new is limit given left read_old read_new
+copied writer limit given left read_old read_new was now (Ok version) is old new e unfailed h by sent =
+    rw by (version_read writer limit given left read_old read_new version old new
     (tee_unfailed limit given left read_old read_new was now (Ok version) e unfailed h)
-    (sent_whole now given old new f g unfailed sent))
-copied limit given left read_old read_new was now (Err fault) (Ok (Some version)) old new f g e unfailed h by sent =
+    (sent_whole now given _ _ _ _ unfailed sent))
+copied writer limit given left read_old read_new was now (Err fault) (Ok (Some version)) old new e unfailed h by sent =
     absurd by
-copied limit given left read_old read_new was now (Err fault) (Ok None) old new f g e unfailed h by sent =
-    no_version_read limit given left read_old read_new fault old new f g
+copied writer limit given left read_old read_new was now (Err fault) (Ok None) old new e unfailed h by sent =
+    no_version_read writer limit given left read_old read_new fault old new
     (tee_unfailed limit given left read_old read_new was now (Err fault) e unfailed h) by
-    (sent_whole now given old new f g unfailed sent)
-copied limit given left read_old read_new was now (Err fault) (Err refused) old new f g e unfailed h by sent =
-    version_refused limit given left read_old read_new fault refused old new f g
+    (sent_whole now given _ _ _ _ unfailed sent)
+copied writer limit given left read_old read_new was now (Err fault) (Err refused) old new e unfailed h by sent =
+    version_refused writer limit given left read_old read_new fault refused old new
     (tee_unfailed limit given left read_old read_new was now (Err fault) e unfailed h) by
-    (sent_whole now given old new f g unfailed sent)
+    (sent_whole now given _ _ _ _ unfailed sent)
 
 -- the answer of a copy, where a write failed
-pub sent_part : {R : Type 0} (late : Option ℕ) (n : ℕ) (limit : ℕ) (given : List ℕ) (left : Option (List ℕ))
-    (read_old read_new c d : ℕ) (answer : Result Parts KeyFault) (old new : Option (List ℕ) × R) (f g : ℕ)
-    → late ≡ Some n → IsSent late given old new f g → AnswersReader limit given left c d answer
-    → IsCopyOfVersion (Err Unsent) limit given left read_old read_new old new f g
-sent_part late n limit given left read_old read_new c d answer old new f g some h read =
-    (short limit given left c d answer read, subst (λ (l : Option ℕ). IsSent l given old new f g) some h)
+pub sent_part : {W : Type 0} (writer : WriteOf W) (late : Option ℕ) (n : ℕ) (limit : ℕ) (given : List ℕ)
+    (left : Option (List ℕ)) (read_old read_new c d : ℕ) (answer : Result Parts KeyFault) (old new : W)
+    → late ≡ Some n → SentTo writer late given old new → AnswersReader limit given left c d answer
+    → IsCopyOfVersion writer old new (Err Unsent) limit given left read_old read_new
+sent_part writer late n limit given left read_old read_new c d answer old new some h read =
+    (short limit given left c d answer read, subst (λ (l : Option ℕ). SentTo writer l given old new) some h)
 
 -- the reader was called no more often than the tee
 pub fewer_calls : (was now : Option ℕ) (old new most : ℕ) → was ≡ None → IsCounted now new

@@ -1,38 +1,38 @@
 -- What passed a tee: what is known of its reader, of its writer and of their counts.
 use Rattle.std.proofs.Common.{◌≡◌, ◌⊎◌, ℕ, List, [], Option, None, inl, inr, refl, sym, subst}
 use Rattle.dd_elem.specs.Device.{Gives, either_fact}
-use Rattle.dd_set.proofs.Going.{goes_none}
-use Rattle.dd_filing.specs.Sent.{IsCounted, IsSent}
+use Rattle.dd_elem.specs.declared.device.Read.{Ghosts as ReadOf}
+use Rattle.dd_elem.specs.declared.device.Write.{Ghosts as WriteOf}
+use Rattle.dd_stream.proofs.Going.{goes_none}
+use Rattle.dd_filing.specs.Sent.{IsCounted, IsSent, SentTo}
 use Rattle.dd_filing.specs.declared.tee.Tee.{Tee}
 
-module _ {R W P S : Type 0} (has_given : R → P → List ℕ → Type 0) (contents : W → Option (List ℕ)) (rest : W → S)
-    (failures : W → ℕ) (calls : R → ℕ) where
+module _ {R W : Type 0} (reader : ReadOf R) (writer : WriteOf W) where
   -- the tee has the same reader and the same writer; the reader gave these bytes, and the writer took them or failed
   pub record Passed (old new : Tee R W) (given : List ℕ) : Type 0 where
     pub same_reader : new.reader.ghost_name ≡ old.reader.ghost_name
     pub same_writer : new.writer.ghost_name ≡ old.writer.ghost_name
-    pub gave : Gives has_given old.reader.now new.reader.now given
-    pub sent : IsSent new.late given (contents old.writer.now, rest old.writer.now)
-        (contents new.writer.now, rest new.writer.now) (failures old.writer.now) (failures new.writer.now)
-    pub counted : IsCounted new.late (calls new.reader.now)
+    pub gave : Gives reader.has_given old.reader.now new.reader.now given
+    pub sent : SentTo writer new.late given old.writer.now new.writer.now
+    pub counted : IsCounted new.late (reader.calls new.reader.now)
 
   -- this holds of a tee of which no write had failed before
   pub passed : (old new : Tee R W) (given : List ℕ)
-      → Gives {P = ℕ × (ℕ × (((Option (List ℕ) × S) × ℕ) ⊎ P))}
+      → Gives {P = ℕ × (ℕ × (((Option (List ℕ) × writer.Rest) × ℕ) ⊎ reader.Past))}
       (λ t past bytes. (t.reader.ghost_name ≡ past.0) × ((t.writer.ghost_name ≡ past.1.0)
-      × either_fact (λ start m. IsSent t.late m start.0 (contents t.writer.now, rest t.writer.now)
-      start.1 (failures t.writer.now) × IsCounted t.late (calls t.reader.now))
-      (λ p m. has_given t.reader.now p m) past.1.1 bytes)) old new given
+      × either_fact (λ start m. IsSent t.late m start.0 (writer.contents t.writer.now, writer.rest t.writer.now)
+      start.1 (writer.failures t.writer.now) × IsCounted t.late (reader.calls t.reader.now))
+      (λ p m. reader.has_given t.reader.now p m) past.1.1 bytes)) old new given
       → old.late ≡ None → Passed old new given
   passed old new given h unfailed =
-      let before : Option (List ℕ) × S = (contents old.writer.now, rest old.writer.now) in
-      let begun : IsSent old.late [] before before (failures old.writer.now) (failures old.writer.now) =
-      subst (λ (late : Option ℕ). IsSent late [] before before (failures old.writer.now) (failures old.writer.now))
-      (sym unfailed) (goes_none before (failures old.writer.now)) in
-      let uncounted : IsCounted old.late (calls old.reader.now) =
-      subst (λ (late : Option ℕ). IsCounted late (calls old.reader.now)) (sym unfailed) tt in
-      let sent = h.then (old.reader.ghost_name, (old.writer.ghost_name, inl (before, failures old.writer.now))) []
-      (refl, (refl, (begun, uncounted))) in
+      let before : Option (List ℕ) × writer.Rest = (writer.contents old.writer.now, writer.rest old.writer.now) in
+      let begun : IsSent old.late [] before before (writer.failures old.writer.now) (writer.failures old.writer.now) =
+      subst (λ (late : Option ℕ). IsSent late [] before before (writer.failures old.writer.now)
+      (writer.failures old.writer.now)) (sym unfailed) (goes_none before (writer.failures old.writer.now)) in
+      let uncounted : IsCounted old.late (reader.calls old.reader.now) =
+      subst (λ (late : Option ℕ). IsCounted late (reader.calls old.reader.now)) (sym unfailed) tt in
+      let sent = h.then (old.reader.ghost_name, (old.writer.ghost_name, inl (before, writer.failures old.writer.now)))
+      [] (refl, (refl, (begun, uncounted))) in
       record {
         same_reader = sent.0;
         same_writer = sent.1.0;

@@ -1,7 +1,7 @@
 -- A tee sends what passes piece by piece.
 use Rattle.std.proofs.Common.{◌≡◌, ℕ, List, ◌++◌, Option, None, ◌⊎◌, inl, inr, subst}
 use Rattle.dd_elem.specs.Device.{either_fact}
-use Rattle.dd_set.specs.Sends.{Goes}
+use Rattle.dd_stream.specs.Sends.{Goes}
 use Rattle.dd_filing.specs.Sent.{IsSent}
 
 -- where no write failed, all that passed was written

@@ -1,8 +1,9 @@
 -- What filing an image answers: whether the copied file is that of the planned version, or why it was not copied.
 use Rattle.std.specs.Prelude.{◌≡◌, ◌≢◌, ℕ, ◌≤◌, ◌+◌, List, length, Option, None, Some, Result, Ok, Err}
-use Rattle.dd_set.specs.Sends.{Goes, Stops}
-use Rattle.dd_set.specs.Streams.{Ends}
-use Rattle.dd_set.specs.declared.end.End.TheVariants.{Ended, Failed, TooLong}
+use Rattle.dd_elem.specs.declared.device.Write.{Ghosts as WriteOf}
+use Rattle.dd_stream.specs.Sends.{GoesTo, StopsIn}
+use Rattle.dd_stream.specs.Streams.{Ends}
+use Rattle.dd_stream.specs.declared.end.End.TheVariants.{Ended, Failed, TooLong}
 use Rattle.dd_part10.specs.Memory.{ScanWants}
 use Rattle.dd_keys.specs.declared.fault.KeyFault.{KeyFault}
 use Rattle.dd_version.specs.declared.parts.Parts.{Parts}
@@ -49,37 +50,34 @@ IsVersionOrNone file None = (version : Parts) → ¬ IsVersion file version
 
 -- ---- why it was not copied
 
--- Why a copy of at most `limit` bytes was refused. Its reader gave `given` and has `left` still to come; it had
--- `read_old` failures before and has `read_new` after. Its writer was `old` and is `new`; it had `write_old` failures
--- before and has `write_new` after.
-abbrev pub IsRefusedCopy : {R : Type 0} → FilingFault → ℕ → List ℕ → Option (List ℕ) → ℕ → ℕ
-    → Option (List ℕ) × R → Option (List ℕ) × R → ℕ → ℕ → Type 0
-IsRefusedCopy Memory limit given left read_old read_new old new write_old write_new =
+-- Why a copy of at most `limit` bytes was refused, to a writer that was `old` and is `new`. Its reader gave `given` and
+-- has `left` still to come; its failures were `failures` and are `after`.
+abbrev pub IsRefusedCopy : {W : Type 0} → WriteOf W → W → W → FilingFault → ℕ → List ℕ → Option (List ℕ) → ℕ → ℕ
+    → Type 0
+IsRefusedCopy writer old new Memory limit given left failures after =
     ((fault : KeyFault) × IsWantOfMemory (ScanWants wanted_tags) given fault)
-    × (Ends Ended limit given left read_old read_new × Goes given old new write_old write_new)
-IsRefusedCopy Unread limit given left read_old read_new old new write_old write_new =
-    Ends Failed limit given left read_old read_new × Goes given old new write_old write_new
-IsRefusedCopy Changed limit given left read_old read_new old new write_old write_new =
-    Ends TooLong limit given left read_old read_new × Goes given old new write_old write_new
-IsRefusedCopy Unsent limit given left read_old read_new old new write_old write_new =
-    (length given ≤ limit + 1) × ((taken : ℕ) × Stops given 0 taken old new write_old write_new)
+    × (Ends Ended limit given left failures after × GoesTo writer given old new)
+IsRefusedCopy writer old new Unread limit given left failures after =
+    Ends Failed limit given left failures after × GoesTo writer given old new
+IsRefusedCopy writer old new Changed limit given left failures after =
+    Ends TooLong limit given left failures after × GoesTo writer given old new
+IsRefusedCopy writer old new Unsent limit given left failures after =
+    (length given ≤ limit + 1) × ((taken : ℕ) × StopsIn writer given 0 taken old new)
 
 -- ---- the answers
 
 -- the answer of a copy that is compared with no planned version
-abbrev pub IsCopyOfVersion : {R : Type 0} → Result (Option Parts) FilingFault → ℕ → List ℕ → Option (List ℕ) → ℕ → ℕ
-    → Option (List ℕ) × R → Option (List ℕ) × R → ℕ → ℕ → Type 0
-IsCopyOfVersion (Ok version) limit given left read_old read_new old new write_old write_new =
-    IsVersionOrNone given version
-    × (Ends Ended limit given left read_old read_new × Goes given old new write_old write_new)
-IsCopyOfVersion (Err fault) limit given left read_old read_new old new write_old write_new =
-    IsRefusedCopy fault limit given left read_old read_new old new write_old write_new
+abbrev pub IsCopyOfVersion : {W : Type 0} → WriteOf W → W → W → Result (Option Parts) FilingFault → ℕ → List ℕ
+    → Option (List ℕ) → ℕ → ℕ → Type 0
+IsCopyOfVersion writer old new (Ok version) limit given left failures after = IsVersionOrNone given version
+    × (Ends Ended limit given left failures after × GoesTo writer given old new)
+IsCopyOfVersion writer old new (Err fault) limit given left failures after =
+    IsRefusedCopy writer old new fault limit given left failures after
 
 -- the answer of a copy that is compared with the planned version
-abbrev pub IsFiled : {R : Type 0} → Parts → Result Filed FilingFault → ℕ → List ℕ → Option (List ℕ) → ℕ → ℕ
-    → Option (List ℕ) × R → Option (List ℕ) × R → ℕ → ℕ → Type 0
-IsFiled planned (Ok filed) limit given left read_old read_new old new write_old write_new =
-    IsFileAs planned filed given
-    × (Ends Ended limit given left read_old read_new × Goes given old new write_old write_new)
-IsFiled planned (Err fault) limit given left read_old read_new old new write_old write_new =
-    IsRefusedCopy fault limit given left read_old read_new old new write_old write_new
+abbrev pub IsFiled : {W : Type 0} → WriteOf W → W → W → Parts → Result Filed FilingFault → ℕ → List ℕ
+    → Option (List ℕ) → ℕ → ℕ → Type 0
+IsFiled writer old new planned (Ok filed) limit given left failures after = IsFileAs planned filed given
+    × (Ends Ended limit given left failures after × GoesTo writer given old new)
+IsFiled writer old new planned (Err fault) limit given left failures after =
+    IsRefusedCopy writer old new fault limit given left failures after

@@ -1,10 +1,9 @@
 //! Copies an image, and reads it as a version in the same pass.
 
-ghost use Rattle.std.specs.Prelude.{◌≡◌, ◌≤◌, ◌+◌, ℕ, List, None};
-ghost use Rattle.std.specs.Io.KnownBytes.{Consumes};
-ghost use Rattle.dd_elem.specs.Device.{Gives};
+ghost use Rattle.std.specs.Prelude.{◌≡◌, None};
 ghost use Rattle.dd_filing.specs.CopySteps.{IsCopyAnswer, IsFilingFault};
 ghost use Rattle.dd_filing.specs.Filing.{IsCopyOfVersion, IsFiled};
+ghost use Rattle.dd_stream.specs.Reads.{ReadsUpTo};
 
 use crate::agreeing::Filed;
 use crate::tee::Tee;
@@ -44,13 +43,8 @@ pub fn copy_version<R: Read, W: Write>(
     writer: &mut W,
     limit: u64,
 ) -> Result<Option<Version>, FilingFault>
-    ensures copied { (given : List ℕ) × Gives R.has_given reader.old reader.new given
-        × Consumes (R.remaining reader.old) (R.remaining reader.new) given
-        × IsCopyOfVersion result limit given (R.remaining reader.new)
-        (R.failures reader.old) (R.failures reader.new)
-        (W.contents writer.old, W.rest writer.old) (W.contents writer.new, W.rest writer.new)
-        (W.failures writer.old) (W.failures writer.new) }
-    ensures calls { R.calls reader.new ≤ R.calls reader.old + limit + 1 }
+    ensures { ReadsUpTo R.Read limit reader.old reader.new
+        (IsCopyOfVersion W.Write writer.old writer.new result limit) }
 {
     let mut tee = Tee {
         reader,
@@ -69,14 +63,8 @@ fn copy_through<R: Read, W: Write>(
     requires { tee.old.late ≡ None }
     ensures same_reader { tee.new.reader.ghost_name ≡ tee.old.reader.ghost_name }
     ensures same_writer { tee.new.writer.ghost_name ≡ tee.old.writer.ghost_name }
-    ensures copied { (given : List ℕ) × Gives R.has_given tee.old.reader.now tee.new.reader.now given
-        × Consumes (R.remaining tee.old.reader.now) (R.remaining tee.new.reader.now) given
-        × IsCopyOfVersion result limit given (R.remaining tee.new.reader.now)
-        (R.failures tee.old.reader.now) (R.failures tee.new.reader.now)
-        (W.contents tee.old.writer.now, W.rest tee.old.writer.now)
-        (W.contents tee.new.writer.now, W.rest tee.new.writer.now)
-        (W.failures tee.old.writer.now) (W.failures tee.new.writer.now) }
-    ensures calls { R.calls tee.new.reader.now ≤ R.calls tee.old.reader.now + limit + 1 }
+    ensures copied { ReadsUpTo R.Read limit tee.old.reader.now tee.new.reader.now
+        (IsCopyOfVersion W.Write tee.old.writer.now tee.new.writer.now result limit) }
 {
     let answer = ingest(alloc, tee, limit);
     match tee.late {
@@ -125,13 +113,8 @@ pub fn file_image<R: Read, W: Write>(
     planned: &Version,
     limit: u64,
 ) -> Result<Filed, FilingFault>
-    ensures filed { (given : List ℕ) × Gives R.has_given reader.old reader.new given
-        × Consumes (R.remaining reader.old) (R.remaining reader.new) given
-        × IsFiled planned.now result limit given (R.remaining reader.new)
-        (R.failures reader.old) (R.failures reader.new)
-        (W.contents writer.old, W.rest writer.old) (W.contents writer.new, W.rest writer.new)
-        (W.failures writer.old) (W.failures writer.new) }
-    ensures calls { R.calls reader.new ≤ R.calls reader.old + limit + 1 }
+    ensures { ReadsUpTo R.Read limit reader.old reader.new
+        (IsFiled W.Write writer.old writer.new planned.now result limit) }
 {
     one_version();
     match copy_version(alloc, reader, writer, limit) {

@@ -5,7 +5,7 @@ ghost use Rattle.dd_elem.specs.Device.{either_fact};
 ghost use Rattle.dd_filing.specs.Sent.{IsCounted, IsSent, late_count};
 
 use dd_elem::{Read, Write};
-use dd_set::send;
+use dd_stream::send;
 use std::io;
 
 /// Reads from a reader, and sends what that gives to a writer. Once a write has failed, each later read of the

@@ -4,7 +4,7 @@ use Rattle.std.proofs.Common.{Result, Ok, Err, refl, sym, ap, ◌∙◌}
 use Rattle.std.specs.Prelude.{Contains, IsErr, IfErr}
 use Rattle.std.proofs.lemmas.Bool.{cond-true}
 use Rattle.sha2.specs.Sha256.{sha256}
-use Rattle.dd_set.specs.Elements.{Elements}
+use Rattle.dd_encoding.specs.Elements.{Elements}
 use Rattle.dd_part10.specs.File.{IsFile}
 use Rattle.dd_part10.specs.Reading.{FileParts, file_in}
 use Rattle.dd_part10.specs.declared.fault.FileFault.{FileFault}
@@ -12,7 +12,7 @@ use Rattle.dd_part10.specs.declared.fault.FileFault.TheVariants as faults
 use Rattle.dd_part10.specs.Matches.{Fails}
 use Rattle.dd_part10.specs.Memory.{GroupWants, SetWants}
 use Rattle.dd_part10.proofs.Found.{file_found}
-use Rattle.dd_set.specs.Bytes.{AreBytes}
+use Rattle.dd_stream.specs.Bytes.{AreBytes}
 use Rattle.dd_set.specs.declared.fault.SetFault.TheVariants.{Memory}
 use Rattle.dd_part10.proofs.Only.{file_only}
 use Rattle.dd_keys.specs.declared.fault.KeyFault.{KeyFault}

@@ -9,9 +9,9 @@ use Rattle.dd_elem.specs.Uid.{IsUid, is_uid}
 use Rattle.dd_elem.specs.declared.tag.Tag.{Tag}
 use Rattle.dd_elem.proofs.Cleaning.{clean_of-clean_of}
 use Rattle.dd_elem.proofs.UidForm.{IsUid_from_is_uid, is_uid_from_IsUid}
-use Rattle.dd_set.specs.Elements.{Elements, Content, bytes, items, fragments, Entry}
+use Rattle.dd_encoding.specs.Elements.{Elements, Content, bytes, items, fragments, Entry}
 use Rattle.dd_set.specs.Find.{find_in}
-use Rattle.dd_part10.specs.declared.meta.Meta.{Meta}
+use Rattle.dd_encoding.specs.declared.meta.Meta.{Meta}
 use Rattle.dd_keys.specs.declared.fault.KeyFault.{KeyFault}
 use Rattle.dd_keys.specs.declared.fault.KeyFault.TheVariants.{BadKeyUid, KeyTooLong, MetaMismatch}
 use Rattle.dd_keys.specs.Faults.{key_fault_of, key_fault, wanted_uid, mismatch_of, uid_fault_of, uid_fault}

@@ -12,9 +12,9 @@ use Rattle.dd_elem.proofs.UidForm.{is_uid-long}
 use Rattle.dd_set.specs.Scan.{Told, told_value, is_wanted}
 use Rattle.dd_part10.specs.File.{IsFile}
 use Rattle.dd_part10.specs.Reading.{FileParts, file_in}
-use Rattle.dd_part10.specs.Syntaxes.{syntax_of}
+use Rattle.dd_encoding.specs.Syntaxes.{syntax_of}
 use Rattle.dd_part10.specs.declared.fault.FileFault.{FileFault}
-use Rattle.dd_part10.specs.declared.meta.Meta.{Meta}
+use Rattle.dd_encoding.specs.declared.meta.Meta.{Meta}
 use Rattle.dd_keys.specs.declared.fault.KeyFault.{KeyFault}
 use Rattle.dd_keys.specs.declared.fault.KeyFault.TheVariants.{BadKeyUid, NotImage}
 use Rattle.dd_version.specs.declared.parts.Parts.{Parts}
@@ -37,7 +37,7 @@ use Rattle.dd_keys.proofs.FoundVersions.{found_version, or_other_some, file_of, 
 use Rattle.dd_keys.proofs.Held.{continues, key_held, uid_held}
 use Rattle.dd_version.proofs.ImageClasses.{is_image_class_decides}
 use Rattle.dd_keys.proofs.Passes.{passes}
-use Rattle.dd_part10.proofs.KnownSyntaxes.{syntax_decides}
+use Rattle.dd_encoding.proofs.KnownSyntaxes.{syntax_decides}
 use Rattle.dd_part10.proofs.Only.{file_only}
 
 -- ---- the checks

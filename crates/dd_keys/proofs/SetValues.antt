@@ -1,7 +1,7 @@
 -- The keys of a data set, and the parts of a version, by its value at each tag.
 use Rattle.std.specs.Prelude.{ℕ, List, Option}
 use Rattle.dd_elem.specs.declared.tag.Tag.{Tag}
-use Rattle.dd_set.specs.Elements.{Elements}
+use Rattle.dd_encoding.specs.Elements.{Elements}
 use Rattle.dd_part10.specs.Reading.{FileParts}
 use Rattle.dd_keys.specs.Table.{KeyRow}
 use Rattle.dd_version.specs.declared.keys.PatientKeys.{PatientKeys}

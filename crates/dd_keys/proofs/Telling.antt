@@ -6,7 +6,7 @@ use Rattle.std.proofs.lemmas.List.{take_all}
 use Rattle.dd_elem.specs.Clean.{clean_of}
 use Rattle.dd_elem.specs.Key.{IsKey}
 use Rattle.dd_elem.specs.declared.tag.Tag.{Tag}
-use Rattle.dd_set.specs.Elements.{Elements, Content, bytes, items, fragments, Entry}
+use Rattle.dd_encoding.specs.Elements.{Elements, Content, bytes, items, fragments, Entry}
 use Rattle.dd_set.specs.Find.{same_tag, entries_of}
 use Rattle.dd_set.specs.Scan.{Told, cleaned, told_value, told_of, Hit, hit_of, is_wanted, hits_of, found_hit}
 use Rattle.dd_set.specs.declared.found.Found.{Found}

@@ -1,7 +1,7 @@
 -- What is told of the values of a data set at the tags of the table.
 use Rattle.std.specs.Prelude.{◌≡◌, true}
 use Rattle.dd_elem.specs.declared.tag.Tag.{Tag}
-use Rattle.dd_set.specs.Elements.{Elements}
+use Rattle.dd_encoding.specs.Elements.{Elements}
 use Rattle.dd_set.specs.Scan.{Told, is_wanted}
 use Rattle.dd_keys.specs.Table.{wanted_tags}
 use Rattle.dd_keys.specs.Told.{told_at}

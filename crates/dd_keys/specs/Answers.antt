@@ -1,8 +1,8 @@
 -- What reading a version answers: for the bytes of its file, and for a reader that gives them.
 use Rattle.std.specs.Prelude.{◌≡◌, ◌≢◌, ◌⊎◌, ℕ, List}
 use Rattle.std.specs.Prelude.{Option, Some, Result, Err, IfOk, IfErr, MatchResult}
-use Rattle.dd_set.specs.declared.end.End.TheVariants.{Ended, Failed, TooLong}
-use Rattle.dd_set.specs.Streams.{Ends}
+use Rattle.dd_stream.specs.declared.end.End.TheVariants.{Ended, Failed, TooLong}
+use Rattle.dd_stream.specs.Streams.{Ends}
 use Rattle.dd_part10.specs.Memory.{SetWants, ScanWants}
 use Rattle.dd_part10.specs.declared.stream_fault.StreamFault.{StreamFault}
 use Rattle.dd_part10.specs.declared.stream_fault.StreamFault.TheVariants as faults

@@ -1,4 +1,5 @@
 pub mod Answers
+pub mod Digested
 pub mod Faults
 pub mod RowViews
 pub mod Table

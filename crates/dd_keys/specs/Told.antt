@@ -4,11 +4,11 @@ use Rattle.std.specs.Prelude.{◌≡◌, ◌≤◌, ◌⊎◌, ℕ, List, [], Op
 use Rattle.std.specs.Prelude.{nat_lt, if◌then◌else◌}
 use Rattle.dd_elem.specs.Key.{IsKey, max_key_length}
 use Rattle.dd_elem.specs.declared.tag.Tag.{Tag}
-use Rattle.dd_set.specs.Elements.{Elements}
+use Rattle.dd_encoding.specs.Elements.{Elements}
 use Rattle.dd_set.specs.Find.{same_tag}
 use Rattle.dd_set.specs.Scan.{Told, sequence, fragments, cleaned, told_value, value_told}
 use Rattle.dd_set.specs.declared.found.Found.{Found}
-use Rattle.dd_part10.specs.declared.meta.Meta.{Meta}
+use Rattle.dd_encoding.specs.declared.meta.Meta.{Meta}
 use Rattle.dd_keys.specs.declared.fault.KeyFault.{KeyFault}
 use Rattle.dd_keys.specs.declared.fault.KeyFault.TheVariants.{NotImage, KeyTooLong, KeyIsSequence, Memory}
 use Rattle.dd_keys.specs.declared.told.Shown.{Shown}

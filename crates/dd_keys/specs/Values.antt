@@ -2,9 +2,9 @@
 use Rattle.std.specs.Prelude.{ℕ, List, [], ◌∷◌, Option, Some, None, unwrap_or}
 use Rattle.dd_elem.specs.Clean.{clean_of}
 use Rattle.dd_elem.specs.declared.tag.Tag.{Tag}
-use Rattle.dd_set.specs.Elements.{Elements, Content, bytes, items, fragments, Entry}
+use Rattle.dd_encoding.specs.Elements.{Elements, Content, bytes, items, fragments, Entry}
 use Rattle.dd_set.specs.Find.{find_in}
-use Rattle.dd_part10.specs.declared.meta.Meta.{Meta}
+use Rattle.dd_encoding.specs.declared.meta.Meta.{Meta}
 use Rattle.dd_keys.specs.Table.{KeyRow, charset_row, study_date_row, study_time_row, accession_row, modality_row}
 use Rattle.dd_keys.specs.Table.{description_row, patient_name_row, patient_id_row, study_row, series_row, study_id_row}
 use Rattle.dd_keys.specs.Table.{series_number_row, instance_number_row}

@@ -5,9 +5,9 @@ use Rattle.sha2.specs.Sha256.{sha256}
 use Rattle.dd_elem.specs.Key.{max_key_length}
 use Rattle.dd_elem.specs.Uid.{IsUid}
 use Rattle.dd_elem.specs.declared.tag.Tag.{Tag}
-use Rattle.dd_set.specs.Elements.{Elements}
+use Rattle.dd_encoding.specs.Elements.{Elements}
 use Rattle.dd_part10.specs.File.{IsFile}
-use Rattle.dd_part10.specs.declared.meta.Meta.{Meta}
+use Rattle.dd_encoding.specs.declared.meta.Meta.{Meta}
 use Rattle.dd_version.specs.Classes.{image_classes}
 use Rattle.dd_keys.specs.Table.{KeyRow, charset_row, class_row, instance_row, study_date_row, study_time_row}
 use Rattle.dd_keys.specs.Table.{accession_row, modality_row, description_row, patient_name_row, patient_id_row}

@@ -1,11 +1,10 @@
 //! A reader that digests what passes, and a file that is read through one.
 
-ghost use Rattle.std.specs.Prelude.{◌≡◌, ◌⊎◌, ◌≤◌, ◌+◌, ℕ, List, []};
-ghost use Rattle.std.specs.Io.KnownBytes.{Consumes};
+ghost use Rattle.std.specs.Prelude.{◌≡◌, ◌⊎◌, ℕ, []};
 ghost use Rattle.sha2.specs.Hashers.{Holds256};
-ghost use Rattle.sha2.specs.Sha256.{sha256};
-ghost use Rattle.dd_elem.specs.Device.{Gives, either_fact};
-ghost use Rattle.dd_part10.specs.Streaming.{IsFileAnswer};
+ghost use Rattle.dd_elem.specs.Device.{either_fact};
+ghost use Rattle.dd_keys.specs.Digested.{IsDigested};
+ghost use Rattle.dd_stream.specs.Reads.{ReadsUpTo};
 
 use dd_elem::{Read, Tag};
 use dd_part10::{Scanned, StreamFault, read_file};
@@ -53,12 +52,7 @@ pub struct Digested {
 /// Reads a file as `read_file` does, with the same answer and the same refusals, and digests all bytes that the
 /// reader gives meanwhile, whether they are a file or not. It makes at most `limit` + 1 reads.
 pub fn read_digested<R: Read>(alloc: Global, reader: &mut R, wanted: &[Tag], limit: u64) -> Digested
-    ensures gave { (given : List ℕ) × Gives R.has_given reader.old reader.new given
-        × Consumes (R.remaining reader.old) (R.remaining reader.new) given
-        × IsFileAnswer result.file wanted.now limit given (R.remaining reader.new)
-        (R.failures reader.old) (R.failures reader.new)
-        × (result.digest ≡ sha256 given) }
-    ensures calls { R.calls reader.new ≤ R.calls reader.old + limit + 1 }
+    ensures { ReadsUpTo R.Read limit reader.old reader.new (IsDigested result wanted.now limit) }
 {
     let mut digesting = Digesting {
         reader,
@@ -76,12 +70,8 @@ fn read_digesting<R: Read>(
 ) -> Digested
     requires { Holds256 digesting.old.hasher [] }
     ensures same { digesting.new.reader.ghost_name ≡ digesting.old.reader.ghost_name }
-    ensures gave { (given : List ℕ) × Gives R.has_given digesting.old.reader.now digesting.new.reader.now given
-        × Consumes (R.remaining digesting.old.reader.now) (R.remaining digesting.new.reader.now) given
-        × IsFileAnswer result.file wanted.now limit given (R.remaining digesting.new.reader.now)
-        (R.failures digesting.old.reader.now) (R.failures digesting.new.reader.now)
-        × (result.digest ≡ sha256 given) }
-    ensures calls { R.calls digesting.new.reader.now ≤ R.calls digesting.old.reader.now + limit + 1 }
+    ensures read { ReadsUpTo R.Read limit digesting.old.reader.now digesting.new.reader.now
+        (IsDigested result wanted.now limit) }
 {
     let file = read_file(alloc, digesting, wanted, limit);
     let digest = digesting.hasher.finalize_reset();

@@ -1,10 +1,9 @@
 //! Reading a version from the bytes of its file, in memory or from a reader.
 
-ghost use Rattle.std.specs.Prelude.{◌≡◌, ◌<◌, ◌≤◌, ◌+◌, ◌^◌, ℕ, List, [], length, None, IsSome};
-ghost use Rattle.std.specs.Io.KnownBytes.{Consumes};
-ghost use Rattle.dd_elem.specs.Device.{Gives};
-ghost use Rattle.dd_set.specs.Bytes.{AreBytes};
-ghost use Rattle.dd_part10.specs.Syntaxes.{syntax_of};
+ghost use Rattle.std.specs.Prelude.{◌≡◌, ◌<◌, ◌^◌, ℕ, List, length, None, IsSome};
+ghost use Rattle.dd_stream.specs.Bytes.{AreBytes};
+ghost use Rattle.dd_stream.specs.Reads.{ReadsUpTo};
+ghost use Rattle.dd_encoding.specs.Syntaxes.{syntax_of};
 ghost use Rattle.dd_version.specs.declared.parts.Parts.{Parts};
 ghost use Rattle.dd_keys.specs.Answers.{Answers, AnswersReader};
 ghost use Rattle.dd_keys.specs.Faults.{first_fault};
@@ -43,10 +42,8 @@ pub fn version_of(alloc: Global, bytes: &[u8]) -> Result<Version, KeyFault>
 /// that the reader gave. Or want of memory: `File` with that of group 0002, or of the data set where an
 /// element of the table is there, and `Memory` behind all checks. It makes at most `limit` + 1 reads.
 pub fn ingest<R: Read>(alloc: Global, reader: &mut R, limit: u64) -> Result<Version, KeyFault>
-    ensures gave { (given : List ℕ) × Gives R.has_given reader.old reader.new given
-        × Consumes (R.remaining reader.old) (R.remaining reader.new) given
-        × AnswersReader limit given (R.remaining reader.new) (R.failures reader.old) (R.failures reader.new) result }
-    ensures calls { R.calls reader.new ≤ R.calls reader.old + limit + 1 }
+    ensures { ReadsUpTo R.Read limit reader.old reader.new
+        (λ given left failures after. AnswersReader limit given left failures after result) }
 {
     let Digested { file, digest } = read_digested(alloc, reader, &WANTED, limit);
     let scanned = file?;

@@ -7,12 +7,12 @@ use Rattle.std.proofs.lemmas.List.Sums.{sum_by-cons}
 use Rattle.byteorder.specs.Endian.{little_bytes}
 use Rattle.dd_elem.specs.SetId.{max_set_id_length}
 use Rattle.dd_elem.specs.declared.vr.Vr.TheVariants.{CS, SQ, UL, US}
-use Rattle.dd_part10.specs.Head.{head_text}
-use Rattle.dd_set.specs.Elements.{Entry, Part, bytes, items, no_elements, elements_of, items_of}
-use Rattle.dd_set.specs.Spelling.{AreElements, AreItems, max_levels, undefined_length, items_text}
-use Rattle.dd_set.specs.declared.syntax.Length.TheVariants.{Defined}
-use Rattle.dd_set.specs.declared.syntax.Syntax.TheVariants.{Explicit}
-use Rattle.dd_set.proofs.Even.{length-element, length-items, length-item}
+use Rattle.dd_encoding.specs.Head.{head_text}
+use Rattle.dd_encoding.specs.Elements.{Entry, Part, bytes, items, no_elements, elements_of, items_of}
+use Rattle.dd_encoding.specs.Spelling.{AreElements, AreItems, max_levels, undefined_length, items_text}
+use Rattle.dd_encoding.specs.declared.syntax.Length.TheVariants.{Defined}
+use Rattle.dd_encoding.specs.declared.syntax.Syntax.TheVariants.{Explicit}
+use Rattle.dd_encoding.proofs.Even.{length-element, length-items, length-item}
 use Rattle.dd_layout.specs.declared.label.Label.{Label}
 use Rattle.dd_layout.specs.Directory.{directory_entries, first_offset, meta_of, records_entry}
 use Rattle.dd_layout.specs.Entries.{tag, padded, long_entry, short_entry}

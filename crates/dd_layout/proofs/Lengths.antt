@@ -4,8 +4,8 @@ use Rattle.std.proofs.Common.{ap, arith, length-append}
 use Rattle.dd_elem.specs.declared.tag.Tag.{Tag}
 use Rattle.dd_elem.specs.declared.vr.Vr.{Vr}
 use Rattle.dd_elem.specs.Vr.{is_long_of}
-use Rattle.dd_set.specs.Elements.{Entry, bytes, elements_of}
-use Rattle.dd_set.proofs.Even.{length-element, length-bytes, shape_length}
+use Rattle.dd_encoding.specs.Elements.{Entry, bytes, elements_of}
+use Rattle.dd_encoding.proofs.Even.{length-element, length-bytes, shape_length}
 use Rattle.std.proofs.lemmas.Bool.{eqb-true, eqb-false}
 use Rattle.dd_layout.specs.Entries.{padded, bytes_entry}
 use Rattle.dd_layout.specs.Sizes.{entries_size}

@@ -5,7 +5,7 @@ use Rattle.dd_elem.specs.FileId.{Ranks, AreRanks, text_of}
 use Rattle.dd_elem.proofs.SixDigits.{length-six_digits}
 use Rattle.dd_elem.specs.declared.vr.Vr.TheVariants.{CS, IS, UL, US}
 use Rattle.dd_version.specs.declared.parts.Parts.{Parts}
-use Rattle.dd_set.specs.Elements.{Entry}
+use Rattle.dd_encoding.specs.Elements.{Entry}
 use Rattle.dd_layout.specs.Entries.{tag, padded, text_entry, uid_entry, long_entry, short_entry}
 use Rattle.dd_layout.specs.Records.{IsFileOf, digest_entries, kind_of, key_entries, link_entries, record_entries}
 use Rattle.dd_layout.specs.Sizes.{entries_size}

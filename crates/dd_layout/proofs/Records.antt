@@ -3,9 +3,9 @@ use Rattle.std.proofs.Common.{◌≡◌, ℕ, ◌+◌, List, Option, ap, subst, 
 use Rattle.std.specs.List.{AllByRecursion}
 use Rattle.dd_elem.specs.FileId.{Ranks}
 use Rattle.dd_version.specs.declared.parts.Parts.{Parts}
-use Rattle.dd_set.specs.Elements.{elements_of}
-use Rattle.dd_set.specs.Spelling.{AreElements}
-use Rattle.dd_set.specs.declared.syntax.Syntax.TheVariants.{Explicit}
+use Rattle.dd_encoding.specs.Elements.{elements_of}
+use Rattle.dd_encoding.specs.Spelling.{AreElements}
+use Rattle.dd_encoding.specs.declared.syntax.Syntax.TheVariants.{Explicit}
 use Rattle.dd_layout.specs.Cells.{IsShortEntry, table_entries}
 use Rattle.dd_layout.specs.Records.{IsFileOf, record_entries}
 use Rattle.dd_layout.specs.Sizes.{entries_size, record_size}

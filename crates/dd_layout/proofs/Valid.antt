@@ -10,9 +10,9 @@ use Rattle.dd_elem.specs.declared.tag.Tag.{Tag}
 use Rattle.dd_elem.specs.declared.vr.Vr.{Vr}
 use Rattle.dd_elem.specs.declared.vr.Vr.TheVariants.{CS, DA, LO, PN, SH, SQ, TM}
 use Rattle.dd_version.specs.declared.parts.Parts.{Parts}
-use Rattle.dd_set.specs.Elements.{Elements, Entry, Content, bytes, items, fragments, element, elements_of}
-use Rattle.dd_set.specs.Spelling.{AreElements, delimiter_group, length_limit}
-use Rattle.dd_set.specs.declared.syntax.Syntax.TheVariants.{Explicit}
+use Rattle.dd_encoding.specs.Elements.{Elements, Entry, Content, bytes, items, fragments, element, elements_of}
+use Rattle.dd_encoding.specs.Spelling.{AreElements, delimiter_group, length_limit}
+use Rattle.dd_encoding.specs.declared.syntax.Syntax.TheVariants.{Explicit}
 use Rattle.dd_layout.specs.Cells.{IsShort, IsShortContent, IsShortEntry}
 use Rattle.dd_layout.specs.Entries.{tag, padded, text_entry, uid_entry}
 use Rattle.dd_layout.specs.Records.{IsFileOf, kind_of, link_entries, record_entries}

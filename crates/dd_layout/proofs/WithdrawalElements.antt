@@ -4,10 +4,10 @@ use Rattle.std.proofs.Common.{sum_by}
 use Rattle.std.specs.List.{join_with_byte}
 use Rattle.std.proofs.lemmas.List.Sums.{sum_by-cons}
 use Rattle.dd_elem.specs.declared.vr.Vr.TheVariants.{LO, UC}
-use Rattle.dd_set.specs.Elements.{bytes, no_elements, elements_of}
-use Rattle.dd_set.specs.Spelling.{AreElements, max_levels, undefined_length}
-use Rattle.dd_set.specs.declared.syntax.Syntax.TheVariants.{Explicit}
-use Rattle.dd_set.proofs.Even.{length-element, length-bytes}
+use Rattle.dd_encoding.specs.Elements.{bytes, no_elements, elements_of}
+use Rattle.dd_encoding.specs.Spelling.{AreElements, max_levels, undefined_length}
+use Rattle.dd_encoding.specs.declared.syntax.Syntax.TheVariants.{Explicit}
+use Rattle.dd_encoding.proofs.Even.{length-element, length-bytes}
 use Rattle.dd_layout.specs.Entries.{tag, padded, bytes_entry}
 use Rattle.dd_layout.specs.Records.{private_creator}
 use Rattle.dd_layout.specs.Withdrawals.{withdrawal_entries, withdrawals_size, withdrawn_value}

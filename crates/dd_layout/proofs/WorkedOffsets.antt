@@ -3,7 +3,7 @@ use Rattle.std.specs.Prelude.{◌≡◌, [], ◌∷◌, None, Some, codes}
 use Rattle.std.proofs.Common.{refl}
 use Rattle.std.specs.Fmt.{digits}
 use Rattle.dd_elem.specs.FileId.{ranks_of, text_of}
-use Rattle.dd_part10.specs.Head.{head_text, group_text}
+use Rattle.dd_encoding.specs.Head.{head_text, group_text}
 use Rattle.dd_layout.specs.declared.level.Level.TheVariants.{Patient, Study, Series, Image}
 use Rattle.dd_layout.specs.Plans.{at, records_of, size}
 use Rattle.dd_layout.specs.Worked.{row, eleven_records, four_images, one_withdrawn, two_withdrawn, unnamed}

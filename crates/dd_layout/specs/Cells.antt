@@ -6,7 +6,7 @@ use Rattle.byteorder.specs.Endian.{little_bytes}
 use Rattle.dd_elem.specs.FileId.{Ranks}
 use Rattle.dd_elem.specs.Key.{max_key_length}
 use Rattle.dd_version.specs.declared.parts.Parts.{Parts}
-use Rattle.dd_set.specs.Elements.{Entry, Content, bytes, items, fragments}
+use Rattle.dd_encoding.specs.Elements.{Entry, Content, bytes, items, fragments}
 use Rattle.dd_layout.specs.declared.cell.Cell.{Cell}
 use Rattle.dd_layout.specs.declared.cell.CellValue.{CellValue}
 use Rattle.dd_layout.specs.declared.cell.CellValue.TheVariants as values

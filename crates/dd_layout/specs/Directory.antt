@@ -2,11 +2,11 @@
 -- F.3.2.2, PS3.10 section 8.6).
 use Rattle.std.specs.Prelude.{ℕ, ◌+◌, List, [], ◌∷◌, ◌++◌, length, Some, codes}
 use Rattle.dd_elem.specs.declared.vr.Vr.TheVariants.{CS, SQ}
-use Rattle.dd_part10.specs.declared.meta.Meta.{Meta}
-use Rattle.dd_part10.specs.Head.{head_text}
-use Rattle.dd_set.specs.declared.syntax.Length.TheVariants.{Defined}
-use Rattle.dd_set.specs.Elements.{Entry, Part, items, elements_of, items_of}
-use Rattle.dd_set.specs.Spelling.{elements_text}
+use Rattle.dd_encoding.specs.declared.meta.Meta.{Meta}
+use Rattle.dd_encoding.specs.Head.{head_text}
+use Rattle.dd_encoding.specs.declared.syntax.Length.TheVariants.{Defined}
+use Rattle.dd_encoding.specs.Elements.{Entry, Part, items, elements_of, items_of}
+use Rattle.dd_encoding.specs.Spelling.{elements_text}
 use Rattle.dd_layout.specs.declared.label.Label.{Label}
 use Rattle.dd_layout.specs.Entries.{tag, text_entry, long_entry, short_entry}
 

@@ -4,7 +4,7 @@ use Rattle.byteorder.specs.Endian.{little_bytes}
 use Rattle.dd_elem.specs.declared.tag.Tag.{Tag}
 use Rattle.dd_elem.specs.declared.vr.Vr.{Vr}
 use Rattle.dd_elem.specs.declared.vr.Vr.TheVariants.{UI, UL, US}
-use Rattle.dd_set.specs.Elements.{bytes, Entry}
+use Rattle.dd_encoding.specs.Elements.{bytes, Entry}
 
 -- the tag of this group and element number
 abbrev pub tag : ℕ → ℕ → Tag

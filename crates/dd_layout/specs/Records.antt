@@ -7,10 +7,10 @@ use Rattle.dd_version.specs.declared.parts.Parts.{Parts}
 use Rattle.dd_version.specs.declared.keys.PatientKeys.{PatientKeys}
 use Rattle.dd_version.specs.declared.keys.SeriesKeys.{SeriesKeys}
 use Rattle.dd_version.specs.declared.keys.StudyKeys.{StudyKeys}
-use Rattle.dd_set.specs.declared.syntax.Length.TheVariants.{Defined}
-use Rattle.dd_set.specs.declared.syntax.Syntax.TheVariants.{Explicit}
-use Rattle.dd_set.specs.Elements.{Entry, Part, elements_of}
-use Rattle.dd_set.specs.Spelling.{AreElements, max_levels}
+use Rattle.dd_encoding.specs.declared.syntax.Length.TheVariants.{Defined}
+use Rattle.dd_encoding.specs.declared.syntax.Syntax.TheVariants.{Explicit}
+use Rattle.dd_encoding.specs.Elements.{Entry, Part, elements_of}
+use Rattle.dd_encoding.specs.Spelling.{AreElements, max_levels}
 use Rattle.dd_layout.specs.declared.level.Level.{Level}
 use Rattle.dd_layout.specs.declared.level.Level.TheVariants.{Patient, Study, Series, Image}
 use Rattle.dd_layout.specs.Entries.{tag, bytes_entry, text_entry, uid_entry, long_entry, short_entry}

@@ -1,7 +1,7 @@
 -- How many bytes elements and records take.
 use Rattle.std.specs.Prelude.{ℕ, ◌+◌, List, length}
-use Rattle.dd_set.specs.Elements.{Entry, elements_of}
-use Rattle.dd_set.specs.Spelling.{elements_text}
+use Rattle.dd_encoding.specs.Elements.{Entry, elements_of}
+use Rattle.dd_encoding.specs.Spelling.{elements_text}
 
 -- elements in a row
 abbrev pub entries_size : List Entry → ℕ

@@ -3,7 +3,7 @@
 use Rattle.std.specs.Prelude.{ℕ, List, [], ◌∷◌}
 use Rattle.std.specs.List.{join_with_byte}
 use Rattle.dd_elem.specs.declared.vr.Vr.TheVariants.{LO, UC}
-use Rattle.dd_set.specs.Elements.{Entry}
+use Rattle.dd_encoding.specs.Elements.{Entry}
 use Rattle.dd_layout.specs.Entries.{tag, padded, bytes_entry, text_entry}
 use Rattle.dd_layout.specs.Records.{private_creator}
 use Rattle.dd_layout.specs.Sizes.{entries_size}

@@ -8,7 +8,7 @@ ghost use Rattle.dd_layout.specs.Sizes.{entries_size};
 
 use byteorder::{ByteOrder, LittleEndian};
 use dd_elem::{Tag, Vr};
-use dd_set::{HEADER_SIZE, LONG_HEADER_SIZE};
+use dd_encoding::{HEADER_SIZE, LONG_HEADER_SIZE};
 
 /// An element of a record in Explicit VR.
 #[derive(Clone, Copy, Debug)]

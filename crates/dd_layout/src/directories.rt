@@ -2,10 +2,10 @@
 
 ghost use Rattle.std.specs.Prelude.{◌≡◌, ◌+◌, ◌<◌, ◌≤◌, ◌++◌, ℕ, List, All, length, map, sum_by};
 ghost use Rattle.dd_elem.specs.SetId.{max_set_id_length};
-ghost use Rattle.dd_part10.specs.Head.{head_text};
-ghost use Rattle.dd_set.specs.Elements.{Entry, elements_of};
-ghost use Rattle.dd_set.specs.Spelling.{AreElements, max_levels, undefined_length};
-ghost use Rattle.dd_set.specs.declared.syntax.Syntax.TheVariants.{Explicit};
+ghost use Rattle.dd_encoding.specs.Head.{head_text};
+ghost use Rattle.dd_encoding.specs.Elements.{Entry, elements_of};
+ghost use Rattle.dd_encoding.specs.Spelling.{AreElements, max_levels, undefined_length};
+ghost use Rattle.dd_encoding.specs.declared.syntax.Syntax.TheVariants.{Explicit};
 ghost use Rattle.dd_layout.specs.declared.label.Label.{Label};
 ghost use Rattle.dd_layout.specs.Directory.{directory_entries, first_offset, meta_of};
 ghost use Rattle.dd_layout.specs.Records.{IsRecord, record_part};

@@ -11,7 +11,7 @@ use crate::cell::{Cell, CellValue, header_size, long_value};
 use crate::label::Label;
 use crate::meta::directory_meta;
 use dd_elem::{Tag, Vr};
-use dd_part10::head_size;
+use dd_encoding::head_size;
 
 /// The tag of the File-set ID (PS3.3 section F.3.2.1).
 pub const SET_ID: Tag = Tag {

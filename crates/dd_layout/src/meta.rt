@@ -5,7 +5,7 @@ ghost use Rattle.dd_layout.specs.Directory.{directory_class, directory_syntax, m
 
 use crate::label::Label;
 use dd_elem::Uid;
-use dd_part10::Meta;
+use dd_encoding::Meta;
 
 /// The class of directories, Media Storage Directory Storage (PS3.4 annex I.4, PS3.6 annex A).
 pub const DIRECTORY_CLASS: &[u8] = b"1.2.840.10008.1.3.10";

@@ -3,9 +3,9 @@
 ghost use Rattle.std.specs.Prelude.{◌≡◌, ◌*◌, ◌≤◌, ℕ, Option, length};
 ghost use Rattle.std.specs.List.{AllByRecursion};
 ghost use Rattle.dd_elem.specs.FileId.{Ranks};
-ghost use Rattle.dd_set.specs.Elements.{elements_of};
-ghost use Rattle.dd_set.specs.Spelling.{AreElements};
-ghost use Rattle.dd_set.specs.declared.syntax.Syntax.TheVariants.{Explicit};
+ghost use Rattle.dd_encoding.specs.Elements.{elements_of};
+ghost use Rattle.dd_encoding.specs.Spelling.{AreElements};
+ghost use Rattle.dd_encoding.specs.declared.syntax.Syntax.TheVariants.{Explicit};
 ghost use Rattle.dd_layout.specs.Cells.{IsShortEntry, table_entries};
 ghost use Rattle.dd_layout.specs.Records.{IsFileOf, record_entries};
 ghost use Rattle.dd_layout.specs.Sizes.{entries_size, record_size};
@@ -14,7 +14,7 @@ use crate::level::Level;
 use crate::record::PlanRecord;
 use crate::table::{Row, rows};
 use dd_elem::FileId;
-use dd_set::HEADER_SIZE;
+use dd_encoding::HEADER_SIZE;
 use dd_version::Parts;
 
 /// The Item tag and the length before the elements of a record (PS3.5 section 7.5).

@@ -4,7 +4,7 @@ use Rattle.std.specs.List.{list_all}
 use Rattle.dd_set.specs.declared.set.DataSet.{DataSet}
 use Rattle.dd_set.specs.declared.set.Element.{Element}
 use Rattle.dd_set.specs.declared.set.Value.TheViews.{out-DataSet}
-use Rattle.dd_set.specs.Elements.{Entry}
+use Rattle.dd_encoding.specs.Elements.{Entry}
 use Rattle.dd_set.specs.Views.{set_view, element_view}
 use Rattle.dd_set.proofs.Entries.{entries_of-elements_of}
 use Rattle.dd_set.proofs.Seen.{set_view-is, element_view-is}

@@ -1,7 +1,7 @@
 -- What the code returned of bytes is a file.
 use Rattle.std.proofs.Common.{ℕ, ◌^◌, ◌<◌, List, length, Result, Ok, Err}
 use Rattle.std.specs.Prelude.{IfOk}
-use Rattle.dd_set.specs.Bytes.{AreBytes}
+use Rattle.dd_stream.specs.Bytes.{AreBytes}
 use Rattle.dd_set.specs.Views.{set_view}
 use Rattle.dd_part10.specs.declared.fault.FileFault.{FileFault}
 use Rattle.dd_part10.specs.declared.file.DicomFile.{DicomFile}

@@ -14,26 +14,28 @@ use Rattle.dd_elem.specs.declared.vr.Vr.{Vr}
 use Rattle.dd_elem.specs.declared.vr.Vr.TheVariants.{UL}
 use Rattle.dd_elem.proofs.Cleaning.{IsCleanOf_from_is}
 use Rattle.dd_elem.proofs.UidForm.{IsUid_from_is_uid}
-use Rattle.dd_set.specs.declared.syntax.Syntax.{Syntax}
-use Rattle.dd_set.specs.declared.syntax.Syntax.TheVariants.{Explicit}
-use Rattle.dd_set.specs.Bytes.{AreBytes}
-use Rattle.dd_set.specs.Elements.{Elements, no_elements, element, Content, bytes, items, fragments, Entry}
+use Rattle.dd_encoding.specs.declared.syntax.Syntax.{Syntax}
+use Rattle.dd_encoding.specs.declared.syntax.Syntax.TheVariants.{Explicit}
+use Rattle.dd_stream.specs.Bytes.{AreBytes}
+use Rattle.dd_encoding.specs.Elements.{Elements, no_elements, element, Content, bytes, items, fragments, Entry}
 use Rattle.dd_set.specs.Find.{same_tag, entries_of, find_in}
 use Rattle.dd_set.specs.Reading.{read_all}
-use Rattle.dd_set.specs.Spelling.{Spells, header_text}
+use Rattle.dd_encoding.specs.Spelling.{Spells, header_text}
 use Rattle.dd_set.proofs.SoundItems.{all_takes}
 use Rattle.dd_set.proofs.Steps.{AreBytes-drop, AreBytes-take, long_front, long_text, found_passes}
 use Rattle.dd_part10.specs.declared.fault.FileFault.{FileFault}
 use Rattle.dd_part10.specs.declared.fault.FileFault.TheVariants.{NotPart10, GroupLength, MetaMissing, MetaUid}
 use Rattle.dd_part10.specs.declared.fault.FileFault.TheVariants.{OtherSyntax}
 use Rattle.dd_part10.specs.declared.fault.FileFault.TheVariants as faults
-use Rattle.dd_part10.specs.declared.meta.Meta.{Meta}
-use Rattle.dd_part10.specs.File.{preamble_length, prefix, max_group_length, group_length_text, StartsAbove, IsFile}
-use Rattle.dd_part10.specs.Meta.{group_length_tag, class_tag, instance_tag, transfer_tag, HasMetaUid, IsMeta}
+use Rattle.dd_encoding.specs.declared.meta.Meta.{Meta}
+use Rattle.dd_encoding.specs.Head.{preamble_length, prefix, group_length_text}
+use Rattle.dd_part10.specs.File.{max_group_length, StartsAbove, IsFile}
+use Rattle.dd_encoding.specs.Meta.{group_length_tag, class_tag, instance_tag, transfer_tag}
+use Rattle.dd_part10.specs.Meta.{HasMetaUid, IsMeta}
 use Rattle.dd_part10.specs.Reading.{◌>>=◌, with_fault, FileParts, behind, behind_prefix, count_in, split_at}
 use Rattle.dd_part10.specs.Reading.{behind_length}
 use Rattle.dd_part10.specs.Reading.{is_alone, uid_of, uid_at, uids_in, meta_in, starts_above, set_in, file_in}
-use Rattle.dd_part10.specs.Syntaxes.{syntax_of}
+use Rattle.dd_encoding.specs.Syntaxes.{syntax_of}
 use Rattle.dd_part10.proofs.Fronts.{behind-is}
 use Rattle.dd_part10.proofs.Steps.{bind_ok, passes, allowed, there, was_read, ok_is}
 use Rattle.dd_part10.proofs.Tags.{found_there, same_tag-is, alone_from}

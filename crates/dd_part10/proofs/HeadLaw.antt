@@ -10,18 +10,20 @@ use Rattle.dd_elem.specs.Uid.{IsUid, IsComponent, max_uid_length}
 use Rattle.dd_elem.specs.declared.vr.Vr.TheVariants.{OB, UI}
 use Rattle.dd_elem.proofs.Cleaning.{clean_of-append_padding, IsCleanOf_from_is}
 use Rattle.dd_elem.specs.declared.tag.Tag.{Tag}
-use Rattle.dd_set.specs.declared.syntax.Syntax.{Syntax}
-use Rattle.dd_set.specs.declared.syntax.Syntax.TheVariants.{Explicit}
-use Rattle.dd_set.specs.Elements.{Elements, no_elements, bytes, Entry}
+use Rattle.dd_encoding.specs.declared.syntax.Syntax.{Syntax}
+use Rattle.dd_encoding.specs.declared.syntax.Syntax.TheVariants.{Explicit}
+use Rattle.dd_encoding.specs.Elements.{Elements, no_elements, bytes, Entry}
 use Rattle.dd_set.specs.Find.{entries_of}
-use Rattle.dd_set.specs.Spelling.{Spells, AreElements, IsContent, max_levels}
-use Rattle.dd_part10.specs.declared.meta.Meta.{Meta}
-use Rattle.dd_part10.specs.File.{prefix, group_length_text, StartsAbove, IsFile}
-use Rattle.dd_part10.specs.Head.{head_text, group_text, group_of, uid_element, padded, padding_of, version_tag}
-use Rattle.dd_part10.specs.Head.{implementation_tag, implementation_uid}
-use Rattle.dd_part10.specs.Meta.{class_tag, instance_tag, transfer_tag, HasMetaUid, IsMeta}
-use Rattle.dd_part10.specs.Syntaxes.{syntax_of}
-use Rattle.dd_part10.proofs.Heads.{length_padded, length_group, length_head}
+use Rattle.dd_encoding.specs.Spelling.{Spells, AreElements, IsContent, max_levels}
+use Rattle.dd_encoding.specs.declared.meta.Meta.{Meta}
+use Rattle.dd_encoding.specs.Head.{prefix, group_length_text}
+use Rattle.dd_part10.specs.File.{StartsAbove, IsFile}
+use Rattle.dd_encoding.specs.Head.{head_text, group_text, group_of, uid_element, padded, padding_of, version_tag}
+use Rattle.dd_encoding.specs.Head.{implementation_tag, implementation_uid}
+use Rattle.dd_encoding.specs.Meta.{class_tag, instance_tag, transfer_tag}
+use Rattle.dd_part10.specs.Meta.{HasMetaUid, IsMeta}
+use Rattle.dd_encoding.specs.Syntaxes.{syntax_of}
+use Rattle.dd_encoding.proofs.Heads.{length_padded, length_group, length_head}
 use Rattle.dd_part10.proofs.Tags.{neq_eqb, alone_from, contains_first, contains_later}
 
 -- ---- a UID ends in no padding

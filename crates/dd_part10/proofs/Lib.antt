@@ -9,6 +9,4 @@ pub mod AnswersAreFiles
 pub mod Faults
 pub mod Cuts
 pub mod Taken
-pub mod Heads
-pub mod KnownSyntaxes
 pub mod HeadLaw

@@ -13,25 +13,27 @@ use Rattle.dd_elem.specs.declared.tag.Tag.{Tag}
 use Rattle.dd_elem.specs.declared.vr.Vr.TheVariants.{UL}
 use Rattle.dd_elem.proofs.Cleaning.{same_from_IsCleanOf}
 use Rattle.dd_elem.proofs.UidForm.{is_uid_from_IsUid}
-use Rattle.dd_set.specs.declared.syntax.Syntax.{Syntax}
-use Rattle.dd_set.specs.declared.syntax.Syntax.TheVariants.{Explicit}
-use Rattle.dd_set.specs.Elements.{Elements, no_elements, element, bytes, Entry}
+use Rattle.dd_encoding.specs.declared.syntax.Syntax.{Syntax}
+use Rattle.dd_encoding.specs.declared.syntax.Syntax.TheVariants.{Explicit}
+use Rattle.dd_encoding.specs.Elements.{Elements, no_elements, element, bytes, Entry}
 use Rattle.dd_set.specs.Find.{entries_of, find_in}
 use Rattle.dd_set.specs.Reading.{read_all}
-use Rattle.dd_set.specs.Spelling.{Spells, header_text, max_levels, AreElements}
+use Rattle.dd_encoding.specs.Spelling.{Spells, header_text, max_levels, AreElements}
 use Rattle.dd_set.proofs.Again.{all_again}
 use Rattle.dd_set.proofs.Steps.{long_again}
 use Rattle.dd_part10.specs.declared.fault.FileFault.{FileFault}
 use Rattle.dd_part10.specs.declared.fault.FileFault.TheVariants.{NotPart10, GroupLength, MetaMissing, MetaUid}
 use Rattle.dd_part10.specs.declared.fault.FileFault.TheVariants.{OtherSyntax}
 use Rattle.dd_part10.specs.declared.fault.FileFault.TheVariants as faults
-use Rattle.dd_part10.specs.declared.meta.Meta.{Meta}
-use Rattle.dd_part10.specs.File.{preamble_length, prefix, max_group_length, group_length_text, StartsAbove, IsFile}
-use Rattle.dd_part10.specs.Meta.{group_length_tag, class_tag, instance_tag, transfer_tag, HasMetaUid, IsMeta}
+use Rattle.dd_encoding.specs.declared.meta.Meta.{Meta}
+use Rattle.dd_encoding.specs.Head.{preamble_length, prefix, group_length_text}
+use Rattle.dd_part10.specs.File.{max_group_length, StartsAbove, IsFile}
+use Rattle.dd_encoding.specs.Meta.{group_length_tag, class_tag, instance_tag, transfer_tag}
+use Rattle.dd_part10.specs.Meta.{HasMetaUid, IsMeta}
 use Rattle.dd_part10.specs.Reading.{◌>>=◌, with_fault, behind, behind_prefix, count_in, split_at, behind_length}
 use Rattle.dd_part10.specs.Reading.{is_alone}
 use Rattle.dd_part10.specs.Reading.{uid_of, uid_at, uids_in, meta_in, starts_above, set_in, file_in}
-use Rattle.dd_part10.specs.Syntaxes.{syntax_of}
+use Rattle.dd_encoding.specs.Syntaxes.{syntax_of}
 use Rattle.dd_part10.proofs.Found.{length_parts, with_set, with_syntax, with_meta, with_parts, with_rest}
 use Rattle.dd_part10.proofs.Fronts.{behind-front}
 use Rattle.dd_part10.proofs.Steps.{onward, into}

@@ -7,12 +7,12 @@ use Rattle.std.proofs.lemmas.Bool.{eqb-true, and_parts}
 use Rattle.std.proofs.lemmas.List.Elements.{All-nil, All-cons, All-head, All-tail}
 use Rattle.dd_elem.specs.declared.tag.Tag.{Tag}
 use Rattle.dd_elem.specs.Tag.{number_of}
-use Rattle.dd_set.specs.declared.syntax.Syntax.{Syntax}
-use Rattle.dd_set.specs.Elements.{Elements, no_elements, element, Entry}
+use Rattle.dd_encoding.specs.declared.syntax.Syntax.{Syntax}
+use Rattle.dd_encoding.specs.Elements.{Elements, no_elements, element, Entry}
 use Rattle.dd_set.specs.Find.{same_tag, find_in, entries_of}
-use Rattle.dd_set.specs.Spelling.{AreElements}
+use Rattle.dd_encoding.specs.Spelling.{AreElements}
 use Rattle.dd_set.proofs.Steps.{chosen, some_is}
-use Rattle.dd_part10.specs.Meta.{meta_group}
+use Rattle.dd_encoding.specs.Meta.{meta_group}
 use Rattle.dd_part10.specs.Reading.{is_meta_tag}
 
 -- numbers that differ

@@ -1,14 +1,14 @@
 -- Where reading a file wants memory.
 use Rattle.std.proofs.Common.{◌≡◌, List, ℕ, Result, Ok, Err, ◌∙◌}
-use Rattle.dd_set.specs.declared.syntax.Syntax.{Syntax}
-use Rattle.dd_set.specs.declared.syntax.Syntax.TheVariants.{Explicit}
+use Rattle.dd_encoding.specs.declared.syntax.Syntax.{Syntax}
+use Rattle.dd_encoding.specs.declared.syntax.Syntax.TheVariants.{Explicit}
 use Rattle.dd_set.specs.Memory.{WantsMemory}
 use Rattle.dd_part10.specs.declared.fault.FileFault.{FileFault}
 use Rattle.dd_part10.specs.declared.fault.FileFault.TheVariants.{OtherSyntax}
-use Rattle.dd_part10.specs.declared.meta.Meta.{Meta}
+use Rattle.dd_encoding.specs.declared.meta.Meta.{Meta}
 use Rattle.dd_part10.specs.Memory.{GroupWants, HasHead, SetWants}
 use Rattle.dd_part10.specs.Reading.{behind_prefix, behind_length, syntax_in, meta_in}
-use Rattle.dd_part10.specs.Syntaxes.{syntax_of}
+use Rattle.dd_encoding.specs.Syntaxes.{syntax_of}
 use Rattle.dd_part10.proofs.Steps.{onward, there}
 
 -- the fault that was handed on is that of the answer

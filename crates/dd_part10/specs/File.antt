@@ -1,22 +1,15 @@
 -- What a DICOM file is: a relation between its bytes, its meta information, its data set and the place of the data
 -- set's first byte (PS3.10 section 7).
-use Rattle.std.specs.Prelude.{◌≡◌, ℕ, ◌+◌, ◌<◌, ◌≤◌, List, ◌++◌, length, Some, codes}
-use Rattle.byteorder.specs.Endian.{little_bytes}
-use Rattle.dd_elem.specs.declared.vr.Vr.TheVariants.{UL}
-use Rattle.dd_set.specs.declared.syntax.Syntax.{Syntax}
-use Rattle.dd_set.specs.declared.syntax.Syntax.TheVariants.{Explicit}
-use Rattle.dd_set.specs.Elements.{Elements, no_elements, element, bytes}
-use Rattle.dd_set.specs.Spelling.{Spells, elements_text}
-use Rattle.dd_part10.specs.declared.meta.Meta.{Meta}
-use Rattle.dd_part10.specs.Meta.{meta_group, group_length_tag, IsMeta}
-use Rattle.dd_part10.specs.Syntaxes.{syntax_of}
-
--- the preamble's length, and the prefix behind it
-abbrev pub preamble_length : ℕ
-preamble_length = 128
-
-abbrev pub prefix : List ℕ
-prefix = codes "DICM"
+use Rattle.std.specs.Prelude.{◌≡◌, ℕ, ◌+◌, ◌<◌, ◌≤◌, List, ◌++◌, length, Some}
+use Rattle.dd_encoding.specs.declared.syntax.Syntax.{Syntax}
+use Rattle.dd_encoding.specs.declared.syntax.Syntax.TheVariants.{Explicit}
+use Rattle.dd_encoding.specs.Elements.{Elements, no_elements, element}
+use Rattle.dd_encoding.specs.Head.{preamble_length, prefix, group_length_text}
+use Rattle.dd_encoding.specs.Meta.{meta_group}
+use Rattle.dd_encoding.specs.Spelling.{Spells}
+use Rattle.dd_encoding.specs.declared.meta.Meta.{Meta}
+use Rattle.dd_part10.specs.Meta.{IsMeta}
+use Rattle.dd_encoding.specs.Syntaxes.{syntax_of}
 
 -- group 0002 has at most so many bytes behind its group length
 abbrev pub max_group_length : ℕ
@@ -25,9 +18,6 @@ max_group_length = 65536
 -- the element (0002,0000), which says how many bytes of its group stand behind it: 12 bytes
 abbrev pub group_length_size : ℕ
 group_length_size = 12
-
-abbrev pub group_length_text : ℕ → List ℕ
-group_length_text n = elements_text (element group_length_tag (Some UL) (bytes (little_bytes 4 n)) no_elements)
 
 -- the place of the first byte behind the group length: 128 bytes of preamble, the prefix of 4 and the group length of
 -- 12 stand before it

@@ -1,4 +1,3 @@
-pub mod Syntaxes
 pub mod Memory
 pub mod Meta
 pub mod Faults
@@ -7,4 +6,3 @@ pub mod Reading
 pub mod Matches
 pub mod Taking
 pub mod Streaming
-pub mod Head

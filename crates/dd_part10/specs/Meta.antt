@@ -4,26 +4,10 @@ use Rattle.dd_elem.specs.Clean.{IsCleanOf}
 use Rattle.dd_elem.specs.Uid.{IsUid}
 use Rattle.dd_elem.specs.declared.tag.Tag.{Tag}
 use Rattle.dd_elem.specs.declared.vr.Vr.{Vr}
-use Rattle.dd_set.specs.Elements.{Elements, bytes}
+use Rattle.dd_encoding.specs.Elements.{Elements, bytes}
+use Rattle.dd_encoding.specs.Meta.{meta_group, class_tag, instance_tag, transfer_tag}
 use Rattle.dd_set.specs.Find.{entries_of}
-use Rattle.dd_part10.specs.declared.meta.Meta.{Meta}
-
--- its group number
-abbrev pub meta_group : ℕ
-meta_group = 0x0002
-
--- File Meta Information Group Length, Media Storage SOP Class UID, Media Storage SOP Instance UID, Transfer Syntax UID
-abbrev pub group_length_tag : Tag
-group_length_tag = record { group = meta_group; element = 0x0000 }
-
-abbrev pub class_tag : Tag
-class_tag = record { group = meta_group; element = 0x0002 }
-
-abbrev pub instance_tag : Tag
-instance_tag = record { group = meta_group; element = 0x0003 }
-
-abbrev pub transfer_tag : Tag
-transfer_tag = record { group = meta_group; element = 0x0010 }
+use Rattle.dd_encoding.specs.declared.meta.Meta.{Meta}
 
 -- an element with this tag holds bytes, which are this UID and padding
 pub record HasMetaUid (group : Elements) (tag : Tag) (uid : List ℕ) : Type 0 where

@@ -9,21 +9,22 @@ use Rattle.dd_elem.specs.Uid.{is_uid}
 use Rattle.dd_elem.specs.declared.tag.Tag.{Tag}
 use Rattle.dd_elem.specs.declared.vr.Vr.TheVariants.{UL}
 use Rattle.dd_set.specs.declared.fault.SetFault.{SetFault}
-use Rattle.dd_set.specs.declared.syntax.Syntax.{Syntax}
-use Rattle.dd_set.specs.declared.syntax.Syntax.TheVariants.{Explicit}
-use Rattle.dd_set.specs.Elements.{Elements, Content, bytes, items, fragments}
+use Rattle.dd_encoding.specs.declared.syntax.Syntax.{Syntax}
+use Rattle.dd_encoding.specs.declared.syntax.Syntax.TheVariants.{Explicit}
+use Rattle.dd_encoding.specs.Elements.{Elements, Content, bytes, items, fragments}
 use Rattle.dd_set.specs.Find.{entries_of, find_in}
 use Rattle.dd_set.specs.Reading.{read_all}
 use Rattle.dd_set.specs.Scan.{first_of}
-use Rattle.dd_set.specs.Spelling.{header_text}
+use Rattle.dd_encoding.specs.Spelling.{header_text}
 use Rattle.dd_part10.specs.declared.fault.FileFault.{FileFault}
 use Rattle.dd_part10.specs.declared.fault.FileFault.TheVariants.{NotPart10, GroupLength, MetaMissing, MetaUid}
 use Rattle.dd_part10.specs.declared.fault.FileFault.TheVariants.{OtherSyntax}
 use Rattle.dd_part10.specs.declared.fault.FileFault.TheVariants as faults
-use Rattle.dd_part10.specs.declared.meta.Meta.{Meta}
-use Rattle.dd_part10.specs.File.{preamble_length, prefix, group_length_size, group_at, max_group_length}
-use Rattle.dd_part10.specs.Meta.{meta_group, group_length_tag, class_tag, instance_tag, transfer_tag}
-use Rattle.dd_part10.specs.Syntaxes.{syntax_of}
+use Rattle.dd_encoding.specs.declared.meta.Meta.{Meta}
+use Rattle.dd_encoding.specs.Head.{preamble_length, prefix}
+use Rattle.dd_part10.specs.File.{group_length_size, group_at, max_group_length}
+use Rattle.dd_encoding.specs.Meta.{meta_group, group_length_tag, class_tag, instance_tag, transfer_tag}
+use Rattle.dd_encoding.specs.Syntaxes.{syntax_of}
 
 -- what a file holds: its meta information, its data set, and the place of the data set's first byte
 pub record FileParts : Type 0 where

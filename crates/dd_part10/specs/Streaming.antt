@@ -1,8 +1,8 @@
 -- What reading a file from a reader answers (PS3.10 section 7.1).
 use Rattle.std.specs.Prelude.{◌≡◌, ℕ, List, Option, Result, Ok, Err}
 use Rattle.dd_elem.specs.declared.tag.Tag.{Tag}
-use Rattle.dd_set.specs.declared.end.End.TheVariants.{Ended, Failed, TooLong}
-use Rattle.dd_set.specs.Streams.{Ends}
+use Rattle.dd_stream.specs.declared.end.End.TheVariants.{Ended, Failed, TooLong}
+use Rattle.dd_stream.specs.Streams.{Ends}
 use Rattle.dd_part10.specs.declared.scanned.Scanned.{Scanned}
 use Rattle.dd_part10.specs.declared.stream_fault.StreamFault.{StreamFault}
 use Rattle.dd_part10.specs.declared.stream_fault.StreamFault.TheVariants as faults

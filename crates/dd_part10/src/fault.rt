@@ -26,7 +26,7 @@ pub enum FileFault {
     /// The element with this tag holds items, or its value without padding is no UID.
     #[error("24 MetaUid {0}")]
     MetaUid(Tag),
-    /// The data set has this transfer syntax, which is none of those that are read.
+    /// The data set has this transfer syntax, which is not known.
     #[error("25 OtherSyntax {0}")]
     OtherSyntax(Uid),
     /// The bytes that the group length counts are no data set. This comes before every check of what

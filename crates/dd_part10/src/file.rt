@@ -1,6 +1,6 @@
 //! A DICOM file as a value.
 
-use crate::meta::Meta;
+use dd_encoding::Meta;
 use dd_set::DataSet;
 
 /// A DICOM file (PS3.10 section 7). The values of its data set are slices of the file's bytes.

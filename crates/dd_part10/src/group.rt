@@ -2,7 +2,7 @@
 
 ghost use Rattle.std.specs.Prelude.{◌≡◌, ◌≢◌, ◌≤◌, Err, IfOk, length, option_map};
 ghost use Rattle.dd_set.specs.declared.fault.SetFault.TheVariants.{Memory};
-ghost use Rattle.dd_set.specs.declared.syntax.Syntax.TheVariants.{Explicit};
+ghost use Rattle.dd_encoding.specs.declared.syntax.Syntax.TheVariants.{Explicit};
 ghost use Rattle.dd_set.specs.Memory.{WantsMemory};
 ghost use Rattle.dd_set.specs.Views.{set_view};
 ghost use Rattle.dd_part10.specs.declared.fault.FileFault.TheVariants as faults;
@@ -13,36 +13,16 @@ ghost use Rattle.dd_part10.specs.Reading.{behind, count_in, behind_length, is_me
 ghost use Rattle.dd_part10.specs.Reading.{meta_in, syntax_in};
 
 use crate::fault::FileFault;
-use crate::meta::Meta;
-use crate::places::{COUNT_HEADER, COUNT_LENGTH, COUNT_SIZE};
 use dd_elem::{Tag, Uid, clean};
-use dd_set::{DataSet, Syntax, Value, parse};
+use dd_encoding::{
+    CLASS, COUNT_HEADER, COUNT_LENGTH, COUNT_SIZE, GROUP_LENGTH, INSTANCE, META_GROUP, Meta, Syntax,
+};
+use dd_set::{DataSet, Value, parse};
 use dd_version::TRANSFER;
 use std::alloc::Global;
 
 /// The most bytes that group 0002 may have behind its group length.
 pub const MAX_GROUP_LENGTH: u32 = 65_536;
-
-/// The group of the file meta information.
-pub const META_GROUP: u16 = 0x0002;
-
-/// The tag of the group length.
-pub const GROUP_LENGTH: Tag = Tag {
-    group: META_GROUP,
-    element: 0x0000,
-};
-
-/// The tag of the Media Storage SOP Class UID.
-pub const CLASS: Tag = Tag {
-    group: META_GROUP,
-    element: 0x0002,
-};
-
-/// The tag of the Media Storage SOP Instance UID.
-pub const INSTANCE: Tag = Tag {
-    group: META_GROUP,
-    element: 0x0003,
-};
 
 /// What stands behind `front`, where the bytes begin with it.
 pub fn behind<'a>(front: &[u8], bytes: &'a [u8]) -> Option<&'a [u8]>

@@ -1,65 +1,14 @@
-//! The head of a file: all that stands before its data set.
+//! The head of a file as the beginning of one.
 
-ghost use Rattle.std.specs.Prelude.{◌≡◌, ℕ, ◌+◌, ◌++◌, ◌<◌, ◌≤◌, ◌^◌, List, length, IfOk, Some};
-ghost use Rattle.dd_elem.specs.Uid.{IsUid, max_uid_length};
-ghost use Rattle.dd_set.specs.declared.syntax.Syntax.{Syntax};
-ghost use Rattle.dd_set.specs.Elements.{Elements, bytes};
-ghost use Rattle.dd_set.specs.Sends.{SendsTo};
-ghost use Rattle.dd_set.specs.Spelling.{Spells, tag_text, content_text};
-ghost use Rattle.dd_part10.specs.declared.meta.Meta.{Meta};
+ghost use Rattle.std.specs.Prelude.{◌≡◌, ℕ, ◌++◌, List, length, Some};
+ghost use Rattle.dd_elem.specs.Uid.{IsUid};
+ghost use Rattle.dd_encoding.specs.Elements.{Elements};
+ghost use Rattle.dd_encoding.specs.Head.{head_text};
+ghost use Rattle.dd_encoding.specs.Spelling.{Spells};
+ghost use Rattle.dd_encoding.specs.Syntaxes.{syntax_of};
+ghost use Rattle.dd_encoding.specs.declared.meta.Meta.{Meta};
+ghost use Rattle.dd_encoding.specs.declared.syntax.Syntax.{Syntax};
 ghost use Rattle.dd_part10.specs.File.{StartsAbove, IsFile};
-ghost use Rattle.dd_part10.specs.Head.{head_text, group_text, uids_text, uid_text, padded, padding_of};
-ghost use Rattle.dd_part10.specs.Syntaxes.{syntax_of};
-
-use crate::group::{CLASS, GROUP_LENGTH, INSTANCE, META_GROUP};
-use crate::meta::Meta;
-use crate::places::{GROUP_AT, PREAMBLE_LENGTH, PREFIX};
-use dd_elem::{Tag, Vr, Write};
-use dd_set::{HEADER_SIZE, LONG_HEADER_SIZE, WriteFault, send, send_header};
-use dd_version::TRANSFER;
-
-/// The tag of the File Meta Information Version.
-const VERSION: Tag = Tag {
-    group: META_GROUP,
-    element: 0x0001,
-};
-
-/// The version (PS3.10 section 7.1).
-const VERSION_VALUE: [u8; 2] = [0x00, 0x01];
-
-/// The tag of the Implementation Class UID.
-const IMPLEMENTATION: Tag = Tag {
-    group: META_GROUP,
-    element: 0x0012,
-};
-
-/// The Implementation Class UID of this software.
-const IMPLEMENTATION_UID: &[u8] = b"2.25.604472133179352588043346";
-
-/// How many bytes the version has: a header with a length of 32 bits, and its value.
-const VERSION_SIZE: u32 = (LONG_HEADER_SIZE + VERSION_VALUE.len()) as u32;
-
-/// How many bytes the head of a file with this meta information has.
-pub fn head_size(meta: &Meta) -> u64
-    ensures exact { result ≡ length (head_text meta.now) }
-    ensures few { result ≤ 412 }
-    ensures valid { IsUid meta.now.class × IsUid meta.now.instance × IsUid meta.now.transfer }
-{
-    GROUP_AT + u64::from(group_size(meta))
-}
-
-/// Sends the head of a file with this meta information, and answers how many bytes it has: 128 bytes
-/// of zeros, `DICM`, the group length, the version, the three UIDs and the Implementation Class UID
-/// (PS3.10 section 7.1). 12 Write where the writer failed, with how many of the bytes went before.
-pub fn write_head<W: Write>(meta: &Meta, writer: &mut W) -> Result<u64, WriteFault>
-    ensures { SendsTo W.contents W.rest W.failures (head_text meta.now) 0 result writer.old writer.new }
-{
-    let count = group_size(meta).to_le_bytes();
-    let sent = send(&[0; PREAMBLE_LENGTH], writer, 0)?;
-    let sent = send(PREFIX, writer, sent)?;
-    let sent = send_element(GROUP_LENGTH, Vr::UL, &count, writer, sent)?;
-    send_group(meta, writer, sent)
-}
 
 /// A head with a data set behind it is a file with its meta information and that data set. This
 /// states a law, and does nothing.
@@ -69,86 +18,3 @@ pub fn head_makes_file()
         → Spells syntax set text → StartsAbove set
         → IsFile (head_text meta ++ text) meta set (length (head_text meta)) }
 {}
-
-/// How many bytes of group 0002 stand behind the group length.
-#[tactic(auto, using(crate::proofs::Heads::length_group))]
-fn group_size(meta: &Meta) -> u32
-    ensures exact { result ≡ length (group_text meta.now) }
-    ensures few { result ≤ 268 }
-    ensures valid { IsUid meta.now.class × IsUid meta.now.instance × IsUid meta.now.transfer }
-{
-    VERSION_SIZE
-        + uid_size(meta.class.as_bytes())
-        + uid_size(meta.instance.as_bytes())
-        + uid_size(meta.transfer.as_bytes())
-        + uid_size(IMPLEMENTATION_UID)
-}
-
-/// How many bytes an element with a UID has.
-fn uid_size(uid: &[u8]) -> u32
-    requires { length uid.now ≤ max_uid_length }
-    ensures exact { result ≡ 8 + length (padded uid.now) }
-    ensures few { result ≤ 72 }
-{
-    let size = HEADER_SIZE + uid.len() + padding_for(uid).len();
-    size as u32
-}
-
-/// Sends what stands behind the group length.
-fn send_group<W: Write>(meta: &Meta, writer: &mut W, sent: u64) -> Result<u64, WriteFault>
-    requires { sent ≤ 2 ^ 8 }
-    ensures { SendsTo W.contents W.rest W.failures (group_text meta.now) sent result writer.old writer.new }
-{
-    let sent = send_element(VERSION, Vr::OB, &VERSION_VALUE, writer, sent)?;
-    send_uids(meta, writer, sent)
-}
-
-/// Sends an element in Explicit VR with a short value.
-fn send_element<W: Write>(
-    tag: Tag,
-    vr: Vr,
-    value: &[u8],
-    writer: &mut W,
-    sent: u64,
-) -> Result<u64, WriteFault>
-    requires short { length value.now ≤ 64 }
-    requires fits { sent + length (tag_text tag ++ content_text (Some vr) (bytes value.now)) < 2 ^ 64 }
-    ensures { let text = tag_text tag ++ content_text (Some vr) (bytes value.now)
-        in SendsTo W.contents W.rest W.failures text sent result writer.old writer.new }
-{
-    let sent = send_header(tag, vr, value.len() as u32, writer, sent)?;
-    send(value, writer, sent)
-}
-
-/// Sends the UIDs of group 0002.
-fn send_uids<W: Write>(meta: &Meta, writer: &mut W, sent: u64) -> Result<u64, WriteFault>
-    requires { sent ≤ 2 ^ 16 }
-    ensures { SendsTo W.contents W.rest W.failures (uids_text meta.now) sent result writer.old writer.new }
-{
-    let sent = send_uid(CLASS, meta.class.as_bytes(), writer, sent)?;
-    let sent = send_uid(INSTANCE, meta.instance.as_bytes(), writer, sent)?;
-    let sent = send_uid(TRANSFER, meta.transfer.as_bytes(), writer, sent)?;
-    send_uid(IMPLEMENTATION, IMPLEMENTATION_UID, writer, sent)
-}
-
-/// Sends an element with a UID.
-fn send_uid<W: Write>(tag: Tag, uid: &[u8], writer: &mut W, sent: u64) -> Result<u64, WriteFault>
-    requires short { length uid.now ≤ max_uid_length }
-    requires fits { sent ≤ 2 ^ 32 }
-    ensures sends { SendsTo W.contents W.rest W.failures (uid_text tag uid.now) sent result writer.old writer.new }
-    ensures few { IfOk result (λ n. n ≤ sent + 73) }
-{
-    let padding = padding_for(uid);
-    let value_length = (uid.len() + padding.len()) as u32;
-    let sent = send_header(tag, Vr::UI, value_length, writer, sent)?;
-    let sent = send(uid, writer, sent)?;
-    send(padding, writer, sent)
-}
-
-/// What is put behind a UID, so that its length is even (PS3.5 section 9.1).
-fn padding_for(uid: &[u8]) -> &'static [u8]
-    ensures exact { result.now ≡ padding_of (length uid.now) }
-    ensures few { length result.now ≤ 1 }
-{
-    if uid.len() % 2 == 1 { b"\0" } else { b"" }
-}

@@ -2,12 +2,12 @@
 
 ghost use Rattle.std.specs.Prelude.{◌≡◌, ◌≢◌, ℕ, ◌<◌, ◌^◌, IfOk, Ok, Err, length};
 ghost use Rattle.dd_set.specs.declared.fault.SetFault.TheVariants.{Memory};
-ghost use Rattle.dd_set.specs.Elements.{Elements};
+ghost use Rattle.dd_encoding.specs.Elements.{Elements};
 ghost use Rattle.dd_set.specs.Memory.{WantsMemory};
 ghost use Rattle.dd_set.specs.Scan.{first_of};
 ghost use Rattle.dd_set.specs.Views.{set_view};
 ghost use Rattle.dd_part10.specs.declared.fault.FileFault.TheVariants as faults;
-ghost use Rattle.dd_part10.specs.declared.meta.Meta.{Meta};
+ghost use Rattle.dd_encoding.specs.declared.meta.Meta.{Meta};
 ghost use Rattle.dd_part10.specs.File.{IsFile};
 ghost use Rattle.dd_part10.specs.Matches.{Matches, file_view};
 ghost use Rattle.dd_part10.specs.Memory.{GroupWants, SetWants, WantsNone};
@@ -16,10 +16,10 @@ ghost use Rattle.dd_part10.specs.Reading.{may_follow};
 
 use crate::fault::FileFault;
 use crate::file::DicomFile;
-use crate::group::{META_GROUP, behind, named_syntax, read_meta, split_group};
-use crate::places::{GROUP_AT, PREAMBLE_LENGTH, PREFIX};
+use crate::group::{behind, named_syntax, read_meta, split_group};
 use dd_elem::Tag;
-use dd_set::{DataSet, Syntax, parse};
+use dd_encoding::{GROUP_AT, META_GROUP, PREAMBLE_LENGTH, PREFIX, Syntax};
+use dd_set::{DataSet, parse};
 use std::alloc::Global;
 
 /// The DICOM file that the bytes are (PS3.10 section 7): 128 bytes of any preamble, `DICM`, the group

@@ -1,6 +1,6 @@
 //! What is told of a file of which little is kept.
 
-use crate::meta::Meta;
+use dd_encoding::Meta;
 use dd_set::Found;
 
 /// What was read of a DICOM file whose data set was not kept.

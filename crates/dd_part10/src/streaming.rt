@@ -1,15 +1,14 @@
 //! A file read from a reader.
 
-ghost use Rattle.std.specs.Prelude.{◌≡◌, ◌≤◌, ◌<◌, ◌+◌, ◌^◌, ℕ, List, [], None};
-ghost use Rattle.std.specs.Io.KnownBytes.{Consumes};
-ghost use Rattle.dd_elem.specs.Device.{Gives};
+ghost use Rattle.std.specs.Prelude.{◌≡◌, ◌<◌, ◌^◌, [], None};
 ghost use Rattle.dd_part10.specs.Streaming.{IsFileAnswer};
+ghost use Rattle.dd_stream.specs.Reads.{ReadsUpTo};
 
 use crate::scanned::Scanned;
 use crate::stream_fault::StreamFault;
 use crate::taking::take_file;
 use dd_elem::{Read, Tag};
-use dd_set::{End, Stream, finish};
+use dd_stream::{End, Stream, finish};
 use std::alloc::Global;
 
 /// What is told of the DICOM file that the bytes of a reader are, to its end (PS3.10 section 7): its
@@ -27,11 +26,7 @@ pub fn read_file<R: Read>(
     wanted: &[Tag],
     limit: u64,
 ) -> Result<Scanned, StreamFault>
-    ensures gave { (given : List ℕ) × Gives R.has_given reader.old reader.new given
-        × Consumes (R.remaining reader.old) (R.remaining reader.new) given
-        × IsFileAnswer result wanted.now limit given (R.remaining reader.new)
-        (R.failures reader.old) (R.failures reader.new) }
-    ensures calls { R.calls reader.new ≤ R.calls reader.old + limit + 1 }
+    ensures { ReadsUpTo R.Read limit reader.old reader.new (IsFileAnswer result wanted.now limit) }
 {
     let mut stream = Stream::new(reader, limit);
     read_stream(alloc, &mut stream, wanted)
@@ -47,11 +42,8 @@ fn read_stream<R: Read>(
     requires open { stream.old.end ≡ None }
     requires room { stream.old.left < 2 ^ 64 }
     ensures same { stream.new.reader.ghost_name ≡ stream.old.reader.ghost_name }
-    ensures gave { (given : List ℕ) × Gives R.has_given stream.old.reader.now stream.new.reader.now given
-        × Consumes (R.remaining stream.old.reader.now) (R.remaining stream.new.reader.now) given
-        × IsFileAnswer result wanted.now stream.old.left given (R.remaining stream.new.reader.now)
-        (R.failures stream.old.reader.now) (R.failures stream.new.reader.now) }
-    ensures calls { R.calls stream.new.reader.now ≤ R.calls stream.old.reader.now + stream.old.left + 1 }
+    ensures read { ReadsUpTo R.Read stream.old.left stream.old.reader.now stream.new.reader.now
+        (IsFileAnswer result wanted.now stream.old.left) }
 {
     let answer = take_file(alloc, stream, wanted);
     match finish(stream) {

@@ -2,7 +2,7 @@
 
 ghost use Rattle.std.specs.Prelude.{◌≢◌, ◌≤◌, length, IfOk, Err};
 ghost use Rattle.dd_set.specs.declared.fault.SetFault.TheVariants.{Memory};
-ghost use Rattle.dd_set.specs.Feeds.{Scans};
+ghost use Rattle.dd_stream.specs.Feeds.{Scans};
 ghost use Rattle.dd_part10.specs.declared.fault.FileFault.TheVariants as faults;
 ghost use Rattle.dd_part10.specs.File.{max_group_length};
 ghost use Rattle.dd_part10.specs.Memory.{WantsNone};
@@ -11,12 +11,12 @@ ghost use Rattle.dd_part10.specs.Taking.{FileTaken};
 
 use crate::fault::FileFault;
 use crate::group::{MAX_GROUP_LENGTH, named_syntax, read_count, read_meta};
-use crate::meta::Meta;
-use crate::places::{COUNT_LENGTH, PREFIX_END};
 use crate::reading::{behind_prefix, may_follow};
 use crate::scanned::Scanned;
 use dd_elem::Tag;
-use dd_set::{Feed, Scan, Syntax, fill, take_set};
+use dd_encoding::{COUNT_LENGTH, Meta, PREFIX_END, Syntax};
+use dd_set::{Scan, take_set};
+use dd_stream::{Feed, fill};
 use std::alloc::Global;
 
 /// The most bytes of group 0002 that have room in a short one.

@@ -2,8 +2,8 @@
 use Rattle.std.proofs.Common.{◌≡◌, ℕ, Bool, List, [], ◌∷◌, refl, rules}
 use Rattle.std.specs.Prelude.{is_some}
 use Rattle.dd_set.specs.Views.{set_view}
-use Rattle.dd_part10.specs.declared.meta.Meta.{Meta}
-use Rattle.dd_part10.specs.Meta.{class_tag, instance_tag}
+use Rattle.dd_encoding.specs.declared.meta.Meta.{Meta}
+use Rattle.dd_encoding.specs.Meta.{class_tag, instance_tag}
 use Rattle.dd_part10.specs.Reading.{FileParts}
 use Rattle.dd_layout.specs.Entries.{tag}
 use Rattle.dd_dir.specs.declared.forest.Tree.{Tree, out-Tree, the_lemmas}

@@ -6,7 +6,7 @@ use Rattle.dd_elem.specs.declared.tag.Tag.{Tag}
 use Rattle.dd_set.specs.declared.found.Found.{Found}
 use Rattle.dd_set.specs.declared.found.FoundValue.{FoundValue}
 use Rattle.dd_set.specs.declared.found.FoundValue.TheVariants.{Items, Fragments, Bytes}
-use Rattle.dd_set.specs.Elements.{Elements, Content, bytes, items, fragments, Entry}
+use Rattle.dd_encoding.specs.Elements.{Elements, Content, bytes, items, fragments, Entry}
 use Rattle.dd_set.specs.Find.{same_tag, entries_of}
 use Rattle.dd_set.specs.Scan.{Hit, most_told, value_told, told_of, hit_of, is_wanted, hits_of, found_hit}
 use Rattle.dd_part10.proofs.Tags.{same_tag-is}

@@ -6,6 +6,7 @@ use Rattle.std.specs.Option.{option_or}
 use Rattle.std.specs.Io.KnownBytes.{Consumes}
 use Rattle.sha2.specs.Sha256.{sha256}
 use Rattle.dd_elem.specs.Device.{Gives}
+use Rattle.dd_elem.specs.declared.device.Read.{Ghosts as ReadOf}
 use Rattle.dd_elem.specs.declared.tag.Tag.{Tag}
 use Rattle.dd_set.specs.declared.fault.SetFault.TheVariants.{Memory}
 use Rattle.dd_part10.specs.declared.fault.FileFault.{FileFault}
@@ -66,33 +67,34 @@ fault_wants r given digest node fault answer differs limit left old new err memo
       h.1,
     )
 
-module _ {R P : Type 0} (has_given : R → P → List ℕ → Type 0) (remaining : R → Option (List ℕ)) (calls failures : R → ℕ)
-    (limit : ℕ) where
+module _ {R : Type 0} (readers : ReadOf R) (limit : ℕ) where
   -- what is found of such a record
   pub fault_found : {E : Type 0} (r : Result (Option Finding) E) (said : Inherited) (node : Node) (fault : FileFault)
       (answer : Result Scanned StreamFault) (digest : List ℕ) (differs : Option Finding) (old new : R)
       → IfOk r (λ finding. (above : List Node) → finding ≡ mislabelled (standing_below above node) (Err fault))
       → (IsErr r ↔ SaysMemory fault) → answer ≡ Err (File fault) → differs ≡ compared (digest_in node.set) digest
       → is_some differs ≡ false
-      → (given : List ℕ) → Gives has_given old new given → Consumes (remaining old) (remaining new) given
-      → IsFileAnswer answer compared_tags limit given (remaining new) (failures old) (failures new)
-      → digest ≡ sha256 given → calls new ≤ calls old + limit + 1
+      → (given : List ℕ) → Gives readers.has_given old new given
+      → Consumes (readers.remaining old) (readers.remaining new) given
+      → IsFileAnswer answer compared_tags limit given (readers.remaining new) (readers.failures old)
+      (readers.failures new) → digest ≡ sha256 given → readers.calls new ≤ readers.calls old + limit + 1
       → IfOk r (λ finding. (above : List Node) → IsInherited said (node ∷ above)
-      → FindsBy has_given remaining calls failures limit (by_keys (standing_below above node)) finding old new)
+      → FindsBy readers limit (by_keys (standing_below above node)) finding old new)
   fault_found (Err e) said node fault answer digest differs old new found memory is differing same given gave known
       answers digested reads = tt
   fault_found (Ok finding) said node fault answer digest differs old new found memory is differing same given gave known
       answers digested reads = λ above inherits.
       let P : Result Scanned StreamFault → Type 0 =
-      λ a. IsFileAnswer a compared_tags limit given (remaining new) (failures old) (failures new) in
+      λ a. IsFileAnswer a compared_tags limit given (readers.remaining new) (readers.failures old)
+      (readers.failures new) in
       let h = subst P is answers in
       let read = refused compared_tags fault given h.1 (λ says. let e = memory.1 says in absurd (cc)) in
       record {
         given = given;
         gave = gave;
         known = known;
-        reads = reads;
-        found = inl (
+        few = reads;
+        answered = inl (
           by_fault node above given digest fault differs finding digested differing (no_finding differs same) read
               (found above),
           h.0,

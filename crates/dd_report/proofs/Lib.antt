@@ -6,6 +6,7 @@ mod KeyFindings
 mod ListedLines
 pub mod Masking
 mod RecordLines
+mod SentTexts
 mod TextLemmas
 mod ToldTrees
 mod WithdrawnLines

@@ -8,6 +8,7 @@ use Rattle.std.specs.Prelude.{◌≢◌, ◌&&◌, ◌||◌, ◌==◌, not, nat_
 use Rattle.std.specs.Io.KnownBytes.{Consumes}
 use Rattle.std.specs.List.{concat, flat_map}
 use Rattle.std.proofs.lemmas.List.{take_all}
+use Rattle.dd_elem.specs.declared.device.Read.{Ghosts as ReadOf}
 use Rattle.dd_elem.specs.Device.{Gives, HasWorked}
 use Rattle.dd_elem.specs.FileIdForm.{IsFileId}
 use Rattle.dd_version.specs.Fitting.{is_empty}
@@ -120,18 +121,17 @@ stored_given None path given old new there known = tt
 stored_given (Some files) path given old new there known =
     (there.0, subst (λ (o : Option (List ℕ)). Consumes o new given) there.1 known)
 
-module _ {R P : Type 0} (has_given : R → P → List ℕ → Type 0) (remaining : R → Option (List ℕ)) (calls failures : R → ℕ)
-    (held : Option Held) (folder : List ℕ) (comparison : Comparison) where
+module _ {R : Type 0} (readers : ReadOf R) (held : Option Held) (folder : List ℕ) (comparison : Comparison) where
   pub read_found : (opened path file given : List ℕ) (standing : Standing) (finding : Option Finding) (fresh left : R)
       → file ≡ file_in standing.node → IsFileId (file_in standing.node) → opened ≡ path
       → (All (λ (byte : ℕ). byte < 128) file → IsPathIn folder (id_path file) path)
-      → IfSome held (λ files. IsSome (files.bytes_at opened) × (remaining fresh ≡ files.bytes_at opened))
-      → ((past : P) → has_given fresh past []) → calls fresh ≡ 0 → failures fresh ≡ 0
-      → Gives has_given fresh left given → Consumes (remaining fresh) (remaining left) given
-      → calls left ≤ calls fresh + most_read + 1
-      → IsFound finding (found_in comparison standing) most_read given (remaining left) (failures fresh)
-      (failures left)
-      → FindsRead has_given remaining calls failures held folder comparison standing finding
+      → IfSome held (λ files. IsSome (files.bytes_at opened) × (readers.remaining fresh ≡ files.bytes_at opened))
+      → ((past : readers.Past) → readers.has_given fresh past []) → readers.calls fresh ≡ 0 → readers.failures fresh ≡ 0
+      → Gives readers.has_given fresh left given → Consumes (readers.remaining fresh) (readers.remaining left) given
+      → readers.calls left ≤ readers.calls fresh + most_read + 1
+      → IsFound finding (found_in comparison standing) most_read given (readers.remaining left) (readers.failures fresh)
+      (readers.failures left)
+      → FindsRead readers held folder comparison standing finding
   read_found opened path file given standing finding fresh left is id at place there first unread none gives known
       reads found = record {
         path = path;
@@ -142,11 +142,11 @@ module _ {R P : Type 0} (has_given : R → P → List ℕ → Type 0) (remaining
         given = given;
         gave = λ past. gives.then past [] (first past);
         stored = subst (λ (xs : List ℕ). IfSome held (λ files.
-            IsSome (files.bytes_at xs) × Consumes (files.bytes_at xs) (remaining left) given)) at
-            (stored_given held opened given (remaining fresh) (remaining left) there known);
-        reads = subst (λ (n : ℕ). calls left ≤ n + most_read + 1) unread reads;
-        found = subst (λ (n : ℕ). IsFound finding (found_in comparison standing) most_read given (remaining left) n
-            (failures left)) none found;
+            IsSome (files.bytes_at xs) × Consumes (files.bytes_at xs) (readers.remaining left) given)) at
+            (stored_given held opened given (readers.remaining fresh) (readers.remaining left) there known);
+        reads = subst (λ (n : ℕ). readers.calls left ≤ n + most_read + 1) unread reads;
+        found = subst (λ (n : ℕ). IsFound finding (found_in comparison standing) most_read given
+            (readers.remaining left) n (readers.failures left)) none found;
       }
 
   -- the same of what is found wherever the record stands
@@ -154,13 +154,14 @@ module _ {R P : Type 0} (has_given : R → P → List ℕ → Type 0) (remaining
       (node : Node) (fresh left : R) (old new : ℕ)
       → file ≡ file_in node → NamesFile node → IsFileId (file_in node) → opened ≡ path
       → (All (λ (byte : ℕ). byte < 128) file → IsPathIn folder (id_path file) path)
-      → IfSome held (λ files. IsSome (files.bytes_at opened) × (remaining fresh ≡ files.bytes_at opened))
-      → ((past : P) → has_given fresh past []) → calls fresh ≡ 0 → failures fresh ≡ 0 → HasWorked old new
+      → IfSome held (λ files. IsSome (files.bytes_at opened) × (readers.remaining fresh ≡ files.bytes_at opened))
+      → ((past : readers.Past) → readers.has_given fresh past []) → readers.calls fresh ≡ 0
+      → readers.failures fresh ≡ 0 → HasWorked old new
       → IfOk r (λ finding. (above : List Node) → IsInherited said (node ∷ above)
-      → FindsBy has_given remaining calls failures most_read (found_in comparison (standing_below above node)) finding
+      → FindsBy readers most_read (found_in comparison (standing_below above node)) finding
       fresh left)
       → IfOk r (λ finding. (above : List Node) → IsInherited said (node ∷ above)
-      → FindsFile has_given remaining calls failures held folder comparison (standing_below above node) old new finding)
+      → FindsFile readers held folder comparison (standing_below above node) old new finding)
   file_found (Ok finding) said opened path file node fresh left old new is names id at place there first unread none
       worked finds = λ above inherits. record {
         unnamed = λ unnamed. absurd (unnamed names);
@@ -170,7 +171,7 @@ module _ {R P : Type 0} (has_given : R → P → List ℕ → Type 0) (remaining
             inr (
               worked,
               read_found opened path file by.given (standing_below above node) finding fresh left is id at place there
-                  first unread none by.gave by.known by.reads by.found,
+                  first unread none by.gave by.known by.few by.answered,
             );
       }
   file_found (Err fault) said opened path file node fresh left old new is names id at place there first unread none
@@ -179,13 +180,13 @@ module _ {R P : Type 0} (has_given : R → P → List ℕ → Type 0) (remaining
   -- ---- records
 
   abbrev Told : List Standing → ℕ → ℕ → List ℕ → Type 0
-  Told = TellsAll has_given remaining calls failures held folder comparison
+  Told = TellsAll readers held folder comparison
 
   abbrev First : List Standing → ℕ → ℕ → List ℕ → Type 0
-  First = TellsFirst has_given remaining calls failures held folder comparison
+  First = TellsFirst readers held folder comparison
 
   abbrev Checked : List Standing → Result Bool CheckFault → ℕ → ℕ → Way → Way → Type 0
-  Checked = Checks has_given remaining calls failures held folder comparison
+  Checked = Checks readers held folder comparison
 
   -- those of both lists
   both_told : (xs ys : List Standing) (f g h : ℕ) (one two : List ℕ) → Told xs f g one → Told ys g h two
@@ -229,7 +230,7 @@ module _ {R P : Type 0} (has_given : R → P → List ℕ → Type 0) (remaining
       ([], record { first = []; others = standing ∷ []; parts = refl; told = (same, refl) }, goes_none a)
 
   one_told : (standing : Standing) (f g : ℕ) (finding : Option Finding)
-      → FindsFile has_given remaining calls failures held folder comparison standing f g finding
+      → FindsFile readers held folder comparison standing f g finding
       → Told (standing ∷ []) f g (finding_line standing.node finding)
   one_told standing f g finding finds = (
     finding_line standing.node finding,
@@ -241,7 +242,7 @@ module _ {R P : Type 0} (has_given : R → P → List ℕ → Type 0) (remaining
   )
 
   pub record_quiet : (standing : Standing) (f g : ℕ) (finding : Option Finding) (w : Way) → finding ≡ None
-      → FindsFile has_given remaining calls failures held folder comparison standing f g finding
+      → FindsFile readers held folder comparison standing f g finding
       → Checked (standing ∷ []) (Ok false) f g w w
   record_quiet standing f g finding w is finds = (
     [],
@@ -252,7 +253,7 @@ module _ {R P : Type 0} (has_given : R → P → List ℕ → Type 0) (remaining
   )
 
   pub record_told : (standing : Standing) (f g : ℕ) (finding : Finding) (found : Option Finding) (a b : Way)
-      → found ≡ Some finding → FindsFile has_given remaining calls failures held folder comparison standing f g found
+      → found ≡ Some finding → FindsFile readers held folder comparison standing f g found
       → GoesOn (finding_line standing.node (Some finding)) a b → Checked (standing ∷ []) (Ok true) f g a b
   record_told standing f g finding found a b is finds goes = (
     finding_line standing.node (Some finding),
@@ -263,7 +264,7 @@ module _ {R P : Type 0} (has_given : R → P → List ℕ → Type 0) (remaining
   )
 
   pub record_unsent : (standing : Standing) (f g : ℕ) (finding : Finding) (found : Option Finding) (a b : Way)
-      → found ≡ Some finding → FindsFile has_given remaining calls failures held folder comparison standing f g found
+      → found ≡ Some finding → FindsFile readers held folder comparison standing f g found
       → Fails (finding_line standing.node (Some finding)) a b → Checked (standing ∷ []) (Err Unsent) f g a b
   record_unsent standing f g finding found a b is finds failed = (
     finding_line standing.node (Some finding),
@@ -310,7 +311,7 @@ module _ {R P : Type 0} (has_given : R → P → List ℕ → Type 0) (remaining
 
   -- files that hold the same
   abbrev CheckedOver : Option Held → List Standing → Result Bool CheckFault → ℕ → ℕ → Way → Way → Type 0
-  CheckedOver mid = Checks has_given remaining calls failures mid folder comparison
+  CheckedOver mid = Checks readers mid folder comparison
 
   over : (mid : Option Held) (all : List Standing) (r : Result Bool CheckFault) (f g : ℕ) (a b : Way) → mid ≡ held
       → CheckedOver mid all r f g a b → Checked all r f g a b
@@ -389,7 +390,7 @@ module _ {R P : Type 0} (has_given : R → P → List ℕ → Type 0) (remaining
   -- ---- a directory
 
   abbrev CheckedAll : Walk → Result Bool CheckFault → ℕ → ℕ → Way → Way → Type 0
-  CheckedAll = ChecksAll has_given remaining calls failures held folder comparison
+  CheckedAll = ChecksAll readers held folder comparison
 
   -- a fault in its trees is one of all
   pub walk_ends : (forest : Forest) (trees : List Tree) (r one : Result Bool CheckFault) (fault : CheckFault) (f g : ℕ)
@@ -407,7 +408,7 @@ module _ {R P : Type 0} (has_given : R → P → List ℕ → Type 0) (remaining
       rw ends (same.0, inl same.1, same.2)
 
   abbrev Walked : Forest → Bool → ℕ → ℕ → List ℕ → Type 0
-  Walked forest = TellsWalk has_given remaining calls failures held folder comparison (walk_view forest)
+  Walked forest = TellsWalk readers held folder comparison (walk_view forest)
 
   walk_told : (forest : Forest) (trees : List Tree) (found some all : Bool) (f g : ℕ) (text : List ℕ)
       → trees ≡ forest.trees.items → Told (standings_below [] (trees_view trees)) f g text → found ≡ not (is_empty text)
@@ -452,7 +453,7 @@ module _ {R P : Type 0} (has_given : R → P → List ℕ → Type 0) (remaining
   pub walk_went : (walk : Walk) (r : Result Bool CheckFault) (f g : ℕ) (a b : Way) (c : Option (List ℕ)) (h : ℕ)
       → a.waits ≡ [] → CheckedAll walk r f g a b → TakesAll b.holds c b.failures h b.waits
       → IfOk r (λ found. (text : List ℕ)
-      × TellsWalk has_given remaining calls failures held folder comparison walk found f g text
+      × TellsWalk readers held folder comparison walk found f g text
       × TakesAll a.holds c a.failures h text)
   walk_went walk (Ok found) f g a b c h none checks took =
       (checks.0, checks.1, all_goes checks.0 a b c h none checks.2 took)
@@ -467,7 +468,7 @@ module _ {R P : Type 0} (has_given : R → P → List ℕ → Type 0) (remaining
       (cut.0, cut.1, all_goes cut.0 a b c h none cut.2 took)
 
   abbrev SomeTold : Walk → ℕ → ℕ → List ℕ → Type 0
-  SomeTold = TellsSome has_given remaining calls failures held folder comparison
+  SomeTold = TellsSome readers held folder comparison
 
   pub walk_unsent : (walk : Walk) (r : Result Bool CheckFault) (f g : ℕ) (a b : Way) → a.waits ≡ [] → r ≡ Err Unsent
       → CheckedAll walk r f g a b

@@ -9,7 +9,7 @@ use Rattle.dd_set.specs.Find.{find_in}
 use Rattle.dd_set.specs.Scan.{most_told}
 use Rattle.dd_part10.specs.declared.fault.FileFault.{FileFault}
 use Rattle.dd_part10.specs.declared.fault.FileFault.TheVariants.{OtherSyntax}
-use Rattle.dd_part10.specs.Meta.{class_tag, instance_tag, transfer_tag}
+use Rattle.dd_encoding.specs.Meta.{class_tag, instance_tag, transfer_tag}
 use Rattle.dd_part10.specs.Reading.{FileParts, file_in}
 use Rattle.dd_keys.specs.Table.{patient_id_row}
 use Rattle.dd_keys.specs.Values.{or_other}

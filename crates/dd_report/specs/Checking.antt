@@ -5,6 +5,7 @@ use Rattle.std.specs.Fmt.{decimal}
 use Rattle.std.specs.Io.KnownBytes.{Consumes}
 use Rattle.hex.specs.Hex.{encode_lower}
 use Rattle.dd_elem.specs.Device.{HasWorked, counted}
+use Rattle.dd_elem.specs.declared.device.Read.{Ghosts as ReadOf}
 use Rattle.dd_elem.specs.FileIdForm.{IsFileId}
 use Rattle.dd_elem.specs.Tag.{text_of}
 use Rattle.dd_version.specs.Fitting.{is_empty}
@@ -64,8 +65,7 @@ most_read = 4294967295
 -- ---- what is found in files that hold this, in a folder, by this comparison; their readers say what they gave, what
 -- they have left, and how many reads they had and how many of these failed
 
-module _ {R P : Type 0} (has_given : R → P → List ℕ → Type 0) (remaining : R → Option (List ℕ)) (calls failures : R → ℕ)
-    (held : Option Held) (folder : List ℕ) (comparison : Comparison) where
+module _ {R : Type 0} (readers : ReadOf R) (held : Option Held) (folder : List ℕ) (comparison : Comparison) where
   -- The file that a record names was opened for a reader, and this is found by reading it. What the reader gave and
   -- what it has left are the bytes at the file's path, where these are known; it was read at most once for each byte
   -- and once more.
@@ -74,11 +74,12 @@ module _ {R P : Type 0} (has_given : R → P → List ℕ → Type 0) (remaining
     pub place : IsPathIn folder (id_path (file_in standing.node)) path
     pub reader : R
     pub given : List ℕ
-    pub gave : (past : P) → has_given reader past given
+    pub gave : (past : readers.Past) → readers.has_given reader past given
     pub stored : IfSome held (λ files.
-        IsSome (files.bytes_at path) × Consumes (files.bytes_at path) (remaining reader) given)
-    pub reads : calls reader ≤ most_read + 1
-    pub found : IsFound finding (found_in comparison standing) most_read given (remaining reader) 0 (failures reader)
+        IsSome (files.bytes_at path) × Consumes (files.bytes_at path) (readers.remaining reader) given)
+    pub reads : readers.calls reader ≤ most_read + 1
+    pub found : IsFound finding (found_in comparison standing) most_read given (readers.remaining reader) 0
+        (readers.failures reader)
 
   -- What is found of the file that a record names. The files had refused `old` calls before, and have refused `new`.
   pub record FindsFile (standing : Standing) (old new : ℕ) (finding : Option Finding) : Type 0 where

@@ -1,15 +1,15 @@
 -- What a check of a record finds of the file that it names (PS3.3 section F.3.2.2, Referenced File ID).
 use Rattle.std.proofs.Common.{inl, inr}
-use Rattle.std.specs.Prelude.{◌≡◌, ◌≢◌, ◌⊎◌, ℕ, ◌+◌, ◌≤◌, List, [], Option, None, Some, true}
+use Rattle.std.specs.Prelude.{◌≡◌, ◌≢◌, ◌⊎◌, ℕ, List, [], Option, None, Some, true}
 use Rattle.std.specs.Prelude.{if◌then◌else◌}
 use Rattle.std.specs.Borrow.{MutBor}
-use Rattle.std.specs.Io.KnownBytes.{Consumes}
 use Rattle.std.specs.Str.{bytes_eq}
 use Rattle.sha2.specs.Sha256.{sha256}
-use Rattle.dd_elem.specs.Device.{Gives}
+use Rattle.dd_elem.specs.declared.device.Read.{Ghosts as ReadOf}
 use Rattle.dd_elem.specs.FileIdForm.{IsFileId}
-use Rattle.dd_set.specs.Streams.{Ends}
-use Rattle.dd_set.specs.declared.end.End.TheVariants.{Ended}
+use Rattle.dd_stream.specs.Reads.{ReadsUpTo}
+use Rattle.dd_stream.specs.Streams.{Ends}
+use Rattle.dd_stream.specs.declared.end.End.TheVariants.{Ended}
 use Rattle.dd_layout.specs.Entries.{tag}
 use Rattle.dd_dir.specs.Trees.{Node}
 use Rattle.dd_dir.specs.Own.{digest_in}
@@ -47,24 +47,17 @@ IsFound finding whole limit given left failures after =
     ((finding ≡ whole given) × Ends Ended limit given left failures after)
     ⊎ ((finding ≡ Some Unreadable) × ReadAmiss limit given left failures after)
 
--- What is found of it by reading it once, to its end, to a failure or to a byte more than the limit. Readers say what
--- they gave, what they have left and what they count.
-pub record FindsBy {R P : Type 0} (has_given : R → P → List ℕ → Type 0) (remaining : R → Option (List ℕ))
-    (calls failures : R → ℕ) (limit : ℕ) (whole : List ℕ → Option Finding) (finding : Option Finding) (old new : R)
-    : Type 0 where
-  pub given : List ℕ
-  pub gave : Gives has_given old new given
-  pub known : Consumes (remaining old) (remaining new) given
-  pub reads : calls new ≤ calls old + limit + 1
-  pub found : IsFound finding whole limit given (remaining new) (failures old) (failures new)
+-- what is found of it by reading it once, to its end, to a failure or to a byte more than the limit
+abbrev pub FindsBy : {R : Type 0} → ReadOf R → ℕ → (List ℕ → Option Finding) → Option Finding → R → R → Type 0
+FindsBy reader limit whole finding old new = ReadsUpTo reader limit old new (IsFound finding whole limit)
 
 -- the same of a file that may be missing, as its reader comes in and as it is left
-abbrev pub FindsIn : {R P : Type 0} → (R → P → List ℕ → Type 0) → (R → Option (List ℕ)) → (R → ℕ) → (R → ℕ) → ℕ → Node
-    → Option Finding → Option (MutBor R) → Unit {0} ⊎ ((MutBor R × Unit {0}) ⊎ ⊥) → Type 0
-FindsIn has_given remaining calls failures limit node finding None left = finding ≡ Some Missing
-FindsIn has_given remaining calls failures limit node finding (Some file) (inr (inl left)) =
-    FindsBy has_given remaining calls failures limit (by_digest node) finding file.now left.0.now
-FindsIn has_given remaining calls failures limit node finding (Some file) left = ⊥
+abbrev pub FindsIn : {R : Type 0} → ReadOf R → ℕ → Node → Option Finding → Option (MutBor R)
+    → Unit {0} ⊎ ((MutBor R × Unit {0}) ⊎ ⊥) → Type 0
+FindsIn reader limit node finding None left = finding ≡ Some Missing
+FindsIn reader limit node finding (Some file) (inr (inl left)) =
+    FindsBy reader limit (by_digest node) finding file.now left.0.now
+FindsIn reader limit node finding (Some file) left = ⊥
 
 -- a file that may be missing is not read: its reader is left as it came in
 abbrev pub IsUnread : {R : Type 0} → Option (MutBor R) → Unit {0} ⊎ ((MutBor R × Unit {0}) ⊎ ⊥) → Type 0

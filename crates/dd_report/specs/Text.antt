@@ -7,6 +7,7 @@ use Rattle.std.specs.List.{concat}
 use Rattle.std.specs.Str.{chars, encode_utf8_all}
 use Rattle.std.specs.Io.KnownBytes.{Appends}
 use Rattle.dd_elem.specs.Device.{HasFailed}
+use Rattle.dd_elem.specs.declared.device.Write.{Ghosts as WriteOf}
 
 -- a writer with these contents and this count of failures, before and after, took all the bytes and
 -- did not fail
@@ -28,6 +29,22 @@ pub record Sent (bytes rest : List ℕ) (old new : Option (List ℕ)) (failures_
   pub gone : List ℕ
   pub parts : bytes ≡ gone ++ rest
   pub took : TakesAll old new failures_old failures_new gone
+
+-- ---- the same of a writer
+
+abbrev pub TakesText : {W : Type 0} → WriteOf W → W → W → List ℕ → Type 0
+TakesText writer old new =
+    TakesAll (writer.contents old) (writer.contents new) (writer.failures old) (writer.failures new)
+
+abbrev pub FailsInText : {W : Type 0} → WriteOf W → W → W → List ℕ → Type 0
+FailsInText writer old new =
+    FailsAmid (writer.contents old) (writer.contents new) (writer.failures old) (writer.failures new)
+
+abbrev pub SendsFront : {W : Type 0} → WriteOf W → W → W → List ℕ → List ℕ → Type 0
+SendsFront writer old new bytes rest =
+    Sent bytes rest (writer.contents old) (writer.contents new) (writer.failures old) (writer.failures new)
+
+-- ---- how a text prints
 
 -- a character as it prints: `?` for a control character, which is one of U+0000 to U+001F and U+007F to U+009F
 abbrev pub masked_char : ℕ → ℕ

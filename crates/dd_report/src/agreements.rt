@@ -2,7 +2,7 @@
 ghost use Rattle.std.specs.Prelude.{◌≡◌, ◌↔◌, ◌∷◌, ℕ, List, [], Err, IfOk, IsErr, None, OnErr, find, map, true};
 ghost use Rattle.std.specs.Option.{option_copied};
 ghost use Rattle.dd_elem.specs.Device.{Gives};
-ghost use Rattle.dd_set.specs.Elements.{Elements};
+ghost use Rattle.dd_encoding.specs.Elements.{Elements};
 ghost use Rattle.dd_set.specs.Find.{same_tag};
 ghost use Rattle.dd_set.specs.Scan.{found_hit, hits_of, is_wanted};
 ghost use Rattle.dd_part10.specs.declared.fault.FileFault.{FileFault};
@@ -268,7 +268,7 @@ pub(crate) fn finding_by_keys<R: Read>(
 ) -> Result<Option<Finding>, Memory>
     ensures found { IfOk result (λ finding. (above : List Node)
         → IsInherited inherited.entry ((tree_view tree.now).node ∷ above)
-        → FindsBy R.has_given R.remaining R.calls R.failures limit
+        → FindsBy R.Read limit
         (by_keys (standing_below above (tree_view tree.now).node)) finding reader.old reader.new) }
     ensures memory { OnErr result ((given : List ℕ) × (fault : FileFault)
         × Gives R.has_given reader.old reader.new given × (by_digest (tree_view tree.now).node given ≡ None)

@@ -9,8 +9,8 @@ ghost use Rattle.dd_report.specs.Checking.{Checks, ChecksAll, FindsFile, TellsFi
 ghost use Rattle.dd_report.specs.Checking.{differs_parts, end_line, finding_line};
 ghost use Rattle.dd_report.specs.Checking.{most_read};
 ghost use Rattle.dd_report.specs.Finding.{FindsBy};
-ghost use Rattle.dd_report.specs.Telling.{Tells, shown_line, way};
-ghost use Rattle.dd_report.specs.Text.{FailsAmid, TakesAll};
+ghost use Rattle.dd_report.specs.Telling.{Tells, shown_line, way_of};
+ghost use Rattle.dd_report.specs.Text.{FailsInText, TakesText};
 
 use crate::agreements::{Inherited, finding_by_keys};
 use crate::findings::{Finding, file_in, finding_by, id_of, unopened};
@@ -68,19 +68,19 @@ pub fn check_records<F: Files, W: Write>(
     to: &mut W,
 ) -> Result<bool, CheckFault>
     ensures told { IfOk result (λ found. (text : List ℕ)
-        × TellsWalk F.In.has_given F.In.remaining F.In.calls F.In.failures (F.held files.old) folder.now comparison
+        × TellsWalk F.In.Read (F.held files.old) folder.now comparison
         (walk_view forest.now) found (F.refusals files.old) (F.refusals files.new) text
-        × TakesAll (W.contents to.old) (W.contents to.new) (W.failures to.old) (W.failures to.new) text) }
+        × TakesText W.Write to.old to.new text) }
 
     // Where memory ran out the findings of the first records are sent; where the output failed, a front of the text.
     ensures cut { result ≡ Err CheckFault.Memory → (text : List ℕ)
-        × TellsFirst F.In.has_given F.In.remaining F.In.calls F.In.failures (F.held files.old) folder.now comparison
+        × TellsFirst F.In.Read (F.held files.old) folder.now comparison
         (standings_below [] (walk_view forest.now).trees) (F.refusals files.old) (F.refusals files.new) text
-        × TakesAll (W.contents to.old) (W.contents to.new) (W.failures to.old) (W.failures to.new) text }
+        × TakesText W.Write to.old to.new text }
     ensures unsent { result ≡ Err CheckFault.Unsent → (text : List ℕ)
-        × TellsSome F.In.has_given F.In.remaining F.In.calls F.In.failures (F.held files.old) folder.now comparison
+        × TellsSome F.In.Read (F.held files.old) folder.now comparison
         (walk_view forest.now) (F.refusals files.old) (F.refusals files.new) text
-        × FailsAmid (W.contents to.old) (W.contents to.new) (W.failures to.old) (W.failures to.new) text }
+        × FailsInText W.Write to.old to.new text }
 
     // What stays.
     ensures kept { F.held files.new ≡ F.held files.old }
@@ -116,11 +116,10 @@ fn check_forest<F: Files, W: Write>(
     lines: &mut LineBuffer,
     to: &mut W,
 ) -> Result<bool, CheckFault>
-    ensures checks { ChecksAll F.In.has_given F.In.remaining F.In.calls F.In.failures (F.held files.old)
+    ensures checks { ChecksAll F.In.Read (F.held files.old)
         check.entry.folder.now check.entry.comparison
         (walk_view forest.now) result (F.refusals files.old) (F.refusals files.new)
-        (way lines.old (W.contents to.old) (W.failures to.old))
-        (way lines.new (W.contents to.new) (W.failures to.new)) }
+        (way_of W.Write lines.old to.old) (way_of W.Write lines.new to.new) }
     ensures kept { F.held files.new ≡ F.held files.old }
 {
     let found = check_counted(check, &forest.trees, files, lines, to)?;
@@ -139,11 +138,10 @@ fn check_counted<F: Files, W: Write>(
     lines: &mut LineBuffer,
     to: &mut W,
 ) -> Result<bool, CheckFault>
-    ensures checks { Checks F.In.has_given F.In.remaining F.In.calls F.In.failures (F.held files.old)
+    ensures checks { Checks F.In.Read (F.held files.old)
         check.entry.folder.now check.entry.comparison
         (standings_below [] (trees_view trees.now)) result (F.refusals files.old) (F.refusals files.new)
-        (way lines.old (W.contents to.old) (W.failures to.old))
-        (way lines.new (W.contents to.new) (W.failures to.new)) }
+        (way_of W.Write lines.old to.old) (way_of W.Write lines.new to.new) }
     ensures kept { F.held files.new ≡ F.held files.old }
 {
     files.begin_progress(Step::Reading, record_count(trees));
@@ -162,8 +160,7 @@ fn tell_end<W: Write>(
 ) -> fmt::Result
     ensures { (findings : List ℕ) → found ≡ not (is_empty findings)
         → Tells result (end_line findings (walk_view forest.now))
-        (way lines.old (W.contents to.old) (W.failures to.old))
-        (way lines.new (W.contents to.new) (W.failures to.new)) }
+        (way_of W.Write lines.old to.old) (way_of W.Write lines.new to.new) }
 {
     let mut number = Buffer::new();
     if forest.unreached > 0 {
@@ -188,11 +185,10 @@ fn check_trees<'t, F: Files, W: Write>(
     to: &mut W,
 ) -> Result<bool, CheckFault>
     ensures checks { (above : List Node) → IsInherited inherited.entry above
-        → Checks F.In.has_given F.In.remaining F.In.calls F.In.failures (F.held files.old)
+        → Checks F.In.Read (F.held files.old)
         check.entry.folder.now check.entry.comparison
         (standings_below above (trees_view trees.now)) result (F.refusals files.old) (F.refusals files.new)
-        (way lines.old (W.contents to.old) (W.failures to.old))
-        (way lines.new (W.contents to.new) (W.failures to.new)) }
+        (way_of W.Write lines.old to.old) (way_of W.Write lines.new to.new) }
     ensures kept { F.held files.new ≡ F.held files.old }
 {
     let mut found = false;
@@ -214,11 +210,10 @@ fn check_tree<'t, F: Files, W: Write>(
     to: &mut W,
 ) -> Result<bool, CheckFault>
     ensures checks { (above : List Node) → IsInherited inherited.entry above
-        → Checks F.In.has_given F.In.remaining F.In.calls F.In.failures (F.held files.old)
+        → Checks F.In.Read (F.held files.old)
         check.entry.folder.now check.entry.comparison
         (branch_standings above (tree_view tree.now)) result (F.refusals files.old) (F.refusals files.new)
-        (way lines.old (W.contents to.old) (W.failures to.old))
-        (way lines.new (W.contents to.new) (W.failures to.new)) }
+        (way_of W.Write lines.old to.old) (way_of W.Write lines.new to.new) }
     ensures kept { F.held files.new ≡ F.held files.old }
 {
     let inherited = inherited.under(tree);
@@ -237,11 +232,10 @@ fn check_record<F: Files, W: Write>(
     to: &mut W,
 ) -> Result<bool, CheckFault>
     ensures checks { (above : List Node) → IsInherited inherited.entry ((tree_view tree.now).node ∷ above)
-        → Checks F.In.has_given F.In.remaining F.In.calls F.In.failures (F.held files.old)
+        → Checks F.In.Read (F.held files.old)
         check.entry.folder.now check.entry.comparison
         (standing_below above (tree_view tree.now).node ∷ []) result (F.refusals files.old) (F.refusals files.new)
-        (way lines.old (W.contents to.old) (W.failures to.old))
-        (way lines.new (W.contents to.new) (W.failures to.new)) }
+        (way_of W.Write lines.old to.old) (way_of W.Write lines.new to.new) }
     ensures kept { F.held files.new ≡ F.held files.old }
 {
     let Ok(finding) = finding_in(check, tree, inherited, files) else {
@@ -269,7 +263,7 @@ fn finding_in<F: Files>(
 ) -> Result<Option<Finding>, Memory>
     ensures found { IfOk result (λ finding. (above : List Node)
         → IsInherited inherited.entry ((tree_view tree.now).node ∷ above)
-        → FindsFile F.In.has_given F.In.remaining F.In.calls F.In.failures (F.held files.old)
+        → FindsFile F.In.Read (F.held files.old)
         check.entry.folder.now check.entry.comparison
         (standing_below above (tree_view tree.now).node) (F.refusals files.old) (F.refusals files.new) finding) }
 
@@ -296,7 +290,7 @@ fn finding_of_file<R: Read>(
 ) -> Result<Option<Finding>, Memory>
     ensures found { IfOk result (λ finding. (above : List Node)
         → IsInherited inherited.entry ((tree_view tree.now).node ∷ above)
-        → FindsBy R.has_given R.remaining R.calls R.failures most_read
+        → FindsBy R.Read most_read
         (found_in check.entry.comparison (standing_below above (tree_view tree.now).node)) finding
         reader.old reader.new) }
 
@@ -326,8 +320,7 @@ fn tell_finding<W: Write>(
     to: &mut W,
 ) -> fmt::Result
     ensures { Tells result (finding_line (tree_view tree.now).node (Some finding.now))
-        (way lines.old (W.contents to.old) (W.failures to.old))
-        (way lines.new (W.contents to.new) (W.failures to.new)) }
+        (way_of W.Write lines.old to.old) (way_of W.Write lines.new to.new) }
 {
     match finding {
         Finding::BadId => {
@@ -355,8 +348,7 @@ fn tell_digests<W: Write>(
     to: &mut W,
 ) -> fmt::Result
     ensures { Tells result (shown_line (differs_parts file.now recorded.now found.now))
-        (way lines.old (W.contents to.old) (W.failures to.old))
-        (way lines.new (W.contents to.new) (W.failures to.new)) }
+        (way_of W.Write lines.old to.old) (way_of W.Write lines.new to.new) }
 {
     lines.add_line(
         &[b"DIFFERS ", file, b" ", &recorded[..], b" ", &found[..]],

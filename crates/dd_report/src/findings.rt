@@ -45,7 +45,7 @@ pub fn finding_of<R: Read>(tree: &Tree<'_>, file: Option<&mut R>, limit: u64) ->
     ensures misnamed { NamesFile (tree_view tree.now).node → ¬ IsFileId (file_in (tree_view tree.now).node)
         → result ≡ Some Finding.BadId }
     ensures named { NamesFile (tree_view tree.now).node → IsFileId (file_in (tree_view tree.now).node)
-        → FindsIn R.has_given R.remaining R.calls R.failures limit (tree_view tree.now).node result
+        → FindsIn R.Read limit (tree_view tree.now).node result
         file.entry file.exit }
 
     // Where the name is no File ID the reader is left as it came in.
@@ -120,7 +120,7 @@ fn misnamed(tree: &Tree<'_>) -> Option<Finding>
 
 /// Judges the file by its digest, which is read once.
 pub(crate) fn finding_by<R: Read>(tree: &Tree<'_>, reader: &mut R, limit: u64) -> Option<Finding>
-    ensures { FindsBy R.has_given R.remaining R.calls R.failures limit (by_digest (tree_view tree.now).node) result
+    ensures { FindsBy R.Read limit (by_digest (tree_view tree.now).node) result
         reader.old reader.new }
 {
     match digest_of(reader, limit) {

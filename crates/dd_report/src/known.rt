@@ -3,7 +3,7 @@ ghost use Rattle.std.specs.Prelude.{◌≡◌, ◌∷◌, [], codes};
 ghost use Rattle.std.specs.List.{concat, flat_map};
 ghost use Rattle.dd_set.specs.Views.{set_view};
 ghost use Rattle.dd_report.specs.Listing.{known_tags, tags_in, value_parts};
-ghost use Rattle.dd_report.specs.Telling.{Tells, shown, way};
+ghost use Rattle.dd_report.specs.Telling.{Tells, shown, way_of};
 
 use crate::line_buffer::LineBuffer;
 use crate::listing::value_or_dash;
@@ -41,8 +41,7 @@ pub(crate) fn add_values<W: Write>(
     to: &mut W,
 ) -> fmt::Result
     ensures { Tells result (shown (concat (flat_map (value_parts (set_view set.now)) wanted.now)))
-        (way lines.old (W.contents to.old) (W.failures to.old))
-        (way lines.new (W.contents to.new) (W.failures to.new)) }
+        (way_of W.Write lines.old to.old) (way_of W.Write lines.new to.new) }
 {
     for tag in wanted {
         add_value(value_or_dash(set, *tag), lines, to)?;
@@ -53,8 +52,7 @@ pub(crate) fn add_values<W: Write>(
 /// Adds a value behind ` | `.
 fn add_value<W: Write>(value: &[u8], lines: &mut LineBuffer, to: &mut W) -> fmt::Result
     ensures { Tells result (shown (concat (codes " | " ∷ value.now ∷ [])))
-        (way lines.old (W.contents to.old) (W.failures to.old))
-        (way lines.new (W.contents to.new) (W.failures to.new)) }
+        (way_of W.Write lines.old to.old) (way_of W.Write lines.new to.new) }
 {
     lines.add_parts(&[b" | ", value], to)
 }

@@ -2,8 +2,8 @@
 ghost use Rattle.std.specs.Prelude.{◌≡◌, ◌+◌, ◌++◌, ◌≤◌, ◌↔◌, ◌∷◌, ℕ, List, [], IsTrue, OnErr, OnOk, codes, length};
 ghost use Rattle.std.specs.Prelude.{take};
 ghost use Rattle.std.specs.List.{concat, repeat};
-ghost use Rattle.dd_report.specs.Telling.{Tells, parts_of, shown, shown_byte, shown_line, way};
-ghost use Rattle.dd_report.specs.Text.{FailsAmid, Sent, TakesAll, masked};
+ghost use Rattle.dd_report.specs.Telling.{Tells, parts_of, shown, shown_byte, shown_line, way_of};
+ghost use Rattle.dd_report.specs.Text.{FailsInText, SendsFront, TakesText, masked};
 
 use crate::text::send_bytes;
 use dd_elem::Write;
@@ -46,10 +46,8 @@ impl LineBuffer {
     /// Adds bytes to the lines. What goes to the device by this is a front of what waited and of these, and
     /// the rest of it waits then.
     pub(crate) fn add<W: Write>(&mut self, more: &[u8], to: &mut W) -> fmt::Result
-        ensures sent { OnOk result (Sent (self.old ++ more.now) self.new (W.contents to.old) (W.contents to.new)
-            (W.failures to.old) (W.failures to.new)) }
-        ensures unsent { OnErr result (FailsAmid (W.contents to.old) (W.contents to.new)
-            (W.failures to.old) (W.failures to.new) (self.old ++ more.now)) }
+        ensures sent { OnOk result (SendsFront W.Write to.old to.new (self.old ++ more.now) self.new) }
+        ensures unsent { OnErr result (FailsInText W.Write to.old to.new (self.old ++ more.now)) }
         ensures rest { W.rest to.new ≡ W.rest to.old }
     {
         if self.has_room(more.len()) {
@@ -68,10 +66,8 @@ impl LineBuffer {
     /// Adds a text to the lines as `add` does, with `?` for each control character. What stands between two of
     /// them is added at once.
     pub(crate) fn add_masked<W: Write>(&mut self, text: &str, to: &mut W) -> fmt::Result
-        ensures sent { OnOk result (Sent (self.old ++ masked text.now) self.new
-            (W.contents to.old) (W.contents to.new) (W.failures to.old) (W.failures to.new)) }
-        ensures unsent { OnErr result (FailsAmid (W.contents to.old) (W.contents to.new)
-            (W.failures to.old) (W.failures to.new) (self.old ++ masked text.now)) }
+        ensures sent { OnOk result (SendsFront W.Write to.old to.new (self.old ++ masked text.now) self.new) }
+        ensures unsent { OnErr result (FailsInText W.Write to.old to.new (self.old ++ masked text.now)) }
         ensures rest { W.rest to.new ≡ W.rest to.old }
     {
         let mut rest = text;
@@ -85,8 +81,8 @@ impl LineBuffer {
 
     /// Adds two spaces for each level.
     pub(crate) fn add_indent<W: Write>(&mut self, level: u64, to: &mut W) -> fmt::Result
-        ensures { Tells result (repeat level (codes "  ")) (way self.old (W.contents to.old) (W.failures to.old))
-            (way self.new (W.contents to.new) (W.failures to.new)) }
+        ensures { Tells result (repeat level (codes "  "))
+            (way_of W.Write self.old to.old) (way_of W.Write self.new to.new) }
     {
         for _ in 0..level {
             self.add(b"  ", to)?;
@@ -97,8 +93,7 @@ impl LineBuffer {
     /// Adds a line of these parts, one behind the other, with `?` for each byte that does not print.
     pub(crate) fn add_line<W: Write>(&mut self, parts: &[&[u8]], to: &mut W) -> fmt::Result
         ensures told { Tells result (shown_line (parts_of parts.now))
-            (way self.old (W.contents to.old) (W.failures to.old))
-            (way self.new (W.contents to.new) (W.failures to.new)) }
+            (way_of W.Write self.old to.old) (way_of W.Write self.new to.new) }
         ensures rest { W.rest to.new ≡ W.rest to.old }
     {
         self.add_parts(parts, to)?;
@@ -108,8 +103,7 @@ impl LineBuffer {
     /// Adds these parts to the line, one behind the other, with `?` for each byte that does not print.
     pub(crate) fn add_parts<W: Write>(&mut self, parts: &[&[u8]], to: &mut W) -> fmt::Result
         ensures told { Tells result (shown (concat (parts_of parts.now)))
-            (way self.old (W.contents to.old) (W.failures to.old))
-            (way self.new (W.contents to.new) (W.failures to.new)) }
+            (way_of W.Write self.old to.old) (way_of W.Write self.new to.new) }
         ensures rest { W.rest to.new ≡ W.rest to.old }
     {
         for part in parts {
@@ -120,8 +114,7 @@ impl LineBuffer {
 
     /// Ends the line.
     pub(crate) fn add_end<W: Write>(&mut self, to: &mut W) -> fmt::Result
-        ensures told { Tells result (10 ∷ []) (way self.old (W.contents to.old) (W.failures to.old))
-            (way self.new (W.contents to.new) (W.failures to.new)) }
+        ensures told { Tells result (10 ∷ []) (way_of W.Write self.old to.old) (way_of W.Write self.new to.new) }
         ensures rest { W.rest to.new ≡ W.rest to.old }
     {
         self.add(b"\n", to)
@@ -129,8 +122,7 @@ impl LineBuffer {
 
     /// Adds bytes to the line, `?` for each that does not print.
     fn add_shown<W: Write>(&mut self, text: &[u8], to: &mut W) -> fmt::Result
-        ensures told { Tells result (shown text.now) (way self.old (W.contents to.old) (W.failures to.old))
-            (way self.new (W.contents to.new) (W.failures to.new)) }
+        ensures told { Tells result (shown text.now) (way_of W.Write self.old to.old) (way_of W.Write self.new to.new) }
         ensures rest { W.rest to.new ≡ W.rest to.old }
     {
         for byte in text {
@@ -141,11 +133,9 @@ impl LineBuffer {
 
     /// Sends what waits.
     pub(crate) fn flush<W: Write>(&mut self, to: &mut W) -> fmt::Result
-        ensures sent { OnOk result (TakesAll (W.contents to.old) (W.contents to.new)
-            (W.failures to.old) (W.failures to.new) self.old) }
+        ensures sent { OnOk result (TakesText W.Write to.old to.new self.old) }
         ensures empty { OnOk result (self.new ≡ []) }
-        ensures unsent { OnErr result (FailsAmid (W.contents to.old) (W.contents to.new)
-            (W.failures to.old) (W.failures to.new) self.old) }
+        ensures unsent { OnErr result (FailsInText W.Write to.old to.new self.old) }
         ensures rest { W.rest to.new ≡ W.rest to.old }
     {
         send_bytes(&self.bytes[..self.used], to)?;

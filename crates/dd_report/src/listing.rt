@@ -9,8 +9,8 @@ ghost use Rattle.dd_dir.specs.Withdrawn.{pieces_in, pieces_of};
 ghost use Rattle.dd_report.specs.Listing.{branch_lines, flag_of, label_of, label_tag, lines_in, lines_of};
 ghost use Rattle.dd_report.specs.Listing.{listing_text, long_listing, or_dash, record_count, record_line, record_parts};
 ghost use Rattle.dd_report.specs.Listing.{set_parts, spaced, totals_line, withdrawn_line, withdrawn_lines};
-ghost use Rattle.dd_report.specs.Telling.{Tells, shown, shown_line, way};
-ghost use Rattle.dd_report.specs.Text.{FailsAmid, TakesAll};
+ghost use Rattle.dd_report.specs.Telling.{Tells, shown, shown_line, way_of};
+ghost use Rattle.dd_report.specs.Text.{FailsInText, TakesText};
 
 use crate::known::{Form, add_values, tags_in};
 use crate::line_buffer::LineBuffer;
@@ -27,10 +27,8 @@ use std::fmt;
 /// withdrawn SOP Instance UIDs, and how many records there are. It fails only where the output does, and takes
 /// no memory.
 pub fn list_records<W: Write>(forest: &Forest<'_>, to: &mut W) -> fmt::Result
-    ensures sent { OnOk result (TakesAll (W.contents to.old) (W.contents to.new)
-        (W.failures to.old) (W.failures to.new) (listing_text (walk_view forest.now))) }
-    ensures unsent { OnErr result (FailsAmid (W.contents to.old) (W.contents to.new)
-        (W.failures to.old) (W.failures to.new) (listing_text (walk_view forest.now))) }
+    ensures sent { OnOk result (TakesText W.Write to.old to.new (listing_text (walk_view forest.now))) }
+    ensures unsent { OnErr result (FailsInText W.Write to.old to.new (listing_text (walk_view forest.now))) }
 {
     let mut lines = LineBuffer::new();
     list_forest(forest, Form::Short, &mut lines, to)?;
@@ -41,10 +39,8 @@ pub fn list_records<W: Write>(forest: &Forest<'_>, to: &mut W) -> fmt::Result
 /// the UID of the directory. The line of each PATIENT, STUDY, SERIES and IMAGE record also has the values by which
 /// a person recognises it. It fails only where the output does, and takes no memory.
 pub fn list_long<W: Write>(forest: &Forest<'_>, to: &mut W) -> fmt::Result
-    ensures sent { OnOk result (TakesAll (W.contents to.old) (W.contents to.new)
-        (W.failures to.old) (W.failures to.new) (long_listing (walk_view forest.now))) }
-    ensures unsent { OnErr result (FailsAmid (W.contents to.old) (W.contents to.new)
-        (W.failures to.old) (W.failures to.new) (long_listing (walk_view forest.now))) }
+    ensures sent { OnOk result (TakesText W.Write to.old to.new (long_listing (walk_view forest.now))) }
+    ensures unsent { OnErr result (FailsInText W.Write to.old to.new (long_listing (walk_view forest.now))) }
 {
     let mut lines = LineBuffer::new();
     list_set(forest, &mut lines, to)?;
@@ -54,8 +50,7 @@ pub fn list_long<W: Write>(forest: &Forest<'_>, to: &mut W) -> fmt::Result
 /// Lists what names the file-set, and then its records in the long form.
 fn list_set<W: Write>(forest: &Forest<'_>, lines: &mut LineBuffer, to: &mut W) -> fmt::Result
     ensures { Tells result (long_listing (walk_view forest.now))
-        (way lines.old (W.contents to.old) (W.failures to.old))
-        (way lines.new (W.contents to.new) (W.failures to.new)) }
+        (way_of W.Write lines.old to.old) (way_of W.Write lines.new to.new) }
 {
     list_names(or_dash(Some(forest.id)), forest.uid.as_bytes(), lines, to)?;
     list_forest(forest, Form::Long, lines, to)
@@ -64,8 +59,7 @@ fn list_set<W: Write>(forest: &Forest<'_>, lines: &mut LineBuffer, to: &mut W) -
 /// Lists the ID and the UID of a file-set.
 fn list_names<W: Write>(id: &[u8], uid: &[u8], lines: &mut LineBuffer, to: &mut W) -> fmt::Result
     ensures { Tells result (shown_line (set_parts id.now uid.now))
-        (way lines.old (W.contents to.old) (W.failures to.old))
-        (way lines.new (W.contents to.new) (W.failures to.new)) }
+        (way_of W.Write lines.old to.old) (way_of W.Write lines.new to.new) }
 {
     lines.add_line(&[b"FILE-SET ", id, b" ", uid], to)
 }
@@ -78,8 +72,7 @@ fn list_forest<W: Write>(
     to: &mut W,
 ) -> fmt::Result
     ensures { Tells result (lines_in form (walk_view forest.now))
-        (way lines.old (W.contents to.old) (W.failures to.old))
-        (way lines.new (W.contents to.new) (W.failures to.new)) }
+        (way_of W.Write lines.old to.old) (way_of W.Write lines.new to.new) }
 {
     list_trees(&forest.trees, 0, form, lines, to)?;
     list_withdrawn(forest.withdrawn, lines, to)?;
@@ -96,8 +89,7 @@ fn list_trees<W: Write>(
     to: &mut W,
 ) -> fmt::Result
     ensures { Tells result (lines_of form level (trees_view trees.now))
-        (way lines.old (W.contents to.old) (W.failures to.old))
-        (way lines.new (W.contents to.new) (W.failures to.new)) }
+        (way_of W.Write lines.old to.old) (way_of W.Write lines.new to.new) }
 {
     for tree in trees {
         list_tree(tree, level, form, lines, to)?;
@@ -115,8 +107,7 @@ fn list_tree<W: Write>(
     to: &mut W,
 ) -> fmt::Result
     ensures { Tells result (branch_lines form level (tree_view tree.now))
-        (way lines.old (W.contents to.old) (W.failures to.old))
-        (way lines.new (W.contents to.new) (W.failures to.new)) }
+        (way_of W.Write lines.old to.old) (way_of W.Write lines.new to.new) }
 {
     list_record(tree, level, form, lines, to)?;
     list_trees(&tree.below, level.saturating_add(1), form, lines, to)
@@ -131,8 +122,7 @@ fn list_record<W: Write>(
     to: &mut W,
 ) -> fmt::Result
     ensures { Tells result (record_line form level (tree_view tree.now).node)
-        (way lines.old (W.contents to.old) (W.failures to.old))
-        (way lines.new (W.contents to.new) (W.failures to.new)) }
+        (way_of W.Write lines.old to.old) (way_of W.Write lines.new to.new) }
 {
     lines.add_indent(level, to)?;
     add_parts(tree, form, lines, to)
@@ -146,8 +136,7 @@ fn add_parts<W: Write>(
     to: &mut W,
 ) -> fmt::Result
     ensures { Tells result (shown_line (record_parts form (tree_view tree.now).node))
-        (way lines.old (W.contents to.old) (W.failures to.old))
-        (way lines.new (W.contents to.new) (W.failures to.new)) }
+        (way_of W.Write lines.old to.old) (way_of W.Write lines.new to.new) }
 {
     let mut at = Buffer::new();
     let at = at.format(tree.at).as_bytes();
@@ -166,8 +155,7 @@ fn add_words<W: Write>(
     to: &mut W,
 ) -> fmt::Result
     ensures { Tells result (shown (concat (spaced at.now kind.now label.now flag.now)))
-        (way lines.old (W.contents to.old) (W.failures to.old))
-        (way lines.new (W.contents to.new) (W.failures to.new)) }
+        (way_of W.Write lines.old to.old) (way_of W.Write lines.new to.new) }
 {
     lines.add_parts(&[at, b" ", kind, b" ", label, flag], to)
 }
@@ -221,8 +209,7 @@ fn flag_of<'t>(tree: &'t Tree<'_>) -> &'t [u8]
 /// Lists what is withdrawn, a line for each piece of the value; no lines where the value is absent.
 fn list_withdrawn<W: Write>(value: Option<&[u8]>, lines: &mut LineBuffer, to: &mut W) -> fmt::Result
     ensures { Tells result (withdrawn_lines (pieces_in (option_map (λ value. value.now) value.entry)))
-        (way lines.old (W.contents to.old) (W.failures to.old))
-        (way lines.new (W.contents to.new) (W.failures to.new)) }
+        (way_of W.Write lines.old to.old) (way_of W.Write lines.new to.new) }
 {
     match value {
         None => Ok(()),
@@ -233,8 +220,7 @@ fn list_withdrawn<W: Write>(value: Option<&[u8]>, lines: &mut LineBuffer, to: &m
 /// Lists the pieces of the value that names what is withdrawn.
 fn list_pieces<W: Write>(value: &[u8], lines: &mut LineBuffer, to: &mut W) -> fmt::Result
     ensures { Tells result (withdrawn_lines (pieces_of value.now))
-        (way lines.old (W.contents to.old) (W.failures to.old))
-        (way lines.new (W.contents to.new) (W.failures to.new)) }
+        (way_of W.Write lines.old to.old) (way_of W.Write lines.new to.new) }
 {
     let mut rest = Some(value);
     while let Some(value) = rest {
@@ -258,8 +244,7 @@ fn first_piece(value: &[u8]) -> (&[u8], Option<&[u8]>)
 /// Lists this piece, an empty one as `-`.
 fn list_piece<W: Write>(piece: &[u8], lines: &mut LineBuffer, to: &mut W) -> fmt::Result
     ensures { Tells result (withdrawn_line piece.now)
-        (way lines.old (W.contents to.old) (W.failures to.old))
-        (way lines.new (W.contents to.new) (W.failures to.new)) }
+        (way_of W.Write lines.old to.old) (way_of W.Write lines.new to.new) }
 {
     lines.add_line(&[b"WITHDRAWN ", or_dash(Some(piece))], to)
 }
@@ -267,8 +252,7 @@ fn list_piece<W: Write>(piece: &[u8], lines: &mut LineBuffer, to: &mut W) -> fmt
 /// Lists how many records there are, and how many items no offset reaches.
 fn list_totals<W: Write>(forest: &Forest<'_>, lines: &mut LineBuffer, to: &mut W) -> fmt::Result
     ensures { Tells result (totals_line (walk_view forest.now))
-        (way lines.old (W.contents to.old) (W.failures to.old))
-        (way lines.new (W.contents to.new) (W.failures to.new)) }
+        (way_of W.Write lines.old to.old) (way_of W.Write lines.new to.new) }
 {
     let (mut count, mut unreached) = (Buffer::new(), Buffer::new());
     let count = count.format(record_count(&forest.trees)).as_bytes();

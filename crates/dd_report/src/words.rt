@@ -2,7 +2,7 @@
 ghost use Rattle.std.specs.Prelude.{◌≡◌, ◌++◌, ◌<◌, ◌^◌, codes, true};
 ghost use Rattle.std.specs.Fmt.{digit_glyph};
 ghost use Rattle.dd_elem.specs.Tag.{four_digits, text_of};
-ghost use Rattle.dd_report.specs.Telling.{Tells, shown_line, way};
+ghost use Rattle.dd_report.specs.Telling.{Tells, shown_line, way_of};
 ghost use Rattle.dd_report.specs.Words.{file_words, mislabelled_parts, set_words};
 
 use crate::line_buffer::LineBuffer;
@@ -19,8 +19,7 @@ pub(crate) fn tell_tag<W: Write>(
     to: &mut W,
 ) -> fmt::Result
     ensures { Tells result (shown_line (mislabelled_parts file.now (text_of tag)))
-        (way lines.old (W.contents to.old) (W.failures to.old))
-        (way lines.new (W.contents to.new) (W.failures to.new)) }
+        (way_of W.Write lines.old to.old) (way_of W.Write lines.new to.new) }
 {
     lines.add_line(&[b"MISLABELLED ", file, b" ", &tag_text(tag)[..]], to)
 }
@@ -33,8 +32,7 @@ pub(crate) fn tell_fault<W: Write>(
     to: &mut W,
 ) -> fmt::Result
     ensures { Tells result (shown_line (mislabelled_parts file.now (codes "31 File " ++ file_words fault.now)))
-        (way lines.old (W.contents to.old) (W.failures to.old))
-        (way lines.new (W.contents to.new) (W.failures to.new)) }
+        (way_of W.Write lines.old to.old) (way_of W.Write lines.new to.new) }
 {
     match fault {
         FileFault::NotPart10 => tell_words(file, b"21 NotPart10", b"", lines, to),
@@ -62,8 +60,7 @@ fn tell_words<W: Write>(
     to: &mut W,
 ) -> fmt::Result
     ensures { Tells result (shown_line (mislabelled_parts file.now (codes "31 File " ++ (words.now ++ of.now))))
-        (way lines.old (W.contents to.old) (W.failures to.old))
-        (way lines.new (W.contents to.new) (W.failures to.new)) }
+        (way_of W.Write lines.old to.old) (way_of W.Write lines.new to.new) }
 {
     lines.add_line(&[b"MISLABELLED ", file, b" ", b"31 File ", words, of], to)
 }

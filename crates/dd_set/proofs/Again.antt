@@ -10,18 +10,19 @@ use Rattle.dd_elem.specs.declared.tag.Tag.{Tag}
 use Rattle.dd_elem.specs.declared.vr.Vr.{Vr}
 use Rattle.dd_elem.specs.Tag.{number_of}
 use Rattle.dd_set.specs.declared.fault.SetFault.TheVariants.{Order, UnexpectedTag, BadDelimiter}
-use Rattle.dd_set.specs.declared.syntax.Length.{Length}
-use Rattle.dd_set.specs.declared.syntax.Length.TheVariants.{Defined, Undefined}
-use Rattle.dd_set.specs.declared.syntax.Syntax.{Syntax}
-use Rattle.dd_set.specs.Elements.{Elements, no_elements, element, Content, bytes, items, fragments, Items, no_items}
-use Rattle.dd_set.specs.Elements.{item, Entry}
-use Rattle.dd_set.specs.Elements.{Part}
-use Rattle.dd_set.specs.Spelling.{undefined_length, delimiter_group, tag_text, item_tag_text, item_end_tag}
-use Rattle.dd_set.specs.Spelling.{item_end_text}
-use Rattle.dd_set.specs.Spelling.{sequence_end_text, length_of, closed, elements_text, content_text, items_text}
-use Rattle.dd_set.specs.Spelling.{names_vr, item_syntax, max_levels}
-use Rattle.dd_set.specs.Spelling.{AreElements, IsContent, AreItems, MayHave, encapsulates, is_pixel_data}
-use Rattle.dd_set.specs.Spelling.{fragments_text}
+use Rattle.dd_encoding.specs.declared.syntax.Length.{Length}
+use Rattle.dd_encoding.specs.declared.syntax.Length.TheVariants.{Defined, Undefined}
+use Rattle.dd_encoding.specs.declared.syntax.Syntax.{Syntax}
+use Rattle.dd_encoding.specs.Elements.{Elements, no_elements, element, Content, bytes, items, fragments, Items}
+use Rattle.dd_encoding.specs.Elements.{no_items}
+use Rattle.dd_encoding.specs.Elements.{item, Entry}
+use Rattle.dd_encoding.specs.Elements.{Part}
+use Rattle.dd_encoding.specs.Spelling.{undefined_length, delimiter_group, tag_text, item_tag_text, item_end_tag}
+use Rattle.dd_encoding.specs.Spelling.{item_end_text}
+use Rattle.dd_encoding.specs.Spelling.{sequence_end_text, length_of, closed, elements_text, content_text, items_text}
+use Rattle.dd_encoding.specs.Spelling.{names_vr, item_syntax, max_levels}
+use Rattle.dd_encoding.specs.Spelling.{AreElements, IsContent, AreItems, MayHave, encapsulates, is_pixel_data}
+use Rattle.dd_encoding.specs.Spelling.{fragments_text}
 use Rattle.dd_set.specs.Reading.{◌>>=◌, At, Reads, leaves_fewer, take_at, long_of, is_item, is_over, Shape, shape_at}
 use Rattle.dd_set.specs.Reading.{SequenceReader, SetReader, ItemReader, within, open_at, fragments_here, defined_at}
 use Rattle.dd_set.specs.Reading.{content_at}
@@ -32,7 +33,7 @@ use Rattle.dd_set.proofs.Steps.{done, long_again}
 use Rattle.dd_set.proofs.Taken.{closed-append}
 use Rattle.dd_set.proofs.Sound.{content_body, content_length, content_parts, entry_text, IsEntry, part_body}
 use Rattle.dd_set.proofs.Sound.{part_length, part_text, IsPart}
-use Rattle.dd_set.proofs.Even.{some_of, even_elements, even_items, closed_longer, element_least, length-item}
+use Rattle.dd_encoding.proofs.Even.{some_of, even_elements, even_items, closed_longer, element_least, length-item}
 use Rattle.dd_set.proofs.Before.{more, before, behind, before-append, before-none, fewer_not, past, into, onward}
 use Rattle.dd_set.proofs.Before.{take_again, within_again, Closes, over_not, tag_again, ShapeAgain, shape_again}
 use Rattle.dd_set.proofs.Widths.{even_not_odd, holds_none, content_form, fits_width, content_width, limit_most}
@@ -58,7 +59,8 @@ PartAgain d read = (syntax : Syntax) (p : Part) (left : Option ℕ) (rest : List
 module _ (d : ℕ) (sequence : SequenceReader) (law : SequenceAgain d sequence) where
   -- a defined length that the checks of a value pass
   defined_again : (syntax : Syntax) (tag : Tag) (vr : Option Vr) (c : Content) (text : List ℕ) (left : Option ℕ)
-      (rest : List ℕ) → length text < undefined_length → length text % 2 ≡ 0 → (o : Option Syntax) → item_syntax syntax vr Defined ≡ o
+      (rest : List ℕ) → length text < undefined_length → length text % 2 ≡ 0 → (o : Option Syntax)
+      → item_syntax syntax vr Defined ≡ o
       → defined_at sequence o (length text) (before left text rest) ≡ Ok (c, behind left rest)
       → content_at sequence syntax (record { tag = tag; shape = record { vr = vr; length = length text } })
       (before left text rest) ≡ Ok

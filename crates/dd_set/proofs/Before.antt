@@ -11,9 +11,9 @@ use Rattle.dd_elem.specs.declared.vr.Vr.{Vr}
 use Rattle.dd_elem.specs.Vr.{letters_of, is_long_of, vr_of}
 use Rattle.dd_elem.proofs.Letters.{letters_two, vr_of-letters_of}
 use Rattle.dd_set.specs.declared.fault.SetFault.{SetFault}
-use Rattle.dd_set.specs.declared.syntax.Length.{Length}
-use Rattle.dd_set.specs.declared.syntax.Length.TheVariants.{Defined, Undefined}
-use Rattle.dd_set.specs.Spelling.{tag_text, shape_text}
+use Rattle.dd_encoding.specs.declared.syntax.Length.{Length}
+use Rattle.dd_encoding.specs.declared.syntax.Length.TheVariants.{Defined, Undefined}
+use Rattle.dd_encoding.specs.Spelling.{tag_text, shape_text}
 use Rattle.dd_set.specs.Reading.{◌>>=◌, At, Reads, leaves_fewer, less, take_at, tag_of, short_of, no_byte_left, is_over}
 use Rattle.dd_set.specs.Reading.{Shape, long_length_at, long_at, explicit_at}
 use Rattle.dd_set.specs.Reading.{shape_where, within}

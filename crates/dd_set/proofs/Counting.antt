@@ -7,12 +7,14 @@ use Rattle.std.proofs.lemmas.List.{at_drop_more, at_drop_all}
 use Rattle.dd_elem.specs.Tag.{number_of}
 use Rattle.dd_set.specs.declared.set.Element.{Element}
 use Rattle.dd_set.specs.declared.set.Item.{Item}
-use Rattle.dd_set.specs.declared.syntax.Syntax.{Syntax}
-use Rattle.dd_set.specs.Elements.{Elements, no_elements, element, Items, no_items, item, Entry, Part}
+use Rattle.dd_encoding.specs.declared.syntax.Syntax.{Syntax}
+use Rattle.dd_encoding.specs.Elements.{Elements, no_elements, element, Items, no_items, item, Entry, Part}
 use Rattle.dd_set.specs.Single.{entry_text, part_text, IsEntry, IsPart}
-use Rattle.dd_set.specs.Spelling.{elements_text, items_text, tag_text, content_text, length_of, closed, item_tag_text}
-use Rattle.dd_set.specs.Spelling.{item_end_text, AreElements, AreItems, AreFragments, fragment_text, fragments_text}
-use Rattle.dd_set.specs.Spelling.{undefined_length}
+use Rattle.dd_encoding.specs.Spelling.{elements_text, items_text, tag_text, content_text, length_of, closed}
+use Rattle.dd_encoding.specs.Spelling.{item_tag_text}
+use Rattle.dd_encoding.specs.Spelling.{item_end_text, AreElements, AreItems, AreFragments, fragment_text}
+use Rattle.dd_encoding.specs.Spelling.{fragments_text}
+use Rattle.dd_encoding.specs.Spelling.{undefined_length}
 use Rattle.dd_set.specs.Views.{element_view, elements_view, item_view, items_view, pieces}
 use Rattle.byteorder.specs.Endian.{little_bytes}
 

@@ -4,14 +4,14 @@ use Rattle.std.proofs.Common.{◌==◌, nat_lt}
 use Rattle.dd_elem.specs.declared.tag.Tag.{Tag}
 use Rattle.dd_elem.specs.Tag.{number_of}
 use Rattle.dd_set.specs.declared.fault.SetFault.TheVariants.{Order, UnexpectedTag, BadDelimiter}
-use Rattle.dd_set.specs.declared.syntax.Length.{Length}
-use Rattle.dd_set.specs.declared.syntax.Syntax.{Syntax}
-use Rattle.dd_set.specs.Elements.{Entry, Part, Content}
+use Rattle.dd_encoding.specs.declared.syntax.Length.{Length}
+use Rattle.dd_encoding.specs.declared.syntax.Syntax.{Syntax}
+use Rattle.dd_encoding.specs.Elements.{Entry, Part, Content}
 use Rattle.dd_set.specs.Reading.{there, header_with, head_at, header_at, opening_at, behind_head, front_at}
 use Rattle.dd_set.specs.Reading.{element_behind, item_opening, behind_item_head, item_front_at, item_behind, At, Reads}
 use Rattle.dd_set.specs.Reading.{◌>>=◌, Shape, SequenceReader, ItemReader, take_at, tag_of, long_of, is_item, is_over}
 use Rattle.dd_set.specs.Reading.{ends_set, ends_sequence, shape_at, content_at, element_at, item_at}
-use Rattle.dd_set.specs.Spelling.{delimiter_group}
+use Rattle.dd_encoding.specs.Spelling.{delimiter_group}
 
 abbrev entry_with : Tag → Shape → Content × At → Reads Entry
 entry_with tag shape x = Ok (record { tag = tag; vr = shape.vr; content = x.0 }, x.1)
@@ -54,7 +54,8 @@ module _ (sequence : SequenceReader) (syntax : Syntax) where
   then_content tag shape =
       content_at sequence syntax (record { tag = tag; shape = shape.0 }) shape.1 >>= entry_with tag shape.0
 
-  behind_shape : (tag : Tag) (r : Reads Shape) → ((r >>= then_content tag) >>= there) ≡ (((r >>= header_with tag) >>= there) >>= element_behind sequence syntax)
+  behind_shape : (tag : Tag) (r : Reads Shape) → ((r >>= then_content tag) >>= there)
+      ≡ (((r >>= header_with tag) >>= there) >>= element_behind sequence syntax)
   behind_shape tag (Ok shape) = behind_content tag shape.0
       (content_at sequence syntax (record { tag = tag; shape = shape.0 }) shape.1)
   behind_shape tag (Err e) = refl

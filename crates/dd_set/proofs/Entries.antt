@@ -4,7 +4,7 @@ use Rattle.std.proofs.Common.{ap, ◌∙◌}
 use Rattle.std.specs.Prelude.{find}
 use Rattle.dd_elem.specs.declared.tag.Tag.{Tag}
 use Rattle.dd_set.specs.declared.set.Element.{Element}
-use Rattle.dd_set.specs.Elements.{Entry, elements_of}
+use Rattle.dd_encoding.specs.Elements.{Entry, elements_of}
 use Rattle.dd_set.specs.Find.{same_tag, find_in, entries_of}
 use Rattle.dd_set.specs.Views.{element_view, elements_view}
 use Rattle.dd_set.proofs.Seen.{element_view-is}

@@ -10,10 +10,10 @@ use Rattle.dd_set.specs.declared.fault.SetFault.TheVariants.{Truncated, Order, B
 use Rattle.dd_set.specs.declared.fault.SetFault.TheVariants.{UndefinedLength, UnexpectedTag, BadDelimiter, Overrun}
 use Rattle.dd_set.specs.declared.fault.SetFault.TheVariants.{TooDeep, Memory}
 use Rattle.dd_set.specs.Gives.{Fails}
-use Rattle.dd_set.specs.declared.syntax.Length.{Length}
-use Rattle.dd_set.specs.declared.syntax.Length.TheVariants.{Defined}
-use Rattle.dd_set.specs.declared.syntax.Syntax.{Syntax}
-use Rattle.dd_set.specs.Feeds.{IsOver}
+use Rattle.dd_encoding.specs.declared.syntax.Length.{Length}
+use Rattle.dd_encoding.specs.declared.syntax.Length.TheVariants.{Defined}
+use Rattle.dd_encoding.specs.declared.syntax.Syntax.{Syntax}
+use Rattle.dd_stream.specs.Feeds.{IsOver}
 use Rattle.dd_set.specs.Reading.{eight_at, head_at, long_length_at, opening_at, front_at, item_opening, item_front_at}
 use Rattle.dd_set.specs.Reading.{At, ◌>>=◌, leaves_fewer, less, take_at, is_over}
 use Rattle.dd_set.proofs.Loops.{differ}

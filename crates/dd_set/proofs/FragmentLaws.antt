@@ -7,11 +7,11 @@ use Rattle.std.proofs.lemmas.List.{length-append}
 use Rattle.byteorder.specs.Endian.{little_bytes}
 use Rattle.dd_set.specs.declared.fault.SetFault.{SetFault}
 use Rattle.dd_set.specs.declared.fault.SetFault.TheVariants.{OddLength, UndefinedLength, UnexpectedTag, BadDelimiter}
-use Rattle.dd_set.specs.declared.syntax.Length.TheVariants.{Undefined}
-use Rattle.dd_set.specs.Bytes.{AreBytes}
+use Rattle.dd_encoding.specs.declared.syntax.Length.TheVariants.{Undefined}
+use Rattle.dd_stream.specs.Bytes.{AreBytes}
 use Rattle.dd_set.specs.Gives.{Fails}
-use Rattle.dd_set.specs.Spelling.{undefined_length, header_text, item_tag, item_tag_text, sequence_end_tag}
-use Rattle.dd_set.specs.Spelling.{sequence_end_text, fragment_text, fragments_text, AreFragments}
+use Rattle.dd_encoding.specs.Spelling.{undefined_length, header_text, item_tag, item_tag_text, sequence_end_tag}
+use Rattle.dd_encoding.specs.Spelling.{sequence_end_text, fragment_text, fragments_text, AreFragments}
 use Rattle.dd_set.specs.Reading.{At, Reads, ◌>>=◌, there, take_at, eight_at, head_at, long_of, is_item, is_sequence_end}
 use Rattle.dd_set.specs.Reading.{item_opening, behind_item_head, item_front_at, fragment_length, fragment_behind}
 use Rattle.dd_set.specs.Reading.{fragment_at, next_fragments, fragments_at, fragments_here}
@@ -223,17 +223,6 @@ list_again fs left rest h =
     let a = length-append text rest in
     let b = length-append (fragments_text fs) sequence_end_text in
     fragments_again fs (suc (length (text ++ rest))) left rest h (omega arith)
-
--- ---- lengths
-
--- the text of fragments has an even length
-pub even_fragments : (fs : List (List ℕ)) → AreFragments fs → length (fragments_text fs) % 2 ≡ 0
-even_fragments [] h = refl
-even_fragments (f ∷ fs) h =
-    let a : length f % 2 ≡ 0 = h.0 in
-    let b : length (fragments_text fs) % 2 ≡ 0 = even_fragments fs h.2 in
-    let e = length-append (fragment_text f) (fragments_text fs) in
-    omega arith
 
 -- ---- one after the other
 

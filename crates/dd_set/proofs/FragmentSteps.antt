@@ -2,7 +2,7 @@
 use Rattle.std.proofs.Common.{◌≡◌, ◌<◌, ℕ, suc, ◌-◌, List, [], ◌∷◌, ◌++◌, length, Option, Some, None}
 use Rattle.std.proofs.Common.{Ok, Err, refl, arith}
 use Rattle.dd_set.specs.declared.fault.SetFault.{SetFault}
-use Rattle.dd_set.specs.declared.syntax.Length.TheVariants.{Undefined}
+use Rattle.dd_encoding.specs.declared.syntax.Length.TheVariants.{Undefined}
 use Rattle.dd_set.specs.Gives.{Fails}
 use Rattle.dd_set.specs.Reading.{At, take_at, item_front_at, fragment_length, fragment_behind}
 use Rattle.dd_set.specs.Reading.{fragment_at, fragments_at, fragments_here}

@@ -5,11 +5,11 @@ use Rattle.std.proofs.Common.{subst, ◌∙◌, arith}
 use Rattle.std.proofs.lemmas.List.{length-append}
 use Rattle.dd_set.specs.declared.fault.SetFault.{SetFault}
 use Rattle.dd_set.specs.declared.fault.SetFault.TheVariants.{Truncated, UnexpectedTag, BadDelimiter}
-use Rattle.dd_set.specs.declared.syntax.Length.{Length}
-use Rattle.dd_set.specs.declared.syntax.Length.TheVariants.{Defined, Undefined}
-use Rattle.dd_set.specs.declared.syntax.Syntax.{Syntax}
-use Rattle.dd_set.specs.Elements.{Items, item, Part}
-use Rattle.dd_set.specs.Spelling.{undefined_length, max_levels}
+use Rattle.dd_encoding.specs.declared.syntax.Length.{Length}
+use Rattle.dd_encoding.specs.declared.syntax.Length.TheVariants.{Defined, Undefined}
+use Rattle.dd_encoding.specs.declared.syntax.Syntax.{Syntax}
+use Rattle.dd_encoding.specs.Elements.{Items, item, Part}
+use Rattle.dd_encoding.specs.Spelling.{undefined_length, max_levels}
 use Rattle.dd_set.specs.Reading.{◌>>=◌, At, Reads, leaves_fewer, take_at, long_of, is_item}
 use Rattle.dd_set.specs.Reading.{is_over}
 use Rattle.dd_set.specs.Reading.{SetReader, ItemReader, within}

@@ -11,10 +11,10 @@ use Rattle.byteorder.specs.Endian.{little_bytes}
 use Rattle.dd_elem.specs.declared.vr.Vr.{Vr}
 use Rattle.dd_elem.specs.Vr.{letters_of, is_long_of, all_vrs, vr_of}
 use Rattle.dd_set.specs.declared.fault.SetFault.TheVariants.{Reserved}
-use Rattle.dd_set.specs.declared.syntax.Syntax.{Syntax}
-use Rattle.dd_set.specs.Bytes.{AreBytes}
+use Rattle.dd_encoding.specs.declared.syntax.Syntax.{Syntax}
+use Rattle.dd_stream.specs.Bytes.{AreBytes}
 use Rattle.dd_elem.specs.declared.tag.Tag.{Tag}
-use Rattle.dd_set.specs.Spelling.{tag_text, shape_text, header_text, undefined_length, length_limit, names_vr}
+use Rattle.dd_encoding.specs.Spelling.{tag_text, shape_text, header_text, undefined_length, length_limit, names_vr}
 use Rattle.dd_set.specs.Reading.{At, take_at, tag_of, long_of, short_of, is_tag, Shape, long_length_at, long_at}
 use Rattle.dd_set.specs.Reading.{explicit_at}
 use Rattle.dd_set.specs.Reading.{shape_at, shape_where}

@@ -4,16 +4,16 @@ use Rattle.std.proofs.Common.{◌≡◌, ◌≢◌, ℕ, ◌%◌, ◌^◌, ◌<�
 use Rattle.std.proofs.Common.{IfErr, refl, sym, ap, subst, ◌∙◌, arith, length-append}
 use Rattle.dd_set.specs.declared.fault.SetFault.{SetFault}
 use Rattle.dd_set.specs.declared.fault.SetFault.TheVariants.{Truncated, Memory}
-use Rattle.dd_set.specs.declared.syntax.Syntax.{Syntax}
-use Rattle.dd_set.specs.Bytes.{AreBytes}
-use Rattle.dd_set.specs.Elements.{Elements}
-use Rattle.dd_set.specs.Spelling.{max_levels, Spells}
+use Rattle.dd_encoding.specs.declared.syntax.Syntax.{Syntax}
+use Rattle.dd_stream.specs.Bytes.{AreBytes}
+use Rattle.dd_encoding.specs.Elements.{Elements}
+use Rattle.dd_encoding.specs.Spelling.{max_levels, Spells}
 use Rattle.dd_set.specs.Reading.{read_all, fault_of, first_fault}
 use Rattle.dd_set.specs.Gives.{Fails, Gives}
 use Rattle.dd_set.proofs.Steps.{ok_is}
 use Rattle.dd_set.proofs.SoundItems.{all_takes}
 use Rattle.dd_set.proofs.Again.{all_again}
-use Rattle.dd_set.proofs.Even.{even_elements}
+use Rattle.dd_encoding.proofs.Even.{even_elements}
 use Rattle.dd_set.proofs.FrontItems.{front_fails}
 
 -- ---- spelling and reading

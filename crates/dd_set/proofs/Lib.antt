@@ -1,17 +1,14 @@
 pub mod Again
-pub mod Along
 pub mod Before
 pub mod CleanedFronts
 pub mod Counting
 pub mod Cut
 pub mod Entries
-pub mod Even
 pub mod Feeding
 pub mod FragmentLaws
 pub mod FragmentSteps
 pub mod FrontItems
 pub mod Fronts
-pub mod Going
 pub mod HeaderLaws
 pub mod Laws
 pub mod Loops
@@ -25,7 +22,6 @@ pub mod Shorter
 pub mod Sound
 pub mod SoundItems
 pub mod Steps
-pub mod StreamEnds
 pub mod Taken
 pub mod Unkept
 pub mod Widths

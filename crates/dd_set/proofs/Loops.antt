@@ -7,10 +7,10 @@ use Rattle.dd_set.specs.declared.fault.SetFault.{SetFault}
 use Rattle.dd_set.specs.declared.fault.SetFault.TheVariants.{Truncated, Order, BadVr, Reserved, OddLength}
 use Rattle.dd_set.specs.declared.fault.SetFault.TheVariants.{UndefinedLength, UnexpectedTag, BadDelimiter, Overrun}
 use Rattle.dd_set.specs.declared.fault.SetFault.TheVariants.{TooDeep, Memory}
-use Rattle.dd_set.specs.declared.syntax.Length.{Length}
-use Rattle.dd_set.specs.declared.syntax.Syntax.{Syntax}
-use Rattle.dd_set.specs.Elements.{Elements, no_elements, element, Items, no_items, item, Entry, Part, elements_of}
-use Rattle.dd_set.specs.Elements.{items_of}
+use Rattle.dd_encoding.specs.declared.syntax.Length.{Length}
+use Rattle.dd_encoding.specs.declared.syntax.Syntax.{Syntax}
+use Rattle.dd_encoding.specs.Elements.{Elements, no_elements, element, Items, no_items, item, Entry, Part, elements_of}
+use Rattle.dd_encoding.specs.Elements.{items_of}
 use Rattle.dd_set.specs.Gives.{Fails}
 use Rattle.dd_set.specs.Reading.{At, Reads, ◌>>=◌, SequenceReader, ItemReader, element_at, elements_at, item_at}
 use Rattle.dd_set.specs.Reading.{items_at}

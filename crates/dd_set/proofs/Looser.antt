@@ -2,11 +2,12 @@
 use Rattle.std.proofs.Common.{ℕ, zero, suc, ◌≤◌, Option, IsSomeAnd, sym, subst, arith}
 use Rattle.dd_elem.specs.declared.vr.Vr.{Vr}
 use Rattle.dd_elem.specs.Tag.{number_of}
-use Rattle.dd_set.specs.declared.syntax.Syntax.{Syntax}
-use Rattle.dd_set.specs.Elements.{Elements, no_elements, element, Content, bytes, items, fragments, Items, no_items}
-use Rattle.dd_set.specs.Elements.{item}
-use Rattle.dd_set.specs.Spelling.{item_syntax, AreElements, IsContent, AreItems}
-use Rattle.dd_set.proofs.Even.{some_of}
+use Rattle.dd_encoding.specs.declared.syntax.Syntax.{Syntax}
+use Rattle.dd_encoding.specs.Elements.{Elements, no_elements, element, Content, bytes, items, fragments, Items}
+use Rattle.dd_encoding.specs.Elements.{no_items}
+use Rattle.dd_encoding.specs.Elements.{item}
+use Rattle.dd_encoding.specs.Spelling.{item_syntax, AreElements, IsContent, AreItems}
+use Rattle.dd_encoding.proofs.Even.{some_of}
 
 -- elements that begin no lower than here begin no lower than further down
 pub AreElements-lower : (syntax : Syntax) (levels low lower : ℕ) (set : Elements) → lower ≤ low

@@ -9,16 +9,18 @@ use Rattle.dd_set.specs.declared.set.DataSet.{DataSet}
 use Rattle.dd_set.specs.declared.set.Element.{Element}
 use Rattle.dd_set.specs.declared.set.Item.{Item}
 use Rattle.dd_set.specs.declared.set.Value.TheViews.{out-DataSet, out-Item}
-use Rattle.dd_set.specs.declared.syntax.Length.{Length}
-use Rattle.dd_set.specs.declared.syntax.Length.TheVariants.{Defined, Undefined}
-use Rattle.dd_set.specs.Elements.{Content, Items, items, fragments}
+use Rattle.dd_encoding.specs.declared.syntax.Length.{Length}
+use Rattle.dd_encoding.specs.declared.syntax.Length.TheVariants.{Defined, Undefined}
+use Rattle.dd_encoding.specs.Elements.{Content, Items, items, fragments}
 use Rattle.dd_set.specs.Single.{entry_text, part_text, mark_text}
-use Rattle.dd_set.specs.Spelling.{elements_text, items_text, tag_text, shape_text, header_text, content_text, length_of}
-use Rattle.dd_set.specs.Spelling.{closed, item_tag_text, item_end_text, sequence_end_text}
+use Rattle.dd_encoding.specs.Spelling.{elements_text, items_text, tag_text, shape_text, header_text, content_text}
+use Rattle.dd_encoding.specs.Spelling.{length_of}
+use Rattle.dd_encoding.specs.Spelling.{closed, item_tag_text, item_end_text, sequence_end_text}
 use Rattle.dd_elem.specs.Tag.{number_of}
-use Rattle.dd_set.specs.declared.syntax.Syntax.{Syntax}
+use Rattle.dd_encoding.specs.declared.syntax.Syntax.{Syntax}
 use Rattle.dd_set.specs.Single.{IsEntry, IsPart}
-use Rattle.dd_set.specs.Spelling.{AreElements, AreItems, AreFragments, fragment_text, fragments_text, undefined_length}
+use Rattle.dd_encoding.specs.Spelling.{AreElements, AreItems, AreFragments, fragment_text, fragments_text}
+use Rattle.dd_encoding.specs.Spelling.{undefined_length}
 use Rattle.dd_set.specs.Views.{set_view, element_view, elements_view, item_view, items_view, value_view, pieces}
 use Rattle.dd_set.proofs.Counting.{with_entry, entry_first, part_first, part_valid, elements_view-drop, items_view-drop}
 use Rattle.dd_set.proofs.Counting.{pieces-drop}

@@ -7,13 +7,14 @@ use Rattle.dd_elem.specs.declared.vr.Vr.{Vr}
 use Rattle.dd_elem.specs.Tag.{number_of}
 use Rattle.dd_set.specs.declared.set.Element.{Element}
 use Rattle.dd_set.specs.declared.set.Item.{Item}
-use Rattle.dd_set.specs.declared.syntax.Syntax.{Syntax}
-use Rattle.dd_set.specs.Elements.{Elements, no_elements, element, Content, bytes, items, fragments, Items, no_items}
-use Rattle.dd_set.specs.Elements.{item, Entry}
-use Rattle.dd_set.specs.Elements.{Part}
+use Rattle.dd_encoding.specs.declared.syntax.Syntax.{Syntax}
+use Rattle.dd_encoding.specs.Elements.{Elements, no_elements, element, Content, bytes, items, fragments, Items}
+use Rattle.dd_encoding.specs.Elements.{no_items}
+use Rattle.dd_encoding.specs.Elements.{item, Entry}
+use Rattle.dd_encoding.specs.Elements.{Part}
 use Rattle.dd_set.specs.Find.{same_tag}
 use Rattle.dd_set.specs.Single.{entry_text, part_text, IsEntry, IsPart}
-use Rattle.dd_set.specs.Spelling.{elements_text, items_text, header_text, length_of, AreElements, AreItems}
+use Rattle.dd_encoding.specs.Spelling.{elements_text, items_text, header_text, length_of, AreElements, AreItems}
 use Rattle.dd_set.specs.Starts.{places_in, content_places, item_places}
 use Rattle.dd_set.specs.Views.{element_view, elements_view, value_view, item_view, items_view}
 use Rattle.dd_set.proofs.Counting.{with_entry, with_part, entry_first, part_first, part_valid, elements_view-drop}

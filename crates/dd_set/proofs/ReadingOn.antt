@@ -4,9 +4,9 @@ use Rattle.std.proofs.Common.{Ok, Err, refl, arith}
 use Rattle.dd_elem.specs.declared.tag.Tag.{Tag}
 use Rattle.dd_elem.specs.Tag.{number_of}
 use Rattle.dd_set.specs.declared.fault.SetFault.{SetFault}
-use Rattle.dd_set.specs.declared.syntax.Length.{Length}
-use Rattle.dd_set.specs.declared.syntax.Syntax.{Syntax}
-use Rattle.dd_set.specs.Elements.{Elements, Content, Items, Entry, Part, elements_of, items_of}
+use Rattle.dd_encoding.specs.declared.syntax.Length.{Length}
+use Rattle.dd_encoding.specs.declared.syntax.Syntax.{Syntax}
+use Rattle.dd_encoding.specs.Elements.{Elements, Content, Items, Entry, Part, elements_of, items_of}
 use Rattle.dd_set.specs.Gives.{Fails}
 use Rattle.dd_set.specs.Reading.{Header, front_at, element_behind, item_front_at, item_behind, At, Reads, ◌>>=◌}
 use Rattle.dd_set.specs.Reading.{SequenceReader, ItemReader, content_at, element_at, elements_at, item_at, items_at}

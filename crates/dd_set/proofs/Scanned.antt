@@ -10,10 +10,10 @@ use Rattle.dd_set.specs.declared.checks.Sort.{Sort}
 use Rattle.dd_set.specs.declared.checks.Sort.TheVariants as sorts
 use Rattle.dd_set.specs.declared.fault.SetFault.{SetFault}
 use Rattle.dd_set.specs.declared.found.FoundValue.{FoundValue}
-use Rattle.dd_set.specs.declared.syntax.Length.TheVariants.{Defined, Undefined}
-use Rattle.dd_set.specs.declared.syntax.Syntax.{Syntax}
+use Rattle.dd_encoding.specs.declared.syntax.Length.TheVariants.{Defined, Undefined}
+use Rattle.dd_encoding.specs.declared.syntax.Syntax.{Syntax}
 use Rattle.dd_set.specs.Checks.{sorted}
-use Rattle.dd_set.specs.Elements.{Content, bytes, items, fragments, Entry, elements_of}
+use Rattle.dd_encoding.specs.Elements.{Content, bytes, items, fragments, Entry, elements_of}
 use Rattle.dd_set.specs.Gives.{Fails}
 use Rattle.dd_set.specs.Reading.{Header, front_at, At, Reads, ◌>>=◌, SequenceReader, ItemReader, content_at, element_at}
 use Rattle.dd_set.specs.Reading.{elements_at, sequence_with, set_with, within, fragments_here}

@@ -8,14 +8,14 @@ use Rattle.dd_elem.specs.Tag.{number_of}
 use Rattle.dd_elem.specs.Vr.{vr_of}
 use Rattle.dd_set.specs.declared.fault.SetFault.{SetFault}
 use Rattle.dd_set.specs.declared.fault.SetFault.TheVariants.{Truncated, Order, UnexpectedTag, Overrun}
-use Rattle.dd_set.specs.declared.syntax.Length.{Length}
-use Rattle.dd_set.specs.declared.syntax.Length.TheVariants.{Undefined}
-use Rattle.dd_set.specs.declared.syntax.Syntax.{Syntax}
+use Rattle.dd_encoding.specs.declared.syntax.Length.{Length}
+use Rattle.dd_encoding.specs.declared.syntax.Length.TheVariants.{Undefined}
+use Rattle.dd_encoding.specs.declared.syntax.Syntax.{Syntax}
 use Rattle.dd_set.specs.Reading.{Header, there, header_with, eight_at, head_at, header_at, opening_at, behind_head}
 use Rattle.dd_set.specs.Reading.{front_at, item_opening, behind_item_head, item_front_at, At, Reads, ◌>>=◌}
 use Rattle.dd_set.specs.Reading.{leaves_fewer, take_at, tag_of, is_over, shape_at, shape_where, explicit_at}
 use Rattle.dd_set.specs.Reading.{long_length_at, long_at, fragment_length, fragment_behind, fragment_at}
-use Rattle.dd_set.specs.Spelling.{delimiter_group, names_vr}
+use Rattle.dd_encoding.specs.Spelling.{delimiter_group, names_vr}
 use Rattle.dd_set.proofs.Steps.{passes, bind_ok, ok_is}
 
 -- what was read left at most n bytes

@@ -10,19 +10,23 @@ use Rattle.dd_elem.specs.declared.tag.Tag.{Tag}
 use Rattle.dd_elem.specs.declared.vr.Vr.{Vr}
 use Rattle.dd_elem.specs.Tag.{number_of}
 use Rattle.dd_set.specs.declared.fault.SetFault.TheVariants.{Order, OddLength, UnexpectedTag, BadDelimiter, Overrun}
-use Rattle.dd_set.specs.declared.syntax.Length.{Length}
-use Rattle.dd_set.specs.declared.syntax.Length.TheVariants.{Defined, Undefined}
-use Rattle.dd_set.specs.declared.syntax.Syntax.{Syntax}
-use Rattle.dd_set.specs.Bytes.{AreBytes}
-use Rattle.dd_set.specs.Elements.{Elements, no_elements, element, Content, bytes, items, fragments, Items, item, Entry}
-use Rattle.dd_set.specs.Elements.{Part}
-use Rattle.dd_set.specs.Spelling.{undefined_length, delimiter_group, tag_text, shape_text, header_text, item_tag_text}
-use Rattle.dd_set.specs.Spelling.{item_end_tag, item_end_text, sequence_end_tag, sequence_end_text, length_of, closed}
-use Rattle.dd_set.specs.Spelling.{elements_text, content_text, items_text}
-use Rattle.dd_set.specs.Spelling.{FitsLong, length_limit, names_vr, named_item_syntax, item_syntax, item_syntax_where}
-use Rattle.dd_set.specs.Spelling.{HoldsBytes, HoldsBytesWhere}
-use Rattle.dd_set.specs.Spelling.{AreElements, IsContent, AreItems, MayHave, encapsulates, is_pixel_data}
-use Rattle.dd_set.specs.Spelling.{fragments_text}
+use Rattle.dd_encoding.specs.declared.syntax.Length.{Length}
+use Rattle.dd_encoding.specs.declared.syntax.Length.TheVariants.{Defined, Undefined}
+use Rattle.dd_encoding.specs.declared.syntax.Syntax.{Syntax}
+use Rattle.dd_stream.specs.Bytes.{AreBytes}
+use Rattle.dd_encoding.specs.Elements.{Elements, no_elements, element, Content, bytes, items, fragments, Items, item}
+use Rattle.dd_encoding.specs.Elements.{Entry}
+use Rattle.dd_encoding.specs.Elements.{Part}
+use Rattle.dd_encoding.specs.Spelling.{undefined_length, delimiter_group, tag_text, shape_text, header_text}
+use Rattle.dd_encoding.specs.Spelling.{item_tag_text}
+use Rattle.dd_encoding.specs.Spelling.{item_end_tag, item_end_text, sequence_end_tag, sequence_end_text, length_of}
+use Rattle.dd_encoding.specs.Spelling.{closed}
+use Rattle.dd_encoding.specs.Spelling.{elements_text, content_text, items_text}
+use Rattle.dd_encoding.specs.Spelling.{FitsLong, length_limit, names_vr, named_item_syntax, item_syntax}
+use Rattle.dd_encoding.specs.Spelling.{item_syntax_where}
+use Rattle.dd_encoding.specs.Spelling.{HoldsBytes, HoldsBytesWhere}
+use Rattle.dd_encoding.specs.Spelling.{AreElements, IsContent, AreItems, MayHave, encapsulates, is_pixel_data}
+use Rattle.dd_encoding.specs.Spelling.{fragments_text}
 use Rattle.dd_set.specs.Reading.{◌>>=◌, At, Reads, leaves_fewer, take_at, tag_of, long_of}
 use Rattle.dd_set.specs.Reading.{is_over, Shape, shape_at, SequenceReader, SetReader, ItemReader, within, undefined_at}
 use Rattle.dd_set.specs.Reading.{opens_fragments, open_at, fragments_here}
@@ -192,7 +196,8 @@ module _ (d : ℕ) (sequence : SequenceReader) (law : SequenceLaw d sequence) wh
 
   -- a value of this length
   defined_takes : (o : Option Syntax) (syntax : Syntax) (tag : Tag) (vr : Option Vr) (n : ℕ) (at : At)
-      (x : Content × At) → AreBytes at.bytes → item_syntax syntax vr Defined ≡ o → HasForm syntax vr → n % 2 ≡ 0 → n < undefined_length
+      (x : Content × At) → AreBytes at.bytes → item_syntax syntax vr Defined ≡ o → HasForm syntax vr
+      → n % 2 ≡ 0 → n < undefined_length
       → n < length_limit vr → leaves_fewer at.left n ≡ false → defined_at sequence o n at ≡ Ok x
       → ContentTaken d syntax tag vr n at x.0 x.1
   defined_takes None syntax tag vr n at x fits is form even low limit enough e =

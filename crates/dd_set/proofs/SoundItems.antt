@@ -6,16 +6,16 @@ use Rattle.std.proofs.lemmas.Bool.{eqb-true, eqb-false}
 use Rattle.std.proofs.lemmas.List.{nil_from_length}
 use Rattle.byteorder.specs.Endian.{little_bytes}
 use Rattle.dd_set.specs.declared.fault.SetFault.TheVariants.{OddLength, UnexpectedTag, BadDelimiter, Overrun}
-use Rattle.dd_set.specs.declared.syntax.Length.{Length}
-use Rattle.dd_set.specs.declared.syntax.Length.TheVariants.{Defined, Undefined}
-use Rattle.dd_set.specs.declared.syntax.Syntax.{Syntax}
-use Rattle.dd_set.specs.Bytes.{AreBytes}
-use Rattle.dd_set.specs.Elements.{Elements, Items, no_items, item}
-use Rattle.dd_set.specs.Elements.{Part}
-use Rattle.dd_set.specs.Spelling.{undefined_length, header_text, item_tag, item_tag_text}
-use Rattle.dd_set.specs.Spelling.{sequence_end_text, closed, elements_text, items_text}
-use Rattle.dd_set.specs.Spelling.{max_levels}
-use Rattle.dd_set.specs.Spelling.{AreElements, AreItems}
+use Rattle.dd_encoding.specs.declared.syntax.Length.{Length}
+use Rattle.dd_encoding.specs.declared.syntax.Length.TheVariants.{Defined, Undefined}
+use Rattle.dd_encoding.specs.declared.syntax.Syntax.{Syntax}
+use Rattle.dd_stream.specs.Bytes.{AreBytes}
+use Rattle.dd_encoding.specs.Elements.{Elements, Items, no_items, item}
+use Rattle.dd_encoding.specs.Elements.{Part}
+use Rattle.dd_encoding.specs.Spelling.{undefined_length, header_text, item_tag, item_tag_text}
+use Rattle.dd_encoding.specs.Spelling.{sequence_end_text, closed, elements_text, items_text}
+use Rattle.dd_encoding.specs.Spelling.{max_levels}
+use Rattle.dd_encoding.specs.Spelling.{AreElements, AreItems}
 use Rattle.dd_set.specs.Reading.{◌>>=◌, At, Reads, leaves_fewer, take_at, long_of, is_item, no_byte_left}
 use Rattle.dd_set.specs.Reading.{is_over, SetReader, ItemReader, within}
 use Rattle.dd_set.specs.Reading.{ends_sequence, item_at, next_items, items_at, part_at, sequence_with, set_with}

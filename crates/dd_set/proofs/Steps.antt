@@ -8,7 +8,7 @@ use Rattle.std.proofs.lemmas.List.{length-take, get_or-drop, get_or-take, get_or
 use Rattle.std.proofs.lemmas.Nat.{le_bytes_2, le_bytes_4, from_le_bytes-to_le_bytes_2, from_le_bytes-to_le_bytes_4}
 use Rattle.byteorder.specs.Endian.{little_bytes}
 use Rattle.dd_set.specs.declared.fault.SetFault.{SetFault}
-use Rattle.dd_set.specs.Bytes.{AreBytes}
+use Rattle.dd_stream.specs.Bytes.{AreBytes}
 use Rattle.dd_set.specs.Reading.{◌>>=◌}
 
 -- ---- results

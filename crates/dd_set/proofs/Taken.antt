@@ -4,10 +4,10 @@ use Rattle.std.proofs.Common.{None, Ok, refl, sym, ap, subst, ◌∙◌, append_
 use Rattle.std.proofs.lemmas.Bool.{ltb-false, eqb-true}
 use Rattle.std.proofs.lemmas.List.{take-append-drop, length-append, length-take-le}
 use Rattle.dd_set.specs.declared.fault.SetFault.TheVariants.{Truncated, Overrun}
-use Rattle.dd_set.specs.declared.syntax.Length.{Length}
-use Rattle.dd_set.specs.declared.syntax.Length.TheVariants.{Defined, Undefined}
-use Rattle.dd_set.specs.Bytes.{AreBytes}
-use Rattle.dd_set.specs.Spelling.{closed}
+use Rattle.dd_encoding.specs.declared.syntax.Length.{Length}
+use Rattle.dd_encoding.specs.declared.syntax.Length.TheVariants.{Defined, Undefined}
+use Rattle.dd_stream.specs.Bytes.{AreBytes}
+use Rattle.dd_encoding.specs.Spelling.{closed}
 use Rattle.dd_set.specs.Reading.{At, Reads, leaves_fewer, less, take_at, no_byte_left, within}
 use Rattle.dd_set.proofs.Steps.{bind_ok, passes, ok_is, AreBytes-drop, AreBytes-take}
 

@@ -7,10 +7,10 @@ use Rattle.dd_elem.specs.Tag.{number_of}
 use Rattle.dd_set.specs.declared.fault.SetFault.{SetFault}
 use Rattle.dd_set.specs.declared.fault.SetFault.TheVariants.{Truncated}
 use Rattle.dd_set.specs.declared.fault.SetFault.TheVariants.{Memory}
-use Rattle.dd_set.specs.declared.syntax.Length.{Length}
-use Rattle.dd_set.specs.declared.syntax.Length.TheVariants.{Defined, Undefined}
-use Rattle.dd_set.specs.declared.syntax.Syntax.{Syntax}
-use Rattle.dd_set.specs.Elements.{Elements, Items, items, Entry, Part}
+use Rattle.dd_encoding.specs.declared.syntax.Length.{Length}
+use Rattle.dd_encoding.specs.declared.syntax.Length.TheVariants.{Defined, Undefined}
+use Rattle.dd_encoding.specs.declared.syntax.Syntax.{Syntax}
+use Rattle.dd_encoding.specs.Elements.{Elements, Items, items, Entry, Part}
 use Rattle.dd_set.specs.Memory.{keeps_no_item, unkept_sequence, keeps_no_element, unkept_set, unkept_item, WantsMemory}
 use Rattle.dd_set.specs.Memory.{WantsContent, WantsEntry}
 use Rattle.dd_set.specs.Reading.{Header, front_at, opens_fragments, open_at}
@@ -18,7 +18,7 @@ use Rattle.dd_set.specs.Reading.{At, Reads, Shape, ◌>>=◌, SequenceReader, Se
 use Rattle.dd_set.specs.Reading.{leaves_fewer, within, undefined_at, defined_at, content_at, tag_of, long_of, shape_at}
 use Rattle.dd_set.specs.Reading.{is_over, ends_set, element_at, next_elements, elements_at, ends_sequence}
 use Rattle.dd_set.specs.Reading.{is_item, item_at, next_items, items_at, part_at, sequence_with, set_with, item_reader}
-use Rattle.dd_set.specs.Spelling.{undefined_length, item_syntax, delimiter_group}
+use Rattle.dd_encoding.specs.Spelling.{undefined_length, item_syntax, delimiter_group}
 use Rattle.dd_set.proofs.Cut.{body_at, whole_element, element_is, whole_item, item_is}
 use Rattle.dd_set.proofs.ReadingOn.{element_found, content_refused}
 

@@ -5,19 +5,20 @@ use Rattle.std.proofs.Common.{arith}
 use Rattle.std.proofs.lemmas.Bool.{ne_eqb}
 use Rattle.dd_elem.specs.declared.vr.Vr.{Vr}
 use Rattle.dd_elem.specs.declared.vr.Vr.TheVariants.{OB, SQ, UN}
-use Rattle.dd_set.specs.declared.syntax.Length.{Length}
-use Rattle.dd_set.specs.declared.syntax.Length.TheVariants.{Defined, Undefined}
-use Rattle.dd_set.specs.declared.syntax.Syntax.{Syntax}
-use Rattle.dd_set.specs.declared.syntax.Syntax.TheVariants.{Explicit, Implicit, Encapsulated}
-use Rattle.dd_set.specs.Elements.{Content, bytes, items, fragments}
-use Rattle.dd_set.specs.Spelling.{undefined_length}
-use Rattle.dd_set.specs.Spelling.{length_of, items_text}
-use Rattle.dd_set.specs.Spelling.{FitsLong, length_limit, names_vr, named_item_syntax, item_syntax, item_syntax_where}
-use Rattle.dd_set.specs.Spelling.{HoldsBytes, HoldsBytesWhere}
-use Rattle.dd_set.specs.Spelling.{IsContent, AreItems, encapsulates, is_of_bytes}
+use Rattle.dd_encoding.specs.declared.syntax.Length.{Length}
+use Rattle.dd_encoding.specs.declared.syntax.Length.TheVariants.{Defined, Undefined}
+use Rattle.dd_encoding.specs.declared.syntax.Syntax.{Syntax}
+use Rattle.dd_encoding.specs.declared.syntax.Syntax.TheVariants.{Explicit, Implicit, Encapsulated}
+use Rattle.dd_encoding.specs.Elements.{Content, bytes, items, fragments}
+use Rattle.dd_encoding.specs.Spelling.{undefined_length}
+use Rattle.dd_encoding.specs.Spelling.{length_of, items_text}
+use Rattle.dd_encoding.specs.Spelling.{FitsLong, length_limit, names_vr, named_item_syntax, item_syntax}
+use Rattle.dd_encoding.specs.Spelling.{item_syntax_where}
+use Rattle.dd_encoding.specs.Spelling.{HoldsBytes, HoldsBytesWhere}
+use Rattle.dd_encoding.specs.Spelling.{IsContent, AreItems, encapsulates, is_of_bytes}
 use Rattle.dd_set.proofs.HeaderLaws.{HasForm, HasFormWhere, width_limit, limit_within}
 use Rattle.dd_set.proofs.Sound.{content_length}
-use Rattle.dd_set.proofs.Even.{some_of}
+use Rattle.dd_encoding.proofs.Even.{some_of}
 
 -- ---- a value
 

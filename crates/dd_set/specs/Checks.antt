@@ -10,9 +10,9 @@ use Rattle.dd_set.specs.declared.checks.Sort.TheVariants as sorts
 use Rattle.dd_set.specs.declared.checks.Reach.{Reach}
 use Rattle.dd_set.specs.declared.checks.Reach.TheVariants as reaches
 use Rattle.dd_set.specs.declared.fault.SetFault.{SetFault}
-use Rattle.dd_set.specs.declared.syntax.Length.TheVariants.{Defined, Undefined}
-use Rattle.dd_set.specs.declared.syntax.Syntax.{Syntax}
-use Rattle.dd_set.specs.Elements.{Content, bytes, items, fragments, Part}
+use Rattle.dd_encoding.specs.declared.syntax.Length.TheVariants.{Defined, Undefined}
+use Rattle.dd_encoding.specs.declared.syntax.Syntax.{Syntax}
+use Rattle.dd_encoding.specs.Elements.{Content, bytes, items, fragments, Part}
 use Rattle.dd_set.specs.Reading.{Header, long_length_at, At, Reads, ◌>>=◌, SequenceReader, SetReader, take_at, within}
 use Rattle.dd_set.specs.Reading.{fragments_here}
 use Rattle.dd_set.specs.Places.{shape_view}

@@ -1,7 +1,7 @@
 -- The element of a data set with a given tag.
 use Rattle.std.specs.Prelude.{List, [], ◌∷◌, Option, find, Bool, ◌&&◌, ◌==◌}
 use Rattle.dd_elem.specs.declared.tag.Tag.{Tag}
-use Rattle.dd_set.specs.Elements.{Elements, no_elements, element, Entry}
+use Rattle.dd_encoding.specs.Elements.{Elements, no_elements, element, Entry}
 
 -- two tags are one
 abbrev pub same_tag : Tag → Tag → Bool

@@ -1,8 +1,5 @@
-pub mod Bytes
 pub mod Checks
 pub mod Counts
-pub mod Elements
-pub mod Feeds
 pub mod Find
 pub mod Gives
 pub mod Memory
@@ -10,11 +7,7 @@ pub mod Places
 pub mod Reading
 pub mod Scan
 pub mod Scanning
-pub mod Sends
 pub mod Single
 pub mod Skips
-pub mod Spelling
 pub mod Starts
-pub mod StreamLaws
-pub mod Streams
 pub mod Views

@@ -2,11 +2,11 @@
 -- read whole finds none. All else about the bytes is checked as by `Reading`.
 use Rattle.std.specs.Prelude.{◌≡◌, ◌⊎◌, ℕ, zero, suc, List, Option, Some, None, Ok, Err}
 use Rattle.dd_set.specs.declared.fault.SetFault.TheVariants.{TooDeep, Memory}
-use Rattle.dd_set.specs.declared.syntax.Length.TheVariants.{Defined}
-use Rattle.dd_set.specs.declared.syntax.Syntax.{Syntax}
-use Rattle.dd_set.specs.Elements.{Elements, no_elements, Content, Items, no_items, Entry, Part}
+use Rattle.dd_encoding.specs.declared.syntax.Length.TheVariants.{Defined}
+use Rattle.dd_encoding.specs.declared.syntax.Syntax.{Syntax}
+use Rattle.dd_encoding.specs.Elements.{Elements, no_elements, Content, Items, no_items, Entry, Part}
 use Rattle.dd_set.specs.Reading.{At, Reads, ◌>>=◌, SequenceReader, SetReader, ItemReader, element_at, item_at, part_at}
-use Rattle.dd_set.specs.Spelling.{max_levels}
+use Rattle.dd_encoding.specs.Spelling.{max_levels}
 
 -- an item that was read has no place
 abbrev pub keeps_no_item : Option Part × At → Reads Items

@@ -11,15 +11,17 @@ use Rattle.dd_set.specs.declared.fault.SetFault.{SetFault}
 use Rattle.dd_set.specs.declared.fault.SetFault.TheVariants.{Truncated, Order, BadVr, Reserved, OddLength}
 use Rattle.dd_set.specs.declared.fault.SetFault.TheVariants.{UndefinedLength, UnexpectedTag, BadDelimiter}
 use Rattle.dd_set.specs.declared.fault.SetFault.TheVariants.{Overrun, TooDeep}
-use Rattle.dd_set.specs.declared.syntax.Length.{Length}
-use Rattle.dd_set.specs.declared.syntax.Length.TheVariants.{Defined, Undefined}
-use Rattle.dd_set.specs.declared.syntax.Syntax.{Syntax}
-use Rattle.dd_set.specs.Elements.{Elements, no_elements, element, Content, bytes, items, fragments, Items, no_items}
-use Rattle.dd_set.specs.Elements.{item}
-use Rattle.dd_set.specs.Elements.{Entry, Part}
-use Rattle.dd_set.specs.Spelling.{undefined_length, delimiter_group, names_vr, item_syntax, max_levels, encapsulates}
-use Rattle.dd_set.specs.Spelling.{is_pixel_data}
-use Rattle.dd_set.specs.Spelling.{item_tag, item_end_tag, sequence_end_tag}
+use Rattle.dd_encoding.specs.declared.syntax.Length.{Length}
+use Rattle.dd_encoding.specs.declared.syntax.Length.TheVariants.{Defined, Undefined}
+use Rattle.dd_encoding.specs.declared.syntax.Syntax.{Syntax}
+use Rattle.dd_encoding.specs.Elements.{Elements, no_elements, element, Content, bytes, items, fragments, Items}
+use Rattle.dd_encoding.specs.Elements.{no_items}
+use Rattle.dd_encoding.specs.Elements.{item}
+use Rattle.dd_encoding.specs.Elements.{Entry, Part}
+use Rattle.dd_encoding.specs.Spelling.{undefined_length, delimiter_group, names_vr, item_syntax, max_levels}
+use Rattle.dd_encoding.specs.Spelling.{encapsulates}
+use Rattle.dd_encoding.specs.Spelling.{is_pixel_data}
+use Rattle.dd_encoding.specs.Spelling.{item_tag, item_end_tag, sequence_end_tag}
 
 -- where reading stands: how many bytes the nearest enclosing length leaves, where there is one, and the bytes to come
 pub record At : Type 0 where

@@ -15,13 +15,13 @@ use Rattle.dd_set.specs.declared.found.Scan.{Scan}
 use Rattle.dd_set.specs.declared.found.Found.{Found}
 use Rattle.dd_set.specs.declared.found.FoundValue.{FoundValue}
 use Rattle.dd_set.specs.declared.found.FoundValue.TheVariants as values
-use Rattle.dd_set.specs.Elements.{Elements, Content, bytes, items, fragments as fragment_list, Entry}
+use Rattle.dd_encoding.specs.Elements.{Elements, Content, bytes, items, fragments as fragment_list, Entry}
 use Rattle.dd_set.specs.Find.{same_tag, entries_of}
-use Rattle.dd_set.specs.declared.syntax.Length.TheVariants.{Defined}
-use Rattle.dd_set.specs.declared.syntax.Syntax.{Syntax}
+use Rattle.dd_encoding.specs.declared.syntax.Length.TheVariants.{Defined}
+use Rattle.dd_encoding.specs.declared.syntax.Syntax.{Syntax}
 use Rattle.dd_set.specs.Gives.{Fails}
 use Rattle.dd_set.specs.Reading.{At, Reads, SequenceReader, element_at, sequence_with, item_reader, read_all}
-use Rattle.dd_set.specs.Spelling.{max_levels}
+use Rattle.dd_encoding.specs.Spelling.{max_levels}
 
 -- how many bytes of a value are told: as many as a key may have
 abbrev pub most_told : ℕ

@@ -1,18 +1,18 @@
 -- What scanning a data set from a reader answers (PS3.5 section 7).
 use Rattle.std.specs.Prelude.{◌≡◌, ℕ, List, Option, Result, Ok, Err}
 use Rattle.dd_elem.specs.declared.tag.Tag.{Tag}
-use Rattle.dd_set.specs.declared.end.End.TheVariants.{Ended, Failed, TooLong}
+use Rattle.dd_stream.specs.declared.end.End.TheVariants.{Ended, Failed, TooLong}
 use Rattle.dd_set.specs.declared.fault.SetFault.TheVariants.{Memory}
 use Rattle.dd_set.specs.declared.found.Scan.{Scan}
 use Rattle.dd_set.specs.declared.scan_fault.ScanFault.{ScanFault}
 use Rattle.dd_set.specs.declared.scan_fault.ScanFault.TheVariants as faults
-use Rattle.dd_set.specs.declared.syntax.Syntax.{Syntax}
-use Rattle.dd_set.specs.Elements.{Elements}
+use Rattle.dd_encoding.specs.declared.syntax.Syntax.{Syntax}
+use Rattle.dd_encoding.specs.Elements.{Elements}
 use Rattle.dd_set.specs.Gives.{Fails}
 use Rattle.dd_set.specs.Reading.{read_all}
 use Rattle.dd_set.specs.Scan.{IsScan, HasWanted}
-use Rattle.dd_set.specs.Spelling.{Spells}
-use Rattle.dd_set.specs.Streams.{Ends}
+use Rattle.dd_encoding.specs.Spelling.{Spells}
+use Rattle.dd_stream.specs.Streams.{Ends}
 
 -- the bytes spell a set, and the scan tells it
 pub record IsScanOf (syntax : Syntax) (wanted : List Tag) (given : List ℕ) (scan : Scan) : Type 0 where

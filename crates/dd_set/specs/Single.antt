@@ -3,12 +3,12 @@
 use Rattle.std.specs.Prelude.{◌≢◌, ℕ, zero, suc, ◌^◌, ◌<◌, ◌≤◌, List, [], ◌++◌}
 use Rattle.byteorder.specs.Endian.{little_bytes}
 use Rattle.dd_elem.specs.Tag.{number_of}
-use Rattle.dd_set.specs.declared.syntax.Length.{Length}
-use Rattle.dd_set.specs.declared.syntax.Length.TheVariants.{Defined, Undefined}
-use Rattle.dd_set.specs.declared.syntax.Syntax.{Syntax}
-use Rattle.dd_set.specs.Elements.{Entry, Part}
-use Rattle.dd_set.specs.Spelling.{tag_text, content_text, elements_text, item_tag_text, item_end_text, length_of}
-use Rattle.dd_set.specs.Spelling.{closed, delimiter_group, AreElements, IsContent, MayHave, FitsLong}
+use Rattle.dd_encoding.specs.declared.syntax.Length.{Length}
+use Rattle.dd_encoding.specs.declared.syntax.Length.TheVariants.{Defined, Undefined}
+use Rattle.dd_encoding.specs.declared.syntax.Syntax.{Syntax}
+use Rattle.dd_encoding.specs.Elements.{Entry, Part}
+use Rattle.dd_encoding.specs.Spelling.{tag_text, content_text, elements_text, item_tag_text, item_end_text, length_of}
+use Rattle.dd_encoding.specs.Spelling.{closed, delimiter_group, AreElements, IsContent, MayHave, FitsLong}
 
 -- an element: tag, the rest of the header, and the value
 abbrev pub entry_text : Entry → List ℕ

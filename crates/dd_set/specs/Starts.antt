@@ -2,11 +2,12 @@
 use Rattle.std.specs.Prelude.{ℕ, List, [], ◌∷◌, ◌++◌, length, Option, Some, None, if◌then◌else◌}
 use Rattle.dd_elem.specs.declared.tag.Tag.{Tag}
 use Rattle.dd_elem.specs.declared.vr.Vr.{Vr}
-use Rattle.dd_set.specs.Elements.{Elements, no_elements, element, Content, bytes, items, fragments, Items, no_items}
-use Rattle.dd_set.specs.Elements.{item}
+use Rattle.dd_encoding.specs.Elements.{Elements, no_elements, element, Content, bytes, items, fragments, Items}
+use Rattle.dd_encoding.specs.Elements.{no_items}
+use Rattle.dd_encoding.specs.Elements.{item}
 use Rattle.dd_set.specs.Find.{same_tag}
 use Rattle.dd_set.specs.Single.{entry_text, part_text}
-use Rattle.dd_set.specs.Spelling.{items_text, header_text, length_of}
+use Rattle.dd_encoding.specs.Spelling.{items_text, header_text, length_of}
 
 -- of items that stand behind the bytes `front`
 abbrev pub item_places : List ℕ → Items → List ℕ

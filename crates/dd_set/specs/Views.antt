@@ -6,8 +6,8 @@ use Rattle.dd_set.specs.declared.set.Element.{Element, fold-Element}
 use Rattle.dd_set.specs.declared.set.Item.{Item, fold-Item}
 use Rattle.dd_set.specs.declared.set.Value.{Value, fold-Value}
 use Rattle.dd_set.specs.declared.set.Value.TheOpen.{Value-F, DataSet-F, Element-F, Item-F}
-use Rattle.dd_set.specs.Elements.{Elements, Content, Items, bytes, items, fragments, Entry, Part, elements_of}
-use Rattle.dd_set.specs.Elements.{items_of}
+use Rattle.dd_encoding.specs.Elements.{Elements, Content, Items, bytes, items, fragments, Entry, Part, elements_of}
+use Rattle.dd_encoding.specs.Elements.{items_of}
 
 -- the bytes of slices
 abbrev pub pieces : List (Bor (List ℕ)) → List (List ℕ)

@@ -8,11 +8,11 @@ ghost use Rattle.dd_set.specs.Reading.{leaves_fewer, less, is_over, content_at, 
 
 use crate::fault::SetFault;
 use crate::headers::{
-    DELIMITER_GROUP, UNDEFINED_LENGTH, encapsulates, ends_sequence, ends_set, is_item,
-    is_pixel_data, item_syntax, letters_in, long_in, names_vr, short_in, tag_in,
+    UNDEFINED_LENGTH, encapsulates, ends_sequence, ends_set, is_item, is_pixel_data, item_syntax,
+    letters_in, long_in, names_vr, short_in, tag_in,
 };
-use crate::syntax::{Length, Syntax};
 use dd_elem::{Tag, Vr};
+use dd_encoding::{DELIMITER_GROUP, Length, Syntax};
 
 /// The value representation and the length of a header.
 #[derive(Clone, Copy)]

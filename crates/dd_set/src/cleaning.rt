@@ -2,19 +2,18 @@
 
 ghost use Rattle.std.specs.Prelude.{◌≡◌, ◌≤◌, ◌<◌, ◌+◌, ◌^◌, ◌++◌, ℕ, List, length, IfSome, IsNone};
 ghost use Rattle.dd_elem.specs.Clean.{clean_of};
-ghost use Rattle.dd_set.specs.Elements.{bytes as value};
-ghost use Rattle.dd_set.specs.Feeds.{IsOver, Scans};
+ghost use Rattle.dd_encoding.specs.Elements.{bytes as value};
+ghost use Rattle.dd_stream.specs.Feeds.{IsOver, Scans};
 ghost use Rattle.dd_set.specs.Reading.{take_at};
 ghost use Rattle.dd_set.specs.Scan.{value_told, told_of};
 ghost use Rattle.dd_set.specs.Skips.{TellsValue};
 
 use crate::checks::{leaves_fewer, less};
 use crate::fault::SetFault;
-use crate::feed::Feed;
-use crate::filling::fill;
 use crate::found::FoundValue;
 use crate::taking::take;
 use dd_elem::{Key, clean};
+use dd_stream::{Feed, fill};
 use std::alloc::Global;
 
 /// How many bytes of a value are kept: as many as a key has at most.

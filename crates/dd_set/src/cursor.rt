@@ -10,8 +10,7 @@ use crate::checks::{
     Header, Opening, Shape, element_opening, ends_here, item_opening, leaves_fewer, less,
 };
 use crate::fault::SetFault;
-use crate::headers::{HEADER_SIZE, LONG_LENGTH_SIZE};
-use crate::syntax::{Length, Syntax};
+use dd_encoding::{HEADER_SIZE, LONG_LENGTH_SIZE, Length, Syntax};
 
 /// A place in the bytes: what is to come, and how much of it the nearest enclosing length leaves.
 #[derive(Clone, Copy)]

@@ -11,7 +11,7 @@ ghost use Rattle.dd_set.specs.Views.{pieces};
 use crate::checks::fragment_length;
 use crate::cursor::Cursor;
 use crate::fault::SetFault;
-use crate::syntax::Length;
+use dd_encoding::Length;
 use std::alloc::Global;
 
 /// Reads the fragments of a list, to its end. It walks the list twice, so that it takes memory once, and

@@ -2,13 +2,13 @@
 
 ghost use Rattle.std.specs.Prelude.{◌≡◌, ◌<◌, ◌≤◌, length, IfOk, Ok, Err, OnSome, option_map};
 ghost use Rattle.dd_set.specs.declared.fault.SetFault.TheVariants.{Memory};
-ghost use Rattle.dd_set.specs.Elements.{Elements};
+ghost use Rattle.dd_encoding.specs.Elements.{Elements};
 ghost use Rattle.dd_set.specs.Gives.{Gives};
 ghost use Rattle.dd_set.specs.Memory.{unkept_sequence, unkept_set, unkept_item, WantsMemory, WantsContent, WantsEntry};
 ghost use Rattle.dd_set.specs.Checks.{header_view};
 ghost use Rattle.dd_set.specs.Places.{at_view};
 ghost use Rattle.dd_set.specs.Reading.{item_reader, sequence_with, set_with, content_at, element_at, item_at, read_all};
-ghost use Rattle.dd_set.specs.Spelling.{Spells};
+ghost use Rattle.dd_encoding.specs.Spelling.{Spells};
 ghost use Rattle.dd_set.specs.Views.{set_view, element_view, value_view, item_view, items_view};
 
 use crate::checks::{Header, Reach, Sort, reach_of, sort_of};
@@ -17,7 +17,7 @@ use crate::fault::SetFault;
 use crate::fragments::fragments;
 use crate::headers::{MAX_LEVELS, low_behind};
 use crate::set::{DataSet, Element, Item, Value};
-use crate::syntax::{Length, Syntax};
+use dd_encoding::{Length, Syntax};
 use std::alloc::Global;
 
 /// The value behind a header.

@@ -1,7 +1,7 @@
 //! Data sets as values: elements, sequences and items.
 
-use crate::syntax::Length;
 use dd_elem::{Tag, Vr};
+use dd_encoding::Length;
 
 /// A data set: its elements in the order of their bytes (PS3.5 section 7). The values are slices of
 /// the bytes that it was read from.

@@ -2,23 +2,23 @@
 
 ghost use Rattle.std.specs.Prelude.{◌≡◌, ℕ, List, ◌+◌, ◌≤◌, ◌<◌, ◌^◌, ◌%◌, ◌↔◌, length, IsTrue};
 ghost use Rattle.std.specs.Option.{SomeIff};
-ghost use Rattle.dd_set.specs.Elements.{bytes};
+ghost use Rattle.dd_encoding.specs.Elements.{bytes};
 ghost use Rattle.dd_set.specs.Single.{entry_text, part_text, IsEntry, IsPart};
-ghost use Rattle.dd_set.specs.Spelling.{elements_text, content_text, items_text, AreElements, IsContent, AreItems};
-ghost use Rattle.dd_set.specs.Spelling.{FitsLong, closed, MayHave, AreFragments, fragment_text, fragments_text};
-ghost use Rattle.dd_set.specs.Spelling.{undefined_length};
+ghost use Rattle.dd_encoding.specs.Spelling.{elements_text, content_text, items_text, AreElements, IsContent, AreItems};
+ghost use Rattle.dd_encoding.specs.Spelling.{FitsLong, closed, MayHave, AreFragments, fragment_text, fragments_text};
+ghost use Rattle.dd_encoding.specs.Spelling.{undefined_length};
 ghost use Rattle.dd_set.specs.Views.{set_view, element_view, value_view, items_view, item_view, pieces};
 
 use crate::headers::{
-    DELIMITER_GROUP, MAX_LEVELS, PLAIN_SIZE, TAG_SIZE, UNDEFINED_LENGTH, encapsulates, holds_bytes,
-    is_pixel_data, item_syntax, length_limit, low_behind, shape_size,
+    MAX_LEVELS, PLAIN_SIZE, UNDEFINED_LENGTH, encapsulates, holds_bytes, is_pixel_data,
+    item_syntax, length_limit, low_behind, shape_size,
 };
 use crate::set::{DataSet, Element, Item, Value};
-use crate::syntax::{Length, Syntax};
 use dd_elem::{Tag, Vr};
+use dd_encoding::{DELIMITER_GROUP, Length, Syntax, TAG_SIZE};
 
 impl DataSet<'_> {
-    ghost use Rattle.dd_set.specs.Spelling.{Spells};
+    ghost use Rattle.dd_encoding.specs.Spelling.{Spells};
 
     /// How many bytes spell the set, and None where none do: where tags do not rise, a value
     /// representation is wanting or stands where none may, a length is odd or has no room in its

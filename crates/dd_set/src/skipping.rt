@@ -3,17 +3,17 @@
 
 ghost use Rattle.std.specs.Prelude.{◌≢◌, ◌≤◌, ◌<◌, Err, IfOk, IsTrue};
 ghost use Rattle.dd_set.specs.declared.fault.SetFault.TheVariants.{Memory};
-ghost use Rattle.dd_set.specs.Feeds.{Scans};
+ghost use Rattle.dd_stream.specs.Feeds.{Scans};
 ghost use Rattle.dd_set.specs.Checks.{header_view};
 ghost use Rattle.dd_set.specs.Reading.{item_reader, sequence_with, set_with, content_at, fragment_at, fragments_here};
 ghost use Rattle.dd_set.specs.Skips.{Skips, SkipsSome};
 
 use crate::checks::{Header, Reach, Sort, fragment_length, less, reach_of, sort_of};
 use crate::fault::SetFault;
-use crate::feed::Feed;
 use crate::headers::low_behind;
-use crate::syntax::{Length, Syntax};
 use crate::taking::{front, item_front, pass};
+use dd_encoding::{Length, Syntax};
+use dd_stream::Feed;
 
 /// Skips the value behind a header.
 #[cycle(skipping)]

@@ -1,13 +1,13 @@
 //! What holds of every data set and its bytes.
 
 ghost use Rattle.std.specs.Prelude.{◌≡◌, ◌<◌, ◌≤◌, ◌^◌, ◌++◌, ◌↔◌, ℕ, List, length, Some, None};
-ghost use Rattle.dd_set.specs.Bytes.{AreBytes};
-ghost use Rattle.dd_set.specs.Elements.{Elements};
+ghost use Rattle.dd_stream.specs.Bytes.{AreBytes};
+ghost use Rattle.dd_encoding.specs.Elements.{Elements};
 ghost use Rattle.dd_set.specs.Memory.{WantsMemory};
 ghost use Rattle.dd_set.specs.Reading.{first_fault};
-ghost use Rattle.dd_set.specs.Spelling.{Spells};
+ghost use Rattle.dd_encoding.specs.Spelling.{Spells};
 ghost use Rattle.dd_set.specs.declared.fault.SetFault.TheVariants.{Truncated};
-ghost use Rattle.dd_set.specs.declared.syntax.Syntax.{Syntax};
+ghost use Rattle.dd_encoding.specs.declared.syntax.Syntax.{Syntax};
 
 /// Bytes pass every check exactly where they spell a set.
 pub fn no_fault_is_a_set()

@@ -2,20 +2,20 @@
 
 ghost use Rattle.std.specs.Prelude.{◌≡◌, ℕ, List, [], ◌+◌, ◌<◌, ◌^◌, length, Option, Some, None, option_map};
 ghost use Rattle.std.specs.Prelude.{Ok, IfOk, OnErr, IsSomeAnd};
-ghost use Rattle.dd_set.specs.Spelling.{elements_text, items_text, max_levels, AreItems, IsContent};
+ghost use Rattle.dd_encoding.specs.Spelling.{elements_text, items_text, max_levels, AreItems, IsContent};
 ghost use Rattle.dd_set.specs.Single.{entry_text};
 ghost use Rattle.dd_set.specs.Starts.{places_in, content_places, item_places};
 ghost use Rattle.dd_set.specs.Views.{element_view, value_view, items_view};
 
-use crate::headers::{MAX_LEVELS, TAG_SIZE, item_syntax, shape_size};
+use crate::headers::{MAX_LEVELS, item_syntax, shape_size};
 use crate::set::{DataSet, Element, Item, Value};
 use crate::sizes::{element_size, item_size};
-use crate::syntax::Syntax;
 use dd_elem::{Memory, Tag};
+use dd_encoding::{Syntax, TAG_SIZE};
 use std::alloc::Global;
 
 impl DataSet<'_> {
-    ghost use Rattle.dd_set.specs.Spelling.{Spells};
+    ghost use Rattle.dd_encoding.specs.Spelling.{Spells};
     ghost use Rattle.dd_set.specs.Views.{set_view};
 
     /// The places of the Item tags of the items of the element with this tag, in bytes from the

@@ -3,8 +3,8 @@
 ghost use Rattle.std.specs.Prelude.{◌≢◌, ◌+◌, ◌≤◌, ◌<◌, length, IfOk, OnSome, None, Err, option_map};
 ghost use Rattle.dd_set.specs.Checks.{header_view};
 ghost use Rattle.dd_set.specs.declared.fault.SetFault.TheVariants.{Memory};
-ghost use Rattle.dd_set.specs.declared.syntax.Length.TheVariants.{Defined};
-ghost use Rattle.dd_set.specs.Feeds.{Scans};
+ghost use Rattle.dd_encoding.specs.declared.syntax.Length.TheVariants.{Defined};
+ghost use Rattle.dd_stream.specs.Feeds.{Scans};
 ghost use Rattle.dd_set.specs.Reading.{eight_at, head_at, long_length_at, front_at, item_front_at, take_at};
 ghost use Rattle.dd_set.specs.Skips.{Finds, Takes, Skips};
 
@@ -12,10 +12,8 @@ use crate::checks::{
     Header, Opening, Shape, element_opening, ends_here, item_opening, leaves_fewer, less,
 };
 use crate::fault::SetFault;
-use crate::feed::Feed;
-use crate::filling::{fill, skip};
-use crate::headers::{HEADER_SIZE, LONG_LENGTH_SIZE};
-use crate::syntax::{Length, Syntax};
+use dd_encoding::{HEADER_SIZE, LONG_LENGTH_SIZE, Length, Syntax};
+use dd_stream::{Feed, fill, skip};
 
 /// Takes as many bytes as there is room for.
 pub fn take<F: Feed>(

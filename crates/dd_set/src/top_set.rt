@@ -3,7 +3,7 @@
 ghost use Rattle.std.specs.Prelude.{◌≡◌, ◌≤◌, ◌++◌, [], Some, None, IsSome, IsTrue, Err, IfOk, IfErr};
 ghost use Rattle.std.specs.Prelude.{map, option_map, unwrap_or};
 ghost use Rattle.dd_set.specs.declared.fault.SetFault.TheVariants.{Memory};
-ghost use Rattle.dd_set.specs.Feeds.{Scans};
+ghost use Rattle.dd_stream.specs.Feeds.{Scans};
 ghost use Rattle.dd_set.specs.Checks.{header_view};
 ghost use Rattle.dd_set.specs.Reading.{item_reader, sequence_with, content_at};
 ghost use Rattle.dd_set.specs.Scan.{ScanGives, is_wanted, found_hit, value_told, told_of, told_where, noted};
@@ -13,13 +13,13 @@ ghost use Rattle.dd_set.specs.Skips.{TellsValue};
 use crate::checks::{Header, Sort, sort_of};
 use crate::cleaning::take_cleaned;
 use crate::fault::SetFault;
-use crate::feed::Feed;
 use crate::found::{Found, FoundValue, Scan};
 use crate::headers::{MAX_LEVELS, low_behind};
 use crate::skipping::skip_content;
-use crate::syntax::{Length, Syntax};
 use crate::taking::front;
 use dd_elem::Tag;
+use dd_encoding::{Length, Syntax};
+use dd_stream::Feed;
 use std::alloc::Global;
 
 /// Takes the data set that the bytes of a feed spell, all that are still to come, with every check of

@@ -3,24 +3,22 @@
 ghost use Rattle.std.specs.Prelude.{◌≡◌, ◌+◌, ◌++◌, ◌<◌, ◌^◌, length, unwrap_or, Some, None, Err, IfSome};
 ghost use Rattle.std.specs.Prelude.{true};
 ghost use Rattle.dd_elem.specs.Vr.{is_long_of};
-ghost use Rattle.dd_set.specs.Elements.{bytes, items, fragments as fragment_list};
-ghost use Rattle.dd_set.specs.Sends.{SendsTo};
+ghost use Rattle.dd_encoding.specs.Elements.{bytes, items, fragments as fragment_list};
+ghost use Rattle.dd_stream.specs.Sends.{SendsTo};
 ghost use Rattle.dd_set.specs.Single.{entry_text, part_text, mark_text, IsPart};
-ghost use Rattle.dd_set.specs.Spelling.{Spells, elements_text, items_text, header_text, tag_text, content_text};
-ghost use Rattle.dd_set.specs.Spelling.{length_of, length_limit, AreElements, IsContent};
-ghost use Rattle.dd_set.specs.Spelling.{AreItems, FitsLong, AreFragments, fragment_text, fragments_text};
-ghost use Rattle.dd_set.specs.Spelling.{undefined_length};
+ghost use Rattle.dd_encoding.specs.Spelling.{Spells, elements_text, items_text, header_text, tag_text, content_text};
+ghost use Rattle.dd_encoding.specs.Spelling.{length_of, length_limit, AreElements, IsContent};
+ghost use Rattle.dd_encoding.specs.Spelling.{AreItems, FitsLong, AreFragments, fragment_text, fragments_text};
+ghost use Rattle.dd_encoding.specs.Spelling.{undefined_length};
 ghost use Rattle.dd_set.specs.Views.{set_view, element_view, value_view, items_view, item_view, pieces};
 
-use crate::headers::{
-    ITEM_END, MAX_LEVELS, SEQUENCE_END, UNDEFINED_LENGTH, item_header, item_syntax, plain_header,
-};
-use crate::sending::{send, send_front};
+use crate::headers::{MAX_LEVELS, UNDEFINED_LENGTH, item_syntax};
+use crate::sending::send_front;
 use crate::set::{DataSet, Element, Item, Value};
 use crate::sizes::{items_size, set_size};
-use crate::syntax::{Length, Syntax};
-use crate::write_fault::WriteFault;
 use dd_elem::{Tag, Vr, Write};
+use dd_encoding::{ITEM_END, Length, SEQUENCE_END, Syntax, item_header, plain_header};
+use dd_stream::{WriteFault, send};
 
 /// Sends the bytes that spell the set, and answers how many they are. 13 NotWritable exactly where
 /// there are none, which is where `size` is None; nothing is sent then. 12 Write where the writer
@@ -32,7 +30,7 @@ pub fn write_set<W: Write>(
 ) -> Result<u64, WriteFault>
     ensures sends { let text = elements_text (set_view set.now)
         in Spells syntax (set_view set.now) text
-        → SendsTo W.contents W.rest W.failures text 0 result writer.old writer.new }
+        → SendsTo W.Write text 0 result writer.old writer.new }
     ensures refused { ¬ Spells syntax (set_view set.now) (elements_text (set_view set.now))
         → (result ≡ Err WriteFault.NotWritable) × (writer.new ≡ writer.old) }
 {
@@ -54,7 +52,7 @@ fn send_set<W: Write>(
     requires valid { AreElements syntax levels 0 (set_view set.now) }
     requires fits { sent + length (elements_text (set_view set.now)) < 2 ^ 64 }
     ensures { let text = elements_text (set_view set.now)
-        in SendsTo W.contents W.rest W.failures text sent result writer.old writer.new }
+        in SendsTo W.Write text sent result writer.old writer.new }
 {
     for element in &set.elements {
         sent = send_element(element, syntax, levels, writer, sent)?;
@@ -74,7 +72,7 @@ fn send_element<W: Write>(
     requires valid { IsContent syntax levels element.now.vr (value_view element.now.value) }
     requires fits { sent + length (entry_text (element_view element.now)) < 2 ^ 64 }
     ensures { let text = entry_text (element_view element.now)
-        in SendsTo W.contents W.rest W.failures text sent result writer.old writer.new }
+        in SendsTo W.Write text sent result writer.old writer.new }
 {
     match &element.value {
         Value::Bytes(bytes) => send_bytes(element.tag, element.vr, bytes, writer, sent),
@@ -106,7 +104,7 @@ fn send_all_fragments<W: Write>(
     requires fits { sent + length (tag_text tag ++ content_text vr (fragment_list (pieces fragments.now)))
         < 2 ^ 64 }
     ensures { let text = tag_text tag ++ content_text vr (fragment_list (pieces fragments.now))
-        in SendsTo W.contents W.rest W.failures text sent result writer.old writer.new }
+        in SendsTo W.Write text sent result writer.old writer.new }
 {
     let sent = send_front(tag, vr, UNDEFINED_LENGTH, writer, sent)?;
     let sent = send_fragments(fragments, writer, sent)?;
@@ -122,7 +120,7 @@ fn send_fragments<W: Write>(
     requires valid { AreFragments (pieces fragments.now) }
     requires fits { sent + length (fragments_text (pieces fragments.now)) < 2 ^ 64 }
     ensures { let text = fragments_text (pieces fragments.now)
-        in SendsTo W.contents W.rest W.failures text sent result writer.old writer.new }
+        in SendsTo W.Write text sent result writer.old writer.new }
 {
     for fragment in fragments {
         sent = send_fragment(fragment, writer, sent)?;
@@ -134,7 +132,7 @@ fn send_fragments<W: Write>(
 fn send_fragment<W: Write>(fragment: &[u8], writer: &mut W, sent: u64) -> Result<u64, WriteFault>
     requires room { length fragment.now < undefined_length }
     requires fits { sent + length (fragment_text fragment.now) < 2 ^ 64 }
-    ensures { SendsTo W.contents W.rest W.failures (fragment_text fragment.now) sent result writer.old writer.new }
+    ensures { SendsTo W.Write (fragment_text fragment.now) sent result writer.old writer.new }
 {
     let sent = send(&item_header(fragment.len() as u32), writer, sent)?;
     send(fragment, writer, sent)
@@ -151,7 +149,7 @@ fn send_bytes<W: Write>(
     requires room { length value.now < length_limit vr }
     requires fits { sent + length (tag_text tag ++ content_text vr (bytes value.now)) < 2 ^ 64 }
     ensures { let text = tag_text tag ++ content_text vr (bytes value.now)
-        in SendsTo W.contents W.rest W.failures text sent result writer.old writer.new }
+        in SendsTo W.Write text sent result writer.old writer.new }
 {
     let sent = send_front(tag, vr, value.len() as u32, writer, sent)?;
     send(value, writer, sent)
@@ -206,7 +204,7 @@ fn send_items<W: Write>(
     requires valid { AreItems syntax levels (items_view items.now) }
     requires fits { sent + length (items_text (items_view items.now)) < 2 ^ 64 }
     ensures { let text = items_text (items_view items.now)
-        in SendsTo W.contents W.rest W.failures text sent result writer.old writer.new }
+        in SendsTo W.Write text sent result writer.old writer.new }
 {
     for item in items {
         sent = send_item(item, syntax, levels, writer, sent)?;
@@ -226,7 +224,7 @@ fn send_item<W: Write>(
     requires valid { IsPart syntax levels (item_view item.now) }
     requires fits { sent + length (part_text (item_view item.now)) < 2 ^ 64 }
     ensures { let text = part_text (item_view item.now)
-        in SendsTo W.contents W.rest W.failures text sent result writer.old writer.new }
+        in SendsTo W.Write text sent result writer.old writer.new }
 {
     let below = levels - 1;
     let count = set_length(&item.set, item.length, syntax, below);
@@ -239,7 +237,7 @@ fn send_item<W: Write>(
 fn send_end<W: Write>(form: Length, mark: Tag, writer: &mut W, sent: u64) -> Result<u64, WriteFault>
     requires { sent + length (mark_text form (header_text mark None 0)) < 2 ^ 64 }
     ensures { let text = mark_text form (header_text mark None 0)
-        in SendsTo W.contents W.rest W.failures text sent result writer.old writer.new }
+        in SendsTo W.Write text sent result writer.old writer.new }
 {
     match form {
         Length::Defined => Ok(sent),

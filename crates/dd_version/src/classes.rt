@@ -35,7 +35,7 @@ const IMAGE_CLASSES: [&[u8]; 23] = [
     b"1.2.840.10008.5.1.4.1.1.128", // Positron Emission Tomography Image
 ];
 
-/// Are files of this SOP class taken: is it one of these storage classes of images (PS3.4 section B.5)?
+/// Says whether files of this SOP class are taken: it is one of these storage classes of images (PS3.4 section B.5).
 pub fn is_image_class(class: &Uid) -> bool
     ensures form { IsTrue result ↔ Contains image_classes class.now }
     ensures test { result ≡ is_image_class class.now }
@@ -43,7 +43,7 @@ pub fn is_image_class(class: &Uid) -> bool
     is_listed(class.as_bytes())
 }
 
-/// Does the UID stand in the table?
+/// Says whether the UID stands in the table.
 fn is_listed(class: &[u8]) -> bool
     ensures { result ≡ list_any (λ known. bytes_eq known.now class.now) IMAGE_CLASSES }
 {

@@ -19,7 +19,7 @@ pub const IMPLICIT: &[u8] = b"1.2.840.10008.1.2";
 /// Explicit VR Little Endian (PS3.5 annex A.2).
 pub const EXPLICIT: &[u8] = b"1.2.840.10008.1.2.1";
 
-/// Those with encapsulated pixel data (PS3.5 annex A.4).
+/// The known transfer syntaxes with encapsulated pixel data (PS3.5 annex A.4).
 const ENCAPSULATED: [&[u8]; 8] = [
     b"1.2.840.10008.1.2.5", // RLE Lossless
     b"1.2.840.10008.1.2.4.50", // JPEG Baseline
@@ -31,7 +31,7 @@ const ENCAPSULATED: [&[u8]; 8] = [
     b"1.2.840.10008.1.2.4.91", // JPEG 2000
 ];
 
-/// Are files in this transfer syntax taken: is it one of these (PS3.5 section 10 and annex A)?
+/// Says whether files in this transfer syntax are taken: it is one of these (PS3.5 section 10 and annex A).
 pub fn is_known_syntax(transfer: &Uid) -> bool
     ensures form { IsTrue result ↔ Contains known_syntaxes transfer.now }
     ensures test { result ≡ is_known_syntax transfer.now }
@@ -39,14 +39,14 @@ pub fn is_known_syntax(transfer: &Uid) -> bool
     is_known(transfer.as_bytes())
 }
 
-/// Is the UID that of a transfer syntax with encapsulated pixel data, and known?
+/// Says whether this UID names a known transfer syntax with encapsulated pixel data.
 pub fn is_encapsulated(uid: &[u8]) -> bool
     ensures { result ≡ list_any (bytes_eq uid.now) encapsulated_syntaxes }
 {
     ENCAPSULATED.contains(&uid)
 }
 
-/// Is the UID that of one of them?
+/// Says whether this UID names a known transfer syntax.
 fn is_known(uid: &[u8]) -> bool
     ensures { result ≡ is_known_syntax uid.now }
 {

@@ -102,8 +102,8 @@ pub record MakesFileSet {P : Type 0} (From : P → List ℕ → Type 0) (folder 
   pub place : IsPathIn folder (codes "DICOMDIR") path
   pub directory : new ≡ option_map (published path (directory_of plan.label plan.versions plan.withdrawn)) copied
 
--- Images of some plan were made in the folder, in the order of its records, and then its directory. Each is a copy; only
--- where images get second names may it be a file under a second name.
+-- Images of some plan were made in the folder, in the order of its records, and then its directory. Each is a copy;
+-- only where images get second names may it be a file under a second name.
 pub record MakesSome (GivesNames : Type 0) (folder : List ℕ) (old new : Option Held) : Type 0 where
   pub plan : Layout
   pub picks : List (Unit {0})

@@ -64,7 +64,7 @@ pub(crate) fn write_file_set<F: Files, O: Origins>(
     }
     let path = path_in(alloc, folder, DIRECTORY)?;
     store(files)?;
-    match publish(path.as_str(), plan, files) {
+    match make_directory(path.as_str(), plan, files) {
         Ok(()) => store(files),
         Err(fault) => Err(Refusal::of(Subject::Directory, fault)),
     }
@@ -73,7 +73,7 @@ pub(crate) fn write_file_set<F: Files, O: Origins>(
 /// Starts the directory at this path, writes it and ends it. Create where it could not be started, Unsent
 /// where a write failed or its end.
 #[tactic(auto, using(crate::proofs::Publishing::held_published))]
-fn publish<F: Files>(path: &str, plan: &Plan, files: &mut F) -> Result<(), ProgramFault>
+fn make_directory<F: Files>(path: &str, plan: &Plan, files: &mut F) -> Result<(), ProgramFault>
     ensures line { IfErr result (λ fault. ¬ IsBadLine fault) }
 
     // Where the files tell what they hold, the file at that path is the directory, and no other file changed.

@@ -2,7 +2,7 @@
 ghost use Rattle.std.specs.Prelude.{◌≡◌, ◌⊎◌, length};
 ghost use Rattle.dd_elem.specs.Device.{HasFailed};
 ghost use Rattle.dd_layout.specs.Plans.{size};
-ghost use Rattle.dd_report.specs.Text.{TakesAll};
+ghost use Rattle.dd_report.specs.Text.{TakesText};
 ghost use Rattle.dicomdir.specs.Done.{done_text, images_text, plan_text};
 
 use dd_elem::Write;
@@ -49,8 +49,7 @@ impl<'a> Making<'a> {
 /// the output failed.
 pub(crate) fn tell_done<O: Write>(plan: &Plan, out: &mut O) -> u8
     ensures status { (result ≡ 0) ⊎ (result ≡ 1) }
-    ensures done { result ≡ 0 → TakesAll (O.contents out.old) (O.contents out.new)
-        (O.failures out.old) (O.failures out.new)
+    ensures done { result ≡ 0 → TakesText O.Write out.old out.new
         (done_text (length plan.now.versions) (size plan.now.label plan.now.versions plan.now.withdrawn)) }
     ensures failed { result ≡ 1 → HasFailed (O.failures out.old) (O.failures out.new) }
 {
@@ -67,8 +66,7 @@ pub(crate) fn tell_done<O: Write>(plan: &Plan, out: &mut O) -> u8
 /// output failed.
 pub(crate) fn tell_plan<O: Write>(plan: &Plan, out: &mut O) -> u8
     ensures status { (result ≡ 0) ⊎ (result ≡ 1) }
-    ensures done { result ≡ 0 → TakesAll (O.contents out.old) (O.contents out.new)
-        (O.failures out.old) (O.failures out.new)
+    ensures done { result ≡ 0 → TakesText O.Write out.old out.new
         (plan_text (length plan.now.versions) (size plan.now.label plan.now.versions plan.now.withdrawn)) }
     ensures failed { result ≡ 1 → HasFailed (O.failures out.old) (O.failures out.new) }
 {
@@ -85,8 +83,7 @@ pub(crate) fn tell_plan<O: Write>(plan: &Plan, out: &mut O) -> u8
 /// failed.
 pub(crate) fn tell_plan_of_images<O: Write>(plan: &Plan, images: u64, out: &mut O) -> u8
     ensures status { (result ≡ 0) ⊎ (result ≡ 1) }
-    ensures done { result ≡ 0 → TakesAll (O.contents out.old) (O.contents out.new)
-        (O.failures out.old) (O.failures out.new)
+    ensures done { result ≡ 0 → TakesText O.Write out.old out.new
         (images_text (length plan.now.versions) (size plan.now.label plan.now.versions plan.now.withdrawn) images) }
     ensures failed { result ≡ 1 → HasFailed (O.failures out.old) (O.failures out.new) }
 {

@@ -56,7 +56,7 @@ pub(crate) fn run_merge<F: Files, O: Write>(
     write_noted(alloc, making, &origins, &noted, files, out)
 }
 
-/// Runs `withdraw` on the first of these file-sets: makes a file-set of its images, without those that the line
+/// Runs `withdraw` on the first of these file-sets: makes a file-set of all its images but the ones that the line
 /// withdraws, or prints what would be made.
 pub(crate) fn run_withdraw<F: Files, O: Write>(
     alloc: Global,

@@ -3,7 +3,7 @@ use Rattle.std.specs.Prelude.{◌≡◌, ◌⊎◌, ℕ, List, [], ◌∷◌, �
 use Rattle.std.specs.declared.alloc.Global.{Global}
 use Rattle.dicomdir_host.specs.Folders.{IsFolderOf}
 
--- no file waits and no folder, and nothing is lost
+-- no file and no folder waits to be stored, and nothing is lost
 pub record IsStored {F : Type 0} {P : Type 0} (files : List F) (folders : List P) (lost : Option P) : Type 0 where
   pub no_file : files ≡ []
   pub no_folder : folders ≡ []

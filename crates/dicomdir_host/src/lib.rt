@@ -1,7 +1,7 @@
 //! The files of the system for `dicomdir`: a new file never takes the place of one that is there, and
 //! takes nothing more once a write to it has failed.
 //!
-//! It promises one thing more: each call of the system that fails is counted, except those that show progress.
+//! It also counts each call of the system that fails, but not the calls that show progress.
 #![tactic(auto)]
 
 mod again;

@@ -1,5 +1,5 @@
 use Rattle.std.proofs.lemmas.Result.{err_from_is_err_and}
-use Rattle.dd_set.proofs.Going.{goes_on_fails, goes_on_piece}
+use Rattle.dd_stream.proofs.Going.{goes_on_fails, goes_on_piece}
 use Rattle.dd_dir.proofs.CellTexts.{cell_at, rest_short}
 use Rattle.dd_dir.proofs.cells.send_cells.Goals as goal
 

@@ -1,9 +1,9 @@
 use Rattle.std.proofs.Common.{drop, map}
 use Rattle.std.specs.List.{AllByRecursion}
 use Rattle.dd_layout.specs.Cells.{IsShortEntry, cell_entry}
-use Rattle.dd_set.specs.Elements.{elements_of}
-use Rattle.dd_set.specs.Spelling.{elements_text}
-use Rattle.dd_set.proofs.Going.{GoesOn}
+use Rattle.dd_encoding.specs.Elements.{elements_of}
+use Rattle.dd_encoding.specs.Spelling.{elements_text}
+use Rattle.dd_stream.proofs.Going.{GoesOn}
 use Rattle.dd_dir.proofs.cells.send_cells.Given as goal
 
 abbrev pub invariant-loop-cell : goal.invariant-loop-cell

@@ -1,5 +1,5 @@
 use Rattle.std.proofs.lemmas.Result.{err_from_is_err_and}
-use Rattle.dd_set.proofs.Going.{goes_on_fails, goes_on_piece}
+use Rattle.dd_stream.proofs.Going.{goes_on_fails, goes_on_piece}
 use Rattle.dd_dir.proofs.RowTexts.{row_sends, row_skips}
 use Rattle.dd_dir.proofs.cells.send_rows.Goals as goal
 use Rattle.dd_dir.proofs.cells.send_rows.Goals.{in-Some+in_ok-sent, in_default}

@@ -1,5 +1,5 @@
 use Rattle.std.proofs.Common.{drop}
-use Rattle.dd_set.proofs.Going.{GoesOn}
+use Rattle.dd_stream.proofs.Going.{GoesOn}
 use Rattle.dd_dir.proofs.RowTexts.{rows_text}
 use Rattle.dd_dir.proofs.cells.send_rows.Given as goal
 

@@ -4,7 +4,7 @@ use Rattle.std.specs.declared.alloc.Global.{Global}
 use Rattle.std.specs.Vec.{with_items}
 use Rattle.std.proofs.lemmas.List.{with_items_is, length-map}
 use Rattle.dd_set.specs.Starts.{places_in}
-use Rattle.dd_set.specs.Spelling.{elements_text}
+use Rattle.dd_encoding.specs.Spelling.{elements_text}
 use Rattle.dd_set.specs.Views.{set_view, items_view}
 use Rattle.dd_layout.specs.Entries.{tag}
 use Rattle.dd_dir.specs.declared.fault.DirFault.TheVariants.{Memory}

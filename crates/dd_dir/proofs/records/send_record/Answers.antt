@@ -3,8 +3,8 @@ use Rattle.std.proofs.lemmas.Result.{err_from_is_err_and}
 use Rattle.dd_layout.specs.Records.{record_part}
 use Rattle.dd_layout.specs.Sizes.{record_size}
 use Rattle.dd_set.specs.Single.{part_text}
-use Rattle.dd_set.specs.Spelling.{max_levels}
-use Rattle.dd_set.proofs.Going.{first_fails, then_sends, sends_same}
+use Rattle.dd_encoding.specs.Spelling.{max_levels}
+use Rattle.dd_stream.proofs.Going.{first_fails, then_sends, sends_same}
 use Rattle.dd_dir.specs.Directories.{entries_of}
 use Rattle.dd_dir.specs.WellFormed.{IsWellFormed}
 use Rattle.dd_dir.proofs.KeyedRecords.{keyed_is}

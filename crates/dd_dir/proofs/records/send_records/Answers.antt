@@ -1,6 +1,6 @@
 use Rattle.std.proofs.Common.{true, refl}
 use Rattle.std.proofs.lemmas.Result.{err_from_is_err_and}
-use Rattle.dd_set.proofs.Going.{goes_on_fails, goes_on_piece}
+use Rattle.dd_stream.proofs.Going.{goes_on_fails, goes_on_piece}
 use Rattle.dd_dir.specs.Keyed.{IsKeyed}
 use Rattle.dd_dir.proofs.KeyedRecords.{row_more}
 use Rattle.dd_dir.proofs.RecordTexts.{record_at, record_valid}

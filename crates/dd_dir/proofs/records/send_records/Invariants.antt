@@ -1,6 +1,6 @@
 use Rattle.std.proofs.Common.{drop, map}
 use Rattle.std.specs.List.{AllByRecursion}
-use Rattle.dd_set.proofs.Going.{GoesOn}
+use Rattle.dd_stream.proofs.Going.{GoesOn}
 use Rattle.dd_layout.specs.Records.{IsRecord}
 use Rattle.dd_dir.specs.Directories.{entries_of}
 use Rattle.dd_dir.specs.Keyed.{IsKeyed}

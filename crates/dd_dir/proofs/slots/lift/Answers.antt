@@ -3,7 +3,7 @@ use Rattle.std.proofs.Common.{◌∙◌, arith}
 use Rattle.std.proofs.Math.ListN.{set}
 use Rattle.std.proofs.lemmas.List.{map-set, length-map}
 use Rattle.dd_set.specs.declared.set.DataSet.{DataSet}
-use Rattle.dd_set.specs.Elements.{Elements}
+use Rattle.dd_encoding.specs.Elements.{Elements}
 use Rattle.dd_set.specs.Views.{set_view}
 use Rattle.dd_dir.specs.ReadAnswers.{Leaves}
 use Rattle.dd_dir.specs.Slots.{reached, count_left, slots_view}

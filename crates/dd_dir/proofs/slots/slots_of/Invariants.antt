@@ -1,6 +1,6 @@
 use Rattle.std.proofs.Common.{◌≡◌, ◌++◌, map, Some}
 use Rattle.std.specs.Vec.Iter.{into_iter_items}
-use Rattle.dd_set.specs.Elements.{Elements}
+use Rattle.dd_encoding.specs.Elements.{Elements}
 use Rattle.dd_set.specs.Views.{items_view}
 use Rattle.dd_dir.specs.Saying.{sets_of}
 use Rattle.dd_dir.specs.Slots.{slots_view}

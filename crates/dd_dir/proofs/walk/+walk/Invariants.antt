@@ -1,5 +1,5 @@
 use Rattle.std.proofs.Common.{◌*◌, ◌+◌, ◌≤◌, List, map}
-use Rattle.dd_set.specs.Elements.{Elements}
+use Rattle.dd_encoding.specs.Elements.{Elements}
 use Rattle.dd_dir.specs.ForestViews.{tree_view}
 use Rattle.dd_dir.specs.Slots.{AreLeft, count_left, slots_view}
 use Rattle.dd_dir.proofs.Joining.{Going}

@@ -1,6 +1,6 @@
 use Rattle.std.proofs.Common.{refl}
 use Rattle.std.proofs.lemmas.Result.{err_from_is_err_and}
-use Rattle.dd_set.proofs.Going.{goes_on_fails, goes_on_piece}
+use Rattle.dd_stream.proofs.Going.{goes_on_fails, goes_on_piece}
 use Rattle.dd_dir.proofs.WithdrawalTexts.{joined_at, joined_by}
 use Rattle.dd_dir.proofs.withdrawals.send_joined.Goals as goal
 

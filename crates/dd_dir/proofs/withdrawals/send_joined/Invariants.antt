@@ -1,6 +1,6 @@
 use Rattle.std.proofs.Common.{length}
 use Rattle.std.specs.List.{join_with_byte}
-use Rattle.dd_set.proofs.Going.{GoesOn}
+use Rattle.dd_stream.proofs.Going.{GoesOn}
 use Rattle.dd_dir.proofs.withdrawals.send_joined.Given as goal
 
 -- the UIDs that are left are still to be sent

@@ -1,7 +1,7 @@
 use Rattle.std.proofs.Common.{◌≡◌, ◌-◌, length, arith}
 use Rattle.std.specs.List.{join_with_byte}
 use Rattle.std.proofs.lemmas.Result.{err_from_is_err_and}
-use Rattle.dd_set.proofs.Going.{first_fails, then_sends, sends_same}
+use Rattle.dd_stream.proofs.Going.{first_fails, then_sends, sends_same}
 use Rattle.dd_dir.proofs.RecordTexts.{second_fits}
 use Rattle.dd_dir.proofs.WithdrawalTexts.{joined_fits, value_parts}
 use Rattle.dd_dir.proofs.withdrawals.send_value.Goals as goal

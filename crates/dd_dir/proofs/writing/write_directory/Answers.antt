@@ -6,7 +6,7 @@ use Rattle.dd_version.specs.declared.parts.Parts.{Parts}
 use Rattle.dd_layout.specs.declared.record.PlanRecord.{PlanRecord}
 use Rattle.dd_layout.specs.Layouts.{IsSound}
 use Rattle.dd_layout.specs.Withdrawals.{withdrawal_entries, withdrawals_size}
-use Rattle.dd_set.proofs.Going.{first_fails, then_sends, sends_same}
+use Rattle.dd_stream.proofs.Going.{first_fails, then_sends, sends_same}
 use Rattle.dd_dir.specs.Withdrawn.{AreRisingUids}
 use Rattle.dd_dir.proofs.DirectoryFiles.{directory_is_file}
 use Rattle.dd_dir.proofs.DirectoryTexts.{directory_length, directory_parts, opening_fits, records_fit, size_told}

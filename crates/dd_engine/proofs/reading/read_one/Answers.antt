@@ -6,30 +6,30 @@ use Rattle.dd_engine.proofs.reading.read_one.Goals as goal
 
 pub returns-in-Ok-answer-clause-answer : goal.returns-in-Ok-answer-clause-answer
 returns-in-Ok-answer-clause-answer g c =
-    let h = c.in-Ok-answer.ensures.gave in
-    source_answer _ _ _ _ _ _ _ _ c.in-Ok.ensures.left h.2 h.3 tt
+    let h = c.in-Ok-answer.ensures in
+    source_answer _ _ _ _ _ _ _ _ c.in-Ok.ensures.left h.known h.answered tt
 
 pub returns-in-Ok-answer-clause-unread : goal.returns-in-Ok-answer-clause-unread
 returns-in-Ok-answer-clause-unread g c _ =
-    let h = c.in-Ok-answer.ensures.gave in
+    let h = c.in-Ok-answer.ensures in
     let left = g.S.In.Read.remaining c.ingest-answer.new.reader in
     let failed = g.S.Supply.unread c.end.new.self in
-    let none = (unfailed _ _ left _ _ _ h.3 tt).0 ∙ c.in-Ok.ensures.fresh.1 in
+    let none = (unfailed _ _ left _ _ _ h.answered tt).0 ∙ c.in-Ok.ensures.fresh.1 in
     unread_stays _ _ _ _ _ _ failed (c.in-Ok.ensures.there refl) c.in-Ok.ensures.kept.0 (c.in-Ok.ensures.live refl).1
     c.in-Ok.ensures.failures c.end.ensures.failed c.end.ensures.others none
 
 pub returns-in-Err-clause-answer : goal.returns-in-Err-clause-answer
 returns-in-Err-clause-answer g c =
-    let h = c.in-Err.ensures.gave in
-    source_answer _ _ _ _ _ _ _ _ c.in-Ok.ensures.left h.2 h.3 (c.if-is_of_source.ensures.0 refl)
+    let h = c.in-Err.ensures in
+    source_answer _ _ _ _ _ _ _ _ c.in-Ok.ensures.left h.known h.answered (c.if-is_of_source.ensures.0 refl)
 
 pub returns-in-Err-clause-unread : goal.returns-in-Err-clause-unread
 returns-in-Err-clause-unread g c _ =
     let settled = c.if-is_of_source.ensures.0 refl in
-    let h = c.in-Err.ensures.gave in
+    let h = c.in-Err.ensures in
     let left = g.S.In.Read.remaining c.ingest-answer.new.reader in
     let failed = g.S.Supply.unread c.end.new.self in
-    let none = (unfailed _ _ left _ _ _ h.3 settled).0 ∙ c.in-Ok.ensures.fresh.1 in
+    let none = (unfailed _ _ left _ _ _ h.answered settled).0 ∙ c.in-Ok.ensures.fresh.1 in
     unread_stays _ _ _ _ _ _ failed (c.in-Ok.ensures.there refl) c.in-Ok.ensures.kept.0 (c.in-Ok.ensures.live refl).1
     c.in-Ok.ensures.failures c.end.ensures.failed c.end.ensures.others none
 
@@ -44,7 +44,7 @@ returns-in-Ok-answer-clause-used g c =
     (lent c.args.supply.now) (lent c.begin.new.self) (lent c.end.new.self)
     (reads c.args.supply.now) (reads c.begin.new.self) (reads c.end.new.self)
     (begun.there refl) begun.kept.0 (begun.lent refl) begun.same_lent ended.back ended.same_lent
-    begun.unused ended.called ended.same_reads begun.fresh.0 c.ingest-answer.ensures.calls
+    begun.unused ended.called ended.same_reads begun.fresh.0 c.ingest-answer.ensures.few
 
 pub returns-in-Err-clause-used : goal.returns-in-Err-clause-used
 returns-in-Err-clause-used g c =
@@ -57,4 +57,4 @@ returns-in-Err-clause-used g c =
     (lent c.args.supply.now) (lent c.begin.new.self) (lent c.end.new.self)
     (reads c.args.supply.now) (reads c.begin.new.self) (reads c.end.new.self)
     (begun.there refl) begun.kept.0 (begun.lent refl) begun.same_lent ended.back ended.same_lent
-    begun.unused ended.called ended.same_reads begun.fresh.0 c.ingest-answer.ensures.calls
+    begun.unused ended.called ended.same_reads begun.fresh.0 c.ingest-answer.ensures.few

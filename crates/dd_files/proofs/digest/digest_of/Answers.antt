@@ -17,11 +17,13 @@ loop-hasher-preserved g c = record {
   hashed = c.update.ensures _ c.loop-hasher.invariant.hashed;
 }
 
-pub returns-in-Err-clause-digest : goal.returns-in-Err-clause-digest
-returns-in-Err-clause-digest g c = (
-  c.loop-hasher.invariant.given ++ piece_given (Err c.in-Err.field-0) c.loop-hasher.left c.read_piece.new.buffer,
-  gives_more _ _ _ _ _ _ c.loop-hasher.invariant.gave c.in-Err.ensures.gives,
-  consumes_more _ _ _ _ _ c.loop-hasher.invariant.known c.in-Err.ensures.left,
-  read_amiss _ _ _ _ _ _ _ _ c.loop-hasher.invariant.counted
-      (rw c.loop-hasher.invariant.same at c.in-Err.ensures.piece),
-)
+pub returns-in-Err : goal.returns-in-Err
+returns-in-Err g c = record {
+  given = c.loop-hasher.invariant.given
+      ++ piece_given (Err c.in-Err.field-0) c.loop-hasher.left c.read_piece.new.buffer;
+  gave = gives_more _ _ _ _ _ _ c.loop-hasher.invariant.gave c.in-Err.ensures.gives;
+  known = consumes_more _ _ _ _ _ c.loop-hasher.invariant.known c.in-Err.ensures.left;
+  few = grind (arith, common_steps);
+  answered = read_amiss _ _ _ _ _ _ _ _ c.loop-hasher.invariant.counted
+      (rw c.loop-hasher.invariant.same at c.in-Err.ensures.piece);
+}

@@ -4,20 +4,22 @@ use Rattle.std.proofs.lemmas.Grind.{common_steps}
 use Rattle.dd_elem.proofs.Known.{gives_more, consumes_more}
 use Rattle.dd_files.proofs.reading.read_whole.Goals as goal
 
-pub returns-in-Err-TooLong-clause-gave : goal.returns-in-Err-TooLong-clause-gave
-returns-in-Err-TooLong-clause-gave g c = (
-  c.loop-all.all.items ++ take (c.loop-all.left + 1) c.read_piece.new.buffer,
-  gives_more _ _ _ _ _ _ c.loop-all.invariant.gave
-      (rw c.in-Err-TooLong.field-0-is at c.in-Err-TooLong.ensures.gives),
-  consumes_more _ _ _ _ _ c.loop-all.invariant.known
-      (rw c.in-Err-TooLong.field-0-is at c.in-Err-TooLong.ensures.left),
-  grind (arith, common_steps),
-)
+pub returns-in-Err-TooLong : goal.returns-in-Err-TooLong
+returns-in-Err-TooLong g c = record {
+  given = c.loop-all.all.items ++ take (c.loop-all.left + 1) c.read_piece.new.buffer;
+  gave = gives_more _ _ _ _ _ _ c.loop-all.invariant.gave
+      (rw c.in-Err-TooLong.field-0-is at c.in-Err-TooLong.ensures.gives);
+  known = consumes_more _ _ _ _ _ c.loop-all.invariant.known
+      (rw c.in-Err-TooLong.field-0-is at c.in-Err-TooLong.ensures.left);
+  few = grind (arith, common_steps);
+  answered = grind (arith, common_steps);
+}
 
-pub returns-then-is_err-clause-gave : goal.returns-then-is_err-clause-gave
-returns-then-is_err-clause-gave g c = (
-  c.loop-all.all.items ++ take c.in-Ok.n c.read_piece.new.buffer,
-  gives_more _ _ _ _ _ _ c.loop-all.invariant.gave c.in-Ok.ensures.gives,
-  consumes_more _ _ _ _ _ c.loop-all.invariant.known c.in-Ok.ensures.left,
-  grind (arith, common_steps),
-)
+pub returns-then-is_err : goal.returns-then-is_err
+returns-then-is_err g c = record {
+  given = c.loop-all.all.items ++ take c.in-Ok.n c.read_piece.new.buffer;
+  gave = gives_more _ _ _ _ _ _ c.loop-all.invariant.gave c.in-Ok.ensures.gives;
+  known = consumes_more _ _ _ _ _ c.loop-all.invariant.known c.in-Ok.ensures.left;
+  few = grind (arith, common_steps);
+  answered = grind (arith, common_steps);
+}

@@ -4,11 +4,17 @@ use Rattle.dd_keys.proofs.digesting.read_digesting.Goals as goal
 
 pub returns-clause-same : goal.returns-clause-same
 returns-clause-same g c =
-    let h = c.read_file-file.ensures.gave in
-    (passed g.R.Read.has_given c.args.digesting.now c.read_file-file.new.reader h.0 h.1 c.requires).same
+    let h = c.read_file-file.ensures in
+    (passed g.R.Read.has_given c.args.digesting.now c.read_file-file.new.reader h.given h.gave c.requires).same
 
-pub returns-clause-gave : goal.returns-clause-gave
-returns-clause-gave g c =
-    let h = c.read_file-file.ensures.gave in
-    let p = passed g.R.Read.has_given c.args.digesting.now c.read_file-file.new.reader h.0 h.1 c.requires in
-    (h.0, p.gave, h.2, h.3, c.finalize_reset-digest.ensures.digest h.0 p.held)
+pub returns-clause-read : goal.returns-clause-read
+returns-clause-read g c =
+    let h = c.read_file-file.ensures in
+    let p = passed g.R.Read.has_given c.args.digesting.now c.read_file-file.new.reader h.given h.gave c.requires in
+    record {
+      given = h.given;
+      gave = p.gave;
+      known = h.known;
+      few = h.few;
+      answered = record { file = h.answered; digest = c.finalize_reset-digest.ensures.digest h.given p.held };
+    }

@@ -1,7 +1,7 @@
 use Rattle.std.proofs.Common.{ℕ, List, Option, ap, sym, ◌∙◌, arith}
 use Rattle.std.specs.Option.{ok_or}
 use Rattle.dd_part10.specs.declared.fault.FileFault.TheVariants.{NotPart10}
-use Rattle.dd_part10.specs.File.{prefix}
+use Rattle.dd_encoding.specs.Head.{prefix}
 use Rattle.dd_part10.specs.Reading.{behind, behind_prefix}
 use Rattle.dd_part10.proofs.Fronts.{behind-short, from_place}
 use Rattle.dd_part10.proofs.reading.behind_prefix.Goals as goal

@@ -1,97 +1,55 @@
 -- What was taken of the stream is what its reader gave, and the stream says how it ended.
-use Rattle.std.proofs.Common.{◌∙◌, Ok, Some, ap, arith}
-use Rattle.dd_set.specs.declared.end.End.TheVariants.{Ended, Failed, TooLong}
-use Rattle.dd_set.proofs.StreamEnds.{read_whole}
+use Rattle.std.proofs.Common.{◌∙◌, Ok, Err, Some, ap, arith}
+use Rattle.dd_stream.specs.declared.end.End.TheVariants.{Ended, Failed, TooLong}
+use Rattle.dd_stream.proofs.StreamEnds.{reads_to_end}
 use Rattle.dd_part10.specs.Memory.{IsRefused}
+use Rattle.dd_part10.specs.Streaming.{IsFileAnswer}
 use Rattle.dd_part10.specs.Taking.{FileTaken}
+use Rattle.dd_part10.specs.declared.stream_fault.StreamFault.TheVariants as faults
 use Rattle.dd_part10.proofs.Found.{file_found}
 use Rattle.dd_part10.proofs.streaming.read_stream.Goals as goal
 
-pub returns-in-Failed-clause-gave : goal.returns-in-Failed-clause-gave
-returns-in-Failed-clause-gave g c =
+pub returns-in-Failed-clause-read : goal.returns-in-Failed-clause-read
+returns-in-Failed-clause-read g c =
     let s = c.take_file-answer.ensures.found in
     let m = c.finish.ensures.moved in
-    let w = read_whole g.R.Read.remaining g.R.Read.failures g.R.Read.calls g.R.Read.has_given _ _ _ _ _ _ s.taken m.0
-    Failed (λ _. Unit {0}) s.moved.1 m.1 (λ rest t. tt)
-    c.requires.empty c.requires.open c.finish.ensures.empty
-    (c.finish.ensures.ended ∙ ap (λ e. Some e) c.in-Failed.is) in
-    (w.given, w.gave, w.known, w.ends)
+    reads_to_end g.R.Read _ _ _ _ _ _ s.taken m.0 Failed (λ _. Unit {0})
+    (IsFileAnswer (Err faults.Read) c.args.wanted.now _) s.moved.1 m.1 (λ rest t. tt)
+    c.requires.empty c.requires.open c.finish.ensures.empty (c.finish.ensures.ended ∙ ap (λ e. Some e) c.in-Failed.is)
+    (λ given left old new bytes said ends. ends)
 
-pub returns-in-Failed-clause-calls : goal.returns-in-Failed-clause-calls
-returns-in-Failed-clause-calls g c =
+pub returns-in-TooLong-clause-read : goal.returns-in-TooLong-clause-read
+returns-in-TooLong-clause-read g c =
     let s = c.take_file-answer.ensures.found in
     let m = c.finish.ensures.moved in
-    let w = read_whole g.R.Read.remaining g.R.Read.failures g.R.Read.calls g.R.Read.has_given _ _ _ _ _ _ s.taken m.0
-    Failed (λ _. Unit {0}) s.moved.1 m.1 (λ rest t. tt)
-    c.requires.empty c.requires.open c.finish.ensures.empty
-    (c.finish.ensures.ended ∙ ap (λ e. Some e) c.in-Failed.is) in
-    w.few
+    reads_to_end g.R.Read _ _ _ _ _ _ s.taken m.0 TooLong (λ _. Unit {0})
+    (IsFileAnswer (Err faults.TooLong) c.args.wanted.now _) s.moved.1 m.1 (λ rest t. tt)
+    c.requires.empty c.requires.open c.finish.ensures.empty (c.finish.ensures.ended ∙ ap (λ e. Some e) c.in-TooLong.is)
+    (λ given left old new bytes said ends. ends)
 
-pub returns-in-TooLong-clause-gave : goal.returns-in-TooLong-clause-gave
-returns-in-TooLong-clause-gave g c =
-    let s = c.take_file-answer.ensures.found in
-    let m = c.finish.ensures.moved in
-    let w = read_whole g.R.Read.remaining g.R.Read.failures g.R.Read.calls g.R.Read.has_given _ _ _ _ _ _ s.taken m.0
-    TooLong (λ _. Unit {0}) s.moved.1 m.1 (λ rest t. tt)
-    c.requires.empty c.requires.open c.finish.ensures.empty
-    (c.finish.ensures.ended ∙ ap (λ e. Some e) c.in-TooLong.is) in
-    (w.given, w.gave, w.known, w.ends)
-
-pub returns-in-TooLong-clause-calls : goal.returns-in-TooLong-clause-calls
-returns-in-TooLong-clause-calls g c =
-    let s = c.take_file-answer.ensures.found in
-    let m = c.finish.ensures.moved in
-    let w = read_whole g.R.Read.remaining g.R.Read.failures g.R.Read.calls g.R.Read.has_given _ _ _ _ _ _ s.taken m.0
-    TooLong (λ _. Unit {0}) s.moved.1 m.1 (λ rest t. tt)
-    c.requires.empty c.requires.open c.finish.ensures.empty
-    (c.finish.ensures.ended ∙ ap (λ e. Some e) c.in-TooLong.is) in
-    w.few
-
-pub returns-in-Ok-clause-gave : goal.returns-in-Ok-clause-gave
-returns-in-Ok-clause-gave g c =
+pub returns-in-Ok-clause-read : goal.returns-in-Ok-clause-read
+returns-in-Ok-clause-read g c =
     let s = c.in-Ok.ensures.found in
     let m = c.finish.ensures.moved in
-    let w = read_whole g.R.Read.remaining g.R.Read.failures g.R.Read.calls g.R.Read.has_given _ _ _ _ _ _ s.taken m.0
-    Ended (λ whole. FileTaken c.args.wanted.now (Ok c.in-Ok.scanned) whole) s.moved.1 m.1 (λ rest t. s.gives rest t)
-    c.requires.empty c.requires.open c.finish.ensures.empty
-    (c.finish.ensures.ended ∙ ap (λ e. Some e) c.in-Ended.is) in (
-      w.given,
-      w.gave,
-      w.known,
-      (
-        w.ends,
-        record {
-          file = w.answered.0;
-          is = file_found w.given w.answered.0 w.answered.1 w.bytes (omega (arith, w.ends.0, c.requires.room));
-          read = w.answered.1;
-          told = w.answered.2;
-        },
-      ),
-    )
+    reads_to_end g.R.Read _ _ _ _ _ _ s.taken m.0 Ended
+    (λ whole. FileTaken c.args.wanted.now (Ok c.in-Ok.scanned) whole)
+    (IsFileAnswer (Ok c.in-Ok.scanned) c.args.wanted.now _) s.moved.1 m.1 (λ rest t. s.gives rest t)
+    c.requires.empty c.requires.open c.finish.ensures.empty (c.finish.ensures.ended ∙ ap (λ e. Some e) c.in-Ended.is)
+    (λ given left old new bytes said ends. (
+      ends,
+      record {
+        file = said.0;
+        is = file_found given said.0 said.1 bytes (omega (arith, ends.0, c.requires.room));
+        read = said.1;
+        told = said.2;
+      },
+    ))
 
-pub returns-in-Ok-clause-calls : goal.returns-in-Ok-clause-calls
-returns-in-Ok-clause-calls g c =
-    let s = c.in-Ok.ensures.found in
-    let m = c.finish.ensures.moved in
-    let w = read_whole g.R.Read.remaining g.R.Read.failures g.R.Read.calls g.R.Read.has_given _ _ _ _ _ _ s.taken m.0
-    Ended (λ whole. FileTaken c.args.wanted.now (Ok c.in-Ok.scanned) whole) s.moved.1 m.1 (λ rest t. s.gives rest t)
-    c.requires.empty c.requires.open c.finish.ensures.empty (c.finish.ensures.ended ∙ ap (λ e. Some e) c.in-Ended.is) in
-    w.few
-
-pub returns-in-Err-clause-gave : goal.returns-in-Err-clause-gave
-returns-in-Err-clause-gave g c =
+pub returns-in-Err-clause-read : goal.returns-in-Err-clause-read
+returns-in-Err-clause-read g c =
     let s = c.in-Err.ensures.found in
     let m = c.finish.ensures.moved in
-    let w = read_whole g.R.Read.remaining g.R.Read.failures g.R.Read.calls g.R.Read.has_given _ _ _ _ _ _ s.taken m.0
-    Ended (λ whole. IsRefused c.args.wanted.now c.in-Err.fault whole) s.moved.1 m.1 (λ rest t. s.gives rest t)
-    c.requires.empty c.requires.open c.finish.ensures.empty (c.finish.ensures.ended ∙ ap (λ e. Some e) c.in-Ended.is) in
-    (w.given, w.gave, w.known, (w.ends, w.answered))
-
-pub returns-in-Err-clause-calls : goal.returns-in-Err-clause-calls
-returns-in-Err-clause-calls g c =
-    let s = c.in-Err.ensures.found in
-    let m = c.finish.ensures.moved in
-    let w = read_whole g.R.Read.remaining g.R.Read.failures g.R.Read.calls g.R.Read.has_given _ _ _ _ _ _ s.taken m.0
-    Ended (λ whole. IsRefused c.args.wanted.now c.in-Err.fault whole) s.moved.1 m.1 (λ rest t. s.gives rest t)
-    c.requires.empty c.requires.open c.finish.ensures.empty (c.finish.ensures.ended ∙ ap (λ e. Some e) c.in-Ended.is) in
-    w.few
+    reads_to_end g.R.Read _ _ _ _ _ _ s.taken m.0 Ended (λ whole. IsRefused c.args.wanted.now c.in-Err.fault whole)
+    (IsFileAnswer (Err (faults.File c.in-Err.fault)) c.args.wanted.now _) s.moved.1 m.1 (λ rest t. s.gives rest t)
+    c.requires.empty c.requires.open c.finish.ensures.empty (c.finish.ensures.ended ∙ ap (λ e. Some e) c.in-Ended.is)
+    (λ given left old new bytes said ends. (ends, said))

@@ -1,6 +1,6 @@
 use Rattle.std.proofs.Common.{Ok, ◌≡◌, sym}
 use Rattle.std.proofs.lemmas.Result.{err_from_is_err_and}
-use Rattle.dd_set.proofs.Along.{scans_same}
+use Rattle.dd_stream.proofs.Along.{scans_same}
 use Rattle.dd_part10.proofs.Taken.{mapped_fails, mapped_gives, set_below, set_taken}
 use Rattle.dd_part10.proofs.taking.take_data_set.Goals as goal
 

@@ -1,6 +1,6 @@
 use Rattle.std.proofs.Common.{Err, refl, ap}
 use Rattle.std.proofs.lemmas.Result.{err_from_is_err_and}
-use Rattle.dd_set.proofs.Along.{scans_same, scans_then}
+use Rattle.dd_stream.proofs.Along.{scans_same, scans_then}
 use Rattle.dd_part10.proofs.Taken.{file_without_head, file_without_set, file_taken}
 use Rattle.dd_part10.proofs.taking.take_file.Goals as goal
 

@@ -1,5 +1,5 @@
 use Rattle.std.proofs.lemmas.Result.{err_from_is_err_and}
-use Rattle.dd_set.proofs.Along.{scans_same, scans_then}
+use Rattle.dd_stream.proofs.Along.{scans_same, scans_then}
 use Rattle.dd_part10.proofs.Taken.{head_without_prefix, head_without_meta, head_without_syntax, head_taken}
 use Rattle.dd_part10.proofs.taking.take_head.Goals as goal
 

@@ -1,7 +1,7 @@
 use Rattle.std.proofs.Common.{◌≡◌, ◌≤◌, ℕ, replicate, length, take, sym, arith, subst}
 use Rattle.std.proofs.lemmas.Result.{err_from_is_err_and}
 use Rattle.std.proofs.lemmas.List.{length-take-le, length-replicate}
-use Rattle.dd_set.proofs.Along.{scans_same, scans_then}
+use Rattle.dd_stream.proofs.Along.{scans_same, scans_then}
 use Rattle.dd_part10.specs.Reading.{split_at, behind_length}
 use Rattle.dd_part10.specs.Taking.{GroupTaken}
 use Rattle.dd_part10.proofs.Taken.{meta_without_count}

@@ -10,7 +10,7 @@ use Rattle.dd_report.proofs.checking.+findings.Given as goal
 abbrev pub invariant-check_trees-loop-tree : goal.invariant-check_trees-loop-tree
 invariant-check_trees-loop-tree g l = record {
   told : (above : List Node) → IsInherited l.inherited above
-      → Checks g.F.In.Read.has_given g.F.In.Read.remaining g.F.In.Read.calls g.F.In.Read.failures
+      → Checks g.F.In.Read
       (g.F.Files.held l.initial.files) l.check.folder.now l.check.comparison
       (standings_below above (trees_view (take l.tree-index l.trees))) (Ok l.found)
       (g.F.Files.refusals l.initial.files) (g.F.Files.refusals l.files)

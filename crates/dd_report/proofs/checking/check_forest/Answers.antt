@@ -8,7 +8,7 @@ use Rattle.dd_report.proofs.checking.check_forest.Goals as goal
 
 pub returns-then-found-clause-checks : goal.returns-then-found-clause-checks
 returns-then-found-clause-checks g c =
-    all_checked g.F.In.Read.has_given g.F.In.Read.remaining g.F.In.Read.calls g.F.In.Read.failures
+    all_checked g.F.In.Read
     (g.F.Files.held c.args.files.now) c.args.check.folder.now c.args.check.comparison c.args.forest.now
     c.deref.result.now c.in_ok-found.found (not (c.args.forest.now.unreached == 0)) c.in_ok-found.found
     (g.F.Files.refusals c.args.files.now) (g.F.Files.refusals c.check_counted.new.files) _ _ _ c.deref.ensures.value
@@ -16,7 +16,7 @@ returns-then-found-clause-checks g c =
 
 pub returns-else-found-clause-checks : goal.returns-else-found-clause-checks
 returns-else-found-clause-checks g c =
-    all_checked g.F.In.Read.has_given g.F.In.Read.remaining g.F.In.Read.calls g.F.In.Read.failures
+    all_checked g.F.In.Read
     (g.F.Files.held c.args.files.now) c.args.check.folder.now c.args.check.comparison c.args.forest.now
     c.deref.result.now c.in_ok-found.found (nat_lt 0 c.args.forest.now.unreached) _
     (g.F.Files.refusals c.args.files.now) (g.F.Files.refusals c.check_counted.new.files) _ _ _ c.deref.ensures.value
@@ -25,7 +25,7 @@ returns-else-found-clause-checks g c =
 
 pub returns-in-Err-clause-checks : goal.returns-in-Err-clause-checks
 returns-in-Err-clause-checks g c =
-    end_unsent g.F.In.Read.has_given g.F.In.Read.remaining g.F.In.Read.calls g.F.In.Read.failures
+    end_unsent g.F.In.Read
     (g.F.Files.held c.args.files.now) c.args.check.folder.now c.args.check.comparison
     c.args.forest.now c.deref.result.now c.in_ok-found.found (g.F.Files.refusals c.args.files.now)
     (g.F.Files.refusals c.check_counted.new.files)
@@ -40,7 +40,7 @@ returns-in_err-found-clause-checks g c =
     let r = c.from_residual.result in
     let p = err_from_is_err_and r c.from_residual.ensures.1 in
     let fails : r ≡ Err c.in_err-found.field-0.0 = rw (p.1, p.2) refl in
-    walk_ends g.F.In.Read.has_given g.F.In.Read.remaining g.F.In.Read.calls g.F.In.Read.failures
+    walk_ends g.F.In.Read
     (g.F.Files.held c.args.files.now) c.args.check.folder.now c.args.check.comparison c.args.forest.now
     c.deref.result.now r c.check_counted.result c.in_err-found.field-0.0 (g.F.Files.refusals c.args.files.now)
     (g.F.Files.refusals c.check_counted.new.files) _ _ c.deref.ensures.value fails c.in_err-found.was

@@ -8,7 +8,7 @@ use Rattle.dd_report.proofs.checking.check_record.Goals as goal
 
 pub returns-in_default-clause-checks : goal.returns-in_default-clause-checks
 returns-in_default-clause-checks g c = λ above said.
-    record_cut g.F.In.Read.has_given g.F.In.Read.remaining g.F.In.Read.calls g.F.In.Read.failures
+    record_cut g.F.In.Read
     (g.F.Files.held c.args.files.now) c.args.check.folder.now c.args.check.comparison
     (standing_below above (tree_view c.args.tree.now).node) (g.F.Files.refusals c.args.files.now)
     (g.F.Files.refusals c.finding_in.new.files)
@@ -18,7 +18,7 @@ returns-in_default-clause-checks g c = λ above said.
 pub returns-in_default-finding-clause-checks : goal.returns-in_default-finding-clause-checks
 returns-in_default-finding-clause-checks g c = λ above said.
     rw c.advance.ensures.refusals
-    (record_quiet g.F.In.Read.has_given g.F.In.Read.remaining g.F.In.Read.calls g.F.In.Read.failures
+    (record_quiet g.F.In.Read
     (g.F.Files.held c.args.files.now) c.args.check.folder.now c.args.check.comparison
     (standing_below above (tree_view c.args.tree.now).node) (g.F.Files.refusals c.args.files.now)
     (g.F.Files.refusals c.finding_in.new.files) c.in-Ok.finding
@@ -28,7 +28,7 @@ returns-in_default-finding-clause-checks g c = λ above said.
 pub returns-in-Ok-tell_finding-clause-checks : goal.returns-in-Ok-tell_finding-clause-checks
 returns-in-Ok-tell_finding-clause-checks g c = λ above said.
     rw (c.hide_progress.ensures.refusals ∙ c.advance.ensures.refusals)
-    (record_told g.F.In.Read.has_given g.F.In.Read.remaining g.F.In.Read.calls g.F.In.Read.failures
+    (record_told g.F.In.Read
     (g.F.Files.held c.args.files.now) c.args.check.folder.now c.args.check.comparison
     (standing_below above (tree_view c.args.tree.now).node) (g.F.Files.refusals c.args.files.now)
     (g.F.Files.refusals c.finding_in.new.files) c.in-Some.finding c.in-Ok.finding
@@ -39,7 +39,7 @@ returns-in-Ok-tell_finding-clause-checks g c = λ above said.
 pub returns-in-Err-clause-checks : goal.returns-in-Err-clause-checks
 returns-in-Err-clause-checks g c = λ above said.
     rw (c.hide_progress.ensures.refusals ∙ c.advance.ensures.refusals)
-    (record_unsent g.F.In.Read.has_given g.F.In.Read.remaining g.F.In.Read.calls g.F.In.Read.failures
+    (record_unsent g.F.In.Read
     (g.F.Files.held c.args.files.now) c.args.check.folder.now c.args.check.comparison
     (standing_below above (tree_view c.args.tree.now).node) (g.F.Files.refusals c.args.files.now)
     (g.F.Files.refusals c.finding_in.new.files) c.in-Some.finding c.in-Ok.finding

@@ -8,7 +8,7 @@ pub returns-in-Ok-clause-found : goal.returns-in-Ok-clause-found
 returns-in-Ok-clause-found g c =
     let opened = c.in-Ok.ensures in
     let id = c.in-Some.ensures.some in
-    file_found g.F.In.Read.has_given g.F.In.Read.remaining g.F.In.Read.calls g.F.In.Read.failures
+    file_found g.F.In.Read
     (g.F.Files.held c.args.files.now) c.args.check.folder.now c.args.check.comparison c.finding_of_file.result
     c.args.inherited _ _ c.in-Some.file.now (tree_view c.args.tree.now).node _ _ (g.F.Files.refusals c.args.files.now)
     (g.F.Files.refusals c.member.new.self) id.1 id.0.0 id.0.1 c.as_str.ensures.value c.in_ok-path.ensures opened.left

@@ -5,8 +5,8 @@ use Rattle.dd_elem.specs.declared.tag.Tag.{Tag}
 use Rattle.dd_elem.specs.declared.vr.Vr.{Vr}
 use Rattle.dd_elem.specs.Vr.{is_long_of, vr_of}
 use Rattle.dd_set.specs.declared.fault.SetFault.TheVariants.{Reserved}
-use Rattle.dd_set.specs.declared.syntax.Syntax.{Syntax}
-use Rattle.dd_set.specs.Spelling.{names_vr}
+use Rattle.dd_encoding.specs.declared.syntax.Syntax.{Syntax}
+use Rattle.dd_encoding.specs.Spelling.{names_vr}
 use Rattle.dd_set.specs.Checks.{long_header_at}
 use Rattle.dd_set.specs.Reading.{Header, tagged_at, header_with, there, long_length_at, At, Reads, ◌>>=◌, Shape}
 use Rattle.dd_set.specs.Reading.{short_of, shape_at, long_at}

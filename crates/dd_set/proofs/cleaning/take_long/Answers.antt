@@ -6,7 +6,7 @@ use Rattle.std.proofs.lemmas.Result.{err_from_is_err_and}
 use Rattle.dd_elem.proofs.Cleaning.{length-clean_of}
 use Rattle.dd_set.specs.Reading.{leaves_fewer, less}
 use Rattle.dd_set.specs.Scan.{Told, cleaned}
-use Rattle.dd_set.proofs.Along.{scans_none}
+use Rattle.dd_stream.proofs.Along.{scans_none}
 use Rattle.dd_set.proofs.CleanedFronts.{cleaned_front}
 use Rattle.dd_set.proofs.Feeding.{take_overruns, take_ends, take_whole, over_length, front_length}
 use Rattle.dd_set.proofs.cleaning.take_long.Goals as goal

@@ -5,7 +5,7 @@ use Rattle.std.proofs.lemmas.List.{take_all}
 use Rattle.dd_elem.specs.Clean.{clean_of}
 use Rattle.dd_elem.proofs.Cleaning.{length-clean_of}
 use Rattle.dd_set.specs.Scan.{Told, cleaned}
-use Rattle.dd_set.proofs.Along.{scans_same}
+use Rattle.dd_stream.proofs.Along.{scans_same}
 use Rattle.dd_set.proofs.cleaning.take_short.Goals as goal
 
 told_cleaned : (front same : List ℕ) (n m : ℕ) → front ≡ same → n ≡ m

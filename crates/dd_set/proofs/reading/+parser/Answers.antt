@@ -6,8 +6,8 @@ use Rattle.std.proofs.lemmas.List.{map_push}
 use Rattle.dd_elem.specs.Tag.{number_of}
 use Rattle.dd_set.specs.declared.set.DataSet.{the_lemmas}
 use Rattle.dd_set.specs.declared.set.Value.TheViews.{roll-Item, roll-Element, roll-DataSet}
-use Rattle.dd_set.specs.declared.syntax.Length.TheVariants.{Defined}
-use Rattle.dd_set.specs.Elements.{elements_of, fragments}
+use Rattle.dd_encoding.specs.declared.syntax.Length.TheVariants.{Defined}
+use Rattle.dd_encoding.specs.Elements.{elements_of, fragments}
 use Rattle.dd_set.specs.Gives.{Fails}
 use Rattle.dd_set.specs.Checks.{header_view}
 use Rattle.dd_set.specs.Places.{at_view}

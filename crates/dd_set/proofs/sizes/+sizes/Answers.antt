@@ -1,6 +1,6 @@
 use Rattle.std.proofs.Common.{◌≡◌, rules}
 use Rattle.dd_set.specs.declared.set.DataSet.{the_lemmas}
-use Rattle.dd_set.specs.Elements.{bytes}
+use Rattle.dd_encoding.specs.Elements.{bytes}
 use Rattle.dd_set.specs.Views.{value_view}
 use Rattle.dd_set.proofs.sizes.+sizes.Goals as goal
 

@@ -2,12 +2,12 @@
 -- read one after the other.
 use Rattle.std.proofs.Common.{◌≡◌, ◌∙◌, ◌-◌, suc, ap, arith}
 use Rattle.std.proofs.lemmas.Result.{err_from_is_err_and}
-use Rattle.dd_set.specs.declared.syntax.Length.TheVariants.{Defined, Undefined}
+use Rattle.dd_encoding.specs.declared.syntax.Length.TheVariants.{Defined, Undefined}
 use Rattle.dd_set.specs.Checks.{header_view}
-use Rattle.dd_set.specs.Elements.{Elements, items}
+use Rattle.dd_encoding.specs.Elements.{Elements, items}
 use Rattle.dd_set.specs.Gives.{Fails}
 use Rattle.dd_set.specs.Reading.{At, item_reader, sequence_with, set_with, element_at, item_at, less}
-use Rattle.dd_set.proofs.Along.{scans_none, scans_same, scans_then}
+use Rattle.dd_stream.proofs.Along.{scans_none, scans_same, scans_then}
 use Rattle.dd_set.proofs.Feeding.{fails_is}
 use Rattle.dd_set.proofs.Loops.{fails_along}
 use Rattle.dd_set.proofs.ReadingOn.{ElementStep, ItemStep, element_steps, item_steps, within_found, within_fails}

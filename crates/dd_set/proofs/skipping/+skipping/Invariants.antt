@@ -1,6 +1,6 @@
 -- Each call is to a function further down the list, or into an item, where one level less is left.
 use Rattle.std.proofs.Common.{◌+◌, ◌*◌, ◌≤◌}
-use Rattle.dd_set.specs.Feeds.{Scans}
+use Rattle.dd_stream.specs.Feeds.{Scans}
 use Rattle.dd_set.specs.Reading.{item_reader}
 use Rattle.dd_set.proofs.ReadingOn.{ElementsGo, ItemsGo}
 use Rattle.dd_set.proofs.skipping.+skipping.Given as goal

@@ -1,6 +1,6 @@
 use Rattle.std.proofs.Common.{◌∙◌, sym}
 use Rattle.std.proofs.lemmas.Result.{err_from_is_err_and}
-use Rattle.dd_set.proofs.Along.{scans_same, scans_then}
+use Rattle.dd_stream.proofs.Along.{scans_same, scans_then}
 use Rattle.dd_set.proofs.Feeding.{fails_is}
 use Rattle.dd_set.proofs.FragmentSteps.{fragment_none, fragment_found, front_stops, length_fails, take_stops}
 use Rattle.dd_set.proofs.skipping.skip_fragment.Goals as goal

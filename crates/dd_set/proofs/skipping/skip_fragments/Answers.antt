@@ -1,6 +1,6 @@
 use Rattle.std.proofs.Common.{rules, ◌≡◌, true, false, arith}
 use Rattle.std.proofs.lemmas.Result.{err_from_is_err_and}
-use Rattle.dd_set.proofs.Along.{scans_none, scans_then}
+use Rattle.dd_stream.proofs.Along.{scans_none, scans_then}
 use Rattle.dd_set.proofs.FragmentSteps.{fragments_start, fragments_go, fragments_end, fragments_stop, fragment_steps}
 use Rattle.dd_set.proofs.skipping.skip_fragments.Goals as goal
 

@@ -1,5 +1,5 @@
 use Rattle.std.proofs.Common.{◌≤◌}
-use Rattle.dd_set.specs.Feeds.{Scans}
+use Rattle.dd_stream.specs.Feeds.{Scans}
 use Rattle.dd_set.proofs.FragmentSteps.{FragmentsGo}
 use Rattle.dd_set.proofs.skipping.skip_fragments.Given as goal
 

@@ -1,5 +1,5 @@
 use Rattle.std.proofs.Common.{drop}
-use Rattle.dd_set.specs.Spelling.{max_levels}
+use Rattle.dd_encoding.specs.Spelling.{max_levels}
 use Rattle.dd_set.specs.Views.{items_view}
 use Rattle.dd_set.proofs.Places.{Starting}
 use Rattle.dd_set.proofs.starts.items_starts.Given as goal

@@ -2,8 +2,8 @@ use Rattle.std.proofs.Common.{rules, ◌≡◌, ◌<◌, ◌+◌, ◌++◌, ℕ,
 use Rattle.std.proofs.Common.{sym, ◌∙◌, arith}
 use Rattle.std.proofs.lemmas.Result.{err_from_is_err_and}
 use Rattle.dd_set.specs.declared.set.DataSet.{the_lemmas}
-use Rattle.dd_set.specs.Elements.{Content, items}
-use Rattle.dd_set.specs.Spelling.{header_text, length_of, items_text}
+use Rattle.dd_encoding.specs.Elements.{Content, items}
+use Rattle.dd_encoding.specs.Spelling.{header_text, length_of, items_text}
 use Rattle.dd_set.specs.Starts.{content_places, item_places}
 use Rattle.dd_set.specs.Views.{value_view, items_view}
 use Rattle.dd_set.proofs.Places.{item_places-length}

@@ -1,6 +1,6 @@
 use Rattle.std.proofs.Common.{◌≡◌, ◌∙◌, List, ℕ, true, false}
 use Rattle.dd_set.specs.Reading.{At, is_over}
-use Rattle.dd_set.proofs.Along.{scans_none, scans_same}
+use Rattle.dd_stream.proofs.Along.{scans_none, scans_same}
 use Rattle.dd_set.proofs.Feeding.{head_over, head_more}
 use Rattle.dd_set.proofs.taking.head.Goals as goal
 

@@ -1,7 +1,7 @@
 use Rattle.std.proofs.Common.{List, ℕ, ◌∙◌, sym}
 use Rattle.std.proofs.lemmas.Result.{err_from_is_err_and}
 use Rattle.dd_set.specs.Reading.{At}
-use Rattle.dd_set.proofs.Along.{scans_same}
+use Rattle.dd_stream.proofs.Along.{scans_same}
 use Rattle.dd_set.proofs.Feeding.{item_front_fails, item_front_none, item_front_opens, bind_fails, fails_is}
 use Rattle.dd_set.proofs.Steps.{bind_made}
 use Rattle.dd_set.proofs.Loops.{fails_along}

@@ -1,7 +1,7 @@
 use Rattle.std.proofs.Common.{List, ℕ}
 use Rattle.std.proofs.lemmas.Result.{err_from_is_err_and}
 use Rattle.dd_set.specs.Reading.{At}
-use Rattle.dd_set.proofs.Along.{scans_same}
+use Rattle.dd_stream.proofs.Along.{scans_same}
 use Rattle.dd_set.proofs.Feeding.{long_found, long_fails}
 use Rattle.dd_set.proofs.Loops.{fails_along}
 use Rattle.dd_set.proofs.taking.long.Goals as goal

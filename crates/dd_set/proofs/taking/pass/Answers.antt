@@ -1,6 +1,6 @@
 use Rattle.std.proofs.Common.{◌≡◌, ◌∙◌, ◌++◌, length, sym, true, false, arith}
 use Rattle.dd_set.specs.Reading.{leaves_fewer}
-use Rattle.dd_set.proofs.Along.{scans_none}
+use Rattle.dd_stream.proofs.Along.{scans_none}
 use Rattle.dd_set.proofs.Feeding.{take_overruns, take_ends, take_whole, over_length}
 use Rattle.dd_set.proofs.taking.pass.Goals as goal
 

@@ -1,7 +1,7 @@
 use Rattle.std.proofs.Common.{◌≡◌, ◌∙◌, ◌++◌, ℕ, length, take, sym, ap, subst, false, refl, arith}
 use Rattle.std.proofs.lemmas.List.{take_all}
 use Rattle.dd_set.specs.Reading.{leaves_fewer, less}
-use Rattle.dd_set.proofs.Along.{scans_none}
+use Rattle.dd_stream.proofs.Along.{scans_none}
 use Rattle.dd_set.proofs.Feeding.{take_overruns, take_ends, take_whole, over_length, front_length}
 use Rattle.dd_set.proofs.taking.take.Goals as goal
 

@@ -1,18 +1,18 @@
 -- A header and its value are an element, and the loop reads one after the other.
 use Rattle.std.proofs.Common.{◌≡◌, List, ℕ, Ok, Err, None, Result, ap, sym, map, arith}
 use Rattle.std.proofs.lemmas.Result.{err_from_is_err_and}
-use Rattle.dd_set.specs.declared.syntax.Length.TheVariants.{Defined}
+use Rattle.dd_encoding.specs.declared.syntax.Length.TheVariants.{Defined}
 use Rattle.dd_set.specs.Checks.{header_view}
 use Rattle.dd_set.specs.Gives.{Fails}
 use Rattle.dd_set.specs.Reading.{◌>>=◌, item_reader, sequence_with, element_at, set_with, read_all}
 use Rattle.dd_set.specs.Scan.{found_hit, value_told}
-use Rattle.dd_set.specs.Elements.{Elements, elements_of}
-use Rattle.dd_set.specs.Spelling.{max_levels}
+use Rattle.dd_encoding.specs.Elements.{Elements, elements_of}
+use Rattle.dd_encoding.specs.Spelling.{max_levels}
 use Rattle.dd_set.specs.declared.fault.SetFault.{SetFault}
 use Rattle.dd_set.specs.declared.fault.SetFault.TheVariants.{Memory}
-use Rattle.dd_set.specs.declared.syntax.Syntax.{Syntax}
+use Rattle.dd_encoding.specs.declared.syntax.Syntax.{Syntax}
 use Rattle.std.specs.Prelude.{option_map}
-use Rattle.dd_set.proofs.Along.{scans_none, scans_then}
+use Rattle.dd_stream.proofs.Along.{scans_none, scans_then}
 use Rattle.dd_set.proofs.ReadingOn.{element_none, front_stops, content_stops}
 use Rattle.dd_set.proofs.Scanned.{ValueStep, value_steps, scan_start, scan_go, scan_end, scan_stop}
 use Rattle.dd_set.proofs.Scanned.{ElementThere, element_there, scan_wants}

@@ -1,8 +1,8 @@
 use Rattle.std.proofs.Common.{◌≤◌, map}
-use Rattle.dd_set.specs.Feeds.{Scans}
+use Rattle.dd_stream.specs.Feeds.{Scans}
 use Rattle.dd_set.specs.Reading.{item_reader}
 use Rattle.dd_set.specs.Scan.{found_hit}
-use Rattle.dd_set.specs.Spelling.{max_levels}
+use Rattle.dd_encoding.specs.Spelling.{max_levels}
 use Rattle.dd_set.proofs.Scanned.{ScanGo}
 use Rattle.dd_set.proofs.top_set.take_set.Given as goal
 

@@ -1,6 +1,6 @@
 use Rattle.std.proofs.Common.{◌≡◌, Err, true, ap, refl, rules}
 use Rattle.std.proofs.lemmas.Result.{err_from_is_err_and}
-use Rattle.dd_set.proofs.Along.{scans_same}
+use Rattle.dd_stream.proofs.Along.{scans_same}
 use Rattle.dd_set.proofs.top_set.take_value.Goals as goal
 
 pub returns-in_err-left-clause-found : goal.returns-in_err-left-clause-found

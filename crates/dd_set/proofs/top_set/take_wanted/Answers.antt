@@ -1,7 +1,7 @@
 use Rattle.std.proofs.Common.{◌∙◌, Err, ap, sym}
 use Rattle.std.proofs.lemmas.Result.{err_from_is_err_and}
 use Rattle.dd_set.specs.Reading.{At, item_reader, sequence_with}
-use Rattle.dd_set.proofs.Along.{scans_none, scans_same}
+use Rattle.dd_stream.proofs.Along.{scans_none, scans_same}
 use Rattle.dd_set.proofs.Feeding.{fails_is}
 use Rattle.dd_set.proofs.Scanned.{tells_bytes, items_told}
 use Rattle.dd_set.proofs.top_set.take_wanted.Goals as goal

@@ -1,12 +1,12 @@
 use Rattle.std.proofs.Common.{rules, ◌≡◌, ◌≤◌, length, ap, arith}
 use Rattle.std.proofs.lemmas.Result.{err_from_is_err_and}
 use Rattle.dd_set.specs.declared.set.DataSet.{the_lemmas}
-use Rattle.dd_set.specs.Elements.{items}
+use Rattle.dd_encoding.specs.Elements.{items}
 use Rattle.dd_set.specs.Single.{mark_text}
-use Rattle.dd_set.specs.Spelling.{elements_text, items_text, header_text, sequence_end_text}
+use Rattle.dd_encoding.specs.Spelling.{elements_text, items_text, header_text, sequence_end_text}
 use Rattle.dd_set.specs.Views.{elements_view, value_view, items_view}
-use Rattle.dd_set.proofs.Going.{first_fails, then_sends, sends_same, goes_on_fails, goes_on_piece, goes_on_end}
-use Rattle.dd_set.proofs.Going.{third_fits}
+use Rattle.dd_stream.proofs.Going.{first_fails, then_sends, sends_same, goes_on_fails, goes_on_piece, goes_on_end}
+use Rattle.dd_stream.proofs.Going.{third_fits}
 use Rattle.dd_set.proofs.Parts.{entry_parts, part_parts, entry_at, part_at, entry_valid, part_valid_at, set_text}
 use Rattle.dd_set.proofs.Counting.{elements_view-end}
 use Rattle.dd_set.proofs.writing.+writing.Goals as goal

@@ -1,7 +1,7 @@
 use Rattle.std.proofs.Common.{ℕ, drop}
-use Rattle.dd_set.specs.Spelling.{elements_text, items_text, AreElements, AreItems}
+use Rattle.dd_encoding.specs.Spelling.{elements_text, items_text, AreElements, AreItems}
 use Rattle.dd_set.specs.Views.{elements_view, items_view}
-use Rattle.dd_set.proofs.Going.{GoesOn}
+use Rattle.dd_stream.proofs.Going.{GoesOn}
 use Rattle.dd_set.proofs.writing.+writing.Given as goal
 
 abbrev pub invariant-send_items-loop-item : goal.invariant-send_items-loop-item

@@ -1,6 +1,6 @@
 use Rattle.std.proofs.lemmas.Result.{err_from_is_err_and}
 use Rattle.dd_set.specs.Views.{pieces}
-use Rattle.dd_set.proofs.Going.{first_fails, then_sends, sends_same}
+use Rattle.dd_stream.proofs.Going.{first_fails, then_sends, sends_same}
 use Rattle.dd_set.proofs.Parts.{fragments_parts}
 use Rattle.dd_set.proofs.writing.send_all_fragments.Goals as goal
 

@@ -1,7 +1,7 @@
 use Rattle.std.proofs.Common.{◌++◌, length, append_assoc}
 use Rattle.std.proofs.lemmas.Result.{err_from_is_err_and}
-use Rattle.dd_set.specs.Spelling.{header_text, tag_text, shape_text}
-use Rattle.dd_set.proofs.Going.{first_fails, then_sends, sends_same}
+use Rattle.dd_encoding.specs.Spelling.{header_text, tag_text, shape_text}
+use Rattle.dd_stream.proofs.Going.{first_fails, then_sends, sends_same}
 use Rattle.dd_set.proofs.writing.send_bytes.Goals as goal
 
 pub returns-in_err-sent : goal.returns-in_err-sent

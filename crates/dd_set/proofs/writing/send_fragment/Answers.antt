@@ -1,8 +1,8 @@
 use Rattle.std.proofs.Common.{◌++◌, length}
 use Rattle.std.proofs.lemmas.Result.{err_from_is_err_and}
 use Rattle.byteorder.specs.Endian.{little_bytes}
-use Rattle.dd_set.specs.Spelling.{item_tag_text}
-use Rattle.dd_set.proofs.Going.{first_fails, then_sends}
+use Rattle.dd_encoding.specs.Spelling.{item_tag_text}
+use Rattle.dd_stream.proofs.Going.{first_fails, then_sends}
 use Rattle.dd_set.proofs.writing.send_fragment.Goals as goal
 
 pub returns-in_err-sent : goal.returns-in_err-sent

@@ -1,5 +1,5 @@
 use Rattle.std.proofs.lemmas.Result.{err_from_is_err_and}
-use Rattle.dd_set.proofs.Going.{goes_on_fails, goes_on_piece}
+use Rattle.dd_stream.proofs.Going.{goes_on_fails, goes_on_piece}
 use Rattle.dd_set.proofs.Parts.{piece_at, pieces_rest}
 use Rattle.dd_set.proofs.writing.send_fragments.Goals as goal
 

@@ -1,7 +1,7 @@
 use Rattle.std.proofs.Common.{drop}
-use Rattle.dd_set.specs.Spelling.{fragments_text, AreFragments}
+use Rattle.dd_encoding.specs.Spelling.{fragments_text, AreFragments}
 use Rattle.dd_set.specs.Views.{pieces}
-use Rattle.dd_set.proofs.Going.{GoesOn}
+use Rattle.dd_stream.proofs.Going.{GoesOn}
 use Rattle.dd_set.proofs.writing.send_fragments.Given as goal
 
 abbrev pub invariant-loop-fragment : goal.invariant-loop-fragment

@@ -8,15 +8,16 @@ use Rattle.dicomdir.proofs.copies.copy_image.Goals as goal
 pub returns-in-Ok-clause-made : goal.returns-in-Ok-clause-made
 returns-in-Ok-clause-made g c = λ done.
     let start = c.in_ok-start_copy.ensures.started cc in
-    let h = c.in-Ok.ensures.filed in
-    let went = h.3.1.1 in
+    let h = c.in-Ok.ensures in
+    let went = h.answered.1.1 in
     record {
       path = start.path;
-      bytes = h.0;
+      bytes = h.given;
       place = start.place;
-      is = subst (λ (filed : Filed). IsFileAs c.args.planned.now filed h.0) (c.end_copy.ensures.planned done) h.3.0;
-      made = held_published start.path h.0 _ _ _ _ (rw c.in_ok-reader.ensures.kept at start.started)
-          (g.met.F.Files.written_grows _ _ h.0 went.stays went.holds) (c.end_copy.ensures.ended done);
+      is = subst (λ (filed : Filed). IsFileAs c.args.planned.now filed h.given) (c.end_copy.ensures.planned done)
+          h.answered.0;
+      made = held_published start.path h.given _ _ _ _ (rw c.in_ok-reader.ensures.kept at start.started)
+          (g.met.F.Files.written_grows _ _ h.given went.stays went.holds) (c.end_copy.ensures.ended done);
     }
 
 pub returns-clause-refusal : goal.returns-clause-refusal

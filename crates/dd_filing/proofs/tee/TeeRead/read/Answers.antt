@@ -1,7 +1,7 @@
 -- A piece of which a part was written.
 use Rattle.std.proofs.Common.{arith}
 use Rattle.dd_filing.proofs.Sending.{sent_whole, passed_more}
-use Rattle.dd_set.proofs.Going.{stops_amid}
+use Rattle.dd_stream.proofs.Going.{stops_amid}
 use Rattle.dd_filing.proofs.tee.TeeRead.read.Goals as goal
 
 pub returns-in-Err-clause-gives : goal.returns-in-Err-clause-gives

@@ -2,7 +2,7 @@ use Rattle.std.proofs.Common.{refl, [], ◌≡◌, ◌≤◌, ◌<◌, ℕ, List
 use Rattle.std.proofs.Common.{◌∙◌, arith, true, false}
 use Rattle.std.proofs.lemmas.Result.{IfOk-weaker, on_err_weaker}
 use Rattle.std.proofs.Math.ListN.{length-replicate}
-use Rattle.dd_set.specs.Elements.{Elements}
+use Rattle.dd_encoding.specs.Elements.{Elements}
 use Rattle.dd_set.specs.Find.{same_tag}
 use Rattle.dd_set.specs.Starts.{places_in}
 use Rattle.dd_set.specs.Views.{set_view, elements_view}

@@ -1,5 +1,5 @@
 use Rattle.std.proofs.Common.{drop}
-use Rattle.dd_set.specs.Spelling.{max_levels}
+use Rattle.dd_encoding.specs.Spelling.{max_levels}
 use Rattle.dd_set.specs.Views.{elements_view}
 use Rattle.dd_set.proofs.Places.{Seeking}
 use Rattle.dd_set.proofs.set.DataSet.item_starts.Given as goal

@@ -1,0 +1,3 @@
+pub mod Even
+pub mod Heads
+pub mod KnownSyntaxes

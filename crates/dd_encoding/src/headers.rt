@@ -1,0 +1,93 @@
+//! The bytes of headers, which stand before values, items and delimiters (PS3.5 sections 7.1 and 7.5).
+
+ghost use Rattle.std.specs.Prelude.{◌≡◌, ◌++◌, Some, None, true, false};
+ghost use Rattle.byteorder.specs.Endian.{little_bytes};
+ghost use Rattle.dd_elem.specs.Vr.{is_long_of};
+ghost use Rattle.dd_encoding.specs.Spelling.{header_text, item_tag_text, tag_text};
+
+use byteorder::{ByteOrder, LittleEndian};
+use dd_elem::{Tag, Vr};
+
+/// The group of items and delimiters, which no element has.
+pub const DELIMITER_GROUP: u16 = 0xfffe;
+
+/// How many bytes a tag has.
+pub const TAG_SIZE: usize = 4;
+
+/// How many bytes each header begins with. All but the long ones have no more.
+pub const HEADER_SIZE: usize = 8;
+
+/// How many bytes of length a long header has behind these.
+pub const LONG_LENGTH_SIZE: usize = 4;
+
+/// How many bytes a long header has: one with a length of 32 bits behind a value representation.
+pub const LONG_HEADER_SIZE: usize = HEADER_SIZE + LONG_LENGTH_SIZE;
+
+/// The tag that an item begins with (PS3.5 section 7.5).
+pub const ITEM: Tag = Tag {
+    group: DELIMITER_GROUP,
+    element: 0xe000,
+};
+
+/// The tag that ends an item whose length is undefined.
+pub const ITEM_END: Tag = Tag {
+    group: DELIMITER_GROUP,
+    element: 0xe00d,
+};
+
+/// The tag that ends a sequence whose length is undefined.
+pub const SEQUENCE_END: Tag = Tag {
+    group: DELIMITER_GROUP,
+    element: 0xe0dd,
+};
+
+/// The bytes of a tag.
+fn tag_bytes(tag: Tag) -> [u8; TAG_SIZE]
+    ensures { result ≡ tag_text tag }
+{
+    let mut bytes = [0; TAG_SIZE];
+    LittleEndian::write_u16(&mut bytes, tag.group);
+    LittleEndian::write_u16(&mut bytes[2..], tag.element);
+    bytes
+}
+
+/// A tag and a length of 32 bits: a header in Implicit VR, and that of an item or a delimiter.
+pub fn plain_header(tag: Tag, value_length: u32) -> [u8; HEADER_SIZE]
+    ensures { result ≡ header_text tag None value_length }
+{
+    let mut header = [0; HEADER_SIZE];
+    header[..TAG_SIZE].copy_from_slice(&tag_bytes(tag));
+    LittleEndian::write_u32(&mut header[4..], value_length);
+    header
+}
+
+/// The header of an item that gives this length (PS3.5 section 7.5).
+pub fn item_header(count: u32) -> [u8; HEADER_SIZE]
+    ensures { result ≡ item_tag_text ++ little_bytes 4 count }
+{
+    plain_header(ITEM, count)
+}
+
+/// A header in Explicit VR with a length of 16 bits.
+pub fn short_header(tag: Tag, vr: Vr, value_length: u16) -> [u8; HEADER_SIZE]
+    requires { is_long_of vr ≡ false }
+    ensures { result ≡ header_text tag (Some vr) value_length }
+{
+    let mut header = [0; HEADER_SIZE];
+    header[..TAG_SIZE].copy_from_slice(&tag_bytes(tag));
+    header[4..6].copy_from_slice(&vr.letters());
+    LittleEndian::write_u16(&mut header[6..], value_length);
+    header
+}
+
+/// A header in Explicit VR with two reserved bytes and a length of 32 bits.
+pub fn long_header(tag: Tag, vr: Vr, value_length: u32) -> [u8; LONG_HEADER_SIZE]
+    requires { is_long_of vr ≡ true }
+    ensures { result ≡ header_text tag (Some vr) value_length }
+{
+    let mut header = [0; LONG_HEADER_SIZE];
+    header[..TAG_SIZE].copy_from_slice(&tag_bytes(tag));
+    header[4..6].copy_from_slice(&vr.letters());
+    LittleEndian::write_u32(&mut header[8..], value_length);
+    header
+}

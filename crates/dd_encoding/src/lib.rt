@@ -1,0 +1,27 @@
+//! How data sets and the heads of files are encoded: the elements of a data set and the bytes that spell
+//! them (PS3.5 sections 6, 7 and 10, annex A), headers, and what stands before the data set of a file
+//! (PS3.10 section 7.1). Nothing is read here.
+//!
+//! Its one promise: a header that is sent spells its tag, its value representation and its length, and a
+//! head that is sent is the one of its meta information.
+#![tactic(auto)]
+
+mod head;
+mod headers;
+mod meta;
+mod places;
+mod sending;
+mod syntax;
+mod syntaxes;
+
+pub use head::{head_size, write_head};
+pub use headers::{
+    DELIMITER_GROUP, HEADER_SIZE, ITEM, ITEM_END, LONG_HEADER_SIZE, LONG_LENGTH_SIZE, SEQUENCE_END,
+    TAG_SIZE, item_header, plain_header,
+};
+pub use meta::{CLASS, GROUP_LENGTH, INSTANCE, META_GROUP, Meta};
+pub use places::{
+    COUNT_HEADER, COUNT_LENGTH, COUNT_SIZE, GROUP_AT, PREAMBLE_LENGTH, PREFIX, PREFIX_END,
+};
+pub use sending::send_header;
+pub use syntax::{Length, Syntax};

@@ -1,0 +1,35 @@
+//! Headers sent to a writer.
+
+ghost use Rattle.std.specs.Prelude.{◌≡◌, ◌+◌, ◌<◌, ◌≤◌, ◌^◌, length, Err, Some};
+ghost use Rattle.dd_encoding.specs.Spelling.{header_limit, header_text};
+ghost use Rattle.dd_stream.specs.Sends.{SendsTo};
+
+use crate::headers::{long_header, short_header};
+use dd_elem::{Tag, Vr, Write};
+use dd_stream::{WriteFault, send};
+
+/// Sends the header of an element in Explicit VR behind `sent` bytes, as `send` does (PS3.5 section
+/// 7.1.2). 13 NotWritable where the length wants more than the 16 bits that the value
+/// representation has for it; nothing is sent then.
+pub fn send_header<W: Write>(
+    tag: Tag,
+    vr: Vr,
+    value_length: u32,
+    writer: &mut W,
+    sent: u64,
+) -> Result<u64, WriteFault>
+    requires { sent + length (header_text tag (Some vr) value_length) < 2 ^ 64 }
+    ensures sends { let text = header_text tag (Some vr) value_length
+        in value_length < header_limit vr
+        → SendsTo W.Write text sent result writer.old writer.new }
+    ensures refused { header_limit vr ≤ value_length
+        → (result ≡ Err WriteFault.NotWritable) × (writer.new ≡ writer.old) }
+{
+    if vr.is_long() {
+        return send(&long_header(tag, vr, value_length), writer, sent);
+    }
+    if value_length > u32::from(u16::MAX) {
+        return Err(WriteFault::NotWritable);
+    }
+    send(&short_header(tag, vr, value_length as u16), writer, sent)
+}

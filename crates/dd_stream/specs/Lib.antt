@@ -1,0 +1,6 @@
+pub mod Bytes
+pub mod Feeds
+pub mod Reads
+pub mod Sends
+pub mod StreamLaws
+pub mod Streams

@@ -1,0 +1,15 @@
+-- What a call read from a reader, and what it answers.
+use Rattle.std.specs.Prelude.{ℕ, ◌+◌, ◌≤◌, List, Option}
+use Rattle.std.specs.Io.KnownBytes.{Consumes}
+use Rattle.dd_elem.specs.Device.{Gives}
+use Rattle.dd_elem.specs.declared.device.Read.{Ghosts as ReadOf}
+
+-- Between two states a reader gave these bytes, in at most `limit` reads and one more. `answers` says what is answered,
+-- by the bytes that it gave, those that it has left where it tells them, and its failures before and after.
+pub record ReadsUpTo {R : Type 0} (reader : ReadOf R) (limit : ℕ) (old new : R)
+    (answers : List ℕ → Option (List ℕ) → ℕ → ℕ → Type 0) : Type 0 where
+  pub given : List ℕ
+  pub gave : Gives reader.has_given old new given
+  pub known : Consumes (reader.remaining old) (reader.remaining new) given
+  pub few : reader.calls new ≤ reader.calls old + limit + 1
+  pub answered : answers given (reader.remaining new) (reader.failures old) (reader.failures new)

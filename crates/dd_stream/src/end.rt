@@ -1,0 +1,34 @@
+//! How a reader came to its end.
+
+ghost use Rattle.std.specs.Prelude.{◌≡◌, [], List, ℕ, Some};
+ghost use Rattle.dd_stream.specs.Streams.{Moves, place_of};
+
+use crate::filling::drain;
+use crate::stream::Stream;
+use dd_elem::Read;
+
+/// How a stream came to its end.
+#[derive(Clone, Copy, Debug, PartialEq, Eq)]
+pub enum End {
+    /// The reader has no more bytes.
+    Ended,
+    /// The reader failed.
+    Failed,
+    /// The reader gave one byte more than the limit.
+    TooLong,
+}
+
+/// Reads on to the end of a stream, and answers how it came there.
+pub fn finish<R: Read>(stream: &mut Stream<'_, R>) -> End
+    ensures same { stream.new.reader.ghost_name ≡ stream.old.reader.ghost_name }
+    ensures moved { (taken : List ℕ) × Moves R.Read
+        stream.old.reader.now stream.new.reader.now (place_of stream.old) (place_of stream.new) taken }
+    ensures empty { stream.new.kept ≡ [] }
+    ensures ended { stream.new.end ≡ Some result }
+{
+    drain(stream);
+    match stream.end {
+        Some(end) => end,
+        None => unreachable!(),
+    }
+}

@@ -1,0 +1,98 @@
+//! The bytes of a reader as a feed.
+
+ghost use Rattle.std.specs.Prelude.{◌≡◌, ◌≤◌, [], IsSome, None};
+ghost use Rattle.std.proofs.Common.{refl, ◌∙◌};
+ghost use Rattle.dd_stream.specs.Streams.{Moves, MayCome, most_of, place_of};
+ghost use Rattle.dd_stream.specs.StreamLaws.{moves_none, moves_then, tells_then};
+
+use crate::end::End;
+use crate::feed::Feed;
+use crate::kept::{Kept, PIECE};
+use dd_elem::Read;
+
+/// The bytes of a reader as a feed: it reads them in pieces of 16 KiB, and at most its limit and one
+/// more. It is at its end where the reader is, where the reader fails, and behind the one byte more;
+/// `finish` says which.
+#[derive(Drop)]
+pub struct Stream<'r, R: Read> {
+    /// The reader.
+    pub(crate) reader: &'r mut R,
+    /// The bytes that it gave and that were not taken yet.
+    pub(crate) kept: Kept,
+    /// How many bytes it may still give.
+    pub(crate) left: u64,
+    /// How it came to its end, where it has.
+    pub(crate) end: Option<End>,
+}
+
+impl<'r, R: Read> Stream<'r, R> {
+    /// A stream of this reader, of which nothing was read yet, with this limit.
+    pub fn new(reader: &'r mut R, limit: u64) -> Stream<'r, R>
+        ensures same { result.reader.ghost_name ≡ reader.entry.ghost_name }
+        ensures reader { result.reader.now ≡ reader.old }
+        ensures empty { result.kept ≡ [] }
+        ensures left { result.left ≡ limit }
+        ensures open { result.end ≡ None }
+    {
+        Stream {
+            reader,
+            kept: Kept::new(),
+            left: limit,
+            end: None,
+        }
+    }
+
+    /// Has some bytes to give, unless the stream is at its end.
+    fn refill(&mut self)
+        ensures same { self.new.reader.ghost_name ≡ self.old.reader.ghost_name }
+        ensures moved { Moves R.Read self.old.reader.now self.new.reader.now
+            (place_of self.old) (place_of self.new) [] }
+        ensures ready { self.new.kept ≡ [] → IsSome self.new.end }
+        ensures fewer { most_of (place_of self.new) ≤ most_of (place_of self.old) }
+    {
+        if self.kept.len() > 0 || self.end.is_some() {
+            return;
+        }
+        let most = self.left.min(PIECE as u64 - 1) as usize + 1;
+        match self.kept.refill(self.reader, most) {
+            None => self.end = Some(End::Failed),
+            Some(0) => self.end = Some(End::Ended),
+            Some(n) => {
+                if n as u64 > self.left {
+                    self.end = Some(End::TooLong);
+                } else {
+                    self.left -= n as u64;
+                }
+            }
+        }
+    }
+}
+
+impl<R: Read> Feed for Stream<'_, R> {
+    ghost moves = { λ old new taken. (new.reader.ghost_name ≡ old.reader.ghost_name)
+        × Moves R.Read old.reader.now new.reader.now (place_of old) (place_of new) taken };
+
+    ghost tells = { λ stream rest. MayCome (place_of stream) rest };
+
+    ghost most = { λ stream. most_of (place_of stream) };
+
+    fn give(&mut self, room: &mut [u8]) -> usize {
+        self.refill();
+        self.kept.give(room)
+    }
+
+    fn pass(&mut self, n: u64) -> u64 {
+        self.refill();
+        self.kept.pass(n)
+    }
+
+    ghost stays = { λ s. (refl, moves_none R.Read s.reader.now (place_of s)) };
+
+    ghost goes = { λ a b c xs ys m n. (
+      n.0 ∙ m.0,
+      moves_then R.Read a.reader.now b.reader.now c.reader.now (place_of a) (place_of b) (place_of c) xs ys m.1 n.1,
+    ) };
+
+    ghost told = { λ a b xs ys m t.
+        tells_then R.Read a.reader.now b.reader.now (place_of a) (place_of b) xs ys m.1 t };
+}
