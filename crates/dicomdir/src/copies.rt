@@ -43,7 +43,6 @@ pub(crate) fn copy_images<F: Files, O: Origins>(
     for record in plan.records() {
         picks = copy_record(alloc, folder, versions, record, origins, picks, files)?;
     }
-    files.hide_progress();
     Ok(())
 }
 

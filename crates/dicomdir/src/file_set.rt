@@ -42,7 +42,8 @@ pub(crate) fn refuse_taken<F: Files>(
 }
 
 /// Makes each image of the plan in the folder, of the file that is picked, and then writes the directory
-/// there. All that was made is stored before the directory is made, and the directory once it has ended.
+/// there. All that was made is stored before the directory is made, and the directory once it has ended. Progress
+/// is shown until all is stored.
 pub(crate) fn write_file_set<F: Files, O: Origins>(
     alloc: Global,
     folder: &str,
@@ -65,9 +66,12 @@ pub(crate) fn write_file_set<F: Files, O: Origins>(
     let path = path_in(alloc, folder, DIRECTORY)?;
     store(files)?;
     match make_directory(path.as_str(), plan, files) {
-        Ok(()) => store(files),
-        Err(fault) => Err(Refusal::of(Subject::Directory, fault)),
+        Ok(()) => {}
+        Err(fault) => return Err(Refusal::of(Subject::Directory, fault)),
     }
+    store(files)?;
+    files.hide_progress();
+    Ok(())
 }
 
 /// Starts the directory at this path, writes it and ends it. Create where it could not be started, Unsent

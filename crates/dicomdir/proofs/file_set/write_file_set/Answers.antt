@@ -2,14 +2,14 @@
 use Rattle.std.proofs.Common.{◌∙◌}
 use Rattle.dicomdir.proofs.file_set.write_file_set.Goals as goal
 
-pub returns-in-Ok-clause-made : goal.returns-in-Ok-clause-made
-returns-in-Ok-clause-made g c = λ done. record {
+pub returns-clause-made : goal.returns-clause-made
+returns-clause-made g c = λ done. record {
   copied = g.F.Files.held c.copy_images.new.files;
   images = c.in_ok-copy_images.ensures.made cc;
   path = c.as_str.result.now;
   place =
       let is = c.in_ok-path.ensures in
       rw c.as_str.ensures.value (record { bare = is.bare; ended = is.ended; apart = is.apart });
-  directory = c.store-in-Ok.ensures.kept
+  directory = c.hide_progress.ensures.kept ∙ c.in_ok-store-2.ensures.kept
       ∙ (rw (c.in_ok-store.ensures.kept, c.folder.ensures.kept) at c.in-Ok.ensures.holds cc);
 }
