@@ -3,7 +3,9 @@ use Rattle.std.proofs.Common.{◌≡◌, ℕ, List, [], ◌∷◌, ◌++◌, ap,
 use Rattle.std.specs.List.{concat}
 use Rattle.dd_report.specs.Text.{masked}
 use Rattle.dd_report.proofs.Masking.{are_printable, masked_printable, printable-append}
-use Rattle.dicomdir.specs.Done.{count_parts}
+use Rattle.dicomdir.specs.Done.{count_parts, word_of}
+use Rattle.dicomdir.specs.declared.making.Ending.{Ending}
+use Rattle.dicomdir.specs.declared.making.Ending.TheVariants.{Done, Planned}
 
 -- what goes out of these parts
 abbrev pub printed : List ℕ → List (List ℕ) → List ℕ → List ℕ → List ℕ
@@ -19,3 +21,7 @@ printed_counts word behind instances bytes first last one two =
     (printable-append instances (codes " instances, " ++ (bytes ++ concat behind)) one
     (printable-append (codes " instances, ") (bytes ++ concat behind) refl
     (printable-append bytes (concat behind) two last)))))
+
+pub printable_word : (ending : Ending) → are_printable (word_of ending) ≡ true
+printable_word Done = refl
+printable_word Planned = refl

@@ -9,3 +9,4 @@ mod Masking
 mod NameParts
 mod Publishing
 mod SomeMade
+mod WholeSets

@@ -1,6 +1,7 @@
 -- A file-set was made, whichever files its images were made of.
 use Rattle.std.proofs.Common.{◌≡◌, ℕ, List, [], ◌∷◌, Option, Result, Ok, Err, IfOk, IsOk, inl, inr, map, refl}
-use Rattle.std.proofs.Common.{subst, true}
+use Rattle.std.proofs.Common.{◌∙◌, subst, true}
+use Rattle.std.proofs.lemmas.List.{length-map}
 use Rattle.std.specs.Prelude.{slice_index_or, zip}
 use Rattle.clap.specs.Words.{Row, Text}
 use Rattle.dd_elem.specs.FileId.{Ranks}
@@ -11,7 +12,7 @@ use Rattle.dd_line.specs.declared.line.Asked.{Asked}
 use Rattle.dd_layout.specs.declared.record.PlanRecord.{PlanRecord}
 use Rattle.dd_layout.specs.Layouts.{Layout}
 use Rattle.dicomdir.specs.DryRun.{HasLink, first_path}
-use Rattle.dicomdir.specs.Made.{MakesFileSet, MakesImage, MakesRow, MakesRows, MakesSome, MayLink}
+use Rattle.dicomdir.specs.Made.{IsWhole, MakesFileSet, MakesImage, MakesRow, MakesRows, MakesSome, MayLink}
 use Rattle.dicomdir.proofs.DryRuns.{given_folder, given_link}
 
 -- what an image was made of may be said otherwise
@@ -65,10 +66,12 @@ module _ {P Q : Type 0} (From : P → List ℕ → Type 0) (To : Q → List ℕ 
 -- the file-set of these picks is some file-set
 some_made : {P : Type 0} (GivesNames : Type 0) (StandsAt : P → List ℕ → Type 0) (folder : List ℕ) (plan : Layout)
     (picks : List P) (old new : Option Held)
-    → MakesFileSet (MayLink GivesNames StandsAt) folder plan picks old new → MakesSome GivesNames folder old new
-some_made GivesNames StandsAt folder plan picks old new made = record {
+    → IsWhole plan picks → MakesFileSet (MayLink GivesNames StandsAt) folder plan picks old new
+    → MakesSome GivesNames folder old new
+some_made GivesNames StandsAt folder plan picks old new all made = record {
   plan = plan;
   picks = map (λ _. tt) picks;
+  all = length-map picks (λ _. tt) ∙ all;
   made = set_by (MayLink GivesNames StandsAt) (λ _ _. GivesNames) (λ _. tt) (λ pick path may. may.0) folder plan picks
       old new made;
 }
@@ -79,6 +82,7 @@ some_by : (GivesNames Asked : Type 0) (folder : List ℕ) (old new : Option Held
 some_by GivesNames Asked folder old new follows some = record {
   plan = some.plan;
   picks = map (λ pick. pick) some.picks;
+  all = length-map some.picks (λ pick. pick) ∙ some.all;
   made = set_by (λ _ _. GivesNames) (λ _ _. Asked) (λ pick. pick) (λ pick path may. follows may) folder some.plan
       some.picks old new some.made;
 }
@@ -88,12 +92,12 @@ abbrev pub DoneMakes : {E : Type 0} → Result ℕ E → Type 0 → List ℕ →
 DoneMakes r GivesNames folder old new = IfOk r (λ status. status ≡ 0 → MakesSome GivesNames folder old new)
 
 pub done_makes : {P E : Type 0} (r : Result ℕ E) (GivesNames : Type 0) (StandsAt : P → List ℕ → Type 0)
-    (folder : List ℕ) (plan : Layout) (picks : List P) (old new : Option Held)
+    (folder : List ℕ) (plan : Layout) (picks : List P) (old new : Option Held) → IsWhole plan picks
     → (IsOk r → MakesFileSet (MayLink GivesNames StandsAt) folder plan picks old new)
     → DoneMakes r GivesNames folder old new
-done_makes (Ok status) GivesNames StandsAt folder plan picks old new made =
-    λ done. some_made GivesNames StandsAt folder plan picks old new (made refl)
-done_makes (Err refusal) GivesNames StandsAt folder plan picks old new made = tt
+done_makes (Ok status) GivesNames StandsAt folder plan picks old new all made =
+    λ done. some_made GivesNames StandsAt folder plan picks old new all (made refl)
+done_makes (Err refusal) GivesNames StandsAt folder plan picks old new all made = tt
 
 pub done_by : {E : Type 0} (r : Result ℕ E) (GivesNames Asked : Type 0) (folder : List ℕ) (old new : Option Held)
     → (GivesNames → Asked) → DoneMakes r GivesNames folder old new → DoneMakes r Asked folder old new

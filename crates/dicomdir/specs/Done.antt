@@ -2,6 +2,8 @@
 use Rattle.std.specs.Prelude.{ℕ, List, [], ◌∷◌, ◌++◌, codes}
 use Rattle.std.specs.Fmt.{decimal}
 use Rattle.std.specs.List.{concat}
+use Rattle.dicomdir.specs.declared.making.Ending.{Ending}
+use Rattle.dicomdir.specs.declared.making.Ending.TheVariants.{Done, Planned}
 
 -- a line of these parts: a word, the number of instances, the number of bytes of the directory, both as texts, and
 -- what stands behind them
@@ -9,16 +11,18 @@ abbrev pub count_parts : List ℕ → List ℕ → List ℕ → List (List ℕ) 
 count_parts word instances bytes behind =
     concat (word ∷ instances ∷ codes " instances, " ∷ bytes ∷ behind) ++ 10 ∷ []
 
--- the last line of a command that has written a file-set with this number of instances, whose directory has this
+-- the word for a file-set that was made, and for one that would be made
+abbrev pub word_of : Ending → List ℕ
+word_of Done = codes "DONE "
+word_of Planned = codes "PLAN "
+
+-- the last line of a command whose file-set has, or would have, this number of instances and a directory with this
 -- number of bytes
-abbrev pub done_text : ℕ → ℕ → List ℕ
-done_text instances bytes = count_parts (codes "DONE ") (decimal instances) (decimal bytes) (codes " bytes" ∷ [])
+abbrev pub ending_text : Ending → ℕ → ℕ → List ℕ
+ending_text ending instances bytes =
+    count_parts (word_of ending) (decimal instances) (decimal bytes) (codes " bytes" ∷ [])
 
--- the last line of a command that would write such a file-set
-abbrev pub plan_text : ℕ → ℕ → List ℕ
-plan_text instances bytes = count_parts (codes "PLAN ") (decimal instances) (decimal bytes) (codes " bytes" ∷ [])
-
--- the same line, with the number of bytes of the images
+-- the line of one that would be made, with the number of bytes of the images
 abbrev pub images_text : ℕ → ℕ → ℕ → List ℕ
 images_text instances bytes images = count_parts (codes "PLAN ") (decimal instances) (decimal bytes)
     (codes " bytes, " ∷ decimal images ∷ codes " bytes of images" ∷ [])

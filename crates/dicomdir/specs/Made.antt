@@ -1,7 +1,7 @@
 -- What a command that makes a file-set changes in files that tell what they hold: it makes the file of each image,
 -- record by record, and then the directory.
 use Rattle.std.specs.Prelude.{◌≡◌, ◌⊎◌, ◌<◌, ℕ, List, [], ◌∷◌, All, filter, zip, Option, None, Some, is_some}
-use Rattle.std.specs.Prelude.{codes, option_map, slice_get, slice_index_or}
+use Rattle.std.specs.Prelude.{codes, length, option_map, slice_get, slice_index_or}
 use Rattle.dd_dir.specs.Directories.{directory_of}
 use Rattle.dd_elem.specs.FileId.{Ranks, text_of}
 use Rattle.dd_engine.specs.declared.merge.Pick.{Pick}
@@ -102,9 +102,14 @@ pub record MakesFileSet {P : Type 0} (From : P → List ℕ → Type 0) (folder 
   pub place : IsPathIn folder (codes "DICOMDIR") path
   pub directory : new ≡ option_map (published path (directory_of plan.label plan.versions plan.withdrawn)) copied
 
--- Images of some plan were made in the folder, in the order of its records, and then its directory. Each is a copy;
+-- there is a pick for each record of the plan that has a file
+abbrev pub IsWhole : {P : Type 0} → Layout → List P → Type 0
+IsWhole plan picks = length picks ≡ length (filter (λ row. is_some row.file) (records_of plan.label plan.versions))
+
+-- All images of some plan were made in the folder, in the order of its records, and then its directory. Each is a copy;
 -- only where images get second names may it be a file under a second name.
 pub record MakesSome (GivesNames : Type 0) (folder : List ℕ) (old new : Option Held) : Type 0 where
   pub plan : Layout
   pub picks : List (Unit {0})
+  pub all : IsWhole plan picks
   pub made : MakesFileSet (λ _ _. GivesNames) folder plan picks old new

@@ -4,12 +4,12 @@ ghost use Rattle.dd_elem.specs.Device.{HasFailed};
 ghost use Rattle.dd_engine.specs.Indexed.{IsNamed, IsWithin};
 ghost use Rattle.dd_engine.specs.Noting.{AreBelow, IsBelow};
 ghost use Rattle.dd_line.specs.Line.{words_of};
-ghost use Rattle.dicomdir.specs.Made.{IsPathAt, MakesFileSet, MakesSome, MayLink};
+ghost use Rattle.dicomdir.specs.Made.{IsPathAt, IsWhole, MakesFileSet, MakesSome, MayLink};
 ghost use Rattle.dicomdir.specs.Refusal.{IsOfWork};
 
 use crate::file_set::{limits_of, write_file_set};
 use crate::file_supply::FileSupply;
-use crate::making::{Making, tell_done, tell_plan_of_images};
+use crate::making::{Ending, Making, tell_counts, tell_plan_of_images};
 use crate::notes::{
     has_notes, refuse_noted, tell_clash, tell_names, tell_skipped, tell_sources_left_out,
 };
@@ -99,7 +99,7 @@ fn write_indexed<F: Files, O: Write>(
         &indexed.picks,
         files,
     )?;
-    Ok(tell_done(&indexed.plan, out))
+    Ok(tell_counts(Ending::Done, &indexed.plan, out))
 }
 
 /// Adds up the bytes of these sources, up to `u64::MAX`.
@@ -127,6 +127,7 @@ fn index_files<F: Files>(
     ensures clash { IfErr result (λ noted. IsBelow (λ at. at) (length sources.now) noted.clash) }
     ensures within { IfOk result (λ noted. IsWithin (length sources.now) noted.indexed) }
     ensures below { IfOk result (λ noted. AreBelow (λ at. at) (length sources.now) noted.notes.left_out.items) }
+    ensures whole { IfOk result (λ noted. IsWhole noted.indexed.plan noted.indexed.picks.items) }
     ensures kept { F.held files.new ≡ F.held files.old }
 {
     let mut supply = FileSupply::new(files, sources, counts);

@@ -3,7 +3,7 @@ ghost use Rattle.std.specs.Prelude.{◌≡◌, ◌⊎◌, length};
 ghost use Rattle.dd_elem.specs.Device.{HasFailed};
 ghost use Rattle.dd_layout.specs.Plans.{size};
 ghost use Rattle.dd_report.specs.Text.{TakesText};
-ghost use Rattle.dicomdir.specs.Done.{done_text, images_text, plan_text};
+ghost use Rattle.dicomdir.specs.Done.{ending_text, images_text, word_of};
 
 use dd_elem::Write;
 use dd_layout::Plan;
@@ -45,35 +45,39 @@ impl<'a> Making<'a> {
     }
 }
 
-/// Prints how many images the file-set has and the size of its directory, and answers the status: 1 where
-/// the output failed.
-pub(crate) fn tell_done<O: Write>(plan: &Plan, out: &mut O) -> u8
-    ensures status { (result ≡ 0) ⊎ (result ≡ 1) }
-    ensures done { result ≡ 0 → TakesText O.Write out.old out.new
-        (done_text (length plan.now.versions) (size plan.now.label plan.now.versions plan.now.withdrawn)) }
-    ensures failed { result ≡ 1 → HasFailed (O.failures out.old) (O.failures out.new) }
-{
-    let (mut count, mut size) = (Buffer::new(), Buffer::new());
-    let count = count.format(plan.versions().len());
-    let size = size.format(plan.size());
-    match print_line(&["DONE ", count, " instances, ", size, " bytes"], out) {
-        Ok(()) => 0,
-        Err(_) => 1,
+/// What the last line of a command says of its file-set.
+#[derive(Clone, Copy)]
+pub(crate) enum Ending {
+    /// It was made.
+    Done,
+    /// It would be made.
+    Planned,
+}
+
+impl Ending {
+    /// Gives the word that the line begins with.
+    fn word(self) -> &'static str
+        ensures { result.now ≡ word_of self }
+    {
+        match self {
+            Ending::Done => "DONE ",
+            Ending::Planned => "PLAN ",
+        }
     }
 }
 
-/// Prints what would be made: how many images, and the size of the directory. Answers the status: 1 where the
-/// output failed.
-pub(crate) fn tell_plan<O: Write>(plan: &Plan, out: &mut O) -> u8
+/// Prints the last line: how many images the file-set has, and the size of its directory. Answers the status: 1
+/// where the output failed.
+pub(crate) fn tell_counts<O: Write>(ending: Ending, plan: &Plan, out: &mut O) -> u8
     ensures status { (result ≡ 0) ⊎ (result ≡ 1) }
-    ensures done { result ≡ 0 → TakesText O.Write out.old out.new
-        (plan_text (length plan.now.versions) (size plan.now.label plan.now.versions plan.now.withdrawn)) }
+    ensures done { result ≡ 0 → TakesText O.Write out.old out.new (ending_text ending
+        (length plan.now.versions) (size plan.now.label plan.now.versions plan.now.withdrawn)) }
     ensures failed { result ≡ 1 → HasFailed (O.failures out.old) (O.failures out.new) }
 {
     let (mut count, mut size) = (Buffer::new(), Buffer::new());
     let count = count.format(plan.versions().len());
     let size = size.format(plan.size());
-    match print_line(&["PLAN ", count, " instances, ", size, " bytes"], out) {
+    match print_line(&[ending.word(), count, " instances, ", size, " bytes"], out) {
         Ok(()) => 0,
         Err(_) => 1,
     }

@@ -4,11 +4,11 @@ ghost use Rattle.dd_elem.specs.Device.{HasFailed};
 ghost use Rattle.dd_engine.specs.Merging.{IsNamedSet};
 ghost use Rattle.dd_engine.specs.Noting.{AreBelow, IsBelow};
 ghost use Rattle.dd_line.specs.Line.{words_of};
-ghost use Rattle.dicomdir.specs.Made.{IsMemberPath, MakesFileSet, MakesSome, MayLink};
+ghost use Rattle.dicomdir.specs.Made.{IsMemberPath, IsWhole, MakesFileSet, MakesSome, MayLink};
 ghost use Rattle.dicomdir.specs.Refusal.{IsOfWork};
 
 use crate::file_set::{limits_of, write_file_set};
-use crate::making::{Making, tell_done, tell_plan};
+use crate::making::{Ending, Making, tell_counts};
 use crate::names::Names;
 use crate::notes::{has_notes, refuse_noted, tell_clash, tell_names, tell_picks_left_out};
 use crate::origins::SetFiles;
@@ -129,6 +129,7 @@ fn write_noted<'a, F: Files, O: Write>(
     requires sets { length sets.now.directories.now ≡ length sets.now.folders.now }
     requires within { All (λ pick. pick.set < length sets.now.folders.now) noted.now.merged.picks.items }
     requires below { AreBelow (λ pick. pick.set) (length sets.now.folders.now) noted.now.notes.left_out.items }
+    requires whole { IsWhole noted.now.merged.plan noted.now.merged.picks.items }
     ensures refusal { IfErr result (IsOfWork (length sets.now.folders.now)) }
     ensures status { IfOk result (λ status. status ≤ 1) }
     ensures dry { making.entry.dry_run ≡ true → F.held files.new ≡ F.held files.old }
@@ -173,7 +174,7 @@ fn write_merged<'a, F: Files, O: Write>(
         making.entry.folder.now merged.now.plan merged.now.picks.items (F.held files.old) (F.held files.new) }
 {
     if making.dry_run {
-        return Ok(tell_plan(&merged.plan, out));
+        return Ok(tell_counts(Ending::Planned, &merged.plan, out));
     }
     write_file_set(
         alloc,
@@ -183,7 +184,7 @@ fn write_merged<'a, F: Files, O: Write>(
         &merged.picks,
         files,
     )?;
-    Ok(tell_done(&merged.plan, out))
+    Ok(tell_counts(Ending::Done, &merged.plan, out))
 }
 
 /// The bytes of all directories.

@@ -91,7 +91,7 @@ pub fn run<F: Files, O: Write, E: Write>(
         → HasDryRun (subcommand_of dicomdir_app (words_of words.items)) → F.held files.new ≡ F.held files.old }
 
     // Where they tell that, each other command that is done has made some file-set in the first of its paths. That is
-    // images of a plan, in the order of its records, and then its directory. Each image is a copy, a file of the
+    // all images of a plan, in the order of its records, and then its directory. Each image is a copy, a file of the
     // version that is planned there. Only where the words set `--link` may it be a file under a second name.
     ensures made { result ≡ 0 → takes dicomdir_app (words_of words.items) ≡ true
         → ¬ IsReading (subcommand_of dicomdir_app (words_of words.items))

@@ -8,4 +8,4 @@ use Rattle.dicomdir.proofs.merging.write_noted.Goals as goal
 pub returns-clause-made : goal.returns-clause-made
 returns-clause-made g c = λ makes.
     done_makes c.write_merged.result (c.args.sets.now.link ≡ true) (IsMemberPath (words_of c.args.sets.now.folders.now))
-    c.args.making.folder.now _ _ _ _ (λ done. c.write_merged.ensures.made done makes)
+    c.args.making.folder.now _ _ _ _ c.requires.whole (λ done. c.write_merged.ensures.made done makes)

@@ -3,9 +3,9 @@ use Rattle.std.proofs.Common.{◌∙◌, ◌<◌, ◌^◌, [], ◌∷◌, ap, ap
 use Rattle.std.specs.Fmt.{decimal}
 use Rattle.dd_report.specs.Text.{TakesAll}
 use Rattle.dd_report.proofs.Masking.{printable-decimal}
-use Rattle.dicomdir.proofs.CountLines.{printed, printed_counts}
-use Rattle.dicomdir.specs.Done.{count_parts}
-use Rattle.dicomdir.proofs.making.tell_plan.Goals as goal
+use Rattle.dicomdir.proofs.CountLines.{printable_word, printed, printed_counts}
+use Rattle.dicomdir.specs.Done.{count_parts, word_of}
+use Rattle.dicomdir.proofs.making.tell_counts.Goals as goal
 
 pub returns-in-Ok-clause-done : goal.returns-in-Ok-clause-done
 returns-in-Ok-clause-done g c = λ _.
@@ -13,9 +13,12 @@ returns-in-Ok-clause-done g c = λ _.
     let small : c.size.result < 2 ^ 64 = search rules in
     subst (λ text. TakesAll (g.O.Write.contents c.args.out.now) (g.O.Write.contents c.print_line.new.to)
     (g.O.Write.failures c.args.out.now) (g.O.Write.failures c.print_line.new.to) text)
-    (ap₂ (printed (codes "PLAN ") (codes " bytes" ∷ [])) c.format-count.ensures.text c.format-size.ensures.text
-    ∙ printed_counts (codes "PLAN ") (codes " bytes" ∷ []) _ _ refl refl
+    (ap (λ word. printed word (codes " bytes" ∷ []) c.format-count.result.now c.format-size.result.now) c.word.ensures
+    ∙ ap₂ (printed (word_of c.args.ending) (codes " bytes" ∷ [])) c.format-count.ensures.text
+    c.format-size.ensures.text
+    ∙ printed_counts (word_of c.args.ending) (codes " bytes" ∷ []) _ _
+    (printable_word c.args.ending) refl
     (printable-decimal (length c.versions.result.now) few) (printable-decimal c.size.result small)
-    ∙ ap₂ (λ count size. count_parts (codes "PLAN ") count size (codes " bytes" ∷ []))
+    ∙ ap₂ (λ count size. count_parts (word_of c.args.ending) count size (codes " bytes" ∷ []))
     (ap (λ versions. decimal (length versions)) c.versions.ensures) (ap decimal c.size.ensures))
     c.in-Ok.ensures.sent
