@@ -7,3 +7,8 @@ use Rattle.dd_elem.specs.declared.counts.Counts.{Counts}
 abbrev pub counts_after : Counts → Bool → Counts
 counts_after c true = record c { calls = counted c.calls }
 counts_after c false = record { calls = counted c.calls; failures = counted c.failures }
+
+-- the counts after a call that was begun came to an end, by whether it worked
+abbrev pub settled : Counts → Bool → Counts
+settled c true = c
+settled c false = record c { failures = counted c.failures }

@@ -4,7 +4,7 @@ ghost use Rattle.std.specs.Prelude.{IsSome, IfSome};
 ghost use Rattle.std.specs.Io.{ReadsAtMost};
 ghost use Rattle.std.specs.Io.KnownBytes.{ReadConsumes};
 ghost use Rattle.dd_elem.specs.ByteSource.{Source, IsReadable, next_len, after_read};
-ghost use Rattle.dd_elem.specs.Device.{counted, last_count, HasWorked, GivesTold, read_piece};
+ghost use Rattle.dd_elem.specs.Device.{counted, last_count, HasWorked, GivesTold, IsBeforeFail, read_piece};
 
 use crate::counts::Counts;
 use crate::device::Read;
@@ -57,14 +57,11 @@ impl<'a> ByteSource<'a> {
         }
     }
 
-    /// How many bytes the next read gives, or None where it fails.
+    /// How many bytes the next read gives where no count is at its last value, or None where it fails.
     fn next_len(&self, room: usize) -> Option<usize>
-        ensures readable { IsSome result ↔ IsReadable self.now }
+        ensures readable { IsSome result ↔ IsBeforeFail self.now.fails (length self.now.given) }
         ensures len { IfSome result (λ n. n ≡ next_len self.now room) }
     {
-        if !self.counts.is_live() {
-            return None;
-        }
         let left = self.bytes.len() - self.at;
         let wanted = (room as u64).min(self.piece).min(left as u64);
         match self.fails {
@@ -105,7 +102,7 @@ impl Read for ByteSource<'_> {
         ensures after { self.new ≡ after_read self.old result }
     {
         let next = self.next_len(buf.len());
-        self.counts.call();
+        self.counts.begin()?;
         match next {
             None => {
                 self.counts.fail();

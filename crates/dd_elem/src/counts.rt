@@ -1,6 +1,6 @@
 //! The two counts of a device.
 ghost use Rattle.std.specs.Prelude.{◌≡◌, ◌↔◌, IsTrue, IsOk, is_ok};
-ghost use Rattle.dd_elem.specs.Counts.{counts_after};
+ghost use Rattle.dd_elem.specs.Counts.{counts_after, settled};
 ghost use Rattle.dd_elem.specs.Device.{counted, IsLive};
 
 use std::io;
@@ -57,5 +57,16 @@ impl Counts {
         ensures { self.new ≡ record self.old { failures = counted self.old.failures } }
     {
         self.failures = self.failures.saturating_add(1);
+    }
+
+    /// Counts a failure where a call that was begun came to an error, and gives back what it came to.
+    pub fn settle<T>(&mut self, done: io::Result<T>) -> io::Result<T>
+        ensures done { result ≡ done }
+        ensures counts { self.new ≡ settled self.old (is_ok done) }
+    {
+        if done.is_err() {
+            self.fail();
+        }
+        done
     }
 }

@@ -5,6 +5,7 @@ ghost use Rattle.std.specs.Io.{WritesAtMost};
 ghost use Rattle.std.specs.Io.KnownBytes.{WriteAppends};
 ghost use Rattle.dd_elem.specs.Sink.{Store, IsWritable, HasRoom, taken_len};
 ghost use Rattle.dd_elem.specs.Counts.{counts_after};
+ghost use Rattle.dd_elem.specs.Device.{IsBeforeFail};
 
 use crate::counts::Counts;
 use crate::device::Write;
@@ -79,14 +80,12 @@ impl Sink {
         Ok(self.bytes.reserve(additional)?)
     }
 
-    /// How many bytes of a piece of length `len` the next write takes, or None where it fails.
+    /// How many bytes of a piece of length `len` the next write takes where no count is at its last value,
+    /// or None where it fails.
     fn taken_len(&self, len: usize) -> Option<usize>
-        ensures writable { IsSome result ↔ IsWritable self.now }
+        ensures writable { IsSome result ↔ IsBeforeFail self.now.fails (length self.now.bytes) }
         ensures len { IfSome result (λ n. n ≡ taken_len self.now len) }
     {
-        if !self.counts.is_live() {
-            return None;
-        }
         let held = self.bytes.len() as u64;
         match self.fails {
             None => Some(len),
@@ -123,9 +122,8 @@ impl Write for Sink {
         ensures fails { self.new.fails ≡ self.old.fails }
         ensures grows { self.old.capacity ≤ self.new.capacity }
     {
-        let next = self.taken_len(bytes.len());
-        self.counts.call();
-        if let Some(n) = next {
+        self.counts.begin()?;
+        if let Some(n) = self.taken_len(bytes.len()) {
             if self.bytes.extend_from_slice(&bytes[..n]).is_ok() {
                 return Ok(n);
             }

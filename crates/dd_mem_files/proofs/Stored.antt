@@ -1,15 +1,12 @@
 -- The files of a map by path, as a list of paths and bytes.
 use Rattle.std.proofs.Common.{◌≡◌, ℕ, List, [], ◌∷◌, map, refl, Vec, string_bytes, false, ap, ◌∙◌, sym, arith}
-use Rattle.std.proofs.Common.{inl, inr, None}
-use Rattle.std.specs.Prelude.{Option, Some, option_map, String, bytes_eq}
+use Rattle.std.proofs.Common.{inl, inr}
+use Rattle.std.specs.Prelude.{Some, option_map, String, bytes_eq}
 use Rattle.std.specs.BTreeMap.{BTreeMap, get_by_text, UpdatesBy}
 use Rattle.std.specs.Cmp.Lexicographic.{slice_cmp}
 use Rattle.std.specs.Ordering.{is_eq, nat_cmp}
 use Rattle.std.specs.String.{string_cmp}
 use Rattle.std.specs.Map.{lookup}
-use Rattle.std.specs.Option.{option_and_then}
-use Rattle.std.specs.Io.KnownBytes.{Keeps}
-use Rattle.std.proofs.KnownBytes.{Keeps-refl}
 use Rattle.std.specs.declared.alloc.Global.{Global}
 use Rattle.std.proofs.lemmas.Map.Text.{is_eq-slice_cmp, btree_map_updates_text}
 use Rattle.std.proofs.lemmas.Slice.Eq.{bytes_eq-Decides}
@@ -60,14 +57,3 @@ keeps_files old new path bytes had sets =
         | inr apart ↦ sets.others other apart.1
       ];
     }
-
-same_file : (old new : List (List ℕ × List ℕ)) (current : Option (List ℕ)) → KeepsFiles old new
-    → option_and_then (bytes_at new) current ≡ option_and_then (bytes_at old) current
-same_file old new None keeps = refl
-same_file old new (Some path) keeps = keeps.all path
-
--- where the files stay, so do the bytes of the one that is being written
-pub keeps_written : (old new : List (List ℕ × List ℕ)) (was is : Option (List ℕ)) → is ≡ was → KeepsFiles old new
-    → Keeps (option_and_then (bytes_at old) was) (option_and_then (bytes_at new) is)
-keeps_written old new was is same keeps =
-    rw (same, same_file old new was keeps) (Keeps-refl (option_and_then (bytes_at old) was))

@@ -321,12 +321,9 @@ impl Write for MemFiles {
         } }
     {
         self.counts.begin()?;
-        match self.append(bytes) {
-            Ok(n) => Ok(n),
-            Err(_) => {
-                self.counts.fail();
-                Err(io::Error::other("no file took the bytes"))
-            }
-        }
+        let done = self
+            .append(bytes)
+            .map_err(|_| io::Error::other("no file took the bytes"));
+        self.counts.settle(done)
     }
 }

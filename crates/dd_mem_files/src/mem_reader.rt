@@ -3,7 +3,7 @@ ghost use Rattle.std.specs.Prelude.{◌≡◌, [], ◌≤◌, ◌↔◌, ◌<◌
 ghost use Rattle.std.specs.Prelude.{IsSome, IfSome};
 ghost use Rattle.std.specs.Io.{ReadsAtMost};
 ghost use Rattle.std.specs.Io.KnownBytes.{ReadConsumes};
-ghost use Rattle.dd_elem.specs.Device.{counted, last_count, HasWorked, GivesTold, read_piece};
+ghost use Rattle.dd_elem.specs.Device.{counted, last_count, HasWorked, GivesTold, IsBeforeFail, read_piece};
 ghost use Rattle.dd_mem_files.specs.MemReader.{Opened, IsReadable, after_read, next_len};
 
 use dd_elem::{Counts, Read};
@@ -51,14 +51,11 @@ impl MemReader {
         }
     }
 
-    /// Says how many bytes the next read gives. None where it fails.
+    /// Says how many bytes the next read gives where no count is at its last value. None where it fails.
     fn next_len(&self, room: usize) -> Option<usize>
-        ensures readable { IsSome result ↔ IsReadable self.now }
+        ensures readable { IsSome result ↔ IsBeforeFail self.now.fails (length self.now.given) }
         ensures len { IfSome result (λ n. n ≡ next_len self.now room) }
     {
-        if !self.counts.is_live() {
-            return None;
-        }
         let wanted = room.min(self.bytes.len() - self.at);
         match self.fails {
             None => Some(wanted),
@@ -98,7 +95,7 @@ impl Read for MemReader {
         ensures after { self.new ≡ after_read self.old result }
     {
         let next = self.next_len(buf.len());
-        self.counts.call();
+        self.counts.begin()?;
         match next {
             None => {
                 self.counts.fail();

@@ -53,15 +53,9 @@ impl<R: Read + Drop> Read for CountedReader<R> {
     /// Reads as the reader does. It fails, too, where a count is at its last value.
     fn read(&mut self, buf: &mut [u8]) -> io::Result<usize> {
         self.counts.begin()?;
-        match self.reader.read(buf) {
-            Ok(n) => {
-                self.bytes = self.bytes.saturating_add(n as u64);
-                Ok(n)
-            }
-            Err(error) => {
-                self.counts.fail();
-                Err(error)
-            }
-        }
+        let done = self.reader.read(buf);
+        let n = self.counts.settle(done)?;
+        self.bytes = self.bytes.saturating_add(n as u64);
+        Ok(n)
     }
 }

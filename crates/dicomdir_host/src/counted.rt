@@ -39,13 +39,8 @@ impl<T: io::Read + Drop> Read for Counted<T> {
 
     fn read(&mut self, buf: &mut [u8]) -> io::Result<usize> {
         self.counts.begin()?;
-        match read_again(&mut self.device, buf) {
-            Ok(n) => Ok(n),
-            Err(error) => {
-                self.counts.fail();
-                Err(error)
-            }
-        }
+        let done = read_again(&mut self.device, buf);
+        self.counts.settle(done)
     }
 }
 
@@ -67,11 +62,7 @@ impl<T: io::Write + Drop> Write for Counted<T> {
                 self.counts.fail();
                 Ok(0)
             }
-            Ok(n) => Ok(n),
-            Err(error) => {
-                self.counts.fail();
-                Err(error)
-            }
+            done => self.counts.settle(done),
         }
     }
 }

@@ -41,13 +41,8 @@ impl Read for Reader<'_> {
 
     fn read(&mut self, buf: &mut [u8]) -> io::Result<usize> {
         self.counts.begin()?;
-        match self.bytes.read(buf) {
-            Ok(n) => Ok(n),
-            Err(error) => {
-                self.counts.fail();
-                Err(error)
-            }
-        }
+        let done = self.bytes.read(buf);
+        self.counts.settle(done)
     }
 }
 

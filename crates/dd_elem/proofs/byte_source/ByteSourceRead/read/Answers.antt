@@ -19,7 +19,7 @@ returns-in-Some-clause-left c =
     rw (← c.self.view_is) (
       grind (arith, common_steps),
       λ none room. let same = here none in rw same
-          (left_is ∙ next_len-end c.args.self.now (length c.args.buf.now) (omega arith) (next.readable.0 refl).1
+          (left_is ∙ next_len-end c.args.self.now (length c.args.buf.now) (omega arith) (next.readable.0 refl)
           (sym next.len ∙ none) (omega arith)),
     )
 
