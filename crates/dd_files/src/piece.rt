@@ -31,7 +31,8 @@ pub(crate) fn read_piece<R: Read>(
         (R.failures reader.old) (R.failures reader.new) }
     ensures calls { R.calls reader.new ≤ R.calls reader.old + 1 }
 {
-    let wanted = left.min(PIECE as u64 - 1) as usize + 1;
+    // Room for all that may still come and for one byte more, which shows that there is more.
+    let wanted = left.saturating_add(1).min(PIECE as u64) as usize;
     match reader.read(&mut buffer[..wanted]) {
         Ok(n) if n as u64 > left => Err(PieceFault::TooLong),
         Ok(n) => Ok(n),

@@ -9,7 +9,8 @@ use Rattle.dd_part10.specs.File.{IsFile}
 use Rattle.dd_part10.specs.Reading.{FileParts, file_in}
 use Rattle.dd_part10.specs.declared.fault.FileFault.{FileFault}
 use Rattle.dd_part10.specs.declared.fault.FileFault.TheVariants as faults
-use Rattle.dd_part10.specs.Matches.{Fails}
+use Rattle.dd_set.specs.AnswersAs.{FailsAs}
+use Rattle.dd_part10.specs.Faults.{is_memory}
 use Rattle.dd_part10.specs.Memory.{GroupWants, SetWants}
 use Rattle.dd_part10.proofs.Found.{file_found}
 use Rattle.dd_stream.specs.Bytes.{AreBytes}
@@ -175,7 +176,7 @@ first_fault_none file version h =
     ∙ version_passes file version h
 
 -- a refusal of the parse is the first check that fails, or want of memory
-pub file_refused : (file : List ℕ) (e : FileFault) → Fails e (file_in file)
+pub file_refused : (file : List ℕ) (e : FileFault) → FailsAs is_memory e (file_in file)
     → (e ≡ faults.Meta Memory → GroupWants file) → (e ≡ faults.Set Memory → SetWants file)
     → IsWantOfMemory SetWants file (File e) ⊎ (first_fault file ≡ Some (File e))
 file_refused file (faults.Meta Memory) is group set = inl (group refl)

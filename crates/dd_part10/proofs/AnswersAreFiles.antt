@@ -6,12 +6,14 @@ use Rattle.dd_set.specs.Views.{set_view}
 use Rattle.dd_part10.specs.declared.fault.FileFault.{FileFault}
 use Rattle.dd_part10.specs.declared.file.DicomFile.{DicomFile}
 use Rattle.dd_part10.specs.File.{IsFile}
-use Rattle.dd_part10.specs.Matches.{Matches, file_view}
+use Rattle.dd_set.specs.AnswersAs.{AnswersAs}
+use Rattle.dd_part10.specs.Faults.{is_memory}
+use Rattle.dd_part10.specs.Views.{file_view}
 use Rattle.dd_part10.specs.Reading.{file_in}
 use Rattle.dd_part10.proofs.Found.{file_found}
 
 -- an answer is a file
 pub is_found : (file : List ℕ) (r : Result DicomFile FileFault) → AreBytes file → length file < 2 ^ 64
-    → Matches file_view r (file_in file) → IfOk r (λ f. IsFile file f.meta (set_view f.set) f.set_at)
+    → AnswersAs is_memory file_view r (file_in file) → IfOk r (λ f. IsFile file f.meta (set_view f.set) f.set_at)
 is_found file (Ok f) fits room e = file_found file (file_view f) e fits room
 is_found file (Err d) fits room e = tt

@@ -13,9 +13,11 @@ use Rattle.dd_part10.specs.declared.fault.FileFault.{FileFault}
 use Rattle.dd_part10.specs.declared.fault.FileFault.TheVariants.{NotPart10, GroupLength}
 use Rattle.dd_encoding.specs.Head.{prefix}
 use Rattle.dd_part10.specs.File.{max_group_length}
-use Rattle.dd_part10.specs.Matches.{Fails}
+use Rattle.dd_set.specs.AnswersAs.{FailsAs}
+use Rattle.dd_part10.specs.Faults.{is_memory}
 use Rattle.dd_encoding.specs.Meta.{group_length_tag}
-use Rattle.dd_part10.specs.Reading.{◌>>=◌, behind, behind_prefix, count_in, split_at, behind_length}
+use Rattle.dd_set.specs.Reading.{◌>>=◌}
+use Rattle.dd_part10.specs.Reading.{behind, behind_prefix, count_in, split_at, behind_length}
 use Rattle.dd_part10.proofs.Faults.{fails_along, bind_fails}
 use Rattle.dd_part10.proofs.Fronts.{behind-is}
 use Rattle.dd_part10.proofs.Steps.{bind_ok, onward, there, passes}
@@ -114,7 +116,8 @@ count_long front n h =
     omega (arith, ap length is, length-append header a.0, ltb-false (length a.0) 4 b.0)
 
 -- a group length that is none
-pub length_fails : (e : FileFault) (bs : List ℕ) → Fails e (count_in bs) → Fails e (behind_length bs)
+pub length_fails : (e : FileFault) (bs : List ℕ) → FailsAs is_memory e (count_in bs)
+    → FailsAs is_memory e (behind_length bs)
 length_fails e bs h =
     fails_along e (count_in bs) (behind_length bs) h
     (λ f k. length_is bs ∙ bind_fails (count_in bs) (λ n. split_at n (drop 12 bs)) f k)

@@ -32,7 +32,8 @@ use Rattle.dd_encoding.specs.Head.{preamble_length, prefix, group_length_text}
 use Rattle.dd_part10.specs.File.{max_group_length, StartsAbove, IsFile}
 use Rattle.dd_encoding.specs.Meta.{group_length_tag, class_tag, instance_tag, transfer_tag}
 use Rattle.dd_part10.specs.Meta.{HasMetaUid, IsMeta}
-use Rattle.dd_part10.specs.Reading.{◌>>=◌, with_fault, FileParts, behind, behind_prefix, count_in, split_at}
+use Rattle.dd_set.specs.Reading.{◌>>=◌}
+use Rattle.dd_part10.specs.Reading.{with_fault, FileParts, behind, behind_prefix, count_in, split_at}
 use Rattle.dd_part10.specs.Reading.{behind_length}
 use Rattle.dd_part10.specs.Reading.{is_alone, uid_of, uid_at, uids_in, meta_in, starts_above, set_in, file_in}
 use Rattle.dd_encoding.specs.Syntaxes.{syntax_of}

@@ -3,7 +3,8 @@ use Rattle.std.proofs.Common.{◌≡◌, Bool, true, false, if◌then◌else◌,
 use Rattle.std.specs.Option.{ok_or}
 use Rattle.dd_set.specs.declared.fault.SetFault.{SetFault}
 use Rattle.dd_part10.specs.declared.fault.FileFault.{FileFault}
-use Rattle.dd_part10.specs.Reading.{◌>>=◌, with_fault}
+use Rattle.dd_set.specs.Reading.{◌>>=◌}
+use Rattle.dd_part10.specs.Reading.{with_fault}
 
 -- the value of a step that did not fail
 pub bind_ok : {A B : Type 0} (r : Result A FileFault) (f : A → Result B FileFault) (y : B) → (r >>= f) ≡ Ok y

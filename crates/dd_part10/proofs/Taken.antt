@@ -13,7 +13,7 @@ use Rattle.dd_set.specs.declared.found.Scan.{Scan}
 use Rattle.dd_encoding.specs.declared.syntax.Syntax.{Syntax}
 use Rattle.dd_encoding.specs.declared.syntax.Syntax.TheVariants.{Explicit}
 use Rattle.dd_encoding.specs.Elements.{Elements}
-use Rattle.dd_set.specs.Gives as sets
+use Rattle.dd_set.specs.Faults as sets
 use Rattle.dd_set.specs.Memory.{WantsMemory}
 use Rattle.dd_set.specs.Reading.{read_all}
 use Rattle.dd_set.specs.Scan.{ScanGives, first_of}
@@ -23,9 +23,11 @@ use Rattle.dd_part10.specs.declared.fault.FileFault.TheVariants as faults
 use Rattle.dd_encoding.specs.declared.meta.Meta.{Meta}
 use Rattle.dd_part10.specs.declared.scanned.Scanned.{Scanned}
 use Rattle.dd_encoding.specs.Head.{prefix}
-use Rattle.dd_part10.specs.Matches.{Fails, Matches}
+use Rattle.dd_set.specs.AnswersAs.{FailsAs, AnswersAs}
+use Rattle.dd_part10.specs.Faults.{is_memory}
 use Rattle.dd_part10.specs.Memory.{WantsNone}
-use Rattle.dd_part10.specs.Reading.{◌>>=◌, behind, behind_prefix, behind_length, meta_in, starts_above, set_in}
+use Rattle.dd_set.specs.Reading.{◌>>=◌}
+use Rattle.dd_part10.specs.Reading.{behind, behind_prefix, behind_length, meta_in, starts_above, set_in}
 use Rattle.dd_part10.specs.Reading.{file_in}
 use Rattle.dd_part10.specs.Reading.{count_in, split_at, syntax_in, may_follow}
 use Rattle.dd_part10.specs.Taking.{whole_with, CountTaken, MetaTaken, HeadTaken, SetTaken, FileTaken}
@@ -52,7 +54,7 @@ prefix_taken front behind rest few h = prefix_cut front rest (omega (arith, few,
 
 -- they were not found, in 132 bytes or in all that there are
 pub prefix_fails : (e : FileFault) (front rest : List ℕ) → length front ≤ 132 → (length front < 132 → rest ≡ [])
-    → Fails e (behind_prefix front) → Fails e (behind_prefix (front ++ rest))
+    → FailsAs is_memory e (behind_prefix front) → FailsAs is_memory e (behind_prefix (front ++ rest))
 prefix_fails e front rest few over h =
     fails_along e (behind_prefix front) (behind_prefix (front ++ rest)) h (λ f k.
     elim (cases_lt (length front) 132) [
@@ -76,7 +78,7 @@ drop_front : (n : ℕ) (front rest : List ℕ) → length front ≡ n → drop n
 drop_front n front rest size = ap (λ (k : ℕ). drop k (front ++ rest)) (sym size) ∙ drop-append_seam front rest
 
 pub count_taken : (r : Result ℕ FileFault) (front rest : List ℕ) → length front ≤ 12 → (length front < 12 → rest ≡ [])
-    → Matches (λ n. n) r (count_in front) → CountTaken r (front ++ rest) rest
+    → AnswersAs is_memory (λ n. n) r (count_in front) → CountTaken r (front ++ rest) rest
 count_taken (Ok n) front rest few over h =
     length_is (front ++ rest)
     ∙ onward (count_in (front ++ rest)) n (λ k. split_at k (drop 12 (front ++ rest)))
@@ -115,7 +117,8 @@ split_whole group rest n size =
     rw (enough, front, drop_front n group rest size) refl
 
 pub meta_taken : (r : Result Meta FileFault) (bytes group rest : List ℕ) (n : ℕ)
-    → behind_length bytes ≡ split_at n (group ++ rest) → length group ≡ n → Matches (λ meta. meta) r (meta_in group)
+    → behind_length bytes ≡ split_at n (group ++ rest) → length group ≡ n
+    → AnswersAs is_memory (λ meta. meta) r (meta_in group)
     → (r ≡ Err (faults.Meta Memory) → WantsMemory Explicit group) → MetaTaken r bytes rest
 meta_taken (Ok meta) bytes group rest n h size given wants = (group, h ∙ split_whole group rest n size, given)
 meta_taken (Err e) bytes group rest n h size given wants =
@@ -128,7 +131,7 @@ meta_taken (Err e) bytes group rest n h size given wants =
 -- ---- all before the data set
 
 pub head_without_prefix : {X : Type 0} (e : FileFault) (bytes rest : List ℕ) → WantsNone {X = X} (Err e)
-    → Fails e (behind_prefix bytes) → HeadTaken (Err e) bytes rest
+    → FailsAs is_memory e (behind_prefix bytes) → HeadTaken (Err e) bytes rest
 unfolding file_in
 head_without_prefix e bytes rest none h = (
   fails_along e (behind_prefix bytes) (behind_prefix bytes >>= with_rest) h
@@ -159,7 +162,8 @@ behind_meta bytes mid group rest meta front parts holds =
     ∙ onward (meta_in group) meta (with_meta (group, rest)) holds
 
 pub head_without_syntax : {X : Type 0} (e : FileFault) (bytes mid rest : List ℕ) (meta : Meta)
-    → WantsNone {X = X} (Err e) → behind_prefix bytes ≡ Ok mid → MetaTaken (Ok meta) mid rest → Fails e (syntax_in meta)
+    → WantsNone {X = X} (Err e) → behind_prefix bytes ≡ Ok mid → MetaTaken (Ok meta) mid rest
+    → FailsAs is_memory e (syntax_in meta)
     → HeadTaken (Err e) bytes rest
 head_without_syntax e bytes mid rest meta none front taken h = (
   fails_along e (syntax_in meta) (file_in bytes) h (λ f k. behind_meta bytes mid taken.0 rest meta front taken.1 taken.2
@@ -182,8 +186,8 @@ head_taken bytes mid rest meta syntax front taken known = (
 -- ---- the data set
 
 -- a data set that is refused
-set_refused : (e : SetFault) (syntax : Syntax) (bytes : List ℕ) → sets.Fails e (read_all syntax bytes)
-    → Fails (faults.Set e) (set_in syntax bytes)
+set_refused : (e : SetFault) (syntax : Syntax) (bytes : List ℕ) → FailsAs sets.is_memory e (read_all syntax bytes)
+    → FailsAs is_memory (faults.Set e) (set_in syntax bytes)
 unfolding set_in
 set_refused e syntax bytes h =
     set_fails e (read_all syntax bytes) (λ set. if starts_above set then Ok set else Err GroupLength) h

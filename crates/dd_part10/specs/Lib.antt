@@ -3,6 +3,6 @@ pub mod Meta
 pub mod Faults
 pub mod File
 pub mod Reading
-pub mod Matches
 pub mod Taking
 pub mod Streaming
+pub mod Views

@@ -10,7 +10,8 @@ use Rattle.dd_set.specs.Scan.{HasWanted}
 use Rattle.dd_part10.specs.declared.fault.FileFault.{FileFault}
 use Rattle.dd_part10.specs.declared.fault.FileFault.TheVariants as faults
 use Rattle.dd_encoding.specs.declared.meta.Meta.{Meta}
-use Rattle.dd_part10.specs.Reading.{◌>>=◌, behind_prefix, behind_length, meta_in, file_in}
+use Rattle.dd_set.specs.Reading.{◌>>=◌}
+use Rattle.dd_part10.specs.Reading.{behind_prefix, behind_length, meta_in, file_in}
 use Rattle.dd_encoding.specs.Syntaxes.{syntax_of}
 
 -- the preamble, the prefix and the group length are there, and reading the bytes that it counts wants memory

@@ -13,7 +13,7 @@ use Rattle.dd_encoding.specs.declared.syntax.Syntax.{Syntax}
 use Rattle.dd_encoding.specs.declared.syntax.Syntax.TheVariants.{Explicit}
 use Rattle.dd_encoding.specs.Elements.{Elements, Content, bytes, items, fragments}
 use Rattle.dd_set.specs.Find.{entries_of, find_in}
-use Rattle.dd_set.specs.Reading.{read_all}
+use Rattle.dd_set.specs.Reading.{read_all, ◌>>=◌}
 use Rattle.dd_set.specs.Scan.{first_of}
 use Rattle.dd_encoding.specs.Spelling.{header_text}
 use Rattle.dd_part10.specs.declared.fault.FileFault.{FileFault}
@@ -31,12 +31,6 @@ pub record FileParts : Type 0 where
   pub meta : Meta
   pub set : Elements
   pub set_at : ℕ
-
--- one step and then the next
-infixl 10 ◌>>=◌
-abbrev pub ◌>>=◌ : {A B : Type 0} → Result A FileFault → (A → Result B FileFault) → Result B FileFault
-(Ok x) >>= f = f x
-(Err e) >>= f = Err e
 
 -- what reading a data set gives, with its fault as one of the file
 abbrev pub with_fault : {A : Type 0} → (SetFault → FileFault) → Result A SetFault → Result A FileFault

@@ -13,21 +13,23 @@ use Rattle.dd_part10.specs.declared.fault.FileFault.{FileFault}
 use Rattle.dd_part10.specs.declared.fault.FileFault.TheVariants as faults
 use Rattle.dd_encoding.specs.declared.meta.Meta.{Meta}
 use Rattle.dd_part10.specs.declared.scanned.Scanned.{Scanned}
-use Rattle.dd_part10.specs.Matches.{Fails}
+use Rattle.dd_set.specs.AnswersAs.{FailsAs}
+use Rattle.dd_part10.specs.Faults.{is_memory}
 use Rattle.dd_part10.specs.Memory.{GroupWants, HasHead, IsRefused}
-use Rattle.dd_part10.specs.Reading.{◌>>=◌, FileParts, behind_prefix, split_at, behind_length, meta_in, set_in, file_in}
+use Rattle.dd_set.specs.Reading.{◌>>=◌}
+use Rattle.dd_part10.specs.Reading.{FileParts, behind_prefix, split_at, behind_length, meta_in, set_in, file_in}
 
 -- ---- what was taken
 
 -- the preamble and the prefix
 abbrev pub PrefixTaken : {X : Type 0} → Result X FileFault → List ℕ → List ℕ → Type 0
 PrefixTaken (Ok x) bytes rest = behind_prefix bytes ≡ Ok rest
-PrefixTaken (Err e) bytes rest = Fails e (behind_prefix bytes)
+PrefixTaken (Err e) bytes rest = FailsAs is_memory e (behind_prefix bytes)
 
 -- the group length
 abbrev pub CountTaken : Result ℕ FileFault → List ℕ → List ℕ → Type 0
 CountTaken (Ok n) bytes rest = behind_length bytes ≡ split_at n rest
-CountTaken (Err e) bytes rest = Fails e (behind_length bytes)
+CountTaken (Err e) bytes rest = FailsAs is_memory e (behind_length bytes)
 
 -- the group length is there, and reading the bytes that it counts wants memory
 pub record MetaWants (bytes : List ℕ) : Type 0 where
@@ -39,7 +41,7 @@ pub record MetaWants (bytes : List ℕ) : Type 0 where
 -- the group length, and the meta information in the bytes that it counts
 abbrev pub MetaTaken : Result Meta FileFault → List ℕ → List ℕ → Type 0
 MetaTaken (Ok meta) bytes rest = (group : List ℕ) × (behind_length bytes ≡ Ok (group, rest)) × (meta_in group ≡ Ok meta)
-MetaTaken (Err e) bytes rest = Fails e (behind_length bytes >>= λ parts. meta_in parts.0)
+MetaTaken (Err e) bytes rest = FailsAs is_memory e (behind_length bytes >>= λ parts. meta_in parts.0)
     × (e ≡ faults.Meta Memory → MetaWants bytes)
 
 -- so many bytes, of a file whose group length counts them
@@ -55,12 +57,12 @@ abbrev pub HeadTaken : Result (Meta × Syntax) FileFault → List ℕ → List �
 HeadTaken (Ok (meta, syntax)) bytes rest =
     (set_at : ℕ) × (file_in bytes ≡ whole_with meta set_at (set_in syntax rest))
     × (head : HasHead bytes) × (head.syntax ≡ syntax) × (head.set ≡ rest)
-HeadTaken (Err e) bytes rest = Fails e (file_in bytes) × (e ≡ faults.Meta Memory → GroupWants bytes)
+HeadTaken (Err e) bytes rest = FailsAs is_memory e (file_in bytes) × (e ≡ faults.Meta Memory → GroupWants bytes)
 
 -- the data set that reading gives, or want of memory where a wanted element is there
 abbrev pub SetTaken : Syntax → List Tag → Result Scan FileFault → List ℕ → Type 0
 SetTaken syntax wanted (Ok scan) bytes = (set : Elements) × (set_in syntax bytes ≡ Ok set) × IsScan wanted scan set
-SetTaken syntax wanted (Err e) bytes = Fails e (set_in syntax bytes)
+SetTaken syntax wanted (Err e) bytes = FailsAs is_memory e (set_in syntax bytes)
     × (e ≡ faults.Set Memory → HasWanted syntax wanted bytes)
 
 -- ---- a file

@@ -7,7 +7,8 @@ ghost use Rattle.dd_set.specs.Memory.{WantsMemory};
 ghost use Rattle.dd_set.specs.Views.{set_view};
 ghost use Rattle.dd_part10.specs.declared.fault.FileFault.TheVariants as faults;
 ghost use Rattle.dd_part10.specs.File.{max_group_length};
-ghost use Rattle.dd_part10.specs.Matches.{Matches};
+ghost use Rattle.dd_set.specs.AnswersAs.{AnswersAs};
+ghost use Rattle.dd_part10.specs.Faults.{is_memory};
 ghost use Rattle.dd_part10.specs.Memory.{WantsNone};
 ghost use Rattle.dd_part10.specs.Reading.{behind, count_in, behind_length, is_meta_tag, is_alone, uid_at, uids_in};
 ghost use Rattle.dd_part10.specs.Reading.{meta_in, syntax_in};
@@ -35,7 +36,7 @@ pub fn behind<'a>(front: &[u8], bytes: &'a [u8]) -> Option<&'a [u8]>
 /// 65,536.
 #[tactic(auto, unfolding(crate::specs::Reading::count_in))]
 pub fn read_count(front: &[u8]) -> Result<u32, FileFault>
-    ensures exact { Matches (λ n. n) result (count_in front.now) }
+    ensures exact { AnswersAs is_memory (λ n. n) result (count_in front.now) }
     ensures few { IfOk result (λ n. n ≤ max_group_length) }
     ensures whole { IfOk result (λ n. 12 ≤ length front.now) }
     ensures memory { WantsNone result }
@@ -56,7 +57,7 @@ pub fn read_count(front: &[u8]) -> Result<u32, FileFault>
 /// The bytes that the group length at the front counts, and the others behind them. GroupLength where
 /// `read_count` says so, or there are fewer bytes.
 pub fn split_group(bytes: &[u8]) -> Result<(&[u8], &[u8]), FileFault>
-    ensures exact { Matches (λ x. (x.0.now, x.1.now)) result (behind_length bytes.now) }
+    ensures exact { AnswersAs is_memory (λ x. (x.0.now, x.1.now)) result (behind_length bytes.now) }
     ensures memory { WantsNone result }
 {
     let count = read_count(bytes)? as usize;
@@ -72,7 +73,7 @@ pub fn split_group(bytes: &[u8]) -> Result<(&[u8], &[u8]), FileFault>
 /// MetaMissing or MetaUid for the first of the three UIDs that is not there or is none.
 #[tactic(auto, unfolding(crate::specs::Reading::meta_in))]
 pub fn read_meta(alloc: Global, bytes: &[u8]) -> Result<Meta, FileFault>
-    ensures exact { Matches (λ meta. meta) result (meta_in bytes.now) }
+    ensures exact { AnswersAs is_memory (λ meta. meta) result (meta_in bytes.now) }
     ensures group { result ≡ Err (faults.Meta Memory) → WantsMemory Explicit bytes.now }
     ensures set { result ≢ Err (faults.Set Memory) }
 {
@@ -85,7 +86,7 @@ pub fn read_meta(alloc: Global, bytes: &[u8]) -> Result<Meta, FileFault>
 
 /// The syntax of the data set that the meta information names. OtherSyntax where it is none that is read.
 pub fn named_syntax(meta: &Meta) -> Result<Syntax, FileFault>
-    ensures exact { Matches (λ syntax. syntax) result (syntax_in meta.now) }
+    ensures exact { AnswersAs is_memory (λ syntax. syntax) result (syntax_in meta.now) }
     ensures memory { WantsNone result }
 {
     match meta.syntax() {
@@ -114,7 +115,7 @@ fn is_meta_tag(tag: Tag) -> bool
 /// The three UIDs that the elements hold, or the first that is not there or is none.
 #[tactic(auto, unfolding(crate::specs::Reading::uids_in))]
 fn uids_in(group: &DataSet<'_>) -> Result<Meta, FileFault>
-    ensures exact { Matches (λ meta. meta) result (uids_in (set_view group.now)) }
+    ensures exact { AnswersAs is_memory (λ meta. meta) result (uids_in (set_view group.now)) }
     ensures memory { WantsNone result }
 {
     let class = uid_at(CLASS, group)?;
@@ -131,7 +132,7 @@ fn uids_in(group: &DataSet<'_>) -> Result<Meta, FileFault>
 /// where it holds items or its value without padding is no UID.
 #[tactic(auto, unfolding(crate::specs::Reading::uid_at))]
 fn uid_at(tag: Tag, group: &DataSet<'_>) -> Result<Uid, FileFault>
-    ensures exact { Matches (λ uid. uid) result (uid_at tag (set_view group.now)) }
+    ensures exact { AnswersAs is_memory (λ uid. uid) result (uid_at tag (set_view group.now)) }
     ensures memory { WantsNone result }
 {
     let Some(element) = group.find(tag) else {

@@ -9,7 +9,9 @@ ghost use Rattle.dd_set.specs.Views.{set_view};
 ghost use Rattle.dd_part10.specs.declared.fault.FileFault.TheVariants as faults;
 ghost use Rattle.dd_encoding.specs.declared.meta.Meta.{Meta};
 ghost use Rattle.dd_part10.specs.File.{IsFile};
-ghost use Rattle.dd_part10.specs.Matches.{Matches, file_view};
+ghost use Rattle.dd_set.specs.AnswersAs.{AnswersAs};
+ghost use Rattle.dd_part10.specs.Faults.{is_memory};
+ghost use Rattle.dd_part10.specs.Views.{file_view};
 ghost use Rattle.dd_part10.specs.Memory.{GroupWants, SetWants, WantsNone};
 ghost use Rattle.dd_part10.specs.Reading.{behind_prefix, set_in, file_in};
 ghost use Rattle.dd_part10.specs.Reading.{may_follow};
@@ -32,9 +34,9 @@ pub fn parse_file<'a>(alloc: Global, bytes: &'a [u8]) -> Result<DicomFile<'a>, F
     ensures found { IfOk result (λ f. IsFile bytes.now f.meta (set_view f.set) f.set_at) }
     // A file is answered, unless memory runs out.
     ensures only { (meta : Meta) (set : Elements) (set_at : ℕ) → IsFile bytes.now meta set set_at
-        → Matches file_view result (Ok (record { meta = meta; set = set; set_at = set_at })) }
+        → AnswersAs is_memory file_view result (Ok (record { meta = meta; set = set; set_at = set_at })) }
     // A refusal for other than memory is the first check that fails.
-    ensures fault { Matches file_view result (file_in bytes.now) }
+    ensures fault { AnswersAs is_memory file_view result (file_in bytes.now) }
     // Memory runs out only where it is wanted, behind all checks that come before.
     ensures group { result ≡ Err (faults.Meta Memory) → GroupWants bytes.now }
     ensures set { result ≡ Err (faults.Set Memory) → SetWants bytes.now }
@@ -45,7 +47,7 @@ pub fn parse_file<'a>(alloc: Global, bytes: &'a [u8]) -> Result<DicomFile<'a>, F
 /// The file, or the first check that the bytes fail.
 #[tactic(auto, unfolding(crate::specs::Reading::file_in))]
 fn checked_file<'a>(alloc: Global, bytes: &'a [u8]) -> Result<DicomFile<'a>, FileFault>
-    ensures exact { Matches file_view result (file_in bytes.now) }
+    ensures exact { AnswersAs is_memory file_view result (file_in bytes.now) }
     ensures room { length bytes.now < 2 ^ 64 }
     ensures group { result ≡ Err (faults.Meta Memory) → GroupWants bytes.now }
     ensures set { result ≡ Err (faults.Set Memory) → SetWants bytes.now }
@@ -65,7 +67,7 @@ fn checked_file<'a>(alloc: Global, bytes: &'a [u8]) -> Result<DicomFile<'a>, Fil
 /// What stands behind the preamble and the prefix. NotPart10 where they are not there.
 #[tactic(auto, unfolding(crate::specs::Reading::behind_prefix))]
 pub fn behind_prefix(bytes: &[u8]) -> Result<&[u8], FileFault>
-    ensures exact { Matches (λ rest. rest.now) result (behind_prefix bytes.now) }
+    ensures exact { AnswersAs is_memory (λ rest. rest.now) result (behind_prefix bytes.now) }
     ensures room { length bytes.now < 2 ^ 64 }
     ensures memory { WantsNone result }
 {
@@ -82,7 +84,7 @@ pub fn behind_prefix(bytes: &[u8]) -> Result<&[u8], FileFault>
 /// GroupLength where it begins with group 0002 or a lower one.
 #[tactic(auto, unfolding(crate::specs::Reading::set_in))]
 fn read_set<'a>(alloc: Global, syntax: Syntax, bytes: &'a [u8]) -> Result<DataSet<'a>, FileFault>
-    ensures exact { Matches set_view result (set_in syntax bytes.now) }
+    ensures exact { AnswersAs is_memory set_view result (set_in syntax bytes.now) }
     ensures group { result ≢ Err (faults.Meta Memory) }
     ensures set { result ≡ Err (faults.Set Memory) → WantsMemory syntax bytes.now }
 {

@@ -6,10 +6,9 @@ use Rattle.std.proofs.lemmas.Bool.{le-ltb, lt-ltb}
 use Rattle.std.proofs.lemmas.List.{length-append, length-take-le, nil_from_length, take_at as take_front}
 use Rattle.std.proofs.lemmas.List.{drop_at as drop_front}
 use Rattle.dd_set.specs.declared.fault.SetFault.{SetFault}
-use Rattle.dd_set.specs.declared.fault.SetFault.TheVariants.{Truncated, Order, BadVr, Reserved, OddLength}
-use Rattle.dd_set.specs.declared.fault.SetFault.TheVariants.{UndefinedLength, UnexpectedTag, BadDelimiter, Overrun}
-use Rattle.dd_set.specs.declared.fault.SetFault.TheVariants.{TooDeep, Memory}
-use Rattle.dd_set.specs.Gives.{Fails}
+use Rattle.dd_set.specs.declared.fault.SetFault.TheVariants.{Truncated, Overrun}
+use Rattle.dd_set.specs.AnswersAs.{FailsAs}
+use Rattle.dd_set.specs.Faults.{is_memory}
 use Rattle.dd_encoding.specs.declared.syntax.Length.{Length}
 use Rattle.dd_encoding.specs.declared.syntax.Length.TheVariants.{Defined}
 use Rattle.dd_encoding.specs.declared.syntax.Syntax.{Syntax}
@@ -17,6 +16,7 @@ use Rattle.dd_stream.specs.Feeds.{IsOver}
 use Rattle.dd_set.specs.Reading.{eight_at, head_at, long_length_at, opening_at, front_at, item_opening, item_front_at}
 use Rattle.dd_set.specs.Reading.{At, ◌>>=◌, leaves_fewer, less, take_at, is_over}
 use Rattle.dd_set.proofs.Loops.{differ}
+use Rattle.dd_set.proofs.Failing.{else_holds}
 
 -- ---- so many bytes
 
@@ -102,8 +102,7 @@ top_fails bytes some few =
 -- ---- headers
 
 -- a step that is refused
-pub bind_fails : {A B : Type 0} (r : Result A SetFault) (f : A → Result B SetFault) (e : SetFault) → r ≡ Err e
-    → (r >>= f) ≡ Err e
+pub bind_fails : {A B E : Type 0} (r : Result A E) (f : A → Result B E) (e : E) → r ≡ Err e → (r >>= f) ≡ Err e
 bind_fails r f e h = rw h refl
 
 pub long_found : (n : ℕ) (at end : At) (length : List ℕ) → n ≡ 4 → take_at n at ≡ Ok (length, end)
@@ -144,15 +143,5 @@ module _ (form : Length) (at : At) where
   item_front_opens head end h = rw h refl
 
 -- a fault that reading gives
-pub fails_is : {Y : Type 0} (e : SetFault) (read : Result Y SetFault) → read ≡ Err e → Fails e read
-fails_is Truncated read h = h
-fails_is Order read h = h
-fails_is BadVr read h = h
-fails_is Reserved read h = h
-fails_is OddLength read h = h
-fails_is UndefinedLength read h = h
-fails_is UnexpectedTag read h = h
-fails_is BadDelimiter read h = h
-fails_is Overrun read h = h
-fails_is TooDeep read h = h
-fails_is Memory read h = tt
+pub fails_is : {Y : Type 0} (e : SetFault) (read : Result Y SetFault) → read ≡ Err e → FailsAs is_memory e read
+fails_is e read h = else_holds (is_memory e) h

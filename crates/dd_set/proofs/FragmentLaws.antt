@@ -9,7 +9,8 @@ use Rattle.dd_set.specs.declared.fault.SetFault.{SetFault}
 use Rattle.dd_set.specs.declared.fault.SetFault.TheVariants.{OddLength, UndefinedLength, UnexpectedTag, BadDelimiter}
 use Rattle.dd_encoding.specs.declared.syntax.Length.TheVariants.{Undefined}
 use Rattle.dd_stream.specs.Bytes.{AreBytes}
-use Rattle.dd_set.specs.Gives.{Fails}
+use Rattle.dd_set.specs.AnswersAs.{FailsAs}
+use Rattle.dd_set.specs.Faults.{is_memory}
 use Rattle.dd_encoding.specs.Spelling.{undefined_length, header_text, item_tag, item_tag_text, sequence_end_tag}
 use Rattle.dd_encoding.specs.Spelling.{sequence_end_text, fragment_text, fragments_text, AreFragments}
 use Rattle.dd_set.specs.Reading.{At, Reads, ◌>>=◌, there, take_at, eight_at, head_at, long_of, is_item, is_sequence_end}
@@ -260,7 +261,8 @@ fragments_done n (suc most) front at end total lt h so_far =
     sym so_far ∙ one
 
 pub fragments_fail : (n most : ℕ) (front : List (List ℕ)) (at : At) (total : Reads (List (List ℕ))) (e : SetFault)
-    → n < most → Fails e (fragment_at at) → with_fragments front (fragments_at most at) ≡ total → Fails e total
+    → n < most → FailsAs is_memory e (fragment_at at) → with_fragments front (fragments_at most at) ≡ total
+    → FailsAs is_memory e total
 unfolding fragments_at
 fragments_fail n zero front at total e lt h so_far = absurd (omega arith)
 fragments_fail n (suc most) front at total e lt h so_far = fails_along e (fragment_at at) total h

@@ -3,7 +3,8 @@ use Rattle.std.proofs.Common.{◌≡◌, ◌<◌, ℕ, suc, ◌-◌, List, [], �
 use Rattle.std.proofs.Common.{Ok, Err, refl, arith}
 use Rattle.dd_set.specs.declared.fault.SetFault.{SetFault}
 use Rattle.dd_encoding.specs.declared.syntax.Length.TheVariants.{Undefined}
-use Rattle.dd_set.specs.Gives.{Fails}
+use Rattle.dd_set.specs.AnswersAs.{FailsAs}
+use Rattle.dd_set.specs.Faults.{is_memory}
 use Rattle.dd_set.specs.Reading.{At, take_at, item_front_at, fragment_length, fragment_behind}
 use Rattle.dd_set.specs.Reading.{fragment_at, fragments_at, fragments_here}
 use Rattle.dd_set.proofs.Feeding.{bind_fails}
@@ -28,7 +29,8 @@ module _ (at : At) where
   unfolding fragment_at
   front_fails e h = bind_fails _ fragment_behind e h
 
-  pub front_stops : (e : SetFault) → Fails e (item_front_at Undefined at) → Fails e (fragment_at at)
+  pub front_stops : (e : SetFault) → FailsAs is_memory e (item_front_at Undefined at)
+      → FailsAs is_memory e (fragment_at at)
   front_stops e h = fails_along e _ _ h front_fails
 
   pub length_fails : (n : ℕ) (mid : At) (e : SetFault) → item_front_at Undefined at ≡ Ok (Some n, mid)
@@ -42,7 +44,7 @@ module _ (at : At) where
   take_fails n k mid e h l t = rw (h, l, t) refl
 
   pub take_stops : (n k : ℕ) (mid : At) (e : SetFault) → item_front_at Undefined at ≡ Ok (Some n, mid)
-      → fragment_length n ≡ Ok k → Fails e (take_at k mid) → Fails e (fragment_at at)
+      → fragment_length n ≡ Ok k → FailsAs is_memory e (take_at k mid) → FailsAs is_memory e (fragment_at at)
   take_stops n k mid e h l t = fails_along e _ _ t (λ f u. take_fails n k mid f h l u)
 
 -- a fragment was read
@@ -96,7 +98,7 @@ module _ (first : Option ℕ) where
         go.enough h go.so_far
 
     pub fragments_stop : (e : SetFault) → FragmentsGo first bytes left mid
-        → Fails e (fragment_at (record { left = left; bytes = mid }))
-        → Fails e (fragments_here (record { left = first; bytes = bytes }))
+        → FailsAs is_memory e (fragment_at (record { left = left; bytes = mid }))
+        → FailsAs is_memory e (fragments_here (record { left = first; bytes = bytes }))
     fragments_stop e go h = fragments_fail (length mid) go.most go.front (record { left = left; bytes = mid }) _ e
         go.enough h go.so_far

@@ -9,7 +9,8 @@ use Rattle.dd_stream.specs.Bytes.{AreBytes}
 use Rattle.dd_encoding.specs.Elements.{Elements}
 use Rattle.dd_encoding.specs.Spelling.{max_levels, Spells}
 use Rattle.dd_set.specs.Reading.{read_all, fault_of, first_fault}
-use Rattle.dd_set.specs.Gives.{Fails, Gives}
+use Rattle.dd_set.specs.AnswersAs.{FailsAs, AnswersAs}
+use Rattle.dd_set.specs.Faults.{is_memory}
 use Rattle.dd_set.proofs.Steps.{ok_is}
 use Rattle.dd_set.proofs.SoundItems.{all_takes}
 use Rattle.dd_set.proofs.Again.{all_again}
@@ -92,23 +93,25 @@ front_too_short syntax set front more fits s none = go (read_all syntax front) r
 
 -- a value that was returned is the set that the bytes spell
 pub is_found : {X : Type 0} (view : X → Elements) (syntax : Syntax) (bs : List ℕ) (r : Result X SetFault) → AreBytes bs
-    → length bs < 2 ^ 64 → Gives view r (read_all syntax bs) → IfOk r (λ x. Spells syntax (view x) bs)
+    → length bs < 2 ^ 64 → AnswersAs is_memory view r (read_all syntax bs) → IfOk r (λ x. Spells syntax (view x) bs)
 is_found view syntax bs (Ok x) fits long given = read_is_spelled syntax bs (view x) fits long given
 is_found view syntax bs (Err e) fits long given = tt
 
 -- where the bytes spell a set, it was returned, unless memory ran out
 pub is_only : {X : Type 0} (view : X → Elements) (syntax : Syntax) (bs : List ℕ) (r : Result X SetFault)
-    → Gives view r (read_all syntax bs) → (set : Elements) → Spells syntax set bs → Gives view r (Ok set)
-is_only view syntax bs r given set s = subst (λ (q : Result Elements SetFault). Gives view r q)
+    → AnswersAs is_memory view r (read_all syntax bs) → (set : Elements) → Spells syntax set bs
+    → AnswersAs is_memory view r (Ok set)
+is_only view syntax bs r given set s = subst (λ (q : Result Elements SetFault). AnswersAs is_memory view r q)
     (spelled_is_read syntax set bs s) given
 
 -- a fault that was returned is that of reading
-fails_so : (read : Result Elements SetFault) (e : SetFault) → Fails e read → e ≢ Memory → fault_of read ≡ Some e
+fails_so : (read : Result Elements SetFault) (e : SetFault) → FailsAs is_memory e read → e ≢ Memory
+    → fault_of read ≡ Some e
 fails_so read Memory h ne = absurd (ne refl)
 fails_so read _ h ne = ap fault_of h
 
 -- a fault that was returned is the first that the bytes have, unless memory ran out
 pub is_fault : {X : Type 0} (view : X → Elements) (syntax : Syntax) (bs : List ℕ) (r : Result X SetFault)
-    → Gives view r (read_all syntax bs) → IfErr r (λ e. e ≢ Memory → first_fault syntax bs ≡ Some e)
+    → AnswersAs is_memory view r (read_all syntax bs) → IfErr r (λ e. e ≢ Memory → first_fault syntax bs ≡ Some e)
 is_fault view syntax bs (Ok x) given = tt
 is_fault view syntax bs (Err e) given = λ ne. fails_so (read_all syntax bs) e given ne

@@ -4,6 +4,7 @@ pub mod CleanedFronts
 pub mod Counting
 pub mod Cut
 pub mod Entries
+pub mod Failing
 pub mod Feeding
 pub mod FragmentLaws
 pub mod FragmentSteps

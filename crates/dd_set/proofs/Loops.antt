@@ -4,16 +4,15 @@ use Rattle.std.proofs.Common.{Err, refl, sym, ap, ◌∙◌, arith}
 use Rattle.std.proofs.lemmas.Bool.{false_from_ne_true, eqb-true}
 use Rattle.dd_elem.specs.Tag.{number_of}
 use Rattle.dd_set.specs.declared.fault.SetFault.{SetFault}
-use Rattle.dd_set.specs.declared.fault.SetFault.TheVariants.{Truncated, Order, BadVr, Reserved, OddLength}
-use Rattle.dd_set.specs.declared.fault.SetFault.TheVariants.{UndefinedLength, UnexpectedTag, BadDelimiter, Overrun}
-use Rattle.dd_set.specs.declared.fault.SetFault.TheVariants.{TooDeep, Memory}
 use Rattle.dd_encoding.specs.declared.syntax.Length.{Length}
 use Rattle.dd_encoding.specs.declared.syntax.Syntax.{Syntax}
 use Rattle.dd_encoding.specs.Elements.{Elements, no_elements, element, Items, no_items, item, Entry, Part, elements_of}
 use Rattle.dd_encoding.specs.Elements.{items_of}
-use Rattle.dd_set.specs.Gives.{Fails}
+use Rattle.dd_set.specs.AnswersAs.{FailsAs}
+use Rattle.dd_set.specs.Faults.{is_memory}
 use Rattle.dd_set.specs.Reading.{At, Reads, ◌>>=◌, SequenceReader, ItemReader, element_at, elements_at, item_at}
 use Rattle.dd_set.specs.Reading.{items_at}
+use Rattle.dd_set.proofs.Failing.{else_then}
 
 -- these in front
 abbrev pub items_before : List Part → Items → Items
@@ -62,19 +61,9 @@ regroup_elements front e (Ok x) = ap (λ (es : Elements). Ok (es, x.1)) (sym (el
 regroup_elements front e (Err f) = refl
 
 -- a step's fault is that of the whole
-pub fails_along : {A B : Type 0} (e : SetFault) (r : Result A SetFault) (s : Result B SetFault) → Fails e r
-    → ((f : SetFault) → r ≡ Err f → s ≡ Err f) → Fails e s
-fails_along Truncated r s h k = k Truncated h
-fails_along Order r s h k = k Order h
-fails_along BadVr r s h k = k BadVr h
-fails_along Reserved r s h k = k Reserved h
-fails_along OddLength r s h k = k OddLength h
-fails_along UndefinedLength r s h k = k UndefinedLength h
-fails_along UnexpectedTag r s h k = k UnexpectedTag h
-fails_along BadDelimiter r s h k = k BadDelimiter h
-fails_along Overrun r s h k = k Overrun h
-fails_along TooDeep r s h k = k TooDeep h
-fails_along Memory r s h k = tt
+pub fails_along : {A B : Type 0} (e : SetFault) (r : Result A SetFault) (s : Result B SetFault) → FailsAs is_memory e r
+    → ((f : SetFault) → r ≡ Err f → s ≡ Err f) → FailsAs is_memory e s
+fails_along e r s h k = else_then (is_memory e) h (k e)
 
 module _ (part : ItemReader) (syntax : Syntax) (form : Length) where
   -- one more item
@@ -103,8 +92,8 @@ module _ (part : ItemReader) (syntax : Syntax) (form : Length) where
 
   -- a fault
   pub items_fail : (n most : ℕ) (front : List Part) (at : At) (total : Reads Items) (e : SetFault) → n < most
-      → Fails e (item_at part syntax form at)
-      → with_items front (items_at part syntax form most at) ≡ total → Fails e total
+      → FailsAs is_memory e (item_at part syntax form at)
+      → with_items front (items_at part syntax form most at) ≡ total → FailsAs is_memory e total
   unfolding items_at
   items_fail n zero front at total e lt h so_far = absurd (omega arith)
   items_fail n (suc most) front at total e lt h so_far = fails_along e (item_at part syntax form at) total h
@@ -139,8 +128,8 @@ module _ (sequence : SequenceReader) (syntax : Syntax) (form : Length) where
 
   -- a fault
   pub elements_fail : (n most low : ℕ) (front : List Entry) (at : At) (total : Reads Elements) (e : SetFault) → n < most
-      → Fails e (element_at sequence syntax form low at)
-      → with_elements front (elements_at sequence syntax form most low at) ≡ total → Fails e total
+      → FailsAs is_memory e (element_at sequence syntax form low at)
+      → with_elements front (elements_at sequence syntax form most low at) ≡ total → FailsAs is_memory e total
   unfolding elements_at
   elements_fail n zero low front at total e lt h so_far = absurd (omega arith)
   elements_fail n (suc most) low front at total e lt h so_far =

@@ -7,7 +7,8 @@ use Rattle.dd_set.specs.declared.fault.SetFault.{SetFault}
 use Rattle.dd_encoding.specs.declared.syntax.Length.{Length}
 use Rattle.dd_encoding.specs.declared.syntax.Syntax.{Syntax}
 use Rattle.dd_encoding.specs.Elements.{Elements, Content, Items, Entry, Part, elements_of, items_of}
-use Rattle.dd_set.specs.Gives.{Fails}
+use Rattle.dd_set.specs.AnswersAs.{FailsAs}
+use Rattle.dd_set.specs.Faults.{is_memory}
 use Rattle.dd_set.specs.Reading.{Header, front_at, element_behind, item_front_at, item_behind, At, Reads, ◌>>=◌}
 use Rattle.dd_set.specs.Reading.{SequenceReader, ItemReader, content_at, element_at, elements_at, item_at, items_at}
 use Rattle.dd_set.specs.Reading.{sequence_with, set_with, within, less, part_at, item_reader}
@@ -44,8 +45,8 @@ module _ (sequence : SequenceReader) (syntax : Syntax) (form : Length) (low : �
   unfolding element_at
   front_refused e h = bind_fails _ (element_behind sequence syntax) e h
 
-  pub front_stops : (e : SetFault) → Fails e (front_at syntax form low at)
-      → Fails e (element_at sequence syntax form low at)
+  pub front_stops : (e : SetFault) → FailsAs is_memory e (front_at syntax form low at)
+      → FailsAs is_memory e (element_at sequence syntax form low at)
   front_stops e h = fails_along e _ _ h front_refused
 
   -- a value that is refused
@@ -56,8 +57,8 @@ module _ (sequence : SequenceReader) (syntax : Syntax) (form : Length) (low : �
   content_refused header mid e h k = rw h (bind_fails _ _ e k)
 
   pub content_stops : (header : Header) (mid : At) (e : SetFault) → front_at syntax form low at ≡ Ok (Some header, mid)
-      → Fails e (content_at sequence syntax header mid)
-      → Fails e (element_at sequence syntax form low at)
+      → FailsAs is_memory e (content_at sequence syntax header mid)
+      → FailsAs is_memory e (element_at sequence syntax form low at)
   content_stops header mid e h k = fails_along e _ _ k (λ f m. content_refused header mid f h m)
 
 module _ (part : ItemReader) (syntax : Syntax) (form : Length) (at : At) where
@@ -74,7 +75,8 @@ module _ (part : ItemReader) (syntax : Syntax) (form : Length) (at : At) where
   unfolding item_at
   item_front_refused e h = bind_fails _ (item_behind part syntax) e h
 
-  pub item_front_stops : (e : SetFault) → Fails e (item_front_at form at) → Fails e (item_at part syntax form at)
+  pub item_front_stops : (e : SetFault) → FailsAs is_memory e (item_front_at form at)
+      → FailsAs is_memory e (item_at part syntax form at)
   item_front_stops e h = fails_along e _ _ h item_front_refused
 
   pub part_refused : (n : ℕ) (mid : At) (e : SetFault) → item_front_at form at ≡ Ok (Some n, mid)
@@ -83,7 +85,7 @@ module _ (part : ItemReader) (syntax : Syntax) (form : Length) (at : At) where
   part_refused n mid e h k = rw h (bind_fails _ _ e k)
 
   pub part_stops : (n : ℕ) (mid : At) (e : SetFault) → item_front_at form at ≡ Ok (Some n, mid)
-      → Fails e (part syntax n mid) → Fails e (item_at part syntax form at)
+      → FailsAs is_memory e (part syntax n mid) → FailsAs is_memory e (item_at part syntax form at)
   part_stops n mid e h k = fails_along e _ _ k (λ f m. part_refused n mid f h m)
 
 -- ---- parts of a step
@@ -216,8 +218,8 @@ module _ (part : ItemReader) (syntax : Syntax) (form : Length) (first : Option �
         (record { left = left; bytes = mid }) end _ go.enough h go.so_far
 
     pub elements_stop : (low : ℕ) (e : SetFault) → ElementsGo part syntax form first bytes low left mid
-        → Fails e (element_at (sequence_with part) syntax form low (record { left = left; bytes = mid }))
-        → Fails e (set_with part syntax form (record { left = first; bytes = bytes }))
+        → FailsAs is_memory e (element_at (sequence_with part) syntax form low (record { left = left; bytes = mid }))
+        → FailsAs is_memory e (set_with part syntax form (record { left = first; bytes = bytes }))
     elements_stop low e go h = elements_fail (sequence_with part) syntax form (length mid) go.most low go.front
         (record { left = left; bytes = mid }) _ e go.enough h go.so_far
 
@@ -240,7 +242,7 @@ module _ (part : ItemReader) (syntax : Syntax) (form : Length) (first : Option �
         end _ go.enough h go.so_far
 
     pub items_stop : (e : SetFault) → ItemsGo part syntax form first bytes left mid
-        → Fails e (item_at part syntax form (record { left = left; bytes = mid }))
-        → Fails e (sequence_with part syntax form (record { left = first; bytes = bytes }))
+        → FailsAs is_memory e (item_at part syntax form (record { left = left; bytes = mid }))
+        → FailsAs is_memory e (sequence_with part syntax form (record { left = first; bytes = bytes }))
     items_stop e go h = items_fail part syntax form (length mid) go.most go.front (record { left = left; bytes = mid })
         _ e go.enough h go.so_far

@@ -14,7 +14,8 @@ use Rattle.dd_encoding.specs.declared.syntax.Length.TheVariants.{Defined, Undefi
 use Rattle.dd_encoding.specs.declared.syntax.Syntax.{Syntax}
 use Rattle.dd_set.specs.Checks.{sorted}
 use Rattle.dd_encoding.specs.Elements.{Content, bytes, items, fragments, Entry, elements_of}
-use Rattle.dd_set.specs.Gives.{Fails}
+use Rattle.dd_set.specs.AnswersAs.{FailsAs}
+use Rattle.dd_set.specs.Faults.{is_memory}
 use Rattle.dd_set.specs.Reading.{Header, front_at, At, Reads, ◌>>=◌, SequenceReader, ItemReader, content_at, element_at}
 use Rattle.dd_set.specs.Reading.{elements_at, sequence_with, set_with, within, fragments_here}
 use Rattle.dd_set.specs.Scan.{Told, Hit, hit_of, is_wanted, hits_of, first_tag, first_of, told_of, value_told}
@@ -224,8 +225,8 @@ module _ (wanted : List Tag) (part : ItemReader) (syntax : Syntax) where
         rw done refl
 
     pub scan_stop : (e : SetFault) → ScanGo wanted part syntax all low left first hits mid
-        → Fails e (element_at (sequence_with part) syntax Defined low (record { left = left; bytes = mid }))
-        → Fails e (set_with part syntax Defined (record { left = None; bytes = all }) >>= λ x. Ok x.0)
+        → FailsAs is_memory e (element_at (sequence_with part) syntax Defined low (record { left = left; bytes = mid }))
+        → FailsAs is_memory e (set_with part syntax Defined (record { left = None; bytes = all }) >>= λ x. Ok x.0)
     scan_stop e go h =
         let failed = elements_fail (sequence_with part) syntax Defined (length mid) go.most low go.front
         (record { left = left; bytes = mid }) _ e go.enough h go.so_far in

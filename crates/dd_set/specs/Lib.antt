@@ -1,7 +1,8 @@
+pub mod AnswersAs
 pub mod Checks
 pub mod Counts
+pub mod Faults
 pub mod Find
-pub mod Gives
 pub mod Memory
 pub mod Places
 pub mod Reading

@@ -32,8 +32,9 @@ pub record At : Type 0 where
 abbrev pub Reads : Type 0 → Type 0
 Reads X = Result (X × At) SetFault
 
+-- one step, and then the next
 infixl 10 ◌>>=◌
-abbrev pub ◌>>=◌ : {A B : Type 0} → Result A SetFault → (A → Result B SetFault) → Result B SetFault
+abbrev pub ◌>>=◌ : {A B E : Type 0} → Result A E → (A → Result B E) → Result B E
 (Ok x) >>= f = f x
 (Err e) >>= f = Err e
 

@@ -19,7 +19,8 @@ use Rattle.dd_encoding.specs.Elements.{Elements, Content, bytes, items, fragment
 use Rattle.dd_set.specs.Find.{same_tag, entries_of}
 use Rattle.dd_encoding.specs.declared.syntax.Length.TheVariants.{Defined}
 use Rattle.dd_encoding.specs.declared.syntax.Syntax.{Syntax}
-use Rattle.dd_set.specs.Gives.{Fails}
+use Rattle.dd_set.specs.AnswersAs.{FailsAs}
+use Rattle.dd_set.specs.Faults.{is_memory}
 use Rattle.dd_set.specs.Reading.{At, Reads, SequenceReader, element_at, sequence_with, item_reader, read_all}
 use Rattle.dd_encoding.specs.Spelling.{max_levels}
 
@@ -104,7 +105,8 @@ pub record IsScan (wanted : List Tag) (scan : Scan) (set : Elements) : Type 0 wh
 -- a returned scan tells the set that reading the bytes gives; want of memory comes only where a wanted element is there
 abbrev pub ScanGives : Syntax → List Tag → Result Scan SetFault → List ℕ → Type 0
 ScanGives syntax wanted (Ok scan) given = (set : Elements) × (read_all syntax given ≡ Ok set) × IsScan wanted scan set
-ScanGives syntax wanted (Err e) given = Fails e (read_all syntax given) × (e ≡ Memory → HasWanted syntax wanted given)
+ScanGives syntax wanted (Err e) given =
+    FailsAs is_memory e (read_all syntax given) × (e ≡ Memory → HasWanted syntax wanted given)
 
 -- what is told of a value where it is wanted
 abbrev pub told_where : Bool → Content → Option Told

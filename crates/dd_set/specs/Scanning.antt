@@ -8,7 +8,8 @@ use Rattle.dd_set.specs.declared.scan_fault.ScanFault.{ScanFault}
 use Rattle.dd_set.specs.declared.scan_fault.ScanFault.TheVariants as faults
 use Rattle.dd_encoding.specs.declared.syntax.Syntax.{Syntax}
 use Rattle.dd_encoding.specs.Elements.{Elements}
-use Rattle.dd_set.specs.Gives.{Fails}
+use Rattle.dd_set.specs.AnswersAs.{FailsAs}
+use Rattle.dd_set.specs.Faults.{is_memory}
 use Rattle.dd_set.specs.Reading.{read_all}
 use Rattle.dd_set.specs.Scan.{IsScan, HasWanted}
 use Rattle.dd_encoding.specs.Spelling.{Spells}
@@ -29,4 +30,4 @@ IsScanAnswer (Ok scan) syntax wanted limit given left old new = Ends Ended limit
 IsScanAnswer (Err faults.Read) syntax wanted limit given left old new = Ends Failed limit given left old new
 IsScanAnswer (Err faults.TooLong) syntax wanted limit given left old new = Ends TooLong limit given left old new
 IsScanAnswer (Err (faults.Set e)) syntax wanted limit given left old new = Ends Ended limit given left old new
-    × Fails e (read_all syntax given) × (e ≡ Memory → HasWanted syntax wanted given)
+    × FailsAs is_memory e (read_all syntax given) × (e ≡ Memory → HasWanted syntax wanted given)

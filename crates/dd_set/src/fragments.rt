@@ -2,7 +2,8 @@
 
 ghost use Rattle.std.specs.Prelude.{◌≡◌, ◌≢◌, ◌<◌, ◌≤◌, ℕ, List, length, Ok, Err, IfOk, OnSome, option_map};
 ghost use Rattle.dd_set.specs.declared.fault.SetFault.TheVariants.{Memory};
-ghost use Rattle.dd_set.specs.Gives.{Gives};
+ghost use Rattle.dd_set.specs.AnswersAs.{AnswersAs};
+ghost use Rattle.dd_set.specs.Faults.{is_memory};
 ghost use Rattle.dd_set.specs.Places.{at_view, stepped};
 ghost use Rattle.dd_set.specs.Reading.{At, fragment_at, fragments_here};
 ghost use Rattle.dd_set.specs.Counts.{Counts};
@@ -17,7 +18,8 @@ use std::alloc::Global;
 /// Reads the fragments of a list, to its end. It walks the list twice, so that it takes memory once, and
 /// only for a list that is whole.
 pub fn fragments<'a>(alloc: Global, at: Cursor<'a>) -> Result<(Vec<&'a [u8]>, Cursor<'a>), SetFault>
-    ensures exact { Gives (λ x. (pieces x.0.items, at_view x.1)) result (fragments_here (at_view at.entry)) }
+    ensures exact { AnswersAs is_memory (λ x. (pieces x.0.items, at_view x.1)) result
+        (fragments_here (at_view at.entry)) }
     ensures shorter { IfOk result (λ x. length x.1.rest.now ≤ length at.entry.rest.now) }
     ensures memory { result ≡ Err Memory
         → (fs : List (List ℕ)) × (end : At) × (fragments_here (at_view at.entry) ≡ Ok (fs, end)) }

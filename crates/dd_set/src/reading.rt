@@ -3,7 +3,8 @@
 ghost use Rattle.std.specs.Prelude.{◌≡◌, ◌<◌, ◌≤◌, length, IfOk, Ok, Err, OnSome, option_map};
 ghost use Rattle.dd_set.specs.declared.fault.SetFault.TheVariants.{Memory};
 ghost use Rattle.dd_encoding.specs.Elements.{Elements};
-ghost use Rattle.dd_set.specs.Gives.{Gives};
+ghost use Rattle.dd_set.specs.AnswersAs.{AnswersAs};
+ghost use Rattle.dd_set.specs.Faults.{is_memory};
 ghost use Rattle.dd_set.specs.Memory.{unkept_sequence, unkept_set, unkept_item, WantsMemory, WantsContent, WantsEntry};
 ghost use Rattle.dd_set.specs.Checks.{header_view};
 ghost use Rattle.dd_set.specs.Places.{at_view};
@@ -29,7 +30,7 @@ fn content<'a>(
     header: Header,
     at: Cursor<'a>,
 ) -> Result<(Value<'a>, Cursor<'a>), SetFault>
-    ensures exact { Gives (λ x. (value_view x.0, at_view x.1)) result
+    ensures exact { AnswersAs is_memory (λ x. (value_view x.0, at_view x.1)) result
         (content_at (sequence_with (item_reader levels)) syntax (header_view header) (at_view at.entry)) }
     ensures shorter { IfOk result (λ x. length x.1.rest.now ≤ length at.entry.rest.now) }
     ensures memory { result ≡ Err Memory
@@ -68,7 +69,7 @@ fn element<'a>(
     low: u64,
     at: Cursor<'a>,
 ) -> Result<(Option<Element<'a>>, Cursor<'a>), SetFault>
-    ensures exact { Gives (λ x. (option_map element_view x.0, at_view x.1)) result
+    ensures exact { AnswersAs is_memory (λ x. (option_map element_view x.0, at_view x.1)) result
         (element_at (sequence_with (item_reader levels)) syntax form low (at_view at.entry)) }
     ensures shorter { IfOk result (λ x. OnSome x.0 (length x.1.rest.now < length at.entry.rest.now)) }
     ensures not_longer { IfOk result (λ x. length x.1.rest.now ≤ length at.entry.rest.now) }
@@ -94,7 +95,7 @@ fn set<'a>(
     form: Length,
     at: Cursor<'a>,
 ) -> Result<(DataSet<'a>, Cursor<'a>), SetFault>
-    ensures exact { Gives (λ x. (set_view x.0, at_view x.1)) result
+    ensures exact { AnswersAs is_memory (λ x. (set_view x.0, at_view x.1)) result
         (set_with (item_reader levels) syntax form (at_view at.entry)) }
     ensures shorter { IfOk result (λ x. length x.1.rest.now ≤ length at.entry.rest.now) }
     ensures memory { result ≡ Err Memory → unkept_set (unkept_item levels) syntax form (at_view at.entry) ≡ Err Memory }
@@ -124,7 +125,7 @@ fn item<'a>(
     form: Length,
     at: Cursor<'a>,
 ) -> Result<(Option<Item<'a>>, Cursor<'a>), SetFault>
-    ensures exact { Gives (λ x. (option_map item_view x.0, at_view x.1)) result
+    ensures exact { AnswersAs is_memory (λ x. (option_map item_view x.0, at_view x.1)) result
         (item_at (item_reader levels) syntax form (at_view at.entry)) }
     ensures shorter { IfOk result (λ x. OnSome x.0 (length x.1.rest.now < length at.entry.rest.now)) }
     ensures not_longer { IfOk result (λ x. length x.1.rest.now ≤ length at.entry.rest.now) }
@@ -147,7 +148,7 @@ fn sequence<'a>(
     form: Length,
     at: Cursor<'a>,
 ) -> Result<(Vec<Item<'a>>, Cursor<'a>), SetFault>
-    ensures exact { Gives (λ x. (items_view x.0.items, at_view x.1)) result
+    ensures exact { AnswersAs is_memory (λ x. (items_view x.0.items, at_view x.1)) result
         (sequence_with (item_reader levels) syntax form (at_view at.entry)) }
     ensures shorter { IfOk result (λ x. length x.1.rest.now ≤ length at.entry.rest.now) }
     ensures memory { result ≡ Err Memory
@@ -175,7 +176,8 @@ fn part<'a>(
     n: u32,
     at: Cursor<'a>,
 ) -> Result<(Item<'a>, Cursor<'a>), SetFault>
-    ensures exact { Gives (λ x. (item_view x.0, at_view x.1)) result (item_reader levels syntax n (at_view at.entry)) }
+    ensures exact { AnswersAs is_memory (λ x. (item_view x.0, at_view x.1)) result
+        (item_reader levels syntax n (at_view at.entry)) }
     ensures shorter { IfOk result (λ x. length x.1.rest.now ≤ length at.entry.rest.now) }
     ensures memory { result ≡ Err Memory → unkept_item levels syntax n (at_view at.entry) ≡ Err Memory }
 {
@@ -200,7 +202,7 @@ fn part<'a>(
 /// The whole of the bytes as one set.
 #[tactic(auto, unfolding(crate::specs::Reading::read_all))]
 fn whole<'a>(alloc: Global, syntax: Syntax, bytes: &'a [u8]) -> Result<DataSet<'a>, SetFault>
-    ensures exact { Gives set_view result (read_all syntax bytes.now) }
+    ensures exact { AnswersAs is_memory set_view result (read_all syntax bytes.now) }
     ensures memory { result ≡ Err Memory → WantsMemory syntax bytes.now }
 {
     let at = Cursor {
@@ -218,9 +220,9 @@ pub fn parse<'a>(alloc: Global, syntax: Syntax, bytes: &'a [u8]) -> Result<DataS
     // What is answered is spelled so, each byte of it.
     ensures found { IfOk result (λ set. Spells syntax (set_view set) bytes.now) }
     // What is spelled so is answered, unless memory runs out.
-    ensures only { (set : Elements) → Spells syntax set bytes.now → Gives set_view result (Ok set) }
+    ensures only { (set : Elements) → Spells syntax set bytes.now → AnswersAs is_memory set_view result (Ok set) }
     // A refusal is the first check that fails, unless memory ran out.
-    ensures exact { Gives set_view result (read_all syntax bytes.now) }
+    ensures exact { AnswersAs is_memory set_view result (read_all syntax bytes.now) }
     // Memory runs out only where it is wanted: behind the first item or element.
     ensures memory { result ≡ Err Memory → WantsMemory syntax bytes.now }
 {

@@ -6,7 +6,7 @@ ghost use Rattle.dd_set.specs.declared.fault.SetFault.TheVariants.{Memory};
 ghost use Rattle.dd_encoding.specs.declared.syntax.Length.TheVariants.{Defined};
 ghost use Rattle.dd_stream.specs.Feeds.{Scans};
 ghost use Rattle.dd_set.specs.Reading.{eight_at, head_at, long_length_at, front_at, item_front_at, take_at};
-ghost use Rattle.dd_set.specs.Skips.{Finds, Takes, Skips};
+ghost use Rattle.dd_set.specs.Skips.{Finds, FindsStart, Takes, Skips};
 
 use crate::checks::{
     Header, Opening, Shape, element_opening, ends_here, item_opening, leaves_fewer, less,
@@ -54,56 +54,67 @@ pub fn pass<F: Feed>(feed: &mut F, n: u32, left: Option<u64>) -> Result<Option<u
     Ok(less(left, n))
 }
 
-/// Takes the eight bytes that a header begins with.
-fn eight<F: Feed>(
-    feed: &mut F,
+/// The eight bytes that a header begins with, taken from a feed.
+#[derive(Clone, Copy)]
+struct HeaderStart {
+    /// The bytes, or None where a set or a sequence ends by its length.
+    bytes: Option<[u8; HEADER_SIZE]>,
+    /// What the nearest enclosing length leaves behind them.
     left: Option<u64>,
-) -> Result<(Option<[u8; HEADER_SIZE]>, Option<u64>), SetFault>
+}
+
+/// Takes the eight bytes that a header begins with.
+fn eight<F: Feed>(feed: &mut F, left: Option<u64>) -> Result<HeaderStart, SetFault>
     ensures found { Scans F.moves F.tells feed.old feed.new (λ bytes rest.
-        Finds (λ head. head) result (eight_at (record { left = left; bytes = bytes })) rest) }
+        FindsStart result (eight_at (record { left = left; bytes = bytes })) rest) }
     ensures fewer { F.most feed.new ≤ F.most feed.old }
     ensures memory { result ≢ Err Memory }
-    ensures some { IfOk result (λ x. OnSome x.0 (F.most feed.new < F.most feed.old)) }
+    ensures some { IfOk result (λ start. OnSome start.bytes (F.most feed.new < F.most feed.old)) }
 {
     let mut head = [0; HEADER_SIZE];
     let left = take(feed, &mut head, left)?;
-    Ok((Some(head), left))
+    Ok(HeaderStart {
+        bytes: Some(head),
+        left,
+    })
 }
 
 /// Takes the eight bytes that a header begins with, or None at the end of the feed.
-fn eight_or_end<F: Feed>(feed: &mut F) -> Result<(Option<[u8; HEADER_SIZE]>, Option<u64>), SetFault>
+fn eight_or_end<F: Feed>(feed: &mut F) -> Result<HeaderStart, SetFault>
     ensures found { Scans F.moves F.tells feed.old feed.new (λ bytes rest.
-        Finds (λ head. head) result (head_at Defined (record { left = None; bytes = bytes })) rest) }
+        FindsStart result (head_at Defined (record { left = None; bytes = bytes })) rest) }
     ensures fewer { F.most feed.new ≤ F.most feed.old }
     ensures memory { result ≢ Err Memory }
-    ensures some { IfOk result (λ x. OnSome x.0 (F.most feed.new < F.most feed.old)) }
+    ensures some { IfOk result (λ start. OnSome start.bytes (F.most feed.new < F.most feed.old)) }
 {
     let mut head = [0; HEADER_SIZE];
     let n = fill(feed, &mut head);
     if n == 0 {
-        return Ok((None, None));
+        return Ok(HeaderStart {
+            bytes: None,
+            left: None,
+        });
     }
     if n < head.len() {
         return Err(SetFault::Truncated);
     }
-    Ok((Some(head), None))
+    Ok(HeaderStart {
+        bytes: Some(head),
+        left: None,
+    })
 }
 
 /// Takes the eight bytes that a header begins with, or None where a set or a sequence of this form
 /// ends by its length.
-fn head<F: Feed>(
-    feed: &mut F,
-    form: Length,
-    left: Option<u64>,
-) -> Result<(Option<[u8; HEADER_SIZE]>, Option<u64>), SetFault>
+fn head<F: Feed>(feed: &mut F, form: Length, left: Option<u64>) -> Result<HeaderStart, SetFault>
     ensures found { Scans F.moves F.tells feed.old feed.new (λ bytes rest.
-        Finds (λ head. head) result (head_at form (record { left = left; bytes = bytes })) rest) }
+        FindsStart result (head_at form (record { left = left; bytes = bytes })) rest) }
     ensures fewer { F.most feed.new ≤ F.most feed.old }
     ensures memory { result ≢ Err Memory }
-    ensures some { IfOk result (λ x. OnSome x.0 (F.most feed.new < F.most feed.old)) }
+    ensures some { IfOk result (λ start. OnSome start.bytes (F.most feed.new < F.most feed.old)) }
 {
     match ends_here(form, left) {
-        Some(true) => Ok((None, left)),
+        Some(true) => Ok(HeaderStart { bytes: None, left }),
         Some(false) => eight(feed, left),
         None => eight_or_end(feed),
     }
@@ -136,7 +147,7 @@ pub fn front<F: Feed>(
     ensures memory { result ≢ Err Memory }
     ensures some { IfOk result (λ x. OnSome x.0 (F.most feed.new < F.most feed.old)) }
 {
-    let (head, left) = head(feed, form, left)?;
+    let HeaderStart { bytes: head, left } = head(feed, form, left)?;
     let Some(head) = head else {
         return Ok((None, left));
     };
@@ -166,7 +177,7 @@ pub fn item_front<F: Feed>(
     ensures memory { result ≢ Err Memory }
     ensures some { IfOk result (λ x. OnSome x.0 (F.most feed.new < F.most feed.old)) }
 {
-    let (head, left) = head(feed, form, left)?;
+    let HeaderStart { bytes: head, left } = head(feed, form, left)?;
     match head {
         None => Ok((None, left)),
         Some(head) => Ok((item_opening(form, &head)?, left)),

@@ -1,7 +1,7 @@
 use Rattle.std.proofs.Common.{Err, ap, is_some, refl}
 use Rattle.std.proofs.lemmas.Result.{err_from_is_err_and}
 use Rattle.dd_set.specs.Views.{set_view}
-use Rattle.dd_part10.specs.Matches.{file_view}
+use Rattle.dd_part10.specs.Views.{file_view}
 use Rattle.dd_keys.specs.Told.{told_at}
 use Rattle.dd_keys.proofs.FoundVersions.{file_refused, refused_answers}
 use Rattle.dd_keys.proofs.Judging.{judged_answers}

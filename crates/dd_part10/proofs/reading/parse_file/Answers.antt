@@ -1,5 +1,7 @@
 use Rattle.std.proofs.Common.{arith, subst}
-use Rattle.dd_part10.specs.Matches.{Matches, file_view}
+use Rattle.dd_set.specs.AnswersAs.{AnswersAs}
+use Rattle.dd_part10.specs.Faults.{is_memory}
+use Rattle.dd_part10.specs.Views.{file_view}
 use Rattle.dd_part10.proofs.Only.{file_only}
 use Rattle.dd_part10.proofs.AnswersAreFiles.{is_found}
 use Rattle.dd_part10.proofs.reading.parse_file.Goals as goal
@@ -9,5 +11,5 @@ returns-clause-found c = is_found c.args.bytes.now c.checked_file.result
     (λ i. omega (arith, c.type_inv.bytes i)) c.checked_file.ensures.room c.checked_file.ensures.exact
 
 pub returns-clause-only : goal.returns-clause-only
-returns-clause-only c = λ meta set set_at h. subst (λ f. Matches file_view c.checked_file.result f)
+returns-clause-only c = λ meta set set_at h. subst (λ f. AnswersAs is_memory file_view c.checked_file.result f)
     (file_only c.args.bytes.now meta set set_at h) c.checked_file.ensures.exact

@@ -8,7 +8,8 @@ use Rattle.dd_set.specs.declared.set.DataSet.{the_lemmas}
 use Rattle.dd_set.specs.declared.set.Value.TheViews.{roll-Item, roll-Element, roll-DataSet}
 use Rattle.dd_encoding.specs.declared.syntax.Length.TheVariants.{Defined}
 use Rattle.dd_encoding.specs.Elements.{elements_of, fragments}
-use Rattle.dd_set.specs.Gives.{Fails}
+use Rattle.dd_set.specs.AnswersAs.{FailsAs}
+use Rattle.dd_set.specs.Faults.{is_memory}
 use Rattle.dd_set.specs.Checks.{header_view}
 use Rattle.dd_set.specs.Places.{at_view}
 use Rattle.dd_set.specs.Reading.{item_reader, sequence_with, set_with, item_at, element_at, less, At}
@@ -259,7 +260,7 @@ part-returns-in_err-set-in-Closed-clause-exact t c =
     let place : at_view c.within.result ≡ record { left = Some c.in-Closed.n; bytes = c.args.at.rest.now } =
     search rules in
     rw (p.1, p.2) (fails_along c.in_err-set-in-Closed.field-0.0 _ _
-    (subst (λ (a : At). Fails c.in_err-set-in-Closed.field-0.0 (set c.args.syntax Defined a)) place
+    (subst (λ (a : At). FailsAs is_memory c.in_err-set-in-Closed.field-0.0 (set c.args.syntax Defined a)) place
     c.in_err-set-in-Closed.ensures.exact) (λ e failed.
     deeper_is c.args.levels (c.args.levels - 1) c.args.n c.args.syntax (at_view c.args.at) deeper ∙ is
     ∙ within_fails c.in-Closed.n (at_view c.args.at) (set c.args.syntax Defined) _ e failed))

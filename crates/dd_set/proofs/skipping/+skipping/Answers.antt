@@ -5,7 +5,8 @@ use Rattle.std.proofs.lemmas.Result.{err_from_is_err_and}
 use Rattle.dd_encoding.specs.declared.syntax.Length.TheVariants.{Defined, Undefined}
 use Rattle.dd_set.specs.Checks.{header_view}
 use Rattle.dd_encoding.specs.Elements.{Elements, items}
-use Rattle.dd_set.specs.Gives.{Fails}
+use Rattle.dd_set.specs.AnswersAs.{FailsAs}
+use Rattle.dd_set.specs.Faults.{is_memory}
 use Rattle.dd_set.specs.Reading.{At, item_reader, sequence_with, set_with, element_at, item_at, less}
 use Rattle.dd_stream.proofs.Along.{scans_none, scans_same, scans_then}
 use Rattle.dd_set.proofs.Feeding.{fails_is}
@@ -65,7 +66,8 @@ skip_items-returns-in_err-left-clause-found g t c =
     let part = item_reader c.args.levels in
     let e = c.in_err-left.field-0.0 in
     let one = scans_then _ _ g.met.F.Feed.goes g.met.F.Feed.told _ _ _ _ _
-    (λ bytes rest. Fails e (item_at part c.args.syntax c.args.form (record { left = c.items.left; bytes = bytes })))
+    (λ bytes rest. FailsAs is_memory e (item_at part c.args.syntax c.args.form
+    (record { left = c.items.left; bytes = bytes })))
     c.in_ok-length.ensures.found c.in_err-left.ensures.found
     (λ bytes mid rest few fewer h k. part_stops part c.args.syntax c.args.form
     (record { left = c.items.left; bytes = bytes }) c.in-Some.n _ e (rw c.in-Some.is at h) k) in
@@ -177,7 +179,7 @@ skip_set-returns-in_err-left-clause-found g t c =
     let sequence = sequence_with (item_reader c.args.levels) in
     let e = c.in_err-left.field-0.0 in
     let one = scans_then _ _ g.met.F.Feed.goes g.met.F.Feed.told _ _ _ _ _
-    (λ bytes rest. Fails e (element_at sequence c.args.syntax c.args.form c.elements.low
+    (λ bytes rest. FailsAs is_memory e (element_at sequence c.args.syntax c.args.form c.elements.low
     (record { left = c.elements.left; bytes = bytes })))
     c.in_ok-header.ensures.found c.in_err-left.ensures.found
     (λ bytes mid rest few fewer h k. content_stops sequence c.args.syntax c.args.form c.elements.low

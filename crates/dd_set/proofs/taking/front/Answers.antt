@@ -40,7 +40,7 @@ returns-in_err-length-in-Long-clause-found g c =
     c.in_err-length-in-Long.ensures.found
     (λ bytes mid rest few fewer h k. fails_along c.in_err-length-in-Long.field-0.0 _ _ k (λ e failed.
     let opens = rw c.in-Long.is at (c.in_ok-element_opening.ensures.exact
-    (record { left = c.in_ok-head.left; bytes = mid })) in
+    (record { left = c.in_ok-head.field-0.left; bytes = mid })) in
     front_opens c.args.syntax c.args.form c.args.low (at bytes) c.in-Some.head _ (rw c.in-Some.is at h) ∙ opens
     ∙ bind_fails _ _ e failed)))
 
@@ -49,14 +49,16 @@ returns-in-End-clause-found g c =
     let at : List ℕ → At = λ bytes. record { left = c.args.left; bytes = bytes } in
     scans_same _ _ _ _ _ _ c.in_ok-head.ensures.found (λ bytes rest t few h.
     front_opens c.args.syntax c.args.form c.args.low (at bytes) c.in-Some.head _ (rw c.in-Some.is at h)
-    ∙ rw c.in-End.is at (c.in_ok-element_opening.ensures.exact (record { left = c.in_ok-head.left; bytes = rest })))
+    ∙ rw c.in-End.is at (c.in_ok-element_opening.ensures.exact
+    (record { left = c.in_ok-head.field-0.left; bytes = rest })))
 
 pub returns-in-Whole-clause-found : goal.returns-in-Whole-clause-found
 returns-in-Whole-clause-found g c =
     let at : List ℕ → At = λ bytes. record { left = c.args.left; bytes = bytes } in
     scans_same _ _ _ _ _ _ c.in_ok-head.ensures.found (λ bytes rest t few h.
     front_opens c.args.syntax c.args.form c.args.low (at bytes) c.in-Some.head _ (rw c.in-Some.is at h)
-    ∙ rw c.in-Whole.is at (c.in_ok-element_opening.ensures.exact (record { left = c.in_ok-head.left; bytes = rest })))
+    ∙ rw c.in-Whole.is at (c.in_ok-element_opening.ensures.exact
+    (record { left = c.in_ok-head.field-0.left; bytes = rest })))
 
 pub returns-in_ok-length-in-Long-clause-found : goal.returns-in_ok-length-in-Long-clause-found
 returns-in_ok-length-in-Long-clause-found g c =
@@ -65,6 +67,6 @@ returns-in_ok-length-in-Long-clause-found g c =
     c.in_ok-length-in-Long.ensures.found
     (λ bytes mid rest few fewer h k.
     let opens = rw c.in-Long.is at (c.in_ok-element_opening.ensures.exact
-    (record { left = c.in_ok-head.left; bytes = mid })) in
+    (record { left = c.in_ok-head.field-0.left; bytes = mid })) in
     front_opens c.args.syntax c.args.form c.args.low (at bytes) c.in-Some.head _ (rw c.in-Some.is at h) ∙ opens
     ∙ bind_made _ _ _ k)

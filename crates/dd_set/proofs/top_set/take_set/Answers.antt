@@ -3,7 +3,8 @@ use Rattle.std.proofs.Common.{◌≡◌, List, ℕ, Ok, Err, None, Result, ap, s
 use Rattle.std.proofs.lemmas.Result.{err_from_is_err_and}
 use Rattle.dd_encoding.specs.declared.syntax.Length.TheVariants.{Defined}
 use Rattle.dd_set.specs.Checks.{header_view}
-use Rattle.dd_set.specs.Gives.{Fails}
+use Rattle.dd_set.specs.AnswersAs.{FailsAs}
+use Rattle.dd_set.specs.Faults.{is_memory}
 use Rattle.dd_set.specs.Reading.{◌>>=◌, item_reader, sequence_with, element_at, set_with, read_all}
 use Rattle.dd_set.specs.Scan.{found_hit, value_told}
 use Rattle.dd_encoding.specs.Elements.{Elements, elements_of}
@@ -28,7 +29,8 @@ read_is : (syntax : Syntax) (all : List ℕ) (r : Result Elements SetFault) → 
 unfolding read_all
 read_is syntax all r h = h
 
-stop_is : (syntax : Syntax) (all : List ℕ) (e : SetFault) → Fails e (whole syntax all) → Fails e (read_all syntax all)
+stop_is : (syntax : Syntax) (all : List ℕ) (e : SetFault) → FailsAs is_memory e (whole syntax all)
+    → FailsAs is_memory e (read_all syntax all)
 unfolding read_all
 stop_is syntax all e h = h
 
@@ -97,7 +99,7 @@ returns-in_err-value-clause-found g c =
     let header = header_view c.in-Some.header in
     let e = c.in_err-value.field-0.0 in
     let one = scans_then _ _ g.met.F.Feed.goes g.met.F.Feed.told _ _ _ _ _
-    (λ all rest. Fails e (element_at (sequence_with part) c.args.syntax Defined c.elements.low
+    (λ all rest. FailsAs is_memory e (element_at (sequence_with part) c.args.syntax Defined c.elements.low
     (record { left = c.elements.left; bytes = all })) × (e ≡ Memory → ElementThere (sequence_with part) c.args.syntax
     c.elements.low c.elements.left header.tag all rest))
     c.in_ok-header.ensures.found c.in_err-value.ensures.found
