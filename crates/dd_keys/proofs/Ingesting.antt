@@ -23,7 +23,7 @@ use Rattle.dd_version.specs.declared.parts.Parts.{Parts}
 use Rattle.dd_keys.specs.Faults.{key_fault_of, wanted_uid, mismatch_of, uid_fault_of, row_fault, table_fault, first}
 use Rattle.dd_keys.specs.Faults.{fault_of, IsWantOfMemory, SaysMemory}
 use Rattle.dd_keys.specs.Table.{Row, key, uid, rows, wanted_tags}
-use Rattle.dd_keys.specs.Told.{IsJudged}
+use Rattle.dd_keys.specs.Summaries.{IsJudged}
 use Rattle.dd_keys.specs.Values.{value_at}
 use Rattle.dd_keys.proofs.FoundVersions.{refusal_answers}
 

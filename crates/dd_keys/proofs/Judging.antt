@@ -1,4 +1,4 @@
--- The checks and keys by what is told are those of the file whose data set it tells.
+-- The checks and keys by summaries are those of the file whose values they sum up.
 use Rattle.std.proofs.Common.{◌≡◌, ◌<◌, ◌≤◌, ◌⊎◌, inl, inr, ℕ, true, List, [], ◌∷◌, length, take, map, Option, Some}
 use Rattle.std.proofs.Common.{None, Result, Ok, Err}
 use Rattle.std.proofs.Common.{if◌then◌else◌, refl, sym, ap, subst, ⊎_elim, ◌∙◌, arith}
@@ -9,7 +9,7 @@ use Rattle.std.proofs.lemmas.List.{take_all, length-take-le}
 use Rattle.sha2.specs.Sha256.{sha256}
 use Rattle.dd_elem.specs.declared.tag.Tag.{Tag}
 use Rattle.dd_elem.proofs.UidForm.{is_uid-long}
-use Rattle.dd_set.specs.Scan.{Told, told_value, is_wanted}
+use Rattle.dd_set.specs.Scan.{Summary, summary_of_value, is_wanted}
 use Rattle.dd_part10.specs.File.{IsFile}
 use Rattle.dd_part10.specs.Reading.{FileParts, file_in}
 use Rattle.dd_encoding.specs.Syntaxes.{syntax_of}
@@ -27,10 +27,11 @@ use Rattle.dd_version.specs.Fitting.{Fits}
 use Rattle.dd_keys.specs.Table.{KeyRow, UidRow, Row, key, uid, rows, charset_row, study_date_row, study_time_row}
 use Rattle.dd_keys.specs.Table.{accession_row, modality_row, description_row, patient_name_row, patient_id_row}
 use Rattle.dd_keys.specs.Table.{study_row, series_row, study_id_row, series_number_row, instance_number_row}
-use Rattle.dd_keys.specs.Told.{front_of, told_key_fault, told_row_fault}
+use Rattle.dd_keys.specs.Summaries.{front_of, summary_key_fault, summary_row_fault}
 use Rattle.dd_keys.proofs.Tells.{TellsSet}
 use Rattle.dd_keys.specs.Table.{tag_of, wanted_tags}
-use Rattle.dd_keys.specs.Told.{told_table_fault, told_fault, told_key, told_uid, told_parts, IsJudged}
+use Rattle.dd_keys.specs.Summaries.{summary_table_fault, summary_fault, summary_key, summary_uid, summary_parts}
+use Rattle.dd_keys.specs.Summaries.{IsJudged}
 use Rattle.dd_keys.specs.Values.{value_at, or_other}
 use Rattle.dd_keys.proofs.SetValues.{key_in, uid_in, parts_in}
 use Rattle.dd_keys.proofs.FoundVersions.{found_version, or_other_some, file_of, version_parts, refusal_answers}
@@ -42,7 +43,7 @@ use Rattle.dd_part10.proofs.Only.{file_only}
 
 -- ---- the checks
 
-key_same : (tag : Tag) (held : Option (List ℕ)) → told_key_fault tag (told_value held) ≡ key_fault_of tag held
+key_same : (tag : Tag) (held : Option (List ℕ)) → summary_key_fault tag (summary_of_value held) ≡ key_fault_of tag held
 key_same tag None = refl
 key_same tag (Some value) = refl
 
@@ -61,19 +62,21 @@ uid_front tag wanted value (inl long) =
     long_uid tag wanted (take 1024 value) (omega (arith, size)) ∙ sym (long_uid tag wanted value (omega (arith, long)))
 
 uid_same : (tag : Tag) (wanted held : Option (List ℕ))
-    → uid_fault_of tag wanted (front_of (told_value held)) ≡ uid_fault_of tag wanted held
+    → uid_fault_of tag wanted (front_of (summary_of_value held)) ≡ uid_fault_of tag wanted held
 uid_same tag wanted None = refl
 uid_same tag wanted (Some value) = uid_front tag wanted value (cases_lt 1024 (length value))
 
-module _ (tells : Tag → Told) (f : FileParts) (shows : TellsSet tells f.set) where
-  row_same : (row : Row) → is_wanted wanted_tags (tag_of row) ≡ true → told_row_fault f.meta tells row ≡ row_fault f row
-  row_same (key row) is = ap (told_key_fault row.tag) (shows row.tag is) ∙ key_same row.tag (value_at row.tag f.set)
+module _ (tells : Tag → Summary) (f : FileParts) (shows : TellsSet tells f.set) where
+  row_same : (row : Row) → is_wanted wanted_tags (tag_of row) ≡ true
+      → summary_row_fault f.meta tells row ≡ row_fault f row
+  row_same (key row) is = ap (summary_key_fault row.tag) (shows row.tag is) ∙ key_same row.tag (value_at row.tag f.set)
   row_same (uid row) is =
-      ap (λ (told : Told). uid_fault_of row.tag (wanted_uid f.meta row.same_as) (front_of told)) (shows row.tag is)
+      ap (λ (summary : Summary). uid_fault_of row.tag (wanted_uid f.meta row.same_as) (front_of summary))
+      (shows row.tag is)
       ∙ uid_same row.tag (wanted_uid f.meta row.same_as) (value_at row.tag f.set)
 
   rows_same : (some : List Row) → list_all (λ row. is_wanted wanted_tags (tag_of row)) some ≡ true
-      → map (told_row_fault f.meta tells) some ≡ map (row_fault f) some
+      → map (summary_row_fault f.meta tells) some ≡ map (row_fault f) some
   rows_same [] all = refl
   rows_same (row ∷ some) all =
       let each = and_parts (is_wanted wanted_tags (tag_of row))
@@ -82,45 +85,46 @@ module _ (tells : Tag → Told) (f : FileParts) (shows : TellsSet tells f.set) w
       let others = rows_same some each.1 in
       λ i. here i ∷ others i
 
-  table_same : told_table_fault f.meta tells ≡ table_fault f
-  unfolding told_table_fault table_fault
+  table_same : summary_table_fault f.meta tells ≡ table_fault f
+  unfolding summary_table_fault table_fault
   table_same = ap first (rows_same rows refl)
 
-  pub fault_same : told_fault f.meta tells ≡ fault_of (Ok f)
+  pub fault_same : summary_fault f.meta tells ≡ fault_of (Ok f)
   fault_same = ap (λ (rest : Option KeyFault). if is_image_class f.meta.class then rest
       else Some (NotImage f.meta.class)) table_same
 
 -- ---- the keys
 
-held_key : (tag : Tag) (held : Option (List ℕ)) → key_fault_of tag held ≡ None → front_of (told_value held) ≡ held
+held_key : (tag : Tag) (held : Option (List ℕ)) → key_fault_of tag held ≡ None → front_of (summary_of_value held) ≡ held
 held_key tag held e =
     let h = key_held tag held e in
     rw h.is (ap (λ (v : List ℕ). Some v) (take_all 1024 h.value h.short))
 
 held_uid : (tag : Tag) (wanted held : Option (List ℕ)) → uid_fault_of tag wanted held ≡ None
-    → front_of (told_value held) ≡ held
+    → front_of (summary_of_value held) ≡ held
 held_uid tag wanted held e =
     let h = uid_held tag wanted held e in
     rw h.is (ap (λ (v : List ℕ). Some v) (take_all 1024 h.value (omega (arith, h.valid.short))))
 
-module _ (tells : Tag → Told) (f : FileParts) (shows : TellsSet tells f.set) where
+module _ (tells : Tag → Summary) (f : FileParts) (shows : TellsSet tells f.set) where
   front_is : (tag : Tag) → is_wanted wanted_tags tag ≡ true
-      → front_of (told_value (value_at tag f.set)) ≡ value_at tag f.set → front_of (tells tag) ≡ value_at tag f.set
+      → front_of (summary_of_value (value_at tag f.set)) ≡ value_at tag f.set
+      → front_of (tells tag) ≡ value_at tag f.set
   front_is tag is same = ap front_of (shows tag is) ∙ same
 
   key_is : (row : KeyRow) → is_wanted wanted_tags row.tag ≡ true → key_fault row f.set ≡ None
-      → told_key tells row ≡ key_in row f.set
+      → summary_key tells row ≡ key_in row f.set
   key_is row is e =
       ap (λ (held : Option (List ℕ)). or_other (unwrap_or held []) row.when_empty)
       (front_is row.tag is (held_key row.tag (value_at row.tag f.set) e))
 
   uid_is : (row : UidRow) → is_wanted wanted_tags row.tag ≡ true → uid_fault row f.meta f.set ≡ None
-      → told_uid tells row.tag ≡ uid_in row.tag f.set
+      → summary_uid tells row.tag ≡ uid_in row.tag f.set
   uid_is row is e =
       ap (λ (held : Option (List ℕ)). unwrap_or held [])
       (front_is row.tag is (held_uid row.tag (wanted_uid f.meta row.same_as) (value_at row.tag f.set) e))
 
-  pub parts_same : (digest : List ℕ) → table_fault f ≡ None → told_parts tells digest f.meta ≡ parts_in digest f
+  pub parts_same : (digest : List ℕ) → table_fault f ≡ None → summary_parts tells digest f.meta ≡ parts_in digest f
   parts_same digest none =
       let p = passes f none in
       let charset = key_is charset_row refl p.charset in
@@ -155,11 +159,11 @@ module _ (tells : Tag → Told) (f : FileParts) (shows : TellsSet tells f.set) w
         instance = f.meta.instance;
       }
 
--- what is told of a file with a known syntax and an image class fits
-pub told_fit : (digest : List ℕ) (meta : Meta) (tells : Tag → Told) → IsSome (syntax_of meta.transfer)
+-- the parts by summaries of a file with a known syntax and an image class fit
+pub summary_fits : (digest : List ℕ) (meta : Meta) (tells : Tag → Summary) → IsSome (syntax_of meta.transfer)
     → is_image_class meta.class ≡ true
-    → Fits (told_parts tells digest meta)
-told_fit digest meta tells known image = record {
+    → Fits (summary_parts tells digest meta)
+summary_fits digest meta tells known image = record {
   transfer = (syntax_decides meta.transfer).0 known;
   class = (is_image_class_decides meta.class).0 image;
   study_date = or_other_some (unwrap_or (front_of (tells study_date_row.tag)) []) _ _;
@@ -204,11 +208,12 @@ judged file f check parts (Err fault) read is same parts_are h =
     (⊎_elim (λ memory. inl (subst (IsWantOfMemory SetWants file) (sym memory.1) (refused ∙ memory.0)))
     (λ fails. inr (refused ∙ fails)) h)
 
--- the answer by what is told of a file is that for the file
-pub judged_answers : (file digest : List ℕ) (f : FileParts) (tells : Tag → Told) (answer : Result Parts KeyFault)
+-- the answer by the summaries of a file is that for the file
+pub judged_answers : (file digest : List ℕ) (f : FileParts) (tells : Tag → Summary) (answer : Result Parts KeyFault)
     → file_in file ≡ Ok f
     → IsFile file f.meta f.set f.set_at → TellsSet tells f.set → digest ≡ sha256 file
-    → IsJudged (told_fault f.meta tells) (told_parts tells digest f.meta) answer → Answers file answer
+    → IsJudged (summary_fault f.meta tells) (summary_parts tells digest f.meta) answer → Answers file answer
 judged_answers file digest f tells answer read is shows digests h =
-    judged file f (told_fault f.meta tells) (told_parts tells digest f.meta) answer read is (fault_same tells f shows)
+    judged file f (summary_fault f.meta tells) (summary_parts tells digest f.meta) answer read is
+    (fault_same tells f shows)
     (λ none. parts_same tells f shows digest none ∙ ap (λ (d : List ℕ). parts_in d f) digests) h

@@ -5,5 +5,5 @@ pub mod Ingesting
 pub mod Judging
 pub mod Passes
 pub mod SetValues
-pub mod Telling
+pub mod SummaryLaws
 pub mod Tells

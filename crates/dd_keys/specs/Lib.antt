@@ -2,7 +2,7 @@ pub mod Answers
 pub mod Digested
 pub mod Faults
 pub mod RowViews
+pub mod Summaries
 pub mod Table
-pub mod Told
 pub mod Values
 pub mod Versions

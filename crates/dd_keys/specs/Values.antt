@@ -1,9 +1,7 @@
 -- The keys and UIDs that a data set has, by the table.
-use Rattle.std.specs.Prelude.{ℕ, List, [], ◌∷◌, Option, Some, None, unwrap_or}
-use Rattle.dd_elem.specs.Clean.{clean_of}
+use Rattle.std.specs.Prelude.{ℕ, List, [], ◌∷◌, Option, unwrap_or}
 use Rattle.dd_elem.specs.declared.tag.Tag.{Tag}
-use Rattle.dd_encoding.specs.Elements.{Elements, Content, bytes, items, fragments, Entry}
-use Rattle.dd_set.specs.Find.{find_in}
+pub use Rattle.dd_set.specs.Find.{content_value, entry_value, value_at}
 use Rattle.dd_encoding.specs.declared.meta.Meta.{Meta}
 use Rattle.dd_keys.specs.Table.{KeyRow, charset_row, study_date_row, study_time_row, accession_row, modality_row}
 use Rattle.dd_keys.specs.Table.{description_row, patient_name_row, patient_id_row, study_row, series_row, study_id_row}
@@ -12,22 +10,6 @@ use Rattle.dd_version.specs.declared.keys.PatientKeys.{PatientKeys}
 use Rattle.dd_version.specs.declared.keys.StudyKeys.{StudyKeys}
 use Rattle.dd_version.specs.declared.keys.SeriesKeys.{SeriesKeys}
 use Rattle.dd_version.specs.declared.parts.Parts.{Parts}
-
--- a value without its padding, where it is no sequence
-abbrev pub content_value : Content → Option (List ℕ)
-content_value (bytes value) = Some (clean_of value)
-content_value (items form parts) = None
-content_value (fragments fs) = None
-
--- the same of an element, and no bytes where there is none
-abbrev pub entry_value : Option Entry → Option (List ℕ)
-entry_value None = Some []
-entry_value (Some entry) = content_value entry.content
-
--- the value that a data set has at a tag: without its padding, no bytes where there is no such element, and None where
--- that holds a sequence
-abbrev pub value_at : Tag → Elements → Option (List ℕ)
-value_at tag set = entry_value (find_in tag set)
 
 -- a value, and another one where it is empty
 abbrev pub or_other : List ℕ → List ℕ → List ℕ

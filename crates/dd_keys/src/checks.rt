@@ -4,25 +4,26 @@ ghost use Rattle.std.specs.Prelude.{◌≡◌, map};
 ghost use Rattle.std.specs.Option.{option_copied};
 ghost use Rattle.dd_keys.specs.Faults.{first, mismatch_of, wanted_uid};
 ghost use Rattle.dd_keys.specs.RowViews.{row_view, uid_row_view};
-ghost use Rattle.dd_keys.specs.Told.{told_key_fault, told_uid_fault, told_row_fault, told_table_fault};
+ghost use Rattle.dd_keys.specs.Summaries.{summary_key_fault, summary_uid_fault, summary_row_fault, summary_table_fault};
 
 use crate::fault::KeyFault;
 use crate::rows::{KeyRow, MetaUid, ROWS, Row, UidRow};
-use crate::told::{Shown, Values};
+use crate::summary::{ValueSummary, Values};
 use dd_elem::{Key, Tag, Uid};
 use dd_part10::Meta;
 
 /// The first check of the table that a file fails.
-#[tactic(auto, unfolding(crate::specs::Told::told_table_fault))]
+#[tactic(auto, unfolding(crate::specs::Summaries::summary_table_fault))]
 pub(crate) fn table_fault<V: Values>(meta: &Meta, values: &V) -> Option<KeyFault>
-    ensures { result ≡ told_table_fault meta.now (V.tells values.now) }
+    ensures { result ≡ summary_table_fault meta.now (V.tells values.now) }
 {
     first_fault(&ROWS, meta, values)
 }
 
 /// The first check of these rows that a file fails.
 fn first_fault<V: Values>(mut rows: &[Row], meta: &Meta, values: &V) -> Option<KeyFault>
-    ensures { result ≡ first (map (λ row. told_row_fault meta.now (V.tells values.now) (row_view row)) rows.entry.now) }
+    ensures { result
+        ≡ first (map (λ row. summary_row_fault meta.now (V.tells values.now) (row_view row)) rows.entry.now) }
 {
     while let [row, rest @ ..] = rows {
         if let Some(fault) = row.fault(meta, values) {
@@ -36,7 +37,7 @@ fn first_fault<V: Values>(mut rows: &[Row], meta: &Meta, values: &V) -> Option<K
 impl Row {
     /// The first check of the row that a file fails.
     fn fault<V: Values>(&self, meta: &Meta, values: &V) -> Option<KeyFault>
-        ensures { result ≡ told_row_fault meta.now (V.tells values.now) (row_view self.now) }
+        ensures { result ≡ summary_row_fault meta.now (V.tells values.now) (row_view self.now) }
     {
         match self {
             Row::Key(row) => row.fault(values),
@@ -48,14 +49,14 @@ impl Row {
 impl KeyRow {
     /// The first check of a key that a data set fails.
     fn fault<V: Values>(&self, values: &V) -> Option<KeyFault>
-        ensures { result ≡ told_key_fault self.now.tag (V.tells values.now self.now.tag) }
+        ensures { result ≡ summary_key_fault self.now.tag (V.tells values.now self.now.tag) }
     {
         match values.value(self.tag) {
-            Shown::Items => Some(KeyFault::KeyIsSequence(self.tag)),
-            Shown::Bytes { length, .. } if length > Key::MAX_LEN as u64 => {
+            ValueSummary::Items => Some(KeyFault::KeyIsSequence(self.tag)),
+            ValueSummary::Bytes { length, .. } if length > Key::MAX_LEN as u64 => {
                 Some(KeyFault::KeyTooLong(self.tag))
             }
-            Shown::Bytes { .. } => None,
+            ValueSummary::Bytes { .. } => None,
         }
     }
 }
@@ -64,9 +65,9 @@ impl UidRow {
     /// The first check of a UID that a data set fails. A UID has at most 64 bytes, so that the front of a
     /// longer value is none, as the value is none.
     fn fault<V: Values>(&self, meta: &Meta, values: &V) -> Option<KeyFault>
-        ensures { result ≡ told_uid_fault (uid_row_view self.now) meta.now (V.tells values.now self.now.tag) }
+        ensures { result ≡ summary_uid_fault (uid_row_view self.now) meta.now (V.tells values.now self.now.tag) }
     {
-        let Shown::Bytes { front, .. } = values.value(self.tag) else {
+        let ValueSummary::Bytes { front, .. } = values.value(self.tag) else {
             return Some(KeyFault::KeyIsSequence(self.tag));
         };
         if front.is_empty() {

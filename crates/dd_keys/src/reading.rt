@@ -7,14 +7,14 @@ ghost use Rattle.dd_encoding.specs.Syntaxes.{syntax_of};
 ghost use Rattle.dd_version.specs.declared.parts.Parts.{Parts};
 ghost use Rattle.dd_keys.specs.Answers.{Answers, AnswersReader};
 ghost use Rattle.dd_keys.specs.Faults.{first_fault};
-ghost use Rattle.dd_keys.specs.Told.{AreFronts, IsJudged, told_fault, told_parts};
+ghost use Rattle.dd_keys.specs.Summaries.{AreFronts, IsJudged, summary_fault, summary_parts};
 ghost use Rattle.dd_keys.specs.Versions.{IsVersion};
 
 use crate::checks::table_fault;
 use crate::digesting::{Digested, read_digested};
 use crate::fault::KeyFault;
 use crate::rows::WANTED;
-use crate::told::Values;
+use crate::summary::Values;
 use crate::values::parts_in;
 use dd_elem::Read;
 use dd_part10::{Meta, parse_file};
@@ -60,8 +60,8 @@ fn version_from<V: Values>(
 ) -> Result<Version, KeyFault>
     requires known { IsSome (syntax_of meta.now.transfer) }
     requires fronts { AreFronts (V.tells values.now) }
-    ensures { IsJudged (told_fault meta.now (V.tells values.now))
-        (told_parts (V.tells values.now) digest meta.now) result }
+    ensures { IsJudged (summary_fault meta.now (V.tells values.now))
+        (summary_parts (V.tells values.now) digest meta.now) result }
 {
     if !is_image_class(&meta.class) {
         return Err(KeyFault::NotImage(meta.class));

@@ -1,39 +1,22 @@
 //! The keys and UIDs that the data set of a file gives: here the rows take them from a file that passes the checks.
 
 ghost use Rattle.std.specs.Prelude.{◌≡◌, ◌≤◌, length, None, IfOk};
-ghost use Rattle.std.specs.Option.{option_copied};
 ghost use Rattle.dd_elem.specs.Clean.{clean_of};
 ghost use Rattle.dd_elem.specs.Key.{IsKey, max_key_length};
-ghost use Rattle.dd_set.specs.Views.{set_view};
 ghost use Rattle.dd_keys.specs.RowViews.{key_row_view, uid_row_view};
-ghost use Rattle.dd_keys.specs.Told.{AreFronts, told_key_fault, told_uid_fault, told_table_fault};
-ghost use Rattle.dd_keys.specs.Told.{told_key, told_uid, told_patient, told_study, told_series, told_parts};
-ghost use Rattle.dd_keys.specs.Values.{value_at};
+ghost use Rattle.dd_keys.specs.Summaries.{AreFronts, summary_key_fault, summary_uid_fault, summary_table_fault};
+ghost use Rattle.dd_keys.specs.Summaries.{summary_key, summary_uid, summary_patient, summary_study, summary_series};
+ghost use Rattle.dd_keys.specs.Summaries.{summary_parts};
 
 use crate::rows::{
     ACCESSION, CHARSET, DESCRIPTION, INSTANCE_NUMBER, KeyRow, MODALITY, PATIENT_ID, PATIENT_NAME,
     SERIES, SERIES_NUMBER, STUDY, STUDY_DATE, STUDY_ID, STUDY_TIME, UidRow,
 };
-use crate::told::{Shown, Values};
-use dd_elem::{Key, KeyRefused, Memory, Tag, Uid, clean};
+use crate::summary::{ValueSummary, Values};
+use dd_elem::{Key, KeyRefused, Memory, Uid};
 use dd_part10::Meta;
-use dd_set::{DataSet, Value};
 use dd_version::{Parts, PatientKeys, SeriesKeys, StudyKeys};
 use std::alloc::Global;
-
-/// The value of the first element with this tag, without its padding: no bytes where there is no such
-/// element, and None where it is a sequence.
-pub fn value_at<'a>(set: &DataSet<'a>, tag: Tag) -> Option<&'a [u8]>
-    ensures { option_copied result ≡ value_at tag (set_view set.now) }
-{
-    let Some(element) = set.find(tag) else {
-        return Some(&[]);
-    };
-    let Value::Bytes(bytes) = element.value else {
-        return None;
-    };
-    Some(clean(bytes))
-}
 
 /// The key with these bytes.
 fn keep(alloc: Global, bytes: &[u8]) -> Result<Key, Memory>
@@ -50,13 +33,13 @@ fn keep(alloc: Global, bytes: &[u8]) -> Result<Key, Memory>
 impl KeyRow {
     /// The key that a data set gives.
     fn key<V: Values>(&self, alloc: Global, values: &V) -> Result<Key, Memory>
-        requires passes { told_key_fault self.now.tag (V.tells values.now self.now.tag) ≡ None }
+        requires passes { summary_key_fault self.now.tag (V.tells values.now self.now.tag) ≡ None }
         requires fronts { AreFronts (V.tells values.now) }
         requires clean { clean_of self.now.when_empty.now ≡ self.now.when_empty.now }
         requires short { length self.now.when_empty.now ≤ max_key_length }
-        ensures { IfOk result (λ key. key ≡ told_key (V.tells values.now) (key_row_view self.now)) }
+        ensures { IfOk result (λ key. key ≡ summary_key (V.tells values.now) (key_row_view self.now)) }
     {
-        let Shown::Bytes { front, .. } = values.value(self.tag) else {
+        let ValueSummary::Bytes { front, .. } = values.value(self.tag) else {
             unreachable!()
         };
         if front.is_empty() {
@@ -70,10 +53,10 @@ impl KeyRow {
 impl UidRow {
     /// The UID that a data set gives.
     fn uid<V: Values>(&self, meta: &Meta, values: &V) -> Uid
-        requires { told_uid_fault (uid_row_view self.now) meta.now (V.tells values.now self.now.tag) ≡ None }
-        ensures { result ≡ told_uid (V.tells values.now) self.now.tag }
+        requires { summary_uid_fault (uid_row_view self.now) meta.now (V.tells values.now self.now.tag) ≡ None }
+        ensures { result ≡ summary_uid (V.tells values.now) self.now.tag }
     {
-        let Shown::Bytes { front, .. } = values.value(self.tag) else {
+        let ValueSummary::Bytes { front, .. } = values.value(self.tag) else {
             unreachable!()
         };
         let Ok(uid) = Uid::new(front) else {
@@ -85,9 +68,9 @@ impl UidRow {
 
 /// The keys of the patient of a file that passes the checks of the table.
 fn patient_keys<V: Values>(alloc: Global, meta: &Meta, values: &V) -> Result<PatientKeys, Memory>
-    requires passes { told_table_fault meta.now (V.tells values.now) ≡ None }
+    requires passes { summary_table_fault meta.now (V.tells values.now) ≡ None }
     requires fronts { AreFronts (V.tells values.now) }
-    ensures { IfOk result (λ patient. patient ≡ told_patient (V.tells values.now)) }
+    ensures { IfOk result (λ patient. patient ≡ summary_patient (V.tells values.now)) }
 {
     Ok(PatientKeys {
         id: PATIENT_ID.key(alloc, values)?,
@@ -98,9 +81,9 @@ fn patient_keys<V: Values>(alloc: Global, meta: &Meta, values: &V) -> Result<Pat
 
 /// The keys of its study.
 fn study_keys<V: Values>(alloc: Global, meta: &Meta, values: &V) -> Result<StudyKeys, Memory>
-    requires passes { told_table_fault meta.now (V.tells values.now) ≡ None }
+    requires passes { summary_table_fault meta.now (V.tells values.now) ≡ None }
     requires fronts { AreFronts (V.tells values.now) }
-    ensures { IfOk result (λ study. study ≡ told_study (V.tells values.now)) }
+    ensures { IfOk result (λ study. study ≡ summary_study (V.tells values.now)) }
 {
     Ok(StudyKeys {
         uid: STUDY.uid(meta, values),
@@ -115,9 +98,9 @@ fn study_keys<V: Values>(alloc: Global, meta: &Meta, values: &V) -> Result<Study
 
 /// The keys of its series.
 fn series_keys<V: Values>(alloc: Global, meta: &Meta, values: &V) -> Result<SeriesKeys, Memory>
-    requires passes { told_table_fault meta.now (V.tells values.now) ≡ None }
+    requires passes { summary_table_fault meta.now (V.tells values.now) ≡ None }
     requires fronts { AreFronts (V.tells values.now) }
-    ensures { IfOk result (λ series. series ≡ told_series (V.tells values.now)) }
+    ensures { IfOk result (λ series. series ≡ summary_series (V.tells values.now)) }
 {
     Ok(SeriesKeys {
         uid: SERIES.uid(meta, values),
@@ -133,9 +116,9 @@ pub(crate) fn parts_in<V: Values>(
     values: &V,
     digest: [u8; 32],
 ) -> Result<Parts, Memory>
-    requires passes { told_table_fault meta.now (V.tells values.now) ≡ None }
+    requires passes { summary_table_fault meta.now (V.tells values.now) ≡ None }
     requires fronts { AreFronts (V.tells values.now) }
-    ensures { IfOk result (λ parts. parts ≡ told_parts (V.tells values.now) digest meta.now) }
+    ensures { IfOk result (λ parts. parts ≡ summary_parts (V.tells values.now) digest meta.now) }
 {
     Ok(Parts {
         digest,

@@ -209,14 +209,14 @@ uids_take group meta alone e =
     subst (λ (m : Meta). IsMeta group m) (ok_is (made a.0 b.0 c.0) meta c.2) holds
 
 -- bytes spell a group that holds the meta information
-record Told (text : List ℕ) (meta : Meta) : Type 0 where
+record MetaSays (text : List ℕ) (meta : Meta) : Type 0 where
   group : Elements
   spelled : Spells Explicit group text
   holds : IsMeta group meta
 
 -- meta information that was read
 meta_takes : (text : List ℕ) (meta : Meta) → AreBytes text → length text < 2 ^ 64 → meta_in text ≡ Ok meta
-    → Told text meta
+    → MetaSays text meta
 unfolding meta_in
 meta_takes text meta fits room e =
     let a = bind_ok (with_fault faults.Meta (read_all Explicit text))

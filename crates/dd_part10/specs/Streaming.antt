@@ -16,7 +16,7 @@ pub record IsScannedOf (wanted : List Tag) (given : List ℕ) (scanned : Scanned
   pub file : FileParts
   pub is : IsFile given file.meta file.set file.set_at
   pub read : file_in given ≡ Ok file
-  pub told : IsScanned wanted scanned file
+  pub scans : IsScanned wanted scanned file
 
 -- The answer of reading a file of at most `limit` bytes. The reader gave `given` in it, has `left` still to come, and
 -- its failures were `old` and are `new`. Where it neither failed nor gave too much, the answer is that of reading what

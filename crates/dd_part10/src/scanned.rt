@@ -1,4 +1,4 @@
-//! What is told of a file of which little is kept.
+//! A file of which little is kept.
 
 use dd_encoding::Meta;
 use dd_set::Found;

@@ -11,7 +11,7 @@ use dd_elem::{Read, Tag};
 use dd_stream::{End, Stream, finish};
 use std::alloc::Global;
 
-/// What is told of the DICOM file that the bytes of a reader are, to its end (PS3.10 section 7): its
+/// What a scan finds in the DICOM file that the bytes of a reader are, to its end (PS3.10 section 7): its
 /// meta information, and the wanted elements of its data set, each once and in the order of tags. Of
 /// the bytes of a wanted element it keeps the first 1,024 without the padding, and of the data set
 /// nothing else.

@@ -27,7 +27,7 @@ const SHORT_GROUP: usize = 1024;
 /// whether it is a sequence or fragments, or else the first 1,024 bytes of its value without the
 /// padding.
 pub fn take_file<F: Feed>(alloc: Global, feed: &mut F, wanted: &[Tag]) -> Result<Scanned, FileFault>
-    // Whatever was still to come, this is what is told of it, or why it is refused.
+    // Whatever was still to come, this is what was read of it, or why it is refused.
     ensures found { Scans F.moves F.tells feed.old feed.new
         (λ bytes rest. FileTaken wanted.now result bytes) }
 {

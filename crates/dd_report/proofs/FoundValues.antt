@@ -8,14 +8,14 @@ use Rattle.dd_set.specs.declared.found.FoundValue.{FoundValue}
 use Rattle.dd_set.specs.declared.found.FoundValue.TheVariants.{Items, Fragments, Bytes}
 use Rattle.dd_encoding.specs.Elements.{Elements, Content, bytes, items, fragments, Entry}
 use Rattle.dd_set.specs.Find.{same_tag, entries_of}
-use Rattle.dd_set.specs.Scan.{Hit, most_told, value_told, told_of, hit_of, is_wanted, hits_of, found_hit}
+use Rattle.dd_set.specs.Scan.{Hit, summary_length, found_summary, summary_of, hit_of, is_wanted, hits_of, found_hit}
 use Rattle.dd_part10.proofs.Tags.{same_tag-is}
 use Rattle.dd_keys.specs.Values.{content_value, entry_value}
 use Rattle.dd_dir.specs.Saying.{key_of}
 
 -- what is kept of a value shows it
 abbrev pub ValueShows : FoundValue → List ℕ → Type 0
-ValueShows (Bytes front size) value = (front.items ≡ take most_told value) × (size ≡ length value)
+ValueShows (Bytes front size) value = (front.items ≡ take summary_length value) × (size ≡ length value)
 ValueShows Items value = value ≡ []
 ValueShows Fragments value = value ≡ []
 
@@ -27,7 +27,7 @@ FoundShows (Some found) value = ValueShows found.value value
 abbrev pub first_at : Tag → List Found → Option Found
 first_at tag founds = find (λ found. same_tag found.tag tag) founds
 
-value_shows : (kept : FoundValue) (content : Content) → value_told kept ≡ told_of content
+value_shows : (kept : FoundValue) (content : Content) → found_summary kept ≡ summary_of content
     → ValueShows kept (unwrap_or (content_value content) [])
 value_shows (Bytes front size) (bytes v) h = (cc, cc)
 value_shows (Bytes front size) (items form parts) h = absurd (cc)
@@ -50,8 +50,8 @@ step true true tag e kept other [] is wanted others h = absurd (cc)
 step true true tag e kept other (found ∷ founds) is wanted others h =
     let first : found_hit found ≡ hit_of e = cc in
     let here : same_tag found.tag tag ≡ true = ap (λ (hit : Hit). same_tag hit.tag tag) first ∙ is in
-    let told : value_told found.value ≡ told_of e.content = ap (λ (hit : Hit). hit.told) first in
-    rw here (value_shows found.value e.content told)
+    let same : found_summary found.value ≡ summary_of e.content = ap (λ (hit : Hit). hit.summary) first in
+    rw here (value_shows found.value e.content same)
 step true false tag e kept other [] is wanted others h = absurd (cc)
 step true false tag e kept other (found ∷ founds) is wanted others h =
     let first : found_hit found ≡ hit_of e = cc in

@@ -6,7 +6,7 @@ use Rattle.std.specs.Option.{option_or}
 use Rattle.std.specs.Str.{bytes_eq}
 use Rattle.dd_elem.specs.declared.tag.Tag.{Tag}
 use Rattle.dd_set.specs.Find.{find_in}
-use Rattle.dd_set.specs.Scan.{most_told}
+use Rattle.dd_set.specs.Scan.{summary_length}
 use Rattle.dd_part10.specs.declared.fault.FileFault.{FileFault}
 use Rattle.dd_part10.specs.declared.fault.FileFault.TheVariants.{OtherSyntax}
 use Rattle.dd_encoding.specs.Meta.{class_tag, instance_tag, transfer_tag}
@@ -61,7 +61,7 @@ nearest wanted nodes = value_in wanted (find (λ node. is_some (find_in wanted n
 
 -- they have one length and the same first 1,024 bytes
 abbrev pub agree : List ℕ → List ℕ → Bool
-agree one two = (length one == length two) && bytes_eq (take most_told one) (take most_told two)
+agree one two = (length one == length two) && bytes_eq (take summary_length one) (take summary_length two)
 
 -- a tag of the file, and whether its value there agrees with what the records say
 abbrev pub Agreement : Type 0
@@ -152,5 +152,5 @@ pub record IsInherited (said : Inherited) (nodes : List Node) : Type 0 where
 
 -- it shows a value: its first 1,024 bytes, and its length
 pub record Shows (shown : Shown) (value : List ℕ) : Type 0 where
-  pub front : shown.front.now ≡ take most_told value
+  pub front : shown.front.now ≡ take summary_length value
   pub length : shown.length ≡ length value

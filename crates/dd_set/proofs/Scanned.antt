@@ -1,4 +1,4 @@
--- What is told of a set, element by element.
+-- What a scan finds in a set, element by element.
 use Rattle.std.proofs.Common.{◌≡◌, ◌<◌, ◌≤◌, ℕ, suc, ◌+◌, ◌-◌, Bool, true, false, if◌then◌else◌, List, [], ◌∷◌, ◌++◌}
 use Rattle.std.proofs.Common.{length, map, filter, Option, Some, None, option_map, unwrap_or, Result, Ok, Err, refl}
 use Rattle.std.proofs.Common.{zero, IsTrue, ◌∙◌, sym, ap, subst, arith, append_assoc}
@@ -18,9 +18,9 @@ use Rattle.dd_set.specs.AnswersAs.{FailsAs}
 use Rattle.dd_set.specs.Faults.{is_memory}
 use Rattle.dd_set.specs.Reading.{Header, front_at, At, Reads, ◌>>=◌, SequenceReader, ItemReader, content_at, element_at}
 use Rattle.dd_set.specs.Reading.{elements_at, sequence_with, set_with, within, fragments_here}
-use Rattle.dd_set.specs.Scan.{Told, Hit, hit_of, is_wanted, hits_of, first_tag, first_of, told_of, value_told}
-use Rattle.dd_set.specs.Scan.{told_where, noted, whole_elements, sort_told}
-use Rattle.dd_set.specs.Skips.{TellsValue, IsThere}
+use Rattle.dd_set.specs.Scan.{Summary, Hit, hit_of, is_wanted, hits_of, first_tag, first_of, summary_of, found_summary}
+use Rattle.dd_set.specs.Scan.{summary_where, noted, whole_elements, summary_of_sort}
+use Rattle.dd_set.specs.Skips.{GivesSummary, IsThere}
 use Rattle.dd_set.proofs.Entries.{entries_of-elements_of}
 use Rattle.dd_set.proofs.Feeding.{bind_fails}
 use Rattle.dd_set.proofs.Loops.{with_elements, fails_along, elements_more, elements_done, elements_fail}
@@ -32,8 +32,8 @@ use Rattle.dd_set.proofs.Steps.{bind_ok, ok_is}
 
 -- a value of bytes
 pub tells_bytes : (r : Result (FoundValue × Option ℕ) SetFault) (read : Reads (List ℕ)) (rest : List ℕ)
-    → TellsValue value_told (λ v. told_of (bytes v)) r read rest
-    → TellsValue value_told told_of r (read >>= λ x. Ok (bytes x.0, x.1)) rest
+    → GivesSummary found_summary (λ v. summary_of (bytes v)) r read rest
+    → GivesSummary found_summary summary_of r (read >>= λ x. Ok (bytes x.0, x.1)) rest
 tells_bytes (Ok x) read rest h = (bytes h.0, h.1, rw h.2 refl)
 tells_bytes (Err e) read rest h = (
   fails_along e _ _ h.0 (λ f k. bind_fails read _ f k),
@@ -41,18 +41,19 @@ tells_bytes (Err e) read rest h = (
 )
 
 -- a value that is not bytes is a sequence or fragments
-pub items_told : (read : SequenceReader) (sort : Sort) (at end : At) (y : Content)
-    → ((n : ℕ) → sort ≡ sorts.Bytes n → ⊥) → sorted read (Ok sort) at ≡ Ok (y, end) → sort_told sort ≡ told_of y
-items_told read (sorts.Bytes n) at end y other h = absurd (other n refl)
-items_told read (sorts.Open inner) at end y other h =
+pub summary_of_items : (read : SequenceReader) (sort : Sort) (at end : At) (y : Content)
+    → ((n : ℕ) → sort ≡ sorts.Bytes n → ⊥) → sorted read (Ok sort) at ≡ Ok (y, end)
+    → summary_of_sort sort ≡ summary_of y
+summary_of_items read (sorts.Bytes n) at end y other h = absurd (other n refl)
+summary_of_items read (sorts.Open inner) at end y other h =
     let e = bind_ok (read inner Undefined at) (λ x. Ok (items Undefined x.0, x.1)) (y, end) h in
-    ap (λ (z : Content × At). told_of z.0) (ok_is _ _ e.2)
-items_told read (sorts.Closed inner n) at end y other h =
+    ap (λ (z : Content × At). summary_of z.0) (ok_is _ _ e.2)
+summary_of_items read (sorts.Closed inner n) at end y other h =
     let e = bind_ok (within n at (read inner Defined)) (λ x. Ok (items Defined x.0, x.1)) (y, end) h in
-    ap (λ (z : Content × At). told_of z.0) (ok_is _ _ e.2)
-items_told read sorts.Fragments at end y other h =
+    ap (λ (z : Content × At). summary_of z.0) (ok_is _ _ e.2)
+summary_of_items read sorts.Fragments at end y other h =
     let e = bind_ok (fragments_here at) (λ x. Ok (fragments x.0, x.1)) (y, end) h in
-    ap (λ (z : Content × At). told_of z.0) (ok_is _ _ e.2)
+    ap (λ (z : Content × At). summary_of z.0) (ok_is _ _ e.2)
 
 -- ---- sets
 
@@ -60,26 +61,26 @@ module _ (wanted : List Tag) where
   hits_in : List Entry → List Hit
   hits_in es = map hit_of (filter (λ e. is_wanted wanted e.tag) es)
 
-  hits_one : (b : Bool) (e : Entry) → map hit_of (if b then (e ∷ []) else []) ≡ noted e.tag (told_where b e.content)
+  hits_one : (b : Bool) (e : Entry) → map hit_of (if b then (e ∷ []) else []) ≡ noted e.tag (summary_where b e.content)
   hits_one true e = refl
   hits_one false e = refl
 
   hits_more : (b : Bool) (q e : Entry) (all some : List Entry) → map hit_of all ≡ map hit_of some
-      ++ noted e.tag (told_where (is_wanted wanted e.tag) e.content)
+      ++ noted e.tag (summary_where (is_wanted wanted e.tag) e.content)
       → map hit_of (if b then (q ∷ all) else all) ≡ map hit_of (if b then (q ∷ some) else some)
-      ++ noted e.tag (told_where (is_wanted wanted e.tag) e.content)
+      ++ noted e.tag (summary_where (is_wanted wanted e.tag) e.content)
   hits_more true q e all some h = ap (λ (hs : List Hit). hit_of q ∷ hs) h
   hits_more false q e all some h = h
 
   hits_in-push : (es : List Entry) (e : Entry) → hits_in (es ++ e ∷ []) ≡ hits_in es
-      ++ noted e.tag (told_where (is_wanted wanted e.tag) e.content)
+      ++ noted e.tag (summary_where (is_wanted wanted e.tag) e.content)
   unfolding hits_in
   hits_in-push [] e = hits_one (is_wanted wanted e.tag) e
   hits_in-push (q ∷ qs) e = hits_more (is_wanted wanted q.tag) q e (filter (λ x. is_wanted wanted x.tag) (qs ++ e ∷ []))
       (filter (λ x. is_wanted wanted x.tag) qs) (hits_in-push qs e)
 
   hits_of-push : (front : List Entry) (e : Entry) → hits_of wanted (elements_of (front ++ e ∷ [])) ≡ hits_of wanted
-      (elements_of front) ++ noted e.tag (told_where (is_wanted wanted e.tag) e.content)
+      (elements_of front) ++ noted e.tag (summary_where (is_wanted wanted e.tag) e.content)
   unfolding hits_in
   hits_of-push front e = rw (entries_of-elements_of (front ++ e ∷ []), entries_of-elements_of front)
       (hits_in-push front e)
@@ -94,11 +95,11 @@ first_of-push : (front : List Entry) (e : Entry) → first_of (elements_of (fron
 first_of-push front e = rw (entries_of-elements_of (front ++ e ∷ []), entries_of-elements_of front)
     (first_tag-push front e)
 
--- an element with this header was read, this is told of its value, and bytes went with it
+-- an element with this header was read, this is the summary of its value, and bytes went with it
 pub record ValueStep (reader : SequenceReader) (syntax : Syntax) (low : ℕ) (left : Option ℕ) (header : Header)
-    (told : Option Told) (keeps : Bool) (all : List ℕ) (now : Option ℕ) (rest : List ℕ) : Type 0 where
+    (summary : Option Summary) (keeps : Bool) (all : List ℕ) (now : Option ℕ) (rest : List ℕ) : Type 0 where
   pub content : Content
-  pub tells : told ≡ told_where keeps content
+  pub tells : summary ≡ summary_where keeps content
   pub read : element_at reader syntax Defined low (record { left = left; bytes = all }) ≡ Ok
       (Some (record { tag = header.tag; vr = header.shape.vr; content = content }), record { left = now; bytes = rest })
   pub shorter : length rest < length all
@@ -107,9 +108,9 @@ pub value_steps : (reader : SequenceReader) (syntax : Syntax) (low : ℕ) (left 
     (value : Option FoundValue) (keeps : Bool) (all : List ℕ) (behind now : Option ℕ) (mid rest : List ℕ)
     → front_at syntax Defined low (record { left = left; bytes = all }) ≡ Ok
     (Some header, record { left = behind; bytes = mid })
-    → TellsValue (option_map value_told) (told_where keeps) (Ok (value, now))
+    → GivesSummary (option_map found_summary) (summary_where keeps) (Ok (value, now))
     (content_at reader syntax header (record { left = behind; bytes = mid })) rest → length rest ≤ length mid
-    → ValueStep reader syntax low left header (option_map value_told value) keeps all now rest
+    → ValueStep reader syntax low left header (option_map found_summary value) keeps all now rest
 value_steps reader syntax low left header value keeps all behind now mid rest h k few = record {
   content = k.0;
   tells = k.1;
@@ -167,7 +168,7 @@ wanted_among wanted front rest e tag same h =
     (sym (append_assoc front (e ∷ []) rest))
     (any_among (λ q. is_wanted wanted q.tag) front rest e (rw same h))
 
--- some elements were read, this is told of them, and those that reading gives from here are the others
+-- some elements were read, these are their hits, and those that reading gives from here are the others
 pub record ScanGo (wanted : List Tag) (part : ItemReader) (syntax : Syntax) (all : List ℕ) (low : ℕ) (left : Option ℕ)
     (first : Option Tag) (hits : List Hit) (rest : List ℕ) : Type 0 where
   pub most : ℕ
@@ -194,12 +195,12 @@ module _ (wanted : List Tag) (part : ItemReader) (syntax : Syntax) where
   }
 
   module _ (all : List ℕ) (left : Option ℕ) (first : Option Tag) (hits : List Hit) (mid : List ℕ) (low : ℕ) where
-    pub scan_go : (header : Header) (told : Option Told) (now : Option ℕ) (rest : List ℕ)
+    pub scan_go : (header : Header) (summary : Option Summary) (now : Option ℕ) (rest : List ℕ)
         → ScanGo wanted part syntax all low left first hits mid
-        → ValueStep (sequence_with part) syntax low left header told (is_wanted wanted header.tag) mid now rest
+        → ValueStep (sequence_with part) syntax low left header summary (is_wanted wanted header.tag) mid now rest
         → ScanGo wanted part syntax all (number_of header.tag + 1) now (Some (unwrap_or first header.tag))
-        (hits ++ noted header.tag told) rest
-    scan_go header told now rest go step =
+        (hits ++ noted header.tag summary) rest
+    scan_go header summary now rest go step =
         let e : Entry = record { tag = header.tag; vr = header.shape.vr; content = step.content } in
         record {
           most = go.most - 1;

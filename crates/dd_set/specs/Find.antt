@@ -1,7 +1,8 @@
--- The element of a data set with a given tag.
-use Rattle.std.specs.Prelude.{List, [], ◌∷◌, Option, find, Bool, ◌&&◌, ◌==◌}
+-- The element of a data set with a given tag, and its value.
+use Rattle.std.specs.Prelude.{ℕ, List, [], ◌∷◌, Option, Some, None, find, Bool, ◌&&◌, ◌==◌}
+use Rattle.dd_elem.specs.Clean.{clean_of}
 use Rattle.dd_elem.specs.declared.tag.Tag.{Tag}
-use Rattle.dd_encoding.specs.Elements.{Elements, no_elements, element, Entry}
+use Rattle.dd_encoding.specs.Elements.{Elements, no_elements, element, Content, bytes, items, fragments, Entry}
 
 -- two tags are one
 abbrev pub same_tag : Tag → Tag → Bool
@@ -15,3 +16,19 @@ entries_of (element tag vr content rest) = record { tag = tag; vr = vr; content 
 -- the first element with this tag: the only one where tags rise
 abbrev pub find_in : Tag → Elements → Option Entry
 find_in tag set = find (λ e. same_tag e.tag tag) (entries_of set)
+
+-- a value without its padding, where it is no sequence
+abbrev pub content_value : Content → Option (List ℕ)
+content_value (bytes value) = Some (clean_of value)
+content_value (items form parts) = None
+content_value (fragments fs) = None
+
+-- the same of an element, and no bytes where there is none
+abbrev pub entry_value : Option Entry → Option (List ℕ)
+entry_value None = Some []
+entry_value (Some entry) = content_value entry.content
+
+-- the value that a data set has at a tag: without its padding, no bytes where there is no such element, and None where
+-- that holds a sequence
+abbrev pub value_at : Tag → Elements → Option (List ℕ)
+value_at tag set = entry_value (find_in tag set)

@@ -24,33 +24,33 @@ use Rattle.dd_set.specs.Faults.{is_memory}
 use Rattle.dd_set.specs.Reading.{At, Reads, SequenceReader, element_at, sequence_with, item_reader, read_all}
 use Rattle.dd_encoding.specs.Spelling.{max_levels}
 
--- how many bytes of a value are told: as many as a key may have
-abbrev pub most_told : ℕ
-most_told = max_key_length
+-- how many bytes of a value its summary has: as many as a key may have
+abbrev pub summary_length : ℕ
+summary_length = max_key_length
 
--- what is told of a value: that it is a sequence, or fragments; or the front of its bytes, and how many they are
-pub data Told : Type 0 where
-  sequence : Told
-  fragments : Told
-  cleaned : List ℕ → ℕ → Told
+-- the summary of a value: that it is a sequence, or fragments; or the front of its bytes, and how many they are
+pub data Summary : Type 0 where
+  sequence : Summary
+  fragments : Summary
+  cleaned : List ℕ → ℕ → Summary
 
-abbrev pub told_value : Option (List ℕ) → Told
-told_value None = sequence
-told_value (Some value) = cleaned (take most_told value) (length value)
+abbrev pub summary_of_value : Option (List ℕ) → Summary
+summary_of_value None = sequence
+summary_of_value (Some value) = cleaned (take summary_length value) (length value)
 
 -- the same of what an element holds, whose value is its bytes without the padding
-abbrev pub told_of : Content → Told
-told_of (bytes v) = told_value (Some (clean_of v))
-told_of (items form parts) = told_value None
-told_of (fragment_list fs) = fragments
+abbrev pub summary_of : Content → Summary
+summary_of (bytes v) = summary_of_value (Some (clean_of v))
+summary_of (items form parts) = summary_of_value None
+summary_of (fragment_list fs) = fragments
 
--- what is told of an element
+-- an element as a scan finds it
 pub record Hit : Type 0 where
   pub tag : Tag
-  pub told : Told
+  pub summary : Summary
 
 abbrev pub hit_of : Entry → Hit
-hit_of e = record { tag = e.tag; told = told_of e.content }
+hit_of e = record { tag = e.tag; summary = summary_of e.content }
 
 abbrev pub is_wanted : List Tag → Tag → Bool
 is_wanted wanted tag = list_any (λ w. same_tag w tag) wanted
@@ -89,13 +89,13 @@ HasWanted syntax wanted given =
 
 -- ---- what a scan returned
 
-abbrev pub value_told : FoundValue → Told
-value_told values.Items = sequence
-value_told values.Fragments = fragments
-value_told (values.Bytes front length) = cleaned front.items length
+abbrev pub found_summary : FoundValue → Summary
+found_summary values.Items = sequence
+found_summary values.Fragments = fragments
+found_summary (values.Bytes front length) = cleaned front.items length
 
 abbrev pub found_hit : Found → Hit
-found_hit f = record { tag = f.tag; told = value_told f.value }
+found_hit f = record { tag = f.tag; summary = found_summary f.value }
 
 -- a scan tells this set
 pub record IsScan (wanted : List Tag) (scan : Scan) (set : Elements) : Type 0 where
@@ -108,19 +108,19 @@ ScanGives syntax wanted (Ok scan) given = (set : Elements) × (read_all syntax g
 ScanGives syntax wanted (Err e) given =
     FailsAs is_memory e (read_all syntax given) × (e ≡ Memory → HasWanted syntax wanted given)
 
--- what is told of a value where it is wanted
-abbrev pub told_where : Bool → Content → Option Told
-told_where true c = Some (told_of c)
-told_where false c = None
+-- the summary of a value where it is wanted
+abbrev pub summary_where : Bool → Content → Option Summary
+summary_where true c = Some (summary_of c)
+summary_where false c = None
 
--- what is told of a value of this sort that is not bytes
-abbrev pub sort_told : Sort → Told
-sort_told (sorts.Bytes n) = sequence
-sort_told (sorts.Open inner) = sequence
-sort_told (sorts.Closed inner n) = sequence
-sort_told sorts.Fragments = fragments
+-- the summary of a value of this sort that is not bytes
+abbrev pub summary_of_sort : Sort → Summary
+summary_of_sort (sorts.Bytes n) = sequence
+summary_of_sort (sorts.Open inner) = sequence
+summary_of_sort (sorts.Closed inner n) = sequence
+summary_of_sort sorts.Fragments = fragments
 
 -- the hit that this makes
-abbrev pub noted : Tag → Option Told → List Hit
+abbrev pub noted : Tag → Option Summary → List Hit
 noted tag None = []
-noted tag (Some told) = record { tag = tag; told = told } ∷ []
+noted tag (Some summary) = record { tag = tag; summary = summary } ∷ []

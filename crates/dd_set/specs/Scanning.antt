@@ -19,7 +19,7 @@ use Rattle.dd_stream.specs.Streams.{Ends}
 pub record IsScanOf (syntax : Syntax) (wanted : List Tag) (given : List ℕ) (scan : Scan) : Type 0 where
   pub set : Elements
   pub spelled : Spells syntax set given
-  pub told : IsScan wanted scan set
+  pub scans : IsScan wanted scan set
 
 -- The answer of a scan of at most `limit` bytes. The reader gave `given` in it, has `left` still to come, and its
 -- failures were `old` and are `new`. Where it neither failed nor gave too much, the answer is that of reading what it

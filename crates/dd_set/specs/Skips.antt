@@ -39,8 +39,8 @@ abbrev pub IsThere : {Y : Type 0} → Reads Y → List ℕ → Type 0
 IsThere {Y} read rest = (y : Y) × (left : Option ℕ) × (read ≡ Ok (y, record { left = left; bytes = rest }))
 
 -- reading gives some value, and what is returned tells it; want of memory comes only where reading gives one
-abbrev pub TellsValue : {X Y Z : Type 0} → (X → Z) → (Y → Z) → Result (X × Option ℕ) SetFault → Reads Y → List ℕ
+abbrev pub GivesSummary : {X Y Z : Type 0} → (X → Z) → (Y → Z) → Result (X × Option ℕ) SetFault → Reads Y → List ℕ
     → Type 0
-TellsValue {X} {Y} view told (Ok x) read rest =
-    (y : Y) × (view x.0 ≡ told y) × (read ≡ Ok (y, record { left = x.1; bytes = rest }))
-TellsValue view told (Err e) read rest = FailsAs is_memory e read × (e ≡ Memory → IsThere read rest)
+GivesSummary {X} {Y} view summary (Ok x) read rest =
+    (y : Y) × (view x.0 ≡ summary y) × (read ≡ Ok (y, record { left = x.1; bytes = rest }))
+GivesSummary view summary (Err e) read rest = FailsAs is_memory e read × (e ≡ Memory → IsThere read rest)

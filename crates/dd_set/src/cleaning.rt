@@ -5,8 +5,8 @@ ghost use Rattle.dd_elem.specs.Clean.{clean_of};
 ghost use Rattle.dd_encoding.specs.Elements.{bytes as value};
 ghost use Rattle.dd_stream.specs.Feeds.{IsOver, Scans};
 ghost use Rattle.dd_set.specs.Reading.{take_at};
-ghost use Rattle.dd_set.specs.Scan.{value_told, told_of};
-ghost use Rattle.dd_set.specs.Skips.{TellsValue};
+ghost use Rattle.dd_set.specs.Scan.{found_summary, summary_of};
+ghost use Rattle.dd_set.specs.Skips.{GivesSummary};
 
 use crate::checks::{leaves_fewer, less};
 use crate::fault::SetFault;
@@ -34,7 +34,7 @@ pub fn take_cleaned<F: Feed>(
     left: Option<u64>,
 ) -> Result<(FoundValue, Option<u64>), SetFault>
     ensures found { Scans F.moves F.tells feed.old feed.new
-        (λ bytes rest. TellsValue value_told (λ v. told_of (value v)) result
+        (λ bytes rest. GivesSummary found_summary (λ v. summary_of (value v)) result
         (take_at n (record { left = left; bytes = bytes })) rest) }
     ensures fewer { F.most feed.new ≤ F.most feed.old }
 {
@@ -56,7 +56,7 @@ fn take_short<F: Feed>(
 ) -> Result<(FoundValue, Option<u64>), SetFault>
     requires { length room.old ≤ SHORT }
     ensures found { Scans F.moves F.tells feed.old feed.new
-        (λ bytes rest. TellsValue value_told (λ v. told_of (value v)) result
+        (λ bytes rest. GivesSummary found_summary (λ v. summary_of (value v)) result
         (take_at (length room.old) (record { left = left; bytes = bytes })) rest) }
     ensures fewer { F.most feed.new ≤ F.most feed.old }
 {
@@ -75,7 +75,7 @@ fn take_long<F: Feed>(
     left: Option<u64>,
 ) -> Result<(FoundValue, Option<u64>), SetFault>
     ensures found { Scans F.moves F.tells feed.old feed.new
-        (λ bytes rest. TellsValue value_told (λ v. told_of (value v)) result
+        (λ bytes rest. GivesSummary found_summary (λ v. summary_of (value v)) result
         (take_at n (record { left = left; bytes = bytes })) rest) }
     ensures fewer { F.most feed.new ≤ F.most feed.old }
 {

@@ -33,6 +33,7 @@ mod writing;
 pub use dd_encoding::{HEADER_SIZE, LONG_HEADER_SIZE, Length, Syntax, item_header, send_header};
 pub use dd_stream::{End, Feed, Stream, WriteFault, drain, fill, finish, send, skip};
 pub use fault::SetFault;
+pub use finding::value_at;
 pub use found::{Found, FoundValue, Scan};
 pub use reading::parse;
 pub use scan_fault::ScanFault;

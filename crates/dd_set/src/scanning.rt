@@ -12,7 +12,7 @@ use dd_encoding::Syntax;
 use dd_stream::{End, Stream, finish};
 use std::alloc::Global;
 
-/// What is told of the data set that the bytes of a reader spell, to its end, in this syntax (PS3.5
+/// What a scan finds in the data set that the bytes of a reader spell, to its end, in this syntax (PS3.5
 /// section 7): its first tag, and the wanted elements of the set itself, each once and in the order of
 /// tags. Of the bytes of a wanted element it keeps the first 1,024 without the padding, and of all else
 /// nothing.

@@ -32,7 +32,7 @@ pub enum Value<'a> {
     Bytes(&'a [u8]),
     /// A sequence of items (PS3.5 section 7.5).
     Items {
-        /// How its end is told.
+        /// What ends it: its length, or a delimiter.
         length: Length,
         /// Its items.
         items: Vec<Item<'a>>,
@@ -45,7 +45,7 @@ pub enum Value<'a> {
 #[cycle(data_set)]
 #[derive(Debug, Drop, PartialEq)]
 pub struct Item<'a> {
-    /// How its end is told.
+    /// What ends it: its length, or a delimiter.
     pub length: Length,
     /// What it holds.
     pub set: DataSet<'a>,

@@ -1,4 +1,4 @@
-//! A data set of a feed, of which only what is told of wanted elements is kept.
+//! A data set of a feed, of which only summaries of wanted elements are kept.
 
 ghost use Rattle.std.specs.Prelude.{◌≡◌, ◌≤◌, ◌++◌, [], Some, None, IsSome, IsTrue, Err, IfOk, IfErr};
 ghost use Rattle.std.specs.Prelude.{map, option_map, unwrap_or};
@@ -6,9 +6,9 @@ ghost use Rattle.dd_set.specs.declared.fault.SetFault.TheVariants.{Memory};
 ghost use Rattle.dd_stream.specs.Feeds.{Scans};
 ghost use Rattle.dd_set.specs.Checks.{header_view};
 ghost use Rattle.dd_set.specs.Reading.{item_reader, sequence_with, content_at};
-ghost use Rattle.dd_set.specs.Scan.{ScanGives, is_wanted, found_hit, value_told, told_of, told_where, noted};
-ghost use Rattle.dd_set.specs.Scan.{sort_told};
-ghost use Rattle.dd_set.specs.Skips.{TellsValue};
+ghost use Rattle.dd_set.specs.Scan.{ScanGives, is_wanted, found_hit, found_summary, summary_of, summary_where, noted};
+ghost use Rattle.dd_set.specs.Scan.{summary_of_sort};
+ghost use Rattle.dd_set.specs.Skips.{GivesSummary};
 
 use crate::checks::{Header, Sort, sort_of};
 use crate::cleaning::take_cleaned;
@@ -32,7 +32,7 @@ pub fn take_set<F: Feed>(
     syntax: Syntax,
     wanted: &[Tag],
 ) -> Result<Scan, SetFault>
-    // Whatever was still to come, this is what is told of it, or its first check that fails; or memory ran
+    // Whatever was still to come, this is its scan, or its first check that fails; or memory ran
     // out where a wanted element was read.
     ensures found { Scans F.moves F.tells feed.old feed.new
         (λ bytes rest. ScanGives syntax wanted.now result bytes) }
@@ -69,7 +69,7 @@ fn is_wanted(wanted: &[Tag], tag: Tag) -> bool
 fn note(scan: &mut Scan, tag: Tag, value: Option<FoundValue>) -> Result<(), SetFault>
     ensures first { IfOk result (λ _. scan.new.first ≡ Some (unwrap_or scan.old.first tag)) }
     ensures found { IfOk result (λ _. map found_hit scan.new.found.items
-        ≡ map found_hit scan.old.found.items ++ noted tag (option_map value_told value)) }
+        ≡ map found_hit scan.old.found.items ++ noted tag (option_map found_summary value)) }
     ensures memory { IfErr result (λ e. (e ≡ Memory) × IsSome value) }
 {
     scan.first = Some(scan.first.unwrap_or(tag));
@@ -80,7 +80,7 @@ fn note(scan: &mut Scan, tag: Tag, value: Option<FoundValue>) -> Result<(), SetF
     Ok(())
 }
 
-/// Takes the value behind a header, and keeps what is told of it, where it is wanted.
+/// Takes the value behind a header, and keeps its summary, where it is wanted.
 fn take_value<F: Feed>(
     alloc: Global,
     feed: &mut F,
@@ -91,7 +91,7 @@ fn take_value<F: Feed>(
     keeps: bool,
 ) -> Result<(Option<FoundValue>, Option<u64>), SetFault>
     ensures found { Scans F.moves F.tells feed.old feed.new (λ bytes rest.
-        TellsValue (option_map value_told) (told_where keeps) result
+        GivesSummary (option_map found_summary) (summary_where keeps) result
         (content_at (sequence_with (item_reader levels)) syntax (header_view header)
         (record { left = left; bytes = bytes })) rest) }
     ensures fewer { F.most feed.new ≤ F.most feed.old }
@@ -106,7 +106,7 @@ fn take_value<F: Feed>(
     Ok((Some(value), left))
 }
 
-/// Takes the value behind a header, and keeps what is told of it.
+/// Takes the value behind a header, and keeps its summary.
 fn take_wanted<F: Feed>(
     alloc: Global,
     feed: &mut F,
@@ -115,7 +115,7 @@ fn take_wanted<F: Feed>(
     header: Header,
     left: Option<u64>,
 ) -> Result<(FoundValue, Option<u64>), SetFault>
-    ensures found { Scans F.moves F.tells feed.old feed.new (λ bytes rest. TellsValue value_told told_of result
+    ensures found { Scans F.moves F.tells feed.old feed.new (λ bytes rest. GivesSummary found_summary summary_of result
         (content_at (sequence_with (item_reader levels)) syntax (header_view header)
         (record { left = left; bytes = bytes })) rest) }
     ensures fewer { F.most feed.new ≤ F.most feed.old }
@@ -124,14 +124,14 @@ fn take_wanted<F: Feed>(
     if let Sort::Bytes(n) = sort {
         return take_cleaned(alloc, feed, n, left);
     }
-    let value = told_by(sort);
+    let value = found_of_sort(sort);
     let left = skip_content(feed, levels, syntax, header, left)?;
     Ok((value, left))
 }
 
-/// What is told of a value that is not bytes.
-fn told_by(sort: Sort) -> FoundValue
-    ensures { value_told result ≡ sort_told sort }
+/// The summary of a value of this sort, which is not bytes.
+fn found_of_sort(sort: Sort) -> FoundValue
+    ensures { found_summary result ≡ summary_of_sort sort }
 {
     match sort {
         Sort::Bytes(_) | Sort::Open(_) | Sort::Closed(_, _) => FoundValue::Items,

@@ -2,10 +2,10 @@ use Rattle.std.proofs.Common.{Err, ap, is_some, refl}
 use Rattle.std.proofs.lemmas.Result.{err_from_is_err_and}
 use Rattle.dd_set.specs.Views.{set_view}
 use Rattle.dd_part10.specs.Views.{file_view}
-use Rattle.dd_keys.specs.Told.{told_at}
+use Rattle.dd_keys.specs.Summaries.{summary_at}
 use Rattle.dd_keys.proofs.FoundVersions.{file_refused, refused_answers}
 use Rattle.dd_keys.proofs.Judging.{judged_answers}
-use Rattle.dd_keys.proofs.Telling.{set_fronts}
+use Rattle.dd_keys.proofs.SummaryLaws.{set_fronts}
 use Rattle.dd_keys.proofs.reading.version_of.Goals as goal
 
 pub returns-in_err-file : goal.returns-in_err-file
@@ -24,5 +24,5 @@ version_from-requires-clause-fronts c = set_fronts (set_view c.in_ok-file.file.s
 pub returns : goal.returns
 returns c =
     judged_answers c.args.bytes.now c.digest.result (file_view c.in_ok-file.file)
-    (λ tag. told_at tag (set_view c.in_ok-file.file.set)) _
+    (λ tag. summary_at tag (set_view c.in_ok-file.file.set)) _
     c.in_ok-file.ensures.fault c.in_ok-file.ensures.found (λ tag _. refl) c.digest.ensures c.version_from.ensures

@@ -41,7 +41,7 @@ returns-in-Ok-clause-read g c =
         file = said.0;
         is = file_found given said.0 said.1 bytes (omega (arith, ends.0, c.requires.room));
         read = said.1;
-        told = said.2;
+        scans = said.2;
       },
     ))
 

@@ -5,15 +5,15 @@ use Rattle.std.proofs.lemmas.List.{length-append, length-take-le, length-replica
 use Rattle.std.proofs.lemmas.Result.{err_from_is_err_and}
 use Rattle.dd_elem.proofs.Cleaning.{length-clean_of}
 use Rattle.dd_set.specs.Reading.{leaves_fewer, less}
-use Rattle.dd_set.specs.Scan.{Told, cleaned}
+use Rattle.dd_set.specs.Scan.{Summary, cleaned}
 use Rattle.dd_stream.proofs.Along.{scans_none}
 use Rattle.dd_set.proofs.CleanedFronts.{cleaned_front}
 use Rattle.dd_set.proofs.Feeding.{take_overruns, take_ends, take_whole, over_length, front_length}
 use Rattle.dd_set.proofs.cleaning.take_long.Goals as goal
 
-told_cleaned : (front same : List ℕ) (n m : ℕ) → front ≡ same → n ≡ m
-    → ◌≡◌ {A = Told} (cleaned front n) (cleaned same m)
-told_cleaned front same n m e f = rw (e, f) refl
+same_summary : (front same : List ℕ) (n m : ℕ) → front ≡ same → n ≡ m
+    → ◌≡◌ {A = Summary} (cleaned front n) (cleaned same m)
+same_summary front same n m e f = rw (e, f) refl
 
 -- a front of the room for what is kept
 abbrev zeros : List ℕ
@@ -124,7 +124,7 @@ returns-clause-found g c =
           c.fill.ensures.moved) m.1;
       gives = λ rest t. (
         room ++ m.0,
-        told_cleaned _ _ _ _ (kept ∙ front_is) length_is,
+        same_summary _ _ _ _ (kept ∙ front_is) length_is,
         rw less_is (take_whole c.args.n c.args.left (room ++ m.0) rest enough whole),
       );
     }

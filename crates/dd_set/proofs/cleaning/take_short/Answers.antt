@@ -4,13 +4,13 @@ use Rattle.std.proofs.lemmas.Result.{err_from_is_err_and}
 use Rattle.std.proofs.lemmas.List.{take_all}
 use Rattle.dd_elem.specs.Clean.{clean_of}
 use Rattle.dd_elem.proofs.Cleaning.{length-clean_of}
-use Rattle.dd_set.specs.Scan.{Told, cleaned}
+use Rattle.dd_set.specs.Scan.{Summary, cleaned}
 use Rattle.dd_stream.proofs.Along.{scans_same}
 use Rattle.dd_set.proofs.cleaning.take_short.Goals as goal
 
-told_cleaned : (front same : List ℕ) (n m : ℕ) → front ≡ same → n ≡ m
-    → ◌≡◌ {A = Told} (cleaned front n) (cleaned same m)
-told_cleaned front same n m e f = rw (e, f) refl
+same_summary : (front same : List ℕ) (n m : ℕ) → front ≡ same → n ≡ m
+    → ◌≡◌ {A = Summary} (cleaned front n) (cleaned same m)
+same_summary front same n m e f = rw (e, f) refl
 
 pub returns-clause-found : goal.returns-clause-found
 returns-clause-found g c =
@@ -22,7 +22,7 @@ returns-clause-found g c =
     let few : length (clean_of room) ≤ 1024 = omega (arith, length-clean_of room) in
     scans_same _ _ _ _ _ _ c.in_ok-left.ensures.found (λ all rest t fewer h. (
       room,
-      told_cleaned _ _ _ _ (kept ∙ cleaned_is ∙ sym (take_all 1024 (clean_of room) few)) (ap length cleaned_is),
+      same_summary _ _ _ _ (kept ∙ cleaned_is ∙ sym (take_all 1024 (clean_of room) few)) (ap length cleaned_is),
       rw (sym same) h,
     ))
 

@@ -40,7 +40,7 @@ returns-in-Ok-clause-read g c =
       record {
         set = said.0;
         spelled = read_is_spelled c.args.syntax given said.0 bytes (omega (arith, ends.0, c.requires.room)) said.1;
-        told = said.2;
+        scans = said.2;
       },
     ))
 

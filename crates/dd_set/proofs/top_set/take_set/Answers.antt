@@ -6,7 +6,7 @@ use Rattle.dd_set.specs.Checks.{header_view}
 use Rattle.dd_set.specs.AnswersAs.{FailsAs}
 use Rattle.dd_set.specs.Faults.{is_memory}
 use Rattle.dd_set.specs.Reading.{◌>>=◌, item_reader, sequence_with, element_at, set_with, read_all}
-use Rattle.dd_set.specs.Scan.{found_hit, value_told}
+use Rattle.dd_set.specs.Scan.{found_hit, found_summary}
 use Rattle.dd_encoding.specs.Elements.{Elements, elements_of}
 use Rattle.dd_encoding.specs.Spelling.{max_levels}
 use Rattle.dd_set.specs.declared.fault.SetFault.{SetFault}
@@ -48,7 +48,7 @@ elements-preserved g c =
     let header = header_view c.in-Some.header in
     let one = scans_then _ _ g.met.F.Feed.goes g.met.F.Feed.told _ _ _ _ _
     (λ all rest. ValueStep (sequence_with part) c.args.syntax c.elements.low c.elements.left header
-    (option_map value_told c.in_ok-value.value) c.is_wanted-keeps.result all c.in_ok-value.behind rest)
+    (option_map found_summary c.in_ok-value.value) c.is_wanted-keeps.result all c.in_ok-value.behind rest)
     c.in_ok-header.ensures.found c.in_ok-value.ensures.found
     (λ all mid rest few fewer h k. value_steps (sequence_with part) c.args.syntax c.elements.low c.elements.left header
     c.in_ok-value.value c.is_wanted-keeps.result all c.in_ok-header.behind c.in_ok-value.behind mid rest
@@ -59,7 +59,7 @@ elements-preserved g c =
           let step = rw c.is_wanted-keeps.ensures at h in
           let next = scan_go wanted part c.args.syntax all c.elements.left c.elements.scan.first
           (map found_hit c.elements.scan.found.items) mid c.elements.low header
-          (option_map value_told c.in_ok-value.value) c.in_ok-value.behind rest go step in
+          (option_map found_summary c.in_ok-value.value) c.in_ok-value.behind rest go step in
           rw (c.low_behind-low.ensures, c.in_ok-note.ensures.first, c.in_ok-note.ensures.found) next);
       fewer = omega arith;
     }

@@ -3,7 +3,7 @@ use Rattle.std.proofs.lemmas.Result.{err_from_is_err_and}
 use Rattle.dd_set.specs.Reading.{At, item_reader, sequence_with}
 use Rattle.dd_stream.proofs.Along.{scans_none, scans_same}
 use Rattle.dd_set.proofs.Feeding.{fails_is}
-use Rattle.dd_set.proofs.Scanned.{tells_bytes, items_told}
+use Rattle.dd_set.proofs.Scanned.{tells_bytes, summary_of_items}
 use Rattle.dd_set.proofs.top_set.take_wanted.Goals as goal
 
 pub returns-in-Bytes-clause-found : goal.returns-in-Bytes-clause-found
@@ -25,7 +25,7 @@ returns-clause-found g c =
     scans_same _ _ _ _ _ _ c.in_ok-left.ensures.found (λ all rest t few h.
     let at : At = record { left = c.args.left; bytes = all } in (
       h.0,
-      c.told_by-value.ensures ∙ items_told reader c.in_ok-sort.sort at _ h.0 c.in_default.not-Bytes
+      c.found_of_sort-value.ensures ∙ summary_of_items reader c.in_ok-sort.sort at _ h.0 c.in_default.not-Bytes
           (sym (c.in_ok-sort.ensures.exact reader all) ∙ h.1),
       h.1,
     ))

@@ -1,4 +1,4 @@
--- What is told of the values of a data set, by the set itself or by a scan of it, against the values.
+-- The summaries of the values of a data set, by the set itself or by a scan of it, against the values.
 use Rattle.std.proofs.Common.{◌≡◌, ℕ, Bool, true, false, List, [], ◌∷◌, map, Option, Some, None}
 use Rattle.std.proofs.Common.{if◌then◌else◌, refl, sym, ap, subst, ◌∙◌}
 use Rattle.std.specs.Prelude.{find, filter}
@@ -8,10 +8,11 @@ use Rattle.dd_elem.specs.Key.{IsKey}
 use Rattle.dd_elem.specs.declared.tag.Tag.{Tag}
 use Rattle.dd_encoding.specs.Elements.{Elements, Content, bytes, items, fragments, Entry}
 use Rattle.dd_set.specs.Find.{same_tag, entries_of}
-use Rattle.dd_set.specs.Scan.{Told, cleaned, told_value, told_of, Hit, hit_of, is_wanted, hits_of, found_hit}
+use Rattle.dd_set.specs.Scan.{Summary, cleaned, summary_of_value, summary_of, Hit, hit_of, is_wanted, hits_of}
+use Rattle.dd_set.specs.Scan.{found_hit}
 use Rattle.dd_set.specs.declared.found.Found.{Found}
 use Rattle.dd_part10.proofs.Tags.{same_tag-is}
-use Rattle.dd_keys.specs.Told.{told_at, value_of_key, found_told, told_found, IsFront, AreFronts}
+use Rattle.dd_keys.specs.Summaries.{summary_at, value_of_key, summary_of_found, summary_in, IsFront, AreFronts}
 use Rattle.dd_keys.proofs.Tells.{TellsSet}
 use Rattle.dd_keys.specs.Table.{wanted_tags}
 use Rattle.dd_keys.specs.Values.{content_value, entry_value, value_at}
@@ -19,21 +20,22 @@ use Rattle.dd_keys.proofs.Held.{content_value-clean, value_at-clean}
 
 -- ---- a list of found elements tells what their hits tell
 
-hit_told : Option Hit → Told
-hit_told None = cleaned [] 0
-hit_told (Some hit) = value_of_key hit.told
+hit_summary : Option Hit → Summary
+hit_summary None = cleaned [] 0
+hit_summary (Some hit) = value_of_key hit.summary
 
-hits_told : Tag → List Hit → Told
-hits_told tag hits = hit_told (find (λ hit. same_tag hit.tag tag) hits)
+hits_summary : Tag → List Hit → Summary
+hits_summary tag hits = hit_summary (find (λ hit. same_tag hit.tag tag) hits)
 
-found_step : (is : Bool) (found : Found) (others : Option Found) (hits : Option Hit) → found_told others ≡ hit_told hits
-    → found_told (if is then Some found else others) ≡ hit_told (if is then Some (found_hit found) else hits)
-unfolding hit_told
+found_step : (is : Bool) (found : Found) (others : Option Found) (hits : Option Hit)
+    → summary_of_found others ≡ hit_summary hits
+    → summary_of_found (if is then Some found else others) ≡ hit_summary (if is then Some (found_hit found) else hits)
+unfolding hit_summary
 found_step true found others hits h = refl
 found_step false found others hits h = h
 
-found_is : (tag : Tag) (founds : List Found) → told_found tag founds ≡ hits_told tag (map found_hit founds)
-unfolding hit_told hits_told
+found_is : (tag : Tag) (founds : List Found) → summary_in tag founds ≡ hits_summary tag (map found_hit founds)
+unfolding hit_summary hits_summary
 found_is tag [] = refl
 found_is tag (found ∷ founds) =
     found_step (same_tag found.tag tag) found _ (find (λ hit. same_tag hit.tag tag) (map found_hit founds))
@@ -41,26 +43,26 @@ found_is tag (found ∷ founds) =
 
 -- ---- the hits of a set tell its values at the wanted tags
 
-told_content : (content : Content) → value_of_key (told_of content) ≡ told_value (content_value content)
-told_content (bytes value) = refl
-told_content (items form parts) = refl
-told_content (fragments fs) = refl
+content_summary : (content : Content) → value_of_key (summary_of content) ≡ summary_of_value (content_value content)
+content_summary (bytes value) = refl
+content_summary (items form parts) = refl
+content_summary (fragments fs) = refl
 
 hits_step : (keeps is : Bool) (tag : Tag) (e : Entry) (kept : List Entry) (others : Option Entry)
     → (is ≡ true → keeps ≡ true)
-    → same_tag e.tag tag ≡ is → hits_told tag (map hit_of kept) ≡ told_value (entry_value others)
-    → hits_told tag (map hit_of (if keeps then (e ∷ kept) else kept))
-    ≡ told_value (entry_value (if is then Some e else others))
-unfolding hit_told hits_told
-hits_step true true tag e kept others wanted same h = rw same (told_content e.content)
+    → same_tag e.tag tag ≡ is → hits_summary tag (map hit_of kept) ≡ summary_of_value (entry_value others)
+    → hits_summary tag (map hit_of (if keeps then (e ∷ kept) else kept))
+    ≡ summary_of_value (entry_value (if is then Some e else others))
+unfolding hit_summary hits_summary
+hits_step true true tag e kept others wanted same h = rw same (content_summary e.content)
 hits_step true false tag e kept others wanted same h = rw same h
 hits_step false true tag e kept others wanted same h = let no = wanted refl in absurd (cc)
 hits_step false false tag e kept others wanted same h = h
 
 hits_tell : (wanted : List Tag) (tag : Tag) → is_wanted wanted tag ≡ true → (es : List Entry)
-    → hits_told tag (map hit_of (filter (λ e. is_wanted wanted e.tag) es))
-    ≡ told_value (entry_value (find (λ e. same_tag e.tag tag) es))
-unfolding hit_told hits_told
+    → hits_summary tag (map hit_of (filter (λ e. is_wanted wanted e.tag) es))
+    ≡ summary_of_value (entry_value (find (λ e. same_tag e.tag tag) es))
+unfolding hit_summary hits_summary
 hits_tell wanted tag is [] = refl
 hits_tell wanted tag is (e ∷ es) =
     hits_step (is_wanted wanted e.tag) (same_tag e.tag tag) tag e (filter (λ e. is_wanted wanted e.tag) es)
@@ -69,36 +71,37 @@ hits_tell wanted tag is (e ∷ es) =
 
 -- a scan for the tags of the table tells the values at them
 pub scan_tells : (founds : List Found) (set : Elements) → map found_hit founds ≡ hits_of wanted_tags set
-    → TellsSet (λ tag. told_found tag founds) set
+    → TellsSet (λ tag. summary_in tag founds) set
 scan_tells founds set h tag wanted =
-    found_is tag founds ∙ ap (hits_told tag) h ∙ hits_tell wanted_tags tag wanted (entries_of set)
+    found_is tag founds ∙ ap (hits_summary tag) h ∙ hits_tell wanted_tags tag wanted (entries_of set)
 
 -- ---- a front that is not too long for a key is one
 
 value_front : (held : Option (List ℕ)) → ((value : List ℕ) → held ≡ Some value → clean_of value ≡ value)
-    → IsFront (told_value held)
+    → IsFront (summary_of_value held)
 value_front None clean = tt
 value_front (Some value) clean =
     λ short. subst IsKey (sym (take_all 1024 value short)) (record { clean = clean value refl; short = short })
 
-pub set_fronts : (set : Elements) → AreFronts (λ tag. told_at tag set)
+pub set_fronts : (set : Elements) → AreFronts (λ tag. summary_at tag set)
 set_fronts set tag = value_front (value_at tag set) (value_at-clean tag set)
 
-hits_front : (tag : Tag) (is : Bool) (e : Entry) (others : Option Hit) → IsFront (hit_told others)
-    → IsFront (hit_told (if is then Some (hit_of e) else others))
-unfolding hit_told
+hits_front : (tag : Tag) (is : Bool) (e : Entry) (others : Option Hit) → IsFront (hit_summary others)
+    → IsFront (hit_summary (if is then Some (hit_of e) else others))
+unfolding hit_summary
 hits_front tag true e others h =
-    subst IsFront (sym (told_content e.content)) (value_front (content_value e.content) (content_value-clean e.content))
+    subst IsFront (sym (content_summary e.content))
+    (value_front (content_value e.content) (content_value-clean e.content))
 hits_front tag false e others h = h
 
-hits_fronts : (tag : Tag) (es : List Entry) → IsFront (hits_told tag (map hit_of es))
-unfolding hit_told hits_told
+hits_fronts : (tag : Tag) (es : List Entry) → IsFront (hits_summary tag (map hit_of es))
+unfolding hit_summary hits_summary
 hits_fronts tag [] = λ short. record { clean = refl; short = short }
 hits_fronts tag (e ∷ es) =
     hits_front tag (same_tag e.tag tag) e (find (λ hit. same_tag hit.tag tag) (map hit_of es)) (hits_fronts tag es)
 
 pub scan_fronts : (founds : List Found) (wanted : List Tag) (set : Elements) → map found_hit founds ≡ hits_of wanted set
-    → AreFronts (λ tag. told_found tag founds)
+    → AreFronts (λ tag. summary_in tag founds)
 scan_fronts founds wanted set h tag =
-    subst IsFront (sym (found_is tag founds ∙ ap (hits_told tag) h))
+    subst IsFront (sym (found_is tag founds ∙ ap (hits_summary tag) h))
     (hits_fronts tag (filter (λ e. is_wanted wanted e.tag) (entries_of set)))

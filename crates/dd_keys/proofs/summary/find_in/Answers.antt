@@ -3,7 +3,7 @@ use borrow.Author.Tests.{tests}
 use Rattle.std.proofs.lemmas.Iterator.{YieldsList-from_slice}
 use Rattle.std.proofs.lemmas.Iterator.Search.{find_from_yields_List}
 use Rattle.dd_set.specs.Find.{same_tag}
-use Rattle.dd_keys.proofs.told.find_in.Goals as goal
+use Rattle.dd_keys.proofs.summary.find_in.Goals as goal
 
 pub returns : goal.returns
 returns c =

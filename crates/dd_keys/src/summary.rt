@@ -1,20 +1,19 @@
-//! What is told of the values of a data set, whole in memory or scanned.
+//! Summaries of the values of a data set, whole in memory or scanned.
 
 ghost use Rattle.std.specs.Prelude.{◌≡◌, find};
 ghost use Rattle.std.specs.Option.{option_copied};
 ghost use Rattle.dd_elem.specs.declared.tag.Tag.{Tag};
 ghost use Rattle.dd_set.specs.Find.{same_tag};
-ghost use Rattle.dd_set.specs.Scan.{Told};
+ghost use Rattle.dd_set.specs.Scan.{Summary};
 ghost use Rattle.dd_set.specs.Views.{set_view};
-ghost use Rattle.dd_keys.specs.Told.{told_at, told_found, shown_told};
+ghost use Rattle.dd_keys.specs.Summaries.{summary_at, summary_in, shown_summary};
 
-use crate::values::value_at;
 use dd_elem::{Key, Tag};
-use dd_set::{DataSet, Found, FoundValue};
+use dd_set::{DataSet, Found, FoundValue, value_at};
 
-/// What is told of the value of an element.
+/// The summary of the value of an element.
 #[derive(Clone, Copy)]
-pub(crate) enum Shown<'a> {
+pub(crate) enum ValueSummary<'a> {
     /// It is a sequence.
     Items,
     /// Of its bytes without their padding the front, and how many they are.
@@ -26,23 +25,23 @@ pub(crate) enum Shown<'a> {
     },
 }
 
-/// What tells the values of a data set.
+/// What gives the summaries of the values of a data set.
 pub(crate) trait Values {
-    // What it tells of the value at a tag.
-    ghost tells: { Self → Tag → Told };
+    // The summary of the value at a tag.
+    ghost tells: { Self → Tag → Summary };
 
-    /// What is told of the value of the first element with this tag: no bytes where there is none.
-    fn value(&self, tag: Tag) -> Shown<'_>
-        ensures { shown_told result ≡ tells self.now tag };
+    /// The summary of the value of the first element with this tag: no bytes where there is none.
+    fn value(&self, tag: Tag) -> ValueSummary<'_>
+        ensures { shown_summary result ≡ tells self.now tag };
 }
 
 impl Values for DataSet<'_> {
-    ghost tells = { λ set tag. told_at tag (set_view set) };
+    ghost tells = { λ set tag. summary_at tag (set_view set) };
 
-    fn value(&self, tag: Tag) -> Shown<'_> {
+    fn value(&self, tag: Tag) -> ValueSummary<'_> {
         match value_at(self, tag) {
-            None => Shown::Items,
-            Some(value) => Shown::Bytes {
+            None => ValueSummary::Items,
+            Some(value) => ValueSummary::Bytes {
                 front: &value[..Key::MAX_LEN.min(value.len())],
                 length: value.len() as u64,
             },
@@ -51,18 +50,18 @@ impl Values for DataSet<'_> {
 }
 
 impl Values for Vec<Found> {
-    ghost tells = { λ found tag. told_found tag found.items };
+    ghost tells = { λ found tag. summary_in tag found.items };
 
-    fn value(&self, tag: Tag) -> Shown<'_> {
+    fn value(&self, tag: Tag) -> ValueSummary<'_> {
         let Some(found) = find_in(self, tag) else {
-            return Shown::Bytes {
+            return ValueSummary::Bytes {
                 front: &[],
                 length: 0,
             };
         };
         match &found.value {
-            FoundValue::Items | FoundValue::Fragments => Shown::Items,
-            FoundValue::Bytes { front, length } => Shown::Bytes {
+            FoundValue::Items | FoundValue::Fragments => ValueSummary::Items,
+            FoundValue::Bytes { front, length } => ValueSummary::Bytes {
                 front: front.as_slice(),
                 length: *length,
             },
