@@ -56,14 +56,13 @@ set_spelled label versions withdrawn sound below few valid =
           below;
     }
 
-pub directory_is_file : (label : Label) (versions : List Parts) (withdrawn : List (List ℕ)) (seen : Label)
-    (rows : List PlanRecord) → seen ≡ label → rows ≡ records_of label versions → All (IsSound (length versions)) rows
-    → size label versions withdrawn < 2 ^ 32 → length seen.id ≤ max_set_id_length → IsUid label.uid
+pub directory_is_file : (label : Label) (versions : List Parts) (withdrawn : List (List ℕ))
+    (rows : List PlanRecord) → rows ≡ records_of label versions → All (IsSound (length versions)) rows
+    → size label versions withdrawn < 2 ^ 32 → length label.id ≤ max_set_id_length → IsUid label.uid
     → AllByRecursion IsRecord (map (entries_of versions) rows) → IsDirectory label versions withdrawn
-directory_is_file label versions withdrawn seen rows same is sound below few uid valid =
+directory_is_file label versions withdrawn rows is sound below few uid valid =
     let set = directory_set label versions withdrawn in
-    let spelled = set_spelled label versions withdrawn (subst (All (IsSound (length versions))) is sound) below
-    (subst (λ (l : Label). length l.id ≤ max_set_id_length) same few)
+    let spelled = set_spelled label versions withdrawn (subst (All (IsSound (length versions))) is sound) below few
     (subst (λ (rs : List PlanRecord). AllByRecursion IsRecord (map (entries_of versions) rs)) is valid) in
     head_is_file (meta_of label) Explicit set (elements_text set) class_valid uid syntax_valid explicit_known spelled
     (omega arith)

@@ -49,14 +49,13 @@ row_more P rows i row within is holds rest =
     subst (λ (rs : List PlanRecord). AllByRecursion P rs) (sym left) (holds, rest)
 
 -- what is known once all of them were sent
-pub whole_sent : (label : Label) (versions : List Parts) (withdrawn : List (List ℕ)) (seen : Label)
-    (rows : List PlanRecord) → seen ≡ label → rows ≡ records_of label versions
-    → size label versions withdrawn < 2 ^ 32
-    → IsDirectory label versions withdrawn → IsSetId seen.id → All (IsSound (length versions)) rows
+pub whole_sent : (label : Label) (versions : List Parts) (withdrawn : List (List ℕ))
+    (rows : List PlanRecord) → rows ≡ records_of label versions → size label versions withdrawn < 2 ^ 32
+    → IsDirectory label versions withdrawn → IsSetId label.id → All (IsSound (length versions)) rows
     → AllByRecursion (IsKeyed versions) rows → IsSent label versions withdrawn
-whole_sent label versions withdrawn seen rows same is small file id sound keyed = record {
+whole_sent label versions withdrawn rows is small file id sound keyed = record {
   file = file;
-  id = subst (λ (l : Label). IsSetId l.id) same id;
+  id = id;
   small = small;
   sound = subst (All (IsSound (length versions))) is sound;
   keyed = subst (AllByRecursion (IsKeyed versions)) is keyed;

@@ -1,16 +1,14 @@
 //! What the types of the parts of a version say of them. Only lending a key or a UID tells it.
 
 ghost use Rattle.std.specs.Prelude.{◌≡◌, length};
-ghost use Rattle.std.specs.List.{AllByRecursion};
 ghost use Rattle.dd_catalogue.specs.Contents.{IsHeld};
 ghost use Rattle.dd_elem.specs.Key.{IsKey};
-ghost use Rattle.dd_elem.specs.SetId.{IsSetId};
 ghost use Rattle.dd_elem.specs.Uid.{IsUid};
 ghost use Rattle.dd_dir.specs.WellFormed.{IsWellFormed, IsWellFormedImage, IsWellFormedPatient};
 ghost use Rattle.dd_dir.specs.WellFormed.{IsWellFormedSeries, IsWellFormedStudy};
 
 use dd_catalogue::Catalogue;
-use dd_elem::{Key, SetId, Uid};
+use dd_elem::{Key, Uid};
 use dd_version::{Parts, PatientKeys, SeriesKeys, StudyKeys, Version};
 
 /// What a version is made of, which is well formed.
@@ -31,23 +29,6 @@ pub(crate) fn catalogue_is_held(catalogue: &Catalogue)
     ensures { IsHeld catalogue.now }
 {
     catalogue.versions();
-}
-
-/// Withdrawn UIDs are UIDs. This states a law, and does nothing.
-pub(crate) fn withdrawn_are_uids(mut withdrawn: &[Uid])
-    ensures { AllByRecursion IsUid withdrawn.entry.now }
-{
-    while let [uid, rest @ ..] = withdrawn {
-        uid_is_valid(uid);
-        withdrawn = rest;
-    }
-}
-
-/// The ID of a file-set is one. This states a law, and does nothing.
-pub(crate) fn set_id_is_valid(id: &SetId)
-    ensures { IsSetId id.now }
-{
-    id.as_bytes();
 }
 
 /// The keys of a patient are keys. This states a law, and does nothing.

@@ -1,10 +1,12 @@
 //! Directories sent to a writer.
 
 ghost use Rattle.std.specs.Prelude.{◌≡◌, ◌-◌, ◌<◌, ◌^◌, List, IfOk, IsOk, length};
+ghost use Rattle.std.specs.List.{AllByRecursion};
 ghost use Rattle.dd_catalogue.specs.Best.{IsRising};
 ghost use Rattle.dd_catalogue.specs.Harmony.{harmonised};
 ghost use Rattle.dd_catalogue.specs.Versions.{IsCatalogue};
 ghost use Rattle.dd_elem.specs.Ordered.{bytes_cmp};
+ghost use Rattle.dd_elem.specs.SetId.{IsSetId};
 ghost use Rattle.dd_elem.specs.Uid.{IsUid};
 ghost use Rattle.dd_version.specs.declared.parts.Parts.{Parts};
 ghost use Rattle.dd_layout.specs.Directory.{first_offset};
@@ -17,7 +19,6 @@ ghost use Rattle.dd_dir.specs.Visits.{Realises};
 use crate::cells::send_cells;
 use crate::records::send_records;
 use crate::roots::{first_root, last_root};
-use crate::well_formed::{set_id_is_valid, withdrawn_are_uids};
 use crate::withdrawals::send_withdrawals;
 use dd_elem::{Vr, Write};
 use dd_encoding::{send_header, write_head};
@@ -44,10 +45,7 @@ pub fn write_directory<W: Write>(plan: &Plan, writer: &mut W) -> Result<u64, Wri
         → IsRising (λ uid. uid) bytes_cmp plan.now.withdrawn → SaysItself m plan.now.withdrawn
         (directory_of plan.now.label plan.now.versions plan.now.withdrawn) }
 {
-    let label = plan.label();
-    set_id_is_valid(&label.id);
     let withdrawn = plan.withdrawn();
-    withdrawn_are_uids(withdrawn);
     let records = plan.records();
     let count = records_size(plan);
     let sent = send_opening(plan, count, writer)?;
@@ -59,7 +57,9 @@ pub fn write_directory<W: Write>(plan: &Plan, writer: &mut W) -> Result<u64, Wri
 fn records_size(plan: &Plan) -> u32
     ensures exact { result ≡ records_end plan.now.label plan.now.versions - first_offset plan.now.label }
     ensures small { size plan.now.label plan.now.versions plan.now.withdrawn < 2 ^ 32 }
+    ensures id { IsSetId plan.now.label.id }
     ensures uid { IsUid plan.now.label.uid }
+    ensures uids { AllByRecursion IsUid plan.now.withdrawn }
 {
     let end = u128::from(plan.size()) - withdrawals_size(plan.withdrawn());
     let count = end - u128::from(first_offset(plan.label()));

@@ -15,7 +15,7 @@ use Rattle.dd_catalogue.specs.Versions.{IsCatalogue, best_of, instance_of, kept,
 use Rattle.dd_dir.specs.Directories.{unnamed_label}
 use Rattle.dd_version.specs.Orders.{parts_cmp, parts_total}
 use Rattle.dd_version.specs.declared.parts.Parts.{Parts}
-use Rattle.dd_layout.specs.Bounds.{Bounds}
+use Rattle.dd_layout.specs.Limits.{Limits}
 use Rattle.dd_layout.specs.Plans.{size, tree}
 use Rattle.dd_layout.specs.Refusal.{conflict_or, crowded, crowding_or, excess, refusal}
 use Rattle.dd_layout.specs.declared.fault.PlanFault.{PlanFault}
@@ -29,7 +29,7 @@ use Rattle.dd_engine.specs.Noting.{IsClashOf, both, first_by, first_of}
 
 -- ---- the two versions that a refusal names clash
 
-excess_apart : (label : Label) (limits : Bounds) (l : List Parts) (w : List (List ℕ)) (a b : List ℕ)
+excess_apart : (label : Label) (limits : Limits) (l : List Parts) (w : List (List ℕ)) (a b : List ℕ)
     → excess label limits l w ≡ Some (Conflict a b) → ⊥
 excess_apart label limits l w a b is = by (crowded limits.per_level (tree l)) (nat_lt limits.bytes (size label l w)) is
   where
@@ -46,12 +46,12 @@ pair_is (Some pair) e a b apart is =
     let second : pair.1 ≡ b = cc is in
     λ j. Some (first j, second j)
 
-refusal_clash : (label : Label) (limits : Bounds) (m : List Parts) (w : List (List ℕ)) (a b : List ℕ)
+refusal_clash : (label : Label) (limits : Limits) (m : List Parts) (w : List (List ℕ)) (a b : List ℕ)
     → refusal label limits m w ≡ Some (Conflict a b) → clash m ≡ Some (a, b)
 refusal_clash label limits m w a b is =
     pair_is (clash m) (excess label limits (harmonised m) w) a b (excess_apart label limits (harmonised m) w a b) is
 
-derivation_clash : (uid : Option (List ℕ)) (id : List ℕ) (limits : Bounds) (m : List Parts) (w : List (List ℕ))
+derivation_clash : (uid : Option (List ℕ)) (id : List ℕ) (limits : Limits) (m : List Parts) (w : List (List ℕ))
     (a b : List ℕ) → derivation uid id limits m w ≡ Some (Conflict a b) → clash m ≡ Some (a, b)
 derivation_clash None id limits m w a b is = refusal_clash (unnamed_label id) limits m w a b is
 derivation_clash (Some uid) id limits m w a b is = absurd (none-some (Conflict a b) is)
@@ -61,7 +61,7 @@ one_of : {G : Type 0} (d e : Option PlanFault) (fault : PlanFault) → (d ≡ So
 one_of None e fault first second is = second is
 one_of (Some d) e fault first second is = first is
 
-named_clash : (choice : Choice) (limits : Bounds) (m : List Parts) (w : List (List ℕ)) (a b : List ℕ)
+named_clash : (choice : Choice) (limits : Limits) (m : List Parts) (w : List (List ℕ)) (a b : List ℕ)
     → refusal_for choice limits m w ≡ Some (Conflict a b) → clash m ≡ Some (a, b)
 named_clash choice limits m w a b is =
     one_of (derivation choice.uid choice.id limits m w) (refusal (label_for choice m w) limits m w) (Conflict a b)
@@ -129,7 +129,7 @@ mapped_some f None p is some = subst (λ q. IsSome q) (sym is) some
 mapped_some f (Some a) p is some = refl
 
 -- of a catalogue of versions that are among these
-pub both_found : {T U : Type 0} (place : T → U) (versions : List (U × Parts)) (choice : Choice) (limits : Bounds)
+pub both_found : {T U : Type 0} (place : T → U) (versions : List (U × Parts)) (choice : Choice) (limits : Limits)
     (m : List Parts) (w : List (List ℕ)) (a b : List ℕ) (noted : Option (Clash T)) → IsCatalogue m
     → ((v : Parts) → Member v m → Member v (map (λ held. held.1) versions))
     → refusal_for choice limits m w ≡ Some (Conflict a b) → IsClashOf place m versions (Conflict a b) noted

@@ -21,7 +21,7 @@ use Rattle.dd_dir.specs.Trees.{Walk}
 use Rattle.dd_dir.specs.Withdrawn.{AreRisingUids, withdrawn_of}
 use Rattle.dd_dir.proofs.WalkFiles.{walk_or_not}
 use Rattle.dd_version.specs.declared.parts.Parts.{Parts}
-use Rattle.dd_layout.specs.Bounds.{Bounds}
+use Rattle.dd_layout.specs.Limits.{Limits}
 use Rattle.dd_layout.specs.Layouts.{Layout}
 use Rattle.dd_engine.specs.declared.choice.Choice.{Choice}
 use Rattle.dd_engine.specs.declared.merge.Merged.{Merged}
@@ -178,7 +178,7 @@ module _ (given sets : List (List ℕ)) (maps : List Contents) (listings : List 
 
 -- ---- the answer
 
-pub merges_maps : (choice : Choice) (limits : Bounds) (given sets : List (List ℕ)) (maps : List Contents)
+pub merges_maps : (choice : Choice) (limits : Limits) (given sets : List (List ℕ)) (maps : List Contents)
     (result : Result Merged MergeFault) → Merges choice limits given sets result → ArePublished sets maps
     → MapsAgree maps → NoneWithdrawn given maps → MergesMaps choice limits (joined given maps) result
 merges_maps choice limits given sets maps (Ok merged) (listings, listed, is) published agree none =
@@ -201,7 +201,7 @@ merges_maps choice limits given sets maps (Err (Plan fault)) (listings, listed, 
     (held_withdrawn given sets maps listings published agree listed)) ∙ is
 merges_maps choice limits given sets maps (Err Memory) is published agree none = tt
 
-pub plans_images : (choice : Choice) (limits : Bounds) (given sets : List (List ℕ)) (maps : List Contents)
+pub plans_images : (choice : Choice) (limits : Limits) (given sets : List (List ℕ)) (maps : List Contents)
     (result : Result Merged MergeFault) → Merges choice limits given sets result → ArePublished sets maps
     → MapsAgree maps → IfOk result (λ merged. PlansImages (joined given maps) merged.plan)
 plans_images choice limits given sets maps (Ok merged) (listings, listed, is) published agree = record {

@@ -18,7 +18,7 @@ use Rattle.dd_part10.specs.declared.fault.FileFault.TheVariants.{Meta, Set}
 use Rattle.dd_part10.specs.Memory.{SetWants}
 use Rattle.dd_set.specs.declared.fault.SetFault.TheVariants as parsing
 use Rattle.dd_layout.specs.declared.fault.PlanFault.{PlanFault}
-use Rattle.dd_layout.specs.Bounds.{Bounds}
+use Rattle.dd_layout.specs.Limits.{Limits}
 use Rattle.dd_layout.specs.Layouts.{Layout, layout_of}
 use Rattle.dd_engine.specs.declared.choice.Choice.{Choice}
 use Rattle.dd_engine.specs.declared.engine.Indexed.{Indexed}
@@ -143,7 +143,7 @@ one_best limit sources others told other one two many few right right_too all ea
     (best_is_best versions_ordered (versions_of (accepted one)))
     (best_is_best versions_ordered (versions_of (accepted two)))
 
-module _ (choice : Choice) (limits : Bounds) where
+module _ (choice : Choice) (limits : Limits) where
   plans_agree : (one two : List Answer) (first second : Indexed)
       → best_of_sources (accepted one) ≡ best_of_sources (accepted two) → IsIndexed choice limits one first
       → IsIndexed choice limits two second → AreSamePlans first.plan second.plan

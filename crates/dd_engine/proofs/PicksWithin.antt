@@ -5,7 +5,7 @@ use Rattle.std.proofs.Common.{refl, ap, subst, arith}
 use Rattle.std.proofs.lemmas.List.{get_or-map, length-map}
 use Rattle.dd_catalogue.specs.Harmony.{harmonised}
 use Rattle.dd_dir.specs.Own.{Listed}
-use Rattle.dd_layout.specs.Bounds.{Bounds}
+use Rattle.dd_layout.specs.Limits.{Limits}
 use Rattle.dd_layout.specs.Plans.{records_of}
 use Rattle.dd_engine.specs.declared.choice.Choice.{Choice}
 use Rattle.dd_engine.specs.declared.merge.Merged.{Merged}
@@ -58,7 +58,7 @@ unmapped : {A B : Type 0} (P : B → Type 0) (f : A → B) (xs : List A) → All
 unmapped P f xs all k d below =
     subst P (get_or-map f xs k d (f d) below) (all k (f d) (omega (arith, below, length-map xs f)))
 
-pub picks_within : (choice : Choice) (limits : Bounds) (given sets : List (List ℕ))
+pub picks_within : (choice : Choice) (limits : Limits) (given sets : List (List ℕ))
     (result : Result Merged MergeFault) → Merges choice limits given sets result
     → IfOk result (λ merged. All (λ pick. pick.set < length sets) merged.picks.items)
 picks_within choice limits given sets (Ok merged) (listings, own, is) =

@@ -12,7 +12,7 @@ use Rattle.dd_dir.specs.Own.{Listed}
 use Rattle.dd_dir.specs.OwnVersions.{place_of, version_of}
 use Rattle.dd_version.specs.Orders.{parts_cmp}
 use Rattle.dd_version.specs.declared.parts.Parts.{Parts}
-use Rattle.dd_layout.specs.Bounds.{Bounds}
+use Rattle.dd_layout.specs.Limits.{Limits}
 use Rattle.dd_layout.specs.declared.fault.PlanFault.{PlanFault}
 use Rattle.dd_layout.specs.declared.fault.PlanFault.TheVariants as plans
 use Rattle.dd_engine.specs.declared.choice.Choice.{Choice}
@@ -187,7 +187,7 @@ filed_versions (image ∷ images) = ap (λ l. version_of image.1 ∷ l) (filed_v
 none_below : (n : ℕ) (clash : Option (Clash Pick)) → clash ≡ None → IsBelow (λ pick. pick.set) n clash
 none_below n clash is = subst (λ o. IsBelow (λ pick. pick.set) n o) (sym is) tt
 
-module _ (choice : Choice) (limits : Bounds) (given sets : List (List ℕ)) where
+module _ (choice : Choice) (limits : Limits) (given sets : List (List ℕ)) where
   dropped_fault : (fault : MergeFault) (clash : Option (Clash Pick))
       → NotesSetsFault choice limits given sets fault clash → Merges choice limits given sets (Err fault)
   dropped_fault (Dir at fault) clash is = is.0

@@ -9,7 +9,7 @@ use Rattle.dd_elem.specs.Digests.{uid_of_digest}
 use Rattle.dd_version.specs.declared.parts.Parts.{Parts}
 use Rattle.dd_layout.specs.declared.fault.PlanFault.{PlanFault}
 use Rattle.dd_layout.specs.declared.label.Label.{Label}
-use Rattle.dd_layout.specs.Bounds.{Bounds}
+use Rattle.dd_layout.specs.Limits.{Limits}
 use Rattle.dd_layout.specs.Layouts.{layout_of}
 use Rattle.dd_layout.specs.Refusal.{conflict_or, excess, refusal}
 use Rattle.dd_engine.specs.declared.choice.Choice.{Choice}
@@ -33,18 +33,18 @@ same_plan choice m n w u one also =
     (same_label choice m n w one) one
     ∙ ap (λ (x : List (List ℕ)). layout_of (label_for choice n x) n x) also
 
-same_refusal : (label : Label) (limits : Bounds) (m n : List Parts) (w : List (List ℕ))
+same_refusal : (label : Label) (limits : Limits) (m n : List Parts) (w : List (List ℕ))
     → harmonised m ≡ harmonised n → refusal label limits m w ≡ refusal label limits n w
 same_refusal label limits m n w one =
     let clashes : clash m ≡ clash n = sym (harmony_keeps_clash m) ∙ ap clash one ∙ harmony_keeps_clash n in
     ap₂ (λ (c : Option (List ℕ × List ℕ)) (l : List Parts). conflict_or c (excess label limits l w)) clashes one
 
-same_derivation : (uid : Option (List ℕ)) (id : List ℕ) (limits : Bounds) (m n : List Parts) (w : List (List ℕ))
+same_derivation : (uid : Option (List ℕ)) (id : List ℕ) (limits : Limits) (m n : List Parts) (w : List (List ℕ))
     → harmonised m ≡ harmonised n → derivation uid id limits m w ≡ derivation uid id limits n w
 same_derivation None id limits m n w one = same_refusal (unnamed_label id) limits m n w one
 same_derivation (Some uid) id limits m n w one = refl
 
-pub one_refusal : (choice : Choice) (limits : Bounds) (m n : List Parts) (w u : List (List ℕ))
+pub one_refusal : (choice : Choice) (limits : Limits) (m n : List Parts) (w u : List (List ℕ))
     → harmonised m ≡ harmonised n → w ≡ u → refusal_for choice limits m w ≡ refusal_for choice limits n u
 one_refusal choice limits m n w u one also =
     ap₂ (λ (a b : Option PlanFault). either a b) (same_derivation choice.uid choice.id limits m n w one)

@@ -11,7 +11,7 @@ use Rattle.dd_catalogue.specs.Rising.{by_test}
 use Rattle.dd_catalogue.specs.Versions.{best_of, kept}
 use Rattle.dd_version.specs.Orders.{parts_cmp}
 use Rattle.dd_version.specs.declared.parts.Parts.{Parts}
-use Rattle.dd_layout.specs.Bounds.{Bounds}
+use Rattle.dd_layout.specs.Limits.{Limits}
 use Rattle.dd_layout.specs.Plans.{records_of}
 use Rattle.dd_layout.specs.declared.fault.PlanFault.{PlanFault}
 use Rattle.dd_layout.specs.declared.fault.PlanFault.TheVariants as plans
@@ -120,7 +120,7 @@ accepted_within answers = by (length answers) 0 answers (omega arith) where
 none_below : (n : ℕ) (clash : Option (Clash ℕ)) → clash ≡ None → IsBelow (λ at. at) n clash
 none_below n clash is = subst (λ o. IsBelow (λ at. at) n o) (sym is) tt
 
-module _ (choice : Choice) (limits : Bounds) (answers : List Answer) where
+module _ (choice : Choice) (limits : Limits) (answers : List Answer) where
   pub indexed_within : (result : Result NotedIndex (NotedFault EngineFault ℕ)) → NotesIndex choice limits answers result
       → IfOk result (λ noted. IsWithin (length answers) noted.indexed)
   indexed_within (Ok noted) is = record {

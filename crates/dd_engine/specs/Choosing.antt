@@ -3,7 +3,7 @@ use Rattle.std.specs.Prelude.{ℕ, List, Option, None, Some}
 use Rattle.dd_version.specs.declared.parts.Parts.{Parts}
 use Rattle.dd_layout.specs.declared.fault.PlanFault.{PlanFault}
 use Rattle.dd_layout.specs.declared.label.Label.{Label}
-use Rattle.dd_layout.specs.Bounds.{Bounds}
+use Rattle.dd_layout.specs.Limits.{Limits}
 use Rattle.dd_layout.specs.Refusal.{refusal}
 use Rattle.dd_engine.specs.declared.choice.Choice.{Choice}
 use Rattle.dd_dir.specs.Directories.{derived, unnamed_label}
@@ -23,10 +23,10 @@ either None other = other
 either (Some fault) other = Some fault
 
 -- where no UID is asked for, deriving one comes first
-abbrev pub derivation : Option (List ℕ) → List ℕ → Bounds → List Parts → List (List ℕ) → Option PlanFault
+abbrev pub derivation : Option (List ℕ) → List ℕ → Limits → List Parts → List (List ℕ) → Option PlanFault
 derivation None id limits m withdrawn = refusal (unnamed_label id) limits m withdrawn
 derivation (Some uid) id limits m withdrawn = None
 
-abbrev pub refusal_for : Choice → Bounds → List Parts → List (List ℕ) → Option PlanFault
+abbrev pub refusal_for : Choice → Limits → List Parts → List (List ℕ) → Option PlanFault
 refusal_for choice limits m withdrawn = either (derivation choice.uid choice.id limits m withdrawn)
     (refusal (label_for choice m withdrawn) limits m withdrawn)

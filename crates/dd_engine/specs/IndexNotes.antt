@@ -2,7 +2,7 @@
 use Rattle.std.specs.Prelude.{◌≡◌, ◌<◌, ℕ, List, [], length, Option, None, Result, Ok, Err}
 use Rattle.dd_catalogue.specs.Contents.{Contents}
 use Rattle.dd_catalogue.specs.Harmony.{harmonised}
-use Rattle.dd_layout.specs.Bounds.{Bounds}
+use Rattle.dd_layout.specs.Limits.{Limits}
 use Rattle.dd_layout.specs.Layouts.{Layout, layout_of}
 use Rattle.dd_layout.specs.Plans.{records_of}
 use Rattle.dd_engine.specs.declared.choice.Choice.{Choice}
@@ -49,12 +49,12 @@ FindsBoth (Absent at) clash = Unit {0}
 FindsBoth (Unread at) clash = Unit {0}
 
 -- the index is refused, with a note of the two sources that clash
-abbrev pub IsRefused : Choice → Bounds → List Answer → NotedFault EngineFault ℕ → Type 0
+abbrev pub IsRefused : Choice → Limits → List Answer → NotedFault EngineFault ℕ → Type 0
 IsRefused choice limits answers noted =
     Indexes choice limits answers (Err noted.fault) × ClashesIn answers noted.fault noted.clash
 
 -- the index answers this, with notes
-abbrev pub NotesIndex : Choice → Bounds → List Answer → Result NotedIndex (NotedFault EngineFault ℕ) → Type 0
+abbrev pub NotesIndex : Choice → Limits → List Answer → Result NotedIndex (NotedFault EngineFault ℕ) → Type 0
 NotesIndex choice limits answers (Ok noted) =
     IsIndexed choice limits answers noted.indexed × LeavesOut answers noted.notes.left_out.items
     × AreNamed (best_of_sources (accepted answers)) noted.notes.names.items
@@ -62,7 +62,7 @@ NotesIndex choice limits answers (Err noted) = IsRefused choice limits answers n
 
 -- ---- the answer for this number of sources, where `told` gives the bytes of each source that are known
 
-abbrev pub NotesFault : Choice → Bounds → ℕ → (ℕ → Option (List ℕ)) → ℕ → EngineFault → Option (Clash ℕ) → Type 0
+abbrev pub NotesFault : Choice → Limits → ℕ → (ℕ → Option (List ℕ)) → ℕ → EngineFault → Option (Clash ℕ) → Type 0
 NotesFault choice limits limit told sources (Absent at) clash = (at < sources) × (clash ≡ None)
 NotesFault choice limits limit told sources (Unread at) clash = (at < sources) × (clash ≡ None)
 NotesFault choice limits limit told sources Memory clash = clash ≡ None
@@ -70,7 +70,7 @@ NotesFault choice limits limit told sources (Plan fault) clash = (answers : List
     × (length answers ≡ sources) × AreAnswers limit told answers
     × Indexes choice limits answers (Err (Plan fault)) × ClashesIn answers (Plan fault) clash
 
-abbrev pub NotesSupply : Choice → Bounds → ℕ → (ℕ → Option (List ℕ)) → ℕ
+abbrev pub NotesSupply : Choice → Limits → ℕ → (ℕ → Option (List ℕ)) → ℕ
     → Result NotedIndex (NotedFault EngineFault ℕ) → Type 0
 NotesSupply choice limits limit told sources (Err noted) =
     NotesFault choice limits limit told sources noted.fault noted.clash
@@ -84,7 +84,7 @@ abbrev pub IsHeldBest : List Answer → Contents → Type 0
 IsHeldBest answers c = (c.versions ≡ best_of_sources (accepted answers)) × (c.withdrawn ≡ [])
 
 -- what is planned: the plan, the sources of its images, and the notes
-pub record IsPlanned (choice : Choice) (limits : Bounds) (answers : List Answer) (laid : Layout) (from : List ℕ)
+pub record IsPlanned (choice : Choice) (limits : Limits) (answers : List Answer) (laid : Layout) (from : List ℕ)
     (noted : Notes ℕ) : Type 0 where
   pub plan : let m = best_of_sources (accepted answers) in laid ≡ layout_of (label_for choice m []) m []
   pub allowed : refusal_for choice limits (best_of_sources (accepted answers)) [] ≡ None

@@ -3,7 +3,7 @@ use Rattle.std.specs.Prelude.{◌≡◌, ◌<◌, ℕ, List, [], All, length, Op
 use Rattle.dd_catalogue.specs.Harmony.{harmonised}
 use Rattle.dd_layout.specs.declared.fault.PlanFault.{PlanFault}
 use Rattle.dd_layout.specs.declared.fault.PlanFault.TheVariants as plans
-use Rattle.dd_layout.specs.Bounds.{Bounds}
+use Rattle.dd_layout.specs.Limits.{Limits}
 use Rattle.dd_layout.specs.Layouts.{layout_of}
 use Rattle.dd_layout.specs.Plans.{records_of}
 use Rattle.dd_engine.specs.declared.choice.Choice.{Choice}
@@ -24,7 +24,7 @@ as_engine plans.TooLarge = Plan plans.TooLarge
 
 -- where these are the answers for the sources: the best of their versions is laid out under the label that is asked
 -- for, with nothing withdrawn, the others are skipped, and each image is picked from the first source that has its file
-pub record IsIndexed (choice : Choice) (limits : Bounds) (answers : List Answer) (indexed : Indexed) : Type 0 where
+pub record IsIndexed (choice : Choice) (limits : Limits) (answers : List Answer) (indexed : Indexed) : Type 0 where
   pub plan : let m = best_of_sources (accepted answers) in indexed.plan ≡ layout_of (label_for choice m []) m []
   pub allowed : refusal_for choice limits (best_of_sources (accepted answers)) [] ≡ None
   pub skipped : indexed.skipped.items ≡ skipped answers
@@ -32,7 +32,7 @@ pub record IsIndexed (choice : Choice) (limits : Bounds) (answers : List Answer)
       (records_of (label_for choice m []) (harmonised m)) indexed.picks.items
 
 -- the answer where these are the answers for the sources
-abbrev pub Indexes : Choice → Bounds → List Answer → Result Indexed EngineFault → Type 0
+abbrev pub Indexes : Choice → Limits → List Answer → Result Indexed EngineFault → Type 0
 Indexes choice limits answers (Ok indexed) = IsIndexed choice limits answers indexed
 Indexes choice limits answers (Err (Plan fault)) =
     refusal_for choice limits (best_of_sources (accepted answers)) [] ≡ Some fault
@@ -42,7 +42,7 @@ Indexes choice limits answers (Err (Unread at)) = ⊥
 
 -- the answer for a number of sources with these bytes, where they are known; where a source failed, nothing is said of
 -- the others
-abbrev pub AnswersSupply : Choice → Bounds → ℕ → (ℕ → Option (List ℕ)) → ℕ → Result Indexed EngineFault → Type 0
+abbrev pub AnswersSupply : Choice → Limits → ℕ → (ℕ → Option (List ℕ)) → ℕ → Result Indexed EngineFault → Type 0
 AnswersSupply choice limits limit told sources (Err (Absent at)) = at < sources
 AnswersSupply choice limits limit told sources (Err (Unread at)) = at < sources
 AnswersSupply choice limits limit told sources (Err Memory) = Unit {0}

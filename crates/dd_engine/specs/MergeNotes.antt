@@ -3,7 +3,7 @@ use Rattle.std.specs.Prelude.{◌≡◌, ℕ, List, map, Option, None, Result, O
 use Rattle.dd_dir.specs.OwnVersions.{place_of, version_of}
 use Rattle.dd_dir.specs.Reading.{Refuses}
 use Rattle.dd_version.specs.declared.parts.Parts.{Parts}
-use Rattle.dd_layout.specs.Bounds.{Bounds}
+use Rattle.dd_layout.specs.Limits.{Limits}
 use Rattle.dd_engine.specs.declared.choice.Choice.{Choice}
 use Rattle.dd_engine.specs.declared.merge.Merged.{Merged}
 use Rattle.dd_engine.specs.declared.merge.Pick.{Pick}
@@ -52,7 +52,7 @@ FindsBoth (Own at fault) clash = Unit {0}
 FindsBoth Memory clash = Unit {0}
 
 -- the merge answers this, with notes
-abbrev pub NotesMerge : Choice → Bounds → List (List ℕ) → List SetListing
+abbrev pub NotesMerge : Choice → Limits → List (List ℕ) → List SetListing
     → Result NotedMerge (NotedFault MergeFault Pick) → Type 0
 NotesMerge choice limits given listings (Ok noted) =
     IsMerged choice limits given listings noted.merged × LeavesOut given listings noted.notes.left_out.items
@@ -62,7 +62,7 @@ NotesMerge choice limits given listings (Err noted) =
 
 -- ---- the answer for sets with these bytes, where the given UIDs are withdrawn as well
 
-abbrev pub NotesSetsFault : Choice → Bounds → List (List ℕ) → List (List ℕ) → MergeFault → Option (Clash Pick) → Type 0
+abbrev pub NotesSetsFault : Choice → Limits → List (List ℕ) → List (List ℕ) → MergeFault → Option (Clash Pick) → Type 0
 NotesSetsFault choice limits given sets (Dir at fault) clash =
     IsFirst (λ set. Refuses set fault) sets at × (clash ≡ None)
 NotesSetsFault choice limits given sets (Own at fault) clash =
@@ -71,7 +71,7 @@ NotesSetsFault choice limits given sets (Plan fault) clash = (listings : List Se
     × MergesAs choice limits given listings (Err (Plan fault)) × ClashesIn given listings (Plan fault) clash
 NotesSetsFault choice limits given sets Memory clash = clash ≡ None
 
-abbrev pub NotesSets : Choice → Bounds → List (List ℕ) → List (List ℕ)
+abbrev pub NotesSets : Choice → Limits → List (List ℕ) → List (List ℕ)
     → Result NotedMerge (NotedFault MergeFault Pick) → Type 0
 NotesSets choice limits given sets (Ok noted) = (listings : List SetListing) × AreOwn sets listings
     × NotesMerge choice limits given listings (Ok noted)

@@ -5,7 +5,7 @@ use Rattle.dd_dir.specs.declared.own_fault.OwnFault.TheVariants as owns
 use Rattle.dd_dir.specs.Own.{Listed}
 use Rattle.dd_dir.specs.Reading.{Refuses}
 use Rattle.dd_version.specs.declared.parts.Parts.{Parts}
-use Rattle.dd_layout.specs.Bounds.{Bounds}
+use Rattle.dd_layout.specs.Limits.{Limits}
 use Rattle.dd_layout.specs.declared.fault.PlanFault.{PlanFault}
 use Rattle.dd_layout.specs.declared.fault.PlanFault.TheVariants as plans
 use Rattle.dd_engine.specs.declared.choice.Choice.{Choice}
@@ -71,7 +71,7 @@ GathersAll given sets (Ok gathered) = (listings : List SetListing)
 GathersAll given sets (Err fault) = RefusesSets sets fault
 
 -- the answer where the sets list this and these UIDs are withdrawn as well
-abbrev pub MergesAs : Choice → Bounds → List (List ℕ) → List SetListing → Result Merged MergeFault → Type 0
+abbrev pub MergesAs : Choice → Limits → List (List ℕ) → List SetListing → Result Merged MergeFault → Type 0
 MergesAs choice limits given listings (Ok merged) = IsMerged choice limits given listings merged
 MergesAs choice limits given listings (Err (Plan fault)) =
     let h = held_in given listings in refusal_for choice limits h.versions h.withdrawn ≡ Some fault

@@ -12,7 +12,7 @@ use Rattle.dd_dir.specs.Reading.{IsWalk, Refuses}
 use Rattle.dd_dir.specs.Trees.{Walk}
 use Rattle.dd_dir.specs.Withdrawn.{AreRisingUids, withdrawn_of}
 use Rattle.dd_version.specs.declared.parts.Parts.{Parts}
-use Rattle.dd_layout.specs.Bounds.{Bounds}
+use Rattle.dd_layout.specs.Limits.{Limits}
 use Rattle.dd_layout.specs.Layouts.{layout_of}
 use Rattle.dd_layout.specs.Plans.{records_of}
 use Rattle.dd_engine.specs.declared.choice.Choice.{Choice}
@@ -98,7 +98,7 @@ stands_in listings = map (λ place. stands_at place) (places_in (numbered 0 list
 
 -- where the sets list this and these UIDs are withdrawn as well: what is held then is laid out under the label that is
 -- asked for, and each image is picked from the first place with its file
-pub record IsMerged (choice : Choice) (limits : Bounds) (given : List (List ℕ)) (listings : List SetListing)
+pub record IsMerged (choice : Choice) (limits : Limits) (given : List (List ℕ)) (listings : List SetListing)
     (merged : Merged) : Type 0 where
   pub plan : let h = held_in given listings in
       merged.plan ≡ layout_of (label_for choice h.versions h.withdrawn) h.versions h.withdrawn
@@ -122,7 +122,7 @@ RefusesSets sets (Plan fault) = ⊥
 RefusesSets sets Memory = Unit {0}
 
 -- the answer for the bytes of these sets, where these UIDs are withdrawn as well
-abbrev pub Merges : Choice → Bounds → List (List ℕ) → List (List ℕ) → Result Merged MergeFault → Type 0
+abbrev pub Merges : Choice → Limits → List (List ℕ) → List (List ℕ) → Result Merged MergeFault → Type 0
 Merges choice limits given sets (Ok merged) = (listings : List SetListing)
     × AreOwn sets listings × IsMerged choice limits given listings merged
 Merges choice limits given sets (Err (Dir at fault)) = IsFirst (λ set. Refuses set fault) sets at

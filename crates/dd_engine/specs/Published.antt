@@ -5,7 +5,7 @@ use Rattle.dd_catalogue.specs.Contents.{Contents, held_of}
 use Rattle.dd_catalogue.specs.Histories.{all_together}
 use Rattle.dd_dir.specs.SaysItself.{SaysItself}
 use Rattle.dd_version.specs.declared.parts.Parts.{Parts}
-use Rattle.dd_layout.specs.Bounds.{Bounds}
+use Rattle.dd_layout.specs.Limits.{Limits}
 use Rattle.dd_layout.specs.Layouts.{Layout, layout_of}
 use Rattle.dd_layout.specs.Paths.{Path}
 use Rattle.dd_layout.specs.Plans.{path_of}
@@ -41,7 +41,7 @@ joined given maps = let all = all_together maps in
 -- ---- what merging them answers
 
 -- what the catalogue holds is laid out under the label that is asked for, or that is refused; the sets are not
-abbrev pub MergesMaps : Choice → Bounds → Contents → Result Merged MergeFault → Type 0
+abbrev pub MergesMaps : Choice → Limits → Contents → Result Merged MergeFault → Type 0
 MergesMaps choice limits h (Ok merged) =
     (merged.plan ≡ layout_of (label_for choice h.versions h.withdrawn) h.versions h.withdrawn)
     × (refusal_for choice limits h.versions h.withdrawn ≡ None)

@@ -4,7 +4,7 @@ use Rattle.std.specs.Prelude.{Result, Ok, Err}
 use Rattle.dd_dir.specs.Directories.{directory_of}
 use Rattle.dd_keys.specs.Versions.{IsVersion}
 use Rattle.dd_version.specs.declared.parts.Parts.{Parts}
-use Rattle.dd_layout.specs.Bounds.{Bounds}
+use Rattle.dd_layout.specs.Limits.{Limits}
 use Rattle.dd_layout.specs.Layouts.{Layout}
 use Rattle.dd_engine.specs.declared.choice.Choice.{Choice}
 use Rattle.dd_engine.specs.declared.engine.Indexed.{Indexed}
@@ -26,7 +26,7 @@ pub record IsVersionThere (limit : ℕ) (told : ℕ → Option (List ℕ)) (sour
   pub right : IsVersion file version
 
 -- the answer of an index of sources whose bytes are known
-pub record IndexesTold (choice : Choice) (limits : Bounds) (limit : ℕ) (told : ℕ → Option (List ℕ)) (sources : ℕ)
+pub record IndexesTold (choice : Choice) (limits : Limits) (limit : ℕ) (told : ℕ → Option (List ℕ)) (sources : ℕ)
     (answer : Result Indexed EngineFault) : Type 0 where
   pub known : AreTold told sources
   pub answers : AnswersSupply choice limits limit told sources answer

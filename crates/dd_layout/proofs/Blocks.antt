@@ -12,7 +12,7 @@ use Rattle.dd_elem.specs.Ordered.{bytes_cmp}
 use Rattle.dd_catalogue.specs.Rising.{by_test, by_order, is_eq_Equal, less_turned}
 use Rattle.dd_layout.specs.Neighbours.{scan}
 use Rattle.dd_layout.specs.Paths.{Path, path_cmp, is_path, prefixes, parent_of, leads_to}
-use Rattle.dd_layout.specs.Walk.{fresh, rows_from}
+use Rattle.dd_layout.specs.Walk.{fresh, paths_from}
 use Rattle.dd_catalogue.proofs.Members.{Member}
 use Rattle.dd_layout.proofs.RowsByWalk.{Rises, Above, path_total, path_apart, fresh_member, prefix_parts, row_prefix}
 use Rattle.dd_layout.proofs.RowsByWalk.{member_either}
@@ -184,8 +184,8 @@ left_behind u p q (r ∷ paths) h e k above y i led = elim (member_either y (pre
 
 none_below : (u p q : Path) (paths : List Path) → leads_to u p ≡ true → path_cmp p q ≡ Less → leads_to u q ≡ false
     → Above q paths
-    → (y : Path) → Member y (fresh p q ++ rows_from q paths) → leads_to u y ≡ true → ⊥
-none_below u p q paths h e k above y i led = elim (member_either y (fresh p q) (rows_from q paths) i) [
+    → (y : Path) → Member y (fresh p q ++ paths_from q paths) → leads_to u y ≡ true → ⊥
+none_below u p q paths h e k above y i led = elim (member_either y (fresh p q) (paths_from q paths) i) [
   | inl j ↦ false≢true (sym k ∙ leads_on u y q led (prefix_leads q y (fresh_member p q y j)))
   | inr j ↦ left_behind u p q paths h e k above y (row_prefix q paths y j) led
 ]
@@ -193,13 +193,13 @@ none_below u p q paths h e k above y i led = elim (member_either y (fresh p q) (
 -- ---- the walk from a path gives the block of each front of it
 
 pub walk_block : (u p : Path) (paths : List Path) → leads_to u p ≡ true → Above p paths → Rises paths
-    → Block u (rows_from p paths)
+    → Block u (paths_from p paths)
 walk_block u p [] h above up = tt
 walk_block u p (q ∷ paths) h above up = by_test (leads_to u q)
-    (λ e. block_append u (fresh p q) (rows_from q paths) (fresh_below u p q h e) (walk_block u q paths e up.0 up.1))
+    (λ e. block_append u (fresh p q) (paths_from q paths) (fresh_below u p q h e) (walk_block u q paths e up.0 up.1))
     (λ e. let short = fresh_short u p q h e above.0 in
-    block_stops u (fresh p q) (rows_from q paths) short.0 short.1 short.2 short.3
-    (none_led u (fresh p q ++ rows_from q paths) (none_below u p q paths h above.0 e up.0)))
+    block_stops u (fresh p q) (paths_from q paths) short.0 short.1 short.2 short.3
+    (none_led u (fresh p q ++ paths_from q paths) (none_below u p q paths h above.0 e up.0)))
 
 -- ---- of each row and those behind it: every front of the row has its block there
 
@@ -249,15 +249,15 @@ below_front u x (y ∷ m) h k =
 -- rows in a chain, all of which lead to one path, and then the walk from there
 chain_tails : (q : Path) (paths m : List Path) → ((y : Path) → Member y m → leads_to y q ≡ true) → Chain m
     → Above q paths → Rises paths
-    → AllTails HasBlocks (rows_from q paths) → AllTails HasBlocks (m ++ rows_from q paths)
+    → AllTails HasBlocks (paths_from q paths) → AllTails HasBlocks (m ++ paths_from q paths)
 chain_tails q paths [] led chain above up rest = rest
 chain_tails q paths (x ∷ m) led chain above up rest = (
-  (λ u h. block_append u m (rows_from q paths) (below_front u x m h chain.0)
+  (λ u h. block_append u m (paths_from q paths) (below_front u x m h chain.0)
       (walk_block u q paths (leads_on u x q h (led x (inl refl))) above up)),
   chain_tails q paths m (λ y i. led y (inr i)) chain.1 above up rest,
 )
 
-pub walk_tails : (p : Path) (paths : List Path) → Above p paths → Rises paths → AllTails HasBlocks (rows_from p paths)
+pub walk_tails : (p : Path) (paths : List Path) → Above p paths → Rises paths → AllTails HasBlocks (paths_from p paths)
 walk_tails p [] above up = tt
 walk_tails p (q ∷ paths) above up =
     chain_tails q paths (fresh p q) (λ y i. prefix_leads q y (fresh_member p q y i)) (chain_fresh p q) up.0 up.1

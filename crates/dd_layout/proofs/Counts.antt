@@ -11,7 +11,7 @@ use Rattle.dd_catalogue.proofs.Members.{Member}
 use Rattle.dd_layout.specs.Neighbours.{counted, counts_after}
 use Rattle.dd_layout.specs.Paths.{Path, path_cmp, is_path, prefixes, parent_of, leads_to, are_siblings}
 use Rattle.dd_layout.specs.Tree.{rank, ranks_along}
-use Rattle.dd_layout.specs.Walk.{fresh, rows_from}
+use Rattle.dd_layout.specs.Walk.{fresh, paths_from}
 use Rattle.dd_layout.proofs.RowsByWalk.{member_mapped, member_map, Rises, Above, fresh_member, prefix_parts}
 use Rattle.dd_layout.proofs.Trees.{leads_member}
 use Rattle.dd_layout.proofs.Blocks.{and_parts, leads_itself, leads_length, leads_on, parent_length, same_path}
@@ -99,10 +99,10 @@ ends_fresh (o ∷ b) (x ∷ p) e = by_test (is_eq (bytes_cmp o x))
     rw f (ends_map x p (fresh b p) (ends_fresh b p rest)))
     (λ f. rw f (ends_prefixes x p))
 
-pub walk_linked : (p : Path) (paths : List Path) → Above p paths → Rises paths → Linked p (rows_from p paths)
+pub walk_linked : (p : Path) (paths : List Path) → Above p paths → Rises paths → Linked p (paths_from p paths)
 walk_linked p [] above up = tt
 walk_linked p (q ∷ paths) above up =
-    linked_append p q (fresh p q) (rows_from q paths) (linked_fresh p q) (ends_fresh p q above.0)
+    linked_append p q (fresh p q) (paths_from q paths) (linked_fresh p q) (ends_fresh p q above.0)
     (walk_linked q paths up.0 up.1)
 
 -- ---- one row more

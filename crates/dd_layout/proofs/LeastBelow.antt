@@ -14,7 +14,7 @@ use Rattle.dd_layout.specs.Paths.{Path, prefixes, leads_to}
 use Rattle.dd_layout.specs.Plans.{path_of, least_below, tree}
 use Rattle.dd_layout.specs.Stages.{bare, bare_at}
 use Rattle.dd_layout.specs.Tree.{tree_of}
-use Rattle.dd_layout.specs.Walk.{rows_from}
+use Rattle.dd_layout.specs.Walk.{paths_from}
 use Rattle.dd_layout.specs.WalkedRecords.{Standing, standings, AreInOrder, lesser, records_from}
 use Rattle.dd_layout.proofs.RowsByWalk.{paths_ordered, row_prefix}
 use Rattle.dd_layout.proofs.Blocks.{prefix_leads}
@@ -215,7 +215,7 @@ same_tree versions run same =
 
 -- ---- the walk gives the records of the tree
 
-has_one : (x : Path) (run : List Standing) → Member x (rows_from [] (paths run)) → HasOne x run
+has_one : (x : Path) (run : List Standing) → Member x (paths_from [] (paths run)) → HasOne x run
 has_one x run i =
     let one = of_one x (paths run) (row_prefix [] (paths run) x i) in
     let there = member_path one.0 run one.1 in
@@ -225,6 +225,6 @@ pub walk_is_tree : (versions : List Parts) (run : List Standing) → IsPermutati
     → AreInOrder run → records_from [] run ≡ map (bare_at versions) (tree versions)
 walk_is_tree versions run same up =
     walk_is_all [] run up
-    ∙ same_map (record_of run) (bare_at versions) (rows_from [] (paths run))
+    ∙ same_map (record_of run) (bare_at versions) (paths_from [] (paths run))
     (λ x i. ap (bare x) (least_is versions run same x (has_one x run i)))
     ∙ ap (λ m. map (bare_at versions) m) (tree_in_order run up ∙ same_tree versions run same)

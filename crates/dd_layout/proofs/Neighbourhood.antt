@@ -9,7 +9,7 @@ use Rattle.dd_catalogue.proofs.BestMembers.{best_is_best, best_of_same}
 use Rattle.dd_layout.specs.Neighbours.{IsKnown}
 use Rattle.dd_layout.specs.Paths.{Path, prefixes}
 use Rattle.dd_layout.specs.Tree.{in_order, tree_of}
-use Rattle.dd_layout.specs.Walk.{rows_from}
+use Rattle.dd_layout.specs.Walk.{paths_from}
 use Rattle.dd_layout.proofs.Blocks.{AllTails, HasBlocks, walk_tails}
 use Rattle.dd_layout.proofs.Counts.{Linked, walk_linked, along, from_none}
 use Rattle.dd_layout.proofs.RowsByWalk.{Rises, Above, paths_ordered, empty_above, prefix_parts, row_prefix}
@@ -40,7 +40,7 @@ same_prefixes paths x = (
 pub rises : (paths : List Path) → Rises (in_order paths)
 rises paths = rising-best paths_ordered paths
 
-pub tree_is_walk : (paths : List Path) → tree_of paths ≡ rows_from [] (in_order paths)
+pub tree_is_walk : (paths : List Path) → tree_of paths ≡ paths_from [] (in_order paths)
 tree_is_walk paths =
     best_of_same paths_ordered (flat_map prefixes paths) (flat_map prefixes (in_order paths)) (same_prefixes paths)
     ∙ sym (rows_by_walk (in_order paths) (rises paths))
@@ -70,11 +70,11 @@ tails_at P (y ∷ front) x rest h = tails_at P front x rest h.1
 -- ---- a row of the walk
 
 walk_known : (paths front : List Path) (x : Path) (rest : List Path) → Above [] paths → Rises paths
-    → rows_from [] paths ≡ front ++ x ∷ rest
+    → paths_from [] paths ≡ front ++ x ∷ rest
     → IsKnown (front ++ x ∷ rest) front x rest
 walk_known paths front x rest above up is =
     let rise : Rises (front ++ x ∷ rest) = subst Rises is (rows_rise [] paths up) in
-    let parts : HaveParts (front ++ x ∷ rest) = subst HaveParts is (rows_have_parts paths (rows_from [] paths)
+    let parts : HaveParts (front ++ x ∷ rest) = subst HaveParts is (rows_have_parts paths (paths_from [] paths)
     (row_prefix [] paths)) in
     let tails : AllTails HasBlocks (front ++ x ∷ rest) = subst (AllTails HasBlocks) is (walk_tails [] paths above up) in
     let linked : Linked [] (front ++ x ∷ rest) = subst (Linked []) is (walk_linked [] paths above up) in

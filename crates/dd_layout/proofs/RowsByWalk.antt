@@ -17,7 +17,7 @@ use Rattle.dd_catalogue.proofs.Members.{Member, member_of, contained}
 use Rattle.dd_catalogue.proofs.BestMembers.{best_of_same}
 use Rattle.dd_layout.specs.Paths.{Path, path_cmp, prefixes}
 use Rattle.dd_layout.specs.Tree.{tree_of}
-use Rattle.dd_layout.specs.Walk.{fresh, rows_from}
+use Rattle.dd_layout.specs.Walk.{fresh, paths_from}
 
 -- ---- the order of paths
 
@@ -168,16 +168,16 @@ fresh_above (o ∷ b) (x ∷ p) e = by_test (is_eq (bytes_cmp o x))
 all_above : (p : Path) (m : List Path) → Above p m → (q : Path) (n : List Path) → m ≡ q ∷ n → path_cmp p q ≡ Less
 all_above p m h q n e = (subst (λ (l : List Path). Above p l) e h).0
 
-rows_above : (b : Path) (paths : List Path) → Above b paths → Rises paths → Above b (rows_from b paths)
+rows_above : (b : Path) (paths : List Path) → Above b paths → Rises paths → Above b (paths_from b paths)
 rows_above b [] h up = tt
 rows_above b (x ∷ paths) h up =
-    append_above b (fresh b x) (rows_from x paths) (fresh_above b x h.0)
-    (above_trans (λ p. p) path_total b x (rows_from x paths) h.0 (rows_above x paths up.0 up.1))
+    append_above b (fresh b x) (paths_from x paths) (fresh_above b x h.0)
+    (above_trans (λ p. p) path_total b x (paths_from x paths) h.0 (rows_above x paths up.0 up.1))
 
-pub rows_rise : (b : Path) (paths : List Path) → Rises paths → Rises (rows_from b paths)
+pub rows_rise : (b : Path) (paths : List Path) → Rises paths → Rises (paths_from b paths)
 rows_rise b [] up = tt
 rows_rise b (x ∷ paths) up =
-    append_rises x (fresh b x) (rows_from x paths) (fresh_rises b x) (fresh_up_to b x)
+    append_rises x (fresh b x) (paths_from x paths) (fresh_rises b x) (fresh_up_to b x)
     (rows_above x paths up.0 up.1) (rows_rise x paths up.1)
 
 -- ---- the rows are the prefixes of the paths
@@ -247,38 +247,38 @@ fresh_or_before (o ∷ b) (x ∷ p) q i = by_test (is_eq (bytes_cmp o x))
     (λ e. rw e (inr i))
 
 -- a row is a prefix of one of the paths
-pub row_prefix : (b : Path) (paths : List Path) (q : Path) → Member q (rows_from b paths)
+pub row_prefix : (b : Path) (paths : List Path) (q : Path) → Member q (paths_from b paths)
     → Member q (flat_map prefixes paths)
 row_prefix b [] q i = absurd i
-row_prefix b (x ∷ paths) q i = elim (member_either q (fresh b x) (rows_from x paths) i) [
+row_prefix b (x ∷ paths) q i = elim (member_either q (fresh b x) (paths_from x paths) i) [
   | inl j ↦ member_left q (prefixes x) (flat_map prefixes paths) (fresh_member b x q j)
   | inr j ↦ member_right q (prefixes x) (flat_map prefixes paths) (row_prefix x paths q j)
 ]
 
 -- a prefix of one of the paths is a row, or a prefix of the path before
 prefix_row : (b : Path) (paths : List Path) (q : Path) → Member q (flat_map prefixes paths)
-    → Member q (prefixes b) ⊎ Member q (rows_from b paths)
+    → Member q (prefixes b) ⊎ Member q (paths_from b paths)
 prefix_row b [] q i = absurd i
 prefix_row b (x ∷ paths) q i = elim (member_either q (prefixes x) (flat_map prefixes paths) i) [
   | inl j ↦ first (fresh_or_before b x q j)
   | inr j ↦ elim (prefix_row x paths q j) [
     | inl k ↦ first (fresh_or_before b x q k)
-    | inr k ↦ inr (member_right q (fresh b x) (rows_from x paths) k)
+    | inr k ↦ inr (member_right q (fresh b x) (paths_from x paths) k)
   ]
 ]
   where
-    first : OldOrFresh b x q → Member q (prefixes b) ⊎ Member q (fresh b x ++ rows_from x paths)
+    first : OldOrFresh b x q → Member q (prefixes b) ⊎ Member q (fresh b x ++ paths_from x paths)
     first (inl j) = inl j
-    first (inr j) = inr (member_left q (fresh b x) (rows_from x paths) j)
+    first (inr j) = inr (member_left q (fresh b x) (paths_from x paths) j)
 
-pub rows_members : (paths : List Path) → SameMembers (flat_map prefixes paths) (rows_from [] paths)
+pub rows_members : (paths : List Path) → SameMembers (flat_map prefixes paths) (paths_from [] paths)
 rows_members paths q = (
   (λ c. elim (prefix_row [] paths q (member_of q (flat_map prefixes paths) c))
-      [ inl i ↦ absurd i | inr i ↦ contained q (rows_from [] paths) i ]),
-  (λ c. contained q (flat_map prefixes paths) (row_prefix [] paths q (member_of q (rows_from [] paths) c))),
+      [ inl i ↦ absurd i | inr i ↦ contained q (paths_from [] paths) i ]),
+  (λ c. contained q (flat_map prefixes paths) (row_prefix [] paths q (member_of q (paths_from [] paths) c))),
 )
 
-pub rows_by_walk : (paths : List Path) → Rises paths → rows_from [] paths ≡ tree_of paths
+pub rows_by_walk : (paths : List Path) → Rises paths → paths_from [] paths ≡ tree_of paths
 rows_by_walk paths up =
-    sym (best_of_rising paths_ordered (rows_from [] paths) (rows_rise [] paths up))
-    ∙ sym (best_of_same paths_ordered (flat_map prefixes paths) (rows_from [] paths) (rows_members paths))
+    sym (best_of_rising paths_ordered (paths_from [] paths) (rows_rise [] paths up))
+    ∙ sym (best_of_same paths_ordered (flat_map prefixes paths) (paths_from [] paths) (rows_members paths))

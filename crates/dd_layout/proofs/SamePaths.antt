@@ -8,7 +8,7 @@ use Rattle.dd_catalogue.proofs.Images.{agreed_image}
 use Rattle.dd_catalogue.proofs.Members.{Member}
 use Rattle.dd_version.specs.declared.parts.Parts.{Parts}
 use Rattle.dd_layout.specs.declared.label.Label.{Label}
-use Rattle.dd_layout.specs.Bounds.{Bounds}
+use Rattle.dd_layout.specs.Limits.{Limits}
 use Rattle.dd_layout.specs.Plans.{path_of, size, tree}
 use Rattle.dd_layout.specs.Refusal.{conflict_or, crowded, crowding_or, oversize, refusal}
 use Rattle.dd_layout.specs.Tree.{tree_of}
@@ -26,7 +26,7 @@ same_paths f (v ∷ m) h =
 pub same_tree : (m : List Parts) → tree (harmonised m) ≡ tree m
 same_tree m = ap tree_of (same_paths (agreed m) m (λ v i. agreed_image m v i))
 
-pub refused_by_the_tree : (label : Label) (limits : Bounds) (m : List Parts) (withdrawn : List (List ℕ))
+pub refused_by_the_tree : (label : Label) (limits : Limits) (m : List Parts) (withdrawn : List (List ℕ))
     → refusal label limits m withdrawn
     ≡ conflict_or (clash m) (crowding_or (crowded limits.per_level (tree m))
     (oversize limits.bytes (size label (harmonised m) withdrawn)))

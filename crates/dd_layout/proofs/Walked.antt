@@ -18,7 +18,7 @@ use Rattle.dd_layout.specs.declared.record.PlanRecord.{PlanRecord}
 use Rattle.dd_layout.specs.Paths.{Path, path_cmp, is_before, prefixes, leads_to}
 use Rattle.dd_layout.specs.Stages.{bare}
 use Rattle.dd_layout.specs.Tree.{tree_of}
-use Rattle.dd_layout.specs.Walk.{fresh, rows_from}
+use Rattle.dd_layout.specs.Walk.{fresh, paths_from}
 use Rattle.dd_layout.specs.WalkedRecords.{Standing, AreInOrder, least_run, lesser, record_here, records_from}
 use Rattle.dd_layout.proofs.RowsByWalk.{path_total, path_apart, paths_ordered, Rises, Above, append_above, append_rises}
 use Rattle.dd_layout.proofs.RowsByWalk.{fresh_above, fresh_rises, fresh_up_to, fresh_member, rows_members}
@@ -44,27 +44,27 @@ fresh_none (x ∷ p) =
 not_greater : (p q : Path) → path_cmp p q ≡ Greater → is_before q p ≡ false → ⊥
 not_greater p q e h = let less = greater_turned path_total p q e in let is = rw less at h in cc
 
-order_above : (b : Path) (run : List Standing) → NoneBefore b run → AreInOrder run → Above b (rows_from b (paths run))
+order_above : (b : Path) (run : List Standing) → NoneBefore b run → AreInOrder run → Above b (paths_from b (paths run))
 order_above b [] h up = tt
 order_above b (s ∷ run) h up = by_order (path_cmp b s.1)
-    (λ e. append_above b (fresh b s.1) (rows_from s.1 (paths run)) (fresh_above b s.1 e)
-    (above_trans (λ p. p) path_total b s.1 (rows_from s.1 (paths run)) e (order_above s.1 run up.0 up.1)))
+    (λ e. append_above b (fresh b s.1) (paths_from s.1 (paths run)) (fresh_above b s.1 e)
+    (above_trans (λ p. p) path_total b s.1 (paths_from s.1 (paths run)) e (order_above s.1 run up.0 up.1)))
     (λ e. let same : s.1 ≡ b = sym (path_apart b s.1 e) in
-    let rest : Above s.1 (fresh s.1 s.1 ++ rows_from s.1 (paths run)) =
+    let rest : Above s.1 (fresh s.1 s.1 ++ paths_from s.1 (paths run)) =
     rw (fresh_none s.1) (order_above s.1 run up.0 up.1) in
-    subst (λ (z : Path). Above z (fresh z s.1 ++ rows_from s.1 (paths run))) same rest)
+    subst (λ (z : Path). Above z (fresh z s.1 ++ paths_from s.1 (paths run))) same rest)
     (λ e. absurd (not_greater b s.1 e h.0))
 
-order_rises : (b : Path) (run : List Standing) → AreInOrder run → Rises (rows_from b (paths run))
+order_rises : (b : Path) (run : List Standing) → AreInOrder run → Rises (paths_from b (paths run))
 order_rises b [] up = tt
 order_rises b (s ∷ run) up =
-    append_rises s.1 (fresh b s.1) (rows_from s.1 (paths run)) (fresh_rises b s.1) (fresh_up_to b s.1)
+    append_rises s.1 (fresh b s.1) (paths_from s.1 (paths run)) (fresh_rises b s.1) (fresh_up_to b s.1)
     (order_above s.1 run up.0 up.1) (order_rises s.1 run up.1)
 
-pub tree_in_order : (run : List Standing) → AreInOrder run → rows_from [] (paths run) ≡ tree_of (paths run)
+pub tree_in_order : (run : List Standing) → AreInOrder run → paths_from [] (paths run) ≡ tree_of (paths run)
 tree_in_order run up =
-    sym (best_of_rising paths_ordered (rows_from [] (paths run)) (order_rises [] run up))
-    ∙ sym (best_of_same paths_ordered (flat_map prefixes (paths run)) (rows_from [] (paths run))
+    sym (best_of_rising paths_ordered (paths_from [] (paths run)) (order_rises [] run up))
+    ∙ sym (best_of_same paths_ordered (flat_map prefixes (paths run)) (paths_from [] (paths run))
     (rows_members (paths run)))
 
 -- ---- the least place below a path, among all
@@ -140,10 +140,10 @@ behind_is s run x e = by_test (leads_to x s.1)
     (λ h. rw h refl)
 
 pub walk_is_all : (b : Path) (run : List Standing) → AreInOrder run
-    → records_from b run ≡ map (record_of run) (rows_from b (paths run))
+    → records_from b run ≡ map (record_of run) (paths_from b (paths run))
 walk_is_all b [] up = refl
 walk_is_all b (s ∷ run) up =
-    let rows = rows_from s.1 (paths run) in
+    let rows = paths_from s.1 (paths run) in
     let above : Above s.1 rows = order_above s.1 run up.0 up.1 in
     ap₂ (λ (l m : List PlanRecord). l ++ m)
     (same_map (record_here (s ∷ run)) (record_of (s ∷ run)) (fresh b s.1)

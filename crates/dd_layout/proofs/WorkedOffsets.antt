@@ -6,7 +6,7 @@ use Rattle.dd_elem.specs.FileId.{ranks_of, text_of}
 use Rattle.dd_encoding.specs.Head.{head_text, group_text}
 use Rattle.dd_layout.specs.declared.level.Level.TheVariants.{Patient, Study, Series, Image}
 use Rattle.dd_layout.specs.Plans.{at, records_of, size}
-use Rattle.dd_layout.specs.Worked.{row, eleven_records, four_images, one_withdrawn, two_withdrawn, unnamed}
+use Rattle.dd_layout.specs.Worked.{planned, eleven_records, four_images, one_withdrawn, two_withdrawn, unnamed}
 
 pub at_first_patient : at unnamed four_images (codes "P1" ∷ []) ≡ 320
 unfolding text_of head_text group_text digits
@@ -70,15 +70,15 @@ size_with_two = refl
 
 pub records_are : records_of unnamed four_images ≡ eleven_records
 records_are = λ i.
-    row Patient (at_first_patient i) (at_second_patient i) (at_first_study i) (None) 0
-    ∷ row Study (at_first_study i) (0) (at_first_series i) (None) 0
-    ∷ row Series (at_first_series i) (at_second_series i) (at_first_image i) (None) 0
-    ∷ row Image (at_first_image i) (at_second_image i) (0) (Some (ranks_of 1 1 1 1)) 0
-    ∷ row Image (at_second_image i) (0) (0) (Some (ranks_of 1 1 1 2)) 1
-    ∷ row Series (at_second_series i) (0) (at_third_image i) (None) 2
-    ∷ row Image (at_third_image i) (0) (0) (Some (ranks_of 1 1 2 1)) 2
-    ∷ row Patient (at_second_patient i) (0) (at_second_study i) (None) 3
-    ∷ row Study (at_second_study i) (0) (at_third_series i) (None) 3
-    ∷ row Series (at_third_series i) (0) (at_fourth_image i) (None) 3
-    ∷ row Image (at_fourth_image i) (0) (0) (Some (ranks_of 2 1 1 1)) 3
+    planned Patient (at_first_patient i) (at_second_patient i) (at_first_study i) (None) 0
+    ∷ planned Study (at_first_study i) (0) (at_first_series i) (None) 0
+    ∷ planned Series (at_first_series i) (at_second_series i) (at_first_image i) (None) 0
+    ∷ planned Image (at_first_image i) (at_second_image i) (0) (Some (ranks_of 1 1 1 1)) 0
+    ∷ planned Image (at_second_image i) (0) (0) (Some (ranks_of 1 1 1 2)) 1
+    ∷ planned Series (at_second_series i) (0) (at_third_image i) (None) 2
+    ∷ planned Image (at_third_image i) (0) (0) (Some (ranks_of 1 1 2 1)) 2
+    ∷ planned Patient (at_second_patient i) (0) (at_second_study i) (None) 3
+    ∷ planned Study (at_second_study i) (0) (at_third_series i) (None) 3
+    ∷ planned Series (at_third_series i) (0) (at_fourth_image i) (None) 3
+    ∷ planned Image (at_fourth_image i) (0) (0) (Some (ranks_of 2 1 1 1)) 3
     ∷ []

@@ -14,20 +14,20 @@ pub record Layout : Type 0 where
 
 -- a record is of one of so many versions, and has a File ID where it is of an image
 abbrev pub IsSound : ℕ → PlanRecord → Type 0
-IsSound count row = (row.of < count) × IsFileOf row.level row.file
+IsSound count planned = (planned.of < count) × IsFileOf planned.level planned.file
 
 -- its offset is smaller than this size of a directory, and so are those that it names, of which 0 names no record
-pub record StandsWithin (bytes : ℕ) (row : PlanRecord) : Type 0 where
-  pub at : row.at < bytes
-  pub next : row.next < bytes
-  pub lower : row.lower < bytes
+pub record StandsWithin (bytes : ℕ) (planned : PlanRecord) : Type 0 where
+  pub at : planned.at < bytes
+  pub next : planned.next < bytes
+  pub lower : planned.lower < bytes
 
 -- under this label the versions have these records, and together with the withdrawn UIDs the directory has this size
-pub record IsLaidOut (label : Label) (versions : List Parts) (withdrawn : List (List ℕ)) (rows : List PlanRecord)
+pub record IsLaidOut (label : Label) (versions : List Parts) (withdrawn : List (List ℕ)) (planned : List PlanRecord)
     (bytes : ℕ) : Type 0 where
-  pub records : rows ≡ records_of label versions
+  pub records : planned ≡ records_of label versions
   pub size : bytes ≡ size label versions withdrawn
-  pub sound : All (IsSound (length versions)) rows
+  pub sound : All (IsSound (length versions)) planned
 
 -- what the versions and the withdrawn UIDs of a catalogue are laid out as
 abbrev pub layout_of : Label → List Parts → List (List ℕ) → Layout

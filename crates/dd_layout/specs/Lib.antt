@@ -1,9 +1,9 @@
-pub mod Bounds
 pub mod Cells
 pub mod Directory
 pub mod Entries
 pub mod Layouts
 pub mod Levels
+pub mod Limits
 pub mod Linking
 pub mod Neighbours
 pub mod Numbering

@@ -9,7 +9,7 @@ use Rattle.dd_layout.specs.declared.fault.PlanFault.TheVariants.{Conflict, TooMa
 use Rattle.dd_layout.specs.declared.label.Label.{Label}
 use Rattle.dd_layout.specs.declared.level.Level.{Level}
 use Rattle.dd_layout.specs.declared.level.Level.TheVariants.{Patient, Study, Series, Image}
-use Rattle.dd_layout.specs.Bounds.{Bounds}
+use Rattle.dd_layout.specs.Limits.{Limits}
 use Rattle.dd_layout.specs.Levels.{levels}
 use Rattle.dd_layout.specs.Paths.{Path}
 use Rattle.dd_layout.specs.Plans.{tree, size}
@@ -24,12 +24,12 @@ above Image = 3
 
 -- one parent has more children of this level than so many; the root is the parent of the patients
 abbrev pub is_crowded : ℕ → List Path → Level → Bool
-is_crowded most rows level =
-    is_some (find (λ x. (length x == above level) && nat_lt most (length (children rows x))) ([] ∷ rows))
+is_crowded most paths level =
+    is_some (find (λ x. (length x == above level) && nat_lt most (length (children paths x))) ([] ∷ paths))
 
 -- the topmost level of such children
 abbrev pub crowded : ℕ → List Path → Option Level
-crowded most rows = find (is_crowded most rows) levels
+crowded most paths = find (is_crowded most paths) levels
 
 -- the size passes the limit
 abbrev pub oversize : ℕ → ℕ → Option PlanFault
@@ -45,10 +45,10 @@ conflict_or None other = other
 conflict_or (Some pair) other = Some (Conflict pair.0 pair.1)
 
 -- of versions in harmony and withdrawn UIDs, under this label: too many children, or too many bytes
-abbrev pub excess : Label → Bounds → List Parts → List (List ℕ) → Option PlanFault
+abbrev pub excess : Label → Limits → List Parts → List (List ℕ) → Option PlanFault
 excess label limits versions withdrawn =
     crowding_or (crowded limits.per_level (tree versions)) (oversize limits.bytes (size label versions withdrawn))
 
 -- of a catalogue of these versions and withdrawn UIDs, under this label
-abbrev pub refusal : Label → Bounds → List Parts → List (List ℕ) → Option PlanFault
+abbrev pub refusal : Label → Limits → List Parts → List (List ℕ) → Option PlanFault
 refusal label limits m withdrawn = conflict_or (clash m) (excess label limits (harmonised m) withdrawn)

@@ -47,22 +47,22 @@ two_withdrawn = codes "1.2.3.4.7" ∷ codes "1.2.3.4.8" ∷ []
 abbrev pub unnamed : Label
 unnamed = record { id = []; uid = codes "2.25.0" }
 
-abbrev pub row : Level → (at next lower : ℕ) → Option Ranks → ℕ → PlanRecord
-row level at next lower file of =
+abbrev pub planned : Level → (at next lower : ℕ) → Option Ranks → ℕ → PlanRecord
+planned level at next lower file of =
     record { level = level; at = at; next = next; lower = lower; file = file; of = of }
 
 -- level, offset, next, lower, File ID, and the least instance below
 abbrev pub eleven_records : List PlanRecord
 eleven_records =
-    row Patient 320 1476 404 None 0
-    ∷ row Study 404 0 530 None 0
-    ∷ row Series 530 1130 622 None 0
-    ∷ row Image 622 876 0 (Some (ranks_of 1 1 1 1)) 0
-    ∷ row Image 876 0 0 (Some (ranks_of 1 1 1 2)) 1
-    ∷ row Series 1130 0 1222 None 2
-    ∷ row Image 1222 0 0 (Some (ranks_of 1 1 2 1)) 2
-    ∷ row Patient 1476 0 1560 None 3
-    ∷ row Study 1560 0 1686 None 3
-    ∷ row Series 1686 0 1778 None 3
-    ∷ row Image 1778 0 0 (Some (ranks_of 2 1 1 1)) 3
+    planned Patient 320 1476 404 None 0
+    ∷ planned Study 404 0 530 None 0
+    ∷ planned Series 530 1130 622 None 0
+    ∷ planned Image 622 876 0 (Some (ranks_of 1 1 1 1)) 0
+    ∷ planned Image 876 0 0 (Some (ranks_of 1 1 1 2)) 1
+    ∷ planned Series 1130 0 1222 None 2
+    ∷ planned Image 1222 0 0 (Some (ranks_of 1 1 2 1)) 2
+    ∷ planned Patient 1476 0 1560 None 3
+    ∷ planned Study 1560 0 1686 None 3
+    ∷ planned Series 1686 0 1778 None 3
+    ∷ planned Image 1778 0 0 (Some (ranks_of 2 1 1 1)) 3
     ∷ []

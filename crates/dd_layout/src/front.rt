@@ -1,7 +1,7 @@
 //! What stands before the records of a directory.
 
-ghost use Rattle.std.specs.Prelude.{◌≡◌, ◌≤◌, map, length};
-ghost use Rattle.dd_elem.specs.SetId.{max_set_id_length};
+ghost use Rattle.std.specs.Prelude.{◌≡◌, ◌≤◌, map};
+ghost use Rattle.dd_elem.specs.SetId.{IsSetId};
 ghost use Rattle.dd_elem.specs.Uid.{IsUid};
 ghost use Rattle.dd_layout.specs.Cells.{cell_entry};
 ghost use Rattle.dd_layout.specs.Directory.{first_offset, front_entries};
@@ -52,7 +52,7 @@ pub const RECORDS: Tag = Tag {
 /// first and of the last root record, or 0 (PS3.3 sections F.3.2.1 and F.3.2.2).
 pub fn front_cells(label: &Label, first: u32, last: u32) -> [Cell<'_>; 4]
     ensures exact { map cell_entry result ≡ front_entries label.now.id first last }
-    ensures id { length label.now.id ≤ max_set_id_length }
+    ensures id { IsSetId label.now.id }
 {
     [
         cell(SET_ID, Vr::CS, CellValue::Text(label.id.as_bytes())),
@@ -74,7 +74,7 @@ fn cell(tag: Tag, vr: Vr, value: CellValue<'_>) -> Cell<'_>
 pub fn first_offset(label: &Label) -> u64
     ensures exact { result ≡ first_offset label.now }
     ensures few { result ≤ 490 }
-    ensures id { length label.now.id ≤ max_set_id_length }
+    ensures id { IsSetId label.now.id }
     ensures uid { IsUid label.now.uid }
 {
     head_size(&directory_meta(label)) + front_size(label) + header_size(Vr::SQ)
@@ -85,7 +85,7 @@ pub fn first_offset(label: &Label) -> u64
 fn front_size(label: &Label) -> u64
     ensures exact { result ≡ entries_size (front_entries label.now.id 0 0) }
     ensures few { result ≤ 58 }
-    ensures id { length label.now.id ≤ max_set_id_length }
+    ensures id { IsSetId label.now.id }
 {
     let [id, first, last, flag] = front_cells(label, 0, 0);
     id.size() + first.size() + last.size() + flag.size()

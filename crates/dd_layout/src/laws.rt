@@ -6,14 +6,14 @@ ghost use Rattle.dd_catalogue.specs.Clash.{clash};
 ghost use Rattle.dd_catalogue.specs.Harmony.{harmonised};
 ghost use Rattle.dd_version.specs.declared.parts.Parts.{Parts};
 ghost use Rattle.dd_layout.specs.declared.label.Label.{Label};
-ghost use Rattle.dd_layout.specs.Bounds.{Bounds};
+ghost use Rattle.dd_layout.specs.Limits.{Limits};
 ghost use Rattle.dd_layout.specs.Layouts.{StandsWithin};
 ghost use Rattle.dd_layout.specs.Neighbours.{IsKnown};
 ghost use Rattle.dd_layout.specs.Paths.{Path, path_cmp};
 ghost use Rattle.dd_layout.specs.Plans.{at_or_none, records_of, size, tree};
 ghost use Rattle.dd_layout.specs.Refusal.{conflict_or, crowded, crowding_or, oversize, refusal};
 ghost use Rattle.dd_layout.specs.Tree.{IsTree, tree_of};
-ghost use Rattle.dd_layout.specs.Walk.{rows_from};
+ghost use Rattle.dd_layout.specs.Walk.{paths_from};
 ghost use Rattle.dd_layout.specs.Worked.{eleven_records, four_images, one_withdrawn, two_withdrawn, unnamed};
 
 /// All paths have a tree. This states a law, and does nothing.
@@ -28,10 +28,10 @@ pub fn tree_is_one()
 
 /// One walk along paths that rise gives their tree. This states a law, and does nothing.
 pub fn walk_gives_the_tree()
-    ensures { (paths : List Path) → IsRising (λ path. path) path_cmp paths → rows_from [] paths ≡ tree_of paths }
+    ensures { (paths : List Path) → IsRising (λ path. path) path_cmp paths → paths_from [] paths ≡ tree_of paths }
 {}
 
-/// Each row of a tree is known from the rows before and behind it, by the lengths of their paths alone: its
+/// Each path of a tree is known from the paths before and behind it, by their lengths alone: its
 /// offset, its ranks and its links. This states a law, and does nothing.
 pub fn rows_are_known()
     ensures { (paths : List Path) → ((path : Path) → Contains paths path → path ≢ [])
@@ -54,7 +54,7 @@ pub fn offsets_are_within()
 /// asked of the catalogue itself, and only the size needs its harmony. This states a law, and does nothing.
 pub fn harmony_keeps_the_tree()
     ensures tree { (m : List Parts) → tree (harmonised m) ≡ tree m }
-    ensures refusal { (label : Label) (limits : Bounds) (m : List Parts) (withdrawn : List (List ℕ))
+    ensures refusal { (label : Label) (limits : Limits) (m : List Parts) (withdrawn : List (List ℕ))
         → refusal label limits m withdrawn
         ≡ conflict_or (clash m) (crowding_or (crowded limits.per_level (tree m))
         (oversize limits.bytes (size label (harmonised m) withdrawn))) }

@@ -1,4 +1,9 @@
-//! Where the records of a directory stand (PS3.3 annex F).
+//! The plan of a directory: which records the versions of a catalogue have, what the elements of each hold, and
+//! where it stands in the file (PS3.3 section F.3 to F.5, PS3.10 section 8). No bytes are written here.
+//!
+//! Its one promise: the records of a plan are those of the tree of its versions in harmony, each with the offset
+//! that its bytes have in the directory under that label; and what is refused has two versions in conflict, or
+//! passes a limit. Only where a growth is refused is the answer want of memory instead.
 #![tactic(auto)]
 
 mod cell;

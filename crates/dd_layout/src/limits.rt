@@ -1,6 +1,6 @@
 //! The limits of a directory.
 
-ghost use Rattle.std.specs.Prelude.{◌≤◌, SomeIff};
+ghost use Rattle.std.specs.Prelude.{◌≡◌, ◌≤◌, SomeIff};
 ghost use Rattle.dd_elem.specs.FileId.{max_rank};
 
 use dd_elem::FileId;
@@ -16,15 +16,15 @@ pub struct Limits {
 impl Model for Limits {
     ghost use Rattle.std.specs.Prelude.{◌≤◌};
     ghost use Rattle.dd_elem.specs.FileId.{max_rank};
-    ghost use Rattle.dd_layout.specs.Bounds.{Bounds};
+    ghost use Rattle.dd_layout.specs.Limits.{Limits};
 
-    ghost Value = { Bounds };
+    ghost Value = { Limits };
 
     ghost view = { λ limits. record { bytes = limits.bytes; per_level = limits.per_level } };
 
     ghost invariant = { λ limits. limits.per_level ≤ max_rank };
 
-    ghost inverse = { λ bounds. record { bytes = bounds.bytes; per_level = bounds.per_level } };
+    ghost inverse = { λ seen. record { bytes = seen.bytes; per_level = seen.per_level } };
 }
 
 impl Limits {
@@ -37,5 +37,16 @@ impl Limits {
             return None;
         }
         Some(Limits { bytes, per_level })
+    }
+
+    /// The limits of a directory of at most this many bytes, with as many records below one parent as a File ID
+    /// has ranks for.
+    pub fn of_bytes(bytes: u32) -> Limits
+        ensures { result ≡ record { bytes = bytes; per_level = max_rank } }
+    {
+        Limits {
+            bytes,
+            per_level: FileId::MAX_RANK,
+        }
     }
 }

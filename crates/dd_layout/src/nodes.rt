@@ -21,7 +21,7 @@ const LEVELS: [Level; 4] = [Level::Patient, Level::Study, Level::Series, Level::
 /// The records of these versions in the order of their bytes, each with its level and the least version
 /// below it. Memory where a growth was refused: never where there are no versions.
 pub(crate) fn nodes(alloc: Global, versions: &[Version]) -> Result<Vec<PlanRecord>, Memory>
-    ensures rows { IfOk result (λ records. records.items ≡ map (bare_at versions.now) (tree versions.now)) }
+    ensures records { IfOk result (λ records. records.items ≡ map (bare_at versions.now) (tree versions.now)) }
     ensures some { OnErr result (versions.now ≢ []) }
 {
     if versions.is_empty() {
@@ -35,12 +35,12 @@ pub(crate) fn nodes(alloc: Global, versions: &[Version]) -> Result<Vec<PlanRecor
 fn walked(alloc: Global, placed: &[Placed]) -> Result<Vec<PlanRecord>, Memory>
     ensures { IfOk result (λ records. records.items ≡ records_from [] (map standing placed.now)) }
 {
-    let mut records = Vec::with_capacity(alloc, row_count(placed))?;
+    let mut records = Vec::with_capacity(alloc, record_count(placed))?;
     let mut before = None;
     let mut rest = placed;
     while let [first, later @ ..] = rest {
         let shared = shared_with(before, first.version);
-        push_rows(&mut records, shared, first, later)?;
+        push_records(&mut records, shared, first, later)?;
         before = Some(first.version);
         rest = later;
     }
@@ -48,7 +48,7 @@ fn walked(alloc: Global, placed: &[Placed]) -> Result<Vec<PlanRecord>, Memory>
 }
 
 /// How many records these versions have.
-fn row_count(placed: &[Placed]) -> usize
+fn record_count(placed: &[Placed]) -> usize
     ensures { result ≡ length (records_from [] (map standing placed.now)) }
 {
     let mut count = 0;
@@ -74,7 +74,7 @@ fn shared_with(before: Option<&Version>, version: &Version) -> usize
 }
 
 /// The records that lead to the first version, without those of the parts that are shared.
-fn push_rows(
+fn push_records(
     records: &mut Vec<PlanRecord>,
     shared: usize,
     first: &Placed,

@@ -19,8 +19,8 @@ pub(crate) fn place(
     label: &Label,
     most: u32,
 ) -> Option<u32>
-    requires rows { records.old ≡ map (numbered_at versions.now) (tree versions.now) }
-    requires files { All (λ row. IsFileOf row.level row.file) records.old }
+    requires records { records.old ≡ map (numbered_at versions.now) (tree versions.now) }
+    requires files { All (λ planned. IsFileOf planned.level planned.file) records.old }
     ensures fits { SomeIff result (records_end label.now versions.now ≤ most) (records_end label.now versions.now) }
     ensures placed { IsSome result → records.new ≡ map (placed_at label.now versions.now) (tree versions.now) }
 {

@@ -2,6 +2,7 @@
 
 ghost use Rattle.std.specs.Prelude.{◌≡◌, All, length};
 ghost use Rattle.dd_catalogue.specs.Best.{IsRising};
+ghost use Rattle.dd_catalogue.specs.Versions.{IsCatalogue};
 ghost use Rattle.dd_elem.specs.Ordered.{bytes_cmp};
 ghost use Rattle.dd_layout.specs.Layouts.{IsLaidOut, IsSound, StandsWithin};
 ghost use Rattle.dd_layout.specs.Plans.{records_of, size};
@@ -38,7 +39,7 @@ impl Model for Plan {
         IsLaidOut plan.label plan.catalogue.versions plan.catalogue.withdrawn plan.records.items plan.size };
 }
 
-// By hand, so that letting go of a plan is one call.
+// By hand, so that dropping a plan is one call.
 impl Drop for Plan {
     fn drop(self) {
         let Plan {
@@ -78,7 +79,8 @@ impl Plan {
 
     /// The versions that the records are of, in harmony, rising by SOP Instance UID.
     pub fn versions(&self) -> &[Version]
-        ensures { result.now ≡ self.now.versions }
+        ensures all { result.now ≡ self.now.versions }
+        ensures rising { IsCatalogue self.now.versions }
     {
         self.catalogue.versions()
     }

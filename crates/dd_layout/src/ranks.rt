@@ -109,7 +109,7 @@ pub(crate) fn number(records: &mut [PlanRecord], most: u32) -> Option<Level>
     ensures numbered { (versions : List Parts) → records.old ≡ map (bare_at versions) (tree versions)
         → result ≡ None → records.new ≡ map (numbered_at versions) (tree versions) }
     ensures files { (versions : List Parts) → records.old ≡ map (bare_at versions) (tree versions)
-        → result ≡ None → All (λ row. IsFileOf row.level row.file) records.new }
+        → result ≡ None → All (λ planned. IsFileOf planned.level planned.file) records.new }
 {
     let mut counters = Counters::NONE;
     let mut crowded = None;

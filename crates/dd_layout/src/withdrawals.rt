@@ -1,6 +1,8 @@
 //! The elements that name the withdrawn instances, behind the records of a directory.
 
 ghost use Rattle.std.specs.Prelude.{◌≡◌, ◌+◌, ◌*◌, ◌≤◌, length, sum_by};
+ghost use Rattle.std.specs.List.{AllByRecursion};
+ghost use Rattle.dd_elem.specs.Uid.{IsUid};
 ghost use Rattle.dd_layout.specs.Cells.{IsShort, cell_entry, even_value};
 ghost use Rattle.dd_layout.specs.Withdrawals.{creator_entry, withdrawals_size, withdrawn_value};
 
@@ -30,7 +32,8 @@ pub fn creator_cell() -> Cell<'static>
 
 /// How many bytes the elements take that name these UIDs: none where no UID is withdrawn.
 pub fn withdrawals_size(withdrawn: &[Uid]) -> u128
-    ensures { result ≡ withdrawals_size withdrawn.now }
+    ensures exact { result ≡ withdrawals_size withdrawn.now }
+    ensures uids { AllByRecursion IsUid withdrawn.now }
 {
     if withdrawn.is_empty() {
         return 0;
@@ -44,6 +47,7 @@ pub fn withdrawals_size(withdrawn: &[Uid]) -> u128
 pub fn withdrawn_length(withdrawn: &[Uid]) -> u128
     ensures exact { result ≡ length (withdrawn_value withdrawn.now) }
     ensures few { result ≤ 65 * length withdrawn.now }
+    ensures uids { AllByRecursion IsUid withdrawn.now }
 {
     let length = closed_length(withdrawn);
     length - length % 2
@@ -53,6 +57,7 @@ pub fn withdrawn_length(withdrawn: &[Uid]) -> u128
 fn closed_length(mut withdrawn: &[Uid]) -> u128
     ensures exact { result ≡ sum_by (λ uid. length uid + 1) withdrawn.entry.now }
     ensures few { result ≤ 65 * length withdrawn.entry.now }
+    ensures uids { AllByRecursion IsUid withdrawn.entry.now }
 {
     let mut length = 0;
     while let [uid, rest @ ..] = withdrawn {

@@ -14,7 +14,7 @@ use Rattle.dd_engine.specs.Merging.{IsMerged, SetListing}
 use Rattle.dd_engine.specs.Picking.{ArePicked, FileKey, is_image}
 use Rattle.dd_layout.proofs.HasLevel.{HasLevel}
 use Rattle.dd_layout.proofs.Leasts.{all_have_levels}
-use Rattle.dd_layout.specs.Bounds.{Bounds}
+use Rattle.dd_layout.specs.Limits.{Limits}
 use Rattle.dd_layout.specs.declared.label.Label.{Label}
 use Rattle.dd_layout.specs.Layouts.{Layout}
 use Rattle.dd_layout.specs.Paths.{Path}
@@ -58,7 +58,7 @@ whole files plan laid seen picks is same are =
     subst (λ (layout : Layout). IsWhole layout picks) (sym is)
     (sym same ∙ picked files laid.label laid.versions seen are)
 
-pub index_is_whole : (choice : Choice) (limits : Bounds) (limit : ℕ) (told : ℕ → Option (List ℕ)) (sources : ℕ)
+pub index_is_whole : (choice : Choice) (limits : Limits) (limit : ℕ) (told : ℕ → Option (List ℕ)) (sources : ℕ)
     (r : Result NotedIndex (NotedFault EngineFault ℕ)) → NotesSupply choice limits limit told sources r
     → IfOk r (λ noted. IsWhole noted.indexed.plan noted.indexed.picks.items)
 index_is_whole choice limits limit told sources (Ok noted) h =
@@ -66,7 +66,7 @@ index_is_whole choice limits limit told sources (Ok noted) h =
     whole _ _ _ noted.indexed.picks.items noted.indexed.picks.items is.plan refl is.picks
 index_is_whole choice limits limit told sources (Err noted) h = tt
 
-pub merge_is_whole : (choice : Choice) (limits : Bounds) (given : List (List ℕ)) (listings : List SetListing)
+pub merge_is_whole : (choice : Choice) (limits : Limits) (given : List (List ℕ)) (listings : List SetListing)
     (merged : Merged) → IsMerged choice limits given listings merged → IsWhole merged.plan merged.picks.items
 merge_is_whole choice limits given listings merged is =
     whole _ _ _ _ merged.picks.items is.plan (length-map merged.picks.items _) is.picks

@@ -2,7 +2,6 @@
 ghost use Rattle.std.specs.Prelude.{◌≡◌, ℕ, All, IfErr, IsErr, IsOk, option_map};
 ghost use Rattle.dd_dir.specs.Directories.{directory_of};
 ghost use Rattle.dd_elem.specs.Device.{counted, HasFailed};
-ghost use Rattle.dd_elem.specs.FileId.{max_rank};
 ghost use Rattle.dd_files.specs.Files.{ended, grown, published, started};
 ghost use Rattle.dicomdir.specs.Made.{MakesFileSet, MayLink};
 ghost use Rattle.dicomdir.specs.Refusal.{IsBadLine, IsOfWork};
@@ -11,18 +10,9 @@ use crate::copies::{copy_images, store};
 use crate::origins::Origins;
 use crate::refusal::{ProgramFault, Refusal, Subject};
 use dd_dir::write_directory;
-use dd_elem::FileId;
 use dd_files::{DIRECTORY, Files, path_in};
-use dd_layout::{Limits, Plan};
+use dd_layout::Plan;
 use std::alloc::Global;
-
-/// The limits of a directory that may have `max_bytes` bytes, and as many records below one parent as a
-/// File ID has ranks for.
-pub(crate) fn limits_of(max_bytes: u32) -> Limits
-    ensures { result ≡ record { bytes = max_bytes; per_level = max_rank } }
-{
-    Limits::new(max_bytes, FileId::MAX_RANK).unwrap()
-}
 
 /// Refuses a folder whose directory can be opened, also where the system shows it under another spelling of its
 /// name.

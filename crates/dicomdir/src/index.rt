@@ -7,7 +7,7 @@ ghost use Rattle.dd_line.specs.Line.{words_of};
 ghost use Rattle.dicomdir.specs.Made.{DoneMakes, IsPathAt, IsWhole, MakesFileSet, MayLink};
 ghost use Rattle.dicomdir.specs.Refusal.{IsOfWork};
 
-use crate::file_set::{limits_of, write_file_set};
+use crate::file_set::write_file_set;
 use crate::file_supply::FileSupply;
 use crate::making::{Ending, Making, tell_counts, tell_plan_of_images};
 use crate::notes::{
@@ -41,7 +41,7 @@ pub(crate) fn run_index<F: Files, O: Write>(
         → DoneMakes result ⊥ making.entry.folder.now (F.held files.old) (F.held files.new) }
 {
     let mut counts = counts_of(alloc, sources.len())?;
-    let limits = limits_of(making.max_bytes);
+    let limits = Limits::of_bytes(making.max_bytes);
     files.begin_progress(Step::Reading, sources.len() as u64);
     let answer = index_files(alloc, sources, &mut counts, choice, limits, files);
     files.hide_progress();

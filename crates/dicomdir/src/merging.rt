@@ -7,7 +7,7 @@ ghost use Rattle.dd_line.specs.Line.{words_of};
 ghost use Rattle.dicomdir.specs.Made.{DoneMakes, IsMemberPath, IsWhole, MakesFileSet, MayLink};
 ghost use Rattle.dicomdir.specs.Refusal.{IsOfWork};
 
-use crate::file_set::{limits_of, write_file_set};
+use crate::file_set::write_file_set;
 use crate::making::{Ending, Making, tell_counts};
 use crate::names::Names;
 use crate::notes::{has_notes, refuse_noted, tell_clash, tell_names, tell_picks_left_out};
@@ -21,7 +21,7 @@ use dd_engine::{
     withdraw_with_notes,
 };
 use dd_files::Files;
-use dd_layout::PlanFault;
+use dd_layout::{Limits, PlanFault};
 use std::alloc::Global;
 use std::fmt;
 
@@ -44,7 +44,7 @@ pub(crate) fn run_merge<F: Files, O: Write>(
 {
     let directories = read_directories(alloc, sets, files)?;
     let slices = slices(alloc, &directories)?;
-    let limits = limits_of(making.max_bytes);
+    let limits = Limits::of_bytes(making.max_bytes);
     let noted = match merge_with_notes(alloc, &slices, choice, limits) {
         Ok(noted) => noted,
         Err(fault) => return Err(refused(sets, &fault, out)),
@@ -98,7 +98,7 @@ fn withdraw_of<F: Files, O: Write>(
 {
     let directories = read_directories(alloc, sets, files)?;
     let slices = slices(alloc, &directories)?;
-    let limits = limits_of(making.max_bytes);
+    let limits = Limits::of_bytes(making.max_bytes);
     let noted = match withdraw_with_notes(
         alloc,
         slices[0],

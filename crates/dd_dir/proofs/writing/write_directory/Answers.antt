@@ -1,7 +1,6 @@
 use Rattle.std.proofs.Common.{◌≡◌, ℕ, ◌+◌, ◌<◌, ◌^◌, List, length, ap, ap₂, refl, subst, sym, arith}
-use Rattle.std.specs.List.{All, AllByRecursion}
+use Rattle.std.specs.List.{All}
 use Rattle.std.proofs.lemmas.Result.{err_from_is_err_and}
-use Rattle.dd_elem.specs.Uid.{IsUid}
 use Rattle.dd_version.specs.declared.parts.Parts.{Parts}
 use Rattle.dd_layout.specs.declared.record.PlanRecord.{PlanRecord}
 use Rattle.dd_layout.specs.Layouts.{IsSound}
@@ -41,7 +40,7 @@ send_records-requires-clause-fits g c =
     let plan = c.args.plan.now in
     let sound = subst (All (IsSound (length plan.versions))) c.records-records.ensures.all
     c.records-records.ensures.sound in
-    let records = ap₂ (λ (vs : List Parts) (rs : List PlanRecord). records_text vs rs) c.versions.ensures
+    let records = ap₂ (λ (vs : List Parts) (rs : List PlanRecord). records_text vs rs) c.versions.ensures.all
     c.records-records.ensures.all in
     subst (λ (t : List ℕ). c.in_ok-sent.sent + length t < 2 ^ 64) (sym records)
     (records_fit plan.label plan.versions plan.withdrawn c.records_size-count.result c.in_ok-sent.sent sound
@@ -55,7 +54,7 @@ returns-in_err-sent-2-clause-sends g c =
     c.records-records.ensures.sound in
     let whole = directory_parts plan.label plan.versions plan.withdrawn c.records_size-count.result sound
     c.records_size-count.ensures.exact in
-    let records = ap₂ (λ (vs : List Parts) (rs : List PlanRecord). records_text vs rs) c.versions.ensures
+    let records = ap₂ (λ (vs : List Parts) (rs : List PlanRecord). records_text vs rs) c.versions.ensures.all
     c.records-records.ensures.all in
     rw (p.1, p.2) (sends_same _ _ _ _ _ _ _ _ whole (then_sends _ _ _ _ _ _ _ _ _ _ _ c.in_ok-sent.ensures
     (first_fails _ _ _ _ _ _ _ _ (sends_same _ _ _ _ _ _ _ _ records c.in_err-sent-2.ensures.sends))))
@@ -71,7 +70,7 @@ send_withdrawals-requires-clause-fits g c =
     let plan = c.args.plan.now in
     let sound = subst (All (IsSound (length plan.versions))) c.records-records.ensures.all
     c.records-records.ensures.sound in
-    let records = ap₂ (λ (vs : List Parts) (rs : List PlanRecord). records_text vs rs) c.versions.ensures
+    let records = ap₂ (λ (vs : List Parts) (rs : List PlanRecord). records_text vs rs) c.versions.ensures.all
     c.records-records.ensures.all in
     let count = subst (λ (t : List ℕ). c.in_ok-sent-2.sent ≡ c.in_ok-sent.sent + length t) records
     c.in_ok-sent-2.ensures.sends.ok.0 in
@@ -88,7 +87,7 @@ returns-clause-sends g c =
     c.records-records.ensures.sound in
     let whole = directory_parts plan.label plan.versions plan.withdrawn c.records_size-count.result sound
     c.records_size-count.ensures.exact in
-    let records = ap₂ (λ (vs : List Parts) (rs : List PlanRecord). records_text vs rs) c.versions.ensures
+    let records = ap₂ (λ (vs : List Parts) (rs : List PlanRecord). records_text vs rs) c.versions.ensures.all
     c.records-records.ensures.all in
     let behind = ap (λ (uids : List (List ℕ)). text_of (withdrawal_entries uids)) c.withdrawn-withdrawn.ensures.all in
     sends_same _ _ _ _ _ _ _ _ whole (then_sends _ _ _ _ _ _ _ _ _ _ _ c.in_ok-sent.ensures
@@ -106,10 +105,10 @@ returns-clause-size g c =
 pub returns-clause-file : goal.returns-clause-file
 returns-clause-file g c = λ ok.
     let plan = c.args.plan.now in
-    directory_is_file plan.label plan.versions plan.withdrawn c.label-label.result.now c.records-records.result.now
-    c.label-label.ensures c.records-records.ensures.all c.records-records.ensures.sound
-    c.records_size-count.ensures.small c.set_id_is_valid.ensures.short c.records_size-count.ensures.uid
-    (rw c.versions.ensures at c.in_ok-sent-2.ensures.valid refl)
+    directory_is_file plan.label plan.versions plan.withdrawn c.records-records.result.now
+    c.records-records.ensures.all c.records-records.ensures.sound c.records_size-count.ensures.small
+    c.records_size-count.ensures.id.short c.records_size-count.ensures.uid
+    (rw c.versions.ensures.all at c.in_ok-sent-2.ensures.valid refl)
 
 pub returns-clause-within : goal.returns-clause-within
 returns-clause-within g c =
@@ -119,21 +118,18 @@ returns-clause-within g c =
 pub returns-clause-realised : goal.returns-clause-realised
 returns-clause-realised g c = λ ok m up is.
     let plan = c.args.plan.now in
-    let sent = whole_sent plan.label plan.versions plan.withdrawn c.label-label.result.now
-    c.records-records.result.now c.label-label.ensures c.records-records.ensures.all
-    c.records_size-count.ensures.small (returns-clause-file g c ok) c.set_id_is_valid.ensures
-    c.records-records.ensures.sound (rw c.versions.ensures at c.in_ok-sent-2.ensures.keyed refl) in
+    let sent = whole_sent plan.label plan.versions plan.withdrawn c.records-records.result.now
+    c.records-records.ensures.all c.records_size-count.ensures.small (returns-clause-file g c ok)
+    c.records_size-count.ensures.id c.records-records.ensures.sound
+    (rw c.versions.ensures.all at c.in_ok-sent-2.ensures.keyed refl) in
     realises plan.label plan.versions m plan.withdrawn sent up is
 
 pub returns-clause-own : goal.returns-clause-own
 returns-clause-own g c = λ ok m up is rising.
     let plan = c.args.plan.now in
-    let sent = whole_sent plan.label plan.versions plan.withdrawn c.label-label.result.now
-    c.records-records.result.now c.label-label.ensures c.records-records.ensures.all
-    c.records_size-count.ensures.small (returns-clause-file g c ok) c.set_id_is_valid.ensures
-    c.records-records.ensures.sound (rw c.versions.ensures at c.in_ok-sent-2.ensures.keyed refl) in
-    let uids : AreRisingUids plan.withdrawn = record {
-      each = subst (AllByRecursion IsUid) c.withdrawn-withdrawn.ensures.all c.withdrawn_are_uids.ensures;
-      rising = rising;
-    } in
+    let sent = whole_sent plan.label plan.versions plan.withdrawn c.records-records.result.now
+    c.records-records.ensures.all c.records_size-count.ensures.small (returns-clause-file g c ok)
+    c.records_size-count.ensures.id c.records-records.ensures.sound
+    (rw c.versions.ensures.all at c.in_ok-sent-2.ensures.keyed refl) in
+    let uids : AreRisingUids plan.withdrawn = record { each = c.records_size-count.ensures.uids; rising = rising } in
     says_itself plan.label plan.versions m plan.withdrawn sent up uids is

@@ -12,7 +12,7 @@ loop-record-preserved g c =
     let rows = c.records-record-items.result.now in
     let sound = (c.records-record-items.ensures.sound i row c.loop-record-test.true).0 in
     let within : row.of < length versions =
-    omega (arith, sound, ap (λ r. r.of) c.record-item.is, ap length c.versions-versions.ensures) in
+    omega (arith, sound, ap (λ r. r.of) c.record-item.is, ap length c.versions-versions.ensures.all) in
     let level : is_image row ≡ c.eq.result = sym (tested row) ∙ sym c.eq.ensures in
     elim c.if-eq.branch [
       | then-eq+in_ok-push w ↦
@@ -32,8 +32,8 @@ first_mark-requires-clause-held g c =
     let row = c.record-item.result in
     let sound = (c.records-record-items.ensures.sound c.loop-record.record-index row c.loop-record-test.true).0 in
     let within : row.of < length c.versions-versions.result.now =
-    omega (arith, sound, ap (λ r. r.of) c.record-item.is, ap length c.versions-versions.ensures) in
-    let all = subst (λ l. AreHeld (map (λ mark. key_of mark) c.args.marks.now) l) (sym c.versions-versions.ensures)
+    omega (arith, sound, ap (λ r. r.of) c.record-item.is, ap length c.versions-versions.ensures.all) in
+    let all = subst (λ l. AreHeld (map (λ mark. key_of mark) c.args.marks.now) l) (sym c.versions-versions.ensures.all)
     c.requires.held in
     subst (λ v. filter (λ file. is_one file (file_of v)) (map (λ mark. key_of mark) c.args.marks.now) ≢ [])
     (sym c.index-versions-record.is) (all row.of c.index-versions-record.result within)

@@ -14,7 +14,7 @@ returns-clause-full c =
     let linked = c.link.ensures label versions (c.in-Some-place.ensures.placed refl) in
     record {
       records = linked;
-      size = omega (arith, c.in-Some-place.ensures.fits.1, c.withdrawals_size-behind.ensures);
+      size = omega (arith, c.in-Some-place.ensures.fits.1, c.withdrawals_size-behind.ensures.exact);
       sound = subst (λ rows. All (IsSound (length versions)) rows) (sym linked)
           (sound label versions (subst (λ rows. All (λ row. IsFileOf row.level row.file) rows) numbered files));
     }

@@ -6,8 +6,8 @@ use Rattle.dd_layout.specs.WalkedRecords.{records_from, standing}
 use Rattle.dd_layout.proofs.LeastBelow.{walk_is_tree}
 use Rattle.dd_layout.proofs.nodes.nodes.Goals as goal
 
-pub returns-clause-rows : goal.returns-clause-rows
-returns-clause-rows c =
+pub returns-clause-records : goal.returns-clause-records
+returns-clause-records c =
     let versions = c.args.versions.now in
     let value = c.deref.ensures.value in
     let same = c.in_ok-placed.ensures.all in

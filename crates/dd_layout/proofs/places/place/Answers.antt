@@ -13,14 +13,14 @@ loop-record-init c = record { rows = refl; end = c.first_offset-end.ensures.exac
 pub offset_bounds-versions-record : goal.offset_bounds-versions-record
 offset_bounds-versions-record c =
     let within = of_turn c.args.versions.now c.args.records.now c.loop-record.records c.loop-record.record-index
-    (first_offset c.args.label.now) c.record-item.result c.requires.rows c.loop-record-test.true
+    (first_offset c.args.label.now) c.record-item.result c.requires.records c.loop-record-test.true
     c.loop-record.invariant.rows in
     search rules
 
 pub bounds-versions-record : goal.bounds-versions-record
 bounds-versions-record c =
     of_turn c.args.versions.now c.args.records.now c.loop-record.records c.loop-record.record-index
-    (first_offset c.args.label.now) c.record-item.result c.requires.rows c.loop-record-test.true
+    (first_offset c.args.label.now) c.record-item.result c.requires.records c.loop-record-test.true
     c.loop-record.invariant.rows
 
 -- the end after a turn
@@ -34,14 +34,14 @@ end_turned c =
     c.loop-record-test.true c.loop-record.invariant.rows c.loop-record.invariant.end
     (size_of_turn c.args.versions.now c.args.records.now c.loop-record.records c.loop-record.record-index
     (first_offset c.args.label.now) c.record-item.result c.index-versions-record.result c.parts.result.now
-    c.record_size-size.result c.requires.rows c.requires.files c.loop-record-test.true c.loop-record.invariant.rows
+    c.record_size-size.result c.requires.records c.requires.files c.loop-record-test.true c.loop-record.invariant.rows
     c.index-versions-record.is c.parts.ensures.value c.record_size-size.ensures.exact)
 
 -- a directory with an end above the limit is itself above it
 pub returns-then-end-most-2-clause-fits : goal.returns-then-end-most-2-clause-fits
 returns-then-end-most-2-clause-fits c = λ fits.
     let within = end_within c.args.label.now c.args.versions.now c.args.records.now (c.loop-record.record-index + 1)
-    (c.loop-record.end + c.record_size-size.result) c.requires.rows
+    (c.loop-record.end + c.record_size-size.result) c.requires.records
     (end_turned (goal.at.returns-then-end-most-2-clause-fits c).After-record_size-size) in
     omega arith
 
@@ -58,7 +58,7 @@ loop-record-preserved c = record {
 pub returns-clause-fits : goal.returns-clause-fits
 returns-clause-fits c =
     let end = end_known c.args.label.now c.args.versions.now c.args.records.now c.loop-record.record-index
-    c.loop-record.end c.requires.rows c.loop-record-test.false c.loop-record.invariant.end in
+    c.loop-record.end c.requires.records c.loop-record-test.false c.loop-record.invariant.end in
     let most = c.loop-record.invariant.fits in
     let same = c.from-most.ensures in
     (omega arith, end)
@@ -66,4 +66,4 @@ returns-clause-fits c =
 pub returns-clause-placed : goal.returns-clause-placed
 returns-clause-placed c = λ some.
     offsets_are_known c.args.label.now c.args.versions.now c.args.records.now c.loop-record.records
-    c.loop-record.record-index c.requires.rows c.loop-record-test.false c.loop-record.invariant.rows
+    c.loop-record.record-index c.requires.records c.loop-record-test.false c.loop-record.invariant.rows

@@ -20,5 +20,5 @@ returns-in-Ok-clause-done g c = λ _.
     (printable_word c.args.ending) refl
     (printable-decimal (length c.versions.result.now) few) (printable-decimal c.size.result small)
     ∙ ap₂ (λ count size. count_parts (word_of c.args.ending) count size (codes " bytes" ∷ []))
-    (ap (λ versions. decimal (length versions)) c.versions.ensures) (ap decimal c.size.ensures))
+    (ap (λ versions. decimal (length versions)) c.versions.ensures.all) (ap decimal c.size.ensures))
     c.in-Ok.ensures.sent

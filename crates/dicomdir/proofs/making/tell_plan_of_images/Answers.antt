@@ -27,5 +27,5 @@ returns-in-Ok-clause-done g c = λ _.
     (printable-append (decimal c.args.images) (codes " bytes of images") (printable-decimal c.args.images fits) refl))
     (printable-decimal (length c.versions.result.now) few) (printable-decimal c.size.result small)
     ∙ ap₂ (λ count size. count_parts (codes "PLAN ") count size (behind (decimal c.args.images)))
-    (ap (λ versions. decimal (length versions)) c.versions.ensures) (ap decimal c.size.ensures))
+    (ap (λ versions. decimal (length versions)) c.versions.ensures.all) (ap decimal c.size.ensures))
     c.in-Ok.ensures.sent

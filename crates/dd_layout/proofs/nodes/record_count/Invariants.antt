@@ -1,7 +1,7 @@
 use Rattle.std.proofs.Common.{◌≡◌, ◌+◌, ◌*◌, ◌≤◌, [], length, map}
 use Rattle.std.specs.Prelude.{option_copied}
 use Rattle.dd_layout.specs.WalkedRecords.{path_before, records_from, standing}
-use Rattle.dd_layout.proofs.nodes.row_count.Given as goal
+use Rattle.dd_layout.proofs.nodes.record_count.Given as goal
 
 -- with the records of what is left there are those of all, at most four of each version
 abbrev pub invariant-loop-rest : goal.invariant-loop-rest

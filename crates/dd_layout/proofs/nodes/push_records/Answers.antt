@@ -1,7 +1,7 @@
 use Rattle.std.proofs.Common.{◌∙◌, ap, ◌∷◌, ◌++◌, map}
 use Rattle.dd_layout.specs.WalkedRecords.{standing}
 use Rattle.dd_layout.proofs.InOrder.{levels_walked}
-use Rattle.dd_layout.proofs.nodes.push_rows.Goals as goal
+use Rattle.dd_layout.proofs.nodes.push_records.Goals as goal
 
 pub returns : goal.returns
 returns c =

@@ -1,7 +1,7 @@
 use Rattle.std.proofs.Common.{◌≡◌, ◌∷◌, ◌++◌, map, take}
 use Rattle.dd_layout.specs.WalkedRecords.{standing}
 use Rattle.dd_layout.proofs.RowRecords.{record_of_level}
-use Rattle.dd_layout.proofs.nodes.push_rows.Given as goal
+use Rattle.dd_layout.proofs.nodes.push_records.Given as goal
 
 -- the records of the levels that have come are behind
 abbrev pub invariant-loop-level : goal.invariant-loop-level
