@@ -4,6 +4,7 @@ pub mod ChainsAlong
 pub mod CheckedRecords
 pub mod Contents
 pub mod Deciding
+pub mod Deriving
 pub mod DirectoryFiles
 pub mod DirectoryTexts
 pub mod EachOnce

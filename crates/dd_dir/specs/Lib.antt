@@ -1,3 +1,4 @@
+pub mod Deriving
 pub mod Directories
 pub mod ForestViews
 pub mod Hashing

@@ -1,14 +1,18 @@
 //! The UID of a file-set that follows from what it holds.
 
 ghost use Rattle.std.specs.Prelude.{◌≡◌, ◌⊎◌, None, Some, IfErr, IfOk, IsOk};
+ghost use Rattle.dd_elem.specs.Digests.{uid_of_digest};
+ghost use Rattle.dd_layout.specs.Layouts.{layout_of};
 ghost use Rattle.dd_layout.specs.Refusal.{refusal};
-ghost use Rattle.dd_dir.specs.Directories.{derived, unnamed_label};
+ghost use Rattle.dd_dir.specs.Deriving.{derived_label, derived_refusal};
+ghost use Rattle.dd_dir.specs.Directories.{derived, directory_of, unnamed_label};
+ghost use Rattle.sha2.specs.Sha256.{sha256};
 
 use crate::digester::Digester;
 use crate::writing::write_directory;
 use dd_catalogue::Catalogue;
 use dd_elem::{SetId, Uid};
-use dd_layout::{Label, Limits, PlanFault, lay_out};
+use dd_layout::{Label, Limits, Plan, PlanFault, lay_out};
 use std::alloc::Global;
 
 /// The UID under which the directory is hashed that a UID is derived from.
@@ -31,8 +35,39 @@ pub fn derived_uid(
         ⊎ (refusal (unnamed_label id.now) limits catalogue.now.versions catalogue.now.withdrawn ≡ Some fault)) }
 {
     let plan = lay_out(alloc, catalogue, &unnamed_label(id), limits)?;
+    uid_of(&plan)
+}
+
+/// Lays out the directory of this catalogue under this ID and the UID that `derived_uid` gives. The catalogue
+/// is harmonised and its versions are sorted once, for both directories. Refused as `derived_uid` refuses, and
+/// then as `lay_out` refuses under the derived UID.
+pub fn lay_out_derived(
+    alloc: Global,
+    catalogue: &Catalogue,
+    id: &SetId,
+    limits: Limits,
+) -> Result<Plan, PlanFault>
+    ensures planned { IfOk result (λ plan. plan
+        ≡ layout_of (derived_label id.now catalogue.now.versions catalogue.now.withdrawn)
+        catalogue.now.versions catalogue.now.withdrawn) }
+    ensures allowed { IsOk result
+        → derived_refusal id.now limits catalogue.now.versions catalogue.now.withdrawn ≡ None }
+    ensures refused { IfErr result (λ fault. (fault ≡ PlanFault.Memory)
+        ⊎ (derived_refusal id.now limits catalogue.now.versions catalogue.now.withdrawn ≡ Some fault)) }
+{
+    let plan = lay_out(alloc, catalogue, &unnamed_label(id), limits)?;
+    let uid = uid_of(&plan)?;
+    plan.under(&Label { id: *id, uid }, limits)
+}
+
+/// The UID of the SHA-256 of the directory of this plan. Memory where the writer that hashes fails.
+fn uid_of(plan: &Plan) -> Result<Uid, PlanFault>
+    ensures uid { IfOk result (λ uid. uid
+        ≡ uid_of_digest (sha256 (directory_of plan.now.label plan.now.versions plan.now.withdrawn))) }
+    ensures refused { IfErr result (λ fault. fault ≡ PlanFault.Memory) }
+{
     let mut digester = Digester::new();
-    match write_directory(&plan, &mut digester) {
+    match write_directory(plan, &mut digester) {
         Ok(_) => Ok(Uid::from_digest(&digester.digest())),
         Err(_) => Err(PlanFault::Memory),
     }

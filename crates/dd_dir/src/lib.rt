@@ -29,7 +29,7 @@ mod withdrawals;
 mod withdrawn;
 mod writing;
 
-pub use derived::derived_uid;
+pub use derived::{derived_uid, lay_out_derived};
 pub use fault::DirFault;
 pub use forest::{Forest, Tree};
 pub use laws::{

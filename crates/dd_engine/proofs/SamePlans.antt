@@ -13,7 +13,8 @@ use Rattle.dd_layout.specs.Limits.{Limits}
 use Rattle.dd_layout.specs.Layouts.{layout_of}
 use Rattle.dd_layout.specs.Refusal.{conflict_or, excess, refusal}
 use Rattle.dd_engine.specs.declared.choice.Choice.{Choice}
-use Rattle.dd_engine.specs.Choosing.{derivation, either, label_for, refusal_for, uid_by}
+use Rattle.dd_dir.specs.Deriving.{either}
+use Rattle.dd_engine.specs.Choosing.{derivation, label_for, refusal_for, uid_by}
 use Rattle.sha2.specs.Sha256.{sha256}
 
 same_uid : (uid : Option (List ℕ)) (id : List ℕ) (m n : List Parts) (w : List (List ℕ))

@@ -6,6 +6,7 @@ use Rattle.dd_layout.specs.declared.label.Label.{Label}
 use Rattle.dd_layout.specs.Limits.{Limits}
 use Rattle.dd_layout.specs.Refusal.{refusal}
 use Rattle.dd_engine.specs.declared.choice.Choice.{Choice}
+use Rattle.dd_dir.specs.Deriving.{either}
 use Rattle.dd_dir.specs.Directories.{derived, unnamed_label}
 
 -- the UID that is asked for, or else the one derived from the directory
@@ -16,11 +17,6 @@ uid_by (Some uid) id m withdrawn = uid
 -- the label of a catalogue of these versions and withdrawn UIDs
 abbrev pub label_for : Choice → List Parts → List (List ℕ) → Label
 label_for choice m withdrawn = record { id = choice.id; uid = uid_by choice.uid choice.id m withdrawn }
-
--- the first refusal of two
-abbrev pub either : Option PlanFault → Option PlanFault → Option PlanFault
-either None other = other
-either (Some fault) other = Some fault
 
 -- where no UID is asked for, deriving one comes first
 abbrev pub derivation : Option (List ℕ) → List ℕ → Limits → List Parts → List (List ℕ) → Option PlanFault

@@ -2,10 +2,10 @@
 
 ghost use Rattle.std.specs.Prelude.{◌≡◌, ◌⊎◌, None, Some, IfErr, IfOk, IsOk};
 ghost use Rattle.dd_layout.specs.Layouts.{layout_of};
-ghost use Rattle.dd_engine.specs.Choosing.{derivation, label_for, refusal_for, uid_by};
+ghost use Rattle.dd_engine.specs.Choosing.{label_for, refusal_for};
 
 use dd_catalogue::Catalogue;
-use dd_dir::derived_uid;
+use dd_dir::lay_out_derived;
 use dd_elem::{SetId, Uid};
 use dd_layout::{Label, Limits, Plan, PlanFault, lay_out};
 use std::alloc::Global;
@@ -36,28 +36,11 @@ pub(crate) fn plan_for(
         ⊎ (refusal_for choice.now limits catalogue.now.versions catalogue.now.withdrawn
         ≡ Some fault)) }
 {
-    let uid = uid_for(alloc, catalogue, choice, limits)?;
-    let label = Label { id: choice.id, uid };
-    lay_out(alloc, catalogue, &label, limits)
-}
-
-/// The UID that is asked for, or else the derived one.
-fn uid_for(
-    alloc: Global,
-    catalogue: &Catalogue,
-    choice: &Choice,
-    limits: Limits,
-) -> Result<Uid, PlanFault>
-    ensures chosen { IfOk result (λ uid. uid
-        ≡ uid_by choice.now.uid choice.now.id catalogue.now.versions catalogue.now.withdrawn) }
-    ensures allowed { IsOk result → derivation choice.now.uid choice.now.id limits
-        catalogue.now.versions catalogue.now.withdrawn ≡ None }
-    ensures refused { IfErr result (λ fault. (fault ≡ PlanFault.Memory)
-        ⊎ (derivation choice.now.uid choice.now.id limits
-        catalogue.now.versions catalogue.now.withdrawn ≡ Some fault)) }
-{
     match choice.uid {
-        Some(uid) => Ok(uid),
-        None => derived_uid(alloc, catalogue, &choice.id, limits),
+        Some(uid) => {
+            let label = Label { id: choice.id, uid };
+            lay_out(alloc, catalogue, &label, limits)
+        }
+        None => lay_out_derived(alloc, catalogue, &choice.id, limits),
     }
 }

@@ -1,4 +1,5 @@
 pub mod Blocks
+pub mod Cleared
 pub mod Counts
 pub mod Crowds
 pub mod DirectoryElements

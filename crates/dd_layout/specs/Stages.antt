@@ -19,6 +19,10 @@ bare x place = bare_of (level_of x) place
 abbrev pub bare_at : List Parts → Path → PlanRecord
 bare_at versions x = bare x (least_below versions x)
 
+-- what a record has of it at first
+abbrev pub bare_again : PlanRecord → PlanRecord
+bare_again row = bare_of row.level row.of
+
 abbrev pub numbered_at : List Parts → Path → PlanRecord
 numbered_at versions x = record (bare_at versions x) { file = file_of (tree versions) x }
 

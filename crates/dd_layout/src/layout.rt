@@ -57,7 +57,7 @@ pub fn lay_out(
 /// Gives the records of these versions all that they hold, and answers the size of the directory that names
 /// these withdrawn UIDs. TooMany where one parent has more children than the limits allow; else TooLarge
 /// where the file has more bytes.
-fn fill(
+pub(crate) fn fill(
     records: &mut [PlanRecord],
     versions: &[Version],
     withdrawn: &[Uid],

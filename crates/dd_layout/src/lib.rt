@@ -26,6 +26,7 @@ mod ranks;
 mod record;
 mod sizes;
 pub mod table;
+mod under;
 mod withdrawals;
 
 pub use cell::{Cell, CellValue};

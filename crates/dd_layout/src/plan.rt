@@ -70,6 +70,21 @@ impl Plan {
         }
     }
 
+    /// Gives the catalogue, in harmony, and the records.
+    pub(crate) fn into_parts(self) -> (Catalogue, Vec<PlanRecord>)
+        ensures versions { result.0.versions ≡ self.versions }
+        ensures withdrawn { result.0.withdrawn ≡ self.withdrawn }
+        ensures records { result.1.items ≡ records_of self.label self.versions }
+    {
+        let Plan {
+            label: _label,
+            catalogue,
+            records,
+            size: _size,
+        } = self;
+        (catalogue, records)
+    }
+
     /// The label that the file-set gets.
     pub fn label(&self) -> &Label
         ensures { result.now ≡ self.now.label }

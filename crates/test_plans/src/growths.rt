@@ -1,6 +1,6 @@
 //! Each growth of a layout refused in turn: it wants memory, nothing has changed, and made again it answers.
 
-use crate::plans::label_of;
+use crate::plans::{label_of, plan};
 use crate::records::{PLANS, lines};
 use dd_elem::FileId;
 use dd_layout::{Limits, Plan, PlanFault, lay_out};
@@ -15,6 +15,7 @@ enum Call {
     Four,
     Nothing,
     One,
+    Under,
     Withdrawn,
 }
 
@@ -24,6 +25,7 @@ fn is_refused(alloc: Global, call: Call, chosen: u32) -> Result<bool, Fail> {
         Call::Four => lay_out_refused(alloc, "1234", chosen),
         Call::Nothing => nothing_refused(alloc, chosen),
         Call::One => lay_out_refused(alloc, "1", chosen),
+        Call::Under => under_refused(alloc, chosen),
         Call::Withdrawn => withdrawn_refused(alloc, chosen),
     }
 }
@@ -39,7 +41,7 @@ fn refuse_each(alloc: Global, call: Call) -> Result<(), Fail> {
 }
 
 /// The widest limits.
-fn widest() -> Result<Limits, Fail> {
+pub(crate) fn widest() -> Result<Limits, Fail> {
     Ok(Limits::new(u32::MAX, FileId::MAX_RANK).ok_or("no limits")?)
 }
 
@@ -64,7 +66,7 @@ fn lay_out_refused(alloc: Global, letters: &str, chosen: u32) -> Result<bool, Fa
 }
 
 /// Fails where the plan is not that of the table.
-fn require_plan(alloc: Global, letters: &str, plan: &Plan) -> Result<(), Fail> {
+pub(crate) fn require_plan(alloc: Global, letters: &str, plan: &Plan) -> Result<(), Fail> {
     let lines = lines(alloc, letters, plan)?;
     require(is_planned(lines.as_str()), "the plan has these records")
 }
@@ -107,6 +109,22 @@ fn nothing_refused(alloc: Global, chosen: u32) -> Result<bool, Fail> {
 #[test]
 fn no_growths_of_lay_out_of_nothing(rt: HostRuntime) -> Result<(), Fail> {
     refuse_each(rt.alloc(), Call::Nothing)
+}
+
+/// Gives the plan of four images under another label.
+fn under_refused(alloc: Global, chosen: u32) -> Result<bool, Fail> {
+    let (label, limits) = (label_of("")?, widest()?);
+    let plan = plan(alloc, "1234")?;
+    refuse_growth(alloc, chosen)?;
+    let answer = plan.under(&label, limits);
+    let refused = was_refused(alloc, wants_memory(&answer))?;
+    require_plan(alloc, "1234", &answer?)?;
+    Ok(refused)
+}
+
+#[test]
+fn no_growths_of_a_plan_under_another_label(rt: HostRuntime) -> Result<(), Fail> {
+    refuse_each(rt.alloc(), Call::Under)
 }
 
 /// Lays out no image and one withdrawn instance.

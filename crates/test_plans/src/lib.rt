@@ -4,6 +4,8 @@
 #[cfg(test)]
 mod growths;
 #[cfg(test)]
+mod labels;
+#[cfg(test)]
 mod limits;
 #[cfg(test)]
 mod plans;
