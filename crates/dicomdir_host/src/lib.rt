@@ -18,8 +18,6 @@ mod progress;
 mod spelling;
 mod storing;
 mod system;
-#[cfg(test)]
-mod tests;
 
 pub use counted::Counted;
 pub use host_files::HostFiles;

@@ -1,16 +1,16 @@
 //! Open files of the disc in memory.
 ghost use Rattle.std.specs.Io.{ReadsAtMost};
 
-use super::disc::{Call, Disc, STEP, in_use};
+use crate::disc::{Call, Disc, STEP, in_use};
 use std::cell::RefCell;
 use std::fs::{Metadata, OpenFile};
 use std::io::{self, ErrorKind, Read, Seek, SeekFrom, Write};
 
 /// An open file of a disc. Writes go to its end.
-pub(super) struct DiscFile<'a> {
-    pub(super) disc: &'a RefCell<Disc>,
-    pub(super) place: usize,
-    pub(super) from: usize,
+pub(crate) struct DiscFile<'a> {
+    pub(crate) disc: &'a RefCell<Disc>,
+    pub(crate) place: usize,
+    pub(crate) from: usize,
 }
 
 impl Drop for DiscFile<'_> {

@@ -1,7 +1,8 @@
 //! Files of file-sets in the spellings of systems, their second names, links, and what was opened.
 
-use super::disc::Disc;
-use super::told;
+use crate::calls::told;
+use crate::disc::Disc;
+use dd_vectors::claim_all;
 use std::alloc::Global;
 use std::cell::RefCell;
 use std::test::Fail;
@@ -96,24 +97,15 @@ fn is_looked_for(alloc: Global, case: &str) -> Result<bool, Fail> {
 
 #[test]
 fn finds_what_systems_show_and_follows_no_link(rt: HostRuntime) -> Result<(), Fail> {
-    for case in CASES.split('\n') {
-        assert!(rt; is_found(rt.alloc(), case)?, "at {case}");
-    }
-    Ok(())
+    claim_all(rt.alloc(), CASES, '\n', is_found)
 }
 
 #[test]
 fn gives_second_names_and_follows_no_link(rt: HostRuntime) -> Result<(), Fail> {
-    for case in SECONDS.split('\n') {
-        assert!(rt; is_found(rt.alloc(), case)?, "at {case}");
-    }
-    Ok(())
+    claim_all(rt.alloc(), SECONDS, '\n', is_found)
 }
 
 #[test]
 fn looks_no_more_than_it_must(rt: HostRuntime) -> Result<(), Fail> {
-    for case in LOOKS.split('\n') {
-        assert!(rt; is_looked_for(rt.alloc(), case)?, "at {case}");
-    }
-    Ok(())
+    claim_all(rt.alloc(), LOOKS, '\n', is_looked_for)
 }

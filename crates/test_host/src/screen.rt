@@ -1,18 +1,18 @@
 //! The clock, the terminal and the standard input of a disc in memory.
 ghost use Rattle.std.specs.Io.{ReadsAtMost};
 
-use super::disc::{Call, Disc, DiscFiles, in_use};
-use crate::System;
+use crate::disc::{Call, Disc, DiscFiles, in_use};
+use dicomdir_host::System;
 use std::alloc::Global;
 use std::cell::RefCell;
 use std::io::{self, ErrorKind, Read, Write};
 use std::time::{Clock, Duration};
 
 /// What was written to a terminal, the time in milliseconds, and how long it takes to store a file.
-pub(super) struct Screen {
-    pub(super) text: String,
+pub(crate) struct Screen {
+    pub(crate) text: String,
     time: u64,
-    pub(super) pause: u64,
+    pub(crate) pause: u64,
 }
 
 // By hand, so that dropping it is one call.
@@ -28,7 +28,7 @@ impl Drop for Screen {
 
 impl Screen {
     /// An empty terminal at the start of time.
-    pub(super) fn new(alloc: Global) -> Self {
+    pub(crate) fn new(alloc: Global) -> Self {
         Screen {
             text: String::new(alloc),
             time: 0,
@@ -37,13 +37,13 @@ impl Screen {
     }
 
     /// Lets this number of milliseconds pass.
-    pub(super) fn wait(&mut self, millis: u64) {
+    pub(crate) fn wait(&mut self, millis: u64) {
         self.time = self.time.saturating_add(millis);
     }
 }
 
 /// Writes to the terminal of a disc.
-pub(super) struct Terminal<'a> {
+pub(crate) struct Terminal<'a> {
     disc: &'a RefCell<Disc>,
 }
 
@@ -87,7 +87,7 @@ impl Clock for DiscFiles<'_> {
 
 /// A standard input of one word.
 #[derive(Drop)]
-pub(super) struct Words {
+pub(crate) struct Words {
     is_read: bool,
 }
 

@@ -1,7 +1,8 @@
 //! What a terminal gets to show progress.
 
-use super::disc::Disc;
-use super::told;
+use crate::calls::told;
+use crate::disc::Disc;
+use dd_vectors::claim_all;
 use std::alloc::Global;
 use std::cell::RefCell;
 use std::test::Fail;
@@ -37,8 +38,5 @@ fn is_right(alloc: Global, case: &str) -> Result<bool, Fail> {
 
 #[test]
 fn shows_progress_in_one_line(rt: HostRuntime) -> Result<(), Fail> {
-    for case in CASES.split('\n') {
-        assert!(rt; is_right(rt.alloc(), case)?, "at {case}");
-    }
-    Ok(())
+    claim_all(rt.alloc(), CASES, '\n', is_right)
 }

@@ -1,20 +1,20 @@
 //! A disc in memory that stands in for the files of the system. One call of it can be made to fail.
 ghost use Rattle.std.specs.Io.{ReadsAtMost};
 
-use super::disc_file::DiscFile;
-use super::power_cut::{Entry, Kind, all_last, may_break, parent};
-use super::screen::Screen;
+use crate::disc_file::DiscFile;
+use crate::power_cut::{Entry, Kind, all_last, may_break, parent};
+use crate::screen::Screen;
 use std::alloc::{Allocator, Global};
 use std::cell::RefCell;
 use std::fs::{Files, Metadata, OpenOptions};
 use std::io::{self, Empty, ErrorKind, Read};
 
 // The most bytes that a read gives or a write takes.
-pub(super) const STEP: usize = 1000;
+pub(crate) const STEP: usize = 1000;
 
 /// What can fail.
 #[derive(Clone, Copy, PartialEq)]
-pub(super) enum Call {
+pub(crate) enum Call {
     Open,
     Create,
     Folder,
@@ -38,17 +38,17 @@ pub(super) enum Call {
 /// The disc: what stands there, in the order in which it was made, the next call that fails, which files and
 /// folders were to be made and which were stored, in this order, what was looked at, how many files are open and may
 /// be, after how many calls a power cut would have left a whole directory without its images, and the terminal.
-pub(super) struct Disc {
+pub(crate) struct Disc {
     alloc: Global,
-    pub(super) entries: Vec<Entry>,
+    pub(crate) entries: Vec<Entry>,
     failing: Option<Call>,
     kind: ErrorKind,
     log: String,
     looks: String,
-    pub(super) open: usize,
+    pub(crate) open: usize,
     most_open: usize,
     broken: usize,
-    pub(super) screen: Screen,
+    pub(crate) screen: Screen,
 }
 
 // By hand, so that dropping it is one call.
@@ -71,7 +71,7 @@ impl Drop for Disc {
 
 impl Disc {
     /// A disc with the current folder, that takes any number of open files.
-    pub(super) fn new(alloc: Global) -> io::Result<Self> {
+    pub(crate) fn new(alloc: Global) -> io::Result<Self> {
         let mut disc = Disc {
             alloc,
             entries: Vec::new(alloc),
@@ -89,31 +89,31 @@ impl Disc {
     }
 
     /// No more files than these can be open from now on.
-    pub(super) fn open_at_most(&mut self, most: usize) {
+    pub(crate) fn open_at_most(&mut self, most: usize) {
         self.most_open = most;
     }
 
     /// After how many calls would a power cut have left a whole directory without its images?
-    pub(super) fn broken(&self) -> usize {
+    pub(crate) fn broken(&self) -> usize {
         self.broken
     }
 
     /// Does all last that is there?
-    pub(super) fn lasts(&self) -> bool {
+    pub(crate) fn lasts(&self) -> bool {
         all_last(&self.entries)
     }
 
     /// What was made and stored, in order.
-    pub(super) fn log(&self) -> &str {
+    pub(crate) fn log(&self) -> &str {
         self.log.as_str()
     }
 
     /// What was looked at by its path, in order, but for links that were followed.
-    pub(super) fn looks(&self) -> &str {
+    pub(crate) fn looks(&self) -> &str {
         self.looks.as_str()
     }
 
-    pub(super) fn note(&mut self, what: &str, path: &str) -> io::Result<()> {
+    pub(crate) fn note(&mut self, what: &str, path: &str) -> io::Result<()> {
         if !self.log.is_empty() {
             self.log.push_str(", ")?;
         }
@@ -142,7 +142,7 @@ impl Disc {
         }
     }
 
-    pub(super) fn store(&mut self, place: usize) -> io::Result<()> {
+    pub(crate) fn store(&mut self, place: usize) -> io::Result<()> {
         self.pass(Call::Store)?;
         let pause = self.screen.pause;
         self.screen.wait(pause);
@@ -158,13 +158,13 @@ impl Disc {
     }
 
     /// The next such call fails, and those after it do not.
-    pub(super) fn fail(&mut self, call: Call, kind: ErrorKind) {
+    pub(crate) fn fail(&mut self, call: Call, kind: ErrorKind) {
         self.failing = Some(call);
         self.kind = kind;
     }
 
     // Adds an empty entry, and answers its place.
-    pub(super) fn make(&mut self, path: &str, kind: Kind, is_named: bool) -> io::Result<usize> {
+    pub(crate) fn make(&mut self, path: &str, kind: Kind, is_named: bool) -> io::Result<usize> {
         let place = self.entries.len();
         self.entries.push(Entry {
             path: String::from_str(self.alloc, path)?,
@@ -179,18 +179,18 @@ impl Disc {
     }
 
     /// Puts what is empty at a path, where it stands from before, and answers its place.
-    pub(super) fn put(&mut self, path: &str, kind: Kind) -> io::Result<usize> {
+    pub(crate) fn put(&mut self, path: &str, kind: Kind) -> io::Result<usize> {
         self.make(path, kind, true)
     }
 
     /// Makes a file with all its bytes, which are not stored.
-    pub(super) fn spill(&mut self, path: &str) -> io::Result<()> {
+    pub(crate) fn spill(&mut self, path: &str) -> io::Result<()> {
         let place = self.make(path, Kind::File, false)?;
         self.add(place, b"xyz")
     }
 
     /// Puts the bytes behind those at a place.
-    pub(super) fn add(&mut self, place: usize, bytes: &[u8]) -> io::Result<()> {
+    pub(crate) fn add(&mut self, place: usize, bytes: &[u8]) -> io::Result<()> {
         match self.entries.get_mut(place) {
             Some(entry) => entry.bytes.extend_from_slice(bytes)?,
             None => return Err(io::Error::from(ErrorKind::NotFound)),
@@ -200,12 +200,12 @@ impl Disc {
     }
 
     /// The bytes at a path.
-    pub(super) fn bytes(&self, path: &str) -> Option<&[u8]> {
+    pub(crate) fn bytes(&self, path: &str) -> Option<&[u8]> {
         let entry = self.entries.get(self.find(path)?)?;
         Some(entry.bytes.as_slice())
     }
 
-    pub(super) fn find(&self, path: &str) -> Option<usize> {
+    pub(crate) fn find(&self, path: &str) -> Option<usize> {
         self.entries
             .iter()
             .position(|entry| entry.path.as_str() == path)
@@ -216,7 +216,7 @@ impl Disc {
     }
 
     /// What stands at the place.
-    pub(super) fn metadata(&self, place: usize) -> io::Result<Metadata> {
+    pub(crate) fn metadata(&self, place: usize) -> io::Result<Metadata> {
         let Some(entry) = self.entries.get(place) else {
             return Err(io::Error::from(ErrorKind::NotFound));
         };
@@ -251,7 +251,7 @@ impl Disc {
         }
     }
 
-    pub(super) fn pass(&mut self, call: Call) -> io::Result<()> {
+    pub(crate) fn pass(&mut self, call: Call) -> io::Result<()> {
         if self.failing == Some(call) {
             self.failing = None;
             return Err(io::Error::from(self.kind));
@@ -277,7 +277,7 @@ impl Disc {
     }
 
     // Refuses a new name whose path is taken, or whose parent is no folder.
-    pub(super) fn has_room_for(&self, path: &str) -> io::Result<()> {
+    pub(crate) fn has_room_for(&self, path: &str) -> io::Result<()> {
         if self.kind(path).is_some() {
             return Err(io::Error::from(ErrorKind::AlreadyExists));
         }
@@ -297,7 +297,7 @@ impl Disc {
         }
     }
 
-    pub(super) fn read(&self, place: usize, from: usize, buf: &mut [u8]) -> io::Result<usize>
+    pub(crate) fn read(&self, place: usize, from: usize, buf: &mut [u8]) -> io::Result<usize>
         ensures { ReadsAtMost result buf.new }
     {
         let Some(entry) = self.entries.get(place) else {
@@ -312,13 +312,13 @@ impl Disc {
     }
 }
 
-pub(super) fn in_use() -> io::Error {
+pub(crate) fn in_use() -> io::Error {
     io::Error::other("the disc is in use")
 }
 
 /// The files of a disc.
 #[derive(Clone, Copy)]
-pub(super) struct DiscFiles<'a>(pub(super) &'a RefCell<Disc>);
+pub(crate) struct DiscFiles<'a>(pub(crate) &'a RefCell<Disc>);
 
 impl<'a> Files for DiscFiles<'a> {
     type File = DiscFile<'a>;

@@ -3,7 +3,7 @@
 
 /// What stands at a path.
 #[derive(Clone, Copy, PartialEq)]
-pub(super) enum Kind {
+pub(crate) enum Kind {
     File,
     Folder,
     Pipe,
@@ -14,15 +14,15 @@ pub(super) enum Kind {
 }
 
 /// What was made, and how much of it lasts.
-pub(super) struct Entry {
-    pub(super) path: String,
-    pub(super) kind: Kind,
+pub(crate) struct Entry {
+    pub(crate) path: String,
+    pub(crate) kind: Kind,
     /// Where the first of its names stands.
-    pub(super) node: usize,
-    pub(super) bytes: Vec<u8>,
+    pub(crate) node: usize,
+    pub(crate) bytes: Vec<u8>,
     /// How many bytes last, and whether the name does.
-    pub(super) lasting: usize,
-    pub(super) is_named: bool,
+    pub(crate) lasting: usize,
+    pub(crate) is_named: bool,
 }
 
 // By hand, so that dropping it is one call.
@@ -54,7 +54,7 @@ enum State {
 }
 
 /// The folder of a path of the disc.
-pub(super) fn parent(path: &str) -> &str {
+pub(crate) fn parent(path: &str) -> &str {
     match path.rsplit_once('/') {
         Some((folder, _)) => folder,
         None => ".",
@@ -134,7 +134,7 @@ fn is_broken(entries: &[Entry], state: State) -> bool {
 }
 
 /// May a power cut now leave a whole directory without its images?
-pub(super) fn may_break(entries: &[Entry]) -> bool {
+pub(crate) fn may_break(entries: &[Entry]) -> bool {
     entries.iter().any(is_directory)
         && (is_broken(entries, State::Least)
             || is_broken(entries, State::Worst)
@@ -142,7 +142,7 @@ pub(super) fn may_break(entries: &[Entry]) -> bool {
 }
 
 /// Does all last that is there?
-pub(super) fn all_last(entries: &[Entry]) -> bool {
+pub(crate) fn all_last(entries: &[Entry]) -> bool {
     for entry in entries {
         if !entry.is_named || entry.lasting != entry.bytes.len() {
             return false;

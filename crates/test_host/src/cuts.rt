@@ -1,8 +1,8 @@
 //! Power cuts during runs.
 
-use super::disc::Disc;
-use super::told;
-use crate::paths::folder_of;
+use crate::calls::told;
+use crate::disc::Disc;
+use dd_vectors::claim_all;
 use std::alloc::Global;
 use std::cell::RefCell;
 use std::test::Fail;
@@ -33,11 +33,18 @@ fn is_safe(alloc: Global, calls: &str) -> Result<bool, Fail> {
 
 #[test]
 fn a_power_cut_leaves_no_directory_without_its_images(rt: HostRuntime) -> Result<(), Fail> {
-    for calls in RUNS.split('\n') {
-        assert!(rt; is_safe(rt.alloc(), calls)?, "at {calls}");
-    }
-    Ok(())
+    claim_all(rt.alloc(), RUNS, '\n', is_safe)
 }
+
+// The runs with many images: files, or second names of one; how many images, and how many files can be open.
+const BATCHES: &str = "\
+files 120 101
+files 99 100
+files 40 7
+files 5 1
+names 120 101
+names 40 7
+names 5 1";
 
 // What stands there before a run, and what it makes of each image: a file, or a second name of one.
 const FILES: [&str; 3] = ["", "create", ", write abc, finish"];
@@ -56,36 +63,32 @@ fn calls_of(alloc: Global, kind: [&str; 3], images: u32, open: u32) -> Result<St
     Ok(calls)
 }
 
+// Is a run with many images safe?
+fn is_batched(alloc: Global, case: &str) -> Result<bool, Fail> {
+    let (kind, numbers) = case.split_once(' ').ok_or("no kind")?;
+    let (images, open) = numbers.split_once(' ').ok_or("no numbers")?;
+    let kind = if kind == "files" { FILES } else { NAMES };
+    let calls = calls_of(alloc, kind, images.parse()?, open.parse()?)?;
+    is_safe(alloc, calls.as_str())
+}
+
 #[test]
 fn many_images_are_stored_in_batches(rt: HostRuntime) -> Result<(), Fail> {
-    let runs = [
-        (FILES, 120, 101),
-        (FILES, 99, 100),
-        (FILES, 40, 7),
-        (FILES, 5, 1),
-        (NAMES, 120, 101),
-        (NAMES, 40, 7),
-        (NAMES, 5, 1),
-    ];
-    for (kind, images, open) in runs {
-        let calls = calls_of(rt.alloc(), kind, images, open)?;
-        assert!(rt; is_safe(rt.alloc(), calls.as_str())?, "of {images} images");
-    }
-    Ok(())
+    claim_all(rt.alloc(), BATCHES, '\n', is_batched)
+}
+
+// Would a power cut have left a directory without its images, and does not all last at the end?
+fn is_lost(alloc: Global, calls: &str) -> Result<bool, Fail> {
+    let disc = RefCell::new(Disc::new(alloc)?);
+    told(alloc, &disc, calls)?;
+    let disc = disc.into_inner();
+    Ok(disc.broken() > 0 && !disc.lasts())
 }
 
 #[test]
 fn a_loss_is_seen(rt: HostRuntime) -> Result<(), Fail> {
-    let alloc = rt.alloc();
-    let disc = RefCell::new(Disc::new(alloc)?);
-    told(
-        alloc,
-        &disc,
-        "create i, write abc, finish, store, spill DICOMDIR",
-    )?;
-    let disc = disc.into_inner();
-    assert!(rt; disc.broken() > 0 && !disc.lasts());
-    Ok(())
+    let calls = "create i, write abc, finish, store, spill DICOMDIR";
+    claim_all(rt.alloc(), calls, '\n', is_lost)
 }
 
 // In each line a path, and the folder that its last name stands in.
@@ -103,11 +106,18 @@ a//b// > a
 ../a > ..
 a/../b > a/..";
 
+// Is the name of a file that is made at the path stored in that folder, and in no other?
+fn is_named_there(alloc: Global, case: &str) -> Result<bool, Fail> {
+    let (path, folder) = case.split_once(" > ").ok_or("no folder")?;
+    let disc = RefCell::new(Disc::new(alloc)?);
+    let calls = format!(in alloc; "dir {folder}, create {path}, finish, store, store")?;
+    told(alloc, &disc, calls.as_str())?;
+    let disc = disc.into_inner();
+    let wanted = format!(in alloc; "make {path}, store {path}, store {folder}")?;
+    Ok(disc.log() == wanted.as_str())
+}
+
 #[test]
 fn a_path_stands_in_a_folder(rt: HostRuntime) -> Result<(), Fail> {
-    for case in FOLDERS.split('\n') {
-        let (path, folder) = case.split_once(" > ").ok_or("no folder")?;
-        assert_eq!(rt; folder_of(path), folder);
-    }
-    Ok(())
+    claim_all(rt.alloc(), FOLDERS, '\n', is_named_there)
 }

@@ -1,0 +1,246 @@
+//! Calls of the files of the system over a disc in memory, which a line of a case names, and what they come to.
+
+use crate::disc::{Call, Disc, DiscFiles};
+use crate::power_cut::Kind;
+use dd_elem::{Read, Write};
+use dd_files::{Files, LinkFault, Step};
+use dicomdir_host::HostFiles;
+use std::alloc::Global;
+use std::cell::RefCell;
+use std::io::ErrorKind;
+use std::str;
+use std::test::Fail;
+
+fn call_of(name: &str) -> Option<Call> {
+    match name {
+        "open" => Some(Call::Open),
+        "create" => Some(Call::Create),
+        "folder" => Some(Call::Folder),
+        "link" => Some(Call::Link),
+        "read" => Some(Call::Read),
+        "write" => Some(Call::Write),
+        "store" => Some(Call::Store),
+        "look" => Some(Call::Look),
+        "made" => Some(Call::Made),
+        "seen" => Some(Call::LookAtOpen),
+        "stay" => Some(Call::Stay),
+        "show" => Some(Call::Show),
+        "clock" => Some(Call::Clock),
+        _ => None,
+    }
+}
+
+// How a call fails that this word prepares.
+fn error_of(verb: &str) -> Option<ErrorKind> {
+    match verb {
+        "fail" => Some(ErrorKind::Other),
+        "pause" => Some(ErrorKind::Interrupted),
+        "part" => Some(ErrorKind::CrossesDevices),
+        "bar" => Some(ErrorKind::PermissionDenied),
+        "spoil" => Some(ErrorKind::InvalidInput),
+        _ => None,
+    }
+}
+
+// What the word puts at a path: what stands there, and its bytes.
+fn put_by(verb: &str) -> Option<(Kind, &'static [u8])> {
+    match verb {
+        "file" => Some((Kind::File, b"old")),
+        "also" => Some((Kind::File, b"two")),
+        "silent" => Some((Kind::Silent, b"old")),
+        "pipe" => Some((Kind::Pipe, b"")),
+        "dir" => Some((Kind::Folder, b"")),
+        "link" => Some((Kind::Link, b"")),
+        _ => None,
+    }
+}
+
+// Prepares the disc, where the step is about it.
+fn prepare(disc: &mut Disc, verb: &str, what: &str) -> Result<bool, Fail> {
+    if let Some((kind, bytes)) = put_by(verb) {
+        let place = disc.put(what, kind)?;
+        disc.add(place, bytes)?;
+        return Ok(true);
+    }
+    if let Some(error) = error_of(verb) {
+        disc.fail(call_of(what).ok_or("no call")?, error);
+        return Ok(true);
+    }
+    match verb {
+        "spill" => disc.spill(what)?,
+        "limit" => disc.open_at_most(what.parse()?),
+        "pass" => disc.screen.wait(what.parse()?),
+        "slow" => disc.screen.pause = what.parse()?,
+        _ => return Ok(false),
+    }
+    Ok(true)
+}
+
+// The same of a disc that is shared.
+fn is_prepared(disc: &RefCell<Disc>, verb: &str, what: &str) -> Result<bool, Fail> {
+    match disc.try_borrow_mut() {
+        Ok(mut disc) => prepare(&mut disc, verb, what),
+        Err(_) => Err("the disc is in use".into()),
+    }
+}
+
+// Writes all the bytes.
+pub(crate) fn write_all(files: &mut HostFiles<'_, DiscFiles<'_>>, bytes: &[u8]) -> bool {
+    let mut rest = bytes;
+    for _ in bytes {
+        match files.write(rest) {
+            Ok(n) if n > 0 => rest = rest.get(n..).unwrap_or(&[]),
+            _ => return false,
+        }
+        if rest.is_empty() {
+            return true;
+        }
+    }
+    false
+}
+
+// Makes a call.
+fn is_done(files: &mut HostFiles<'_, DiscFiles<'_>>, verb: &str, what: &str) -> bool {
+    match verb {
+        "create" => files.create(what).is_ok(),
+        "folder" => files.folder(what).is_ok(),
+        "make" => {
+            let (out, path) = named(what);
+            files.folder_in(out, path).is_ok()
+        }
+        "write" => write_all(files, what.as_bytes()),
+        "store" => files.store().is_ok(),
+        // More than the buffer takes.
+        "fill" => write_all(files, &[b'x'; 70_000]),
+        _ => files.finish().is_ok(),
+    }
+}
+
+// What a reader gives to its end, or none where it fails.
+pub(crate) fn all_of<R: Read>(alloc: Global, reader: &mut R) -> Result<Option<Vec<u8>>, Fail> {
+    let mut all = Vec::new(alloc);
+    let mut piece = [0; 1_000];
+    for _ in 0..1_000_000u32 {
+        match reader.read(&mut piece) {
+            Ok(0) => return Ok(Some(all)),
+            Ok(n) => all.extend_from_slice(&piece[..n])?,
+            Err(_) => return Ok(None),
+        }
+    }
+    Err("a reader with no end".into())
+}
+
+// The folder of a path with a mark between its folder and what stands below that, and the path.
+fn named(what: &str) -> (&str, &str) {
+    match what.split_once(": ") {
+        Some(both) => both,
+        None => ("", what),
+    }
+}
+
+// Adds the bytes of a source, of a file of a file-set, or of a list of names.
+fn read(
+    alloc: Global,
+    files: &mut HostFiles<'_, DiscFiles<'_>>,
+    verb: &str,
+    what: &str,
+    said: &mut String,
+) -> Result<(), Fail> {
+    let opened = match verb {
+        "find" => {
+            let (set, path) = named(what);
+            files.member(set, path)
+        }
+        "names" => files.names(what),
+        _ => files.source(what),
+    };
+    let Ok(mut reader) = opened else {
+        return Ok(said.push('-')?);
+    };
+    match all_of(alloc, &mut reader)? {
+        Some(bytes) => Ok(said.push_str(str::from_utf8(&bytes).map_err(|_| "no text")?)?),
+        None => Ok(said.push('!')?),
+    }
+}
+
+// Gives a file of a file-set a second name, and answers what that came to.
+fn second(files: &mut HostFiles<'_, DiscFiles<'_>>, what: &str) -> &'static str {
+    let (set, paths) = named(what);
+    let (from, path) = paths.split_once(" at ").unwrap_or((paths, ""));
+    match files.link(set, from, path) {
+        Ok(()) => "+",
+        Err(LinkFault::Absent) => "-absent",
+        Err(LinkFault::Taken) => "-taken",
+        Err(LinkFault::Refused) => "-refused",
+    }
+}
+
+// Makes a call about progress, where it is one.
+fn counts(files: &mut HostFiles<'_, DiscFiles<'_>>, verb: &str, what: &str) -> Result<bool, Fail> {
+    match verb {
+        "reading" | "copying" => {
+            let step = if verb == "reading" {
+                Step::Reading
+            } else {
+                Step::Copying
+            };
+            files.begin_progress(step, what.parse()?);
+        }
+        "advance" => files.advance(),
+        "hide" => files.hide_progress(),
+        "quiet" => files.be_quiet(),
+        _ => return Ok(false),
+    }
+    Ok(true)
+}
+
+// Makes a call or prepares the disc for one, and adds what that came to.
+fn tell(
+    alloc: Global,
+    disc: &RefCell<Disc>,
+    files: &mut HostFiles<'_, DiscFiles<'_>>,
+    call: &str,
+    said: &mut String,
+) -> Result<(), Fail> {
+    let (verb, what) = call.split_once(' ').unwrap_or((call, ""));
+    match verb {
+        "read" | "find" | "names" => return read(alloc, files, verb, what, said),
+        "unstored" => return Ok(said.push_str(files.unstored())?),
+        "second" => return Ok(said.push_str(second(files, what))?),
+        _ => {}
+    }
+    let sign = if counts(files, verb, what)? || is_prepared(disc, verb, what)? {
+        '.'
+    } else if is_done(files, verb, what) {
+        '+'
+    } else {
+        '-'
+    };
+    Ok(said.push(sign)?)
+}
+
+// The same of all these calls, with a space between two.
+fn tell_all(
+    alloc: Global,
+    disc: &RefCell<Disc>,
+    files: &mut HostFiles<'_, DiscFiles<'_>>,
+    calls: &str,
+    said: &mut String,
+) -> Result<(), Fail> {
+    for call in calls.split(", ") {
+        if !said.is_empty() {
+            said.push(' ')?;
+        }
+        tell(alloc, disc, files, call, said)?;
+    }
+    Ok(())
+}
+
+// What the calls came to.
+pub(crate) fn told(alloc: Global, disc: &RefCell<Disc>, calls: &str) -> Result<String, Fail> {
+    let rt = DiscFiles(disc);
+    let mut files = HostFiles::new(alloc, &rt);
+    let mut said = String::new(alloc);
+    tell_all(alloc, disc, &mut files, calls, &mut said)?;
+    Ok(said)
+}
