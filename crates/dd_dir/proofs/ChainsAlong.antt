@@ -12,8 +12,8 @@ use Rattle.dd_layout.specs.Records.{kind_of}
 use Rattle.dd_layout.proofs.Blocks.{AllTails}
 use Rattle.dd_layout.proofs.HasLevel.{HasLevel}
 use Rattle.dd_layout.proofs.LinksAlong.{no_fifth}
-use Rattle.dd_dir.specs.Saying.{Says, says_of}
-use Rattle.dd_dir.specs.Trees.{Node, Trees, last_root_or, no_trees, places}
+use Rattle.dd_dir.specs.Saying.{Links, links_in}
+use Rattle.dd_dir.specs.Trees.{Node, Trees, last_offset_or, no_trees, offsets}
 use Rattle.dd_dir.specs.Trees as trees
 use Rattle.dd_dir.specs.Visits.{Visit, own_key, visits_below}
 use Rattle.dd_dir.specs.Walks.{IsChain, node_of}
@@ -24,8 +24,8 @@ use Rattle.dd_dir.proofs.VisitsAlong.{at_by}
 
 -- what a record is to say whose row stands before these: the offsets of the first row of its level and of the first
 -- one below it
-abbrev pub says_along : (Path → Node) → Path → List Path → Says
-says_along node x rest = record {
+abbrev pub links_along : (Path → Node) → Path → List Path → Links
+links_along node x rest = record {
   next = at_by node (scan (length x) rest);
   lower = at_by node (scan (length x + 1) rest);
   in_use = true;
@@ -35,8 +35,8 @@ says_along node x rest = record {
 -- its record stands at its offset and says so
 pub record SaysAlong (stands : ℕ → Option Elements) (node : Path → Node) (x : Path) (rest : List Path) : Type 0 where
   pub found : stands (node x).at ≡ Some (node x).set
-  pub says : says_of (node x).set ≡ Some (says_along node x rest)
-  pub is : node x ≡ node_of (node x).at (node x).set (says_along node x rest)
+  pub says : links_in (node x).set ≡ Some (links_along node x rest)
+  pub is : node x ≡ node_of (node x).at (node x).set (links_along node x rest)
 
 -- the trees of each level are a chain
 pub record Chains (stands : ℕ → Option Elements) (node : Path → Node) (rest : List Path) (g : Grown) : Type 0 where
@@ -51,7 +51,7 @@ module _ (stands : ℕ → Option Elements) (node : Path → Node) (rest : List 
       → Chains stands node ((p ∷ []) ∷ rest) (grown_from Patient (node (p ∷ [])) g)
   patient_chains p so = record {
     patient = (
-      says_along node (p ∷ []) rest,
+      links_along node (p ∷ []) rest,
       record { found = so.found; room = omega arith; says_so = so.says; is = so.is },
       chains.study,
       chains.patient,
@@ -66,7 +66,7 @@ module _ (stands : ℕ → Option Elements) (node : Path → Node) (rest : List 
   study_chains p q so = record {
     patient = chains.patient;
     study = (
-      says_along node (p ∷ q ∷ []) rest,
+      links_along node (p ∷ q ∷ []) rest,
       record { found = so.found; room = omega arith; says_so = so.says; is = so.is },
       chains.series,
       chains.study,
@@ -81,7 +81,7 @@ module _ (stands : ℕ → Option Elements) (node : Path → Node) (rest : List 
     patient = chains.patient;
     study = chains.study;
     series = (
-      says_along node (p ∷ q ∷ r ∷ []) rest,
+      links_along node (p ∷ q ∷ r ∷ []) rest,
       record { found = so.found; room = omega arith; says_so = so.says; is = so.is },
       chains.image,
       chains.series,
@@ -96,7 +96,7 @@ module _ (stands : ℕ → Option Elements) (node : Path → Node) (rest : List 
     study = chains.study;
     series = chains.series;
     image = (
-      says_along node (p ∷ q ∷ r ∷ s ∷ []) rest,
+      links_along node (p ∷ q ∷ r ∷ s ∷ []) rest,
       record { found = so.found; room = omega arith; says_so = so.says; is = so.is },
       ap (at_by node) (no_fifth rest levels),
       chains.image,
@@ -137,7 +137,7 @@ first_along node ((p ∷ q ∷ r ∷ s ∷ []) ∷ rest) levels = first_along no
 first_along node ((p ∷ q ∷ r ∷ s ∷ t ∷ x) ∷ rest) levels = absurd levels.0
 
 pub last_along : (node : Path → Node) (before : Option Path) (rest : List Path) → AllByRecursion HasLevel rest
-    → last_root_or (at_by node before) (grown node rest).patient
+    → last_offset_or (at_by node before) (grown node rest).patient
     ≡ at_by node (last_or before (filter (λ y. is_path (parent_of y) []) rest))
 last_along node before [] levels = refl
 last_along node before ([] ∷ rest) levels = absurd levels.0
@@ -147,11 +147,11 @@ last_along node before ((p ∷ q ∷ r ∷ []) ∷ rest) levels = last_along nod
 last_along node before ((p ∷ q ∷ r ∷ s ∷ []) ∷ rest) levels = last_along node before rest levels.1
 last_along node before ((p ∷ q ∷ r ∷ s ∷ t ∷ x) ∷ rest) levels = absurd levels.0
 
--- ---- places
+-- ---- offsets
 
--- records are visited in the order of their places
+-- records are visited in the order of their offsets
 pub visits_places : (front : Path) (above : ℕ) (t : Trees)
-    → map (λ visit. visit.node.at) (visits_below front above t) ≡ places t
+    → map (λ visit. visit.node.at) (visits_below front above t) ≡ offsets t
 visits_places front above no_trees = refl
 visits_places front above (trees.tree node below after) =
     let path = front ++ own_key front node.set ∷ [] in

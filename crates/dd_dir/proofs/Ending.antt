@@ -14,7 +14,7 @@ use Rattle.dd_dir.specs.ReadAnswers.{Fails, Follows}
 use Rattle.dd_dir.specs.Reading.{Contents, stands_of, count_unseen, AreTrees, IsWalkOf, EndElsewhere, RefusesOf}
 use Rattle.dd_dir.specs.Saying.{sets_of}
 use Rattle.dd_dir.specs.Slots.{Rises, AreLeft, reached, count_left, slots_view}
-use Rattle.dd_dir.specs.Trees.{Beside, Trees, places, last_root_or}
+use Rattle.dd_dir.specs.Trees.{Beside, Trees, offsets, last_offset_or}
 use Rattle.dd_dir.specs.Walks.{Seen, nothing, with_all, AreApart, Stops}
 use Rattle.dd_dir.proofs.Lifting.{same_start}
 use Rattle.dd_dir.proofs.Moved.{sets_many}
@@ -46,7 +46,7 @@ count_full (set ∷ sets) = omega (arith, count_full sets)
 
 -- ---- those that are left
 
--- places are counted alike by tests that are equal on them
+-- offsets are counted alike by tests that are equal on them
 count_alike : (seen other : Seen) (low : ℕ) (ps : List ℕ) → Rises low ps → ((p : ℕ) → low ≤ p → seen p ≡ other p)
     → count_unseen seen ps ≡ count_unseen other ps
 count_alike seen other low [] rise alike = refl
@@ -115,13 +115,13 @@ pub follows_trees : (contents : Contents) (slots new : List (Option Elements)) (
     → Follows contents.starts contents.sets contents.first 0 slots new trees → AreTrees contents trees
 follows_trees contents slots new trees is follows = record {
   chain = follows.chain;
-  apart = subst (λ (seen : Seen). AreApart seen (places trees))
+  apart = subst (λ (seen : Seen). AreApart seen (offsets trees))
       (full_unseen contents.starts contents.sets slots is) follows.apart;
 }
 
 pub ends_elsewhere : (contents : Contents) (slots new : List (Option Elements)) (trees : Trees)
     → slots ≡ map (λ (set : Elements). Some set) contents.sets
-    → Follows contents.starts contents.sets contents.first 0 slots new trees → last_root_or 0 trees ≢ contents.last
+    → Follows contents.starts contents.sets contents.first 0 slots new trees → last_offset_or 0 trees ≢ contents.last
     → EndElsewhere contents
 ends_elsewhere contents slots new trees is follows other = record {
   trees = trees;
@@ -132,7 +132,7 @@ ends_elsewhere contents slots new trees is follows other = record {
 pub walk_of : (contents : Contents) (slots new : List (Option Elements)) (trees : Trees) (beside : Beside)
     (unreached : ℕ) → slots ≡ map (λ (set : Elements). Some set) contents.sets → Rises 0 contents.starts
     → length contents.starts ≡ length new
-    → Follows contents.starts contents.sets contents.first 0 slots new trees → last_root_or 0 trees ≡ contents.last
+    → Follows contents.starts contents.sets contents.first 0 slots new trees → last_offset_or 0 trees ≡ contents.last
     → beside ≡ contents.beside → unreached ≡ count_left new
     → IsWalkOf contents (record { beside = beside; trees = trees; unreached = unreached })
 walk_of contents slots new trees beside unreached is rise same follows ends beside_is count = record {
@@ -140,8 +140,8 @@ walk_of contents slots new trees beside unreached is rise same follows ends besi
   ends = ends;
   beside = beside_is;
   unreached =
-      let adds : reached contents.starts new ≡ with_all (places trees) nothing =
-      follows.adds ∙ ap (λ (seen : Seen). with_all (places trees) seen)
+      let adds : reached contents.starts new ≡ with_all (offsets trees) nothing =
+      follows.adds ∙ ap (λ (seen : Seen). with_all (offsets trees) seen)
       (full_unseen contents.starts contents.sets slots is) in
       count ∙ count_reached 0 contents.starts new rise same
       ∙ ap (λ (seen : Seen). count_unseen seen contents.starts) adds;

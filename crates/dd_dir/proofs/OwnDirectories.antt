@@ -22,7 +22,7 @@ use Rattle.dd_layout.proofs.Trees.{tree_is_tree}
 use Rattle.dd_dir.specs.Directories.{directory}
 use Rattle.dd_dir.specs.Keyed.{IsSent}
 use Rattle.dd_dir.specs.Own.{Listed}
-use Rattle.dd_dir.specs.OwnVersions.{Located, place_of, version_of}
+use Rattle.dd_dir.specs.OwnVersions.{Place, place_of, version_of}
 use Rattle.dd_dir.specs.SaysItself.{SaysItself, is_of_image, place_in}
 use Rattle.dd_dir.specs.Trees.{Node}
 use Rattle.dd_dir.specs.Visits.{node_at}
@@ -187,7 +187,7 @@ places_are versions node ((a ∷ []) ∷ rest) each = places_are versions node r
 places_are versions node ((a ∷ b ∷ []) ∷ rest) each = places_are versions node rest each.1
 places_are versions node ((a ∷ b ∷ c ∷ []) ∷ rest) each = places_are versions node rest each.1
 places_are versions node ((a ∷ b ∷ c ∷ d ∷ []) ∷ rest) each =
-    ap₂ (λ (x : Located) (l : List Located). x ∷ l) (each.0.place ∙ ap (place_in versions) (sym each.0.is))
+    ap₂ (λ (x : Place) (l : List Place). x ∷ l) (each.0.place ∙ ap (place_in versions) (sym each.0.is))
     (places_are versions node rest each.1)
 places_are versions node ((a ∷ b ∷ c ∷ d ∷ e ∷ x) ∷ rest) each = places_are versions node rest each.1
 

@@ -12,26 +12,26 @@ use Rattle.dd_layout.specs.declared.level.Level.{Level}
 use Rattle.dd_layout.specs.declared.level.Level.TheVariants.{Patient, Study, Series, Image}
 use Rattle.dd_layout.specs.Entries.{tag, padded, text_entry, uid_entry}
 use Rattle.dd_layout.specs.Records.{kind_of, link_entries, record_entries}
-use Rattle.dd_dir.specs.Saying.{key_of, says_by, says_of}
+use Rattle.dd_dir.specs.Saying.{key_of, links_by, links_in}
 
 -- ---- links, flag and type
 
 pub record_says : (level : Level) (next lower : ℕ) (file : Option Ranks) (parts : Parts) → next < 2 ^ 32
     → lower < 2 ^ 32
-    → says_of (elements_of (record_entries level next lower file parts))
+    → links_in (elements_of (record_entries level next lower file parts))
     ≡ Some (record { next = next; lower = lower; in_use = true; kind = kind_of level })
-unfolding says_of
+unfolding links_in
 record_says Patient next lower file parts small small' =
-    ap₂ (λ (a b : ℕ). says_by (Some a) (Some true) (Some b) (Some (kind_of Patient)))
+    ap₂ (λ (a b : ℕ). links_by (Some a) (Some true) (Some b) (Some (kind_of Patient)))
     (from_le_bytes-to_le_bytes_4 next small) (from_le_bytes-to_le_bytes_4 lower small')
 record_says Study next lower file parts small small' =
-    ap₂ (λ (a b : ℕ). says_by (Some a) (Some true) (Some b) (Some (kind_of Study)))
+    ap₂ (λ (a b : ℕ). links_by (Some a) (Some true) (Some b) (Some (kind_of Study)))
     (from_le_bytes-to_le_bytes_4 next small) (from_le_bytes-to_le_bytes_4 lower small')
 record_says Series next lower file parts small small' =
-    ap₂ (λ (a b : ℕ). says_by (Some a) (Some true) (Some b) (Some (kind_of Series)))
+    ap₂ (λ (a b : ℕ). links_by (Some a) (Some true) (Some b) (Some (kind_of Series)))
     (from_le_bytes-to_le_bytes_4 next small) (from_le_bytes-to_le_bytes_4 lower small')
 record_says Image next lower file parts small small' =
-    ap₂ (λ (a b : ℕ). says_by (Some a) (Some true) (Some b) (Some (kind_of Image)))
+    ap₂ (λ (a b : ℕ). links_by (Some a) (Some true) (Some b) (Some (kind_of Image)))
     (from_le_bytes-to_le_bytes_4 next small) (from_le_bytes-to_le_bytes_4 lower small')
 
 -- ---- keys

@@ -30,11 +30,11 @@ use Rattle.dd_dir.specs.Directories.{last_root}
 use Rattle.dd_dir.specs.Keyed.{IsKeyed, IsKeyedBy, IsSent}
 use Rattle.dd_dir.specs.Reading.{Contents, IsDirectoryFile, IsWalk, contents_by, contents_in}
 use Rattle.dd_dir.specs.Reading.{count_unseen, stands_of}
-use Rattle.dd_dir.specs.Saying.{Says, beside_in, says_of}
-use Rattle.dd_dir.specs.Trees.{Walk, places}
+use Rattle.dd_dir.specs.Saying.{Links, beside_in, links_in}
+use Rattle.dd_dir.specs.Trees.{Walk, offsets}
 use Rattle.dd_dir.specs.Visits.{Visit, node_at, or_root, visit_at, visits_of}
 use Rattle.dd_dir.specs.Walks.{AreApart, IsChain, Seen, nothing, with, with_all}
-use Rattle.dd_dir.proofs.ChainsAlong.{SaysAlong, chains_along, first_along, last_along, says_along, visits_places}
+use Rattle.dd_dir.proofs.ChainsAlong.{SaysAlong, chains_along, first_along, last_along, links_along, visits_places}
 use Rattle.dd_dir.proofs.GrownTrees.{grown}
 use Rattle.dd_dir.proofs.KeyedRecords.{clean_key}
 use Rattle.dd_dir.proofs.OwnKeys.{IsOfVersion, least_leads, own_is}
@@ -54,7 +54,7 @@ at_is label versions (Some x) = refl
 version_says : (label : Label) (versions : List Parts) (x : Path) (v : Parts)
     → records_end label versions < 2 ^ 32 → entries_of versions (record_at label versions x)
     ≡ entries_by (record_at label versions x) (Some v)
-    → says_of (elements_of (entries_of versions (record_at label versions x)))
+    → links_in (elements_of (entries_of versions (record_at label versions x)))
     ≡ Some (record {
       next = (record_at label versions x).next;
       lower = (record_at label versions x).lower;
@@ -65,19 +65,19 @@ version_says label versions x v small found =
     let row = record_at label versions x in
     let next = at_most label versions (next_sibling (tree versions) x) in
     let lower = at_most label versions (first_child (tree versions) x) in
-    ap (λ (es : List Entry). says_of (elements_of es)) found
+    ap (λ (es : List Entry). links_in (elements_of es)) found
     ∙ record_says (level_of x) row.next row.lower row.file v (omega (arith, next, small)) (omega (arith, lower, small))
 
 -- the record of a row says what stands along the rows behind it
 row_says : (label : Label) (versions : List Parts) (front : List Path) (x : Path) (rest : List Path)
     → tree versions ≡ front ++ x ∷ rest → records_end label versions < 2 ^ 32 → IsOfVersion versions x
-    → says_of (node_at label versions x).set ≡ Some (says_along (node_at label versions) x rest)
+    → links_in (node_at label versions x).set ≡ Some (links_along (node_at label versions) x rest)
 row_says label versions front x rest is small of =
     let known = rows_are_known (map path_of versions) (paths_have_parts versions) front x rest is in
     let row = record_at label versions x in
-    let says : ℕ → ℕ → Says = λ a b. record { next = a; lower = b; in_use = true; kind = kind_of (level_of x) } in
+    let links : ℕ → ℕ → Links = λ a b. record { next = a; lower = b; in_use = true; kind = kind_of (level_of x) } in
     version_says label versions x of.version small (ap (entries_by row) of.found)
-    ∙ ap₂ (λ (a b : ℕ). Some (says a b))
+    ∙ ap₂ (λ (a b : ℕ). Some (links a b))
     (ap (at_or_none label versions) known.next ∙ at_is label versions (scan (length x) rest))
     (ap (at_or_none label versions) known.lower ∙ at_is label versions (scan (length x + 1) rest))
 
@@ -244,7 +244,7 @@ tree_visits label versions withdrawn sent =
     grown_visits label versions withdrawn sent ∙ visits_same label versions (tree versions)
 
 tree_places : (label : Label) (versions : List Parts) (withdrawn : List (List ℕ)) → IsSent label versions withdrawn
-    → places (tree_walk label versions withdrawn).trees ≡ map (at label versions) (tree versions)
+    → offsets (tree_walk label versions withdrawn).trees ≡ map (at label versions) (tree versions)
 tree_places label versions withdrawn sent =
     sym (visits_places [] 0 (tree_walk label versions withdrawn).trees)
     ∙ ap (λ (l : List Visit). map (λ visit. visit.node.at) l) (grown_visits label versions withdrawn sent)
@@ -265,14 +265,14 @@ tree_chain label versions withdrawn sent =
     subst (λ (p : ℕ). IsChain stands p 0 (tree_walk label versions withdrawn).trees) (sym first) chains.patient
 
 tree_apart : (label : Label) (versions : List Parts) (withdrawn : List (List ℕ)) → IsSent label versions withdrawn
-    → AreApart nothing (places (tree_walk label versions withdrawn).trees)
+    → AreApart nothing (offsets (tree_walk label versions withdrawn).trees)
 tree_apart label versions withdrawn sent =
     subst (AreApart nothing) (sym (tree_places label versions withdrawn sent))
     (rise_apart 0 nothing (map (at label versions) (tree versions)) (λ q above. refl)
     (offsets_rise label versions sent.sound))
 
 tree_reached : (label : Label) (versions : List Parts) (withdrawn : List (List ℕ)) → IsSent label versions withdrawn
-    → 0 ≡ count_unseen (with_all (places (tree_walk label versions withdrawn).trees) nothing)
+    → 0 ≡ count_unseen (with_all (offsets (tree_walk label versions withdrawn).trees) nothing)
     (map (at label versions) (tree versions))
 tree_reached label versions withdrawn sent =
     let ps = map (at label versions) (tree versions) in

@@ -1,5 +1,5 @@
 -- Following offsets ends, in trees whose offsets are apart or at a stop (PS3.3 section F.3.2.2). Each step sees one
--- more of the places where records start.
+-- more of the offsets where records start.
 use Rattle.std.proofs.Common.{◌≡◌, ◌≢◌, ◌⊎◌, inl, inr, ℕ, suc, zero, ◌+◌, ◌<◌, ◌≤◌, Bool, true, false, List, [], ◌∷◌}
 use Rattle.std.proofs.Common.{Option, Some, None, Result, Ok, Err, if◌then◌else◌, ◌==◌, refl, sym, ap, ◌∙◌, arith}
 use Rattle.std.specs.Prelude.{nat_le}
@@ -7,8 +7,8 @@ use Rattle.std.proofs.lemmas.Bool.{leb-false, eqb-true, eq-eqb, cases_eq, false�
 use Rattle.dd_encoding.specs.Elements.{Elements}
 use Rattle.dd_dir.specs.declared.fault.DirFault.{DirFault}
 use Rattle.dd_dir.specs.declared.fault.DirFault.TheVariants.{RecordShape, Dangling, Twice, TooDeep}
-use Rattle.dd_dir.specs.Saying.{Says, says_of}
-use Rattle.dd_dir.specs.Trees.{Trees, no_trees, tree, places}
+use Rattle.dd_dir.specs.Saying.{Links, links_in}
+use Rattle.dd_dir.specs.Trees.{Trees, no_trees, tree, offsets}
 use Rattle.dd_dir.specs.Walks.{max_record_levels, node_of, Stands, IsChain, Seen, with, with_all, AreApart, shape_at}
 use Rattle.dd_dir.specs.Walks.{found_at, step_at, here, down, along, Stops}
 use Rattle.dd_dir.specs.Reading.{count_unseen, stands_in}
@@ -17,36 +17,36 @@ use Rattle.dd_dir.proofs.WalkLaws.{goes_or_stops, one_step, tree_apart}
 -- ---- what a step says that goes on
 
 -- what was found, and what it says
-record Shown (p level : ℕ) (seen : Bool) (found : Option Elements) (x : Elements × Says) : Type 0 where
+record Shown (p level : ℕ) (seen : Bool) (found : Option Elements) (x : Elements × Links) : Type 0 where
   unseen : seen ≡ false
   is : found ≡ Some x.0
   room : level < max_record_levels
-  says_so : says_of x.0 ≡ Some x.1
+  says_so : links_in x.0 ≡ Some x.1
 
-same_pair : (set : Elements) (says : Says) (x : Elements × Says)
-    → ◌≡◌ {A = Result (Elements × Says) DirFault} (Ok (set, says)) (Ok x) → x ≡ (set, says)
-same_pair set says x e = one_step (Ok (set, says)) (set, says) x refl e
+same_pair : (set : Elements) (links : Links) (x : Elements × Links)
+    → ◌≡◌ {A = Result (Elements × Links) DirFault} (Ok (set, links)) (Ok x) → x ≡ (set, links)
+same_pair set links x e = one_step (Ok (set, links)) (set, links) x refl e
 
-stopped : {P : Type 0} (fault : DirFault) (x : Elements × Says)
-    → ◌≡◌ {A = Result (Elements × Says) DirFault} (Err fault) (Ok x) → P
+stopped : {P : Type 0} (fault : DirFault) (x : Elements × Links)
+    → ◌≡◌ {A = Result (Elements × Links) DirFault} (Err fault) (Ok x) → P
 stopped fault x e = absurd (goes_or_stops (Err fault) x fault e refl)
 
-shape_shown : (p : ℕ) (set : Elements) (says : Option Says) (x : Elements × Says) → shape_at p set says ≡ Ok x
-    → (set ≡ x.0) × (says ≡ Some x.1)
+shape_shown : (p : ℕ) (set : Elements) (links : Option Links) (x : Elements × Links) → shape_at p set links ≡ Ok x
+    → (set ≡ x.0) × (links ≡ Some x.1)
 shape_shown p set None x e = stopped (RecordShape p) x e
-shape_shown p set (Some says) x e =
-    let is : x ≡ (set, says) = same_pair set says x e in
-    (sym (ap (λ (y : Elements × Says). y.0) is), sym (ap (λ (y : Elements × Says). Some y.1) is))
+shape_shown p set (Some links) x e =
+    let is : x ≡ (set, links) = same_pair set links x e in
+    (sym (ap (λ (y : Elements × Links). y.0) is), sym (ap (λ (y : Elements × Links). Some y.1) is))
 
-deep_shown : (p : ℕ) (set : Elements) (deep : Bool) (x : Elements × Says)
-    → (if deep then Err (TooDeep p) else shape_at p set (says_of set)) ≡ Ok x
-    → (deep ≡ false) × (set ≡ x.0) × (says_of set ≡ Some x.1)
+deep_shown : (p : ℕ) (set : Elements) (deep : Bool) (x : Elements × Links)
+    → (if deep then Err (TooDeep p) else shape_at p set (links_in set)) ≡ Ok x
+    → (deep ≡ false) × (set ≡ x.0) × (links_in set ≡ Some x.1)
 deep_shown p set true x e = stopped (TooDeep p) x e
 deep_shown p set false x e =
-    let shown = shape_shown p set (says_of set) x e in
+    let shown = shape_shown p set (links_in set) x e in
     (refl, shown.0, shown.1)
 
-found_shown : (p level : ℕ) (seen : Bool) (found : Option Elements) (x : Elements × Says)
+found_shown : (p level : ℕ) (seen : Bool) (found : Option Elements) (x : Elements × Links)
     → found_at p level seen found ≡ Ok x → Shown p level seen found x
 found_shown p level seen None x e = stopped (Dangling p) x e
 found_shown p level true (Some set) x e = stopped (Twice p) x e
@@ -56,18 +56,18 @@ found_shown p level false (Some set) x e =
       unseen = refl;
       is = ap (λ (s : Elements). Some s) shown.1;
       room = leb-false max_record_levels level shown.0;
-      says_so = ap says_of (sym shown.1) ∙ shown.2;
+      says_so = ap links_in (sym shown.1) ∙ shown.2;
     }
 
 -- a step that goes on is from a record that stands there and was not seen
-pub step_stands : (stands : ℕ → Option Elements) (p level : ℕ) (seen : Seen) (x : Elements × Says)
+pub step_stands : (stands : ℕ → Option Elements) (p level : ℕ) (seen : Seen) (x : Elements × Links)
     → step_at stands p level seen ≡ Ok x → Stands stands p level (node_of p x.0 x.1) x.1 × (seen p ≡ false)
 unfolding step_at
 step_stands stands p level seen x e =
     let shown = found_shown p level (seen p) (stands p) x e in
     (record { found = shown.is; room = shown.room; says_so = shown.says_so; is = refl }, shown.unseen)
 
--- ---- places that are not seen yet
+-- ---- offsets that are not seen yet
 
 -- a test that holds where another does holds for fewer
 fewer_by : (seen more : Bool) (n m : ℕ) → (seen ≡ true → more ≡ true) → m ≤ n
@@ -147,7 +147,7 @@ unseen_falls (q ∷ starts) (first ∷ sets) p set seen e unseen =
 pub record Grows (stands : ℕ → Option Elements) (p level : ℕ) (seen : Seen) : Type 0 where
   pub trees : Trees
   pub chain : IsChain stands p level trees
-  pub apart : AreApart seen (places trees)
+  pub apart : AreApart seen (offsets trees)
 
 pub record Breaks (stands : ℕ → Option Elements) (p level : ℕ) (seen : Seen) : Type 0 where
   pub fault : DirFault
@@ -156,19 +156,19 @@ pub record Breaks (stands : ℕ → Option Elements) (p level : ℕ) (seen : See
 abbrev pub Ends : (ℕ → Option Elements) → ℕ → ℕ → Seen → Type 0
 Ends stands p level seen = Grows stands p level seen ⊎ Breaks stands p level seen
 
--- from each offset where fewer places than so many are unseen
+-- from each offset where fewer offsets than so many are unseen
 abbrev pub EndsBelow : (ℕ → Option Elements) → List ℕ → ℕ → Type 0
 EndsBelow stands starts n = (p level : ℕ) (seen : Seen) → count_unseen seen starts < n → Ends stands p level seen
 
 module _ (stands : ℕ → Option Elements) (starts : List ℕ) where
   -- behind the trees below
-  after_below : (n : ℕ) → EndsBelow stands starts n → (p level : ℕ) (seen : Seen) (x : Elements × Says) → p ≢ 0
+  after_below : (n : ℕ) → EndsBelow stands starts n → (p level : ℕ) (seen : Seen) (x : Elements × Links) → p ≢ 0
       → step_at stands p level seen ≡ Ok x → count_unseen (with p seen) starts < n
       → Grows stands x.1.lower (level + 1) (with p seen) → Ends stands p level seen
   after_below n every p level seen x some e few below =
-      let past : Seen = with_all (places below.trees) (with p seen) in
+      let past : Seen = with_all (offsets below.trees) (with p seen) in
       let left : count_unseen past starts < n =
-      omega (arith, unseen_with_all (places below.trees) starts (with p seen)) in
+      omega (arith, unseen_with_all (offsets below.trees) starts (with p seen)) in
       let stand = step_stands stands p level seen x e in
       elim (every x.1.next level past left) [
         | inl after ↦ inl (record {
@@ -185,7 +185,7 @@ module _ (stands : ℕ → Option Elements) (starts : List ℕ) where
         })
       ]
 
-  onward : (n : ℕ) → EndsBelow stands starts n → (p level : ℕ) (seen : Seen) (x : Elements × Says) → p ≢ 0
+  onward : (n : ℕ) → EndsBelow stands starts n → (p level : ℕ) (seen : Seen) (x : Elements × Links) → p ≢ 0
       → step_at stands p level seen ≡ Ok x → count_unseen (with p seen) starts < n → Ends stands p level seen
   onward n every p level seen x some e few =
       elim (every x.1.lower (level + 1) (with p seen) few) [
@@ -199,7 +199,7 @@ module _ (stands : ℕ → Option Elements) (starts : List ℕ) where
   -- a place where an item starts is one of them
   module _ (falls : (p : ℕ) (set : Elements) (seen : Seen) → stands p ≡ Some set → seen p ≡ false
       → count_unseen (with p seen) starts < count_unseen seen starts) where
-    by_step : (n : ℕ) → EndsBelow stands starts n → (p level : ℕ) (seen : Seen) (r : Result (Elements × Says) DirFault)
+    by_step : (n : ℕ) → EndsBelow stands starts n → (p level : ℕ) (seen : Seen) (r : Result (Elements × Links) DirFault)
         → p ≢ 0 → step_at stands p level seen ≡ r → count_unseen seen starts < suc n → Ends stands p level seen
     by_step n every p level seen (Err fault) some e few =
         inr (record { fault = fault; stops = record { way = here; stops = (some, e) } })

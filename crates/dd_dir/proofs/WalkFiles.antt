@@ -14,7 +14,7 @@ use Rattle.dd_dir.specs.declared.fault.DirFault.{DirFault}
 use Rattle.dd_dir.specs.declared.fault.DirFault.TheVariants as faults
 use Rattle.dd_dir.specs.Reading.{Contents, contents_of, stands_of, count_unseen, IsDirectoryFile, AreTrees, IsWalkOf}
 use Rattle.dd_dir.specs.Reading.{IsWalk, IsNoDirectory, BreaksOff, EndElsewhere, RefusesOf, IsRefused, Refuses}
-use Rattle.dd_dir.specs.Trees.{Trees, Walk, places, last_root_or}
+use Rattle.dd_dir.specs.Trees.{Trees, Walk, offsets, last_offset_or}
 use Rattle.dd_dir.specs.Walks.{nothing, with_all}
 use Rattle.dd_dir.proofs.WalkEnds.{Grows, Breaks, Ends, always_ends}
 use Rattle.dd_dir.proofs.WalkLaws.{IsOfRecord, stop_fault, chain_is_one, chain_or_stop, one_stop}
@@ -82,7 +82,7 @@ module _ (contents : Contents) (empty : stands_of contents 0 ≡ None) where
   pub walk_one : (walk other : Walk) → IsWalkOf contents walk → IsWalkOf contents other → other ≡ walk
   walk_one walk other a b =
       let trees : other.trees ≡ walk.trees = trees_one walk.trees other.trees a.trees b.trees in
-      let left : Trees → ℕ = λ t. count_unseen (with_all (places t) nothing) contents.starts in
+      let left : Trees → ℕ = λ t. count_unseen (with_all (offsets t) nothing) contents.starts in
       same_walk other walk (b.beside ∙ sym a.beside) trees (b.unreached ∙ ap left trees ∙ sym a.unreached)
 
   -- trees, and a stop
@@ -94,7 +94,7 @@ module _ (contents : Contents) (empty : stands_of contents 0 ≡ None) where
   pub ends_or_not : (walk : Walk) → IsWalkOf contents walk → EndElsewhere contents → ⊥
   ends_or_not walk a other =
       let is : other.trees ≡ walk.trees = trees_one walk.trees other.trees a.trees other.are_trees in
-      other.elsewhere (ap (λ (t : Trees). last_root_or 0 t) is ∙ a.ends)
+      other.elsewhere (ap (λ (t : Trees). last_offset_or 0 t) is ∙ a.ends)
 
   pub walk_or_refused : (walk : Walk) (fault : DirFault) → IsWalkOf contents walk → RefusesOf contents fault → ⊥
   walk_or_refused walk (faults.File fault) a h = h
@@ -227,12 +227,12 @@ grown : (file : List ℕ) (contents : Contents) → IsDirectoryFile file content
     → Grows (stands_of contents) contents.first 0 nothing → Decided file
 grown file contents h grows =
     let trees : AreTrees contents grows.trees = record { chain = grows.chain; apart = grows.apart } in
-    elim (cases_eq (last_root_or 0 grows.trees) contents.last) [
+    elim (cases_eq (last_offset_or 0 grows.trees) contents.last) [
       | inl is ↦ inl (
         record {
           beside = contents.beside;
           trees = grows.trees;
-          unreached = count_unseen (with_all (places grows.trees) nothing) contents.starts;
+          unreached = count_unseen (with_all (offsets grows.trees) nothing) contents.starts;
         },
         record {
           contents = contents;

@@ -8,8 +8,8 @@ use Rattle.dd_encoding.specs.Elements.{Elements}
 use Rattle.dd_dir.specs.declared.fault.DirFault.{DirFault}
 use Rattle.dd_dir.specs.declared.fault.DirFault.TheVariants.{RecordShape, Dangling, Twice, TooDeep}
 use Rattle.dd_dir.specs.declared.fault.DirFault.TheVariants as faults
-use Rattle.dd_dir.specs.Saying.{Says, says_of}
-use Rattle.dd_dir.specs.Trees.{Node, Trees, no_trees, tree, places}
+use Rattle.dd_dir.specs.Saying.{Links, links_in}
+use Rattle.dd_dir.specs.Trees.{Node, Trees, no_trees, tree, offsets}
 use Rattle.dd_dir.specs.Walks.{max_record_levels, node_of, Stands, IsChain, Seen, with, with_all, AreApart, shape_at}
 use Rattle.dd_dir.specs.Walks.{found_at, step_at, Way, here, down, along, StopsBy, Stops}
 
@@ -22,14 +22,14 @@ one_value : {A : Type 0} (o : Option A) (a b : A) → o ≡ Some a → o ≡ Som
 one_value o a b x y = cc
 
 -- a step goes on or does not, in one way
-pub goes_or_stops : (r : Result (Elements × Says) DirFault) (x : Elements × Says) (fault : DirFault)
+pub goes_or_stops : (r : Result (Elements × Links) DirFault) (x : Elements × Links) (fault : DirFault)
     → r ≡ Ok x → r ≡ Err fault → ⊥
 goes_or_stops r x fault y z = cc
 
-pub one_step : (r : Result (Elements × Says) DirFault) (x y : Elements × Says) → r ≡ Ok x → r ≡ Ok y → y ≡ x
+pub one_step : (r : Result (Elements × Links) DirFault) (x y : Elements × Links) → r ≡ Ok x → r ≡ Ok y → y ≡ x
 one_step r x y a b = cc
 
-pub one_end : (r : Result (Elements × Says) DirFault) (fault other : DirFault)
+pub one_end : (r : Result (Elements × Links) DirFault) (fault other : DirFault)
     → r ≡ Err fault → r ≡ Err other → other ≡ fault
 one_end r fault other a b = cc
 
@@ -50,33 +50,33 @@ apart_joined (p ∷ ps) qs seen front back = (front.0, apart_joined ps qs (with 
 
 -- those of a tree and of what comes after it
 pub apart_tree : (p : ℕ) (node : Node) (below after : Trees) (seen : Seen) → node.at ≡ p
-    → AreApart seen (places (tree node below after)) → (seen p ≡ false) × AreApart (with p seen) (places below)
-    × AreApart (with_all (places below) (with p seen)) (places after)
+    → AreApart seen (offsets (tree node below after)) → (seen p ≡ false) × AreApart (with p seen) (offsets below)
+    × AreApart (with_all (offsets below) (with p seen)) (offsets after)
 apart_tree p node below after seen is h =
-    let moved : AreApart seen (p ∷ (places below ++ places after)) =
-    subst (λ (q : ℕ). AreApart seen (q ∷ (places below ++ places after))) is h in
-    let parts = apart_parts (places below) (places after) (with p seen) moved.1 in
+    let moved : AreApart seen (p ∷ (offsets below ++ offsets after)) =
+    subst (λ (q : ℕ). AreApart seen (q ∷ (offsets below ++ offsets after))) is h in
+    let parts = apart_parts (offsets below) (offsets after) (with p seen) moved.1 in
     (moved.0, parts.0, parts.1)
 
 pub tree_apart : (p : ℕ) (node : Node) (below after : Trees) (seen : Seen) → node.at ≡ p → seen p ≡ false
-    → AreApart (with p seen) (places below) → AreApart (with_all (places below) (with p seen)) (places after)
-    → AreApart seen (places (tree node below after))
+    → AreApart (with p seen) (offsets below) → AreApart (with_all (offsets below) (with p seen)) (offsets after)
+    → AreApart seen (offsets (tree node below after))
 tree_apart p node below after seen is unseen first second =
-    subst (λ (q : ℕ). AreApart seen (q ∷ (places below ++ places after))) (sym is)
-    (unseen, apart_joined (places below) (places after) (with p seen) first second)
+    subst (λ (q : ℕ). AreApart seen (q ∷ (offsets below ++ offsets after))) (sym is)
+    (unseen, apart_joined (offsets below) (offsets after) (with p seen) first second)
 
 -- ---- a step
 
 -- a record that has not been seen is one to go on from
-pub here_steps : (stands : ℕ → Option Elements) (p level : ℕ) (node : Node) (says : Says) (seen : Seen)
-    → Stands stands p level node says → seen p ≡ false → step_at stands p level seen ≡ Ok (node.set, says)
+pub here_steps : (stands : ℕ → Option Elements) (p level : ℕ) (node : Node) (links : Links) (seen : Seen)
+    → Stands stands p level node links → seen p ≡ false → step_at stands p level seen ≡ Ok (node.set, links)
 unfolding step_at
-here_steps stands p level node says seen h unseen =
+here_steps stands p level node links seen h unseen =
     let shallow : nat_le max_record_levels level ≡ false = lt-leb max_record_levels level h.room in
     ap (λ (b : Bool). found_at p level b (stands p)) unseen
     ∙ ap (λ (o : Option Elements). found_at p level false o) h.found
-    ∙ ap (λ (b : Bool). if b then Err (TooDeep p) else shape_at p node.set (says_of node.set)) shallow
-    ∙ ap (λ (o : Option Says). shape_at p node.set o) h.says_so
+    ∙ ap (λ (b : Bool). if b then Err (TooDeep p) else shape_at p node.set (links_in node.set)) shallow
+    ∙ ap (λ (o : Option Links). shape_at p node.set o) h.says_so
 
 -- the faults that a record may have
 abbrev pub IsOfRecord : DirFault → Type 0
@@ -89,19 +89,19 @@ IsOfRecord faults.LastRoot = ⊥
 IsOfRecord faults.Memory = ⊥
 IsOfRecord (faults.TooDeep at) = Unit {0}
 
-refused : (fault other : DirFault) → ◌≡◌ {A = Result (Elements × Says) DirFault} (Err other) (Err fault)
+refused : (fault other : DirFault) → ◌≡◌ {A = Result (Elements × Links) DirFault} (Err other) (Err fault)
     → IsOfRecord other → IsOfRecord fault
 refused fault other e h = subst IsOfRecord (one_end (Err fault) fault other refl (sym e)) h
 
-shape_fault : (p : ℕ) (set : Elements) (says : Option Says) (fault : DirFault)
-    → shape_at p set says ≡ Err fault → IsOfRecord fault
+shape_fault : (p : ℕ) (set : Elements) (links : Option Links) (fault : DirFault)
+    → shape_at p set links ≡ Err fault → IsOfRecord fault
 shape_fault p set None fault e = refused fault (RecordShape p) e tt
-shape_fault p set (Some says) fault e = absurd (goes_or_stops (Ok (set, says)) (set, says) fault refl e)
+shape_fault p set (Some links) fault e = absurd (goes_or_stops (Ok (set, links)) (set, links) fault refl e)
 
 deep_fault : (p : ℕ) (set : Elements) (deep : Bool) (fault : DirFault)
-    → (if deep then Err (TooDeep p) else shape_at p set (says_of set)) ≡ Err fault → IsOfRecord fault
+    → (if deep then Err (TooDeep p) else shape_at p set (links_in set)) ≡ Err fault → IsOfRecord fault
 deep_fault p set true fault e = refused fault (TooDeep p) e tt
-deep_fault p set false fault e = shape_fault p set (says_of set) fault e
+deep_fault p set false fault e = shape_fault p set (links_in set) fault e
 
 found_fault : (p level : ℕ) (seen : Bool) (found : Option Elements) (fault : DirFault)
     → found_at p level seen found ≡ Err fault → IsOfRecord fault
@@ -121,7 +121,7 @@ way_fault here stands p level seen fault h = step_fault stands p level seen faul
 way_fault (down way) stands p level seen fault h =
     way_fault way stands h.1.0.1.lower (level + 1) (with p seen) fault h.1.2
 way_fault (along below way) stands p level seen fault h =
-    way_fault way stands h.1.0.1.next level (with_all (places below) (with p seen)) fault h.1.4
+    way_fault way stands h.1.0.1.next level (with_all (offsets below) (with p seen)) fault h.1.4
 
 pub stop_fault : (stands : ℕ → Option Elements) (p level : ℕ) (seen : Seen) (fault : DirFault)
     → Stops stands p level seen fault → IsOfRecord fault
@@ -130,30 +130,30 @@ stop_fault stands p level seen fault h = way_fault h.way stands p level seen fau
 -- ---- one record, and one chain
 
 -- two records at an offset
-pub same_set : (stands : ℕ → Option Elements) (p level : ℕ) (n m : Node) (r s : Says)
+pub same_set : (stands : ℕ → Option Elements) (p level : ℕ) (n m : Node) (r s : Links)
     → Stands stands p level n r → Stands stands p level m s → m.set ≡ n.set
 same_set stands p level n m r s a b = one_value (stands p) n.set m.set a.found b.found
 
-pub same_says : (stands : ℕ → Option Elements) (p level : ℕ) (n m : Node) (r s : Says)
+pub same_links : (stands : ℕ → Option Elements) (p level : ℕ) (n m : Node) (r s : Links)
     → Stands stands p level n r → Stands stands p level m s → s ≡ r
-same_says stands p level n m r s a b =
+same_links stands p level n m r s a b =
     let set : m.set ≡ n.set = same_set stands p level n m r s a b in
-    one_value (says_of n.set) r s a.says_so (ap says_of (sym set) ∙ b.says_so)
+    one_value (links_in n.set) r s a.says_so (ap links_in (sym set) ∙ b.says_so)
 
-pub same_node : (stands : ℕ → Option Elements) (p level : ℕ) (n m : Node) (r s : Says)
+pub same_node : (stands : ℕ → Option Elements) (p level : ℕ) (n m : Node) (r s : Links)
     → Stands stands p level n r → Stands stands p level m s → m ≡ n
 same_node stands p level n m r s a b =
     b.is ∙ ap (λ (x : Elements). node_of p x s) (same_set stands p level n m r s a b)
-    ∙ ap (λ (y : Says). node_of p n.set y) (same_says stands p level n m r s a b) ∙ sym a.is
+    ∙ ap (λ (y : Links). node_of p n.set y) (same_links stands p level n m r s a b) ∙ sym a.is
 
-pub at_is : (stands : ℕ → Option Elements) (p level : ℕ) (n : Node) (r : Says)
+pub at_is : (stands : ℕ → Option Elements) (p level : ℕ) (n : Node) (r : Links)
     → Stands stands p level n r → n.at ≡ p
 at_is stands p level n r h = ap (λ (x : Node). x.at) h.is
 
 module _ (stands : ℕ → Option Elements) (empty : stands 0 ≡ None) where
   -- no record stands at the offset 0
-  pub not_zero : (p level : ℕ) (node : Node) (says : Says) → Stands stands p level node says → p ≢ 0
-  not_zero p level node says h zero = none_or_some (stands p) node.set (ap stands zero ∙ empty) h.found
+  pub not_zero : (p level : ℕ) (node : Node) (links : Links) → Stands stands p level node links → p ≢ 0
+  not_zero p level node links h zero = none_or_some (stands p) node.set (ap stands zero ∙ empty) h.found
 
   -- the trees from an offset are one
   pub chain_is_one : (f g : Trees) (p level : ℕ) → IsChain stands p level f → IsChain stands p level g → g ≡ f
@@ -161,17 +161,17 @@ module _ (stands : ℕ → Option Elements) (empty : stands 0 ≡ None) where
   chain_is_one no_trees (tree m under behind) p level a b = absurd (not_zero p level m b.0 b.1 a)
   chain_is_one (tree n below after) no_trees p level a b = absurd (not_zero p level n a.0 a.1 b)
   chain_is_one (tree n below after) (tree m under behind) p level a b =
-      let says : b.0 ≡ a.0 = same_says stands p level n m a.0 b.0 a.1 b.1 in
+      let links : b.0 ≡ a.0 = same_links stands p level n m a.0 b.0 a.1 b.1 in
       let node : m ≡ n = same_node stands p level n m a.0 b.0 a.1 b.1 in
       let lower : under ≡ below = chain_is_one below under a.0.lower (level + 1) a.2
-      (subst (λ (s : Says). IsChain stands s.lower (level + 1) under) says b.2) in
+      (subst (λ (s : Links). IsChain stands s.lower (level + 1) under) links b.2) in
       let next : behind ≡ after = chain_is_one after behind a.0.next level a.3
-      (subst (λ (s : Says). IsChain stands s.next level behind) says b.3) in
+      (subst (λ (s : Links). IsChain stands s.next level behind) links b.3) in
       cc
 
   -- trees whose offsets are apart and unseen, and a stop
   pub chain_goes : (f : Trees) (way : Way) (p level : ℕ) (seen : Seen) (fault : DirFault) → IsChain stands p level f
-      → AreApart seen (places f) → StopsBy stands way p level seen fault → ⊥
+      → AreApart seen (offsets f) → StopsBy stands way p level seen fault → ⊥
   chain_goes no_trees here p level seen fault c h stop = stop.0 c
   chain_goes no_trees (down way) p level seen fault c h stop = stop.0 c
   chain_goes no_trees (along below way) p level seen fault c h stop = stop.0 c
@@ -185,22 +185,22 @@ module _ (stands : ℕ → Option Elements) (empty : stands 0 ≡ None) where
       let is : stop.1.0 ≡ (n.set, c.0) =
       one_step (step_at stands p level seen) (n.set, c.0) stop.1.0 step stop.1.1 in
       chain_goes below way c.0.lower (level + 1) (with p seen) fault c.2 parts.1
-      (subst (λ (x : Elements × Says). StopsBy stands way x.1.lower (level + 1) (with p seen) fault) is stop.1.2)
+      (subst (λ (x : Elements × Links). StopsBy stands way x.1.lower (level + 1) (with p seen) fault) is stop.1.2)
   chain_goes (tree n below after) (along under way) p level seen fault c h stop =
       let parts = apart_tree p n below after seen (at_is stands p level n c.0 c.1) h in
       let step = here_steps stands p level n c.0 seen c.1 parts.0 in
       let is : stop.1.0 ≡ (n.set, c.0) =
       one_step (step_at stands p level seen) (n.set, c.0) stop.1.0 step stop.1.1 in
       let lower : under ≡ below = chain_is_one below under c.0.lower (level + 1) c.2
-      (subst (λ (x : Elements × Says). IsChain stands x.1.lower (level + 1) under) is stop.1.2) in
-      let moved : StopsBy stands way c.0.next level (with_all (places under) (with p seen)) fault =
-      subst (λ (x : Elements × Says). StopsBy stands way x.1.next level (with_all (places under) (with p seen)) fault)
+      (subst (λ (x : Elements × Links). IsChain stands x.1.lower (level + 1) under) is stop.1.2) in
+      let moved : StopsBy stands way c.0.next level (with_all (offsets under) (with p seen)) fault =
+      subst (λ (x : Elements × Links). StopsBy stands way x.1.next level (with_all (offsets under) (with p seen)) fault)
       is stop.1.4 in
-      chain_goes after way c.0.next level (with_all (places below) (with p seen)) fault c.3 parts.2
-      (subst (λ (t : Trees). StopsBy stands way c.0.next level (with_all (places t) (with p seen)) fault) lower moved)
+      chain_goes after way c.0.next level (with_all (offsets below) (with p seen)) fault c.3 parts.2
+      (subst (λ (t : Trees). StopsBy stands way c.0.next level (with_all (offsets t) (with p seen)) fault) lower moved)
 
   pub chain_or_stop : (f : Trees) (p level : ℕ) (seen : Seen) (fault : DirFault) → IsChain stands p level f
-      → AreApart seen (places f) → Stops stands p level seen fault → ⊥
+      → AreApart seen (offsets f) → Stops stands p level seen fault → ⊥
   chain_or_stop f p level seen fault c h stop = chain_goes f stop.way p level seen fault c h stop.stops
 
   -- ---- one stop
@@ -211,7 +211,7 @@ module _ (stands : ℕ → Option Elements) (empty : stands 0 ≡ None) where
   down_or_along below v w p level seen fault other a b =
       let is : a.1.0 ≡ b.1.0 = one_step (step_at stands p level seen) b.1.0 a.1.0 b.1.1 a.1.1 in
       chain_goes below v b.1.0.1.lower (level + 1) (with p seen) fault b.1.2 b.1.3
-      (subst (λ (x : Elements × Says). StopsBy stands v x.1.lower (level + 1) (with p seen) fault) is a.1.2)
+      (subst (λ (x : Elements × Links). StopsBy stands v x.1.lower (level + 1) (with p seen) fault) is a.1.2)
 
   pub one_way : (v w : Way) (p level : ℕ) (seen : Seen) (fault other : DirFault)
       → StopsBy stands v p level seen fault → StopsBy stands w p level seen other → other ≡ fault
@@ -225,7 +225,7 @@ module _ (stands : ℕ → Option Elements) (empty : stands 0 ≡ None) where
   one_way (down v) (down w) p level seen fault other a b =
       let is : b.1.0 ≡ a.1.0 = one_step (step_at stands p level seen) a.1.0 b.1.0 a.1.1 b.1.1 in
       one_way v w a.1.0.1.lower (level + 1) (with p seen) fault other a.1.2
-      (subst (λ (x : Elements × Says). StopsBy stands w x.1.lower (level + 1) (with p seen) other) is b.1.2)
+      (subst (λ (x : Elements × Links). StopsBy stands w x.1.lower (level + 1) (with p seen) other) is b.1.2)
   one_way (down v) (along under w) p level seen fault other a b =
       absurd (down_or_along under v w p level seen fault other a b)
   one_way (along below v) here p level seen fault other a b =
@@ -235,12 +235,13 @@ module _ (stands : ℕ → Option Elements) (empty : stands 0 ≡ None) where
   one_way (along below v) (along under w) p level seen fault other a b =
       let is : b.1.0 ≡ a.1.0 = one_step (step_at stands p level seen) a.1.0 b.1.0 a.1.1 b.1.1 in
       let lower : under ≡ below = chain_is_one below under a.1.0.1.lower (level + 1) a.1.2
-      (subst (λ (x : Elements × Says). IsChain stands x.1.lower (level + 1) under) is b.1.2) in
-      let moved : StopsBy stands w a.1.0.1.next level (with_all (places under) (with p seen)) other =
-      subst (λ (x : Elements × Says). StopsBy stands w x.1.next level (with_all (places under) (with p seen)) other)
+      (subst (λ (x : Elements × Links). IsChain stands x.1.lower (level + 1) under) is b.1.2) in
+      let moved : StopsBy stands w a.1.0.1.next level (with_all (offsets under) (with p seen)) other =
+      subst (λ (x : Elements × Links). StopsBy stands w x.1.next level (with_all (offsets under) (with p seen)) other)
       is b.1.4 in
-      one_way v w a.1.0.1.next level (with_all (places below) (with p seen)) fault other a.1.4
-      (subst (λ (t : Trees). StopsBy stands w a.1.0.1.next level (with_all (places t) (with p seen)) other) lower moved)
+      one_way v w a.1.0.1.next level (with_all (offsets below) (with p seen)) fault other a.1.4
+      (subst (λ (t : Trees). StopsBy stands w a.1.0.1.next level (with_all (offsets t) (with p seen)) other) lower
+      moved)
 
   pub one_stop : (p level : ℕ) (seen : Seen) (fault other : DirFault)
       → Stops stands p level seen fault → Stops stands p level seen other → other ≡ fault

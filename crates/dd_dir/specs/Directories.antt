@@ -37,11 +37,12 @@ pub record OffsetsWithin (bytes : ℕ) (label : Label) (versions : List Parts) :
 
 -- the elements of a record, with the keys of the version that it is of
 abbrev pub entries_by : PlanRecord → Option Parts → List Entry
-entries_by row None = []
-entries_by row (Some version) = record_entries row.level row.next row.lower row.file version
+entries_by planned None = []
+entries_by planned (Some version) =
+    record_entries planned.level planned.next planned.lower planned.file version
 
 abbrev pub entries_of : List Parts → PlanRecord → List Entry
-entries_of versions row = entries_by row (slice_get versions row.of)
+entries_of versions planned = entries_by planned (slice_get versions planned.of)
 
 -- the elements of the directory of these versions, which are in harmony, and of these withdrawn UIDs
 abbrev pub directory_set : Label → List Parts → List (List ℕ) → Elements

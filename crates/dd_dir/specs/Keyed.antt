@@ -12,11 +12,11 @@ use Rattle.dd_dir.specs.WellFormed.{IsWellFormed}
 
 -- the version that a record is of is well formed
 abbrev pub IsKeyedBy : PlanRecord → Option Parts → Type 0
-IsKeyedBy row None = ⊥
-IsKeyedBy row (Some version) = IsWellFormed version
+IsKeyedBy planned None = ⊥
+IsKeyedBy planned (Some version) = IsWellFormed version
 
 abbrev pub IsKeyed : List Parts → PlanRecord → Type 0
-IsKeyed versions row = IsKeyedBy row (slice_get versions row.of)
+IsKeyed versions planned = IsKeyedBy planned (slice_get versions planned.of)
 
 -- what is known of a directory that was sent whole
 pub record IsSent (label : Label) (versions : List Parts) (withdrawn : List (List ℕ)) : Type 0 where

@@ -1,7 +1,7 @@
 -- Which images a directory that this crate wrote lists (PS3.3 sections F.3 to F.5): the IMAGE records, each with the
 -- records above it; or the first check that a record fails, depth first.
 use Rattle.std.specs.Prelude.{◌≡◌, ◌≢◌, ◌⊎◌, ℕ, Bool, true, false, not, ◌&&◌, ◌==◌, nat_le, List, [], ◌∷◌, ◌++◌}
-use Rattle.std.specs.Prelude.{length, find, Option, Some, None, is_some, option_and_then, option_map, Result, Ok, Err}
+use Rattle.std.specs.Prelude.{length, find, Option, Some, None, is_some, option_map, Result, Ok, Err}
 use Rattle.std.specs.Prelude.{if◌then◌else◌}
 use Rattle.std.specs.Str.{bytes_eq}
 use Rattle.dd_elem.specs.FileIdForm.{is_file_id_form}
@@ -15,14 +15,13 @@ use Rattle.dd_layout.specs.declared.field.Field.TheVariants as fields
 use Rattle.dd_layout.specs.declared.level.Level.{Level}
 use Rattle.dd_layout.specs.declared.level.Level.TheVariants.{Patient, Study, Series, Image}
 use Rattle.dd_layout.specs.declared.table.Row.{Row}
-use Rattle.dd_layout.specs.Entries.{tag}
 use Rattle.dd_layout.specs.Records.{kind_of}
 use Rattle.dd_layout.specs.Tables.{table_of}
 use Rattle.dd_version.specs.Syntaxes.{is_known_syntax}
 use Rattle.dd_encoding.specs.Elements.{Elements}
 use Rattle.dd_dir.specs.declared.own_fault.OwnFault.{OwnFault}
 use Rattle.dd_dir.specs.declared.own_fault.OwnFault.TheVariants.{NoDigest, ForeignRecord, RecordKey}
-use Rattle.dd_dir.specs.Saying.{is_creator, value_of}
+use Rattle.dd_dir.specs.Saying.{digest_in}
 use Rattle.dd_dir.specs.Trees.{Node, Trees, no_trees, tree, Walk}
 
 -- ---- where a record stands
@@ -50,18 +49,6 @@ below (in_patient patient) set = in_study patient set
 below (in_study patient study) set = in_series patient study set
 below (in_series patient study series) set = in_image
 below in_image set = in_image
-
--- ---- its digest
-
--- a value of 32 bytes
-abbrev pub sized : List ℕ → Option (List ℕ)
-sized v = if length v == 32 then Some v else None
-
--- the digest of the file of a record, in the block of private elements of that creator (PS3.5 section 7.8.1)
-abbrev pub digest_in : Elements → Option (List ℕ)
-digest_in set =
-    if is_creator (value_at (tag 0x0009 0x0010) set) then option_and_then sized (value_of (tag 0x0009 0x1001) set)
-    else None
 
 -- ---- its keys
 

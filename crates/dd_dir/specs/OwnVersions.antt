@@ -7,11 +7,11 @@ use Rattle.dd_version.specs.declared.parts.Parts.{Parts}
 use Rattle.dd_layout.specs.Entries.{tag}
 use Rattle.dd_encoding.specs.Elements.{Elements}
 use Rattle.dd_dir.specs.declared.own.Own.{Own}
-use Rattle.dd_dir.specs.declared.own.Place.{Place}
+use Rattle.dd_dir.specs.declared.own.Place.{Place as PlaceValue}
 use Rattle.dd_dir.specs.declared.own_fault.OwnFault.{OwnFault}
 use Rattle.dd_dir.specs.declared.own_fault.OwnFault.TheVariants.{BadWithdrawal, Memory}
-use Rattle.dd_dir.specs.Own.{Listed, ListsFirst, digest_in, own, root}
-use Rattle.dd_dir.specs.Saying.{key_of}
+use Rattle.dd_dir.specs.Own.{Listed, ListsFirst, own, root}
+use Rattle.dd_dir.specs.Saying.{digest_in, key_of}
 use Rattle.dd_dir.specs.Trees.{Walk}
 use Rattle.dd_dir.specs.Withdrawn.{AreRisingUids, withdrawn_of}
 
@@ -61,19 +61,19 @@ version_of image = record {
 -- ---- places
 
 -- where the file of an image is: its SOP Instance UID, its digest, and its File ID
-pub record Located : Type 0 where
+pub record Place : Type 0 where
   pub uid : List ℕ
   pub digest : List ℕ
   pub file : List ℕ
 
-abbrev pub place_of : Listed → Located
+abbrev pub place_of : Listed → Place
 place_of image = record {
   uid = key_of (tag 0x0004 0x1511) image.own;
   digest = digest_of image.own;
   file = key_of (tag 0x0004 0x1500) image.own;
 }
 
-abbrev pub place_view : Place → Located
+abbrev pub place_view : PlaceValue → Place
 place_view place = record { uid = place.uid; digest = place.digest; file = place.file.now }
 
 -- ---- answers

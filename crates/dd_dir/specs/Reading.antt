@@ -13,7 +13,7 @@ use Rattle.dd_layout.specs.Entries.{tag}
 use Rattle.dd_dir.specs.declared.fault.DirFault.{DirFault}
 use Rattle.dd_dir.specs.declared.fault.DirFault.TheVariants as faults
 use Rattle.dd_dir.specs.Saying.{records_in, first_in, last_in, beside_in}
-use Rattle.dd_dir.specs.Trees.{Beside, Trees, Walk, places, last_root_or}
+use Rattle.dd_dir.specs.Trees.{Beside, Trees, Walk, offsets, last_offset_or}
 use Rattle.dd_dir.specs.Walks.{IsChain, AreApart, nothing, with_all, Stops}
 
 -- ---- what a file says
@@ -68,7 +68,7 @@ pub record IsDirectoryFile (file : List ℕ) (contents : Contents) : Type 0 wher
   pub is_file : IsFile file meta set at
   pub says : contents_of file meta set at ≡ Some contents
 
--- how many of these places are not among those seen
+-- how many of these offsets are not among those seen
 abbrev pub count_unseen : (ℕ → Bool) → List ℕ → ℕ
 count_unseen seen [] = 0
 count_unseen seen (p ∷ ps) = if seen p then count_unseen seen ps else 1 + count_unseen seen ps
@@ -76,14 +76,14 @@ count_unseen seen (p ∷ ps) = if seen p then count_unseen seen ps else 1 + coun
 -- the trees are a chain from the first root, at the top level, and no offset is in them twice
 pub record AreTrees (contents : Contents) (trees : Trees) : Type 0 where
   pub chain : IsChain (stands_of contents) contents.first 0 trees
-  pub apart : AreApart nothing (places trees)
+  pub apart : AreApart nothing (offsets trees)
 
 -- such trees, which end at the last root that the directory names
 pub record IsWalkOf (contents : Contents) (walk : Walk) : Type 0 where
   pub trees : AreTrees contents walk.trees
-  pub ends : last_root_or 0 walk.trees ≡ contents.last
+  pub ends : last_offset_or 0 walk.trees ≡ contents.last
   pub beside : walk.beside ≡ contents.beside
-  pub unreached : walk.unreached ≡ count_unseen (with_all (places walk.trees) nothing) contents.starts
+  pub unreached : walk.unreached ≡ count_unseen (with_all (offsets walk.trees) nothing) contents.starts
 
 pub record IsWalk (file : List ℕ) (walk : Walk) : Type 0 where
   pub contents : Contents
@@ -108,7 +108,7 @@ BreaksOff contents fault = Stops (stands_of contents) contents.first 0 nothing f
 pub record EndElsewhere (contents : Contents) : Type 0 where
   pub trees : Trees
   pub are_trees : AreTrees contents trees
-  pub elsewhere : last_root_or 0 trees ≢ contents.last
+  pub elsewhere : last_offset_or 0 trees ≢ contents.last
 
 -- why a directory that says this has no walk
 abbrev pub RefusesOf : Contents → DirFault → Type 0

@@ -46,27 +46,38 @@ text_of v = if length (clean_of v) == 0 then None else Some (clean_of v)
 
 -- ---- a record
 
--- the offsets of the next record of its level and of the first one below it, whether it is in use, and its type
-pub record Says : Type 0 where
+-- what each record begins with: the offsets of the next record of its level and of the first one below it, whether it
+-- is in use, and its type
+pub record Links : Type 0 where
   pub next : ℕ
   pub lower : ℕ
   pub in_use : Bool
   pub kind : List ℕ
 
-abbrev pub says_by : Option ℕ → Option Bool → Option ℕ → Option (List ℕ) → Option Says
-says_by None flag lower kind = None
-says_by (Some next) None lower kind = None
-says_by (Some next) (Some in_use) None kind = None
-says_by (Some next) (Some in_use) (Some lower) None = None
-says_by (Some next) (Some in_use) (Some lower) (Some kind) =
+abbrev pub links_by : Option ℕ → Option Bool → Option ℕ → Option (List ℕ) → Option Links
+links_by None flag lower kind = None
+links_by (Some next) None lower kind = None
+links_by (Some next) (Some in_use) None kind = None
+links_by (Some next) (Some in_use) (Some lower) None = None
+links_by (Some next) (Some in_use) (Some lower) (Some kind) =
     Some (record { next = next; lower = lower; in_use = in_use; kind = kind })
 
--- what the elements of a record say, where all four are there and have their form
-unfoldable pub says_of : Elements → Option Says
-says_of set = says_by (option_and_then number_of (value_of (tag 0x0004 0x1400) set))
+-- the links that the elements of a record say, where all four are there and have their form
+unfoldable pub links_in : Elements → Option Links
+links_in set = links_by (option_and_then number_of (value_of (tag 0x0004 0x1400) set))
     (option_and_then flag_of (value_of (tag 0x0004 0x1410) set))
     (option_and_then number_of (value_of (tag 0x0004 0x1420) set))
     (option_and_then text_of (value_of (tag 0x0004 0x1430) set))
+
+-- a value of 32 bytes
+abbrev pub sized : List ℕ → Option (List ℕ)
+sized v = if length v == 32 then Some v else None
+
+-- the digest of the file of an image, in the block of private elements of that creator (PS3.5 section 7.8.1)
+abbrev pub digest_in : Elements → Option (List ℕ)
+digest_in set =
+    if is_creator (value_at (tag 0x0009 0x0010) set) then option_and_then sized (value_of (tag 0x0009 0x1001) set)
+    else None
 
 -- ---- a directory
 

@@ -9,7 +9,7 @@ use Rattle.dd_layout.specs.Paths.{Path}
 use Rattle.dd_layout.specs.Plans.{file_of, path_of, tree}
 use Rattle.dd_layout.specs.Records.{file_text}
 use Rattle.dd_dir.specs.Own.{Listed, own}
-use Rattle.dd_dir.specs.OwnVersions.{Located, place_of, version_of}
+use Rattle.dd_dir.specs.OwnVersions.{Place, place_of, version_of}
 use Rattle.dd_dir.specs.Reading.{IsWalk}
 use Rattle.dd_dir.specs.Trees.{Walk}
 use Rattle.dd_dir.specs.Withdrawn.{AreRisingUids, withdrawn_of}
@@ -20,7 +20,7 @@ is_of_image (patient ∷ study ∷ series ∷ image ∷ []) = true
 is_of_image path = false
 
 -- where the file of one of these versions is: its instance, its digest, and the File ID that it has among them
-abbrev pub place_in : List Parts → Parts → Located
+abbrev pub place_in : List Parts → Parts → Place
 place_in versions v =
     record { uid = v.instance; digest = v.digest; file = file_text (file_of (tree versions) (path_of v)) }
 

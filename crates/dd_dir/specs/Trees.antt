@@ -15,14 +15,14 @@ pub data Trees : Type 0 where
   tree : Node → Trees → Trees → Trees
 
 -- the offsets of all records, depth first
-abbrev pub places : Trees → List ℕ
-places no_trees = []
-places (tree node below after) = node.at ∷ (places below ++ places after)
+abbrev pub offsets : Trees → List ℕ
+offsets no_trees = []
+offsets (tree node below after) = node.at ∷ (offsets below ++ offsets after)
 
--- the offset of the last root, and `before` where there is none
-abbrev pub last_root_or : ℕ → Trees → ℕ
-last_root_or before no_trees = before
-last_root_or before (tree node below after) = last_root_or node.at after
+-- the offset of the last of these trees, and `before` where there is none
+abbrev pub last_offset_or : ℕ → Trees → ℕ
+last_offset_or before no_trees = before
+last_offset_or before (tree node below after) = last_offset_or node.at after
 
 -- what a directory says beside its records: its UID, its File-set ID, and the value that names its withdrawn UIDs,
 -- where it has one

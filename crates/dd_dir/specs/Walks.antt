@@ -5,8 +5,8 @@ use Rattle.std.specs.Prelude.{Result, Ok, Err, nat_le, if◌then◌else◌}
 use Rattle.dd_encoding.specs.Elements.{Elements}
 use Rattle.dd_dir.specs.declared.fault.DirFault.{DirFault}
 use Rattle.dd_dir.specs.declared.fault.DirFault.TheVariants.{RecordShape, Dangling, Twice, TooDeep}
-use Rattle.dd_dir.specs.Saying.{Says, says_of}
-use Rattle.dd_dir.specs.Trees.{Node, Trees, no_trees, tree, places}
+use Rattle.dd_dir.specs.Saying.{Links, links_in}
+use Rattle.dd_dir.specs.Trees.{Node, Trees, no_trees, tree, offsets}
 
 -- the most levels of records
 abbrev pub max_record_levels : ℕ
@@ -15,22 +15,22 @@ max_record_levels = 32
 -- ---- trees
 
 -- the record of these elements at this offset
-abbrev pub node_of : ℕ → Elements → Says → Node
-node_of p set says = record { at = p; kind = says.kind; in_use = says.in_use; set = set }
+abbrev pub node_of : ℕ → Elements → Links → Node
+node_of p set links = record { at = p; kind = links.kind; in_use = links.in_use; set = set }
 
 -- at this offset stands this record, at a level that records may have, and its elements say this
-pub record Stands (stands : ℕ → Option Elements) (p level : ℕ) (node : Node) (says : Says) : Type 0 where
+pub record Stands (stands : ℕ → Option Elements) (p level : ℕ) (node : Node) (links : Links) : Type 0 where
   pub found : stands p ≡ Some node.set
   pub room : level < max_record_levels
-  pub says_so : says_of node.set ≡ Some says
-  pub is : node ≡ node_of p node.set says
+  pub says_so : links_in node.set ≡ Some links
+  pub is : node ≡ node_of p node.set links
 
 -- The trees are a chain from this offset at this level: none at the offset 0, else the record there, before a chain
 -- from its lower offset a level below and a chain from its next offset.
 abbrev pub IsChain : (ℕ → Option Elements) → ℕ → ℕ → Trees → Type 0
 IsChain stands p level no_trees = p ≡ 0
-IsChain stands p level (tree node below after) = (says : Says) × Stands stands p level node says
-    × IsChain stands says.lower (level + 1) below × IsChain stands says.next level after
+IsChain stands p level (tree node below after) = (links : Links) × Stands stands p level node links
+    × IsChain stands links.lower (level + 1) below × IsChain stands links.next level after
 
 -- ---- offsets seen
 
@@ -57,17 +57,17 @@ AreApart seen (p ∷ ps) = (seen p ≡ false) × AreApart (with p seen) ps
 
 -- a record that stands at this offset, and what it says; or why the way does not go on: no item starts there, it was
 -- reached before, it is too deep, or its elements lack one of the four values
-abbrev pub shape_at : ℕ → Elements → Option Says → Result (Elements × Says) DirFault
+abbrev pub shape_at : ℕ → Elements → Option Links → Result (Elements × Links) DirFault
 shape_at p set None = Err (RecordShape p)
-shape_at p set (Some says) = Ok (set, says)
+shape_at p set (Some links) = Ok (set, links)
 
-abbrev pub found_at : ℕ → ℕ → Bool → Option Elements → Result (Elements × Says) DirFault
+abbrev pub found_at : ℕ → ℕ → Bool → Option Elements → Result (Elements × Links) DirFault
 found_at p level seen None = Err (Dangling p)
 found_at p level true (Some set) = Err (Twice p)
 found_at p level false (Some set) =
-    if nat_le max_record_levels level then Err (TooDeep p) else shape_at p set (says_of set)
+    if nat_le max_record_levels level then Err (TooDeep p) else shape_at p set (links_in set)
 
-unfoldable pub step_at : (ℕ → Option Elements) → ℕ → ℕ → Seen → Result (Elements × Says) DirFault
+unfoldable pub step_at : (ℕ → Option Elements) → ℕ → ℕ → Seen → Result (Elements × Links) DirFault
 step_at stands p level seen = found_at p level (seen p) (stands p)
 
 -- where the way breaks off: at this record, below it, or behind it and the trees below it
@@ -79,12 +79,12 @@ pub data Way : Type 0 where
 -- from this offset at this level, these offsets having been seen, the way breaks off there by this fault
 abbrev pub StopsBy : (ℕ → Option Elements) → Way → ℕ → ℕ → Seen → DirFault → Type 0
 StopsBy stands here p level seen fault = (p ≢ 0) × (step_at stands p level seen ≡ Err fault)
-StopsBy stands (down way) p level seen fault = (p ≢ 0) × ((x : Elements × Says) × (step_at stands p level seen ≡ Ok x)
+StopsBy stands (down way) p level seen fault = (p ≢ 0) × ((x : Elements × Links) × (step_at stands p level seen ≡ Ok x)
     × StopsBy stands way x.1.lower (level + 1) (with p seen) fault)
 StopsBy stands (along below way) p level seen fault =
-    (p ≢ 0) × ((x : Elements × Says) × (step_at stands p level seen ≡ Ok x)
-    × IsChain stands x.1.lower (level + 1) below × AreApart (with p seen) (places below)
-    × StopsBy stands way x.1.next level (with_all (places below) (with p seen)) fault)
+    (p ≢ 0) × ((x : Elements × Links) × (step_at stands p level seen ≡ Ok x)
+    × IsChain stands x.1.lower (level + 1) below × AreApart (with p seen) (offsets below)
+    × StopsBy stands way x.1.next level (with_all (offsets below) (with p seen)) fault)
 
 pub record Stops (stands : ℕ → Option Elements) (p level : ℕ) (seen : Seen) (fault : DirFault) : Type 0 where
   pub way : Way

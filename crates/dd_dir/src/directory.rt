@@ -22,10 +22,10 @@ use dd_part10::Meta;
 use dd_set::{DataSet, Item, Syntax};
 use std::alloc::Global;
 
-/// What a directory says: its UID, its File-set ID, the value that names its withdrawn UIDs, the places of the
+/// What a directory says: its UID, its File-set ID, the value that names its withdrawn UIDs, the offsets of the
 /// first and of the last root record, and where the items start that may be records.
 #[derive(Debug, Drop)]
-pub(crate) struct Directory<'a> {
+pub(crate) struct Contents<'a> {
     pub(crate) uid: Uid,
     pub(crate) id: &'a [u8],
     pub(crate) withdrawn: Option<&'a [u8]>,
@@ -49,7 +49,7 @@ pub(crate) fn directory_of<'a>(
     uid: Uid,
     set: DataSet<'a>,
     at: u64,
-) -> Result<Directory<'a>, DirFault>
+) -> Result<Contents<'a>, DirFault>
     requires spelled { Spells Explicit (set_view set) (elements_text (set_view set)) }
     requires fits { at + length (elements_text (set_view set)) < 2 ^ 64 }
     ensures { (front : List ℕ) → length front ≡ at
@@ -70,7 +70,7 @@ pub(crate) fn directory_of<'a>(
     let Some(items) = items_of(set, RECORDS) else {
         return Err(DirFault::NotDirectory);
     };
-    Ok(Directory {
+    Ok(Contents {
         uid,
         id,
         withdrawn,
@@ -99,7 +99,7 @@ fn withdrawn_of<'a>(set: &DataSet<'a>) -> Option<&'a [u8]>
     clean_at(set, WITHDRAWN)
 }
 
-/// Moves these places by a number of bytes.
+/// Adds a number of bytes to each of these offsets.
 fn shift(starts: &mut [u64], by: u64)
     requires { EachIndex starts.old (λ k. slice_index starts.old k + by < 2 ^ 64) }
     ensures { starts.new ≡ map (λ start. start + by) starts.old }

@@ -1,4 +1,9 @@
 //! Directories of file-sets, written and read (PS3.3 annex F, PS3.10 section 8).
+//!
+//! Its one promise: the bytes that are written for a catalogue are one directory, whose offsets realise the tree
+//! of its versions, and which says each version and each withdrawn UID again; and a directory of any producer is
+//! read as the one walk that its offsets give, or refused by the first check that fails. Only where a growth is
+//! refused is the answer want of memory instead.
 #![tactic(auto)]
 
 mod cells;
@@ -8,6 +13,7 @@ mod directory;
 mod fault;
 mod forest;
 mod laws;
+mod links;
 mod listing;
 mod message;
 mod own;
@@ -19,7 +25,6 @@ mod reading;
 mod record_keys;
 mod records;
 mod roots;
-mod said;
 mod slots;
 mod values;
 mod walk;
@@ -37,9 +42,9 @@ pub use laws::{
     same_versions_same_directory,
 };
 pub use own::{Own, Place, catalogue_of, own_of, places_of};
-pub use own_checks::digest_in;
 pub use own_fault::OwnFault;
 pub use publishing::{assemble, publish};
 pub use reading::read_directory;
+pub use values::digest_in;
 pub use walk_laws::{walk_is_one, walk_or_refusal};
 pub use writing::write_directory;

@@ -3,16 +3,15 @@
 ghost use Rattle.std.specs.Prelude.{◌≡◌, option_map};
 ghost use Rattle.dd_set.specs.Views.{set_view};
 ghost use Rattle.dd_dir.specs.ForestViews.{tree_view};
-ghost use Rattle.dd_dir.specs.Own.{digest_in, fault_at, is_bad, is_key, is_own, is_sound, key_fault};
-ghost use Rattle.dd_dir.specs.Own.{lacks_digest, suits};
+ghost use Rattle.dd_dir.specs.Own.{fault_at, is_bad, is_key, is_own, is_sound, key_fault, lacks_digest, suits};
 
 use crate::forest::Tree;
 use crate::own_fault::OwnFault;
+use crate::values::digest_in;
 use dd_elem::{Key, Uid, is_file_id};
 use dd_keys::value_at;
-use dd_layout::table::{CREATOR, DIGEST};
-use dd_layout::{Field, Level, PRIVATE_CREATOR, Row, rows};
-use dd_set::{DataSet, Value};
+use dd_layout::{Field, Level, Row, rows};
+use dd_set::DataSet;
 use dd_version::{is_image_class, is_known_syntax};
 
 /// The first check that a record of this level fails: below an image there is none.
@@ -45,20 +44,6 @@ fn lacks_digest(level: Level, set: &DataSet<'_>) -> bool
     match level {
         Level::Image => digest_in(set).is_none(),
         Level::Patient | Level::Study | Level::Series => false,
-    }
-}
-
-/// The SHA-256 of the file of an IMAGE record: None where it does not stand in the block of private
-/// elements of its creator (PS3.5 section 7.8.1), is a sequence, or has not 32 bytes.
-pub fn digest_in(set: &DataSet<'_>) -> Option<[u8; 32]>
-    ensures { result ≡ digest_in (set_view set.now) }
-{
-    if value_at(set, CREATOR.tag)? != PRIVATE_CREATOR {
-        return None;
-    }
-    match set.find(DIGEST.tag)?.value {
-        Value::Bytes(digest) => <[u8; 32]>::try_from(digest).ok(),
-        Value::Items { .. } | Value::Fragments(_) => None,
     }
 }
 

@@ -8,13 +8,13 @@ ghost use Rattle.dd_elem.specs.Key.{IsKey};
 ghost use Rattle.dd_elem.specs.Uid.{is_uid};
 ghost use Rattle.dd_layout.specs.declared.level.Level.TheVariants.{Patient, Study, Series};
 ghost use Rattle.dd_set.specs.Views.{set_view};
-ghost use Rattle.dd_dir.specs.Own.{digest_in};
 ghost use Rattle.dd_dir.specs.OwnVersions.{digest_of, patient_in, series_in, study_in, version_of};
 ghost use Rattle.dd_dir.specs.OwnViews.{IsListed, Passes, listed_view};
+ghost use Rattle.dd_dir.specs.Saying.{digest_in};
 
 use crate::listing::Listed;
-use crate::own_checks::digest_in;
 use crate::record_keys::{PatientRecord, SeriesRecord, StudyRecord, held};
+use crate::values::digest_in;
 use dd_elem::{Key, KeyRefused, Memory, Uid};
 use dd_layout::table::{CLASS, INSTANCE, NUMBER, TRANSFER};
 use dd_set::DataSet;

@@ -7,16 +7,16 @@ ghost use Rattle.dd_set.specs.declared.fault.SetFault.TheVariants as set_faults;
 ghost use Rattle.dd_dir.specs.declared.fault.DirFault.{DirFault};
 ghost use Rattle.dd_dir.specs.declared.fault.DirFault.TheVariants.{File, Memory};
 ghost use Rattle.dd_dir.specs.ForestViews.{walk_view};
-ghost use Rattle.dd_dir.specs.ReadAnswers.{SaysMemory, directory_view};
-ghost use Rattle.dd_dir.specs.Reading.{Contents, IsDirectoryFile, IsWalk, IsWalkOf, Refuses, RefusesOf};
+ghost use Rattle.dd_dir.specs.ReadAnswers.{HasRecords, SaysMemory, contents_view};
+ghost use Rattle.dd_dir.specs.Reading.{IsWalk, IsWalkOf, Refuses, RefusesOf};
 ghost use Rattle.dd_dir.specs.Slots.{Rises};
 ghost use Rattle.dd_dir.specs.Trees.{Walk};
 
-use crate::directory::{Directory, directory_of, is_directory_meta};
+use crate::directory::{Contents, directory_of, is_directory_meta};
 use crate::fault::DirFault;
 use crate::forest::Forest;
 use crate::slots::{count_left, slots_of};
-use crate::walk::{chain, last_root};
+use crate::walk::{chain, last_offset};
 use dd_part10::parse_file;
 use std::alloc::Global;
 
@@ -40,8 +40,7 @@ pub fn read_directory<'a>(alloc: Global, bytes: &'a [u8]) -> Result<Forest<'a>, 
     // directory that has some.
     ensures group { result ≡ Err (File (file_faults.Meta set_faults.Memory)) → GroupWants bytes.now }
     ensures set { result ≡ Err (File (file_faults.Set set_faults.Memory)) → SetWants bytes.now }
-    ensures records { result ≡ Err Memory
-        → (contents : Contents) × IsDirectoryFile bytes.now contents × (0 < length contents.starts) }
+    ensures records { result ≡ Err Memory → HasRecords bytes.now }
 {
     read_forest(alloc, bytes)
 }
@@ -52,8 +51,7 @@ fn read_forest<'a>(alloc: Global, bytes: &'a [u8]) -> Result<Forest<'a>, DirFaul
     ensures refused { IfErr result (λ fault. SaysMemory fault ⊎ Refuses bytes.now fault) }
     ensures group { result ≡ Err (File (file_faults.Meta set_faults.Memory)) → GroupWants bytes.now }
     ensures set { result ≡ Err (File (file_faults.Set set_faults.Memory)) → SetWants bytes.now }
-    ensures records { result ≡ Err Memory
-        → (contents : Contents) × IsDirectoryFile bytes.now contents × (0 < length contents.starts) }
+    ensures records { result ≡ Err Memory → HasRecords bytes.now }
 {
     let file = parse_file(alloc, bytes).map_err(DirFault::File)?;
     if !is_directory_meta(&file.meta) {
@@ -64,14 +62,14 @@ fn read_forest<'a>(alloc: Global, bytes: &'a [u8]) -> Result<Forest<'a>, DirFaul
 }
 
 /// The trees of these records.
-fn walked<'a>(alloc: Global, directory: Directory<'a>) -> Result<Forest<'a>, DirFault>
+fn walked<'a>(alloc: Global, directory: Contents<'a>) -> Result<Forest<'a>, DirFault>
     requires rise { Rises 0 directory.starts.items }
     requires each { length directory.starts.items ≡ length directory.items.items }
-    ensures walk { IfOk result (λ forest. IsWalkOf (directory_view directory.entry) (walk_view forest)) }
-    ensures refused { IfErr result (λ fault. (fault ≡ Memory) ⊎ RefusesOf (directory_view directory.entry) fault) }
+    ensures walk { IfOk result (λ forest. IsWalkOf (contents_view directory.entry) (walk_view forest)) }
+    ensures refused { IfErr result (λ fault. (fault ≡ Memory) ⊎ RefusesOf (contents_view directory.entry) fault) }
     ensures memory { result ≡ Err Memory → 0 < length directory.entry.starts.items }
 {
-    let Directory {
+    let Contents {
         uid,
         id,
         withdrawn,
@@ -82,7 +80,7 @@ fn walked<'a>(alloc: Global, directory: Directory<'a>) -> Result<Forest<'a>, Dir
     } = directory;
     let mut slots = slots_of(alloc, items)?;
     let trees = chain(alloc, &starts, &mut slots, first, 0)?;
-    if last_root(&trees) != last {
+    if last_offset(&trees) != last {
         return Err(DirFault::LastRoot);
     }
     Ok(Forest {

@@ -54,25 +54,25 @@ pub(crate) fn slots_of<'a>(
     Ok(slots)
 }
 
-/// Takes the data set of the record at this place out of its slot.
+/// Takes the data set of the record at this offset out of its slot.
 pub(crate) fn lift<'a>(
     starts: &[u64],
     slots: &mut [Option<DataSet<'a>>],
-    place: u32,
+    offset: u32,
 ) -> Result<DataSet<'a>, DirFault>
     requires rise { Rises 0 starts.now }
     requires each { length starts.now ≡ length slots.old }
     ensures exact { (sets : List Elements) → AreLeft sets (slots_view slots.old)
-        → IsLifted starts.now sets place (slots_view slots.old) (slots_view slots.new) result }
+        → IsLifted starts.now sets offset (slots_view slots.old) (slots_view slots.new) result }
     ensures fewer { IfOk result (λ _. count_left (slots_view slots.old) ≡ 1 + count_left (slots_view slots.new)) }
     ensures memory { result ≢ Err want }
 {
-    match starts.binary_search(&u64::from(place)) {
-        Err(_) => Err(DirFault::Dangling(place)),
-        Ok(at) => {
-            let slot = &mut slots[at];
+    match starts.binary_search(&u64::from(offset)) {
+        Err(_) => Err(DirFault::Dangling(offset)),
+        Ok(index) => {
+            let slot = &mut slots[index];
             match slot.take() {
-                None => Err(DirFault::Twice(place)),
+                None => Err(DirFault::Twice(offset)),
                 Some(set) => Ok(set),
             }
         }

@@ -3,10 +3,12 @@
 ghost use Rattle.std.specs.Prelude.{◌≡◌, option_and_then, option_map};
 ghost use Rattle.dd_elem.specs.Clean.{clean_of};
 ghost use Rattle.dd_set.specs.Views.{set_view};
-ghost use Rattle.dd_dir.specs.Saying.{value_of, number_of, flag_of, text_of};
+ghost use Rattle.dd_dir.specs.Saying.{digest_in, value_of, number_of, flag_of, text_of};
 
 use dd_elem::{Tag, clean};
-use dd_layout::FLAG_IN_USE;
+use dd_keys::value_at;
+use dd_layout::table::{CREATOR, DIGEST};
+use dd_layout::{FLAG_IN_USE, PRIVATE_CREATOR};
 use dd_set::{DataSet, Value};
 
 /// The value of the element with this tag, where it is there and holds bytes.
@@ -66,4 +68,15 @@ fn text_of(value: &[u8]) -> Option<&[u8]>
 {
     let text = clean(value);
     if text.is_empty() { None } else { Some(text) }
+}
+
+/// The SHA-256 of the file of an IMAGE record: None where it does not stand in the block of private
+/// elements of its creator (PS3.5 section 7.8.1), is a sequence, or has not 32 bytes.
+pub fn digest_in(set: &DataSet<'_>) -> Option<[u8; 32]>
+    ensures { result ≡ digest_in (set_view set.now) }
+{
+    if value_at(set, CREATOR.tag)? != PRIVATE_CREATOR {
+        return None;
+    }
+    <[u8; 32]>::try_from(value_of(set, DIGEST.tag)?).ok()
 }

@@ -6,12 +6,12 @@ ghost use Rattle.dd_dir.specs.declared.fault.DirFault.TheVariants.{Memory};
 ghost use Rattle.dd_dir.specs.ForestViews.{trees_view};
 ghost use Rattle.dd_dir.specs.ReadAnswers.{IsStep, IsTree, AreFollowed};
 ghost use Rattle.dd_dir.specs.Slots.{Rises, AreLeft, count_left, slots_view};
-ghost use Rattle.dd_dir.specs.Trees.{last_root_or};
+ghost use Rattle.dd_dir.specs.Trees.{last_offset_or};
 ghost use Rattle.dd_dir.specs.Walks.{max_record_levels};
 
 use crate::fault::DirFault;
 use crate::forest::Tree;
-use crate::said::{Said, said_by};
+use crate::links::{Links, links_in};
 use crate::slots::lift;
 use dd_set::DataSet;
 use std::alloc::Global;
@@ -19,62 +19,62 @@ use std::alloc::Global;
 /// The most levels of records.
 const MAX_LEVELS: u32 = 32;
 
-/// The record at this place, taken out of its slot, and what it says.
+/// The record at this offset, taken out of its slot, and what it says.
 #[tactic(auto, unfolding(crate::specs::Walks::step_at))]
 fn step<'a>(
     starts: &[u64],
     slots: &mut [Option<DataSet<'a>>],
-    place: u32,
+    offset: u32,
     level: u32,
-) -> Result<(DataSet<'a>, Said<'a>), DirFault>
+) -> Result<(DataSet<'a>, Links<'a>), DirFault>
     requires rise { Rises 0 starts.now }
     requires each { length starts.now ≡ length slots.old }
     ensures exact { (sets : List Elements) → AreLeft sets (slots_view slots.old)
-        → IsStep starts.now sets place level (slots_view slots.old) (slots_view slots.new) result }
+        → IsStep starts.now sets offset level (slots_view slots.old) (slots_view slots.new) result }
     ensures fewer { IfOk result (λ _. count_left (slots_view slots.new) < count_left (slots_view slots.old)) }
     ensures room { IfOk result (λ _. level < max_record_levels) }
     ensures memory { result ≢ Err Memory }
 {
-    let set = lift(starts, slots, place)?;
+    let set = lift(starts, slots, offset)?;
     if level >= MAX_LEVELS {
-        return Err(DirFault::TooDeep(place));
+        return Err(DirFault::TooDeep(offset));
     }
-    match said_by(&set) {
-        None => Err(DirFault::RecordShape(place)),
-        Some(said) => Ok((set, said)),
+    match links_in(&set) {
+        None => Err(DirFault::RecordShape(offset)),
+        Some(links) => Ok((set, links)),
     }
 }
 
-/// The record at this place with those below it, and the place of the next one.
+/// The record at this offset with those below it, and the offset of the next one.
 #[cycle(walk)]
 fn tree<'a>(
     alloc: Global,
     starts: &[u64],
     slots: &mut [Option<DataSet<'a>>],
-    place: u32,
+    offset: u32,
     level: u32,
 ) -> Result<(Tree<'a>, u32), DirFault>
     requires rise { Rises 0 starts.now }
     requires each { length starts.now ≡ length slots.old }
-    requires some { place ≢ 0 }
+    requires some { offset ≢ 0 }
     ensures exact { (sets : List Elements) → AreLeft sets (slots_view slots.old)
-        → IsTree starts.now sets place level (slots_view slots.old) (slots_view slots.new) result }
+        → IsTree starts.now sets offset level (slots_view slots.old) (slots_view slots.new) result }
     ensures fewer { IfOk result (λ _. count_left (slots_view slots.new) < count_left (slots_view slots.old)) }
     ensures memory { result ≡ Err Memory → 0 < count_left (slots_view slots.old) }
 {
-    let (set, said) = step(starts, slots, place, level)?;
-    let below = chain(alloc, starts, slots, said.lower, level + 1)?;
+    let (set, links) = step(starts, slots, offset, level)?;
+    let below = chain(alloc, starts, slots, links.lower, level + 1)?;
     let tree = Tree {
-        at: place,
-        kind: said.kind,
-        in_use: said.in_use,
+        at: offset,
+        kind: links.kind,
+        in_use: links.in_use,
         set,
         below,
     };
-    Ok((tree, said.next))
+    Ok((tree, links.next))
 }
 
-/// The records of a level from this place on, each with those below it.
+/// The records of a level from this offset on, each with those below it.
 #[cycle(walk)]
 pub(crate) fn chain<'a>(
     alloc: Global,
@@ -91,18 +91,18 @@ pub(crate) fn chain<'a>(
     ensures memory { result ≡ Err Memory → 0 < count_left (slots_view slots.old) }
 {
     let mut trees = Vec::new(alloc);
-    let mut place = first;
-    'siblings: while place != 0 {
-        let (joined, next) = tree(alloc, starts, slots, place, level)?;
+    let mut offset = first;
+    'siblings: while offset != 0 {
+        let (joined, next) = tree(alloc, starts, slots, offset, level)?;
         trees.push(joined)?;
-        place = next;
+        offset = next;
     }
     Ok(trees)
 }
 
-/// The place of the last of these trees, and 0 where there is none.
-pub(crate) fn last_root(trees: &[Tree<'_>]) -> u32
-    ensures { result ≡ last_root_or 0 (trees_view trees.now) }
+/// The offset of the last of these trees, and 0 where there is none.
+pub(crate) fn last_offset(trees: &[Tree<'_>]) -> u32
+    ensures { result ≡ last_offset_or 0 (trees_view trees.now) }
 {
     let mut last = 0;
     for tree in trees {

@@ -2,9 +2,9 @@
 use Rattle.std.specs.Prelude.{◌≡◌, ◌<◌, ◌+◌, ℕ, suc, List, [], ◌∷◌, ◌++◌, length, map, take, get_or, Ok, Err}
 use Rattle.std.proofs.Common.{refl, sym, ◌∙◌, ap, ap₂, subst, arith, append_assoc}
 use Rattle.std.proofs.lemmas.List.{append-nil, map-append, take_more}
-use Rattle.dd_dir.specs.declared.own.Place.{Place}
+use Rattle.dd_dir.specs.declared.own.Place.{Place as PlaceValue}
 use Rattle.dd_dir.specs.Own.{Listed, own}
-use Rattle.dd_dir.specs.OwnVersions.{Located, place_of, place_view, version_of}
+use Rattle.dd_dir.specs.OwnVersions.{Place, place_of, place_view, version_of}
 use Rattle.dd_dir.specs.Reading.{IsWalk, Refuses}
 use Rattle.dd_dir.specs.Trees.{Walk}
 use Rattle.dd_dir.specs.Withdrawn.{AreRisingUids, withdrawn_of}
@@ -79,16 +79,16 @@ versions_more before at images old new added was is told =
     ∙ sym (map-append (λ (i : ℕ × Listed). version_of i.1) before (map (λ image. (at, image)) images))
 
 pub picks_more : (before : List (ℕ × Listed)) (at : ℕ) (images : List Listed) (old new : List (ℕ × List ℕ))
-    (added : List Place) → old ≡ map place_pick (places_in before)
+    (added : List PlaceValue) → old ≡ map place_pick (places_in before)
     → new ≡ old ++ map (λ place. place_pick (at, place_view place)) added
     → map (λ place. place_view place) added ≡ map place_of images
     → new ≡ map place_pick (places_in (before ++ map (λ image. (at, image)) images))
 picks_more before at images old new added was is views =
     let here : map (λ place. place_pick (at, place_view place)) added
     ≡ map place_pick (places_in (map (λ image. (at, image)) images)) =
-    sym (twice (λ (p : Located). place_pick (at, p)) (λ place. place_view place) added)
-    ∙ ap (map (λ (p : Located). place_pick (at, p))) views
-    ∙ twice (λ (p : Located). place_pick (at, p)) place_of images
+    sym (twice (λ (p : Place). place_pick (at, p)) (λ place. place_view place) added)
+    ∙ ap (map (λ (p : Place). place_pick (at, p))) views
+    ∙ twice (λ (p : Place). place_pick (at, p)) place_of images
     ∙ sym (twice place_pick (λ image. (at, place_of image)) images)
     ∙ ap (map place_pick) (sym (twice (λ (i : ℕ × Listed). (i.0, place_of i.1)) (λ image. (at, image)) images)) in
     is ∙ ap (λ l. l ++ map (λ place. place_pick (at, place_view place)) added) was

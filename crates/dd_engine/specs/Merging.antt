@@ -7,7 +7,7 @@ use Rattle.dd_catalogue.specs.Harmony.{harmonised}
 use Rattle.dd_catalogue.specs.Histories.{together}
 use Rattle.dd_dir.specs.declared.own_fault.OwnFault.{OwnFault}
 use Rattle.dd_dir.specs.Own.{Listed, own}
-use Rattle.dd_dir.specs.OwnVersions.{FailsOwn, Located, place_of, version_of}
+use Rattle.dd_dir.specs.OwnVersions.{FailsOwn, Place, place_of, version_of}
 use Rattle.dd_dir.specs.Reading.{IsWalk, Refuses}
 use Rattle.dd_dir.specs.Trees.{Walk}
 use Rattle.dd_dir.specs.Withdrawn.{AreRisingUids, withdrawn_of}
@@ -74,17 +74,17 @@ held_in given listings =
 -- ---- where an image is copied from
 
 -- where the files of all images are, each with the number of its set
-abbrev pub places_in : List (ℕ × Listed) → List (ℕ × Located)
+abbrev pub places_in : List (ℕ × Listed) → List (ℕ × Place)
 places_in images = map (λ image. (image.0, place_of image.1)) images
 
 -- the set and the File ID of a place, and its file
-abbrev pub place_pick : ℕ × Located → ℕ × List ℕ
+abbrev pub place_pick : ℕ × Place → ℕ × List ℕ
 place_pick place = (place.0, place.1.file)
 
-abbrev pub place_key : Located → FileKey
+abbrev pub place_key : Place → FileKey
 place_key place = record { instance = place.uid; digest = place.digest }
 
-abbrev pub stands_at : ℕ × Located → (ℕ × List ℕ) × FileKey
+abbrev pub stands_at : ℕ × Place → (ℕ × List ℕ) × FileKey
 stands_at place = (place_pick place, place_key place.1)
 
 abbrev pub pick_view : Pick → ℕ × List ℕ

@@ -8,8 +8,7 @@ use Rattle.dd_part10.specs.Reading.{FileParts}
 use Rattle.dd_layout.specs.Entries.{tag}
 use Rattle.dd_dir.specs.declared.forest.Tree.{Tree, out-Tree, the_lemmas}
 use Rattle.dd_dir.specs.ForestViews.{tree_view}
-use Rattle.dd_dir.specs.Own.{digest_in}
-use Rattle.dd_dir.specs.Saying.{key_of}
+use Rattle.dd_dir.specs.Saying.{digest_in, key_of}
 use Rattle.dd_dir.specs.Trees.{Node}
 use Rattle.dd_report.specs.Agreements.{Agreement, agreement, agreements, nearest, patient_id, standing_below}
 use Rattle.dd_report.specs.Agreements.{syntax_agreement}

@@ -18,7 +18,7 @@ use Rattle.dd_part10.specs.Faults.{SaysMemory}
 use Rattle.dd_part10.specs.Memory.{IsRefused}
 use Rattle.dd_part10.specs.Reading.{FileParts, file_in}
 use Rattle.dd_part10.specs.Streaming.{IsFileAnswer}
-use Rattle.dd_dir.specs.Own.{digest_in}
+use Rattle.dd_dir.specs.Saying.{digest_in}
 use Rattle.dd_dir.specs.Trees.{Node}
 use Rattle.dd_report.specs.declared.agreements.Inherited.{Inherited}
 use Rattle.dd_report.specs.declared.findings.Finding.{Finding}

@@ -7,7 +7,7 @@ use Rattle.dd_elem.specs.Device.{counted}
 use Rattle.dd_dir.specs.declared.forest.Tree.{Tree, out-Tree, the_lemmas}
 use Rattle.dd_dir.specs.declared.forest.Forest.{Forest}
 use Rattle.dd_dir.specs.ForestViews.{tree_view, trees_view, walk_view}
-use Rattle.dd_dir.specs.Trees.{Walk, places}
+use Rattle.dd_dir.specs.Trees.{Walk, offsets}
 use Rattle.dd_dir.specs.Withdrawn.{withdrawn_of}
 use Rattle.dd_report.specs.declared.known.Form.{Form}
 use Rattle.dd_report.specs.declared.known.Form.TheVariants.{Long}
@@ -106,23 +106,23 @@ names_lead r walk id uid a b c id_is uid_is names lines =
 -- ---- counts
 
 abbrev places_of : Tree → List ℕ
-places_of t = (tree_view t).node.at ∷ places (tree_view t).below
+places_of t = (tree_view t).node.at ∷ offsets (tree_view t).below
 
-places_each : (trees : List Tree) → places (trees_view trees) ≡ flat_map places_of trees
+places_each : (trees : List Tree) → offsets (trees_view trees) ≡ flat_map places_of trees
 places_each [] = refl
 places_each (t ∷ trees) = ap (λ (xs : List ℕ). places_of t ++ xs) (places_each trees)
 
 pub one_tree_more : (trees : List Tree) (i : ℕ) (t : Tree) → i < length trees → t ≡ get_or trees i t
-    → length (places (trees_view (take (i + 1) trees)))
-    ≡ length (places (trees_view (take i trees))) + (length (places (tree_view t).below) + 1)
+    → length (offsets (trees_view (take (i + 1) trees)))
+    ≡ length (offsets (trees_view (take i trees))) + (length (offsets (tree_view t).below) + 1)
 one_tree_more trees i t within is =
-    let more : places (trees_view (take (i + 1) trees)) ≡ places (trees_view (take i trees)) ++ places_of t =
+    let more : offsets (trees_view (take (i + 1) trees)) ≡ offsets (trees_view (take i trees)) ++ places_of t =
     places_each (take (i + 1) trees) ∙ one_more places_of trees i t within
     ∙ ap (λ (xs : List ℕ). xs ++ places_of (get_or trees i t)) (sym (places_each (take i trees)))
-    ∙ ap (λ (x : Tree). places (trees_view (take i trees)) ++ places_of x) (sym is) in
-    let sizes = length-append (places (trees_view (take i trees))) (places_of t) in
-    let both : length (places (trees_view (take (i + 1) trees)))
-    ≡ length (places (trees_view (take i trees))) + length (places_of t) =
+    ∙ ap (λ (x : Tree). offsets (trees_view (take i trees)) ++ places_of x) (sym is) in
+    let sizes = length-append (offsets (trees_view (take i trees))) (places_of t) in
+    let both : length (offsets (trees_view (take (i + 1) trees)))
+    ≡ length (offsets (trees_view (take i trees))) + length (places_of t) =
     ap (λ (xs : List ℕ). length xs) more ∙ sizes in
-    let one : length (places_of t) ≡ length (places (tree_view t).below) + 1 = omega arith in
+    let one : length (places_of t) ≡ length (offsets (tree_view t).below) + 1 = omega arith in
     omega (arith, both, one)

@@ -17,8 +17,7 @@ use Rattle.dd_layout.specs.declared.level.Level.TheVariants.{Image}
 use Rattle.dd_layout.specs.Entries.{tag}
 use Rattle.dd_layout.specs.Records.{kind_of}
 use Rattle.dd_dir.specs.ForestViews.{Branch}
-use Rattle.dd_dir.specs.Own.{digest_in}
-use Rattle.dd_dir.specs.Saying.{key_of}
+use Rattle.dd_dir.specs.Saying.{digest_in, key_of}
 use Rattle.dd_dir.specs.Trees.{Node, Trees, no_trees, tree}
 use Rattle.dd_report.specs.declared.checking.Comparison.{Comparison}
 use Rattle.dd_report.specs.declared.checking.Comparison.TheVariants.{Digests, Keys}

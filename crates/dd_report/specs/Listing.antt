@@ -13,7 +13,7 @@ use Rattle.dd_layout.specs.declared.level.Level.TheVariants.{Patient, Study, Ser
 use Rattle.dd_layout.specs.Entries.{tag}
 use Rattle.dd_layout.specs.Records.{kind_of}
 use Rattle.dd_dir.specs.ForestViews.{Branch}
-use Rattle.dd_dir.specs.Trees.{Node, Trees, Walk, no_trees, places, tree}
+use Rattle.dd_dir.specs.Trees.{Node, Trees, Walk, no_trees, offsets, tree}
 use Rattle.dd_dir.specs.Withdrawn.{withdrawn_of}
 use Rattle.dd_report.specs.declared.known.Form.{Form}
 use Rattle.dd_report.specs.declared.known.Form.TheVariants.{Short, Long}
@@ -97,7 +97,7 @@ withdrawn_lines pieces = flat_map withdrawn_line pieces
 
 -- how many records there are, as a count
 abbrev pub record_count : Trees → ℕ
-record_count trees = min (length (places trees)) last_count
+record_count trees = min (length (offsets trees)) last_count
 
 abbrev pub totals_line : Walk → List ℕ
 totals_line walk = shown_line (

@@ -4,7 +4,7 @@ use Rattle.dd_set.specs.Views.{set_view}
 use Rattle.dd_part10.specs.declared.fault.FileFault.TheVariants as file_faults
 use Rattle.dd_part10.specs.File.{IsFile}
 use Rattle.dd_set.specs.declared.fault.SetFault.TheVariants as set_faults
-use Rattle.dd_dir.specs.ReadAnswers.{TellsContents, directory_view}
+use Rattle.dd_dir.specs.ReadAnswers.{TellsContents, contents_view}
 use Rattle.dd_dir.specs.Reading.{contents_in, is_directory_meta}
 use Rattle.dd_dir.proofs.Answering.{is_directory, is_explicit, all_bytes, told_refused, told_no_file, told_wanted}
 use Rattle.dd_dir.proofs.Answering.{starts_rise}
@@ -87,7 +87,7 @@ walked-requires-clause-rise c =
     let file = c.args.bytes.now in
     let is_file : IsFile file f.meta (set_view f.set) f.set_at = search rules in
     let class : is_directory_meta f.meta ≡ true = sym c.if-not-is_directory_meta.ensures in
-    let contents = directory_view c.in_ok-directory.directory in
+    let contents = contents_view c.in_ok-directory.directory in
     let told : contents_in f.meta.instance (take f.set_at file) (set_view f.set) ≡ Some contents =
     c.in_ok-directory.ensures (take f.set_at file) (front_length file f.meta (set_view f.set) f.set_at is_file).1 in
     starts_rise file contents (is_directory file f.meta (set_view f.set) f.set_at contents is_file class told)
@@ -98,7 +98,7 @@ walked-requires-clause-each c =
     let file = c.args.bytes.now in
     let is_file : IsFile file f.meta (set_view f.set) f.set_at = search rules in
     let class : is_directory_meta f.meta ≡ true = sym c.if-not-is_directory_meta.ensures in
-    let contents = directory_view c.in_ok-directory.directory in
+    let contents = contents_view c.in_ok-directory.directory in
     let told : contents_in f.meta.instance (take f.set_at file) (set_view f.set) ≡ Some contents =
     c.in_ok-directory.ensures (take f.set_at file) (front_length file f.meta (set_view f.set) f.set_at is_file).1 in
     starts_many file contents (is_directory file f.meta (set_view f.set) f.set_at contents is_file class told)
@@ -110,7 +110,7 @@ returns-clause-walk c =
     let file = c.args.bytes.now in
     let is_file : IsFile file f.meta (set_view f.set) f.set_at = search rules in
     let class : is_directory_meta f.meta ≡ true = sym c.if-not-is_directory_meta.ensures in
-    let contents = directory_view c.in_ok-directory.directory in
+    let contents = contents_view c.in_ok-directory.directory in
     let told : contents_in f.meta.instance (take f.set_at file) (set_view f.set) ≡ Some contents =
     c.in_ok-directory.ensures (take f.set_at file) (front_length file f.meta (set_view f.set) f.set_at is_file).1 in
     walk_in file contents c.walked.result
@@ -123,7 +123,7 @@ returns-clause-refused c =
     let file = c.args.bytes.now in
     let is_file : IsFile file f.meta (set_view f.set) f.set_at = search rules in
     let class : is_directory_meta f.meta ≡ true = sym c.if-not-is_directory_meta.ensures in
-    let contents = directory_view c.in_ok-directory.directory in
+    let contents = contents_view c.in_ok-directory.directory in
     let told : contents_in f.meta.instance (take f.set_at file) (set_view f.set) ≡ Some contents =
     c.in_ok-directory.ensures (take f.set_at file) (front_length file f.meta (set_view f.set) f.set_at is_file).1 in
     refused_in file contents c.walked.result
@@ -136,7 +136,7 @@ returns-clause-records c = λ memory.
     let file = c.args.bytes.now in
     let is_file : IsFile file f.meta (set_view f.set) f.set_at = search rules in
     let class : is_directory_meta f.meta ≡ true = sym c.if-not-is_directory_meta.ensures in
-    let contents = directory_view c.in_ok-directory.directory in
+    let contents = contents_view c.in_ok-directory.directory in
     let told : contents_in f.meta.instance (take f.set_at file) (set_view f.set) ≡ Some contents =
     c.in_ok-directory.ensures (take f.set_at file) (front_length file f.meta (set_view f.set) f.set_at is_file).1 in (
       contents,

@@ -6,9 +6,9 @@ use Rattle.dd_set.specs.declared.set.DataSet.{DataSet}
 use Rattle.dd_encoding.specs.Elements.{Elements}
 use Rattle.dd_set.specs.Views.{set_view}
 use Rattle.dd_dir.specs.ForestViews.{trees_view}
-use Rattle.dd_dir.specs.ReadAnswers.{Fails, Follows, directory_view}
+use Rattle.dd_dir.specs.ReadAnswers.{Fails, Follows, contents_view}
 use Rattle.dd_dir.specs.Slots.{count_left, slots_view}
-use Rattle.dd_dir.specs.Trees.{last_root_or}
+use Rattle.dd_dir.specs.Trees.{last_offset_or}
 use Rattle.dd_dir.proofs.Ending.{full_left, slots_many, fails_as, ends_elsewhere, walk_of}
 use Rattle.dd_dir.proofs.reading.walked.Goals as goal
 
@@ -19,7 +19,7 @@ chain-requires-clause-each c =
 
 pub returns-in_err-trees-clause-refused : goal.returns-in_err-trees-clause-refused
 returns-in_err-trees-clause-refused c =
-    let contents = directory_view c.args.directory in
+    let contents = contents_view c.args.directory in
     let fault = c.in_err-trees.field-0.0 in
     let is : c.from_residual-in_err-trees.result ≡ Err fault = search rules in
     let slots = slots_view c.deref_mut.result.now in
@@ -30,9 +30,9 @@ returns-in_err-trees-clause-refused c =
     rw is (fails_as contents slots fault full
     (subst (λ (starts : List ℕ). Fails starts contents.sets contents.first 0 slots fault) c.deref.ensures.value fails))
 
-pub returns-then-last_root-last-clause-refused : goal.returns-then-last_root-last-clause-refused
-returns-then-last_root-last-clause-refused c =
-    let contents = directory_view c.args.directory in
+pub returns-then-last_offset-last-clause-refused : goal.returns-then-last_offset-last-clause-refused
+returns-then-last_offset-last-clause-refused c =
+    let contents = contents_view c.args.directory in
     let slots = slots_view c.deref_mut.result.now in
     let new = slots_view c.chain.new.slots in
     let trees = trees_view c.in_ok-trees.trees.items in
@@ -40,15 +40,15 @@ returns-then-last_root-last-clause-refused c =
     ap (λ (xs : List (Option DataSet)). slots_view xs) c.deref_mut.ensures.value ∙ c.in_ok-slots.ensures.full in
     let follows : Follows c.deref.result.now contents.sets contents.first 0 slots new trees =
     c.in_ok-trees.ensures.exact contents.sets (full_left contents.sets slots full) in
-    let last : c.last_root.result ≡ last_root_or 0 trees = search rules in
-    let other : last_root_or 0 trees ≢ contents.last = λ e. c.if-last_root-last.true (last ∙ e) in
+    let last : c.last_offset.result ≡ last_offset_or 0 trees = search rules in
+    let other : last_offset_or 0 trees ≢ contents.last = λ e. c.if-last_offset-last.true (last ∙ e) in
     inr (ends_elsewhere contents slots new trees full
     (subst (λ (starts : List ℕ). Follows starts contents.sets contents.first 0 slots new trees)
     c.deref.ensures.value follows) other)
 
 pub returns-clause-walk : goal.returns-clause-walk
 returns-clause-walk c =
-    let contents = directory_view c.args.directory in
+    let contents = contents_view c.args.directory in
     let slots = slots_view c.deref_mut.result.now in
     let new = slots_view c.chain.new.slots in
     let trees = trees_view c.in_ok-trees.trees.items in
@@ -56,8 +56,8 @@ returns-clause-walk c =
     ap (λ (xs : List (Option DataSet)). slots_view xs) c.deref_mut.ensures.value ∙ c.in_ok-slots.ensures.full in
     let follows : Follows c.deref.result.now contents.sets contents.first 0 slots new trees =
     c.in_ok-trees.ensures.exact contents.sets (full_left contents.sets slots full) in
-    let last : c.last_root.result ≡ last_root_or 0 trees = search rules in
-    let ends : last_root_or 0 trees ≡ contents.last = sym last ∙ c.if-last_root-last.false in
+    let last : c.last_offset.result ≡ last_offset_or 0 trees = search rules in
+    let ends : last_offset_or 0 trees ≡ contents.last = sym last ∙ c.if-last_offset-last.false in
     let room : length c.chain.new.slots ≡ c.in_ok-slots.slots.len =
     omega (arith, ap length c.deref_mut.ensures.value, c.in_ok-slots.slots.ok) in
     let written : (with_items c.in_ok-slots.slots c.chain.new.slots).items ≡ c.chain.new.slots =

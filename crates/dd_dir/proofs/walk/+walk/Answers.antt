@@ -5,7 +5,7 @@ use Rattle.dd_dir.specs.declared.forest.Tree.{Tree, the_lemmas}
 use Rattle.dd_dir.specs.declared.forest.Tree.TheOpen.{Tree-F}
 use Rattle.dd_dir.specs.declared.forest.Tree.TheViews.{roll-Tree}
 use Rattle.dd_dir.specs.ForestViews.{Branch, tree_view, trees_view}
-use Rattle.dd_dir.specs.ReadAnswers.{Joins, says_view}
+use Rattle.dd_dir.specs.ReadAnswers.{Joins, links_view}
 use Rattle.dd_dir.specs.Slots.{slots_view}
 use Rattle.dd_dir.specs.Walks.{node_of}
 use Rattle.dd_dir.proofs.Joining.{Going, going_tree, going_end, fails_here, fails_below, joins}
@@ -22,7 +22,7 @@ chain-siblings-preserved t c = record {
       subst (λ (trees : List Tree). Going c.args.starts.now sets c.args.first c.args.level (slots_view c.args.slots.now)
       (map tree_view trees) c.in_ok-joined.next (slots_view c.tree.new.slots)) (sym pushed)
       (going_tree c.args.starts.now sets c.args.first c.args.level (slots_view c.args.slots.now) c.siblings.trees.items
-      c.siblings.place (slots_view c.siblings.slots)
+      c.siblings.offset (slots_view c.siblings.slots)
       (slots_view c.tree.new.slots) c.in_ok-joined.joined c.in_ok-joined.next
       c.siblings-test.true so joined);
 }
@@ -30,14 +30,14 @@ chain-siblings-preserved t c = record {
 pub chain-returns-clause-exact : goal.chain-returns-clause-exact
 chain-returns-clause-exact t c = λ sets left.
     going_end c.args.starts.now sets c.args.first c.args.level (slots_view c.args.slots.now)
-    (map tree_view c.siblings.trees.items) c.siblings.place (slots_view c.siblings.slots) c.siblings-test.false
+    (map tree_view c.siblings.trees.items) c.siblings.offset (slots_view c.siblings.slots) c.siblings-test.false
     (c.siblings.invariant.going sets left)
 
 pub tree-returns-in_err-set-clause-exact : goal.tree-returns-in_err-set-clause-exact
 tree-returns-in_err-set-clause-exact t c = λ sets left.
     let fault = c.in_err-set.field-0.0 in
     let is : c.from_residual.result ≡ Err fault = search rules in
-    rw is (fails_here c.args.starts.now sets c.args.place c.args.level
+    rw is (fails_here c.args.starts.now sets c.args.offset c.args.level
     (slots_view c.args.slots.now) fault c.requires.some
     (c.in_err-set.ensures.exact sets left))
 
@@ -46,28 +46,28 @@ tree-returns-in_err-below-clause-exact t c = λ sets left.
     let fault = c.in_err-below.field-0.0 in
     let is : c.from_residual-in_err-below.result ≡ Err fault = search rules in
     let found = c.in_ok-set.ensures.exact sets left in
-    rw is (fails_below c.args.starts.now sets c.args.place c.args.level (slots_view c.args.slots.now)
+    rw is (fails_below c.args.starts.now sets c.args.offset c.args.level (slots_view c.args.slots.now)
     (slots_view c.step.new.slots)
-    (set_view c.in_ok-set.set, says_view c.in_ok-set.said) fault c.requires.some found.0 found.1
+    (set_view c.in_ok-set.set, links_view c.in_ok-set.links) fault c.requires.some found.0 found.1
     (c.in_err-below.ensures.exact sets found.1.left))
 
 pub tree-returns-clause-exact : goal.tree-returns-clause-exact
 tree-returns-clause-exact t c = λ sets left.
     let found = c.in_ok-set.ensures.exact sets left in
     let set = set_view c.in_ok-set.set in
-    let said = says_view c.in_ok-set.said in
+    let links = links_view c.in_ok-set.links in
     let made : Tree-F Tree = record {
-      at = c.args.place;
-      kind = c.in_ok-set.said.kind;
-      in_use = c.in_ok-set.said.in_use;
+      at = c.args.offset;
+      kind = c.in_ok-set.links.kind;
+      in_use = c.in_ok-set.links.in_use;
       set = c.in_ok-set.set;
       below = c.in_ok-below.below;
     } in
     let seen : tree_view (roll-Tree made)
-    ≡ record { node = node_of c.args.place set said; below = trees_view c.in_ok-below.below.items } =
+    ≡ record { node = node_of c.args.offset set links; below = trees_view c.in_ok-below.below.items } =
     search (rules, the_lemmas) in
-    subst (λ (branch : Branch). Joins c.args.starts.now sets c.args.place c.args.level (slots_view c.args.slots.now)
-    (slots_view c.chain.new.slots) branch c.in_ok-set.said.next) (sym seen)
-    (joins c.args.starts.now sets c.args.place c.args.level (slots_view c.args.slots.now) (slots_view c.step.new.slots)
-    (slots_view c.chain.new.slots) (set, said) (trees_view c.in_ok-below.below.items) found.0 found.1
+    subst (λ (branch : Branch). Joins c.args.starts.now sets c.args.offset c.args.level (slots_view c.args.slots.now)
+    (slots_view c.chain.new.slots) branch c.in_ok-set.links.next) (sym seen)
+    (joins c.args.starts.now sets c.args.offset c.args.level (slots_view c.args.slots.now) (slots_view c.step.new.slots)
+    (slots_view c.chain.new.slots) (set, links) (trees_view c.in_ok-below.below.items) found.0 found.1
     (c.in_ok-below.ensures.exact sets found.1.left))

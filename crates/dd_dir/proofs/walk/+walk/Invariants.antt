@@ -18,6 +18,6 @@ abbrev pub invariant-chain-siblings : goal.invariant-chain-siblings
 invariant-chain-siblings l = record {
   fewer : count_left (slots_view l.slots) ≤ count_left (slots_view l.initial.slots);
   going : (sets : List Elements) → AreLeft sets (slots_view l.initial.slots)
-      → Going l.starts sets l.first l.level (slots_view l.initial.slots) (map tree_view l.trees.items) l.place
+      → Going l.starts sets l.first l.level (slots_view l.initial.slots) (map tree_view l.trees.items) l.offset
       (slots_view l.slots);
 }

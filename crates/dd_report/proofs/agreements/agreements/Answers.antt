@@ -4,7 +4,7 @@ use Rattle.std.specs.Prelude.{is_some}
 use Rattle.dd_set.specs.declared.found.Found.{Found}
 use Rattle.dd_set.specs.Scan.{found_hit, hits_of}
 use Rattle.dd_dir.specs.ForestViews.{tree_view}
-use Rattle.dd_dir.specs.Own.{digest_in}
+use Rattle.dd_dir.specs.Saying.{digest_in}
 use Rattle.dd_report.specs.Agreements.{compared_tags}
 use Rattle.dd_report.proofs.Agreeing.{all_agree, set_same}
 use Rattle.dd_report.proofs.agreements.agreements.Goals as goal

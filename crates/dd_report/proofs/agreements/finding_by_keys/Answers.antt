@@ -1,7 +1,7 @@
 -- The fault of reading the file says why it is no DICOM file.
 use Rattle.std.proofs.Common.{◌∙◌, ℕ, List, Option, Err, ap, sym}
 use Rattle.dd_dir.specs.ForestViews.{tree_view}
-use Rattle.dd_dir.specs.Own.{digest_in}
+use Rattle.dd_dir.specs.Saying.{digest_in}
 use Rattle.dd_report.specs.Finding.{compared}
 use Rattle.dd_report.proofs.Agreeing.{set_same}
 use Rattle.dd_report.proofs.KeyFindings.{fault_found, fault_wants, on_err}
