@@ -4,6 +4,7 @@ use Rattle.std.proofs.Common.{refl, sym, ◌∙◌, ap, ap₂}
 use Rattle.dd_catalogue.specs.Clash.{clash}
 use Rattle.dd_catalogue.specs.Harmony.{harmonised}
 use Rattle.dd_catalogue.proofs.Images.{harmony_keeps_clash}
+use Rattle.dd_dir.specs.Deriving.{either}
 use Rattle.dd_dir.specs.Directories.{directory_of, unnamed_label}
 use Rattle.dd_elem.specs.Digests.{uid_of_digest}
 use Rattle.dd_version.specs.declared.parts.Parts.{Parts}
@@ -13,7 +14,6 @@ use Rattle.dd_layout.specs.Limits.{Limits}
 use Rattle.dd_layout.specs.Layouts.{layout_of}
 use Rattle.dd_layout.specs.Refusal.{conflict_or, excess, refusal}
 use Rattle.dd_engine.specs.declared.choice.Choice.{Choice}
-use Rattle.dd_dir.specs.Deriving.{either}
 use Rattle.dd_engine.specs.Choosing.{derivation, label_for, refusal_for, uid_by}
 use Rattle.sha2.specs.Sha256.{sha256}
 

@@ -19,7 +19,7 @@ bare x place = bare_of (level_of x) place
 abbrev pub bare_at : List Parts → Path → PlanRecord
 bare_at versions x = bare x (least_below versions x)
 
--- what a record has of it at first
+-- the record with its level and its version alone
 abbrev pub bare_again : PlanRecord → PlanRecord
 bare_again row = bare_of row.level row.of
 

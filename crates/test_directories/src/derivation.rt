@@ -3,8 +3,9 @@
 use crate::publishing::limits_of;
 use crate::sending::first_catalogue;
 use dd_catalogue::Catalogue;
-use dd_dir::derived_uid;
+use dd_dir::{derived_uid, lay_out_derived};
 use dd_elem::SetId;
+use dd_layout::Limits;
 use dd_samples::taken;
 use dd_vectors::ask_all;
 use std::alloc::Global;
@@ -24,6 +25,19 @@ v  876 > 2.25.203980963844863891982135713436996079817
  DISC1 326 > 2.25.14983272099609356540788096995623605856
 15   > 41 Conflict 1.2.3.4.5 1.2.8.4.1";
 
+/// The same questions; and the UID of the plan and how many bytes the directory has, or why there is no plan. A UID
+/// of 44 bytes takes 38 more than `2.25.0`.
+const LAID_OUT: &str = "\
+v   > 2.25.203980963844863891982135713436996079817 914
+1   > 2.25.245447624314332007178579807632227354409 914
+1  914 > 2.25.245447624314332007178579807632227354409 914
+1  913 > 43 TooLarge
+1  875 > 43 TooLarge
+1 DISC1 920 > 2.25.308109394600567013282965076628649889332 920
+1 DISC1 919 > 43 TooLarge
+   > 2.25.239637096442388064147279945434065034669 358
+15   > 41 Conflict 1.2.3.4.5 1.2.8.4.1";
+
 /// The catalogue with these letters, or V1's.
 fn catalogue(alloc: Global, letters: &str) -> Result<Catalogue, Fail> {
     if letters == "v" {
@@ -33,11 +47,17 @@ fn catalogue(alloc: Global, letters: &str) -> Result<Catalogue, Fail> {
     }
 }
 
-fn derived(alloc: Global, question: &str) -> Result<String, Fail> {
+/// The catalogue, the ID and the limits that the question names.
+fn asked(alloc: Global, question: &str) -> Result<(Catalogue, SetId, Limits), Fail> {
     let mut words = question.split(' ');
     let catalogue = catalogue(alloc, words.next().ok_or("no images")?)?;
     let id = SetId::new(words.next().ok_or("no ID")?.as_bytes())?;
     let limits = limits_of(words.next().ok_or("no limit")?)?;
+    Ok((catalogue, id, limits))
+}
+
+fn derived(alloc: Global, question: &str) -> Result<String, Fail> {
+    let (catalogue, id, limits) = asked(alloc, question)?;
     match derived_uid(alloc, &catalogue, &id, limits) {
         Ok(uid) => Ok(format!(in alloc; "{uid}")?),
         Err(fault) => Ok(format!(in alloc; "{fault}")?),
@@ -47,4 +67,21 @@ fn derived(alloc: Global, question: &str) -> Result<String, Fail> {
 #[test]
 fn file_sets_are_named_by_what_they_hold(rt: HostRuntime) -> Result<(), Fail> {
     ask_all(rt.alloc(), DERIVED, derived)
+}
+
+fn laid_out(alloc: Global, question: &str) -> Result<String, Fail> {
+    let (catalogue, id, limits) = asked(alloc, question)?;
+    match lay_out_derived(alloc, &catalogue, &id, limits) {
+        Ok(plan) => {
+            let uid = &plan.label().uid;
+            let size = plan.size();
+            Ok(format!(in alloc; "{uid} {size}")?)
+        }
+        Err(fault) => Ok(format!(in alloc; "{fault}")?),
+    }
+}
+
+#[test]
+fn file_sets_are_laid_out_under_their_derived_uids(rt: HostRuntime) -> Result<(), Fail> {
+    ask_all(rt.alloc(), LAID_OUT, laid_out)
 }

@@ -1,4 +1,4 @@
-use Rattle.std.proofs.Common.{◌≡◌, ◌≤◌, length, refl, ◌∙◌, arith}
+use Rattle.std.proofs.Common.{refl, ◌∙◌, arith}
 use Rattle.dd_layout.proofs.Cleared.{rows_more, rows_at_last}
 use Rattle.dd_layout.proofs.under.clear.Goals as goal
 

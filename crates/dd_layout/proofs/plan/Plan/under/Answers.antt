@@ -1,7 +1,7 @@
 use Rattle.std.specs.Prelude.{List, map}
 use Rattle.std.proofs.Common.{ap, sym, ◌∙◌}
 use Rattle.dd_version.specs.declared.parts.Parts.{Parts}
-use Rattle.dd_layout.specs.Plans.{records_of, tree}
+use Rattle.dd_layout.specs.Plans.{tree}
 use Rattle.dd_layout.specs.Stages.{bare_again, bare_at}
 use Rattle.dd_layout.proofs.Cleared.{records_bared}
 use Rattle.dd_layout.proofs.plan.Plan.under.Goals as goal
