@@ -2,9 +2,10 @@
 use Rattle.std.proofs.Common.{◌≡◌, ◌∙◌, Bool, List, [], Option, Some, None, ap, false, refl, sym, true}
 use Rattle.std.specs.Prelude.{slice_index_or}
 use Rattle.clap.specs.Words.{Row, Text}
-use Rattle.dd_line.specs.Line.{IsAsked, words_of}
+use Rattle.dd_line.specs.Line.{IsAsked}
 use Rattle.dd_line.specs.declared.line.Asked.{Asked}
 use Rattle.dicomdir.specs.DryRun.{HasDryRun, HasLink, first_path}
+use Rattle.dicomdir.specs.Words.{folder_of}
 
 -- a dry run
 pub asked_dry : (a : Asked) (found : Option (Text × List Row)) → IsAsked a found → HasDryRun found
@@ -29,6 +30,6 @@ given_link a (Some (command, given)) h link = sym h.link ∙ link
 
 -- the folder
 pub given_folder : (a : Asked) (found : Option (Text × List Row)) → IsAsked a found
-    → slice_index_or (words_of a.paths.items) 0 [] ≡ first_path found
+    → folder_of a ≡ first_path found
 given_folder a None h = absurd h
 given_folder a (Some (command, given)) h = ap (λ (paths : List Text). slice_index_or paths 0 []) h.paths

@@ -1,18 +1,19 @@
 -- A file-set was made, whichever files its images were made of.
-use Rattle.std.proofs.Common.{◌≡◌, ℕ, List, [], ◌∷◌, Option, Result, Ok, Err, IfOk, IsOk, inl, inr, map, refl}
+use Rattle.std.proofs.Common.{◌≡◌, ℕ, List, [], ◌∷◌, Option, Result, Ok, Err, IsOk, inl, inr, map, refl}
 use Rattle.std.proofs.Common.{◌∙◌, subst, true}
 use Rattle.std.proofs.lemmas.List.{length-map}
-use Rattle.std.specs.Prelude.{slice_index_or, zip}
+use Rattle.std.specs.Prelude.{zip}
 use Rattle.clap.specs.Words.{Row, Text}
 use Rattle.dd_elem.specs.FileId.{Ranks}
 use Rattle.dd_files.specs.Files.{Held}
 use Rattle.dd_version.specs.declared.parts.Parts.{Parts}
-use Rattle.dd_line.specs.Line.{IsAsked, words_of}
+use Rattle.dd_line.specs.Line.{IsAsked}
 use Rattle.dd_line.specs.declared.line.Asked.{Asked}
 use Rattle.dd_layout.specs.declared.record.PlanRecord.{PlanRecord}
 use Rattle.dd_layout.specs.Layouts.{Layout}
 use Rattle.dicomdir.specs.DryRun.{HasLink, first_path}
-use Rattle.dicomdir.specs.Made.{IsWhole, MakesFileSet, MakesImage, MakesRow, MakesRows, MakesSome, MayLink}
+use Rattle.dicomdir.specs.Made.{DoneMakes, IsWhole, MakesFileSet, MakesImage, MakesRow, MakesRows, MakesSome, MayLink}
+use Rattle.dicomdir.specs.Words.{folder_of}
 use Rattle.dicomdir.proofs.DryRuns.{given_folder, given_link}
 
 -- what an image was made of may be said otherwise
@@ -88,9 +89,6 @@ some_by GivesNames Asked folder old new follows some = record {
 }
 
 -- the same of a command that is done
-abbrev pub DoneMakes : {E : Type 0} → Result ℕ E → Type 0 → List ℕ → Option Held → Option Held → Type 0
-DoneMakes r GivesNames folder old new = IfOk r (λ status. status ≡ 0 → MakesSome GivesNames folder old new)
-
 pub done_makes : {P E : Type 0} (r : Result ℕ E) (GivesNames : Type 0) (StandsAt : P → List ℕ → Type 0)
     (folder : List ℕ) (plan : Layout) (picks : List P) (old new : Option Held) → IsWhole plan picks
     → (IsOk r → MakesFileSet (MayLink GivesNames StandsAt) folder plan picks old new)
@@ -107,7 +105,7 @@ done_by (Err refusal) GivesNames Asked folder old new follows makes = tt
 
 -- the same of what the words of a line say
 pub asked_makes : (a : Asked) (found : Option (Text × List Row)) (old new : Option Held) → IsAsked a found
-    → MakesSome (a.link ≡ true) (slice_index_or (words_of a.paths.items) 0 []) old new
+    → MakesSome (a.link ≡ true) (folder_of a) old new
     → MakesSome (HasLink found) (first_path found) old new
 asked_makes a found old new h some =
     subst (λ (folder : List ℕ). MakesSome (HasLink found) folder old new) (given_folder a found h)

@@ -10,6 +10,7 @@ pub mod Mistakes
 pub mod Names
 pub mod Noted
 pub mod Refusal
+pub mod Words
 pub use Rattle.dd_engine.specs.Choosing
 pub use Rattle.dd_engine.specs.Indexed
 pub use Rattle.dd_engine.specs.IndexNotes

@@ -1,7 +1,7 @@
 -- What a command that makes a file-set changes in files that tell what they hold: it makes the file of each image,
 -- record by record, and then the directory.
 use Rattle.std.specs.Prelude.{◌≡◌, ◌⊎◌, ◌<◌, ℕ, List, [], ◌∷◌, All, filter, zip, Option, None, Some, is_some}
-use Rattle.std.specs.Prelude.{codes, length, option_map, slice_get, slice_index_or}
+use Rattle.std.specs.Prelude.{IfOk, Result, codes, length, option_map, slice_get, slice_index_or}
 use Rattle.dd_dir.specs.Directories.{directory_of}
 use Rattle.dd_elem.specs.FileId.{Ranks, text_of}
 use Rattle.dd_engine.specs.declared.merge.Pick.{Pick}
@@ -113,3 +113,7 @@ pub record MakesSome (GivesNames : Type 0) (folder : List ℕ) (old new : Option
   pub picks : List (Unit {0})
   pub all : IsWhole plan picks
   pub made : MakesFileSet (λ _ _. GivesNames) folder plan picks old new
+
+-- a command that is done has made some file-set in the folder
+abbrev pub DoneMakes : {E : Type 0} → Result ℕ E → Type 0 → List ℕ → Option Held → Option Held → Type 0
+DoneMakes r GivesNames folder old new = IfOk r (λ status. status ≡ 0 → MakesSome GivesNames folder old new)

@@ -33,7 +33,8 @@ pub(crate) fn copy_images<F: Files, O: Origins>(
 
     // Where the files tell what they hold, an image was made for each pick, as a file of its planned version, or it is
     // the file of the pick. All other files are as they were.
-    ensures made { IsOk result → MakesImages (MayLink (O.gives_names origins.now) (O.stands_at origins.now))
+    ensures made { IsOk result
+        → MakesImages (MayLink (O.gives_names origins.now) (O.stands_at origins.now))
         folder.now plan.now.versions (records_of plan.now.label plan.now.versions) picks.now
         (F.held files.old) (F.held files.new) }
 {
@@ -60,8 +61,10 @@ fn copy_record<'p, F: Files, O: Origins>(
     requires within { record.now.of < length versions.now }
     ensures refusal { IfErr result (IsOfWork (O.paths origins.now)) }
     ensures has { IfOk result (λ later. All (O.has origins.now) later.now) }
-    ensures copied { IfOk result (λ later. Copies (MayLink (O.gives_names origins.now) (O.stands_at origins.now))
-        folder.now versions.now record.now picks.now later.now (F.held files.old) (F.held files.new)) }
+    ensures copied { IfOk result (λ later.
+        Copies (MayLink (O.gives_names origins.now) (O.stands_at origins.now))
+        folder.now versions.now record.now picks.now later.now
+        (F.held files.old) (F.held files.new)) }
 {
     match (record.file, picks) {
         (Some(file), [pick, later @ ..]) => {
@@ -86,7 +89,8 @@ fn make_image<F: Files, O: Origins>(
 ) -> Result<(), Refusal>
     requires { O.has origins.now pick }
     ensures refusal { IfErr result (IsOfWork (O.paths origins.now)) }
-    ensures made { IsOk result → MakesImage (MayLink (O.gives_names origins.now) (O.stands_at origins.now) pick)
+    ensures made { IsOk result
+        → MakesImage (MayLink (O.gives_names origins.now) (O.stands_at origins.now) pick)
         folder.now file planned.now (F.held files.old) (F.held files.new) }
 {
     if link_image(alloc, folder, file, origins, pick, files)? {
@@ -146,7 +150,8 @@ fn link_image<F: Files, O: Origins>(
     ensures linked { IfOk result (λ is_linked. is_linked ≡ true
         → LinksImage (MayLink (O.gives_names origins.now) (O.stands_at origins.now) pick)
         folder.now file (F.held files.old) (F.held files.new)) }
-    ensures kept { IfOk result (λ is_linked. is_linked ≡ false → F.held files.new ≡ F.held files.old) }
+    ensures kept { IfOk result (λ is_linked.
+        is_linked ≡ false → F.held files.new ≡ F.held files.old) }
 {
     let Some(set) = linked_set(origins, pick) else {
         return Ok(false);
@@ -218,7 +223,8 @@ fn start_copy<F: Files>(
     files: &mut F,
 ) -> Result<(), Refusal>
     ensures refusal { (paths : ℕ) → IfErr result (IsOfWork paths) }
-    ensures started { IsOk result → StartsImage folder.now file (F.held files.old) (F.held files.new) }
+    ensures started { IsOk result
+        → StartsImage folder.now file (F.held files.old) (F.held files.new) }
 {
     make_folder(alloc, folder, file, files)?;
     let path = file_path(alloc, folder, &file.text())?;
@@ -277,8 +283,10 @@ fn accept<O: Origins>(
 /// Makes the refusal of a fault of a copy to this File ID. `origin` names the file that was copied.
 fn refusal_of(fault: FilingFault, file: FileId, origin: Subject) -> Refusal
     ensures memory { fault ≡ FilingFault.Memory → IsMemory result }
-    ensures unread { fault ≡ FilingFault.Unread → result ≡ record { subject = origin; fault = ProgramFault.Unread } }
-    ensures changed { fault ≡ FilingFault.Changed → result ≡ record { subject = origin; fault = ProgramFault.Changed } }
+    ensures unread { fault ≡ FilingFault.Unread
+        → result ≡ record { subject = origin; fault = ProgramFault.Unread } }
+    ensures changed { fault ≡ FilingFault.Changed
+        → result ≡ record { subject = origin; fault = ProgramFault.Changed } }
     ensures unsent { fault ≡ FilingFault.Unsent
         → result ≡ record { subject = Subject.Image file; fault = ProgramFault.Unsent } }
     ensures work { (paths : ℕ) → IsAmong paths origin → IsOfWork paths result }

@@ -10,7 +10,8 @@ use dd_line::Verb;
 /// The number of the first path that is empty.
 pub(crate) fn first_empty(paths: &[String]) -> Option<usize>
     ensures empty { IfSome result (IsEmptyAt paths.now) }
-    ensures first { IfSome result (λ at. (before : ℕ) → before < at → ¬ IsEmptyAt paths.now before) }
+    ensures first { IfSome result (λ at.
+        (before : ℕ) → before < at → ¬ IsEmptyAt paths.now before) }
     ensures none { result ≡ None → (at : ℕ) → ¬ IsEmptyAt paths.now at }
 {
     for (at, path) in paths.iter().enumerate() {
@@ -30,7 +31,8 @@ pub(crate) fn empty_path(verb: Verb, at: usize) -> Refusal
         → result ≡ record { subject = Subject.Source (at - 1); fault = ProgramFault.Absent } }
     ensures set { OnlyReads verb
         → result ≡ record { subject = Subject.Source at; fault = ProgramFault.Absent } }
-    ensures work { (sources : ℕ) → (¬ OnlyReads verb → at ≤ sources) → (OnlyReads verb → at < sources)
+    ensures work { (sources : ℕ) → (¬ OnlyReads verb → at ≤ sources)
+        → (OnlyReads verb → at < sources)
         → IsOfWork sources result }
 {
     match verb {

@@ -56,7 +56,8 @@ pub(crate) fn write_file_set<F: Files, O: Origins>(
     ensures refusal { IfErr result (IsOfWork (O.paths origins.now)) }
 
     // Where the files tell what they hold, an image was made for each pick, and then the directory.
-    ensures made { IsOk result → MakesFileSet (MayLink (O.gives_names origins.now) (O.stands_at origins.now))
+    ensures made { IsOk result
+        → MakesFileSet (MayLink (O.gives_names origins.now) (O.stands_at origins.now))
         folder.now plan.now picks.now (F.held files.old) (F.held files.new) }
 {
     copy_images(alloc, folder, plan, origins, picks, files)?;
@@ -82,7 +83,8 @@ fn make_directory<F: Files>(path: &str, plan: &Plan, files: &mut F) -> Result<()
 
     // Where the files tell what they hold, the file at that path is the directory, and no other file changed.
     ensures holds { IsOk result → F.held files.new
-        ≡ option_map (published path.now (directory_of plan.now.label plan.now.versions plan.now.withdrawn))
+        ≡ option_map
+        (published path.now (directory_of plan.now.label plan.now.versions plan.now.withdrawn))
         (F.held files.old) }
 {
     start_directory(path, files)?;
@@ -94,7 +96,8 @@ fn make_directory<F: Files>(path: &str, plan: &Plan, files: &mut F) -> Result<()
 fn start_directory<F: Files>(path: &str, files: &mut F) -> Result<(), ProgramFault>
     ensures refused { IsErr result → F.refusals files.new ≡ counted (F.refusals files.old) }
     ensures fault { IfErr result (λ fault. fault ≡ ProgramFault.Create) }
-    ensures made { IsOk result → F.held files.new ≡ option_map (started path.now) (F.held files.old) }
+    ensures made { IsOk result
+        → F.held files.new ≡ option_map (started path.now) (F.held files.old) }
 {
     match files.create(path) {
         Ok(()) => Ok(()),
@@ -104,10 +107,12 @@ fn start_directory<F: Files>(path: &str, files: &mut F) -> Result<(), ProgramFau
 
 /// Writes the directory.
 fn send_directory<F: Files>(plan: &Plan, files: &mut F) -> Result<(), ProgramFault>
-    ensures unsent { IsErr result → HasFailed (F.Write.failures files.old) (F.Write.failures files.new) }
+    ensures unsent { IsErr result
+        → HasFailed (F.Write.failures files.old) (F.Write.failures files.new) }
     ensures fault { IfErr result (λ fault. fault ≡ ProgramFault.Unsent) }
     ensures holds { IsOk result → F.held files.new
-        ≡ option_map (grown (directory_of plan.now.label plan.now.versions plan.now.withdrawn)) (F.held files.old) }
+        ≡ option_map (grown (directory_of plan.now.label plan.now.versions plan.now.withdrawn))
+        (F.held files.old) }
 {
     match write_directory(plan, files) {
         Ok(_) => Ok(()),

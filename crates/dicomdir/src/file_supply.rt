@@ -56,7 +56,8 @@ impl<F: Files> Supply for FileSupply<'_, F> {
 
     ghost sources = { λ s. length s.counts.now };
 
-    ghost told = { λ s. told_by (F.held s.files.now) (map (λ path. string_bytes path) s.paths.now) };
+    ghost told = { λ s.
+        told_by (F.held s.files.now) (map (λ path. string_bytes path) s.paths.now) };
 
     ghost refusals = { λ s at. (counts_at s.counts.now at).refusals };
 

@@ -4,7 +4,7 @@ ghost use Rattle.dd_elem.specs.Device.{HasFailed};
 ghost use Rattle.dd_engine.specs.Indexed.{IsNamed, IsWithin};
 ghost use Rattle.dd_engine.specs.Noting.{AreBelow, IsBelow};
 ghost use Rattle.dd_line.specs.Line.{words_of};
-ghost use Rattle.dicomdir.specs.Made.{IsPathAt, IsWhole, MakesFileSet, MakesSome, MayLink};
+ghost use Rattle.dicomdir.specs.Made.{DoneMakes, IsPathAt, IsWhole, MakesFileSet, MayLink};
 ghost use Rattle.dicomdir.specs.Refusal.{IsOfWork};
 
 use crate::file_set::{limits_of, write_file_set};
@@ -37,8 +37,8 @@ pub(crate) fn run_index<F: Files, O: Write>(
     ensures refusal { IfErr result (IsOfWork (length sources.now)) }
     ensures status { IfOk result (λ status. status ≤ 1) }
     ensures dry { making.entry.dry_run ≡ true → F.held files.new ≡ F.held files.old }
-    ensures made { making.entry.dry_run ≡ false → IfOk result (λ status. status ≡ 0
-        → MakesSome ⊥ making.entry.folder.now (F.held files.old) (F.held files.new)) }
+    ensures made { making.entry.dry_run ≡ false
+        → DoneMakes result ⊥ making.entry.folder.now (F.held files.old) (F.held files.new) }
 {
     let mut counts = counts_of(alloc, sources.len())?;
     let limits = limits_of(making.max_bytes);
@@ -126,7 +126,8 @@ fn index_files<F: Files>(
     ensures named { IfErr result (λ noted. IsNamed (length sources.now) noted.fault) }
     ensures clash { IfErr result (λ noted. IsBelow (λ at. at) (length sources.now) noted.clash) }
     ensures within { IfOk result (λ noted. IsWithin (length sources.now) noted.indexed) }
-    ensures below { IfOk result (λ noted. AreBelow (λ at. at) (length sources.now) noted.notes.left_out.items) }
+    ensures below { IfOk result (λ noted.
+        AreBelow (λ at. at) (length sources.now) noted.notes.left_out.items) }
     ensures whole { IfOk result (λ noted. IsWhole noted.indexed.plan noted.indexed.picks.items) }
     ensures kept { F.held files.new ≡ F.held files.old }
 {

@@ -29,9 +29,11 @@ impl From<Memory> for NamesFault {
 /// number of the first name that is empty or not UTF-8, and number 1 where there is no name. Memory where a growth
 /// was refused. Each name is copied once.
 pub(crate) fn names_in(alloc: Global, list: &[u8]) -> Result<Vec<String>, NamesFault>
-    ensures names { IfOk result (λ names. map (λ name. string_bytes name) names.items ≡ parts list.now) }
+    ensures names { IfOk result (λ names.
+        map (λ name. string_bytes name) names.items ≡ parts list.now) }
     ensures good { IsOk result → AreNames (parts list.now) }
-    ensures bad { (number : ℕ) → result ≡ Err (NamesFault.BadName number) → FailsAt (parts list.now) number }
+    ensures bad { (number : ℕ) → result ≡ Err (NamesFault.BadName number)
+        → FailsAt (parts list.now) number }
 
     // The parts make up the list, each with a zero byte behind it.
     ensures listed { IsListOf (parts list.now) list.now }

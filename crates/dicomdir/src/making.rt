@@ -88,7 +88,8 @@ pub(crate) fn tell_counts<O: Write>(ending: Ending, plan: &Plan, out: &mut O) ->
 pub(crate) fn tell_plan_of_images<O: Write>(plan: &Plan, images: u64, out: &mut O) -> u8
     ensures status { (result ≡ 0) ⊎ (result ≡ 1) }
     ensures done { result ≡ 0 → TakesText O.Write out.old out.new
-        (images_text (length plan.now.versions) (size plan.now.label plan.now.versions plan.now.withdrawn) images) }
+        (images_text (length plan.now.versions)
+        (size plan.now.label plan.now.versions plan.now.withdrawn) images) }
     ensures failed { result ≡ 1 → HasFailed (O.failures out.old) (O.failures out.new) }
 {
     let (mut count, mut size, mut all) = (Buffer::new(), Buffer::new(), Buffer::new());

@@ -27,7 +27,8 @@ pub(crate) fn mask_words(alloc: Global, words: &[String]) -> Result<Vec<String>,
         ≡ map (λ word. masked (string_bytes word)) words.now) }
 
     // So no word has a control character.
-    ensures clear { IfOk result (λ shown. list_any (λ word. has_control (string_bytes word)) shown.items ≡ false) }
+    ensures clear { IfOk result (λ shown.
+        list_any (λ word. has_control (string_bytes word)) shown.items ≡ false) }
 {
     let mut shown = Vec::with_capacity(alloc, words.len())?;
     for word in words {

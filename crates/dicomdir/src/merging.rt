@@ -4,7 +4,7 @@ ghost use Rattle.dd_elem.specs.Device.{HasFailed};
 ghost use Rattle.dd_engine.specs.Merging.{IsNamedSet};
 ghost use Rattle.dd_engine.specs.Noting.{AreBelow, IsBelow};
 ghost use Rattle.dd_line.specs.Line.{words_of};
-ghost use Rattle.dicomdir.specs.Made.{IsMemberPath, IsWhole, MakesFileSet, MakesSome, MayLink};
+ghost use Rattle.dicomdir.specs.Made.{DoneMakes, IsMemberPath, IsWhole, MakesFileSet, MayLink};
 ghost use Rattle.dicomdir.specs.Refusal.{IsOfWork};
 
 use crate::file_set::{limits_of, write_file_set};
@@ -38,8 +38,9 @@ pub(crate) fn run_merge<F: Files, O: Write>(
     ensures refusal { IfErr result (IsOfWork (length sets.now)) }
     ensures status { IfOk result (λ status. status ≤ 1) }
     ensures dry { making.entry.dry_run ≡ true → F.held files.new ≡ F.held files.old }
-    ensures made { making.entry.dry_run ≡ false → IfOk result (λ status. status ≡ 0
-        → MakesSome (making.entry.link ≡ true) making.entry.folder.now (F.held files.old) (F.held files.new)) }
+    ensures made { making.entry.dry_run ≡ false
+        → DoneMakes result (making.entry.link ≡ true) making.entry.folder.now
+        (F.held files.old) (F.held files.new) }
 {
     let directories = read_directories(alloc, sets, files)?;
     let slices = slices(alloc, &directories)?;
@@ -70,8 +71,8 @@ pub(crate) fn run_withdraw<F: Files, O: Write>(
     ensures refusal { IfErr result (IsOfWork (length sets.now)) }
     ensures status { IfOk result (λ status. status ≤ 1) }
     ensures dry { making.entry.dry_run ≡ true → F.held files.new ≡ F.held files.old }
-    ensures made { making.entry.dry_run ≡ false → IfOk result (λ status. status ≡ 0
-        → MakesSome ⊥ making.entry.folder.now (F.held files.old) (F.held files.new)) }
+    ensures made { making.entry.dry_run ≡ false
+        → DoneMakes result ⊥ making.entry.folder.now (F.held files.old) (F.held files.new) }
 {
     match withdraw_of(alloc, making, &sets[..1], names, files, out) {
         Ok(status) => Ok(status),
@@ -92,8 +93,8 @@ fn withdraw_of<F: Files, O: Write>(
     ensures refusal { IfErr result (IsOfWork 1) }
     ensures status { IfOk result (λ status. status ≤ 1) }
     ensures dry { making.entry.dry_run ≡ true → F.held files.new ≡ F.held files.old }
-    ensures made { making.entry.dry_run ≡ false → IfOk result (λ status. status ≡ 0
-        → MakesSome ⊥ making.entry.folder.now (F.held files.old) (F.held files.new)) }
+    ensures made { making.entry.dry_run ≡ false
+        → DoneMakes result ⊥ making.entry.folder.now (F.held files.old) (F.held files.new) }
 {
     let directories = read_directories(alloc, sets, files)?;
     let slices = slices(alloc, &directories)?;
@@ -127,14 +128,17 @@ fn write_noted<'a, F: Files, O: Write>(
     out: &mut O,
 ) -> Result<u8, Refusal>
     requires sets { length sets.now.directories.now ≡ length sets.now.folders.now }
-    requires within { All (λ pick. pick.set < length sets.now.folders.now) noted.now.merged.picks.items }
-    requires below { AreBelow (λ pick. pick.set) (length sets.now.folders.now) noted.now.notes.left_out.items }
+    requires within { All (λ pick. pick.set < length sets.now.folders.now)
+        noted.now.merged.picks.items }
+    requires below { AreBelow (λ pick. pick.set) (length sets.now.folders.now)
+        noted.now.notes.left_out.items }
     requires whole { IsWhole noted.now.merged.plan noted.now.merged.picks.items }
     ensures refusal { IfErr result (IsOfWork (length sets.now.folders.now)) }
     ensures status { IfOk result (λ status. status ≤ 1) }
     ensures dry { making.entry.dry_run ≡ true → F.held files.new ≡ F.held files.old }
-    ensures made { making.entry.dry_run ≡ false → IfOk result (λ status. status ≡ 0
-        → MakesSome (sets.now.link ≡ true) making.entry.folder.now (F.held files.old) (F.held files.new)) }
+    ensures made { making.entry.dry_run ≡ false
+        → DoneMakes result (sets.now.link ≡ true) making.entry.folder.now
+        (F.held files.old) (F.held files.new) }
 {
     let NotedMerge { merged, notes } = noted;
     if tell_noted(notes, sets.folders, out).is_err() {
@@ -170,8 +174,10 @@ fn write_merged<'a, F: Files, O: Write>(
     ensures status { IfOk result (λ status. status ≤ 1) }
     ensures dry { making.entry.dry_run ≡ true → F.held files.new ≡ F.held files.old }
     ensures made { IsOk result → making.entry.dry_run ≡ false
-        → MakesFileSet (MayLink (sets.now.link ≡ true) (IsMemberPath (words_of sets.now.folders.now)))
-        making.entry.folder.now merged.now.plan merged.now.picks.items (F.held files.old) (F.held files.new) }
+        → MakesFileSet
+        (MayLink (sets.now.link ≡ true) (IsMemberPath (words_of sets.now.folders.now)))
+        making.entry.folder.now merged.now.plan merged.now.picks.items
+        (F.held files.old) (F.held files.new) }
 {
     if making.dry_run {
         return Ok(tell_counts(Ending::Planned, &merged.plan, out));

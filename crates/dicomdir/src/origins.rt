@@ -87,7 +87,8 @@ impl Origins for SourceFiles<'_> {
 
     ghost has = { λ s at. at < length s.paths.now };
 
-    ghost stands_at = { λ s at path. IsPathAt (map (λ path. string_bytes path) s.paths.now) at path };
+    ghost stands_at = { λ s at path.
+        IsPathAt (map (λ path. string_bytes path) s.paths.now) at path };
 
     ghost is_in = { λ _ _ _. ⊥ };
 
@@ -137,9 +138,11 @@ impl<'a> Origins for SetFiles<'_, 'a> {
     ghost has = { λ s pick. (pick.set < length s.folders.now)
         × (length s.directories.now ≡ length s.folders.now) };
 
-    ghost stands_at = { λ s pick path. IsMemberPath (map (λ folder. string_bytes folder) s.folders.now) pick path };
+    ghost stands_at = { λ s pick path.
+        IsMemberPath (map (λ folder. string_bytes folder) s.folders.now) pick path };
 
-    ghost is_in = { λ s pick set. IsPathAt (map (λ folder. string_bytes folder) s.folders.now) pick.set set };
+    ghost is_in = { λ s pick set.
+        IsPathAt (map (λ folder. string_bytes folder) s.folders.now) pick.set set };
 
     ghost gives_names = { λ s. s.link ≡ true };
 

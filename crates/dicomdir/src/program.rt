@@ -1,12 +1,11 @@
 //! The program's run.
-ghost use Rattle.std.specs.Prelude.{◌≡◌, ◌<◌, ◌≤◌, ◌+◌, ◌⊎◌, [], IfErr, IfOk, false, length, slice_index_or, true};
-ghost use Rattle.clap.specs.Words.{subcommand_of, takes};
-ghost use Rattle.dd_line.specs.Line.{AsksBadName, HasBadName, IsCheck, IsReading, LacksSources, OnlyReads};
-ghost use Rattle.dd_line.specs.Line.{dicomdir_app, least_paths, words_of};
+ghost use Rattle.std.specs.Prelude.{◌≡◌, ◌≤◌, ◌<◌, ◌+◌, ◌⊎◌, IfErr, IfOk, length, true, false};
+ghost use Rattle.dd_line.specs.Line.{AsksBadName, HasBadName, IsCheck, IsReading, LacksSources, OnlyReads, least_paths};
 ghost use Rattle.dicomdir.specs.DryRun.{HasDryRun, HasLink, first_path};
 ghost use Rattle.dicomdir.specs.EmptyPaths.{AsksEmptyPath, HasEmptyPath, least_sources};
-ghost use Rattle.dicomdir.specs.Made.{MakesSome};
+ghost use Rattle.dicomdir.specs.Made.{DoneMakes, MakesSome};
 ghost use Rattle.dicomdir.specs.Refusal.{IsOfWork};
+ghost use Rattle.dicomdir.specs.Words.{IsStatusOf, IsTaken, MakesAsked, folder_of, line_of};
 
 use crate::empty_paths::{empty_path, first_empty};
 use crate::index::run_index;
@@ -21,6 +20,24 @@ use dd_elem::Write;
 use dd_files::Files;
 use dd_line::{Asked, Verb, read_words};
 use std::alloc::Global;
+
+/// What a line asks for, and the names that it spells.
+#[derive(Clone, Copy)]
+struct Work<'a> {
+    /// What it asks for.
+    asked: &'a Asked,
+    /// The names, read.
+    names: &'a Names,
+}
+
+/// The paths that a command works on.
+#[derive(Clone, Copy)]
+struct LinePaths<'a> {
+    /// The folder that it writes to, if it does, and else empty.
+    folder: &'a str,
+    /// The paths that it reads.
+    sources: &'a [String],
+}
 
 /// Runs a command line, the first word being the program's name, and answers the status: 0 where the
 /// work is done or help was asked for, 1 where the run was refused or the output failed, 2 where the
@@ -63,41 +80,36 @@ pub fn run<F: Files, O: Write, E: Write>(
     ensures status { result ≤ 3 }
 
     // Only `check` finds something.
-    ensures findings { result ≡ 3 → IsCheck (subcommand_of dicomdir_app (words_of words.items)) }
+    ensures findings { result ≡ 3 → IsCheck (line_of words.items) }
 
     // A command line at fault leaves the files and the output as they were.
     ensures line { result ≡ 2 → (files.new ≡ files.old) × (out.new ≡ out.old) }
 
     // It is at fault only where the program does not take the words, or where they give an ID or a UID of the
     // wrong form, or no source. The work of such a line is never done.
-    ensures words { result ≡ 2 → takes dicomdir_app (words_of words.items) ≡ true
-        → HasBadName (subcommand_of dicomdir_app (words_of words.items))
-        ⊎ LacksSources (subcommand_of dicomdir_app (words_of words.items)) }
-    ensures names { result ≡ 0 → takes dicomdir_app (words_of words.items) ≡ true
-        → ¬ HasBadName (subcommand_of dicomdir_app (words_of words.items)) }
-    ensures sources { takes dicomdir_app (words_of words.items) ≡ true
-        → LacksSources (subcommand_of dicomdir_app (words_of words.items))
+    ensures words { result ≡ 2 → IsTaken words.items
+        → HasBadName (line_of words.items) ⊎ LacksSources (line_of words.items) }
+    ensures names { result ≡ 0 → IsTaken words.items → ¬ HasBadName (line_of words.items) }
+    ensures sources { IsTaken words.items → LacksSources (line_of words.items)
         → (1 ≤ result) × (files.new ≡ files.old) × (out.new ≡ out.old) }
 
     // With an empty path a line leaves the files and the output as they were, too, and its work is not done.
-    ensures empty { takes dicomdir_app (words_of words.items) ≡ true
-        → HasEmptyPath (subcommand_of dicomdir_app (words_of words.items))
+    ensures empty { IsTaken words.items → HasEmptyPath (line_of words.items)
         → (1 ≤ result) × (files.new ≡ files.old) × (out.new ≡ out.old) }
 
     // Where the files tell what they hold, `check`, `list` and each command with `--dry-run` leave them as they were.
-    ensures reading { takes dicomdir_app (words_of words.items) ≡ true
-        → IsReading (subcommand_of dicomdir_app (words_of words.items)) → F.held files.new ≡ F.held files.old }
-    ensures dry { takes dicomdir_app (words_of words.items) ≡ true
-        → HasDryRun (subcommand_of dicomdir_app (words_of words.items)) → F.held files.new ≡ F.held files.old }
+    ensures reading { IsTaken words.items → IsReading (line_of words.items)
+        → F.held files.new ≡ F.held files.old }
+    ensures dry { IsTaken words.items → HasDryRun (line_of words.items)
+        → F.held files.new ≡ F.held files.old }
 
     // Where they tell that, each other command that is done has made some file-set in the first of its paths. That is
     // all images of a plan, in the order of its records, and then its directory. Each image is a copy, a file of the
     // version that is planned there. Only where the words set `--link` may it be a file under a second name.
-    ensures made { result ≡ 0 → takes dicomdir_app (words_of words.items) ≡ true
-        → ¬ IsReading (subcommand_of dicomdir_app (words_of words.items))
-        → ¬ HasDryRun (subcommand_of dicomdir_app (words_of words.items))
-        → MakesSome (HasLink (subcommand_of dicomdir_app (words_of words.items)))
-        (first_path (subcommand_of dicomdir_app (words_of words.items))) (F.held files.old) (F.held files.new) }
+    ensures made { result ≡ 0 → IsTaken words.items
+        → ¬ IsReading (line_of words.items) → ¬ HasDryRun (line_of words.items)
+        → MakesSome (HasLink (line_of words.items)) (first_path (line_of words.items))
+        (F.held files.old) (F.held files.new) }
 
     // Where the work is done nothing goes to the error output.
     ensures done { result ≡ 0 → err.new ≡ err.old }
@@ -127,9 +139,7 @@ fn run_asked<F: Files, O: Write, E: Write>(
     ensures done { result ≡ 0 → err.new ≡ err.old }
     ensures kept { OnlyReads asked.now.verb → F.held files.new ≡ F.held files.old }
     ensures dry { asked.now.dry_run ≡ true → F.held files.new ≡ F.held files.old }
-    ensures made { result ≡ 0 → ¬ OnlyReads asked.now.verb → asked.now.dry_run ≡ false
-        → MakesSome (asked.now.link ≡ true) (slice_index_or (words_of asked.now.paths.items) 0 [])
-        (F.held files.old) (F.held files.new) }
+    ensures made { result ≡ 0 → MakesAsked asked.now (F.held files.old) (F.held files.new) }
 {
     let names = match names_of(alloc, asked) {
         Ok(names) => names,
@@ -137,43 +147,52 @@ fn run_asked<F: Files, O: Write, E: Write>(
     };
     match first_empty(asked.paths.as_slice()) {
         Some(at) => tell_empty(asked, at, err),
-        None => run_named(alloc, asked, &names, files, out, err),
+        None => {
+            let work = Work {
+                asked,
+                names: &names,
+            };
+            run_named(alloc, work, files, out, err)
+        }
     }
 }
 
-/// Runs the command, whose names and paths have passed. Prints a refusal if there is one, and answers the status.
+/// Runs the command, whose paths have passed. Prints a refusal if there is one, and answers the status.
 fn run_named<F: Files, O: Write, E: Write>(
     alloc: Global,
-    asked: &Asked,
-    names: &Names,
+    work: Work<'_>,
     files: &mut F,
     out: &mut O,
     err: &mut E,
 ) -> u8
-    requires { least_paths asked.now.verb ≤ length asked.now.paths.items }
-    ensures status { (result ≤ 1) ⊎ ((result ≡ 3) × (asked.now.verb ≡ Verb.Check)) }
+    requires { least_paths work.asked.now.verb ≤ length work.asked.now.paths.items }
+    ensures status { IsStatusOf work.entry.asked.now.verb result }
     ensures done { result ≡ 0 → err.new ≡ err.old }
-    ensures kept { OnlyReads asked.now.verb → F.held files.new ≡ F.held files.old }
-    ensures dry { asked.now.dry_run ≡ true → F.held files.new ≡ F.held files.old }
-    ensures made { result ≡ 0 → ¬ OnlyReads asked.now.verb → asked.now.dry_run ≡ false
-        → MakesSome (asked.now.link ≡ true) (slice_index_or (words_of asked.now.paths.items) 0 [])
-        (F.held files.old) (F.held files.new) }
+    ensures kept { OnlyReads work.entry.asked.now.verb → F.held files.new ≡ F.held files.old }
+    ensures dry { work.entry.asked.now.dry_run ≡ true → F.held files.new ≡ F.held files.old }
+    ensures made { result ≡ 0
+        → MakesAsked work.entry.asked.now (F.held files.old) (F.held files.new) }
 {
+    let asked = work.asked;
     if asked.quiet {
         files.be_quiet();
     }
-    let (folder, given) = paths_of(asked);
-    let listed = match all_sources(alloc, asked, folder, given, files) {
+    let given = paths_of(asked);
+    let listed = match all_sources(alloc, asked, given.folder, given.sources, files) {
         Ok(listed) => listed,
-        Err(refusal) => return tell_refusal(&refusal, asked, folder, given, files, err),
+        Err(refusal) => return tell_refusal(&refusal, asked, given, files, err),
     };
     let sources = match &listed {
         Some(all) => all.as_slice(),
-        None => given,
+        None => given.sources,
     };
-    match run_verb(alloc, asked, folder, sources, names, files, out) {
+    let paths = LinePaths {
+        folder: given.folder,
+        sources,
+    };
+    match run_verb(alloc, work, paths, files, out) {
         Ok(status) => status,
-        Err(refusal) => tell_refusal(&refusal, asked, folder, sources, files, err),
+        Err(refusal) => tell_refusal(&refusal, asked, paths, files, err),
     }
 }
 
@@ -181,19 +200,18 @@ fn run_named<F: Files, O: Write, E: Write>(
 fn tell_refusal<F: Files, E: Write>(
     refusal: &Refusal,
     asked: &Asked,
-    folder: &str,
-    sources: &[String],
+    paths: LinePaths<'_>,
     files: &mut F,
     err: &mut E,
 ) -> u8
-    requires { IsOfWork (length sources.now) refusal.now }
+    requires { IsOfWork (length paths.sources.now) refusal.now }
     ensures status { result ≡ 1 }
     ensures kept { F.held files.new ≡ F.held files.old }
 {
     files.hide_progress();
     let paths = Paths {
-        folder,
-        sources,
+        folder: paths.folder,
+        sources: paths.sources,
         list: list_of(asked),
         unstored: files.unstored(),
     };
@@ -206,7 +224,7 @@ fn tell_empty<E: Write>(asked: &Asked, at: usize, err: &mut E) -> u8
     requires within { at < length asked.now.paths.items }
     ensures { result ≡ 1 }
 {
-    let (folder, sources) = paths_of(asked);
+    let LinePaths { folder, sources } = paths_of(asked);
     let paths = Paths {
         folder,
         sources,
@@ -216,19 +234,26 @@ fn tell_empty<E: Write>(asked: &Asked, at: usize, err: &mut E) -> u8
     tell(&empty_path(asked.verb, at), paths, err)
 }
 
-/// The folder that the command writes to, if it does, and the paths of the line that it reads.
-fn paths_of(asked: &Asked) -> (&str, &[String])
+/// Gives the paths that the line has itself.
+fn paths_of(asked: &Asked) -> LinePaths<'_>
     requires { least_paths asked.now.verb ≤ length asked.now.paths.items }
-    ensures least { least_sources asked.now.verb ≤ length result.1.now }
-    ensures folder { ¬ OnlyReads asked.now.verb
-        → result.0.now ≡ slice_index_or (words_of asked.now.paths.items) 0 [] }
-    ensures writes { ¬ OnlyReads asked.now.verb → length asked.now.paths.items ≡ length result.1.now + 1 }
-    ensures reads { OnlyReads asked.now.verb → length asked.now.paths.items ≡ length result.1.now }
+    ensures least { least_sources asked.now.verb ≤ length result.sources.now }
+    ensures folder { ¬ OnlyReads asked.now.verb → result.folder.now ≡ folder_of asked.now }
+    ensures writes { ¬ OnlyReads asked.now.verb
+        → length asked.now.paths.items ≡ length result.sources.now + 1 }
+    ensures reads { OnlyReads asked.now.verb
+        → length asked.now.paths.items ≡ length result.sources.now }
 {
     let paths = asked.paths.as_slice();
     match asked.verb {
-        Verb::Index | Verb::Merge | Verb::Withdraw => (paths[0].as_str(), &paths[1..]),
-        Verb::Check | Verb::List => ("", paths),
+        Verb::Index | Verb::Merge | Verb::Withdraw => LinePaths {
+            folder: paths[0].as_str(),
+            sources: &paths[1..],
+        },
+        Verb::Check | Verb::List => LinePaths {
+            folder: "",
+            sources: paths,
+        },
     }
 }
 
@@ -240,36 +265,37 @@ fn list_of(asked: &Asked) -> &str {
     }
 }
 
-/// Runs the command, which may write to this folder and reads these paths.
+/// Runs the command on these paths.
 fn run_verb<F: Files, O: Write>(
     alloc: Global,
-    asked: &Asked,
-    folder: &str,
-    paths: &[String],
-    names: &Names,
+    work: Work<'_>,
+    paths: LinePaths<'_>,
     files: &mut F,
     out: &mut O,
 ) -> Result<u8, Refusal>
-    requires { least_sources asked.now.verb ≤ length paths.now }
-    ensures refusal { IfErr result (IsOfWork (length paths.now)) }
-    ensures status { IfOk result (λ status. (status ≤ 1) ⊎ ((status ≡ 3) × (asked.now.verb ≡ Verb.Check))) }
+    requires { least_sources work.asked.now.verb ≤ length paths.sources.now }
+    ensures refusal { IfErr result (IsOfWork (length paths.entry.sources.now)) }
+    ensures status { IfOk result (λ status. IsStatusOf work.entry.asked.now.verb status) }
 
     // Where the files tell what they hold, a command that only reads leaves them as they were, and so does one that
     // only plans.
-    ensures kept { OnlyReads asked.now.verb → F.held files.new ≡ F.held files.old }
-    ensures dry { asked.now.dry_run ≡ true → F.held files.new ≡ F.held files.old }
+    ensures kept { OnlyReads work.entry.asked.now.verb → F.held files.new ≡ F.held files.old }
+    ensures dry { work.entry.asked.now.dry_run ≡ true → F.held files.new ≡ F.held files.old }
 
     // A command that writes and is done has made a file-set in the folder, with second names only where it is asked for
     // them.
-    ensures made { ¬ OnlyReads asked.now.verb → asked.now.dry_run ≡ false → IfOk result (λ status. status ≡ 0
-        → MakesSome (asked.now.link ≡ true) folder.now (F.held files.old) (F.held files.new)) }
+    ensures made { ¬ OnlyReads work.entry.asked.now.verb → work.entry.asked.now.dry_run ≡ false
+        → DoneMakes result (work.entry.asked.now.link ≡ true) paths.entry.folder.now
+        (F.held files.old) (F.held files.new) }
 {
+    let Work { asked, names } = work;
+    let LinePaths { folder, sources } = paths;
     let making = Making::asked(asked, folder);
     match asked.verb {
-        Verb::Index => run_index(alloc, making, paths, &names.choice, files, out),
-        Verb::Merge => run_merge(alloc, making, paths, &names.choice, files, out),
-        Verb::Withdraw => run_withdraw(alloc, making, paths, names, files, out),
-        Verb::Check => run_check(alloc, paths[0].as_str(), comparison_of(asked), files, out),
-        Verb::List => run_list(alloc, paths[0].as_str(), asked.long, files, out),
+        Verb::Index => run_index(alloc, making, sources, &names.choice, files, out),
+        Verb::Merge => run_merge(alloc, making, sources, &names.choice, files, out),
+        Verb::Withdraw => run_withdraw(alloc, making, sources, names, files, out),
+        Verb::Check => run_check(alloc, sources[0].as_str(), comparison_of(asked), files, out),
+        Verb::List => run_list(alloc, sources[0].as_str(), asked.long, files, out),
     }
 }

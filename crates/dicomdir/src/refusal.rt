@@ -158,7 +158,8 @@ impl Refusal {
 }
 
 impl From<Memory> for Refusal {
-    ghost from_gives = { λ _ refusal. refusal ≡ record { subject = subjects.General; fault = faults.Memory } };
+    ghost from_gives = { λ _ refusal.
+        refusal ≡ record { subject = subjects.General; fault = faults.Memory } };
 
     fn from(_refused: Memory) -> Refusal {
         Refusal::memory()

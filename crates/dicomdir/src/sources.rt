@@ -25,7 +25,8 @@ pub(crate) fn all_sources<F: Files>(
     ensures refusal { (paths : ℕ) → IfErr result (IsOfWork paths) }
     ensures none { asked.now.files0_from ≡ None → IfOk result (λ listed. listed ≡ None) }
     ensures all { IfOk result (λ listed. IfSome listed (λ all. AreWithListed given.now all.items)) }
-    ensures least { IfOk result (λ listed. IfSome listed (λ all. length given.now ≤ length all.items)) }
+    ensures least { IfOk result (λ listed.
+        IfSome listed (λ all. length given.now ≤ length all.items)) }
     ensures kept { F.held files.new ≡ F.held files.old }
 {
     match asked.verb {

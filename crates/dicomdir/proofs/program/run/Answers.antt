@@ -1,11 +1,11 @@
-use Rattle.std.proofs.Common.{◌≡◌, arith, inl, subst, sym, true}
+use Rattle.std.proofs.Common.{arith, inl, subst, sym}
 use Rattle.std.specs.Prelude.{◌⊎◌}
-use Rattle.clap.specs.Words.{subcommand_of, takes}
-use Rattle.dd_line.specs.Line.{HasBadName, IsCheck, IsReading, LacksSources, dicomdir_app, words_of}
+use Rattle.dd_line.specs.Line.{HasBadName, IsCheck, IsReading, LacksSources}
 use Rattle.dd_line.proofs.LineLemmas.{asked_bad, asked_check, given_bad}
 use Rattle.dicomdir.specs.DryRun.{HasDryRun, HasLink, first_path}
 use Rattle.dicomdir.specs.EmptyPaths.{HasEmptyPath}
 use Rattle.dicomdir.specs.Made.{MakesSome}
+use Rattle.dicomdir.specs.Words.{IsTaken, line_of}
 use Rattle.dicomdir.proofs.DryRuns.{asked_dry, asked_work}
 use Rattle.dicomdir.proofs.EmptyWords.{asked_empty}
 use Rattle.dicomdir.proofs.LinesRefused.{taken_lacks, taken_mistake}
@@ -16,84 +16,81 @@ use Rattle.dicomdir.proofs.program.run.Goals as goal
 
 pub returns-in-Ok-clause-findings : goal.returns-in-Ok-clause-findings
 returns-in-Ok-clause-findings g c = λ is.
-    subst (λ words. IsCheck (subcommand_of dicomdir_app (words_of words))) c.as_slice.ensures.value
+    subst (λ words. IsCheck (line_of words)) c.as_slice.ensures.value
     (asked_check c.in-Ok.asked _ c.in-Ok.ensures.asked (c.run_asked.ensures.findings is))
 
 pub returns-in-Ok-clause-words : goal.returns-in-Ok-clause-words
 returns-in-Ok-clause-words g c = λ is _.
-    inl (subst (λ words. HasBadName (subcommand_of dicomdir_app (words_of words))) c.as_slice.ensures.value
+    inl (subst (λ words. HasBadName (line_of words)) c.as_slice.ensures.value
     (asked_bad c.in-Ok.asked _ c.in-Ok.ensures.asked (c.run_asked.ensures.bad is)))
 
 pub returns-in-Ok-clause-names : goal.returns-in-Ok-clause-names
 returns-in-Ok-clause-names g c = λ is _ bad.
     c.run_asked.ensures.good is (given_bad c.in-Ok.asked _ c.in-Ok.ensures.asked
-    (subst (λ words. HasBadName (subcommand_of dicomdir_app (words_of words))) (sym c.as_slice.ensures.value) bad))
+    (subst (λ words. HasBadName (line_of words)) (sym c.as_slice.ensures.value) bad))
 
 pub returns-in-Ok-clause-sources : goal.returns-in-Ok-clause-sources
 returns-in-Ok-clause-sources g c = λ _ lacks.
     absurd (c.in-Ok.ensures.kinds.1
-    (subst (λ words. LacksSources (subcommand_of dicomdir_app (words_of words))) (sym c.as_slice.ensures.value) lacks))
+    (subst (λ words. LacksSources (line_of words)) (sym c.as_slice.ensures.value) lacks))
 
 pub returns-in-Ok-clause-empty : goal.returns-in-Ok-clause-empty
 returns-in-Ok-clause-empty g c = λ _ has.
     c.run_asked.ensures.empty (asked_empty c.in-Ok.asked _ c.in-Ok.ensures.asked
-    (subst (λ words. HasEmptyPath (subcommand_of dicomdir_app (words_of words))) (sym c.as_slice.ensures.value) has))
+    (subst (λ words. HasEmptyPath (line_of words)) (sym c.as_slice.ensures.value) has))
 
 pub returns-in-Ok-clause-reading : goal.returns-in-Ok-clause-reading
 returns-in-Ok-clause-reading g c = λ _ reads.
     c.run_asked.ensures.kept (c.in-Ok.ensures.reading.1
-    (subst (λ words. IsReading (subcommand_of dicomdir_app (words_of words))) (sym c.as_slice.ensures.value) reads))
+    (subst (λ words. IsReading (line_of words)) (sym c.as_slice.ensures.value) reads))
 
 pub returns-in-Ok-clause-dry : goal.returns-in-Ok-clause-dry
 returns-in-Ok-clause-dry g c = λ _ has.
     c.run_asked.ensures.dry (asked_dry c.in-Ok.asked _ c.in-Ok.ensures.asked
-    (subst (λ words. HasDryRun (subcommand_of dicomdir_app (words_of words))) (sym c.as_slice.ensures.value) has))
+    (subst (λ words. HasDryRun (line_of words)) (sym c.as_slice.ensures.value) has))
 
 pub returns-in-Ok-clause-made : goal.returns-in-Ok-clause-made
 returns-in-Ok-clause-made g c = λ is _ writes works.
-    let found = subcommand_of dicomdir_app (words_of c.as_slice.result.now) in
-    subst (λ words. MakesSome (HasLink (subcommand_of dicomdir_app (words_of words)))
-    (first_path (subcommand_of dicomdir_app (words_of words))) (g.F.Files.held c.args.files.now)
-    (g.F.Files.held c.run_asked.new.files)) c.as_slice.ensures.value
+    let found = line_of c.as_slice.result.now in
+    subst (λ words. MakesSome (HasLink (line_of words)) (first_path (line_of words))
+    (g.F.Files.held c.args.files.now) (g.F.Files.held c.run_asked.new.files)) c.as_slice.ensures.value
     (asked_makes c.in-Ok.asked found _ _ c.in-Ok.ensures.asked (c.run_asked.ensures.made is
-    (λ reads. writes (subst (λ words. IsReading (subcommand_of dicomdir_app (words_of words))) c.as_slice.ensures.value
+    (λ reads. writes (subst (λ words. IsReading (line_of words)) c.as_slice.ensures.value
     (c.in-Ok.ensures.reading.0 reads)))
     (asked_work c.in-Ok.asked found c.in-Ok.ensures.asked
-    (λ dry. works (subst (λ words. HasDryRun (subcommand_of dicomdir_app (words_of words))) c.as_slice.ensures.value
+    (λ dry. works (subst (λ words. HasDryRun (line_of words)) c.as_slice.ensures.value
     dry)))))
 
 -- ---- a line that is refused
 
 pub returns-clause-words : goal.returns-clause-words
 returns-clause-words g c = λ is taken.
-    let still = subst (λ words. takes dicomdir_app (words_of words) ≡ true) (sym c.as_slice.ensures.value) taken in
-    subst (λ words. HasBadName (subcommand_of dicomdir_app (words_of words))
-    ⊎ LacksSources (subcommand_of dicomdir_app (words_of words))) c.as_slice.ensures.value
+    let still = subst (λ words. IsTaken words) (sym c.as_slice.ensures.value) taken in
+    subst (λ words. HasBadName (line_of words) ⊎ LacksSources (line_of words)) c.as_slice.ensures.value
     (taken_lacks c.in-Err.fault c.refuse_line.result _ _ (c.in-Err.ensures.passes still)
     (λ memory. (c.refuse_line.ensures.memory memory).0) is)
 
 pub returns-clause-names : goal.returns-clause-names
 returns-clause-names g c = λ is taken _.
-    let still = subst (λ words. takes dicomdir_app (words_of words) ≡ true) (sym c.as_slice.ensures.value) taken in
+    let still = subst (λ words. IsTaken words) (sym c.as_slice.ensures.value) taken in
     let amiss = c.refuse_line.ensures.mistake (taken_mistake c.in-Err.fault _ (c.in-Err.ensures.passes still)) in
     omega (arith, is, amiss.0)
 
 pub returns-clause-sources : goal.returns-clause-sources
 returns-clause-sources g c = λ taken _.
-    let still = subst (λ words. takes dicomdir_app (words_of words) ≡ true) (sym c.as_slice.ensures.value) taken in
+    let still = subst (λ words. IsTaken words) (sym c.as_slice.ensures.value) taken in
     let amiss = c.refuse_line.ensures.mistake (taken_mistake c.in-Err.fault _ (c.in-Err.ensures.passes still)) in
     (amiss.0, cc, amiss.1)
 
 pub returns-clause-empty : goal.returns-clause-empty
 returns-clause-empty g c = λ taken _.
-    let still = subst (λ words. takes dicomdir_app (words_of words) ≡ true) (sym c.as_slice.ensures.value) taken in
+    let still = subst (λ words. IsTaken words) (sym c.as_slice.ensures.value) taken in
     let amiss = c.refuse_line.ensures.mistake (taken_mistake c.in-Err.fault _ (c.in-Err.ensures.passes still)) in
     (amiss.0, cc, amiss.1)
 
 pub returns-clause-made : goal.returns-clause-made
 returns-clause-made g c = λ is taken _ _.
-    let still = subst (λ words. takes dicomdir_app (words_of words) ≡ true) (sym c.as_slice.ensures.value) taken in
+    let still = subst (λ words. IsTaken words) (sym c.as_slice.ensures.value) taken in
     let amiss = c.refuse_line.ensures.mistake (taken_mistake c.in-Err.fault _ (c.in-Err.ensures.passes still)) in
-    absurd {A = MakesSome (HasLink (subcommand_of dicomdir_app (words_of c.args.words.items)))
-    (first_path (subcommand_of dicomdir_app (words_of c.args.words.items))) (g.F.Files.held c.args.files.now)
-    (g.F.Files.held c.args.files.now)} (omega (arith, is, amiss.0))
+    absurd {A = MakesSome (HasLink (line_of c.args.words.items)) (first_path (line_of c.args.words.items))
+    (g.F.Files.held c.args.files.now) (g.F.Files.held c.args.files.now)} (omega (arith, is, amiss.0))

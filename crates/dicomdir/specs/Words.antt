@@ -1,0 +1,31 @@
+-- What the words of a command line name, and what becomes of a line that is read.
+use Rattle.std.specs.Prelude.{◌≡◌, ◌≤◌, ◌⊎◌, ℕ, List, [], Option, String, slice_index_or, true, false}
+use Rattle.clap.specs.Words.{Row, Text, subcommand_of, takes}
+use Rattle.dd_files.specs.Files.{Held}
+use Rattle.dd_line.specs.Line.{OnlyReads, dicomdir_app, words_of}
+use Rattle.dd_line.specs.declared.line.Asked.{Asked}
+use Rattle.dd_line.specs.declared.line.Verb.{Verb}
+use Rattle.dd_line.specs.declared.line.Verb.TheVariants.{Check}
+use Rattle.dicomdir.specs.Made.{MakesSome}
+
+-- the program takes the words
+abbrev pub IsTaken : {Z : Type 0} → List (String Z) → Type 0
+IsTaken words = takes dicomdir_app (words_of words) ≡ true
+
+-- the command that they name, and what they give it
+abbrev pub line_of : {Z : Type 0} → List (String Z) → Option (Text × List Row)
+line_of words = subcommand_of dicomdir_app (words_of words)
+
+-- the folder that a command that writes is to make: the first path of the line
+abbrev pub folder_of : Asked → Text
+folder_of a = slice_index_or (words_of a.paths.items) 0 []
+
+-- a status that a command of this kind may end with, once its line is read
+abbrev pub IsStatusOf : Verb → ℕ → Type 0
+IsStatusOf verb status = (status ≤ 1) ⊎ ((status ≡ 3) × (verb ≡ Check))
+
+-- unless the command only reads or only plans, some file-set was made in that folder, with second names only where the
+-- line asks for them
+abbrev pub MakesAsked : Asked → Option Held → Option Held → Type 0
+MakesAsked a old new =
+    ¬ OnlyReads a.verb → a.dry_run ≡ false → MakesSome (a.link ≡ true) (folder_of a) old new
