@@ -59,7 +59,8 @@ clash_of m versions (TooMany level) = None
 clash_of m versions TooLarge = None
 clash_of m versions Memory = None
 
--- the note has the first places of the two versions; there is none where the fault names no two versions that m keeps
+-- the note has the first places of the two versions; where the fault does not name two versions that m keeps, there is
+-- no note
 abbrev pub IsClashOf : {T U : Type 0} → (T → U) → List Parts → List (U × Parts) → PlanFault → Option (Clash T) → Type 0
 IsClashOf place m versions fault clash =
     option_map (λ clash. (place clash.one, place clash.other)) clash ≡ clash_of m versions fault

@@ -33,7 +33,8 @@ pub(crate) fn plan_for(
     ensures allowed { IsOk result
         → refusal_for choice.now limits catalogue.now.versions catalogue.now.withdrawn ≡ None }
     ensures refused { IfErr result (λ fault. (fault ≡ PlanFault.Memory)
-        ⊎ (refusal_for choice.now limits catalogue.now.versions catalogue.now.withdrawn ≡ Some fault)) }
+        ⊎ (refusal_for choice.now limits catalogue.now.versions catalogue.now.withdrawn
+        ≡ Some fault)) }
 {
     let uid = uid_for(alloc, catalogue, choice, limits)?;
     let label = Label { id: choice.id, uid };

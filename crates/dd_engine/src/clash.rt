@@ -19,7 +19,8 @@ pub(crate) fn clash_of<T: Copy>(
     places: &[T],
     fault: &PlanFault,
 ) -> Option<Clash<T>>
-    ensures { IsClashOf (λ at. at) catalogue.now.versions (zip places.now versions.now) fault.now result }
+    ensures { IsClashOf (λ at. at) catalogue.now.versions (zip places.now versions.now) fault.now
+        result }
 {
     let PlanFault::Conflict(one, other) = fault else {
         return None;
@@ -36,7 +37,8 @@ fn kept_place<T: Copy>(
     places: &[T],
     instance: &Uid,
 ) -> Option<T>
-    ensures { result ≡ first_by (zip places.now versions.now) (kept catalogue.now.versions instance.now) }
+    ensures { result ≡ first_by (zip places.now versions.now)
+        (kept catalogue.now.versions instance.now) }
 {
     first_place(versions, places, catalogue.get(instance)?)
 }

@@ -47,13 +47,15 @@ pub fn index_engine<S: Supply>(
     limits: Limits,
     file_limit: u64,
 ) -> Result<Indexed, EngineFault>
-    ensures answers { AnswersSupply choice.now limits file_limit (S.told supply.old) (S.sources supply.old) result }
+    ensures answers { AnswersSupply choice.now limits file_limit (S.told supply.old)
+        (S.sources supply.old) result }
     ensures within { IfOk result (IsWithin (S.sources supply.old)) }
 
     // The source that a fault names failed, and none before it.
     ensures named { IfErr result (IsNamed (S.sources supply.old)) }
     ensures fault { IfErr result (λ fault. FailsBy fault (S.sources supply.old)
-        (S.refusals supply.old) (S.refusals supply.new) (S.unread supply.old) (S.unread supply.new)) }
+        (S.refusals supply.old) (S.refusals supply.new)
+        (S.unread supply.old) (S.unread supply.new)) }
     ensures worked { IsOk result → AllStay (S.refusals supply.old) (S.refusals supply.new)
         × AllStay (S.unread supply.old) (S.unread supply.new) }
 
@@ -62,7 +64,8 @@ pub fn index_engine<S: Supply>(
     ensures reads { EachGrows (file_limit + 1) (S.reads supply.old) (S.reads supply.new) }
 
     // What stays.
-    ensures kept { (S.sources supply.new ≡ S.sources supply.old) × (S.told supply.new ≡ S.told supply.old)
+    ensures kept { (S.sources supply.new ≡ S.sources supply.old)
+        × (S.told supply.new ≡ S.told supply.old)
         × (S.rest supply.new ≡ S.rest supply.old) }
 {
     match index_with_notes(alloc, supply, choice, limits, file_limit) {

@@ -63,7 +63,8 @@ impl<'a> Gathered<'a> {
 
     /// Adds what the set of this number lists.
     fn keep(&mut self, at: usize, mut own: Own<'a>) -> Result<(), Memory>
-        ensures versions { OnOk result (self.new.versions.items ≡ self.old.versions.items ++ own.entry.versions.items) }
+        ensures versions { OnOk result
+            (self.new.versions.items ≡ self.old.versions.items ++ own.entry.versions.items) }
         ensures picks { OnOk result (map (λ pick. pick_view pick) self.new.picks.items
             ≡ map (λ pick. pick_view pick) self.old.picks.items
             ++ map (λ place. place_pick (at, place_view place)) own.entry.places.items) }
@@ -110,7 +111,8 @@ fn add_set<'a>(
 
 /// What this set lists, which has this number.
 fn own_set<'a>(alloc: Global, at: usize, set: &'a [u8]) -> Result<Own<'a>, MergeFault>
-    ensures { AnswersSet (λ listing own. Tells listing.withdrawn listing.images own) at set.now result }
+    ensures { AnswersSet (λ listing own. Tells listing.withdrawn listing.images own) at set.now
+        result }
 {
     let forest = match read_directory(alloc, set) {
         Ok(forest) => forest,

@@ -11,9 +11,12 @@ ghost use Rattle.dd_engine.specs.SameVersions.{Agree, IndexesTold, IsVersionTher
 /// Sources with the same versions have one plan under one choice of a label, and so one directory, or one
 /// refusal of it. Neither their order nor how readers cut their bytes nor repeats change it.
 pub fn same_versions_have_one_plan()
-    ensures { (choice : Choice) (limits : Bounds) (limit : ℕ) (told other : ℕ → Option (List ℕ)) (sources others : ℕ)
-        (first second : Result Indexed EngineFault) → IndexesTold choice limits limit told sources first
+    ensures { (choice : Choice) (limits : Bounds) (limit : ℕ) (told other : ℕ → Option (List ℕ))
+        (sources others : ℕ)
+        (first second : Result Indexed EngineFault)
+        → IndexesTold choice limits limit told sources first
         → IndexesTold choice limits limit other others second
-        → ((version : Parts) → IsVersionThere limit told sources version ↔ IsVersionThere limit other others version)
+        → ((version : Parts) → IsVersionThere limit told sources version
+        ↔ IsVersionThere limit other others version)
         → Agree first second }
 {}

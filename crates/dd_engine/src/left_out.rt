@@ -23,8 +23,10 @@ pub(crate) fn left_out<T: Copy>(
     versions: &[Version],
     places: &[T],
 ) -> Result<Vec<LeftOut<T>>, Memory>
-    requires { AreHeld (map (λ file. file.1) (files_of (zip places.now versions.now))) catalogue.now.versions }
-    ensures { IfOk result (λ notes. AreLeftOut (λ at. at) catalogue.now.versions (zip places.now versions.now)
+    requires { AreHeld (map (λ file. file.1) (files_of (zip places.now versions.now)))
+        catalogue.now.versions }
+    ensures { IfOk result (λ notes.
+        AreLeftOut (λ at. at) catalogue.now.versions (zip places.now versions.now)
         notes.items) }
 {
     if are_kept(catalogue, versions) {
@@ -46,9 +48,11 @@ pub(crate) fn left_out<T: Copy>(
 
 /// Finds the version that the catalogue keeps of this version's instance, where the two have different bytes.
 fn other_of<'a>(catalogue: &'a Catalogue, version: &Version) -> Option<&'a Version>
-    ensures some { IfSome result (λ one. (kept catalogue.now.versions version.now.instance ≡ Some one.now)
+    ensures some { IfSome result (λ one.
+        (kept catalogue.now.versions version.now.instance ≡ Some one.now)
         × (is_other (Some one.now) version.now ≡ true)) }
-    ensures none { result ≡ None → is_other (kept catalogue.now.versions version.now.instance) version.now ≡ false }
+    ensures none { result ≡ None
+        → is_other (kept catalogue.now.versions version.now.instance) version.now ≡ false }
 {
     let parts = version.parts();
     let kept = catalogue.get(&parts.instance)?;
@@ -60,7 +64,8 @@ fn other_of<'a>(catalogue: &'a Catalogue, version: &Version) -> Option<&'a Versi
 
 /// Says whether there is no version among these of whose instance the catalogue keeps other bytes.
 fn are_kept(catalogue: &Catalogue, versions: &[Version]) -> bool
-    ensures { result ≡ list_all (λ version. not (is_other (kept catalogue.now.versions version.instance) version))
+    ensures { result ≡ list_all (λ version. not (is_other
+        (kept catalogue.now.versions version.instance) version))
         versions.now }
 {
     versions.iter().all(|version| is_kept(catalogue, version))
@@ -68,7 +73,8 @@ fn are_kept(catalogue: &Catalogue, versions: &[Version]) -> bool
 
 /// Says whether the catalogue does not keep other bytes of this version's instance.
 fn is_kept(catalogue: &Catalogue, version: &Version) -> bool
-    ensures { result ≡ not (is_other (kept catalogue.now.versions version.now.instance) version.now) }
+    ensures { result ≡ not (is_other (kept catalogue.now.versions version.now.instance)
+        version.now) }
 {
     other_of(catalogue, version).is_none()
 }

@@ -53,7 +53,8 @@ pub(crate) fn first_marks<T: Copy>(
     marks: Vec<Mark<'_, T>>,
 ) -> Result<Vec<T>, Memory>
     requires { AreHeld (map (λ mark. key_of mark) marks.items) plan.now.versions }
-    ensures { IfOk result (λ picks. ArePicked (map (λ mark. mark_view mark) marks.entry.items) plan.now.versions
+    ensures { IfOk result (λ picks.
+        ArePicked (map (λ mark. mark_view mark) marks.entry.items) plan.now.versions
         (records_of plan.now.label plan.now.versions) picks.items) }
 {
     let marks = in_order(marks)?;
@@ -76,7 +77,8 @@ pub(crate) fn in_order<T: Copy>(mut marks: Vec<Mark<'_, T>>) -> Result<Vec<Mark<
 
 /// Compares the file of the mark with this one: by SOP Instance UID, then by digest.
 fn compare<T>(mark: &Mark<'_, T>, instance: &Uid, digest: &[u8; 32]) -> Ordering
-    ensures { result ≡ file_cmp (key_of mark.now) (record { instance = instance.now; digest = digest.now }) }
+    ensures { result ≡ file_cmp (key_of mark.now)
+        (record { instance = instance.now; digest = digest.now }) }
 {
     let own = mark.digest;
     mark.instance
@@ -88,7 +90,8 @@ fn compare<T>(mark: &Mark<'_, T>, instance: &Uid, digest: &[u8; 32]) -> Ordering
 fn picks_among<T: Copy>(alloc: Global, plan: &Plan, marks: &[Mark<'_, T>]) -> Result<Vec<T>, Memory>
     requires order { IsSorted mark_cmp marks.now }
     requires held { AreHeld (map (λ mark. key_of mark) marks.now) plan.now.versions }
-    ensures { IfOk result (λ picks. ArePicked (map (λ mark. mark_view mark) marks.now) plan.now.versions
+    ensures { IfOk result (λ picks.
+        ArePicked (map (λ mark. mark_view mark) marks.now) plan.now.versions
         (records_of plan.now.label plan.now.versions) picks.items) }
 {
     let versions = plan.versions();
@@ -104,7 +107,8 @@ fn picks_among<T: Copy>(alloc: Global, plan: &Plan, marks: &[Mark<'_, T>]) -> Re
 /// Finds the place of the first of these files that is the file of the version.
 pub(crate) fn first_mark<T: Copy>(marks: &[Mark<'_, T>], version: &Version) -> T
     requires order { IsSorted mark_cmp marks.now }
-    requires held { filter (λ file. is_one file (file_of version.now)) (map (λ mark. key_of mark) marks.now) ≢ [] }
+    requires held { filter (λ file. is_one file (file_of version.now))
+        (map (λ mark. key_of mark) marks.now) ≢ [] }
     ensures { Some result ≡ found (map (λ mark. mark_view mark) marks.now) (file_of version.now) }
 {
     let parts = version.parts();

@@ -56,10 +56,13 @@ pub fn merge_engine<'a>(
     limits: Limits,
 ) -> Result<Merged<'a>, MergeFault>
     ensures merges { Merges choice.now limits [] (map (λ set. set.now) sets.now) result }
-    ensures within { IfOk result (λ merged. All (λ pick. pick.set < length sets.now) merged.picks.items) }
-    ensures published { (maps : List Contents) → ArePublished (map (λ set. set.now) sets.now) maps → MapsAgree maps
+    ensures within { IfOk result (λ merged.
+        All (λ pick. pick.set < length sets.now) merged.picks.items) }
+    ensures published { (maps : List Contents) → ArePublished (map (λ set. set.now) sets.now) maps
+        → MapsAgree maps
         → NoneWithdrawn [] maps → MergesMaps choice.now limits (joined [] maps) result }
-    ensures withdrawn { (maps : List Contents) → ArePublished (map (λ set. set.now) sets.now) maps → MapsAgree maps
+    ensures withdrawn { (maps : List Contents) → ArePublished (map (λ set. set.now) sets.now) maps
+        → MapsAgree maps
         → IfOk result (λ merged. PlansImages (joined [] maps) merged.plan) }
 {
     merge_sets(alloc, sets, &[], choice, limits)
@@ -74,10 +77,14 @@ pub(crate) fn merge_sets<'a>(
     limits: Limits,
 ) -> Result<Merged<'a>, MergeFault>
     ensures merges { Merges choice.now limits given.now (map (λ set. set.now) sets.now) result }
-    ensures within { IfOk result (λ merged. All (λ pick. pick.set < length sets.now) merged.picks.items) }
-    ensures published { (maps : List Contents) → ArePublished (map (λ set. set.now) sets.now) maps → MapsAgree maps
-        → NoneWithdrawn given.now maps → MergesMaps choice.now limits (joined given.now maps) result }
-    ensures withdrawn { (maps : List Contents) → ArePublished (map (λ set. set.now) sets.now) maps → MapsAgree maps
+    ensures within { IfOk result (λ merged.
+        All (λ pick. pick.set < length sets.now) merged.picks.items) }
+    ensures published { (maps : List Contents) → ArePublished (map (λ set. set.now) sets.now) maps
+        → MapsAgree maps
+        → NoneWithdrawn given.now maps
+        → MergesMaps choice.now limits (joined given.now maps) result }
+    ensures withdrawn { (maps : List Contents) → ArePublished (map (λ set. set.now) sets.now) maps
+        → MapsAgree maps
         → IfOk result (λ merged. PlansImages (joined given.now maps) merged.plan) }
 {
     match noted_sets(alloc, sets, given, choice, limits) {

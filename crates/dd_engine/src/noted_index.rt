@@ -54,16 +54,19 @@ pub fn index_with_notes<S: Supply>(
     limits: Limits,
     file_limit: u64,
 ) -> Result<NotedIndex, NotedFault<EngineFault, usize>>
-    ensures answers { NotesSupply choice.now limits file_limit (S.told supply.old) (S.sources supply.old) result }
+    ensures answers { NotesSupply choice.now limits file_limit (S.told supply.old)
+        (S.sources supply.old) result }
     ensures within { IfOk result (λ noted. IsWithin (S.sources supply.old) noted.indexed) }
-    ensures below { IfOk result (λ noted. AreBelow (λ at. at) (S.sources supply.old) noted.notes.left_out.items) }
+    ensures below { IfOk result (λ noted.
+        AreBelow (λ at. at) (S.sources supply.old) noted.notes.left_out.items) }
 
     // The source that a fault names failed, and none before it.
     ensures named { IfErr result (λ noted. IsNamed (S.sources supply.old) noted.fault) }
     ensures clash { IfErr result (λ noted. IsBelow (λ at. at) (S.sources supply.old) noted.clash) }
     ensures found { IfErr result (λ noted. FindsBoth noted.fault noted.clash) }
     ensures fault { IfErr result (λ noted. FailsBy noted.fault (S.sources supply.old)
-        (S.refusals supply.old) (S.refusals supply.new) (S.unread supply.old) (S.unread supply.new)) }
+        (S.refusals supply.old) (S.refusals supply.new)
+        (S.unread supply.old) (S.unread supply.new)) }
     ensures worked { IsOk result → AllStay (S.refusals supply.old) (S.refusals supply.new)
         × AllStay (S.unread supply.old) (S.unread supply.new) }
 
@@ -72,7 +75,8 @@ pub fn index_with_notes<S: Supply>(
     ensures reads { EachGrows (file_limit + 1) (S.reads supply.old) (S.reads supply.new) }
 
     // What stays.
-    ensures kept { (S.sources supply.new ≡ S.sources supply.old) × (S.told supply.new ≡ S.told supply.old)
+    ensures kept { (S.sources supply.new ≡ S.sources supply.old)
+        × (S.told supply.new ≡ S.told supply.old)
         × (S.rest supply.new ≡ S.rest supply.old) }
 {
     let sources = read_sources(alloc, supply, file_limit)?;
@@ -87,7 +91,8 @@ fn noted(
     limits: Limits,
 ) -> Result<NotedIndex, NotedFault<EngineFault, usize>>
     requires { (answers : List Answer) × Holds answers sources }
-    ensures { (answers : List Answer) → Holds answers sources → NotesIndex choice.now limits answers result }
+    ensures { (answers : List Answer) → Holds answers sources
+        → NotesIndex choice.now limits answers result }
 {
     let catalogue = Catalogue::from_versions(alloc, &sources.versions)?;
     let (plan, picks, notes) = planned(alloc, &sources, &catalogue, choice, limits)?;
@@ -110,10 +115,14 @@ fn planned(
     choice: &Choice,
     limits: Limits,
 ) -> Result<(Plan, Vec<usize>, Notes<usize>), NotedFault<EngineFault, usize>>
-    requires { (answers : List Answer) × Holds answers sources.now × IsHeldBest answers catalogue.now }
-    ensures planned { (answers : List Answer) → Holds answers sources.now → IsHeldBest answers catalogue.now
-        → IfOk result (λ planned. IsPlanned choice.now limits answers planned.0 planned.1.items planned.2) }
-    ensures refused { (answers : List Answer) → Holds answers sources.now → IsHeldBest answers catalogue.now
+    requires { (answers : List Answer) × Holds answers sources.now
+        × IsHeldBest answers catalogue.now }
+    ensures planned { (answers : List Answer) → Holds answers sources.now
+        → IsHeldBest answers catalogue.now
+        → IfOk result (λ planned.
+        IsPlanned choice.now limits answers planned.0 planned.1.items planned.2) }
+    ensures refused { (answers : List Answer) → Holds answers sources.now
+        → IsHeldBest answers catalogue.now
         → IfErr result (λ noted. IsRefused choice.now limits answers noted) }
 {
     let plan = match plan_for(alloc, catalogue, choice, limits) {
@@ -133,7 +142,8 @@ fn refused(
     fault: PlanFault,
 ) -> NotedFault<EngineFault, usize>
     ensures fault { result.fault ≡ as_engine fault }
-    ensures clash { (answers : List Answer) → Holds answers sources.now → IsHeldBest answers catalogue.now
+    ensures clash { (answers : List Answer) → Holds answers sources.now
+        → IsHeldBest answers catalogue.now
         → ClashesIn answers result.fault result.clash }
 {
     let clash = clash_of(catalogue, &sources.versions, &sources.numbers, &fault);

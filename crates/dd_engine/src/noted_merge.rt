@@ -53,10 +53,13 @@ pub fn merge_with_notes<'a>(
     limits: Limits,
 ) -> Result<NotedMerge<'a>, NotedFault<MergeFault, Pick<'a>>>
     ensures merges { NotesSets choice.now limits [] (map (λ set. set.now) sets.now) result }
-    ensures within { IfOk result (λ noted. All (λ pick. pick.set < length sets.now) noted.merged.picks.items) }
-    ensures below { IfOk result (λ noted. AreBelow (λ pick. pick.set) (length sets.now) noted.notes.left_out.items) }
+    ensures within { IfOk result (λ noted.
+        All (λ pick. pick.set < length sets.now) noted.merged.picks.items) }
+    ensures below { IfOk result (λ noted.
+        AreBelow (λ pick. pick.set) (length sets.now) noted.notes.left_out.items) }
     ensures named { IfErr result (λ noted. IsNamedSet (length sets.now) noted.fault) }
-    ensures clash { IfErr result (λ noted. IsBelow (λ pick. pick.set) (length sets.now) noted.clash) }
+    ensures clash { IfErr result (λ noted.
+        IsBelow (λ pick. pick.set) (length sets.now) noted.clash) }
     ensures found { IfErr result (λ noted. FindsBoth noted.fault noted.clash) }
 {
     noted_sets(alloc, sets, &[], choice, limits)
@@ -72,7 +75,8 @@ pub fn withdraw_with_notes<'a>(
 ) -> Result<NotedMerge<'a>, NotedFault<MergeFault, Pick<'a>>>
     ensures merges { NotesSets choice.now limits uids.now (set.now ∷ []) result }
     ensures within { IfOk result (λ noted. All (λ pick. pick.set < 1) noted.merged.picks.items) }
-    ensures below { IfOk result (λ noted. AreBelow (λ pick. pick.set) 1 noted.notes.left_out.items) }
+    ensures below { IfOk result (λ noted.
+        AreBelow (λ pick. pick.set) 1 noted.notes.left_out.items) }
     ensures named { IfErr result (λ noted. IsNamedSet 1 noted.fault) }
     ensures clash { IfErr result (λ noted. IsBelow (λ pick. pick.set) 1 noted.clash) }
     ensures found { IfErr result (λ noted. FindsBoth noted.fault noted.clash) }
@@ -89,10 +93,13 @@ pub(crate) fn noted_sets<'a>(
     limits: Limits,
 ) -> Result<NotedMerge<'a>, NotedFault<MergeFault, Pick<'a>>>
     ensures merges { NotesSets choice.now limits given.now (map (λ set. set.now) sets.now) result }
-    ensures within { IfOk result (λ noted. All (λ pick. pick.set < length sets.now) noted.merged.picks.items) }
-    ensures below { IfOk result (λ noted. AreBelow (λ pick. pick.set) (length sets.now) noted.notes.left_out.items) }
+    ensures within { IfOk result (λ noted.
+        All (λ pick. pick.set < length sets.now) noted.merged.picks.items) }
+    ensures below { IfOk result (λ noted.
+        AreBelow (λ pick. pick.set) (length sets.now) noted.notes.left_out.items) }
     ensures named { IfErr result (λ noted. IsNamedSet (length sets.now) noted.fault) }
-    ensures clash { IfErr result (λ noted. IsBelow (λ pick. pick.set) (length sets.now) noted.clash) }
+    ensures clash { IfErr result (λ noted.
+        IsBelow (λ pick. pick.set) (length sets.now) noted.clash) }
     ensures found { IfErr result (λ noted. FindsBoth noted.fault noted.clash) }
 {
     let gathered = gather_sets(alloc, sets, given)?;
@@ -107,8 +114,10 @@ fn noted<'a>(
     choice: &Choice,
     limits: Limits,
 ) -> Result<NotedMerge<'a>, NotedFault<MergeFault, Pick<'a>>>
-    requires { (given : List (List ℕ)) × (listings : List SetListing) × GathersOf given listings gathered }
-    ensures { (given : List (List ℕ)) (listings : List SetListing) → GathersOf given listings gathered.entry
+    requires { (given : List (List ℕ)) × (listings : List SetListing)
+        × GathersOf given listings gathered }
+    ensures { (given : List (List ℕ)) (listings : List SetListing)
+        → GathersOf given listings gathered.entry
         → NotesMerge choice.now limits given listings result }
 {
     let (versions, places, withdrawn) = gathered.into_parts();
@@ -126,9 +135,11 @@ fn planned<'a>(
     limits: Limits,
 ) -> Result<NotedMerge<'a>, NotedFault<MergeFault, Pick<'a>>>
     requires { (given : List (List ℕ)) × (listings : List SetListing)
-        × ArePlaced (numbered 0 listings) versions.now places.now × (catalogue.now ≡ held_in given listings) }
+        × ArePlaced (numbered 0 listings) versions.now places.now
+        × (catalogue.now ≡ held_in given listings) }
     ensures { (given : List (List ℕ)) (listings : List SetListing)
-        → ArePlaced (numbered 0 listings) versions.now places.now → catalogue.now ≡ held_in given listings
+        → ArePlaced (numbered 0 listings) versions.now places.now
+        → catalogue.now ≡ held_in given listings
         → NotesMerge choice.now limits given listings result }
 {
     let plan = match plan_for(alloc, catalogue, choice, limits) {
@@ -153,7 +164,8 @@ fn refused<'a>(
 ) -> NotedFault<MergeFault, Pick<'a>>
     ensures fault { result.fault ≡ plan_fault fault }
     ensures clash { (given : List (List ℕ)) (listings : List SetListing)
-        → ArePlaced (numbered 0 listings) versions.now places.now → catalogue.now ≡ held_in given listings
+        → ArePlaced (numbered 0 listings) versions.now places.now
+        → catalogue.now ≡ held_in given listings
         → ClashesIn given listings result.fault result.clash }
 {
     let clash = clash_of(catalogue, versions, places, &fault);

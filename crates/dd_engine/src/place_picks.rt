@@ -29,7 +29,8 @@ pub(crate) fn place_picks<'a>(
         × (plan.now.versions ≡ harmonised (kept_of (versions_in images) uids))
         × ArePlaced images versions.now picks.now }
     ensures { (images : List (ℕ × Listed)) → ArePlaced images versions.now picks.now
-        → IfOk result (λ picks. ArePicked (map (λ place. stands_at place) (places_in images)) plan.now.versions
+        → IfOk result (λ picks.
+        ArePicked (map (λ place. stands_at place) (places_in images)) plan.now.versions
         (records_of plan.now.label plan.now.versions) (map (λ pick. pick_view pick) picks.items)) }
 {
     let marks = marks_of(alloc, versions, picks)?;

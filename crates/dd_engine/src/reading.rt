@@ -60,7 +60,8 @@ impl Sources {
 
     /// Keeps the answer for the next source, which is `at`.
     fn keep(&mut self, at: usize, answer: Result<Version, KeyFault>) -> Result<(), Memory>
-        ensures { OnOk result ((answers : List Answer) → length answers ≡ at → Holds answers self.old
+        ensures { OnOk result
+            ((answers : List Answer) → length answers ≡ at → Holds answers self.old
             → Holds (answers ++ answer ∷ []) self.new) }
     {
         match answer {
@@ -85,7 +86,8 @@ pub(crate) fn read_sources<S: Supply>(
     limit: u64,
 ) -> Result<Sources, EngineFault>
     // What was read are the answers for the sources.
-    ensures read { IfOk result (λ read. (answers : List Answer) × (length answers ≡ S.sources supply.old)
+    ensures read { IfOk result (λ read.
+        (answers : List Answer) × (length answers ≡ S.sources supply.old)
         × AreAnswers limit (S.told supply.old) answers × Holds answers read) }
 
     // Then no source failed.
@@ -96,14 +98,16 @@ pub(crate) fn read_sources<S: Supply>(
 
     // The source that a fault names failed, and none before it.
     ensures fault { IfErr result (λ fault. EndsWith fault (S.sources supply.old)
-        (S.refusals supply.old) (S.refusals supply.new) (S.unread supply.old) (S.unread supply.new)) }
+        (S.refusals supply.old) (S.refusals supply.new)
+        (S.unread supply.old) (S.unread supply.new)) }
 
     // Each reader is ended, and of each source there are at most `limit` + 1 reads.
     ensures ended { AllStay (S.lent supply.old) (S.lent supply.new) }
     ensures reads { EachGrows (limit + 1) (S.reads supply.old) (S.reads supply.new) }
 
     // What stays.
-    ensures kept { (S.sources supply.new ≡ S.sources supply.old) × (S.told supply.new ≡ S.told supply.old)
+    ensures kept { (S.sources supply.new ≡ S.sources supply.old)
+        × (S.told supply.new ≡ S.told supply.old)
         × (S.rest supply.new ≡ S.rest supply.old) }
 {
     let mut sources = Sources::new(alloc);
@@ -127,10 +131,12 @@ fn read_one<S: Supply>(
     ensures refusals { IsOk result → AllStay (S.refusals supply.old) (S.refusals supply.new) }
     ensures unread { IsOk result → AllStay (S.unread supply.old) (S.unread supply.new) }
     ensures fault { IfErr result (λ fault. EndsWith fault (S.sources supply.old)
-        (S.refusals supply.old) (S.refusals supply.new) (S.unread supply.old) (S.unread supply.new)) }
+        (S.refusals supply.old) (S.refusals supply.new)
+        (S.unread supply.old) (S.unread supply.new)) }
     ensures used { IsUsed at (limit + 1) (S.lent supply.old) (S.lent supply.new)
         (S.reads supply.old) (S.reads supply.new) }
-    ensures kept { (S.sources supply.new ≡ S.sources supply.old) × (S.told supply.new ≡ S.told supply.old)
+    ensures kept { (S.sources supply.new ≡ S.sources supply.old)
+        × (S.told supply.new ≡ S.told supply.old)
         × (S.rest supply.new ≡ S.rest supply.old) }
 {
     let Ok(mut reader) = supply.begin(at) else {

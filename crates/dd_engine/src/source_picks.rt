@@ -23,7 +23,8 @@ pub(crate) fn source_picks(
     numbers: &[usize],
 ) -> Result<Vec<usize>, Memory>
     requires { plan.now.versions ≡ harmonised (best_of_sources (zip numbers.now versions.now)) }
-    ensures all { IfOk result (λ picks. ArePicked (files_of (zip numbers.now versions.now)) plan.now.versions
+    ensures all { IfOk result (λ picks.
+        ArePicked (files_of (zip numbers.now versions.now)) plan.now.versions
         (records_of plan.now.label plan.now.versions) picks.items) }
     ensures some { OnErr result (versions.now ≢ []) }
 {

@@ -61,7 +61,8 @@ pub trait Supply {
 
         // The reader is as new, and what it has left are the bytes of the source.
         ensures fresh { IfOk result (λ reader. (Self.In.calls reader ≡ 0)
-            × (Self.In.failures reader ≡ 0) × ((past : Self.In.Past) → Self.In.has_given reader past [])) }
+            × (Self.In.failures reader ≡ 0)
+            × ((past : Self.In.Past) → Self.In.has_given reader past [])) }
         ensures left { IfOk result (λ reader. IfSome (told self.old at) (λ file.
             Self.In.remaining reader ≡ Some file)) }
 
