@@ -1,25 +1,18 @@
 -- What several writes of a text took together.
-use Rattle.std.proofs.Common.{◌≡◌, ◌∙◌, ℕ, List, [], ◌∷◌, ◌++◌, ◌+◌, ◌-◌, ◌<◌, ◌≤◌, Option, Result, Ok, Err, length}
+use Rattle.std.proofs.Common.{◌≡◌, ◌∙◌, ℕ, List, [], ◌∷◌, ◌++◌, ◌+◌, ◌<◌, ◌≤◌, Option, Result, Ok, Err, length}
 use Rattle.std.proofs.Common.{take, drop, get_or}
-use Rattle.std.proofs.Common.{refl, sym, ap, subst, arith, append_assoc, append-nil, length-append, length-drop}
+use Rattle.std.proofs.Common.{refl, sym, ap, subst, arith, append_assoc, append-nil, length-append}
 use Rattle.std.specs.Borrow.{Bor}
 use Rattle.std.specs.Prelude.{OnErr, OnOk}
 use Rattle.std.specs.Str.{IsUtf8}
 use Rattle.std.proofs.KnownBytes.{Appends-trans}
 use Rattle.std.proofs.Math.Seq.{take-append-add}
-use Rattle.std.proofs.lemmas.List.{take_all, take-append-le, drop_all, drop_more}
+use Rattle.std.proofs.lemmas.List.{take-append-le, drop_all, drop_more}
 use Rattle.std.specs.Io.KnownBytes.{Appends}
 use Rattle.dd_elem.specs.Device.{HasFailed}
-use Rattle.dd_elem.proofs.Known.{appends_more, appends_none}
+use Rattle.dd_elem.proofs.Known.{appends_none}
 use Rattle.dd_report.specs.Text.{FailsAmid, Sent, TakesAll, joined, line_text, masked}
 use Rattle.dd_report.proofs.Masking.{masked-append, masked-nil}
-
--- a writer took the bytes before a place, and then n of those from there on
-pub appends_rest : (a b c : Option (List ℕ)) (bytes : List ℕ) (at n : ℕ) → Appends a b (take at bytes)
-    → Appends b c (take n (take (length bytes - at) (drop at bytes))) → Appends a c (take (at + n) bytes)
-appends_rest a b c bytes at n before next =
-    let rest = take_all (length bytes - at) (drop at bytes) (omega (arith, length-drop at bytes)) in
-    appends_more a b c bytes at n before (subst (λ (xs : List ℕ). Appends b c (take n xs)) rest next)
 
 -- ---- a text of which the front is sent
 

@@ -141,7 +141,8 @@ impl<'a> Shown<'a> {
 
     /// Shows a Patient ID, with `NOID` for an empty one where this program has written the record.
     fn or_no_id(self, is_own: bool) -> Shown<'a>
-        ensures { (value : List ℕ) → Shows self.entry value → Shows result (patient_id is_own value) }
+        ensures { (value : List ℕ) → Shows self.entry value
+            → Shows result (patient_id is_own value) }
     {
         if is_own && self.length == 0 {
             Shown::of(NO_ID)
@@ -152,7 +153,8 @@ impl<'a> Shown<'a> {
 
     /// Do the values agree?
     fn agrees(self, other: Shown<'_>) -> bool
-        ensures { (one two : List ℕ) → Shows self.entry one → Shows other.entry two → result ≡ agree one two }
+        ensures { (one two : List ℕ) → Shows self.entry one → Shows other.entry two
+            → result ≡ agree one two }
     {
         self.length == other.length && self.front == other.front
     }
@@ -187,7 +189,8 @@ fn syntax_agreement(tree: &Tree<'_>, transfer: &Uid) -> Agreement
 /// Compares a value of a data set in which these elements were found with what the records say.
 fn value_agreement(found: &[Found], tag: Tag, recorded: &[u8]) -> Agreement
     ensures { (set : Elements) → map found_hit found.now ≡ hits_of compared_tags set
-        → is_wanted compared_tags tag ≡ true → result ≡ agreement tag (key_of tag set) recorded.now }
+        → is_wanted compared_tags tag ≡ true
+        → result ≡ agreement tag (key_of tag set) recorded.now }
 {
     let in_file = Shown::found(found, tag);
     (tag, in_file.agrees(Shown::of(recorded)))
@@ -196,7 +199,8 @@ fn value_agreement(found: &[Found], tag: Tag, recorded: &[u8]) -> Agreement
 /// Compares the Patient ID of such a data set with what the records say.
 fn patient_agreement(found: &[Found], is_own: bool, recorded: &[u8]) -> Agreement
     ensures { (set : Elements) → map found_hit found.now ≡ hits_of compared_tags set
-        → result ≡ agreement (tag 0x0010 0x0020) (patient_id is_own (key_of (tag 0x0010 0x0020) set))
+        → result ≡ agreement (tag 0x0010 0x0020)
+        (patient_id is_own (key_of (tag 0x0010 0x0020) set))
         (patient_id is_own recorded.now) }
 {
     let in_file = Shown::found(found, tags::PATIENT_ID).or_no_id(is_own);
@@ -271,7 +275,8 @@ pub(crate) fn finding_by_keys<R: Read>(
         → FindsBy R.Read limit
         (by_keys (standing_below above (tree_view tree.now).node)) finding reader.old reader.new) }
     ensures memory { OnErr result ((given : List ℕ) × (fault : FileFault)
-        × Gives R.has_given reader.old reader.new given × (by_digest (tree_view tree.now).node given ≡ None)
+        × Gives R.has_given reader.old reader.new given
+        × (by_digest (tree_view tree.now).node given ≡ None)
         × SaysMemory fault × IsRefused compared_tags fault given) }
 {
     let Digested { file, digest } = read_digested(alloc, reader, &COMPARED, limit);

@@ -75,7 +75,8 @@ pub fn check_records<F: Files, W: Write>(
     // Where memory ran out the findings of the first records are sent; where the output failed, a front of the text.
     ensures cut { result ≡ Err CheckFault.Memory → (text : List ℕ)
         × TellsFirst F.In.Read (F.held files.old) folder.now comparison
-        (standings_below [] (walk_view forest.now).trees) (F.refusals files.old) (F.refusals files.new) text
+        (standings_below [] (walk_view forest.now).trees)
+        (F.refusals files.old) (F.refusals files.new) text
         × TakesText W.Write to.old to.new text }
     ensures unsent { result ≡ Err CheckFault.Unsent → (text : List ℕ)
         × TellsSome F.In.Read (F.held files.old) folder.now comparison
@@ -140,7 +141,8 @@ fn check_counted<F: Files, W: Write>(
 ) -> Result<bool, CheckFault>
     ensures checks { Checks F.In.Read (F.held files.old)
         check.entry.folder.now check.entry.comparison
-        (standings_below [] (trees_view trees.now)) result (F.refusals files.old) (F.refusals files.new)
+        (standings_below [] (trees_view trees.now)) result
+        (F.refusals files.old) (F.refusals files.new)
         (way_of W.Write lines.old to.old) (way_of W.Write lines.new to.new) }
     ensures kept { F.held files.new ≡ F.held files.old }
 {
@@ -187,7 +189,8 @@ fn check_trees<'t, F: Files, W: Write>(
     ensures checks { (above : List Node) → IsInherited inherited.entry above
         → Checks F.In.Read (F.held files.old)
         check.entry.folder.now check.entry.comparison
-        (standings_below above (trees_view trees.now)) result (F.refusals files.old) (F.refusals files.new)
+        (standings_below above (trees_view trees.now)) result
+        (F.refusals files.old) (F.refusals files.new)
         (way_of W.Write lines.old to.old) (way_of W.Write lines.new to.new) }
     ensures kept { F.held files.new ≡ F.held files.old }
 {
@@ -212,7 +215,8 @@ fn check_tree<'t, F: Files, W: Write>(
     ensures checks { (above : List Node) → IsInherited inherited.entry above
         → Checks F.In.Read (F.held files.old)
         check.entry.folder.now check.entry.comparison
-        (branch_standings above (tree_view tree.now)) result (F.refusals files.old) (F.refusals files.new)
+        (branch_standings above (tree_view tree.now)) result
+        (F.refusals files.old) (F.refusals files.new)
         (way_of W.Write lines.old to.old) (way_of W.Write lines.new to.new) }
     ensures kept { F.held files.new ≡ F.held files.old }
 {
@@ -231,10 +235,12 @@ fn check_record<F: Files, W: Write>(
     lines: &mut LineBuffer,
     to: &mut W,
 ) -> Result<bool, CheckFault>
-    ensures checks { (above : List Node) → IsInherited inherited.entry ((tree_view tree.now).node ∷ above)
+    ensures checks { (above : List Node)
+        → IsInherited inherited.entry ((tree_view tree.now).node ∷ above)
         → Checks F.In.Read (F.held files.old)
         check.entry.folder.now check.entry.comparison
-        (standing_below above (tree_view tree.now).node ∷ []) result (F.refusals files.old) (F.refusals files.new)
+        (standing_below above (tree_view tree.now).node ∷ []) result
+        (F.refusals files.old) (F.refusals files.new)
         (way_of W.Write lines.old to.old) (way_of W.Write lines.new to.new) }
     ensures kept { F.held files.new ≡ F.held files.old }
 {
@@ -265,7 +271,8 @@ fn finding_in<F: Files>(
         → IsInherited inherited.entry ((tree_view tree.now).node ∷ above)
         → FindsFile F.In.Read (F.held files.old)
         check.entry.folder.now check.entry.comparison
-        (standing_below above (tree_view tree.now).node) (F.refusals files.old) (F.refusals files.new) finding) }
+        (standing_below above (tree_view tree.now).node)
+        (F.refusals files.old) (F.refusals files.new) finding) }
 
     // Where memory ran out no call of the files was refused.
     ensures unrefused { IsErr result → F.refusals files.new ≡ F.refusals files.old }

@@ -42,9 +42,11 @@ pub enum Finding {
 /// digest or not; where its name is no File ID it is not read. This takes no memory.
 pub fn finding_of<R: Read>(tree: &Tree<'_>, file: Option<&mut R>, limit: u64) -> Option<Finding>
     ensures unnamed { ¬ NamesFile (tree_view tree.now).node → result ≡ None }
-    ensures misnamed { NamesFile (tree_view tree.now).node → ¬ IsFileId (file_in (tree_view tree.now).node)
+    ensures misnamed { NamesFile (tree_view tree.now).node
+        → ¬ IsFileId (file_in (tree_view tree.now).node)
         → result ≡ Some Finding.BadId }
-    ensures named { NamesFile (tree_view tree.now).node → IsFileId (file_in (tree_view tree.now).node)
+    ensures named { NamesFile (tree_view tree.now).node
+        → IsFileId (file_in (tree_view tree.now).node)
         → FindsIn R.Read limit (tree_view tree.now).node result
         file.entry file.exit }
 
@@ -95,7 +97,8 @@ pub(crate) fn id_of<'t>(tree: &Tree<'t>) -> Option<&'t [u8]>
 /// Judges a record whose file is not opened.
 pub(crate) fn unopened(tree: &Tree<'_>) -> Option<Finding>
     ensures missing { HasFileId (tree_view tree.now).node → result ≡ Some Finding.Missing }
-    ensures bad { NamesFile (tree_view tree.now).node → ¬ IsFileId (file_in (tree_view tree.now).node)
+    ensures bad { NamesFile (tree_view tree.now).node
+        → ¬ IsFileId (file_in (tree_view tree.now).node)
         → result ≡ Some Finding.BadId }
     ensures unnamed { ¬ NamesFile (tree_view tree.now).node → result ≡ None }
 {
@@ -107,7 +110,8 @@ pub(crate) fn unopened(tree: &Tree<'_>) -> Option<Finding>
 
 /// Judges a record by the name alone: `BadId` where it is in use and the name is no File ID.
 fn misnamed(tree: &Tree<'_>) -> Option<Finding>
-    ensures bad { NamesFile (tree_view tree.now).node → ¬ IsFileId (file_in (tree_view tree.now).node)
+    ensures bad { NamesFile (tree_view tree.now).node
+        → ¬ IsFileId (file_in (tree_view tree.now).node)
         → result ≡ Some Finding.BadId }
     ensures unnamed { ¬ NamesFile (tree_view tree.now).node → result ≡ None }
 {

@@ -46,7 +46,8 @@ impl LineBuffer {
     /// Adds bytes to the lines. What goes to the device by this is a front of what waited and of these, and
     /// the rest of it waits then.
     pub(crate) fn add<W: Write>(&mut self, more: &[u8], to: &mut W) -> fmt::Result
-        ensures sent { OnOk result (SendsFront W.Write to.old to.new (self.old ++ more.now) self.new) }
+        ensures sent { OnOk result
+            (SendsFront W.Write to.old to.new (self.old ++ more.now) self.new) }
         ensures unsent { OnErr result (FailsInText W.Write to.old to.new (self.old ++ more.now)) }
         ensures rest { W.rest to.new ≡ W.rest to.old }
     {
@@ -66,8 +67,10 @@ impl LineBuffer {
     /// Adds a text to the lines as `add` does, with `?` for each control character. What stands between two of
     /// them is added at once.
     pub(crate) fn add_masked<W: Write>(&mut self, text: &str, to: &mut W) -> fmt::Result
-        ensures sent { OnOk result (SendsFront W.Write to.old to.new (self.old ++ masked text.now) self.new) }
-        ensures unsent { OnErr result (FailsInText W.Write to.old to.new (self.old ++ masked text.now)) }
+        ensures sent { OnOk result
+            (SendsFront W.Write to.old to.new (self.old ++ masked text.now) self.new) }
+        ensures unsent { OnErr result
+            (FailsInText W.Write to.old to.new (self.old ++ masked text.now)) }
         ensures rest { W.rest to.new ≡ W.rest to.old }
     {
         let mut rest = text;
@@ -114,7 +117,8 @@ impl LineBuffer {
 
     /// Ends the line.
     pub(crate) fn add_end<W: Write>(&mut self, to: &mut W) -> fmt::Result
-        ensures told { Tells result (10 ∷ []) (way_of W.Write self.old to.old) (way_of W.Write self.new to.new) }
+        ensures told { Tells result (10 ∷ [])
+            (way_of W.Write self.old to.old) (way_of W.Write self.new to.new) }
         ensures rest { W.rest to.new ≡ W.rest to.old }
     {
         self.add(b"\n", to)
@@ -122,7 +126,8 @@ impl LineBuffer {
 
     /// Adds bytes to the line, `?` for each that does not print.
     fn add_shown<W: Write>(&mut self, text: &[u8], to: &mut W) -> fmt::Result
-        ensures told { Tells result (shown text.now) (way_of W.Write self.old to.old) (way_of W.Write self.new to.new) }
+        ensures told { Tells result (shown text.now)
+            (way_of W.Write self.old to.old) (way_of W.Write self.new to.new) }
         ensures rest { W.rest to.new ≡ W.rest to.old }
     {
         for byte in text {

@@ -27,8 +27,10 @@ use std::fmt;
 /// withdrawn SOP Instance UIDs, and how many records there are. It fails only where the output does, and takes
 /// no memory.
 pub fn list_records<W: Write>(forest: &Forest<'_>, to: &mut W) -> fmt::Result
-    ensures sent { OnOk result (TakesText W.Write to.old to.new (listing_text (walk_view forest.now))) }
-    ensures unsent { OnErr result (FailsInText W.Write to.old to.new (listing_text (walk_view forest.now))) }
+    ensures sent { OnOk result
+        (TakesText W.Write to.old to.new (listing_text (walk_view forest.now))) }
+    ensures unsent { OnErr result
+        (FailsInText W.Write to.old to.new (listing_text (walk_view forest.now))) }
 {
     let mut lines = LineBuffer::new();
     list_forest(forest, Form::Short, &mut lines, to)?;
@@ -39,8 +41,10 @@ pub fn list_records<W: Write>(forest: &Forest<'_>, to: &mut W) -> fmt::Result
 /// the UID of the directory. The line of each PATIENT, STUDY, SERIES and IMAGE record also has the values by which
 /// a person recognises it. It fails only where the output does, and takes no memory.
 pub fn list_long<W: Write>(forest: &Forest<'_>, to: &mut W) -> fmt::Result
-    ensures sent { OnOk result (TakesText W.Write to.old to.new (long_listing (walk_view forest.now))) }
-    ensures unsent { OnErr result (FailsInText W.Write to.old to.new (long_listing (walk_view forest.now))) }
+    ensures sent { OnOk result
+        (TakesText W.Write to.old to.new (long_listing (walk_view forest.now))) }
+    ensures unsent { OnErr result
+        (FailsInText W.Write to.old to.new (long_listing (walk_view forest.now))) }
 {
     let mut lines = LineBuffer::new();
     list_set(forest, &mut lines, to)?;
@@ -208,7 +212,8 @@ fn flag_of<'t>(tree: &'t Tree<'_>) -> &'t [u8]
 
 /// Lists what is withdrawn, a line for each piece of the value; no lines where the value is absent.
 fn list_withdrawn<W: Write>(value: Option<&[u8]>, lines: &mut LineBuffer, to: &mut W) -> fmt::Result
-    ensures { Tells result (withdrawn_lines (pieces_in (option_map (λ value. value.now) value.entry)))
+    ensures { Tells result
+        (withdrawn_lines (pieces_in (option_map (λ value. value.now) value.entry)))
         (way_of W.Write lines.old to.old) (way_of W.Write lines.new to.new) }
 {
     match value {
@@ -233,7 +238,8 @@ fn list_pieces<W: Write>(value: &[u8], lines: &mut LineBuffer, to: &mut W) -> fm
 
 /// The first piece of the value, and what stands behind the `\` that ends it, if one does.
 fn first_piece(value: &[u8]) -> (&[u8], Option<&[u8]>)
-    ensures { pieces_of value.now ≡ result.0.now ∷ pieces_in (option_map (λ rest. rest.now) result.1) }
+    ensures { pieces_of value.now
+        ≡ result.0.now ∷ pieces_in (option_map (λ rest. rest.now) result.1) }
 {
     match value.iter().position(|byte| *byte == b'\\') {
         Some(at) => (&value[..at], Some(&value[at + 1..])),

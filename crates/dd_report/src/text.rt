@@ -49,7 +49,8 @@ pub fn print_line<W: Write>(parts: &[&str], to: &mut W) -> fmt::Result
 /// byte: each byte of a part outside 20 to 7E prints as `?`.
 pub fn show_line<W: Write>(parts: &[&[u8]], to: &mut W) -> fmt::Result
     ensures sent { OnOk result (TakesText W.Write to.old to.new (shown_line (parts_of parts.now))) }
-    ensures unsent { OnErr result (FailsInText W.Write to.old to.new (shown_line (parts_of parts.now))) }
+    ensures unsent { OnErr result
+        (FailsInText W.Write to.old to.new (shown_line (parts_of parts.now))) }
     ensures rest { W.rest to.new ≡ W.rest to.old }
 {
     let mut line = LineBuffer::new();

@@ -31,7 +31,8 @@ pub(crate) fn tell_fault<W: Write>(
     lines: &mut LineBuffer,
     to: &mut W,
 ) -> fmt::Result
-    ensures { Tells result (shown_line (mislabelled_parts file.now (codes "31 File " ++ file_words fault.now)))
+    ensures { Tells result
+        (shown_line (mislabelled_parts file.now (codes "31 File " ++ file_words fault.now)))
         (way_of W.Write lines.old to.old) (way_of W.Write lines.new to.new) }
 {
     match fault {
@@ -59,7 +60,8 @@ fn tell_words<W: Write>(
     lines: &mut LineBuffer,
     to: &mut W,
 ) -> fmt::Result
-    ensures { Tells result (shown_line (mislabelled_parts file.now (codes "31 File " ++ (words.now ++ of.now))))
+    ensures { Tells result
+        (shown_line (mislabelled_parts file.now (codes "31 File " ++ (words.now ++ of.now))))
         (way_of W.Write lines.old to.old) (way_of W.Write lines.new to.new) }
 {
     lines.add_line(&[b"MISLABELLED ", file, b" ", b"31 File ", words, of], to)
