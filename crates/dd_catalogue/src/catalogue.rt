@@ -39,9 +39,11 @@ impl Model for Catalogue {
 
     ghost Value = { Contents };
 
-    ghost view = { λ catalogue. record { versions = catalogue.table; withdrawn = catalogue.withdrawn } };
+    ghost view = { λ catalogue.
+        record { versions = catalogue.table; withdrawn = catalogue.withdrawn } };
 
-    ghost invariant = { λ catalogue. left_of catalogue.table catalogue.withdrawn ≡ catalogue.table };
+    ghost invariant = { λ catalogue.
+        left_of catalogue.table catalogue.withdrawn ≡ catalogue.table };
 }
 
 // By hand, so that dropping a catalogue is one call.
@@ -201,7 +203,8 @@ impl Catalogue {
         ensures err { OnErr result (self.new ≡ self.old) }
         ensures back { IfErr result (λ refused. refused.back ≡ version) }
         ensures held { IsSome (kept self.old.versions version.instance) → IsOk result }
-        ensures withdrawn { IsTrue (is_withdrawn self.old.withdrawn version.instance) → IsOk result }
+        ensures withdrawn { IsTrue (is_withdrawn self.old.withdrawn version.instance)
+            → IsOk result }
     {
         if self.has_withdrawn(&version.parts().instance) {
             return Ok(Took::Withdrawn(version));
@@ -251,7 +254,8 @@ impl Catalogue {
             → IfOk result (λ count. count ≡ compared_of self.old.versions other.now.versions) }
         ensures few { self.old.withdrawn ≡ [] → other.now.withdrawn ≡ []
             → IfOk result (λ count. count ≤ length self.old.versions + length other.now.versions) }
-        ensures twice { IfOk result (λ count. count ≤ 2 * (length self.old.versions + length other.now.versions
+        ensures twice { IfOk result (λ count.
+            count ≤ 2 * (length self.old.versions + length other.now.versions
             + (length self.old.withdrawn + length other.now.withdrawn))) }
         ensures err { OnErr result (self.new ≡ self.old) }
         ensures empty { other.now ≡ nothing → IsOk result }
@@ -278,7 +282,8 @@ impl Catalogue {
             → IfOk result (λ count. count ≡ compared_of self.old.versions other.now.versions) }
         ensures few { self.old.withdrawn ≡ []
             → IfOk result (λ count. count ≤ length self.old.versions + length other.now.versions) }
-        ensures twice { IfOk result (λ count. count ≤ 2 * (length self.old.versions + length other.now.versions
+        ensures twice { IfOk result (λ count.
+            count ≤ 2 * (length self.old.versions + length other.now.versions
             + length self.old.withdrawn)) }
         ensures err { OnErr result (self.new ≡ self.old) }
         ensures empty { other.now ≡ nothing → IsOk result }
@@ -308,8 +313,10 @@ impl Catalogue {
     /// stays withdrawn. The answer shares the withdrawn UIDs as `copy` does. Memory where a growth was refused,
     /// and never where the catalogue has no version and has withdrawn nothing.
     pub fn harmonise(&self) -> Result<Catalogue, Memory>
-        ensures agreed { IfOk result (λ catalogue. IsHarmonised self.now.versions catalogue.versions) }
-        ensures whole { IfOk result (λ catalogue. catalogue.versions ≡ harmonised self.now.versions) }
+        ensures agreed { IfOk result (λ catalogue.
+            IsHarmonised self.now.versions catalogue.versions) }
+        ensures whole { IfOk result (λ catalogue.
+            catalogue.versions ≡ harmonised self.now.versions) }
         ensures withdrawn { IfOk result (λ catalogue. catalogue.withdrawn ≡ self.now.withdrawn) }
         ensures some { OnErr result (self.now ≢ nothing) }
     {

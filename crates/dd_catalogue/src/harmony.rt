@@ -40,7 +40,8 @@ fn agreed<'a>(
     studies: &Greatest<'a, StudyKeys>,
     series: &Greatest<'a, SeriesKeys>,
 ) -> Result<Parts, Memory>
-    ensures { IfOk result (λ agreed. agreed ≡ agreed_by patients.now studies.now series.now parts.now) }
+    ensures { IfOk result (λ agreed.
+        agreed ≡ agreed_by patients.now studies.now series.now parts.now) }
 {
     Ok(Parts {
         digest: parts.digest,

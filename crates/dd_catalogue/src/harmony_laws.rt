@@ -17,7 +17,8 @@ pub fn harmony_again_is_same()
 
 /// A version in harmony is not less than the version that it was made of.
 pub fn harmony_is_not_less()
-    ensures { (m : List Parts) (v w : Parts) → IsCatalogue m → Contains m v → Contains (harmonised m) w
+    ensures { (m : List Parts) (v w : Parts) → IsCatalogue m → Contains m v
+        → Contains (harmonised m) w
         → v.instance ≡ w.instance → is_lt (parts_cmp w v) ≡ false }
 {}
 
@@ -39,5 +40,6 @@ pub fn catalogue_agrees_with_itself()
 /// Sets that agree in pairs are merged in harmony to the same whether each was in harmony before or not.
 pub fn merged_harmonies_are_merged_sets()
     ensures { (sets : List (List Parts)) → AllAgree sets
-        → harmonised (best_of (together (map harmonised sets))) ≡ harmonised (best_of (together sets)) }
+        → harmonised (best_of (together (map harmonised sets)))
+        ≡ harmonised (best_of (together sets)) }
 {}

@@ -74,5 +74,6 @@ fn collect<'a>(
 /// Histories in which the same versions were taken and the same instances withdrawn, in any order, with
 /// repeats and through any merges, give equal catalogues.
 pub fn build_order_is_free()
-    ensures { (h g : History) → SameContents (taken h) (taken g) → held_of (taken h) ≡ held_of (taken g) }
+    ensures { (h g : History) → SameContents (taken h) (taken g)
+        → held_of (taken h) ≡ held_of (taken g) }
 {}

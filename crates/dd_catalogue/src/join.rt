@@ -37,7 +37,8 @@ pub fn gather<J: Join>(first: &mut J, rest: &[J]) -> Result<(), Memory>
     ensures ok { OnOk result (first.new ≡ fold J.joined first.old rest.now) }
     ensures err { OnErr result ((n : ℕ) × (n < length rest.now)
         × (first.new ≡ fold J.joined first.old (take n rest.now))) }
-    ensures memory { OnErr result ((value : J) × Contains rest.now value × J.takes_memory first.new value) }
+    ensures memory { OnErr result
+        ((value : J) × Contains rest.now value × J.takes_memory first.new value) }
     ensures values { OnOk result (AreJoined J.is_value first.old rest.now) }
 {
     for value in rest {

@@ -53,7 +53,8 @@ pub fn kept_order_is_free()
 
 /// A catalogue holds no version whose instance is withdrawn.
 pub fn held_is_apart()
-    ensures { (c : Contents) (v : Parts) → IsHeld c → Contains c.versions v → ¬ Contains c.withdrawn v.instance }
+    ensures { (c : Contents) (v : Parts) → IsHeld c → Contains c.versions v
+        → ¬ Contains c.withdrawn v.instance }
 {}
 
 /// Two versions conflict exactly where the test of it holds.

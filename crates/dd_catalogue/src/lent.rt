@@ -36,7 +36,8 @@ impl<'a, T: Keyed> Model for Greatest<'a, T> {
 
     ghost view = { λ greatest. map (λ value. value.now) greatest.held.items };
 
-    ghost invariant = { λ greatest. IsRising T.key_of bytes_cmp (map (λ value. value.now) greatest.held.items) };
+    ghost invariant = { λ greatest.
+        IsRising T.key_of bytes_cmp (map (λ value. value.now) greatest.held.items) };
 }
 
 impl<'a, T: Keyed> Greatest<'a, T> {
@@ -71,7 +72,8 @@ impl<'a, T: Keyed> Greatest<'a, T> {
     /// Puts the value at this place, which lies between the smaller and the greater keys.
     fn admit(&mut self, place: usize, value: &'a T) -> Result<(), Memory>
         requires within { place ≤ length self.old }
-        requires smaller { AllWithin (λ w. bytes_cmp (T.key_of w) (T.key_of value.now) ≡ Less) self.old 0 place }
+        requires smaller { AllWithin (λ w. bytes_cmp (T.key_of w) (T.key_of value.now) ≡ Less)
+            self.old 0 place }
         requires greater { AllWithin (λ w. bytes_cmp (T.key_of w) (T.key_of value.now) ≡ Greater)
             self.old place (length self.old) }
         ensures { OnOk result (self.new ≡ put T.key_of bytes_cmp T.order value.now self.old) }
@@ -83,7 +85,8 @@ impl<'a, T: Keyed> Greatest<'a, T> {
     /// Keeps the greater of the value and the one at this place, which has its key.
     fn challenge(&mut self, place: usize, value: &'a T)
         requires within { place < length self.old }
-        requires same { HoldsAt (λ w. bytes_cmp (T.key_of w) (T.key_of value.now) ≡ Equal) self.old place }
+        requires same { HoldsAt (λ w. bytes_cmp (T.key_of w) (T.key_of value.now) ≡ Equal)
+            self.old place }
         ensures { self.new ≡ put T.key_of bytes_cmp T.order value.now self.old }
     {
         if self.held[place].compare(value).is_lt() {
@@ -111,7 +114,8 @@ impl<'a, T: Keyed> Greatest<'a, T> {
 
     /// The value with the key of this one, or else this one.
     pub(crate) fn like(&self, own: &'a T) -> &'a T
-        ensures { result.now ≡ unwrap_or (at T.key_of bytes_cmp self.now (T.key_of own.now)) own.now }
+        ensures { result.now
+            ≡ unwrap_or (at T.key_of bytes_cmp self.now (T.key_of own.now)) own.now }
     {
         self.get(own.key()).unwrap_or(own)
     }

@@ -59,7 +59,8 @@ pub(crate) fn owners<'a, T: Tuple + 'a, O: Tuple + 'a>(
     versions: &'a [Version],
 ) -> Result<Vec<Filed<'a>>, Memory>
     ensures { IfOk result (λ filed. filed.items
-        ≡ map (filing_by (λ v. T.key_of (T.tuple_of v)) (λ v. O.key_of (O.tuple_of v))) versions.now) }
+        ≡ map (filing_by (λ v. T.key_of (T.tuple_of v)) (λ v. O.key_of (O.tuple_of v)))
+        versions.now) }
 {
     let mut filed = Vec::with_capacity(alloc, versions.len())?;
     for version in versions {

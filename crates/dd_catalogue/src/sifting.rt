@@ -50,7 +50,8 @@ fn seek(keys: &[Uid], from: usize, key: &[u8]) -> Result<usize, usize>
     requires within { from ≤ length keys.now }
     requires smaller { AllWithin (λ uid. bytes_cmp uid key.now ≡ Less) keys.now 0 from }
     ensures place { IsPlace (λ uid. uid) key.now keys.now result }
-    ensures smaller { AllWithin (λ uid. bytes_cmp uid key.now ≡ Less) keys.now 0 (found_place result) }
+    ensures smaller { AllWithin (λ uid. bytes_cmp uid key.now ≡ Less)
+        keys.now 0 (found_place result) }
 {
     let mut place = from;
     while place < keys.len() {

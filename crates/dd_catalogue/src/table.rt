@@ -148,12 +148,15 @@ impl<T: Keyed + Copied + Drop> Table<T> {
     /// Takes copies of the other table's values. Answers how many pairs of keys were compared: no more
     /// than both tables have values. Memory where a growth was refused; then nothing has changed.
     pub(crate) fn merge(&mut self, other: &Table<T>) -> Result<u64, Memory>
-        ensures ok { OnOk result (self.new ≡ best T.key_of bytes_cmp T.order (self.old ++ other.now)) }
-        ensures count { IfOk result (λ count. count ≡ compared T.key_of bytes_cmp T.order self.old other.now) }
+        ensures ok { OnOk result
+            (self.new ≡ best T.key_of bytes_cmp T.order (self.old ++ other.now)) }
+        ensures count { IfOk result (λ count.
+            count ≡ compared T.key_of bytes_cmp T.order self.old other.now) }
         ensures few { IfOk result (λ count. count ≤ length self.old + length other.now) }
         ensures err { OnErr result (self.new ≡ self.old) }
         ensures empty { other.now ≡ [] → IsOk result }
-        ensures rising { IsRising T.key_of bytes_cmp self.old × IsRising T.key_of bytes_cmp other.now }
+        ensures rising { IsRising T.key_of bytes_cmp self.old
+            × IsRising T.key_of bytes_cmp other.now }
     {
         let (mine, theirs) = (self.values(), other.values());
         if theirs.is_empty() {
@@ -189,7 +192,8 @@ impl<T: Keyed + Copied + Drop> Table<T> {
     /// Puts the value at this place, which lies between the smaller and the greater keys.
     fn admit(&mut self, place: usize, value: T) -> Result<Taken<T>, T>
         requires within { place ≤ length self.old }
-        requires smaller { AllWithin (λ w. bytes_cmp (T.key_of w) (T.key_of value) ≡ Less) self.old 0 place }
+        requires smaller { AllWithin (λ w. bytes_cmp (T.key_of w) (T.key_of value) ≡ Less)
+            self.old 0 place }
         requires greater { AllWithin (λ w. bytes_cmp (T.key_of w) (T.key_of value) ≡ Greater)
             self.old place (length self.old) }
         ensures ok { OnOk result (self.new ≡ put T.key_of bytes_cmp T.order value self.old) }
@@ -206,9 +210,11 @@ impl<T: Keyed + Copied + Drop> Table<T> {
     /// Keeps the greater of the value and the one at this place, which has its key.
     fn challenge(&mut self, place: usize, value: T) -> Taken<T>
         requires within { place < length self.old }
-        requires same { HoldsAt (λ w. bytes_cmp (T.key_of w) (T.key_of value) ≡ Equal) self.old place }
+        requires same { HoldsAt (λ w. bytes_cmp (T.key_of w) (T.key_of value) ≡ Equal)
+            self.old place }
         ensures after { self.new ≡ put T.key_of bytes_cmp T.order value self.old }
-        ensures took { result ≡ taken_by T.order value (at T.key_of bytes_cmp self.old (T.key_of value)) }
+        ensures took { result ≡ taken_by T.order value
+            (at T.key_of bytes_cmp self.old (T.key_of value)) }
     {
         if self.held[place].compare(&value).is_lt() {
             Taken::Displaced(mem::replace(&mut self.held[place], value))

@@ -79,7 +79,8 @@ pub(crate) fn greatest<'a, T: Tuple>(
     alloc: Global,
     versions: &'a [Version],
 ) -> Result<Greatest<'a, T>, Memory>
-    ensures table { IfOk result (λ table. table ≡ best T.key_of bytes_cmp T.order (map T.tuple_of versions.now)) }
+    ensures table { IfOk result (λ table.
+        table ≡ best T.key_of bytes_cmp T.order (map T.tuple_of versions.now)) }
     ensures fit { OnOk result (All Fits versions.now) }
 {
     let mut lent = Vec::with_capacity(alloc, versions.len())?;

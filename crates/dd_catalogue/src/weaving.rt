@@ -15,8 +15,10 @@ use std::collections::VecDeque;
 pub(crate) fn weave<T: Keyed + Drop>(own: Vec<T>, other: Vec<T>, both: &mut Vec<T>) -> u64
     requires own { IsRising T.key_of bytes_cmp own.items }
     requires other { IsRising T.key_of bytes_cmp other.items }
-    requires room { vec_len both.old + (length own.items + length other.items) ≤ vec_capacity both.old }
-    ensures items { both.new.items ≡ both.old.items ++ best T.key_of bytes_cmp T.order (own.items ++ other.items) }
+    requires room { vec_len both.old + (length own.items + length other.items)
+        ≤ vec_capacity both.old }
+    ensures items { both.new.items
+        ≡ both.old.items ++ best T.key_of bytes_cmp T.order (own.items ++ other.items) }
     ensures count { result ≡ compared T.key_of bytes_cmp T.order own.items other.items }
 {
     let mut mine = VecDeque::from(own);
@@ -36,7 +38,8 @@ pub(crate) fn weave<T: Keyed + Drop>(own: Vec<T>, other: Vec<T>, both: &mut Vec<
 fn next<T: Keyed + Drop>(mine: &mut VecDeque<T>, theirs: &mut VecDeque<T>) -> Option<T>
     requires mine { IsRising T.key_of bytes_cmp mine.old.items }
     requires theirs { IsRising T.key_of bytes_cmp theirs.old.items }
-    ensures { IsStep T.key_of bytes_cmp T.order mine.old.items theirs.old.items result mine.new.items theirs.new.items }
+    ensures { IsStep T.key_of bytes_cmp T.order mine.old.items theirs.old.items result
+        mine.new.items theirs.new.items }
 {
     let one = mine.front()?;
     let other = theirs.front()?;
