@@ -5,7 +5,7 @@ use Rattle.dd_elem.specs.Device.{Gives}
 use Rattle.dd_elem.specs.declared.device.Read.{Ghosts as ReadOf}
 
 -- Between two states a reader gave these bytes, in at most `limit` reads and one more. `answers` says what is answered,
--- by the bytes that it gave, those that it has left where it tells them, and its failures before and after.
+-- by the bytes that it gave, the bytes that are left, where it tells them, and its failures before and after.
 pub record ReadsUpTo {R : Type 0} (reader : ReadOf R) (limit : ℕ) (old new : R)
     (answers : List ℕ → Option (List ℕ) → ℕ → ℕ → Type 0) : Type 0 where
   pub given : List ℕ
