@@ -12,4 +12,5 @@ pub mod Picking
 pub mod Published
 pub mod SameVersions
 pub mod Saying
+pub mod Supplies
 pub mod Supply

@@ -1,7 +1,8 @@
 //! From sources to the plan of their directory.
 
 ghost use Rattle.std.specs.Prelude.{◌≡◌, ◌+◌, IfErr, IfOk, IsOk};
-ghost use Rattle.dd_engine.specs.Indexed.{AnswersSupply, FailsBy, IsNamed, IsWithin};
+ghost use Rattle.dd_engine.specs.Indexed.{AnswersSupply, IsNamed, IsWithin};
+ghost use Rattle.dd_engine.specs.Supplies.{IndexingEndsBy};
 ghost use Rattle.dd_engine.specs.Supply.{AllStay, EachGrows};
 
 use crate::choice::Choice;
@@ -53,9 +54,7 @@ pub fn index_engine<S: Supply>(
 
     // The source that a fault names failed, and none before it.
     ensures named { IfErr result (IsNamed (S.sources supply.old)) }
-    ensures fault { IfErr result (λ fault. FailsBy fault (S.sources supply.old)
-        (S.refusals supply.old) (S.refusals supply.new)
-        (S.unread supply.old) (S.unread supply.new)) }
+    ensures fault { IfErr result (λ fault. IndexingEndsBy S.Supply fault supply.old supply.new) }
     ensures worked { IsOk result → AllStay (S.refusals supply.old) (S.refusals supply.new)
         × AllStay (S.unread supply.old) (S.unread supply.new) }
 

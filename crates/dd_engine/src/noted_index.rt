@@ -1,11 +1,12 @@
 //! From sources to the plan of their directory, with notes.
 
 ghost use Rattle.std.specs.Prelude.{◌≡◌, ◌+◌, List, IfErr, IfOk, IsOk, length};
-ghost use Rattle.dd_engine.specs.Indexed.{FailsBy, IsNamed, IsWithin, as_engine};
+ghost use Rattle.dd_engine.specs.Indexed.{IsNamed, IsWithin, as_engine};
 ghost use Rattle.dd_engine.specs.Indexing.{Answer};
 ghost use Rattle.dd_engine.specs.IndexNotes.{ClashesIn, FindsBoth, IsHeldBest, IsPlanned};
 ghost use Rattle.dd_engine.specs.IndexNotes.{IsRefused, NotesIndex, NotesSupply};
 ghost use Rattle.dd_engine.specs.Noting.{AreBelow, IsBelow};
+ghost use Rattle.dd_engine.specs.Supplies.{IndexingEndsBy};
 ghost use Rattle.dd_engine.specs.Supply.{AllStay, EachGrows, Holds};
 
 use crate::choice::{Choice, plan_for};
@@ -64,9 +65,8 @@ pub fn index_with_notes<S: Supply>(
     ensures named { IfErr result (λ noted. IsNamed (S.sources supply.old) noted.fault) }
     ensures clash { IfErr result (λ noted. IsBelow (λ at. at) (S.sources supply.old) noted.clash) }
     ensures found { IfErr result (λ noted. FindsBoth noted.fault noted.clash) }
-    ensures fault { IfErr result (λ noted. FailsBy noted.fault (S.sources supply.old)
-        (S.refusals supply.old) (S.refusals supply.new)
-        (S.unread supply.old) (S.unread supply.new)) }
+    ensures fault { IfErr result (λ noted.
+        IndexingEndsBy S.Supply noted.fault supply.old supply.new) }
     ensures worked { IsOk result → AllStay (S.refusals supply.old) (S.refusals supply.new)
         × AllStay (S.unread supply.old) (S.unread supply.new) }
 

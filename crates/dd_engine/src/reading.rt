@@ -3,8 +3,8 @@ ghost use Rattle.std.specs.Prelude.{◌≡◌, ◌↔◌, ◌+◌, ◌<◌, ◌+
 ghost use Rattle.std.specs.Prelude.{IsOk, IfOk, IfErr, OnOk, IsTrue};
 ghost use Rattle.dd_elem.specs.Device.{IsLive};
 ghost use Rattle.dd_engine.specs.Indexing.{Answer};
-ghost use Rattle.dd_engine.specs.Supply.{AllStay, AreAnswers, EachGrows, EndsWith, Holds, IsAnswer, IsOfSource};
-ghost use Rattle.dd_engine.specs.Supply.{IsUsed};
+ghost use Rattle.dd_engine.specs.Supplies.{ReadingEndsBy};
+ghost use Rattle.dd_engine.specs.Supply.{AllStay, AreAnswers, EachGrows, Holds, IsAnswer, IsOfSource, IsUsed};
 
 use crate::engine_fault::EngineFault;
 use crate::supply::Supply;
@@ -97,9 +97,7 @@ pub(crate) fn read_sources<S: Supply>(
         → IsLive (S.refusals supply.old at) (S.unread supply.old at) }
 
     // The source that a fault names failed, and none before it.
-    ensures fault { IfErr result (λ fault. EndsWith fault (S.sources supply.old)
-        (S.refusals supply.old) (S.refusals supply.new)
-        (S.unread supply.old) (S.unread supply.new)) }
+    ensures fault { IfErr result (λ fault. ReadingEndsBy S.Supply fault supply.old supply.new) }
 
     // Each reader is ended, and of each source there are at most `limit` + 1 reads.
     ensures ended { AllStay (S.lent supply.old) (S.lent supply.new) }
@@ -130,9 +128,7 @@ fn read_one<S: Supply>(
     ensures live { IsOk result → IsLive (S.refusals supply.old at) (S.unread supply.old at) }
     ensures refusals { IsOk result → AllStay (S.refusals supply.old) (S.refusals supply.new) }
     ensures unread { IsOk result → AllStay (S.unread supply.old) (S.unread supply.new) }
-    ensures fault { IfErr result (λ fault. EndsWith fault (S.sources supply.old)
-        (S.refusals supply.old) (S.refusals supply.new)
-        (S.unread supply.old) (S.unread supply.new)) }
+    ensures fault { IfErr result (λ fault. ReadingEndsBy S.Supply fault supply.old supply.new) }
     ensures used { IsUsed at (limit + 1) (S.lent supply.old) (S.lent supply.new)
         (S.reads supply.old) (S.reads supply.new) }
     ensures kept { (S.sources supply.new ≡ S.sources supply.old)
