@@ -59,28 +59,28 @@ source_told limit file given rest old new (Err fault) all h settled =
     let answers = h.whole (λ e. settled.0 (cc)) (λ e. cc) settled.1 in
     fitting_source limit file given rest (Err fault) all read.1 read.0 (λ e. cc) answers
 
-told_right : (limit : ℕ) (told left : Option (List ℕ)) (given : List ℕ) (old new : ℕ) (answer : Answer)
-    → Consumes told left given → AnswersReader limit given left old new answer → IfErr answer IsOfSource
-    → IfSome told (λ file. AnswersSource limit file answer)
-told_right limit None left given old new answer known h settled = tt
-told_right limit (Some file) None given old new answer known h settled = absurd known
-told_right limit (Some file) (Some rest) given old new answer known h settled =
+contents_right : (limit : ℕ) (contents left : Option (List ℕ)) (given : List ℕ) (old new : ℕ) (answer : Answer)
+    → Consumes contents left given → AnswersReader limit given left old new answer → IfErr answer IsOfSource
+    → IfSome contents (λ file. AnswersSource limit file answer)
+contents_right limit None left given old new answer known h settled = tt
+contents_right limit (Some file) None given old new answer known h settled = absurd known
+contents_right limit (Some file) (Some rest) given old new answer known h settled =
     source_told limit file given rest old new answer known h settled
 
 -- a reader begins with the bytes of its source, where these are known
-consumes_told : (told start left : Option (List ℕ)) (given : List ℕ) → IfSome told (λ file. start ≡ Some file)
-    → Consumes start left given → Consumes told left given
-consumes_told None start left given same known = tt
-consumes_told (Some file) start left given same known =
+consumes_contents : (contents start left : Option (List ℕ)) (given : List ℕ) → IfSome contents (λ file. start ≡ Some file)
+    → Consumes start left given → Consumes contents left given
+consumes_contents None start left given same known = tt
+consumes_contents (Some file) start left given same known =
     subst (λ (first : Option (List ℕ)). Consumes first left given) same known
 
 -- the answer for a source
-pub source_answer : (limit : ℕ) (told start left : Option (List ℕ)) (given : List ℕ) (old new : ℕ) (answer : Answer)
-    → IfSome told (λ file. start ≡ Some file) → Consumes start left given
-    → AnswersReader limit given left old new answer → IfErr answer IsOfSource → IsAnswer limit told answer
-source_answer limit told start left given old new answer same known h settled = record {
+pub source_answer : (limit : ℕ) (contents start left : Option (List ℕ)) (given : List ℕ) (old new : ℕ) (answer : Answer)
+    → IfSome contents (λ file. start ≡ Some file) → Consumes start left given
+    → AnswersReader limit given left old new answer → IfErr answer IsOfSource → IsAnswer limit contents answer
+source_answer limit contents start left given old new answer same known h settled = record {
   settled = settled;
-  right = told_right limit told left given old new answer (consumes_told told start left given same known) h settled;
+  right = contents_right limit contents left given old new answer (consumes_contents contents start left given same known) h settled;
 }
 
 -- ---- the counts of sources
@@ -155,12 +155,12 @@ some_more P (one ∷ answers) answer zero h last = h
 some_more P (one ∷ answers) answer (suc at) h last = some_more P answers answer at h (λ e. last (ap suc e))
 
 -- the answers with that for the next source
-pub answers_more : (limit next : ℕ) (told : ℕ → Option (List ℕ)) (answers : List Answer) (answer : Answer)
-    → length answers ≡ next → AreAnswers limit told answers → IsAnswer limit (told next) answer
-    → AreAnswers limit told (answers ++ answer ∷ [])
-answers_more limit next told answers answer many h last = record {
-  each = λ at. some_more (IsAnswer limit (told at)) answers answer at (h.each at)
-      (λ is. subst (λ (n : ℕ). IsAnswer limit (told n) answer) (sym (is ∙ many)) last);
+pub answers_more : (limit next : ℕ) (contents : ℕ → Option (List ℕ)) (answers : List Answer) (answer : Answer)
+    → length answers ≡ next → AreAnswers limit contents answers → IsAnswer limit (contents next) answer
+    → AreAnswers limit contents (answers ++ answer ∷ [])
+answers_more limit next contents answers answer many h last = record {
+  each = λ at. some_more (IsAnswer limit (contents at)) answers answer at (h.each at)
+      (λ is. subst (λ (n : ℕ). IsAnswer limit (contents n) answer) (sym (is ∙ many)) last);
 }
 
 accepted_more : (at next : ℕ) (answers : List Answer) (answer : Answer) → at + length answers ≡ next
@@ -222,4 +222,4 @@ holds_skipped at answers answer fault old new is many h versions numbers skips =
 pub answer_before : (limit at : ℕ) (old before : ℕ → Option (List ℕ)) (answer : Answer) → before ≡ old
     → IsAnswer limit (before at) answer → IsAnswer limit (old at) answer
 answer_before limit at old before answer same h =
-    subst (λ (told : ℕ → Option (List ℕ)). IsAnswer limit (told at) answer) same h
+    subst (λ (contents : ℕ → Option (List ℕ)). IsAnswer limit (contents at) answer) same h

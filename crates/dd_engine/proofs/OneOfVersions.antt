@@ -27,7 +27,7 @@ use Rattle.dd_engine.specs.declared.engine_fault.EngineFault.TheVariants.{Plan}
 use Rattle.dd_engine.specs.Choosing.{label_for, refusal_for}
 use Rattle.dd_engine.specs.Indexed.{IsIndexed}
 use Rattle.dd_engine.specs.Indexing.{Answer, accepted, accepted_from, best_of_sources, versions_of}
-use Rattle.dd_engine.specs.SameVersions.{Agree, AreSamePlans, AreTold, IndexesTold, IsVersionThere}
+use Rattle.dd_engine.specs.SameVersions.{Agree, AreSamePlans, AreKnown, IndexesKnown, IsVersionThere}
 use Rattle.dd_engine.specs.Supply.{AnswersSource, AreAnswers, IsAnswer, IsOfSource}
 
 -- ---- the versions among answers
@@ -68,11 +68,11 @@ short_file : (limit : ℕ) (file : List ℕ) (version : Parts) → AnswersSource
 short_file limit file version answers =
     let no : limit < length file → ⊥ = λ long. (let e = answers.long.1 long in absurd (cc)) in omega (arith, no)
 
-there_of : (limit at sources : ℕ) (told : ℕ → Option (List ℕ)) (version : Parts) (o : Option (List ℕ))
-    → told at ≡ o → IsSome o → at < sources → IfSome o (λ file. AnswersSource limit file (Ok version))
-    → IsVersionThere limit told sources version
-there_of limit at sources told version None is some within right = absurd (cc)
-there_of limit at sources told version (Some file) is some within right =
+there_of : (limit at sources : ℕ) (contents : ℕ → Option (List ℕ)) (version : Parts) (o : Option (List ℕ))
+    → contents at ≡ o → IsSome o → at < sources → IfSome o (λ file. AnswersSource limit file (Ok version))
+    → IsVersionThere limit contents sources version
+there_of limit at sources contents version None is some within right = absurd (cc)
+there_of limit at sources contents version (Some file) is some within right =
     let short = short_file limit file version right in
     record {
       at = at;
@@ -83,23 +83,23 @@ there_of limit at sources told version (Some file) is some within right =
       right = (right.fits short).found;
     }
 
-module _ (limit sources : ℕ) (told : ℕ → Option (List ℕ)) (answers : List Answer) (many : length answers ≡ sources)
-    (right : AreAnswers limit told answers) where
-  answer_at : (at : ℕ) (answer : Answer) → slice_get answers at ≡ Some answer → IsAnswer limit (told at) answer
+module _ (limit sources : ℕ) (contents : ℕ → Option (List ℕ)) (answers : List Answer) (many : length answers ≡ sources)
+    (right : AreAnswers limit contents answers) where
+  answer_at : (at : ℕ) (answer : Answer) → slice_get answers at ≡ Some answer → IsAnswer limit (contents at) answer
   answer_at at answer is =
-      subst (λ (o : Option Answer). IfSome o (IsAnswer limit (told at))) is (right.each at)
+      subst (λ (o : Option Answer). IfSome o (IsAnswer limit (contents at))) is (right.each at)
 
-  pub told_of_kept : (version : Parts) → AreTold told sources → Member version (versions_of (accepted answers))
-      → IsVersionThere limit told sources version
+  pub told_of_kept : (version : Parts) → AreKnown contents sources → Member version (versions_of (accepted answers))
+      → IsVersionThere limit contents sources version
   told_of_kept version all held =
       let there = kept_at 0 answers version held in
       let within : there.0 < sources =
       subst (λ (n : ℕ). there.0 < n) many (slice_get_within answers there.0 (Ok version) there.1) in
-      there_of limit there.0 sources told version (told there.0) refl (all there.0 within) within
+      there_of limit there.0 sources contents version (contents there.0) refl (all there.0 within) within
       (answer_at there.0 (Ok version) there.1).right
 
   -- the answer for a source with a version is this version
-  answer_is : (version : Parts) (there : IsVersionThere limit told sources version) (answer : Answer)
+  answer_is : (version : Parts) (there : IsVersionThere limit contents sources version) (answer : Answer)
       → slice_get answers there.at ≡ Some answer → answer ≡ Ok version
   answer_is version there answer is =
       let its = answer_at there.at answer is in
@@ -107,7 +107,7 @@ module _ (limit sources : ℕ) (told : ℕ → Option (List ℕ)) (answers : Lis
       subst (λ (o : Option (List ℕ)). IfSome o (λ file. AnswersSource limit file answer)) there.bytes its.right in
       version_is there.file version answer its.settled (file.fits there.short) there.right
 
-  pub kept_of_told : (version : Parts) → IsVersionThere limit told sources version
+  pub kept_of_told : (version : Parts) → IsVersionThere limit contents sources version
       → Member version (versions_of (accepted answers))
   kept_of_told version there = elim (slice_get_cases answers there.at).1 [
     | inl one ↦ kept_of 0 there.at answers version
@@ -117,27 +117,27 @@ module _ (limit sources : ℕ) (told : ℕ → Option (List ℕ)) (answers : Lis
 
 -- ---- one plan
 
-members_over : (limit sources others : ℕ) (told other : ℕ → Option (List ℕ)) (one two : List Answer)
-    → length one ≡ sources → length two ≡ others → AreAnswers limit told one → AreAnswers limit other two
-    → AreTold told sources
-    → ((version : Parts) → IsVersionThere limit told sources version → IsVersionThere limit other others version)
+members_over : (limit sources others : ℕ) (contents other : ℕ → Option (List ℕ)) (one two : List Answer)
+    → length one ≡ sources → length two ≡ others → AreAnswers limit contents one → AreAnswers limit other two
+    → AreKnown contents sources
+    → ((version : Parts) → IsVersionThere limit contents sources version → IsVersionThere limit other others version)
     → (version : Parts) → Contains (versions_of (accepted one)) version → Contains (versions_of (accepted two)) version
-members_over limit sources others told other one two many few right right_too all over version held =
+members_over limit sources others contents other one two many few right right_too all over version held =
     contained version (versions_of (accepted two))
     (kept_of_told limit others other two few right_too version
-    (over version (told_of_kept limit sources told one many right version all
+    (over version (told_of_kept limit sources contents one many right version all
     (member_of version (versions_of (accepted one)) held))))
 
 -- both have one best, since they have the same versions
-one_best : (limit sources others : ℕ) (told other : ℕ → Option (List ℕ)) (one two : List Answer)
-    → length one ≡ sources → length two ≡ others → AreAnswers limit told one → AreAnswers limit other two
-    → AreTold told sources → AreTold other others
-    → ((version : Parts) → IsVersionThere limit told sources version ↔ IsVersionThere limit other others version)
+one_best : (limit sources others : ℕ) (contents other : ℕ → Option (List ℕ)) (one two : List Answer)
+    → length one ≡ sources → length two ≡ others → AreAnswers limit contents one → AreAnswers limit other two
+    → AreKnown contents sources → AreKnown other others
+    → ((version : Parts) → IsVersionThere limit contents sources version ↔ IsVersionThere limit other others version)
     → best_of_sources (accepted one) ≡ best_of_sources (accepted two)
-one_best limit sources others told other one two many few right right_too all each same =
+one_best limit sources others contents other one two many few right right_too all each same =
     let members : SameMembers (versions_of (accepted one)) (versions_of (accepted two)) = λ version. (
-      members_over limit sources others told other one two many few right right_too all (λ v. (same v).0) version,
-      members_over limit others sources other told two one few many right_too right each (λ v. (same v).1) version,
+      members_over limit sources others contents other one two many few right right_too all (λ v. (same v).0) version,
+      members_over limit others sources other contents two one few many right_too right each (λ v. (same v).1) version,
     ) in
     same_best versions_ordered (versions_of (accepted one)) (versions_of (accepted two)) _ _ members
     (best_is_best versions_ordered (versions_of (accepted one)))
@@ -159,32 +159,32 @@ module _ (choice : Choice) (limits : Limits) where
   refusals_agree one two first second best is also =
       sym is ∙ ap (λ (m : List Parts). refusal_for choice limits m []) best ∙ also
 
-  pub agree : (limit : ℕ) (told other : ℕ → Option (List ℕ)) (sources others : ℕ)
-      (first second : Result Indexed EngineFault) → IndexesTold choice limits limit told sources first
-      → IndexesTold choice limits limit other others second
-      → ((version : Parts) → IsVersionThere limit told sources version ↔ IsVersionThere limit other others version)
+  pub agree : (limit : ℕ) (contents other : ℕ → Option (List ℕ)) (sources others : ℕ)
+      (first second : Result Indexed EngineFault) → IndexesKnown choice limits limit contents sources first
+      → IndexesKnown choice limits limit other others second
+      → ((version : Parts) → IsVersionThere limit contents sources version ↔ IsVersionThere limit other others version)
       → Agree first second
-  agree limit told other sources others (Ok first) (Ok second) one two same =
+  agree limit contents other sources others (Ok first) (Ok second) one two same =
       let a = one.answers in
       let b = two.answers in
       plans_agree a.0 b.0 first second
-      (one_best limit sources others told other a.0 b.0 a.1 b.1 a.2 b.2 one.known two.known same) a.3 b.3
-  agree limit told other sources others (Ok first) (Err (Plan fault)) one two same =
+      (one_best limit sources others contents other a.0 b.0 a.1 b.1 a.2 b.2 one.known two.known same) a.3 b.3
+  agree limit contents other sources others (Ok first) (Err (Plan fault)) one two same =
       let a = one.answers in
       let b = two.answers in
       let is : None ≡ Some fault = refusals_agree a.0 b.0 None (Some fault)
-      (one_best limit sources others told other a.0 b.0 a.1 b.1 a.2 b.2 one.known two.known same) a.3.allowed b.3 in
+      (one_best limit sources others contents other a.0 b.0 a.1 b.1 a.2 b.2 one.known two.known same) a.3.allowed b.3 in
       absurd (cc)
-  agree limit told other sources others (Err (Plan fault)) (Ok second) one two same =
+  agree limit contents other sources others (Err (Plan fault)) (Ok second) one two same =
       let a = one.answers in
       let b = two.answers in
       let is : Some fault ≡ None = refusals_agree a.0 b.0 (Some fault) None
-      (one_best limit sources others told other a.0 b.0 a.1 b.1 a.2 b.2 one.known two.known same) a.3 b.3.allowed in
+      (one_best limit sources others contents other a.0 b.0 a.1 b.1 a.2 b.2 one.known two.known same) a.3 b.3.allowed in
       absurd (cc)
-  agree limit told other sources others (Err (Plan fault)) (Err (Plan also)) one two same =
+  agree limit contents other sources others (Err (Plan fault)) (Err (Plan also)) one two same =
       let a = one.answers in
       let b = two.answers in
       let is : Some fault ≡ Some also = refusals_agree a.0 b.0 (Some fault) (Some also)
-      (one_best limit sources others told other a.0 b.0 a.1 b.1 a.2 b.2 one.known two.known same) a.3 b.3 in
+      (one_best limit sources others contents other a.0 b.0 a.1 b.1 a.2 b.2 one.known two.known same) a.3 b.3 in
       (cc)
-  agree limit told other sources others first second one two same = tt
+  agree limit contents other sources others first second one two same = tt

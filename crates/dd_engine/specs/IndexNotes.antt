@@ -60,22 +60,22 @@ NotesIndex choice limits answers (Ok noted) =
     × AreNamed (best_of_sources (accepted answers)) noted.notes.names.items
 NotesIndex choice limits answers (Err noted) = IsRefused choice limits answers noted
 
--- ---- the answer for this number of sources, where `told` gives the bytes of each source that are known
+-- ---- the answer for this number of sources, where `contents` gives the bytes of each source that are known
 
 abbrev pub NotesFault : Choice → Limits → ℕ → (ℕ → Option (List ℕ)) → ℕ → EngineFault → Option (Clash ℕ) → Type 0
-NotesFault choice limits limit told sources (Absent at) clash = (at < sources) × (clash ≡ None)
-NotesFault choice limits limit told sources (Unread at) clash = (at < sources) × (clash ≡ None)
-NotesFault choice limits limit told sources Memory clash = clash ≡ None
-NotesFault choice limits limit told sources (Plan fault) clash = (answers : List Answer)
-    × (length answers ≡ sources) × AreAnswers limit told answers
+NotesFault choice limits limit contents sources (Absent at) clash = (at < sources) × (clash ≡ None)
+NotesFault choice limits limit contents sources (Unread at) clash = (at < sources) × (clash ≡ None)
+NotesFault choice limits limit contents sources Memory clash = clash ≡ None
+NotesFault choice limits limit contents sources (Plan fault) clash = (answers : List Answer)
+    × (length answers ≡ sources) × AreAnswers limit contents answers
     × Indexes choice limits answers (Err (Plan fault)) × ClashesIn answers (Plan fault) clash
 
 abbrev pub NotesSupply : Choice → Limits → ℕ → (ℕ → Option (List ℕ)) → ℕ
     → Result NotedIndex (NotedFault EngineFault ℕ) → Type 0
-NotesSupply choice limits limit told sources (Err noted) =
-    NotesFault choice limits limit told sources noted.fault noted.clash
-NotesSupply choice limits limit told sources (Ok noted) = (answers : List Answer)
-    × (length answers ≡ sources) × AreAnswers limit told answers × NotesIndex choice limits answers (Ok noted)
+NotesSupply choice limits limit contents sources (Err noted) =
+    NotesFault choice limits limit contents sources noted.fault noted.clash
+NotesSupply choice limits limit contents sources (Ok noted) = (answers : List Answer)
+    × (length answers ≡ sources) × AreAnswers limit contents answers × NotesIndex choice limits answers (Ok noted)
 
 -- ---- steps
 

@@ -43,13 +43,13 @@ Indexes choice limits answers (Err (Unread at)) = ⊥
 -- the answer for a number of sources with these bytes, where they are known; where a source failed, nothing is said of
 -- the others
 abbrev pub AnswersSupply : Choice → Limits → ℕ → (ℕ → Option (List ℕ)) → ℕ → Result Indexed EngineFault → Type 0
-AnswersSupply choice limits limit told sources (Err (Absent at)) = at < sources
-AnswersSupply choice limits limit told sources (Err (Unread at)) = at < sources
-AnswersSupply choice limits limit told sources (Err Memory) = Unit {0}
-AnswersSupply choice limits limit told sources (Err (Plan fault)) = (answers : List Answer)
-    × (length answers ≡ sources) × AreAnswers limit told answers × Indexes choice limits answers (Err (Plan fault))
-AnswersSupply choice limits limit told sources (Ok indexed) = (answers : List Answer)
-    × (length answers ≡ sources) × AreAnswers limit told answers × Indexes choice limits answers (Ok indexed)
+AnswersSupply choice limits limit contents sources (Err (Absent at)) = at < sources
+AnswersSupply choice limits limit contents sources (Err (Unread at)) = at < sources
+AnswersSupply choice limits limit contents sources (Err Memory) = Unit {0}
+AnswersSupply choice limits limit contents sources (Err (Plan fault)) = (answers : List Answer)
+    × (length answers ≡ sources) × AreAnswers limit contents answers × Indexes choice limits answers (Err (Plan fault))
+AnswersSupply choice limits limit contents sources (Ok indexed) = (answers : List Answer)
+    × (length answers ≡ sources) × AreAnswers limit contents answers × Indexes choice limits answers (Ok indexed)
 
 -- ---- numbers of sources
 

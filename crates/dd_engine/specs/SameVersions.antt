@@ -13,23 +13,23 @@ use Rattle.dd_engine.specs.declared.engine_fault.EngineFault.TheVariants.{Plan}
 use Rattle.dd_engine.specs.Indexed.{AnswersSupply}
 
 -- the bytes of each of the first sources are known
-abbrev pub AreTold : (ℕ → Option (List ℕ)) → ℕ → Type 0
-AreTold told sources = (at : ℕ) → at < sources → IsSome (told at)
+abbrev pub AreKnown : (ℕ → Option (List ℕ)) → ℕ → Type 0
+AreKnown contents sources = (at : ℕ) → at < sources → IsSome (contents at)
 
 -- one of the first sources has at most `limit` bytes, and this is their version
-pub record IsVersionThere (limit : ℕ) (told : ℕ → Option (List ℕ)) (sources : ℕ) (version : Parts) : Type 0 where
+pub record IsVersionThere (limit : ℕ) (contents : ℕ → Option (List ℕ)) (sources : ℕ) (version : Parts) : Type 0 where
   pub at : ℕ
   pub within : at < sources
   pub file : List ℕ
-  pub bytes : told at ≡ Some file
+  pub bytes : contents at ≡ Some file
   pub short : length file ≤ limit
   pub right : IsVersion file version
 
 -- the answer of an index of sources whose bytes are known
-pub record IndexesTold (choice : Choice) (limits : Limits) (limit : ℕ) (told : ℕ → Option (List ℕ)) (sources : ℕ)
+pub record IndexesKnown (choice : Choice) (limits : Limits) (limit : ℕ) (contents : ℕ → Option (List ℕ)) (sources : ℕ)
     (answer : Result Indexed EngineFault) : Type 0 where
-  pub known : AreTold told sources
-  pub answers : AnswersSupply choice limits limit told sources answer
+  pub known : AreKnown contents sources
+  pub answers : AnswersSupply choice limits limit contents sources answer
 
 -- two plans are the same, and the bytes of their directories
 pub record AreSamePlans (one other : Layout) : Type 0 where

@@ -64,13 +64,13 @@ pub record AnswersSource (limit : ℕ) (file : List ℕ) (answer : Answer) : Typ
   pub fits : length file ≤ limit → Answers file answer
 
 -- the answer for a source, whether its bytes are known or not
-pub record IsAnswer (limit : ℕ) (told : Option (List ℕ)) (answer : Answer) : Type 0 where
+pub record IsAnswer (limit : ℕ) (contents : Option (List ℕ)) (answer : Answer) : Type 0 where
   pub settled : IfErr answer IsOfSource
-  pub right : IfSome told (λ file. AnswersSource limit file answer)
+  pub right : IfSome contents (λ file. AnswersSource limit file answer)
 
 -- they are the answers for the first sources
-pub record AreAnswers (limit : ℕ) (told : ℕ → Option (List ℕ)) (answers : List Answer) : Type 0 where
-  pub each : (at : ℕ) → IfSome (slice_get answers at) (IsAnswer limit (told at))
+pub record AreAnswers (limit : ℕ) (contents : ℕ → Option (List ℕ)) (answers : List Answer) : Type 0 where
+  pub each : (at : ℕ) → IfSome (slice_get answers at) (IsAnswer limit (contents at))
 
 -- what was read has the versions among the answers, each with its source, and the sources without one
 pub record Holds (answers : List Answer) (read : Sources) : Type 0 where

@@ -48,7 +48,7 @@ pub fn index_engine<S: Supply>(
     limits: Limits,
     file_limit: u64,
 ) -> Result<Indexed, EngineFault>
-    ensures answers { AnswersSupply choice.now limits file_limit (S.told supply.old)
+    ensures answers { AnswersSupply choice.now limits file_limit (S.contents supply.old)
         (S.sources supply.old) result }
     ensures within { IfOk result (IsWithin (S.sources supply.old)) }
 
@@ -64,7 +64,7 @@ pub fn index_engine<S: Supply>(
 
     // What stays.
     ensures kept { (S.sources supply.new ≡ S.sources supply.old)
-        × (S.told supply.new ≡ S.told supply.old)
+        × (S.contents supply.new ≡ S.contents supply.old)
         × (S.rest supply.new ≡ S.rest supply.old) }
 {
     match index_with_notes(alloc, supply, choice, limits, file_limit) {

@@ -55,7 +55,7 @@ pub fn index_with_notes<S: Supply>(
     limits: Limits,
     file_limit: u64,
 ) -> Result<NotedIndex, NotedFault<EngineFault, usize>>
-    ensures answers { NotesSupply choice.now limits file_limit (S.told supply.old)
+    ensures answers { NotesSupply choice.now limits file_limit (S.contents supply.old)
         (S.sources supply.old) result }
     ensures within { IfOk result (λ noted. IsWithin (S.sources supply.old) noted.indexed) }
     ensures below { IfOk result (λ noted.
@@ -76,7 +76,7 @@ pub fn index_with_notes<S: Supply>(
 
     // What stays.
     ensures kept { (S.sources supply.new ≡ S.sources supply.old)
-        × (S.told supply.new ≡ S.told supply.old)
+        × (S.contents supply.new ≡ S.contents supply.old)
         × (S.rest supply.new ≡ S.rest supply.old) }
 {
     let sources = read_sources(alloc, supply, file_limit)?;

@@ -88,7 +88,7 @@ pub(crate) fn read_sources<S: Supply>(
     // What was read are the answers for the sources.
     ensures read { IfOk result (λ read.
         (answers : List Answer) × (length answers ≡ S.sources supply.old)
-        × AreAnswers limit (S.told supply.old) answers × Holds answers read) }
+        × AreAnswers limit (S.contents supply.old) answers × Holds answers read) }
 
     // Then no source failed.
     ensures refusals { IsOk result → AllStay (S.refusals supply.old) (S.refusals supply.new) }
@@ -105,7 +105,7 @@ pub(crate) fn read_sources<S: Supply>(
 
     // What stays.
     ensures kept { (S.sources supply.new ≡ S.sources supply.old)
-        × (S.told supply.new ≡ S.told supply.old)
+        × (S.contents supply.new ≡ S.contents supply.old)
         × (S.rest supply.new ≡ S.rest supply.old) }
 {
     let mut sources = Sources::new(alloc);
@@ -124,7 +124,7 @@ fn read_one<S: Supply>(
     limit: u64,
 ) -> Result<Result<Version, KeyFault>, EngineFault>
     requires { at < S.sources supply.old }
-    ensures answer { IfOk result (IsAnswer limit (S.told supply.old at)) }
+    ensures answer { IfOk result (IsAnswer limit (S.contents supply.old at)) }
     ensures live { IsOk result → IsLive (S.refusals supply.old at) (S.unread supply.old at) }
     ensures refusals { IsOk result → AllStay (S.refusals supply.old) (S.refusals supply.new) }
     ensures unread { IsOk result → AllStay (S.unread supply.old) (S.unread supply.new) }
@@ -132,7 +132,7 @@ fn read_one<S: Supply>(
     ensures used { IsUsed at (limit + 1) (S.lent supply.old) (S.lent supply.new)
         (S.reads supply.old) (S.reads supply.new) }
     ensures kept { (S.sources supply.new ≡ S.sources supply.old)
-        × (S.told supply.new ≡ S.told supply.old)
+        × (S.contents supply.new ≡ S.contents supply.old)
         × (S.rest supply.new ≡ S.rest supply.old) }
 {
     let Ok(mut reader) = supply.begin(at) else {

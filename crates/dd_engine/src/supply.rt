@@ -17,7 +17,7 @@ pub trait Supply {
     ghost sources: { Self → ℕ };
 
     // The bytes of each source, where they are known.
-    ghost told: { Self → ℕ → Option (List ℕ) };
+    ghost contents: { Self → ℕ → Option (List ℕ) };
 
     // How often the opening of each source was refused.
     ghost refusals: { Self → ℕ → ℕ };
@@ -63,11 +63,11 @@ pub trait Supply {
         ensures fresh { IfOk result (λ reader. (Self.In.calls reader ≡ 0)
             × (Self.In.failures reader ≡ 0)
             × ((past : Self.In.Past) → Self.In.has_given reader past [])) }
-        ensures left { IfOk result (λ reader. IfSome (told self.old at) (λ file.
+        ensures left { IfOk result (λ reader. IfSome (contents self.old at) (λ file.
             Self.In.remaining reader ≡ Some file)) }
 
         // What stays.
-        ensures kept { (sources self.new ≡ sources self.old) × (told self.new ≡ told self.old)
+        ensures kept { (sources self.new ≡ sources self.old) × (contents self.new ≡ contents self.old)
             × (rest self.new ≡ rest self.old) };
 
     /// Takes back a reader of a source.
@@ -86,6 +86,6 @@ pub trait Supply {
         ensures same_lent { OthersStay at (lent self.old) (lent self.new) }
 
         // What stays.
-        ensures kept { (sources self.new ≡ sources self.old) × (told self.new ≡ told self.old)
+        ensures kept { (sources self.new ≡ sources self.old) × (contents self.new ≡ contents self.old)
             × (rest self.new ≡ rest self.old) };
 }

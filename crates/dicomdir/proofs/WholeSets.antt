@@ -58,13 +58,13 @@ whole files plan laid seen picks is same are =
     subst (λ (layout : Layout). IsWhole layout picks) (sym is)
     (sym same ∙ picked files laid.label laid.versions seen are)
 
-pub index_is_whole : (choice : Choice) (limits : Limits) (limit : ℕ) (told : ℕ → Option (List ℕ)) (sources : ℕ)
-    (r : Result NotedIndex (NotedFault EngineFault ℕ)) → NotesSupply choice limits limit told sources r
+pub index_is_whole : (choice : Choice) (limits : Limits) (limit : ℕ) (contents : ℕ → Option (List ℕ)) (sources : ℕ)
+    (r : Result NotedIndex (NotedFault EngineFault ℕ)) → NotesSupply choice limits limit contents sources r
     → IfOk r (λ noted. IsWhole noted.indexed.plan noted.indexed.picks.items)
-index_is_whole choice limits limit told sources (Ok noted) h =
+index_is_whole choice limits limit contents sources (Ok noted) h =
     let is : IsIndexed choice limits h.0 noted.indexed = h.3.0 in
     whole _ _ _ noted.indexed.picks.items noted.indexed.picks.items is.plan refl is.picks
-index_is_whole choice limits limit told sources (Err noted) h = tt
+index_is_whole choice limits limit contents sources (Err noted) h = tt
 
 pub merge_is_whole : (choice : Choice) (limits : Limits) (given : List (List ℕ)) (listings : List SetListing)
     (merged : Merged) → IsMerged choice limits given listings merged → IsWhole merged.plan merged.picks.items

@@ -2,7 +2,7 @@
 ghost use Rattle.std.specs.Prelude.{◌≡◌, length, map, string_bytes, Option};
 ghost use Rattle.std.specs.Borrow.{GName};
 ghost use Rattle.dd_files.specs.Files.{Held};
-ghost use Rattle.dicomdir.specs.FileSupply.{told_by, counts_at};
+ghost use Rattle.dicomdir.specs.FileSupply.{contents_by, counts_at};
 
 use crate::counted_reader::CountedReader;
 use crate::source_counts::SourceCounts;
@@ -56,8 +56,8 @@ impl<F: Files> Supply for FileSupply<'_, F> {
 
     ghost sources = { λ s. length s.counts.now };
 
-    ghost told = { λ s.
-        told_by (F.held s.files.now) (map (λ path. string_bytes path) s.paths.now) };
+    ghost contents = { λ s.
+        contents_by (F.held s.files.now) (map (λ path. string_bytes path) s.paths.now) };
 
     ghost refusals = { λ s at. (counts_at s.counts.now at).refusals };
 

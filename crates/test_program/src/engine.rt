@@ -61,7 +61,7 @@ impl<'a> Supply for Pair<'a> {
 
     ghost sources = { λ _. 2 };
 
-    ghost told = { λ _ _. None };
+    ghost contents = { λ _ _. None };
 
     ghost refusals = { λ s at. (slice_index_or s.counts at (record { calls = 0; failures = 0 })).calls };
 

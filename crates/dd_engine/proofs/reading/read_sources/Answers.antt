@@ -20,7 +20,7 @@ loop-at-init g c = record {
   later = record { stays = λ _ _. refl };
   live = λ at below. absurd (omega arith);
   sources = refl;
-  told = refl;
+  contents = refl;
   rest = refl;
 }
 
@@ -32,7 +32,7 @@ loop-at-preserved g c =
       answers = before.answers ++ c.in_ok-answer.answer ∷ [];
       many = length_push before.answers c.in_ok-answer.answer ∙ ap (λ n. n + 1) before.many;
       right = answers_more c.args.limit c.loop-at.at _ before.answers c.in_ok-answer.answer before.many before.right
-          (answer_before _ _ _ _ _ before.told read.answer);
+          (answer_before _ _ _ _ _ before.contents read.answer);
       held = c.in_ok-keep.ensures before.answers before.many before.held;
       refusals = all_later _ _ _ before.refusals (read.refusals refl);
       unread = all_later _ _ _ before.unread (read.unread refl);
@@ -41,7 +41,7 @@ loop-at-preserved g c =
       later = still_later c.loop-at.at _ _ _ before.later read.used.others;
       live = below_more _ _ before.live (live_before _ _ _ _ _ before.refusals before.unread (read.live refl));
       sources = read.kept.0 ∙ before.sources;
-      told = read.kept.1 ∙ before.told;
+      contents = read.kept.1 ∙ before.contents;
       rest = read.kept.2 ∙ before.rest;
     }
 

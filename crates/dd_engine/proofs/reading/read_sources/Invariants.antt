@@ -10,7 +10,7 @@ abbrev pub invariant-loop-at : goal.invariant-loop-at
 invariant-loop-at g l = record {
   answers : List Answer;
   many : length answers ≡ l.at;
-  right : AreAnswers l.limit (g.S.Supply.told l.fn.supply) answers;
+  right : AreAnswers l.limit (g.S.Supply.contents l.fn.supply) answers;
   held : Holds answers l.sources;
   refusals : AllStay (g.S.Supply.refusals l.fn.supply) (g.S.Supply.refusals l.supply);
   unread : AllStay (g.S.Supply.unread l.fn.supply) (g.S.Supply.unread l.supply);
@@ -19,6 +19,6 @@ invariant-loop-at g l = record {
   later : StayFrom l.at (g.S.Supply.reads l.fn.supply) (g.S.Supply.reads l.supply);
   live : (at : ℕ) → at < l.at → IsLive (g.S.Supply.refusals l.fn.supply at) (g.S.Supply.unread l.fn.supply at);
   sources : g.S.Supply.sources l.supply ≡ g.S.Supply.sources l.fn.supply;
-  told : g.S.Supply.told l.supply ≡ g.S.Supply.told l.fn.supply;
+  contents : g.S.Supply.contents l.supply ≡ g.S.Supply.contents l.fn.supply;
   rest : g.S.Supply.rest l.supply ≡ g.S.Supply.rest l.fn.supply;
 }
