@@ -37,16 +37,12 @@ LeavesOut answers notes = AreLeftOut (λ at. at) (best_of_sources (accepted answ
 abbrev pub ClashesIn : List Answer → EngineFault → Option (Clash ℕ) → Type 0
 ClashesIn answers (Plan fault) clash =
     IsClashOf (λ at. at) (best_of_sources (accepted answers)) (accepted answers) fault clash
-ClashesIn answers Memory clash = clash ≡ None
-ClashesIn answers (Absent at) clash = clash ≡ None
-ClashesIn answers (Unread at) clash = clash ≡ None
+ClashesIn answers fault clash = clash ≡ None
 
 -- where the plan is refused for two versions that clash, a source of each is named
 abbrev pub FindsBoth : EngineFault → Option (Clash ℕ) → Type 0
 FindsBoth (Plan fault) clash = IsFound fault clash
-FindsBoth Memory clash = Unit {0}
-FindsBoth (Absent at) clash = Unit {0}
-FindsBoth (Unread at) clash = Unit {0}
+FindsBoth fault clash = Unit {0}
 
 -- the index is refused, with a note of the two sources that clash
 abbrev pub IsRefused : Choice → Limits → List Answer → NotedFault EngineFault ℕ → Type 0

@@ -37,8 +37,7 @@ Indexes choice limits answers (Ok indexed) = IsIndexed choice limits answers ind
 Indexes choice limits answers (Err (Plan fault)) =
     refusal_for choice limits (best_of_sources (accepted answers)) [] ≡ Some fault
 Indexes choice limits answers (Err Memory) = Unit {0}
-Indexes choice limits answers (Err (Absent at)) = ⊥
-Indexes choice limits answers (Err (Unread at)) = ⊥
+Indexes choice limits answers (Err fault) = ⊥
 
 -- the answer for a number of sources with these bytes, where they are known; where a source failed, nothing is said of
 -- the others
@@ -46,10 +45,8 @@ abbrev pub AnswersSupply : Choice → Limits → ℕ → (ℕ → Option (List �
 AnswersSupply choice limits limit contents sources (Err (Absent at)) = at < sources
 AnswersSupply choice limits limit contents sources (Err (Unread at)) = at < sources
 AnswersSupply choice limits limit contents sources (Err Memory) = Unit {0}
-AnswersSupply choice limits limit contents sources (Err (Plan fault)) = (answers : List Answer)
-    × (length answers ≡ sources) × AreAnswers limit contents answers × Indexes choice limits answers (Err (Plan fault))
-AnswersSupply choice limits limit contents sources (Ok indexed) = (answers : List Answer)
-    × (length answers ≡ sources) × AreAnswers limit contents answers × Indexes choice limits answers (Ok indexed)
+AnswersSupply choice limits limit contents sources answer = (answers : List Answer)
+    × (length answers ≡ sources) × AreAnswers limit contents answers × Indexes choice limits answers answer
 
 -- ---- numbers of sources
 
@@ -60,16 +57,13 @@ pub record IsWithin (sources : ℕ) (indexed : Indexed) : Type 0 where
 
 -- the source that a fault names has a number below the count of sources
 abbrev pub IsNamed : ℕ → EngineFault → Type 0
-IsNamed sources Memory = Unit {0}
 IsNamed sources (Absent at) = at < sources
 IsNamed sources (Unread at) = at < sources
-IsNamed sources (Plan fault) = Unit {0}
+IsNamed sources fault = Unit {0}
 
 -- Indexing `sources` sources ended with a fault; the refusals were `refusals` and are `refused`, the failures of their
 -- readers were `unread` and are `failed`: where memory ran out, or the versions have no place in a directory, no source
 -- failed.
 abbrev pub FailsBy : EngineFault → ℕ → (ℕ → ℕ) → (ℕ → ℕ) → (ℕ → ℕ) → (ℕ → ℕ) → Type 0
-FailsBy Memory sources refusals refused unread failed = AllStay refusals refused × AllStay unread failed
-FailsBy (Absent at) sources refusals refused unread failed = EndsWith (Absent at) sources refusals refused unread failed
-FailsBy (Unread at) sources refusals refused unread failed = EndsWith (Unread at) sources refusals refused unread failed
 FailsBy (Plan fault) sources refusals refused unread failed = AllStay refusals refused × AllStay unread failed
+FailsBy fault sources refusals refused unread failed = EndsWith fault sources refusals refused unread failed

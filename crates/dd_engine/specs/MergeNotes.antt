@@ -40,16 +40,12 @@ LeavesOut given listings notes =
 abbrev pub ClashesIn : List (List ℕ) → List SetListing → MergeFault → Option (Clash Pick) → Type 0
 ClashesIn given listings (Plan fault) clash =
     IsClashOf (λ pick. pick_view pick) (held_in given listings).versions (filed_in listings) fault clash
-ClashesIn given listings (Dir at fault) clash = clash ≡ None
-ClashesIn given listings (Own at fault) clash = clash ≡ None
-ClashesIn given listings Memory clash = clash ≡ None
+ClashesIn given listings fault clash = clash ≡ None
 
 -- where the plan is refused for two versions that clash, a file of each is named
 abbrev pub FindsBoth : MergeFault → Option (Clash Pick) → Type 0
 FindsBoth (Plan fault) clash = IsFound fault clash
-FindsBoth (Dir at fault) clash = Unit {0}
-FindsBoth (Own at fault) clash = Unit {0}
-FindsBoth Memory clash = Unit {0}
+FindsBoth fault clash = Unit {0}
 
 -- the merge answers this, with notes
 abbrev pub NotesMerge : Choice → Limits → List (List ℕ) → List SetListing
