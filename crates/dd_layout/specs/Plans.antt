@@ -33,7 +33,7 @@ level_of (patient ∷ study ∷ []) = Study
 level_of (patient ∷ study ∷ series ∷ []) = Series
 level_of (patient ∷ study ∷ series ∷ image ∷ path) = Image
 
--- of versions that rise by instance, the place of the least one below the path, or at it
+-- of versions that rise by instance, the index of the least one below the path, or at it
 abbrev pub least_below : List Parts → Path → ℕ
 least_below [] x = 0
 least_below (version ∷ versions) x = if leads_to x (path_of version) then 0 else 1 + least_below versions x

@@ -8,13 +8,13 @@ use Rattle.dd_layout.specs.declared.record.PlanRecord.{PlanRecord}
 use Rattle.dd_layout.specs.Paths.{Path}
 use Rattle.dd_layout.specs.Plans.{tree, level_of, least_below, file_of, at}
 
--- a record of this level, of the version at this place
+-- a record of this level, of the version with this index
 abbrev pub bare_of : Level → ℕ → PlanRecord
-bare_of level place = record { level = level; at = 0; next = 0; lower = 0; file = None; of = place }
+bare_of level index = record { level = level; at = 0; next = 0; lower = 0; file = None; of = index }
 
--- the record of a path, of the version at this place
+-- the record of a path, of the version with this index
 abbrev pub bare : Path → ℕ → PlanRecord
-bare x place = bare_of (level_of x) place
+bare x index = bare_of (level_of x) index
 
 abbrev pub bare_at : List Parts → Path → PlanRecord
 bare_at versions x = bare x (least_below versions x)

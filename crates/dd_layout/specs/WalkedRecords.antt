@@ -14,19 +14,19 @@ use Rattle.dd_layout.specs.Plans.{path_of}
 use Rattle.dd_layout.specs.Stages.{bare}
 use Rattle.dd_layout.specs.Walk.{fresh}
 
--- ---- versions with their places
+-- ---- versions with their indices
 
--- the place of a version, and its path
+-- the index of a version, and its path
 abbrev pub Standing : Type 0
 Standing = ℕ × Path
 
 abbrev pub standing : Placed → Standing
 standing placed = (placed.of, path_of placed.version.now)
 
--- versions as they stand, from this place on
+-- versions as they stand, from this index on
 abbrev pub standings : ℕ → List Parts → List Standing
-standings place [] = []
-standings place (version ∷ versions) = (place, path_of version) ∷ standings (suc place) versions
+standings index [] = []
+standings index (version ∷ versions) = (index, path_of version) ∷ standings (suc index) versions
 
 -- no path stands before an earlier one
 abbrev pub AreInOrder : List Standing → Type 0
@@ -56,9 +56,9 @@ front_of Image version = path_of version
 -- ---- records
 
 abbrev pub lesser : ℕ → ℕ → ℕ
-lesser place least = if nat_lt place least then place else least
+lesser index least = if nat_lt index least then index else least
 
--- the least of this place and those that follow at once below the path
+-- the least of this index and those that follow at once below the path
 abbrev pub least_run : Path → ℕ → List Standing → ℕ
 least_run x least [] = least
 least_run x least (s ∷ run) = if leads_to x s.1 then least_run x (lesser s.0 least) run else least

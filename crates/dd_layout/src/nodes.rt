@@ -97,7 +97,7 @@ fn push_records(
     Ok(())
 }
 
-/// The least place of the first version and of those that follow at once below its record of this level.
+/// The least index of the first version and of those that follow at once below its record of this level.
 fn least_below(level: Level, first: &Placed, later: &[Placed]) -> usize
     ensures { result ≡ least_run (front_of level first.now.version.now) first.now.of (map standing later.now) }
 {

@@ -11,7 +11,7 @@ use dd_version::Version;
 use std::alloc::Global;
 use std::cmp::Ordering;
 
-/// A version and its place among the versions.
+/// A version and its index among the versions.
 #[derive(Clone, Copy)]
 pub(crate) struct Placed<'a> {
     /// Its index.
@@ -20,7 +20,7 @@ pub(crate) struct Placed<'a> {
     pub(crate) version: &'a Version,
 }
 
-/// These versions with their places, in the order of their paths.
+/// These versions with their indices, in the order of their paths.
 pub(crate) fn in_path_order<'a>(
     alloc: Global,
     versions: &'a [Version],

@@ -1,4 +1,4 @@
-//! A record and its place.
+//! A record and where it stands.
 
 use crate::level::Level;
 use dd_elem::FileId;
