@@ -12,6 +12,7 @@ use Rattle.dd_catalogue.specs.Clash.{clash, conflicts}
 use Rattle.dd_catalogue.specs.Harmony.{harmonised}
 use Rattle.dd_catalogue.specs.Rising.{by_test}
 use Rattle.dd_catalogue.specs.Versions.{IsCatalogue, best_of, instance_of, kept, versions_ordered}
+use Rattle.dd_dir.specs.Deriving.{either}
 use Rattle.dd_dir.specs.Directories.{unnamed_label}
 use Rattle.dd_version.specs.Orders.{parts_cmp, parts_total}
 use Rattle.dd_version.specs.declared.parts.Parts.{Parts}
@@ -24,7 +25,7 @@ use Rattle.dd_layout.specs.declared.label.Label.{Label}
 use Rattle.dd_layout.specs.declared.level.Level.{Level}
 use Rattle.dd_engine.specs.declared.choice.Choice.{Choice}
 use Rattle.dd_engine.specs.declared.notes.Clash.{Clash}
-use Rattle.dd_engine.specs.Choosing.{derivation, either, label_for, refusal_for}
+use Rattle.dd_engine.specs.Choosing.{derivation, label_for, refusal_for}
 use Rattle.dd_engine.specs.Noting.{IsClashOf, both, first_by, first_of}
 
 -- ---- the two versions that a refusal names clash
