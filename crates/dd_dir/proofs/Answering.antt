@@ -29,7 +29,7 @@ use Rattle.dd_dir.proofs.Contents.{same_many}
 use Rattle.dd_dir.proofs.Moved.{places_many}
 use Rattle.dd_dir.proofs.Sequences.{items_in, items_in-is}
 use Rattle.dd_dir.proofs.WalkPlaces.{rises_lower, contents_rise, contents_parts}
-use Rattle.dd_layout.specs.Entries.{tag}
+use Rattle.dd_layout.specs.ElementForms.{tag}
 use Rattle.dd_set.specs.Starts.{places_in}
 
 -- ---- a fault that is handed on

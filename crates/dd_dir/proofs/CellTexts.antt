@@ -9,11 +9,11 @@ use Rattle.dd_elem.specs.declared.vr.Vr.{Vr}
 use Rattle.dd_elem.specs.Vr.{is_long_of}
 use Rattle.dd_encoding.specs.Elements.{bytes, elements_of}
 use Rattle.dd_encoding.specs.Spelling.{header_limit}
-use Rattle.dd_set.specs.Single.{entry_text}
+use Rattle.dd_set.specs.Single.{element_text}
 use Rattle.dd_encoding.specs.Spelling.{elements_text, tag_text, shape_text, header_text, content_text}
-use Rattle.dd_set.proofs.Counting.{entry_first}
+use Rattle.dd_set.proofs.Counting.{element_first}
 use Rattle.dd_layout.specs.declared.cell.Cell.{Cell}
-use Rattle.dd_layout.specs.Cells.{IsShort, IsShortEntry, cell_entry}
+use Rattle.dd_layout.specs.Cells.{IsShort, IsShortElement, cell_element}
 
 -- an element is sent as its header, its value and the padding
 pub cell_parts : (tag : Tag) (vr : Vr) (n : ℕ) (value padding whole : List ℕ) → value ++ padding ≡ whole
@@ -35,15 +35,15 @@ cell_room vr value padding whole is short = go (is_long_of vr) where
 
 -- the text of what is left of a list of elements begins with that of the next
 pub cell_at : (cells : List Cell) (i : ℕ) (d : Cell) → i < length cells
-    → elements_text (elements_of (map cell_entry (drop i cells)))
-    ≡ entry_text (cell_entry (get_or cells i d)) ++ elements_text (elements_of (map cell_entry (drop (i + 1) cells)))
+    → elements_text (elements_of (map cell_element (drop i cells)))
+    ≡ element_text (cell_element (get_or cells i d)) ++ elements_text (elements_of (map cell_element (drop (i + 1) cells)))
 cell_at cells i d within =
-    at_drop_more (λ cs. elements_text (elements_of (map cell_entry cs))) cells i d within
-    ∙ entry_first (cell_entry (get_or cells i d)) (elements_of (map cell_entry (drop (i + 1) cells)))
+    at_drop_more (λ cs. elements_text (elements_of (map cell_element cs))) cells i d within
+    ∙ element_first (cell_element (get_or cells i d)) (elements_of (map cell_element (drop (i + 1) cells)))
 
 -- the cells behind the first one are short where all remaining cells are
-pub rest_short : (cells : List Cell) (i : ℕ) → AllByRecursion IsShortEntry (map cell_entry (drop i cells))
-    → AllByRecursion IsShortEntry (map cell_entry (drop (i + 1) cells))
+pub rest_short : (cells : List Cell) (i : ℕ) → AllByRecursion IsShortElement (map cell_element (drop i cells))
+    → AllByRecursion IsShortElement (map cell_element (drop (i + 1) cells))
 rest_short [] zero short = tt
 rest_short [] (suc i) short = let e : suc i + 1 ≡ suc (i + 1) = omega arith in rw e tt
 rest_short (cell ∷ cells) zero short = short.1

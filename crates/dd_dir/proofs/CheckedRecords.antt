@@ -12,14 +12,14 @@ use Rattle.dd_elem.specs.Uid.{is_uid}
 use Rattle.dd_version.proofs.ImageClasses.{is_image_class_decides}
 use Rattle.dd_version.proofs.KnownSyntaxes.{is_known_syntax_decides}
 use Rattle.dd_version.specs.Fitting.{Fits, is_empty}
-use Rattle.dd_keys.specs.Values.{content_value, entry_value, value_at}
+use Rattle.dd_keys.specs.Values.{content_value, element_value, value_at}
 use Rattle.dd_layout.specs.declared.field.Field.{Field}
 use Rattle.dd_layout.specs.declared.level.Level.{Level}
 use Rattle.dd_layout.specs.declared.level.Level.TheVariants.{Patient, Study, Series, Image}
 use Rattle.dd_layout.specs.declared.table.Row.{Row}
 use Rattle.dd_layout.specs.declared.table.TheConstants as row
 use Rattle.dd_layout.specs.Tables.{table_of}
-use Rattle.dd_encoding.specs.Elements.{Elements, Content, Entry, bytes, items, fragments}
+use Rattle.dd_encoding.specs.Elements.{Elements, Content, Element, bytes, items, fragments}
 use Rattle.dd_set.specs.Find.{find_in}
 use Rattle.dd_dir.specs.declared.own_fault.OwnFault.{OwnFault}
 use Rattle.dd_dir.specs.Own.{Above, root, in_patient, in_study, in_series, in_image, Listed, below, fault_at}
@@ -55,9 +55,9 @@ clean_content (bytes v) = clean_of-clean_of v
 clean_content (items form parts) = refl
 clean_content (fragments fs) = refl
 
-clean_entry : (entry : Option Entry) → clean_of (unwrap_or (entry_value entry) []) ≡ unwrap_or (entry_value entry) []
-clean_entry None = refl
-clean_entry (Some entry) = clean_content entry.content
+clean_element : (entry : Option Element) → clean_of (unwrap_or (element_value entry) []) ≡ unwrap_or (element_value entry) []
+clean_element None = refl
+clean_element (Some entry) = clean_content entry.content
 
 -- the value of a row is a key
 pub record IsHeld (set : Elements) (r : Row) : Type 0 where
@@ -78,7 +78,7 @@ is_held set r e key =
     let v = value_at r.tag set in
     let p = sound_held r.field v (and_not (is_key r.field) (is_sound r.field v) e key) in
     record {
-      key = record { clean = clean_entry (find_in r.tag set); short = p.0 };
+      key = record { clean = clean_element (find_in r.tag set); short = p.0 };
       suits = p.1;
     }
 

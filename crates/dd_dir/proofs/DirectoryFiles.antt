@@ -20,7 +20,7 @@ use Rattle.dd_layout.specs.Layouts.{IsSound}
 use Rattle.dd_layout.specs.Plans.{records_of, size, tree}
 use Rattle.dd_layout.specs.Records.{IsRecord}
 use Rattle.dd_layout.proofs.DirectoryElements.{elements_are_valid}
-use Rattle.dd_dir.specs.Directories.{IsDirectory, directory_set, entries_of, first_root, last_root}
+use Rattle.dd_dir.specs.Directories.{IsDirectory, directory_set, elements_for, first_root, last_root}
 use Rattle.dd_dir.proofs.DirectoryTexts.{directory_length, sizes_sum}
 
 class_valid : IsUid (codes "1.2.840.10008.1.3.10")
@@ -39,10 +39,10 @@ second_below xs ys n is below = omega (arith, length-append xs ys, is, below)
 set_spelled : (label : Label) (versions : List Parts) (withdrawn : List (List ℕ))
     → All (IsSound (length versions)) (records_of label versions)
     → size label versions withdrawn < 2 ^ 32 → length label.id ≤ max_set_id_length
-    → AllByRecursion IsRecord (map (entries_of versions) (records_of label versions))
+    → AllByRecursion IsRecord (map (elements_for versions) (records_of label versions))
     → Spells Explicit (directory_set label versions withdrawn) (elements_text (directory_set label versions withdrawn))
 set_spelled label versions withdrawn sound below few valid =
-    let entries = map (entries_of versions) (records_of label versions) in
+    let entries = map (elements_for versions) (records_of label versions) in
     let head = length_head (meta_of label) in
     let sum = sizes_sum label versions (tree versions)
     (recursion_from_All (IsSound (length versions)) (records_of label versions) sound) in
@@ -59,10 +59,10 @@ set_spelled label versions withdrawn sound below few valid =
 pub directory_is_file : (label : Label) (versions : List Parts) (withdrawn : List (List ℕ))
     (rows : List PlanRecord) → rows ≡ records_of label versions → All (IsSound (length versions)) rows
     → size label versions withdrawn < 2 ^ 32 → length label.id ≤ max_set_id_length → IsUid label.uid
-    → AllByRecursion IsRecord (map (entries_of versions) rows) → IsDirectory label versions withdrawn
+    → AllByRecursion IsRecord (map (elements_for versions) rows) → IsDirectory label versions withdrawn
 directory_is_file label versions withdrawn rows is sound below few uid valid =
     let set = directory_set label versions withdrawn in
     let spelled = set_spelled label versions withdrawn (subst (All (IsSound (length versions))) is sound) below few
-    (subst (λ (rs : List PlanRecord). AllByRecursion IsRecord (map (entries_of versions) rs)) is valid) in
+    (subst (λ (rs : List PlanRecord). AllByRecursion IsRecord (map (elements_for versions) rs)) is valid) in
     head_is_file (meta_of label) Explicit set (elements_text set) class_valid uid syntax_valid explicit_known spelled
     (omega arith)

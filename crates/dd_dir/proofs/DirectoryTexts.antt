@@ -11,24 +11,24 @@ use Rattle.dd_elem.specs.declared.vr.Vr.TheVariants.{SQ}
 use Rattle.dd_version.specs.declared.parts.Parts.{Parts}
 use Rattle.dd_encoding.specs.Head.{head_text}
 use Rattle.dd_encoding.specs.declared.meta.Meta.{Meta}
-use Rattle.dd_encoding.specs.Elements.{Entry, Part, items_of}
+use Rattle.dd_encoding.specs.Elements.{Element, Item, items_of}
 use Rattle.dd_stream.specs.Sends.{Sends}
 use Rattle.dd_stream.specs.declared.write_fault.WriteFault.{WriteFault}
 use Rattle.dd_encoding.specs.Spelling.{header_text, items_text, shape_text, tag_text}
 use Rattle.dd_layout.specs.declared.label.Label.{Label}
-use Rattle.dd_layout.specs.Directory.{directory_entries, first_offset, front_entries, meta_of, records_entry}
-use Rattle.dd_layout.specs.Entries.{tag}
+use Rattle.dd_layout.specs.Directory.{directory_elements, first_offset, front_elements, meta_of, records_element}
+use Rattle.dd_layout.specs.ElementForms.{tag}
 use Rattle.dd_layout.specs.Layouts.{IsSound}
 use Rattle.dd_layout.specs.Paths.{Path}
 use Rattle.dd_layout.specs.Plans.{file_of, least_below, level_of, record_at, record_size_at, records_end, records_of}
 use Rattle.dd_layout.specs.Plans.{size, size_of}
 use Rattle.dd_layout.specs.Plans.{tree}
-use Rattle.dd_layout.specs.Records.{record_part}
+use Rattle.dd_layout.specs.Records.{record_item}
 use Rattle.dd_layout.specs.Sizes.{record_size}
-use Rattle.dd_layout.specs.Withdrawals.{withdrawal_entries, withdrawals_size}
+use Rattle.dd_layout.specs.Withdrawals.{withdrawal_elements, withdrawals_size}
 use Rattle.dd_layout.proofs.RecordSizes.{same_size}
 use Rattle.dd_layout.proofs.DirectoryElements.{items_length, length_is_of_records}
-use Rattle.dd_dir.specs.Directories.{directory_of, entries_by, entries_of, first_root, last_root}
+use Rattle.dd_dir.specs.Directories.{directory_of, elements_by, elements_for, first_root, last_root}
 use Rattle.dd_dir.specs.Directories.{opening_text}
 use Rattle.dd_dir.proofs.RecordTexts.{records_text}
 use Rattle.dd_dir.proofs.RowTexts.{text-append, text-one, text_of}
@@ -43,23 +43,23 @@ there (x ∷ xs) i within = (_, slice_get-get_or (x ∷ xs) i x within)
 -- the record of a path has the size that is known by the path
 pub one_size : (label : Label) (versions : List Parts) (x : Path)
     → IsSound (length versions) (record_at label versions x)
-    → record_size (entries_of versions (record_at label versions x)) ≡ record_size_at versions x
+    → record_size (elements_for versions (record_at label versions x)) ≡ record_size_at versions x
 one_size label versions x sound =
     let row = record_at label versions x in
     let file = file_of (tree versions) x in
     let found = there versions (least_below versions x) sound.0 in
-    ap (λ (o : Option Parts). record_size (entries_by row o)) found.1
+    ap (λ (o : Option Parts). record_size (elements_by row o)) found.1
     ∙ ap (λ (n : ℕ). 8 + n) (same_size (level_of x) row.next row.lower 0 0 file file found.0 sound.1 sound.1)
     ∙ sym (ap (size_of (tree versions) x) found.1)
 
 pub sizes_sum : (label : Label) (versions : List Parts) (xs : List Path)
     → AllByRecursion (IsSound (length versions)) (map (record_at label versions) xs)
-    → sum_by record_size (map (entries_of versions) (map (record_at label versions) xs))
+    → sum_by record_size (map (elements_for versions) (map (record_at label versions) xs))
     ≡ sum_by (record_size_at versions) xs
 sizes_sum label versions [] sound = refl
 sizes_sum label versions (x ∷ xs) sound =
-    let a = sum_by-cons record_size (entries_of versions (record_at label versions x))
-    (map (entries_of versions) (map (record_at label versions) xs)) in
+    let a = sum_by-cons record_size (elements_for versions (record_at label versions x))
+    (map (elements_for versions) (map (record_at label versions) xs)) in
     let b = sum_by-cons (record_size_at versions) x xs in
     let c = one_size label versions x sound.0 in
     let d = sizes_sum label versions xs sound.1 in
@@ -69,10 +69,10 @@ sizes_sum label versions (x ∷ xs) sound =
 pub records_length : (label : Label) (versions : List Parts)
     → All (IsSound (length versions)) (records_of label versions)
     → first_offset label
-    + length (items_text (items_of (map record_part (map (entries_of versions) (records_of label versions)))))
+    + length (items_text (items_of (map record_item (map (elements_for versions) (records_of label versions)))))
     ≡ records_end label versions
 records_length label versions sound =
-    let a = items_length (map (entries_of versions) (records_of label versions)) in
+    let a = items_length (map (elements_for versions) (records_of label versions)) in
     let b = sizes_sum label versions (tree versions)
     (recursion_from_All (IsSound (length versions)) (records_of label versions) sound) in
     omega arith
@@ -81,10 +81,10 @@ pub directory_length : (label : Label) (versions : List Parts) (withdrawn : List
     → All (IsSound (length versions)) (records_of label versions)
     → length (directory_of label versions withdrawn) ≡ size label versions withdrawn
 directory_length label versions withdrawn sound =
-    let entries = map (entries_of versions) (records_of label versions) in
+    let entries = map (elements_for versions) (records_of label versions) in
     let first = first_root label versions in
     let last = last_root label versions in
-    let all = directory_entries label.id first last (map record_part entries) ++ withdrawal_entries withdrawn in
+    let all = directory_elements label.id first last (map record_item entries) ++ withdrawal_elements withdrawn in
     let a = length-append (head_text (meta_of label)) (text_of all) in
     let b = length_is_of_records label first last entries withdrawn in
     let c = sizes_sum label versions (tree versions)
@@ -94,11 +94,11 @@ directory_length label versions withdrawn sound =
 -- ---- pieces
 
 -- the sequence is sent as its header and its items
-sequence_parts : (parts : List Part) (count : ℕ) → count ≡ length (items_text (items_of parts))
-    → text_of (records_entry parts ∷ [])
+sequence_parts : (parts : List Item) (count : ℕ) → count ≡ length (items_text (items_of parts))
+    → text_of (records_element parts ∷ [])
     ≡ header_text (tag 0x0004 0x1220) (Some SQ) count ++ items_text (items_of parts)
 sequence_parts parts count is =
-    text-one (records_entry parts)
+    text-one (records_element parts)
     ∙ sym (append_assoc (tag_text (tag 0x0004 0x1220)) (shape_text (Some SQ) (length (items_text (items_of parts))))
     (items_text (items_of parts)))
     ∙ ap (λ (n : ℕ). header_text (tag 0x0004 0x1220) (Some SQ) n ++ items_text (items_of parts)) (sym is)
@@ -108,16 +108,16 @@ abbrev pub sequence_header : ℕ → List ℕ
 sequence_header count = header_text (tag 0x0004 0x1220) (Some SQ) count
 
 -- what stands before the records is sent as the head, the elements before their sequence, and its header
-pub opening_parts : (label : Label) (versions : List Parts) (seen : Label) (meta : Meta) (front : List Entry)
-    (first last count : ℕ) → seen ≡ label → meta ≡ meta_of seen → front ≡ front_entries seen.id first last
+pub opening_parts : (label : Label) (versions : List Parts) (seen : Label) (meta : Meta) (front : List Element)
+    (first last count : ℕ) → seen ≡ label → meta ≡ meta_of seen → front ≡ front_elements seen.id first last
     → first ≡ first_root label versions → last ≡ last_root label versions
     → head_text meta ++ (text_of front ++ sequence_header count) ≡ opening_text label versions count
 opening_parts label versions seen meta front first last count same meta_is front_is first_is last_is =
-    let whole : front ≡ front_entries label.id (first_root label versions) (last_root label versions) =
-    front_is ∙ ap (λ (l : Label). front_entries l.id first last) same
-    ∙ ap (λ (n : ℕ). front_entries label.id n last) first_is
-    ∙ ap (λ (n : ℕ). front_entries label.id (first_root label versions) n) last_is in
-    rw (meta_is, same) (ap (λ (es : List Entry). head_text (meta_of label) ++ (text_of es ++ sequence_header count))
+    let whole : front ≡ front_elements label.id (first_root label versions) (last_root label versions) =
+    front_is ∙ ap (λ (l : Label). front_elements l.id first last) same
+    ∙ ap (λ (n : ℕ). front_elements label.id n last) first_is
+    ∙ ap (λ (n : ℕ). front_elements label.id (first_root label versions) n) last_is in
+    rw (meta_is, same) (ap (λ (es : List Element). head_text (meta_of label) ++ (text_of es ++ sequence_header count))
     whole)
 
 -- the directory is sent as what stands before its records, the records, and the elements with the withdrawn UIDs
@@ -125,30 +125,30 @@ pub directory_parts : (label : Label) (versions : List Parts) (withdrawn : List 
     → All (IsSound (length versions)) (records_of label versions)
     → count ≡ records_end label versions - first_offset label
     → opening_text label versions count
-    ++ (records_text versions (records_of label versions) ++ text_of (withdrawal_entries withdrawn))
+    ++ (records_text versions (records_of label versions) ++ text_of (withdrawal_elements withdrawn))
     ≡ directory_of label versions withdrawn
 directory_parts label versions withdrawn count sound count_is =
-    let parts = map record_part (map (entries_of versions) (records_of label versions)) in
+    let parts = map record_item (map (elements_for versions) (records_of label versions)) in
     let items : List ℕ = items_text (items_of parts) in
     let a = records_length label versions sound in
     let many : count ≡ length items = omega (arith, a, count_is) in
-    let front = front_entries label.id (first_root label versions) (last_root label versions) in
+    let front = front_elements label.id (first_root label versions) (last_root label versions) in
     let head : List ℕ = head_text (meta_of label) in
-    let rest : List ℕ = text_of (withdrawal_entries withdrawn) in
+    let rest : List ℕ = text_of (withdrawal_elements withdrawn) in
     append_assoc head (text_of front ++ sequence_header count) (items ++ rest)
     ∙ ap (λ (t : List ℕ). head ++ t) (append_assoc (text_of front) (sequence_header count) (items ++ rest)
     ∙ ap (λ (t : List ℕ). text_of front ++ t) (sym (append_assoc (sequence_header count) items rest)
     ∙ ap (λ (t : List ℕ). t ++ rest) (sym (sequence_parts parts count many)))
-    ∙ sym (append_assoc (text_of front) (text_of (records_entry parts ∷ [])) rest)
-    ∙ ap (λ (t : List ℕ). t ++ rest) (sym (text-append front (records_entry parts ∷ [])))
-    ∙ sym (text-append (front ++ (records_entry parts ∷ [])) (withdrawal_entries withdrawn)))
+    ∙ sym (append_assoc (text_of front) (text_of (records_element parts ∷ [])) rest)
+    ∙ ap (λ (t : List ℕ). t ++ rest) (sym (text-append front (records_element parts ∷ [])))
+    ∙ sym (text-append (front ++ (records_element parts ∷ [])) (withdrawal_elements withdrawn)))
 
 -- so there is room for what stands before the records
 pub opening_fits : (label : Label) (versions : List Parts) (withdrawn : List (List ℕ)) (count : ℕ)
     → All (IsSound (length versions)) (records_of label versions) → size label versions withdrawn < 2 ^ 32
     → count ≡ records_end label versions - first_offset label → length (opening_text label versions count) < 2 ^ 64
 opening_fits label versions withdrawn count sound below count_is =
-    let rest : List ℕ = records_text versions (records_of label versions) ++ text_of (withdrawal_entries withdrawn) in
+    let rest : List ℕ = records_text versions (records_of label versions) ++ text_of (withdrawal_elements withdrawn) in
     let whole = ap length (directory_parts label versions withdrawn count sound count_is) in
     let long = directory_length label versions withdrawn sound in
     let one = length-append (opening_text label versions count) rest in
@@ -178,7 +178,7 @@ pub records_fit : (label : Label) (versions : List Parts) (withdrawn : List (Lis
     → n + length (records_text versions (records_of label versions)) < 2 ^ 64
 records_fit label versions withdrawn count n sound below count_is first =
     let records : List ℕ = records_text versions (records_of label versions) in
-    let rest : List ℕ = text_of (withdrawal_entries withdrawn) in
+    let rest : List ℕ = text_of (withdrawal_elements withdrawn) in
     let whole = ap length (directory_parts label versions withdrawn count sound count_is) in
     let long = directory_length label versions withdrawn sound in
     let one = length-append (opening_text label versions count) (records ++ rest) in
@@ -193,7 +193,7 @@ pub withdrawals_fit : (label : Label) (versions : List Parts) (withdrawn : List 
     → m + withdrawals_size withdrawn < 2 ^ 64
 withdrawals_fit label versions withdrawn count n m sound below count_is first second =
     let records : List ℕ = records_text versions (records_of label versions) in
-    let rest : List ℕ = text_of (withdrawal_entries withdrawn) in
+    let rest : List ℕ = text_of (withdrawal_elements withdrawn) in
     let whole = ap length (directory_parts label versions withdrawn count sound count_is) in
     let long = directory_length label versions withdrawn sound in
     let one = length-append (opening_text label versions count) (records ++ rest) in

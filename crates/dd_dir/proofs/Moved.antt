@@ -7,18 +7,18 @@ use Rattle.dd_elem.specs.declared.tag.Tag.{Tag}
 use Rattle.dd_elem.specs.declared.vr.Vr.{Vr}
 use Rattle.dd_encoding.specs.declared.syntax.Length.TheVariants.{Defined, Undefined}
 use Rattle.dd_encoding.specs.declared.syntax.Length.{Length}
-use Rattle.dd_set.specs.declared.set.Item.{Item}
+use Rattle.dd_set.specs.declared.set.Item.{Item as ItemValue}
 use Rattle.dd_encoding.specs.Elements.{Elements, no_elements, element, Content, bytes, items, fragments, Items}
 use Rattle.dd_encoding.specs.Elements.{no_items}
 use Rattle.dd_encoding.specs.Elements.{item}
-use Rattle.dd_encoding.specs.Elements.{Entry, Part}
+use Rattle.dd_encoding.specs.Elements.{Element, Item}
 use Rattle.dd_set.specs.Find.{same_tag}
-use Rattle.dd_set.specs.Single.{entry_text, part_text}
+use Rattle.dd_set.specs.Single.{element_text, item_text}
 use Rattle.dd_encoding.specs.Spelling.{elements_text, items_text, header_text, length_of, closed, sequence_end_text}
 use Rattle.dd_encoding.specs.Spelling.{tag_text, shape_text}
 use Rattle.dd_set.specs.Starts.{item_places, content_places, places_in}
 use Rattle.dd_set.specs.Views.{items_view}
-use Rattle.dd_set.proofs.Counting.{with_entry, with_part, entry_first, part_first}
+use Rattle.dd_set.proofs.Counting.{with_element, with_item, element_first, part_first}
 use Rattle.dd_set.proofs.Places.{starts_from, content_starts, starts_in, places_in-sums}
 use Rattle.dd_dir.specs.Saying.{sets_of, item_sets_of}
 use Rattle.dd_dir.proofs.Sequences.{items_in}
@@ -28,7 +28,7 @@ use Rattle.dd_dir.proofs.Sequences.{items_in}
 from_moved : (by at : ℕ) (parts : Items) → starts_from (at + by) parts ≡ map (λ (n : ℕ). n + by) (starts_from at parts)
 from_moved by at no_items = refl
 from_moved by at (item form set rest) =
-    let size = length (part_text (record { length = form; set = set })) in
+    let size = length (item_text (record { length = form; set = set })) in
     let next : at + by + size ≡ at + size + by = omega arith in
     ap (λ (ns : List ℕ). (at + by) ∷ ns)
     (ap (λ (n : ℕ). starts_from n rest) next ∙ from_moved by (at + size) rest)
@@ -55,7 +55,7 @@ in_moved : (wanted : Tag) (by at : ℕ) (set : Elements)
     ≡ option_map (λ (ns : List ℕ). map (λ (n : ℕ). n + by) ns) (starts_in wanted at set)
 in_moved wanted by at no_elements = refl
 in_moved wanted by at (element t vr content rest) =
-    let size = length (entry_text (record { tag = t; vr = vr; content = content })) in
+    let size = length (element_text (record { tag = t; vr = vr; content = content })) in
     let next : at + by + size ≡ at + size + by = omega arith in
     let later = ap (λ (n : ℕ). starts_in wanted n rest) next ∙ in_moved wanted by (at + size) rest in
     rw (content_moved by at t vr content, later)
@@ -76,10 +76,10 @@ from_within : (at : ℕ) (parts : Items) (k : ℕ) → k < length (starts_from a
 from_within at no_items k in_range = absurd (omega arith)
 from_within at (item form set rest) zero in_range = omega arith
 from_within at (item form set rest) (suc k) in_range =
-    let p : Part = record { length = form; set = set } in
-    let size : length (items_text (with_part p rest)) ≡ length (part_text p) + length (items_text rest) =
-    ap length (part_first p rest) ∙ length-append (part_text p) (items_text rest) in
-    omega (arith, size, from_within (at + length (part_text p)) rest k (omega arith))
+    let p : Item = record { length = form; set = set } in
+    let size : length (items_text (with_item p rest)) ≡ length (item_text p) + length (items_text rest) =
+    ap length (part_first p rest) ∙ length-append (item_text p) (items_text rest) in
+    omega (arith, size, from_within (at + length (item_text p)) rest k (omega arith))
 
 closed_long : (form : Length) (mark text : List ℕ) → length text ≤ length (closed form mark text)
 closed_long Defined mark text = omega arith
@@ -91,7 +91,7 @@ same_list ns ms e = cc
 content_within : (at : ℕ) (t : Tag) (vr : Option Vr) (content : Content) (ns : List ℕ)
     → content_starts at t vr content ≡ Some ns
     → (k : ℕ) → k < length ns → get_or ns k 0 ≤ at + length
-    (entry_text (record { tag = t; vr = vr; content = content }))
+    (element_text (record { tag = t; vr = vr; content = content }))
 content_within at t vr (bytes v) ns e k in_range = absurd cc
 content_within at t vr (fragments fs) ns e k in_range = absurd cc
 content_within at t vr (items form parts) ns e k in_range =
@@ -121,13 +121,13 @@ in_within : (wanted : Tag) (at : ℕ) (set : Elements) (ns : List ℕ) → start
     → (k : ℕ) → k < length ns → get_or ns k 0 ≤ at + length (elements_text set)
 in_within wanted at no_elements ns e k in_range = absurd cc
 in_within wanted at (element t vr content rest) ns e k in_range =
-    let x : Entry = record { tag = t; vr = vr; content = content } in
-    let size : length (elements_text (with_entry x rest)) ≡ length (entry_text x) + length (elements_text rest) =
-    ap length (entry_first x rest) ∙ length-append (entry_text x) (elements_text rest) in
+    let x : Element = record { tag = t; vr = vr; content = content } in
+    let size : length (elements_text (with_element x rest)) ≡ length (element_text x) + length (elements_text rest) =
+    ap length (element_first x rest) ∙ length-append (element_text x) (elements_text rest) in
     elim (chosen_some (same_tag t wanted) (content_starts at t vr content)
-    (starts_in wanted (at + length (entry_text x)) rest) ns e) [
+    (starts_in wanted (at + length (element_text x)) rest) ns e) [
       | inl here ↦ omega (arith, size, content_within at t vr content ns here k in_range)
-      | inr later ↦ omega (arith, size, in_within wanted (at + length (entry_text x)) rest ns later k in_range)
+      | inr later ↦ omega (arith, size, in_within wanted (at + length (element_text x)) rest ns later k in_range)
     ]
 
 pub places_within : (wanted : Tag) (set : Elements) (ns : List ℕ) → places_in wanted [] set ≡ Some ns
@@ -151,7 +151,7 @@ chosen_many false x y u v first second = second
 items_many : (front : List ℕ) (parts : Items) → length (item_places front parts) ≡ length (sets_of parts)
 items_many front no_items = refl
 items_many front (item form set rest) =
-    ap suc (items_many (front ++ part_text (record { length = form; set = set })) rest)
+    ap suc (items_many (front ++ item_text (record { length = form; set = set })) rest)
 
 content_many : (front : List ℕ) (t : Tag) (vr : Option Vr) (content : Content)
     → SameMany (content_places front t vr content) (item_sets_of content)
@@ -164,11 +164,11 @@ pub places_many : (wanted : Tag) (front : List ℕ) (set : Elements)
     → SameMany (places_in wanted front set) (items_in wanted set)
 places_many wanted front no_elements = tt
 places_many wanted front (element t vr content rest) =
-    let text = entry_text (record { tag = t; vr = vr; content = content }) in
+    let text = element_text (record { tag = t; vr = vr; content = content }) in
     chosen_many (same_tag t wanted) (content_places front t vr content) (places_in wanted (front ++ text) rest)
     (item_sets_of content) (items_in wanted rest)
     (content_many front t vr content) (places_many wanted (front ++ text) rest)
 
-pub sets_many : (parts : List Item) → length (sets_of (items_view parts)) ≡ length parts
+pub sets_many : (parts : List ItemValue) → length (sets_of (items_view parts)) ≡ length parts
 sets_many [] = refl
 sets_many (part ∷ parts) = ap suc (sets_many parts)

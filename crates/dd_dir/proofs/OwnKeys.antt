@@ -6,11 +6,11 @@ use Rattle.dd_catalogue.specs.Rising.{by_test}
 use Rattle.dd_version.specs.declared.parts.Parts.{Parts}
 use Rattle.dd_encoding.specs.Elements.{elements_of}
 use Rattle.dd_layout.specs.declared.label.Label.{Label}
-use Rattle.dd_layout.specs.Entries.{tag}
+use Rattle.dd_layout.specs.ElementForms.{tag}
 use Rattle.dd_layout.specs.Paths.{Path, leads_to}
 use Rattle.dd_layout.specs.Plans.{least_below, level_of, path_of, record_at}
 use Rattle.dd_layout.proofs.HasLevel.{HasLevel}
-use Rattle.dd_dir.specs.Directories.{entries_by}
+use Rattle.dd_dir.specs.Directories.{elements_by}
 use Rattle.dd_dir.specs.Saying.{key_of}
 use Rattle.dd_dir.specs.Visits.{node_at}
 use Rattle.dd_dir.proofs.KeyedRecords.{key_by}
@@ -47,7 +47,7 @@ own_is label versions (p ∷ []) v level found led clean =
     let path : v.patient.id ∷ v.study.uid ∷ v.series.uid ∷ v.instance ∷ [] ≡ p ∷ is.0 = is.1 in
     let same : v.patient.id ≡ p = cc in
     ap (λ (k : List ℕ). k ∷ [])
-    (ap (λ (o : Option Parts). key_of (tag 0x0010 0x0020) (elements_of (entries_by row o))) found
+    (ap (λ (o : Option Parts). key_of (tag 0x0010 0x0020) (elements_of (elements_by row o))) found
     ∙ patient_is row.next row.lower row.file v clean ∙ same)
 own_is label versions (p ∷ q ∷ []) v level found led clean =
     let row = record_at label versions (p ∷ q ∷ []) in
@@ -55,7 +55,7 @@ own_is label versions (p ∷ q ∷ []) v level found led clean =
     let path : v.patient.id ∷ v.study.uid ∷ v.series.uid ∷ v.instance ∷ [] ≡ p ∷ q ∷ is.0 = is.1 in
     let same : v.study.uid ≡ q = cc in
     ap (λ (k : List ℕ). p ∷ k ∷ [])
-    (ap (λ (o : Option Parts). key_of (tag 0x0020 0x000d) (elements_of (entries_by row o))) found
+    (ap (λ (o : Option Parts). key_of (tag 0x0020 0x000d) (elements_of (elements_by row o))) found
     ∙ study_is row.next row.lower row.file v clean ∙ same)
 own_is label versions (p ∷ q ∷ r ∷ []) v level found led clean =
     let row = record_at label versions (p ∷ q ∷ r ∷ []) in
@@ -63,7 +63,7 @@ own_is label versions (p ∷ q ∷ r ∷ []) v level found led clean =
     let path : v.patient.id ∷ v.study.uid ∷ v.series.uid ∷ v.instance ∷ [] ≡ p ∷ q ∷ r ∷ is.0 = is.1 in
     let same : v.series.uid ≡ r = cc in
     ap (λ (k : List ℕ). p ∷ q ∷ k ∷ [])
-    (ap (λ (o : Option Parts). key_of (tag 0x0020 0x000e) (elements_of (entries_by row o))) found
+    (ap (λ (o : Option Parts). key_of (tag 0x0020 0x000e) (elements_of (elements_by row o))) found
     ∙ series_is row.next row.lower row.file v clean ∙ same)
 own_is label versions (p ∷ q ∷ r ∷ s ∷ []) v level found led clean =
     let row = record_at label versions (p ∷ q ∷ r ∷ s ∷ []) in
@@ -71,6 +71,6 @@ own_is label versions (p ∷ q ∷ r ∷ s ∷ []) v level found led clean =
     let path : v.patient.id ∷ v.study.uid ∷ v.series.uid ∷ v.instance ∷ [] ≡ p ∷ q ∷ r ∷ s ∷ is.0 = is.1 in
     let same : v.instance ≡ s = cc in
     ap (λ (k : List ℕ). p ∷ q ∷ r ∷ k ∷ [])
-    (ap (λ (o : Option Parts). key_of (tag 0x0004 0x1511) (elements_of (entries_by row o))) found
+    (ap (λ (o : Option Parts). key_of (tag 0x0004 0x1511) (elements_of (elements_by row o))) found
     ∙ image_is row.next row.lower row.file v clean ∙ same)
 own_is label versions (p ∷ q ∷ r ∷ s ∷ t ∷ x) v level found led clean = absurd level

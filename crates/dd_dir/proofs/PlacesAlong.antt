@@ -13,8 +13,8 @@ use Rattle.dd_catalogue.proofs.Members.{Member}
 use Rattle.dd_catalogue.proofs.Harmonies.{member-map}
 use Rattle.dd_version.specs.declared.parts.Parts.{Parts}
 use Rattle.dd_encoding.specs.Head.{head_text}
-use Rattle.dd_encoding.specs.Elements.{Elements, Entry, elements_of, items_of}
-use Rattle.dd_set.specs.Single.{entry_text, part_text}
+use Rattle.dd_encoding.specs.Elements.{Elements, Element, elements_of, items_of}
+use Rattle.dd_set.specs.Single.{element_text, item_text}
 use Rattle.dd_encoding.specs.Spelling.{header_text, items_text}
 use Rattle.dd_set.specs.Starts.{places_in}
 use Rattle.dd_encoding.proofs.Even.{length-header_text}
@@ -22,19 +22,19 @@ use Rattle.dd_set.proofs.Places.{places_in-sums, starts_from}
 use Rattle.dd_layout.specs.declared.label.Label.{Label}
 use Rattle.dd_layout.specs.declared.record.PlanRecord.{PlanRecord}
 use Rattle.dd_layout.specs.Directory.{first_offset, meta_of}
-use Rattle.dd_layout.specs.Entries.{bytes_entry, padded, tag}
+use Rattle.dd_layout.specs.ElementForms.{bytes_element, padded, tag}
 use Rattle.dd_layout.specs.Layouts.{IsSound}
 use Rattle.dd_layout.specs.Paths.{Path, is_before}
 use Rattle.dd_layout.specs.Plans.{at, at_or_none, path_of, record_at, record_size_at, records_end, records_of, size}
 use Rattle.dd_layout.specs.Plans.{tree}
-use Rattle.dd_layout.specs.Records.{record_part}
+use Rattle.dd_layout.specs.Records.{record_item}
 use Rattle.dd_layout.specs.Sizes.{record_size}
 use Rattle.dd_layout.proofs.Leasts.{paths_have_parts}
 use Rattle.dd_layout.proofs.Lengths.{short_more}
 use Rattle.dd_layout.proofs.Neighbourhood.{rows_are_known}
 use Rattle.dd_layout.proofs.DirectoryElements.{directory_length}
 use Rattle.dd_layout.proofs.OffsetPass.{end_at}
-use Rattle.dd_dir.specs.Directories.{directory_set, entries_of, first_root, last_root}
+use Rattle.dd_dir.specs.Directories.{directory_set, elements_for, first_root, last_root}
 use Rattle.dd_dir.specs.Reading.{stands_in}
 use Rattle.dd_dir.specs.Saying.{sets_of}
 use Rattle.dd_dir.proofs.DirectoryTexts.{one_size}
@@ -45,14 +45,14 @@ use Rattle.dd_dir.proofs.WalkPlaces.{places_rise, rises_lower}
 -- ---- the items of records
 
 -- how long one is
-part_size : (entries : List Entry) → length (part_text (record_part entries)) ≡ record_size entries
-part_size entries = omega arith
+item_text_size : (entries : List Element) → length (item_text (record_item entries)) ≡ record_size entries
+item_text_size entries = omega arith
 
 -- they start at the offsets of their rows
 starts_along : (label : Label) (versions : List Parts) (front rest : List Path) → tree versions ≡ front ++ rest
     → AllByRecursion (IsSound (length versions)) (map (record_at label versions) rest)
     → starts_from (end_at label versions front)
-    (items_of (map record_part (map (entries_of versions) (map (record_at label versions) rest))))
+    (items_of (map record_item (map (elements_for versions) (map (record_at label versions) rest))))
     ≡ map (at label versions) rest
 starts_along label versions front [] is sound = refl
 starts_along label versions front (x ∷ rest) is sound =
@@ -60,13 +60,13 @@ starts_along label versions front (x ∷ rest) is sound =
     let here : end_at label versions front ≡ at label versions x =
     sym (known.at (first_offset label) (record_size_at versions)) in
     let push = sum_by_push (record_size_at versions) front x in
-    let entries : List Entry = entries_of versions (record_at label versions x) in
-    let long : length (part_text (record_part entries)) ≡ record_size_at versions x =
-    part_size entries ∙ one_size label versions x sound.0 in
-    let end : end_at label versions front + length (part_text (record_part entries))
+    let entries : List Element = elements_for versions (record_at label versions x) in
+    let long : length (item_text (record_item entries)) ≡ record_size_at versions x =
+    item_text_size entries ∙ one_size label versions x sound.0 in
+    let end : end_at label versions front + length (item_text (record_item entries))
     ≡ end_at label versions (front ++ x ∷ []) = omega arith in
-    let parts = items_of (map record_part (map (entries_of versions) (map (record_at label versions) rest))) in
-    ap (λ (n : ℕ). n ∷ starts_from (end_at label versions front + length (part_text (record_part entries))) parts) here
+    let parts = items_of (map record_item (map (elements_for versions) (map (record_at label versions) rest))) in
+    ap (λ (n : ℕ). n ∷ starts_from (end_at label versions front + length (item_text (record_item entries))) parts) here
     ∙ ap (λ (n : ℕ). at label versions x ∷ starts_from n parts) end
     ∙ ap (λ (l : List ℕ). at label versions x ∷ l)
     (starts_along label versions (front ++ x ∷ []) rest (is ∙ sym (append_assoc front (x ∷ []) rest)) sound.1)
@@ -90,17 +90,17 @@ end_small label versions withdrawn small = omega (arith, small)
 -- what stands before them
 records_begin : (label : Label) (first last n : ℕ)
     → length (head_text (meta_of label))
-    + length (entry_text (bytes_entry (tag 0x0004 0x1130) CS (padded 0x20 label.id)))
-    + length (entry_text (bytes_entry (tag 0x0004 0x1200) UL (little_bytes 4 first)))
-    + length (entry_text (bytes_entry (tag 0x0004 0x1202) UL (little_bytes 4 last)))
-    + length (entry_text (bytes_entry (tag 0x0004 0x1212) US (little_bytes 2 0x0000)))
+    + length (element_text (bytes_element (tag 0x0004 0x1130) CS (padded 0x20 label.id)))
+    + length (element_text (bytes_element (tag 0x0004 0x1200) UL (little_bytes 4 first)))
+    + length (element_text (bytes_element (tag 0x0004 0x1202) UL (little_bytes 4 last)))
+    + length (element_text (bytes_element (tag 0x0004 0x1212) US (little_bytes 2 0x0000)))
     + length (header_text (tag 0x0004 0x1220) (Some SQ) n)
     ≡ first_offset label
 records_begin label first last n =
-    let e1 = ap length (text-one (bytes_entry (tag 0x0004 0x1130) CS (padded 0x20 label.id))) in
-    let e2 = ap length (text-one (bytes_entry (tag 0x0004 0x1200) UL (little_bytes 4 first))) in
-    let e3 = ap length (text-one (bytes_entry (tag 0x0004 0x1202) UL (little_bytes 4 last))) in
-    let e4 = ap length (text-one (bytes_entry (tag 0x0004 0x1212) US (little_bytes 2 0x0000))) in
+    let e1 = ap length (text-one (bytes_element (tag 0x0004 0x1130) CS (padded 0x20 label.id))) in
+    let e2 = ap length (text-one (bytes_element (tag 0x0004 0x1200) UL (little_bytes 4 first))) in
+    let e3 = ap length (text-one (bytes_element (tag 0x0004 0x1202) UL (little_bytes 4 last))) in
+    let e4 = ap length (text-one (bytes_element (tag 0x0004 0x1212) US (little_bytes 2 0x0000))) in
     let s1 = short_more (tag 0x0004 0x1130) CS (padded 0x20 label.id) [] refl in
     let s2 = short_more (tag 0x0004 0x1200) UL (little_bytes 4 first) [] refl in
     let s3 = short_more (tag 0x0004 0x1202) UL (little_bytes 4 last) [] refl in
@@ -116,7 +116,7 @@ pub places_are : (label : Label) (versions : List Parts) (withdrawn : List (List
     ≡ Some (map (at label versions) (tree versions))
 places_are label versions withdrawn sound =
     let each = recursion_from_All (IsSound (length versions)) (records_of label versions) sound in
-    let parts = items_of (map record_part (map (entries_of versions) (records_of label versions))) in
+    let parts = items_of (map record_item (map (elements_for versions) (records_of label versions))) in
     let start : first_offset label ≡ end_at label versions [] = omega arith in
     places_in-sums (tag 0x0004 0x1220) (head_text (meta_of label)) (directory_set label versions withdrawn)
     ∙ ap (λ (n : ℕ). Some (starts_from n parts)) (records_begin label (first_root label versions)
@@ -142,11 +142,11 @@ rise_above low (q ∷ ps) p up (inr i) = let above = rise_above (q + 1) ps p up.
 
 -- the data sets of the records, row by row
 pub sets_are : (versions : List Parts) (f : Path → PlanRecord) (rows : List Path)
-    → sets_of (items_of (map record_part (map (entries_of versions) (map f rows))))
-    ≡ map (λ x. elements_of (entries_of versions (f x))) rows
+    → sets_of (items_of (map record_item (map (elements_for versions) (map f rows))))
+    ≡ map (λ x. elements_of (elements_for versions (f x))) rows
 sets_are versions f [] = refl
 sets_are versions f (x ∷ rows) =
-    ap (λ (l : List Elements). elements_of (entries_of versions (f x)) ∷ l) (sets_are versions f rows)
+    ap (λ (l : List Elements). elements_of (elements_for versions (f x)) ∷ l) (sets_are versions f rows)
 
 -- each is found at the offset of its row
 pub stands_found : (f : Path → ℕ) (set : Path → Elements) (low : ℕ) (rows : List Path) (x : Path)

@@ -14,8 +14,8 @@ use Rattle.dd_version.specs.declared.keys.StudyKeys.{StudyKeys}
 use Rattle.dd_version.specs.declared.parts.Parts.{Parts}
 use Rattle.dd_layout.specs.declared.level.Level.TheVariants.{Patient, Study, Series, Image}
 use Rattle.dd_layout.specs.declared.table.TheConstants as row
-use Rattle.dd_layout.specs.Entries.{tag, padded, text_entry, uid_entry}
-use Rattle.dd_layout.specs.Records.{kind_of, link_entries, record_entries}
+use Rattle.dd_layout.specs.ElementForms.{tag, padded, text_element, uid_element}
+use Rattle.dd_layout.specs.Records.{kind_of, link_elements, record_elements}
 use Rattle.dd_part10.proofs.HeadLaw.{clean_uid}
 use Rattle.dd_encoding.specs.Elements.{Elements, elements_of}
 use Rattle.dd_dir.specs.Saying.{digest_in, sized}
@@ -43,12 +43,12 @@ pub record PatientSays (set : Elements) (keys : PatientKeys) : Type 0 where
   pub id : value_at row.PATIENT_ID.tag set ≡ Some keys.id
 
 pub patient_says : (next lower : ℕ) (file : Option Ranks) (parts : Parts) → IsWellFormedPatient parts.patient
-    → PatientSays (elements_of (record_entries Patient next lower file parts)) parts.patient
+    → PatientSays (elements_of (record_elements Patient next lower file parts)) parts.patient
 patient_says next lower file parts formed = go (eqb (length parts.patient.charset) 0) refl where
   go : (b : Bool) → eqb (length parts.patient.charset) 0 ≡ b
-      → PatientSays (elements_of (link_entries next lower (kind_of Patient)
-      ++ (cond b [] (text_entry (tag 0x0008 0x0005) CS parts.patient.charset ∷ [])
-      ++ (text_entry (tag 0x0010 0x0010) PN parts.patient.name ∷ text_entry (tag 0x0010 0x0020) LO parts.patient.id
+      → PatientSays (elements_of (link_elements next lower (kind_of Patient)
+      ++ (cond b [] (text_element (tag 0x0008 0x0005) CS parts.patient.charset ∷ [])
+      ++ (text_element (tag 0x0010 0x0010) PN parts.patient.name ∷ text_element (tag 0x0010 0x0020) LO parts.patient.id
       ∷ [])))) parts.patient
   go true e = record {
     charset = ap (λ (v : List ℕ). Some v) (empty_is parts.patient.charset e);
@@ -73,15 +73,15 @@ pub record StudySays (set : Elements) (keys : StudyKeys) : Type 0 where
   pub id : value_at row.STUDY_ID.tag set ≡ Some keys.id
 
 pub study_says : (next lower : ℕ) (file : Option Ranks) (parts : Parts) → IsWellFormedStudy parts.study
-    → StudySays (elements_of (record_entries Study next lower file parts)) parts.study
+    → StudySays (elements_of (record_elements Study next lower file parts)) parts.study
 study_says next lower file parts formed = go (eqb (length parts.study.charset) 0) refl where
   go : (b : Bool) → eqb (length parts.study.charset) 0 ≡ b
-      → StudySays (elements_of (link_entries next lower (kind_of Study)
-      ++ (cond b [] (text_entry (tag 0x0008 0x0005) CS parts.study.charset ∷ [])
-      ++ (text_entry (tag 0x0008 0x0020) DA parts.study.date ∷ text_entry (tag 0x0008 0x0030) TM parts.study.time
-      ∷ text_entry (tag 0x0008 0x0050) SH parts.study.accession
-      ∷ text_entry (tag 0x0008 0x1030) LO parts.study.description ∷ uid_entry (tag 0x0020 0x000d) parts.study.uid
-      ∷ text_entry (tag 0x0020 0x0010) SH parts.study.id ∷ [])))) parts.study
+      → StudySays (elements_of (link_elements next lower (kind_of Study)
+      ++ (cond b [] (text_element (tag 0x0008 0x0005) CS parts.study.charset ∷ [])
+      ++ (text_element (tag 0x0008 0x0020) DA parts.study.date ∷ text_element (tag 0x0008 0x0030) TM parts.study.time
+      ∷ text_element (tag 0x0008 0x0050) SH parts.study.accession
+      ∷ text_element (tag 0x0008 0x1030) LO parts.study.description ∷ uid_element (tag 0x0020 0x000d) parts.study.uid
+      ∷ text_element (tag 0x0020 0x0010) SH parts.study.id ∷ [])))) parts.study
   go true e = record {
     charset = ap (λ (v : List ℕ). Some v) (empty_is parts.study.charset e);
     date = ap (λ (v : List ℕ). Some v) (key_back parts.study.date formed.date);
@@ -109,7 +109,7 @@ pub record SeriesSays (set : Elements) (keys : SeriesKeys) : Type 0 where
   pub number : value_at row.SERIES_NUMBER.tag set ≡ Some keys.number
 
 pub series_says : (next lower : ℕ) (file : Option Ranks) (parts : Parts) → IsWellFormedSeries parts.series
-    → SeriesSays (elements_of (record_entries Series next lower file parts)) parts.series
+    → SeriesSays (elements_of (record_elements Series next lower file parts)) parts.series
 series_says next lower file parts formed = record {
   modality = ap (λ (v : List ℕ). Some v) (key_back parts.series.modality formed.modality);
   uid = ap (λ (v : List ℕ). Some v) (uid_back parts.series.uid formed.uid);
@@ -130,7 +130,7 @@ sized_is : (v : List ℕ) → length v ≡ 32 → sized v ≡ Some v
 sized_is v is = rw is refl
 
 pub image_says : (next lower : ℕ) (ranks : Ranks) (parts : Parts) → AreRanks ranks → IsWellFormedImage parts
-    → ImageSays (elements_of (record_entries Image next lower (Some ranks) parts)) (text_of ranks) parts
+    → ImageSays (elements_of (record_elements Image next lower (Some ranks) parts)) (text_of ranks) parts
 image_says next lower ranks parts are formed = record {
   file_id = ap (λ (v : List ℕ). Some v) (clean_of-padded 0x20 (text_of ranks) refl ∙ text_clean ranks are);
   class = ap (λ (v : List ℕ). Some v) (uid_back parts.class formed.class);

@@ -10,15 +10,15 @@ use Rattle.dd_version.specs.declared.parts.Parts.{Parts}
 use Rattle.dd_encoding.specs.Elements.{elements_of}
 use Rattle.dd_layout.specs.declared.level.Level.{Level}
 use Rattle.dd_layout.specs.declared.level.Level.TheVariants.{Patient, Study, Series, Image}
-use Rattle.dd_layout.specs.Entries.{tag, padded, text_entry, uid_entry}
-use Rattle.dd_layout.specs.Records.{kind_of, link_entries, record_entries}
+use Rattle.dd_layout.specs.ElementForms.{tag, padded, text_element, uid_element}
+use Rattle.dd_layout.specs.Records.{kind_of, link_elements, record_elements}
 use Rattle.dd_dir.specs.Saying.{key_of, links_by, links_in}
 
 -- ---- links, flag and type
 
 pub record_says : (level : Level) (next lower : ℕ) (file : Option Ranks) (parts : Parts) → next < 2 ^ 32
     → lower < 2 ^ 32
-    → links_in (elements_of (record_entries level next lower file parts))
+    → links_in (elements_of (record_elements level next lower file parts))
     ≡ Some (record { next = next; lower = lower; in_use = true; kind = kind_of level })
 unfolding links_in
 record_says Patient next lower file parts small small' =
@@ -45,48 +45,48 @@ clean_of-padded pad v is = go (eqb (length v % 2) 0) where
 
 -- the keys of a patient and of a study stand behind a character set, where there is one
 patient_key : (next lower : ℕ) (file : Option Ranks) (parts : Parts)
-    → key_of (tag 0x0010 0x0020) (elements_of (record_entries Patient next lower file parts))
+    → key_of (tag 0x0010 0x0020) (elements_of (record_elements Patient next lower file parts))
     ≡ clean_of (padded 0x20 parts.patient.id)
 patient_key next lower file parts = go (eqb (length parts.patient.charset) 0) where
-  go : (b : Bool) → key_of (tag 0x0010 0x0020) (elements_of (link_entries next lower (kind_of Patient)
-      ++ (cond b [] (text_entry (tag 0x0008 0x0005) CS parts.patient.charset ∷ [])
-      ++ (text_entry (tag 0x0010 0x0010) PN parts.patient.name ∷ text_entry (tag 0x0010 0x0020) LO parts.patient.id
+  go : (b : Bool) → key_of (tag 0x0010 0x0020) (elements_of (link_elements next lower (kind_of Patient)
+      ++ (cond b [] (text_element (tag 0x0008 0x0005) CS parts.patient.charset ∷ [])
+      ++ (text_element (tag 0x0010 0x0010) PN parts.patient.name ∷ text_element (tag 0x0010 0x0020) LO parts.patient.id
       ∷ [])))) ≡ clean_of (padded 0x20 parts.patient.id)
   go true = refl
   go false = refl
 
 study_key : (next lower : ℕ) (file : Option Ranks) (parts : Parts)
-    → key_of (tag 0x0020 0x000d) (elements_of (record_entries Study next lower file parts))
+    → key_of (tag 0x0020 0x000d) (elements_of (record_elements Study next lower file parts))
     ≡ clean_of (padded 0x00 parts.study.uid)
 study_key next lower file parts = go (eqb (length parts.study.charset) 0) where
-  go : (b : Bool) → key_of (tag 0x0020 0x000d) (elements_of (link_entries next lower (kind_of Study)
-      ++ (cond b [] (text_entry (tag 0x0008 0x0005) CS parts.study.charset ∷ [])
-      ++ (text_entry (tag 0x0008 0x0020) DA parts.study.date ∷ text_entry (tag 0x0008 0x0030) TM parts.study.time
-      ∷ text_entry (tag 0x0008 0x0050) SH parts.study.accession
-      ∷ text_entry (tag 0x0008 0x1030) LO parts.study.description ∷ uid_entry (tag 0x0020 0x000d) parts.study.uid
-      ∷ text_entry (tag 0x0020 0x0010) SH parts.study.id ∷ [])))) ≡ clean_of (padded 0x00 parts.study.uid)
+  go : (b : Bool) → key_of (tag 0x0020 0x000d) (elements_of (link_elements next lower (kind_of Study)
+      ++ (cond b [] (text_element (tag 0x0008 0x0005) CS parts.study.charset ∷ [])
+      ++ (text_element (tag 0x0008 0x0020) DA parts.study.date ∷ text_element (tag 0x0008 0x0030) TM parts.study.time
+      ∷ text_element (tag 0x0008 0x0050) SH parts.study.accession
+      ∷ text_element (tag 0x0008 0x1030) LO parts.study.description ∷ uid_element (tag 0x0020 0x000d) parts.study.uid
+      ∷ text_element (tag 0x0020 0x0010) SH parts.study.id ∷ [])))) ≡ clean_of (padded 0x00 parts.study.uid)
   go true = refl
   go false = refl
 
 -- keys without padding are read whole
 pub patient_is : (next lower : ℕ) (file : Option Ranks) (parts : Parts)
     → clean_of parts.patient.id ≡ parts.patient.id
-    → key_of (tag 0x0010 0x0020) (elements_of (record_entries Patient next lower file parts)) ≡ parts.patient.id
+    → key_of (tag 0x0010 0x0020) (elements_of (record_elements Patient next lower file parts)) ≡ parts.patient.id
 patient_is next lower file parts clean =
     patient_key next lower file parts ∙ clean_of-padded 0x20 parts.patient.id refl ∙ clean
 
 pub study_is : (next lower : ℕ) (file : Option Ranks) (parts : Parts)
     → clean_of parts.study.uid ≡ parts.study.uid
-    → key_of (tag 0x0020 0x000d) (elements_of (record_entries Study next lower file parts)) ≡ parts.study.uid
+    → key_of (tag 0x0020 0x000d) (elements_of (record_elements Study next lower file parts)) ≡ parts.study.uid
 study_is next lower file parts clean =
     study_key next lower file parts ∙ clean_of-padded 0x00 parts.study.uid refl ∙ clean
 
 pub series_is : (next lower : ℕ) (file : Option Ranks) (parts : Parts)
     → clean_of parts.series.uid ≡ parts.series.uid
-    → key_of (tag 0x0020 0x000e) (elements_of (record_entries Series next lower file parts)) ≡ parts.series.uid
+    → key_of (tag 0x0020 0x000e) (elements_of (record_elements Series next lower file parts)) ≡ parts.series.uid
 series_is next lower file parts clean = clean_of-padded 0x00 parts.series.uid refl ∙ clean
 
 pub image_is : (next lower : ℕ) (file : Option Ranks) (parts : Parts)
     → clean_of parts.instance ≡ parts.instance
-    → key_of (tag 0x0004 0x1511) (elements_of (record_entries Image next lower file parts)) ≡ parts.instance
+    → key_of (tag 0x0004 0x1511) (elements_of (record_elements Image next lower file parts)) ≡ parts.instance
 image_is next lower file parts clean = clean_of-padded 0x00 parts.instance refl ∙ clean

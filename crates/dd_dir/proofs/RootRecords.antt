@@ -12,7 +12,7 @@ use Rattle.dd_layout.specs.declared.record.PlanRecord.{PlanRecord}
 use Rattle.dd_layout.specs.Paths.{Path, is_path, parent_of}
 use Rattle.dd_layout.specs.Plans.{at_or_none, level_of, record_at, records_of, tree}
 use Rattle.dd_layout.specs.Tree.{children, first_child}
-use Rattle.dd_set.proofs.Entries.{find-map}
+use Rattle.dd_set.proofs.FoundElements.{find-map}
 use Rattle.dd_dir.specs.Directories.{first_root, last_root}
 
 abbrev pub is_root : Level → Bool

@@ -3,36 +3,36 @@ use Rattle.std.proofs.Common.{◌≡◌, ℕ, ◌+◌, ◌<◌, List, [], ◌∷
 use Rattle.std.proofs.Common.{refl, sym, ap, ◌∙◌, append_assoc, append-nil}
 use Rattle.std.proofs.lemmas.List.{at_drop_more}
 use Rattle.dd_version.specs.declared.parts.Parts.{Parts}
-use Rattle.dd_encoding.specs.Elements.{Entry, elements_of}
-use Rattle.dd_set.specs.Single.{entry_text}
+use Rattle.dd_encoding.specs.Elements.{Element, elements_of}
+use Rattle.dd_set.specs.Single.{element_text}
 use Rattle.dd_encoding.specs.Spelling.{elements_text}
-use Rattle.dd_set.proofs.Counting.{entry_first}
+use Rattle.dd_set.proofs.Counting.{element_first}
 use Rattle.dd_layout.specs.declared.cell.Cell.{Cell}
 use Rattle.dd_layout.specs.declared.record.PlanRecord.{PlanRecord}
 use Rattle.dd_layout.specs.declared.table.Row.{Row}
-use Rattle.dd_layout.specs.Cells.{cell_entry, cell_entries, row_entries, table_entries}
+use Rattle.dd_layout.specs.Cells.{cell_element, cell_elements, row_elements, table_elements}
 
 -- the text of elements in a row
-abbrev pub text_of : List Entry → List ℕ
+abbrev pub text_of : List Element → List ℕ
 text_of entries = elements_text (elements_of entries)
 
-pub text-append : (es fs : List Entry) → text_of (es ++ fs) ≡ text_of es ++ text_of fs
+pub text-append : (es fs : List Element) → text_of (es ++ fs) ≡ text_of es ++ text_of fs
 text-append [] fs = refl
 text-append (e ∷ es) fs =
-    entry_first e (elements_of (es ++ fs)) ∙ ap (λ (t : List ℕ). entry_text e ++ t) (text-append es fs)
-    ∙ sym (append_assoc (entry_text e) (text_of es) (text_of fs))
-    ∙ ap (λ (t : List ℕ). t ++ text_of fs) (sym (entry_first e (elements_of es)))
+    element_first e (elements_of (es ++ fs)) ∙ ap (λ (t : List ℕ). element_text e ++ t) (text-append es fs)
+    ∙ sym (append_assoc (element_text e) (text_of es) (text_of fs))
+    ∙ ap (λ (t : List ℕ). t ++ text_of fs) (sym (element_first e (elements_of es)))
 
-pub text-one : (e : Entry) → text_of (e ∷ []) ≡ entry_text e
-text-one e = entry_first e (elements_of []) ∙ append-nil (entry_text e)
+pub text-one : (e : Element) → text_of (e ∷ []) ≡ element_text e
+text-one e = element_first e (elements_of []) ∙ append-nil (element_text e)
 
 -- the elements that rows give this record of these parts, and their text
-abbrev pub row_of : PlanRecord → Parts → Row → List Entry
-row_of planned parts row = row_entries row planned.level planned.next planned.lower planned.file parts
+abbrev pub row_of : PlanRecord → Parts → Row → List Element
+row_of planned parts row = row_elements row planned.level planned.next planned.lower planned.file parts
 
 abbrev pub rows_text : PlanRecord → Parts → List Row → List ℕ
 rows_text planned parts rows =
-    text_of (table_entries rows planned.level planned.next planned.lower planned.file parts)
+    text_of (table_elements rows planned.level planned.next planned.lower planned.file parts)
 
 -- the text of the rows that are left begins with that of the next
 row_at : (planned : PlanRecord) (parts : Parts) (rows : List Row) (i : ℕ) (d : Row) → i < length rows
@@ -41,24 +41,24 @@ row_at : (planned : PlanRecord) (parts : Parts) (rows : List Row) (i : ℕ) (d :
 row_at planned parts rows i d within =
     at_drop_more (rows_text planned parts) rows i d within
     ∙ text-append (row_of planned parts (get_or rows i d))
-    (table_entries (drop (i + 1) rows) planned.level planned.next planned.lower planned.file parts)
+    (table_elements (drop (i + 1) rows) planned.level planned.next planned.lower planned.file parts)
 
 -- which is that of its element, where it has one
 pub row_sends : (planned : PlanRecord) (parts : Parts) (rows : List Row) (i : ℕ) (d : Row) (given : Option Cell)
-    (cell : Cell) → i < length rows → cell_entries given ≡ row_of planned parts (get_or rows i d) → given ≡ Some cell
+    (cell : Cell) → i < length rows → cell_elements given ≡ row_of planned parts (get_or rows i d) → given ≡ Some cell
     → rows_text planned parts (drop i rows)
-    ≡ entry_text (cell_entry cell) ++ rows_text planned parts (drop (i + 1) rows)
+    ≡ element_text (cell_element cell) ++ rows_text planned parts (drop (i + 1) rows)
 row_sends planned parts rows i d given cell within is some =
     row_at planned parts rows i d within
-    ∙ ap (λ (es : List Entry). text_of es ++ rows_text planned parts (drop (i + 1) rows))
-    (sym is ∙ ap cell_entries some)
-    ∙ ap (λ (t : List ℕ). t ++ rows_text planned parts (drop (i + 1) rows)) (text-one (cell_entry cell))
+    ∙ ap (λ (es : List Element). text_of es ++ rows_text planned parts (drop (i + 1) rows))
+    (sym is ∙ ap cell_elements some)
+    ∙ ap (λ (t : List ℕ). t ++ rows_text planned parts (drop (i + 1) rows)) (text-one (cell_element cell))
 
 -- and else is empty
 pub row_skips : (planned : PlanRecord) (parts : Parts) (rows : List Row) (i : ℕ) (d : Row) (given : Option Cell)
-    → i < length rows → cell_entries given ≡ row_of planned parts (get_or rows i d) → given ≡ None
+    → i < length rows → cell_elements given ≡ row_of planned parts (get_or rows i d) → given ≡ None
     → rows_text planned parts (drop i rows) ≡ rows_text planned parts (drop (i + 1) rows)
 row_skips planned parts rows i d given within is none =
     row_at planned parts rows i d within
-    ∙ ap (λ (es : List Entry). text_of es ++ rows_text planned parts (drop (i + 1) rows))
-    (sym is ∙ ap cell_entries none)
+    ∙ ap (λ (es : List Element). text_of es ++ rows_text planned parts (drop (i + 1) rows))
+    (sym is ∙ ap cell_elements none)

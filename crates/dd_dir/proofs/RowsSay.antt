@@ -18,11 +18,11 @@ use Rattle.dd_layout.specs.declared.record.PlanRecord.{PlanRecord}
 use Rattle.dd_layout.specs.Layouts.{IsSound}
 use Rattle.dd_layout.specs.Paths.{Path, leads_to}
 use Rattle.dd_layout.specs.Plans.{file_of, level_of, path_of, record_at, records_of, tree}
-use Rattle.dd_layout.specs.Records.{record_entries}
+use Rattle.dd_layout.specs.Records.{record_elements}
 use Rattle.dd_layout.proofs.Blocks.{and_parts}
 use Rattle.dd_layout.proofs.HasLevel.{HasLevel}
 use Rattle.dd_layout.proofs.Trees.{tree_is_tree}
-use Rattle.dd_dir.specs.Directories.{entries_by}
+use Rattle.dd_dir.specs.Directories.{elements_by}
 use Rattle.dd_dir.specs.Keyed.{IsKeyed, IsKeyedBy, IsSent}
 use Rattle.dd_dir.specs.Visits.{node_at}
 use Rattle.dd_dir.specs.WellFormed.{IsWellFormed}
@@ -51,7 +51,7 @@ pub record IsRowOf (label : Label) (versions : List Parts) (x : Path) (v : Parts
   pub leads : leads_to x (path_of v) ≡ true
   pub formed : IsWellFormed v
   pub sound : IsSound (length versions) (record_at label versions x)
-  pub set : (node_at label versions x).set ≡ elements_of (record_entries (level_of x)
+  pub set : (node_at label versions x).set ≡ elements_of (record_elements (level_of x)
       (record_at label versions x).next (record_at label versions x).lower (record_at label versions x).file v)
 
 pub row_of : {withdrawn : List (List ℕ)} (label : Label) (versions : List Parts) (x : Path)
@@ -68,7 +68,7 @@ row_of label versions x sent i =
         formed = subst (IsKeyedBy row) of.found keyed;
         sound = at_row (IsSound (length versions)) (record_at label versions) (tree versions) x
             (recursion_from_All (IsSound (length versions)) (records_of label versions) sent.sound) i;
-        set = ap (λ (o : Option Parts). elements_of (entries_by row o)) of.found;
+        set = ap (λ (o : Option Parts). elements_of (elements_by row o)) of.found;
       },
     )
 
@@ -113,7 +113,7 @@ pub image_row : (label : Label) (versions : List Parts) (a b c d : List ℕ) (v 
 image_row label versions a b c d v ranks is are file =
     let row = record_at label versions (a ∷ b ∷ c ∷ d ∷ []) in
     subst (λ (s : Elements). ImageSays s (text_of ranks) v)
-    (sym (is.set ∙ ap (λ (o : Option Ranks). elements_of (record_entries Image row.next row.lower o v)) file))
+    (sym (is.set ∙ ap (λ (o : Option Ranks). elements_of (record_elements Image row.next row.lower o v)) file))
     (image_says row.next row.lower ranks v are is.formed.image)
 
 -- ---- it passes its checks

@@ -10,7 +10,7 @@ use Rattle.dd_catalogue.proofs.Members.{Member, contained}
 use Rattle.dd_catalogue.specs.Rising.{by_test}
 use Rattle.dd_version.specs.declared.parts.Parts.{Parts}
 use Rattle.dd_encoding.specs.Head.{head_text}
-use Rattle.dd_encoding.specs.Elements.{Entry, elements_of}
+use Rattle.dd_encoding.specs.Elements.{Element, elements_of}
 use Rattle.dd_encoding.specs.Spelling.{elements_text}
 use Rattle.dd_layout.specs.declared.label.Label.{Label}
 use Rattle.dd_layout.specs.Directory.{meta_of}
@@ -25,7 +25,7 @@ use Rattle.dd_layout.proofs.Counts.{Linked, walk_linked}
 use Rattle.dd_layout.proofs.HasLevel.{HasLevel}
 use Rattle.dd_layout.proofs.Leasts.{all_have_levels, least_in, paths_have_parts}
 use Rattle.dd_layout.proofs.Neighbourhood.{above_root, rises, rows_are_known, tree_is_walk}
-use Rattle.dd_dir.specs.Directories.{directory_of, directory_set, entries_by, entries_of, first_root}
+use Rattle.dd_dir.specs.Directories.{directory_of, directory_set, elements_by, elements_for, first_root}
 use Rattle.dd_dir.specs.Directories.{last_root}
 use Rattle.dd_dir.specs.Keyed.{IsKeyed, IsKeyedBy, IsSent}
 use Rattle.dd_dir.specs.Reading.{Contents, IsDirectoryFile, IsWalk, contents_by, contents_in}
@@ -52,9 +52,9 @@ at_is label versions (Some x) = refl
 
 -- of a version that was found
 version_says : (label : Label) (versions : List Parts) (x : Path) (v : Parts)
-    → records_end label versions < 2 ^ 32 → entries_of versions (record_at label versions x)
-    ≡ entries_by (record_at label versions x) (Some v)
-    → links_in (elements_of (entries_of versions (record_at label versions x)))
+    → records_end label versions < 2 ^ 32 → elements_for versions (record_at label versions x)
+    ≡ elements_by (record_at label versions x) (Some v)
+    → links_in (elements_of (elements_for versions (record_at label versions x)))
     ≡ Some (record {
       next = (record_at label versions x).next;
       lower = (record_at label versions x).lower;
@@ -65,7 +65,7 @@ version_says label versions x v small found =
     let row = record_at label versions x in
     let next = at_most label versions (next_sibling (tree versions) x) in
     let lower = at_most label versions (first_child (tree versions) x) in
-    ap (λ (es : List Entry). links_in (elements_of es)) found
+    ap (λ (es : List Element). links_in (elements_of es)) found
     ∙ record_says (level_of x) row.next row.lower row.file v (omega (arith, next, small)) (omega (arith, lower, small))
 
 -- the record of a row says what stands along the rows behind it
@@ -76,7 +76,7 @@ row_says label versions front x rest is small of =
     let known = rows_are_known (map path_of versions) (paths_have_parts versions) front x rest is in
     let row = record_at label versions x in
     let links : ℕ → ℕ → Links = λ a b. record { next = a; lower = b; in_use = true; kind = kind_of (level_of x) } in
-    version_says label versions x of.version small (ap (entries_by row) of.found)
+    version_says label versions x of.version small (ap (elements_by row) of.found)
     ∙ ap₂ (λ (a b : ℕ). Some (links a b))
     (ap (at_or_none label versions) known.next ∙ at_is label versions (scan (length x) rest))
     (ap (at_or_none label versions) known.lower ∙ at_is label versions (scan (length x + 1) rest))

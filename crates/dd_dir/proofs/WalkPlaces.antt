@@ -9,13 +9,13 @@ use Rattle.dd_encoding.specs.Elements.{Elements, no_elements, element, Content, 
 use Rattle.dd_encoding.specs.Elements.{no_items}
 use Rattle.dd_encoding.specs.Elements.{item}
 use Rattle.dd_set.specs.Find.{same_tag}
-use Rattle.dd_set.specs.Single.{entry_text, part_text}
+use Rattle.dd_set.specs.Single.{element_text, item_text}
 use Rattle.dd_encoding.specs.Spelling.{header_text, items_text, length_of}
 use Rattle.dd_set.specs.Starts.{item_places, content_places, places_in}
 use Rattle.dd_encoding.specs.declared.meta.Meta.{Meta}
 use Rattle.dd_part10.specs.File.{IsFile}
 use Rattle.dd_encoding.specs.Head.{prefix, group_length_text}
-use Rattle.dd_layout.specs.Entries.{tag}
+use Rattle.dd_layout.specs.ElementForms.{tag}
 use Rattle.dd_dir.specs.Reading.{Contents, contents_by, contents_in, contents_of, is_directory_meta}
 use Rattle.dd_dir.specs.Reading.{stands_in, stands_of, IsDirectoryFile}
 use Rattle.dd_dir.specs.Saying.{beside_in, first_in, last_in, records_in}
@@ -45,7 +45,7 @@ stands_below p low (q ∷ starts) (set ∷ sets) lt h =
 pub item_places_rise : (front : List ℕ) (parts : Items) → Rises (length front) (item_places front parts)
 item_places_rise front no_items = tt
 item_places_rise front (item form set rest) =
-    let text : List ℕ = part_text (record { length = form; set = set }) in
+    let text : List ℕ = item_text (record { length = form; set = set }) in
     let one : 4 ≤ length text = omega arith in
     let more : length front + 1 ≤ length (front ++ text) = omega (arith, length-append front text) in (
       omega arith,
@@ -75,7 +75,7 @@ pub places_rise : (wanted : Tag) (front : List ℕ) (set : Elements) (starts : L
     → places_in wanted front set ≡ Some starts → Rises (length front) starts
 places_rise wanted front no_elements starts e = absurd cc
 places_rise wanted front (element t vr content rest) starts e =
-    let text : List ℕ = entry_text (record { tag = t; vr = vr; content = content }) in
+    let text : List ℕ = element_text (record { tag = t; vr = vr; content = content }) in
     either_rises (same_tag t wanted) (length front) (content_places front t vr content)
     (places_in wanted (front ++ text) rest) starts e
     (λ (is : content_places front t vr content ≡ Some starts). content_places_rise front t vr content starts is)

@@ -4,11 +4,11 @@ use Rattle.std.proofs.Common.{get_or, Some, if◌then◌else◌}
 use Rattle.std.proofs.Common.{refl, sym, ap, ◌∙◌, arith, append_assoc, append-nil}
 use Rattle.std.specs.List.{join_with_byte}
 use Rattle.dd_elem.specs.declared.vr.Vr.TheVariants.{UC}
-use Rattle.dd_encoding.specs.Elements.{Entry}
+use Rattle.dd_encoding.specs.Elements.{Element}
 use Rattle.dd_encoding.specs.Spelling.{header_text, shape_text, tag_text}
 use Rattle.dd_catalogue.proofs.FirstAndRest.{first_and_rest, rest_of}
-use Rattle.dd_layout.specs.Entries.{bytes_entry, tag}
-use Rattle.dd_layout.specs.Withdrawals.{creator_entry, withdrawal_entries, withdrawals_size, withdrawn_value}
+use Rattle.dd_layout.specs.ElementForms.{bytes_element, tag}
+use Rattle.dd_layout.specs.Withdrawals.{creator_element, withdrawal_elements, withdrawals_size, withdrawn_value}
 use Rattle.dd_layout.proofs.Lengths.{length-padded}
 use Rattle.dd_layout.proofs.WithdrawalElements.{size_by_value}
 use Rattle.dd_dir.proofs.RowTexts.{text-append, text-one, text_of}
@@ -21,21 +21,21 @@ withdrawn_header count = header_text (tag 0x0009 0x1002) (Some UC) count
 -- UIDs, then its value
 pub withdrawal_parts : (withdrawn : List (List ℕ)) (count : ℕ) → 0 < length withdrawn
     → count ≡ length (withdrawn_value withdrawn)
-    → text_of (creator_entry ∷ []) ++ (withdrawn_header count ++ withdrawn_value withdrawn)
-    ≡ text_of (withdrawal_entries withdrawn)
+    → text_of (creator_element ∷ []) ++ (withdrawn_header count ++ withdrawn_value withdrawn)
+    ≡ text_of (withdrawal_elements withdrawn)
 withdrawal_parts [] count some is = absurd (omega (arith, some))
 withdrawal_parts (uid ∷ withdrawn) count some is =
     let v : List ℕ = withdrawn_value (uid ∷ withdrawn) in
-    let entry = bytes_entry (tag 0x0009 0x1002) UC v in
-    ap (λ (t : List ℕ). text_of (creator_entry ∷ []) ++ t)
+    let entry = bytes_element (tag 0x0009 0x1002) UC v in
+    ap (λ (t : List ℕ). text_of (creator_element ∷ []) ++ t)
     (ap (λ (n : ℕ). withdrawn_header n ++ v) is
     ∙ append_assoc (tag_text (tag 0x0009 0x1002)) (shape_text (Some UC) (length v)) v
     ∙ sym (text-one entry))
-    ∙ sym (text-append (creator_entry ∷ []) (entry ∷ []))
+    ∙ sym (text-append (creator_element ∷ []) (entry ∷ []))
 
 -- the creator's element has the same text as its cell
-pub creator_text : (entry : Entry) → entry ≡ creator_entry → text_of (entry ∷ []) ≡ text_of (creator_entry ∷ [])
-creator_text entry is = ap (λ (e : Entry). text_of (e ∷ [])) is
+pub creator_text : (entry : Element) → entry ≡ creator_element → text_of (entry ∷ []) ≡ text_of (creator_element ∷ [])
+creator_text entry is = ap (λ (e : Element). text_of (e ∷ [])) is
 
 -- how long the value is
 pub value_size : (withdrawn : List (List ℕ)) → 0 < length withdrawn
@@ -43,7 +43,7 @@ pub value_size : (withdrawn : List (List ℕ)) → 0 < length withdrawn
 value_size [] some = absurd (omega (arith, some))
 value_size (uid ∷ withdrawn) some = size_by_value uid withdrawn
 
-pub none_withdrawn : (withdrawn : List (List ℕ)) → length withdrawn ≡ 0 → text_of (withdrawal_entries withdrawn) ≡ []
+pub none_withdrawn : (withdrawn : List (List ℕ)) → length withdrawn ≡ 0 → text_of (withdrawal_elements withdrawn) ≡ []
 none_withdrawn [] none = refl
 none_withdrawn (uid ∷ withdrawn) none = absurd (omega (arith, none))
 

@@ -7,17 +7,17 @@ use Rattle.dd_elem.specs.declared.vr.Vr.TheVariants.{SQ}
 use Rattle.dd_version.specs.declared.parts.Parts.{Parts}
 use Rattle.dd_part10.specs.File.{IsFile}
 use Rattle.dd_encoding.specs.Head.{head_text}
-use Rattle.dd_encoding.specs.Elements.{Elements, Entry, elements_of}
+use Rattle.dd_encoding.specs.Elements.{Elements, Element, elements_of}
 use Rattle.dd_encoding.specs.Spelling.{elements_text, header_text}
 use Rattle.dd_layout.specs.declared.label.Label.{Label}
 use Rattle.dd_layout.specs.declared.record.PlanRecord.{PlanRecord}
-use Rattle.dd_layout.specs.Directory.{directory_entries, front_entries, meta_of}
-use Rattle.dd_layout.specs.Entries.{tag}
+use Rattle.dd_layout.specs.Directory.{directory_elements, front_elements, meta_of}
+use Rattle.dd_layout.specs.ElementForms.{tag}
 use Rattle.dd_layout.specs.Layouts.{StandsWithin}
 use Rattle.dd_layout.specs.Plans.{at_or_none, records_of, tree}
-use Rattle.dd_layout.specs.Records.{record_entries, record_part}
+use Rattle.dd_layout.specs.Records.{record_elements, record_item}
 use Rattle.dd_layout.specs.Tree.{children, first_child}
-use Rattle.dd_layout.specs.Withdrawals.{withdrawal_entries}
+use Rattle.dd_layout.specs.Withdrawals.{withdrawal_elements}
 use Rattle.sha2.specs.Sha256.{sha256}
 
 -- the offset of the first root record, and of the last, where there are records: the roots are those whose path has one
@@ -36,19 +36,19 @@ pub record OffsetsWithin (bytes : ℕ) (label : Label) (versions : List Parts) :
   pub records : All (StandsWithin bytes) (records_of label versions)
 
 -- the elements of a record, with the keys of the version that it is of
-abbrev pub entries_by : PlanRecord → Option Parts → List Entry
-entries_by planned None = []
-entries_by planned (Some version) =
-    record_entries planned.level planned.next planned.lower planned.file version
+abbrev pub elements_by : PlanRecord → Option Parts → List Element
+elements_by planned None = []
+elements_by planned (Some version) =
+    record_elements planned.level planned.next planned.lower planned.file version
 
-abbrev pub entries_of : List Parts → PlanRecord → List Entry
-entries_of versions planned = entries_by planned (slice_get versions planned.of)
+abbrev pub elements_for : List Parts → PlanRecord → List Element
+elements_for versions planned = elements_by planned (slice_get versions planned.of)
 
 -- the elements of the directory of these versions, which are in harmony, and of these withdrawn UIDs
 abbrev pub directory_set : Label → List Parts → List (List ℕ) → Elements
-directory_set label versions withdrawn = elements_of (directory_entries label.id (first_root label versions)
-    (last_root label versions) (map record_part (map (entries_of versions) (records_of label versions)))
-    ++ withdrawal_entries withdrawn)
+directory_set label versions withdrawn = elements_of (directory_elements label.id (first_root label versions)
+    (last_root label versions) (map record_item (map (elements_for versions) (records_of label versions)))
+    ++ withdrawal_elements withdrawn)
 
 -- its bytes: the head of the file and the elements
 abbrev pub directory_of : Label → List Parts → List (List ℕ) → List ℕ
@@ -59,7 +59,7 @@ directory_of label versions withdrawn =
 -- sequence of the records, and its header
 abbrev pub opening_text : Label → List Parts → ℕ → List ℕ
 opening_text label versions count = head_text (meta_of label) ++ (
-    elements_text (elements_of (front_entries label.id (first_root label versions) (last_root label versions)))
+    elements_text (elements_of (front_elements label.id (first_root label versions) (last_root label versions)))
     ++ header_text (tag 0x0004 0x1220) (Some SQ) count)
 
 -- they are a file of the class of directories, whose data set has these elements

@@ -6,9 +6,9 @@ use Rattle.std.specs.Int.{w16, w32, from_le_bytes}
 use Rattle.dd_elem.specs.Clean.{clean_of}
 use Rattle.dd_elem.specs.declared.tag.Tag.{Tag}
 use Rattle.dd_keys.specs.Values.{value_at}
-use Rattle.dd_encoding.specs.Elements.{Elements, Content, bytes, items, fragments, Entry, Items, no_items, item}
+use Rattle.dd_encoding.specs.Elements.{Elements, Content, bytes, items, fragments, Element, Items, no_items, item}
 use Rattle.dd_set.specs.Find.{find_in}
-use Rattle.dd_layout.specs.Entries.{tag}
+use Rattle.dd_layout.specs.ElementForms.{tag}
 use Rattle.dd_layout.specs.Records.{private_creator}
 use Rattle.dd_dir.specs.Trees.{Beside}
 
@@ -22,7 +22,7 @@ bytes_of (fragments fs) = None
 
 -- the value of the element with this tag, where it is there and holds bytes
 abbrev pub value_of : Tag → Elements → Option (List ℕ)
-value_of wanted set = option_and_then (λ (e : Entry). bytes_of e.content) (find_in wanted set)
+value_of wanted set = option_and_then (λ (e : Element). bytes_of e.content) (find_in wanted set)
 
 -- its bytes without their padding, and nothing where there are none
 abbrev pub key_of : Tag → Elements → List ℕ
@@ -93,7 +93,7 @@ item_sets_of (fragments fs) = None
 
 -- the data sets of the records, where they are items
 abbrev pub records_in : Elements → Option (List Elements)
-records_in set = option_and_then (λ (e : Entry). item_sets_of e.content) (find_in (tag 0x0004 0x1220) set)
+records_in set = option_and_then (λ (e : Element). item_sets_of e.content) (find_in (tag 0x0004 0x1220) set)
 
 -- the offsets of the first and of the last root record
 abbrev pub first_in : Elements → Option ℕ

@@ -5,11 +5,11 @@ use Rattle.dd_catalogue.specs.Harmony.{harmonised}
 use Rattle.dd_catalogue.specs.Versions.{IsCatalogue}
 use Rattle.dd_encoding.specs.Elements.{Elements, elements_of}
 use Rattle.dd_layout.specs.declared.label.Label.{Label}
-use Rattle.dd_layout.specs.Entries.{tag}
+use Rattle.dd_layout.specs.ElementForms.{tag}
 use Rattle.dd_layout.specs.Paths.{Path, is_path, leads_to, parent_of}
 use Rattle.dd_layout.specs.Plans.{at, at_or_none, level_of, path_of, record_at, tree}
 use Rattle.dd_layout.specs.Records.{kind_of}
-use Rattle.dd_dir.specs.Directories.{entries_of}
+use Rattle.dd_dir.specs.Directories.{elements_for}
 use Rattle.dd_dir.specs.Reading.{IsWalk}
 use Rattle.dd_dir.specs.Saying.{key_of}
 use Rattle.dd_dir.specs.Trees as trees
@@ -59,7 +59,7 @@ node_at label versions x = record {
   at = at label versions x;
   kind = kind_of (level_of x);
   in_use = true;
-  set = elements_of (entries_of versions (record_at label versions x));
+  set = elements_of (elements_for versions (record_at label versions x));
 }
 
 abbrev pub visit_at : Label → List Parts → Path → Visit

@@ -2,10 +2,10 @@
 
 ghost use Rattle.std.specs.Prelude.{◌+◌, ◌<◌, ◌^◌, length, map};
 ghost use Rattle.std.specs.List.{AllByRecursion};
-ghost use Rattle.dd_layout.specs.Cells.{IsShort, IsShortEntry, cell_entry, even_value, table_entries};
+ghost use Rattle.dd_layout.specs.Cells.{IsShort, IsShortElement, cell_element, even_value, table_elements};
 ghost use Rattle.dd_encoding.specs.Elements.{elements_of};
 ghost use Rattle.dd_stream.specs.Sends.{SendsTo};
-ghost use Rattle.dd_set.specs.Single.{entry_text};
+ghost use Rattle.dd_set.specs.Single.{element_text};
 ghost use Rattle.dd_encoding.specs.Spelling.{elements_text};
 
 use dd_elem::Write;
@@ -17,8 +17,8 @@ use dd_version::Parts;
 /// Sends an element behind `sent` bytes: its header, its value and the padding.
 fn send_cell<W: Write>(cell: &Cell<'_>, writer: &mut W, sent: u64) -> Result<u64, WriteFault>
     requires short { IsShort (even_value cell.now.value) }
-    requires fits { sent + length (entry_text (cell_entry cell.now)) < 2 ^ 64 }
-    ensures { let text = entry_text (cell_entry cell.now)
+    requires fits { sent + length (element_text (cell_element cell.now)) < 2 ^ 64 }
+    ensures { let text = element_text (cell_element cell.now)
         in SendsTo W.Write text sent result writer.old writer.new }
 {
     let value = cell.value.as_bytes();
@@ -35,9 +35,9 @@ pub(crate) fn send_cells<W: Write>(
     writer: &mut W,
     mut sent: u64,
 ) -> Result<u64, WriteFault>
-    requires short { AllByRecursion IsShortEntry (map cell_entry cells.now) }
-    requires fits { sent + length (elements_text (elements_of (map cell_entry cells.now))) < 2 ^ 64 }
-    ensures { let text = elements_text (elements_of (map cell_entry cells.now))
+    requires short { AllByRecursion IsShortElement (map cell_element cells.now) }
+    requires fits { sent + length (elements_text (elements_of (map cell_element cells.now))) < 2 ^ 64 }
+    ensures { let text = elements_text (elements_of (map cell_element cells.now))
         in SendsTo W.Write text sent result writer.old writer.new }
 {
     for cell in cells {
@@ -54,10 +54,10 @@ pub(crate) fn send_rows<W: Write>(
     writer: &mut W,
     mut sent: u64,
 ) -> Result<u64, WriteFault>
-    requires { let text = elements_text (elements_of (table_entries rows.now
+    requires { let text = elements_text (elements_of (table_elements rows.now
         planned.now.level planned.now.next planned.now.lower planned.now.file parts.now))
         in sent + length text < 2 ^ 64 }
-    ensures { let text = elements_text (elements_of (table_entries rows.now
+    ensures { let text = elements_text (elements_of (table_elements rows.now
         planned.now.level planned.now.next planned.now.lower planned.now.file parts.now))
         in SendsTo W.Write text sent result writer.old writer.new }
 {

@@ -5,7 +5,7 @@
 //! directory.
 
 ghost use Rattle.std.specs.Prelude.{◌≡◌};
-ghost use Rattle.dd_layout.specs.Entries.{tag};
+ghost use Rattle.dd_layout.specs.ElementForms.{tag};
 ghost use Rattle.dd_set.specs.Views.{set_view};
 ghost use Rattle.dd_dir.specs.Saying.{key_of};
 

@@ -3,12 +3,12 @@
 ghost use Rattle.std.specs.Prelude.{◌+◌, ◌<◌, ◌^◌, All, IsOk, length, map};
 ghost use Rattle.std.specs.List.{AllByRecursion};
 ghost use Rattle.dd_layout.specs.Layouts.{IsSound};
-ghost use Rattle.dd_layout.specs.Records.{IsRecord, record_part};
+ghost use Rattle.dd_layout.specs.Records.{IsRecord, record_item};
 ghost use Rattle.dd_encoding.specs.Elements.{items_of};
 ghost use Rattle.dd_stream.specs.Sends.{SendsTo};
-ghost use Rattle.dd_set.specs.Single.{part_text};
+ghost use Rattle.dd_set.specs.Single.{item_text};
 ghost use Rattle.dd_encoding.specs.Spelling.{items_text};
-ghost use Rattle.dd_dir.specs.Directories.{entries_of};
+ghost use Rattle.dd_dir.specs.Directories.{elements_for};
 ghost use Rattle.dd_dir.specs.Keyed.{IsKeyed};
 
 use crate::cells::send_rows;
@@ -27,11 +27,11 @@ pub(crate) fn send_records<W: Write>(
     mut sent: u64,
 ) -> Result<u64, WriteFault>
     requires sound { All (IsSound (length versions.now)) records.now }
-    requires fits { let parts = map record_part (map (entries_of versions.now) records.now)
+    requires fits { let parts = map record_item (map (elements_for versions.now) records.now)
         in sent + length (items_text (items_of parts)) < 2 ^ 64 }
-    ensures sends { let parts = map record_part (map (entries_of versions.now) records.now)
+    ensures sends { let parts = map record_item (map (elements_for versions.now) records.now)
         in SendsTo W.Write (items_text (items_of parts)) sent result writer.old writer.new }
-    ensures valid { IsOk result → AllByRecursion IsRecord (map (entries_of versions.now) records.now) }
+    ensures valid { IsOk result → AllByRecursion IsRecord (map (elements_for versions.now) records.now) }
     ensures keyed { IsOk result → AllByRecursion (IsKeyed versions.now) records.now }
 {
     for planned in records {
@@ -48,10 +48,10 @@ fn send_record<W: Write>(
     sent: u64,
 ) -> Result<u64, WriteFault>
     requires sound { IsSound (length versions.now) planned.now }
-    requires fits { sent + length (part_text (record_part (entries_of versions.now planned.now))) < 2 ^ 64 }
-    ensures sends { let text = part_text (record_part (entries_of versions.now planned.now))
+    requires fits { sent + length (item_text (record_item (elements_for versions.now planned.now))) < 2 ^ 64 }
+    ensures sends { let text = item_text (record_item (elements_for versions.now planned.now))
         in SendsTo W.Write text sent result writer.old writer.new }
-    ensures valid { IsOk result → IsRecord (entries_of versions.now planned.now) }
+    ensures valid { IsOk result → IsRecord (elements_for versions.now planned.now) }
     ensures keyed { IsKeyed versions.now planned.now }
 {
     let parts = parts_of(&versions[planned.of]);

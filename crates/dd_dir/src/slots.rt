@@ -2,7 +2,7 @@
 
 ghost use Rattle.std.specs.Prelude.{◌≡◌, ◌≢◌, ◌<◌, ◌+◌, List, IfOk};
 ghost use Rattle.std.specs.Prelude.{OnErr, Some, Err, length, map, option_and_then, option_map};
-ghost use Rattle.dd_encoding.specs.Elements.{Elements, Entry};
+ghost use Rattle.dd_encoding.specs.Elements.{Elements, Element};
 ghost use Rattle.dd_set.specs.Find.{find_in};
 ghost use Rattle.dd_set.specs.Views.{set_view, value_view, items_view};
 ghost use Rattle.dd_dir.specs.Saying.{sets_of, item_sets_of};
@@ -18,7 +18,7 @@ use std::alloc::Global;
 /// The items of the element with this tag, where it holds items.
 pub(crate) fn items_of<'a>(set: DataSet<'a>, tag: Tag) -> Option<Vec<Item<'a>>>
     ensures { option_map (λ items. sets_of (items_view items.items)) result
-        ≡ option_and_then (λ (e : Entry). item_sets_of e.content) (find_in tag (set_view set.entry)) }
+        ≡ option_and_then (λ (e : Element). item_sets_of e.content) (find_in tag (set_view set.entry)) }
 {
     for element in set.elements {
         if element.tag == tag {

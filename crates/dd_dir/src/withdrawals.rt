@@ -2,8 +2,8 @@
 
 ghost use Rattle.std.specs.Prelude.{◌≡◌, ◌+◌, ◌<◌, ◌^◌, ◌++◌, ℕ, List, ◌∷◌, length};
 ghost use Rattle.std.specs.List.{join_with_byte};
-ghost use Rattle.dd_layout.specs.Entries.{padded};
-ghost use Rattle.dd_layout.specs.Withdrawals.{withdrawal_entries, withdrawals_size, withdrawn_value};
+ghost use Rattle.dd_layout.specs.ElementForms.{padded};
+ghost use Rattle.dd_layout.specs.Withdrawals.{withdrawal_elements, withdrawals_size, withdrawn_value};
 ghost use Rattle.dd_encoding.specs.Elements.{elements_of};
 ghost use Rattle.dd_stream.specs.Sends.{SendsTo};
 ghost use Rattle.dd_encoding.specs.Spelling.{elements_text};
@@ -22,7 +22,7 @@ pub(crate) fn send_withdrawals<W: Write>(
 ) -> Result<u64, WriteFault>
     requires small { withdrawals_size withdrawn.now < 2 ^ 32 }
     requires fits { sent + withdrawals_size withdrawn.now < 2 ^ 64 }
-    ensures { let text = elements_text (elements_of (withdrawal_entries withdrawn.now))
+    ensures { let text = elements_text (elements_of (withdrawal_elements withdrawn.now))
         in SendsTo W.Write text sent result writer.old writer.new }
 {
     if withdrawn.is_empty() {

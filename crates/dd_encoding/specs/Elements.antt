@@ -22,20 +22,20 @@ mutual
     item : Length → Elements → Items → Items
 
 -- an element by itself
-pub record Entry : Type 0 where
+pub record Element : Type 0 where
   pub tag : Tag
   pub vr : Option Vr
   pub content : Content
 
 -- an item by itself
-pub record Part : Type 0 where
+pub record Item : Type 0 where
   pub length : Length
   pub set : Elements
 
-abbrev pub elements_of : List Entry → Elements
+abbrev pub elements_of : List Element → Elements
 elements_of [] = no_elements
 elements_of (e ∷ es) = element e.tag e.vr e.content (elements_of es)
 
-abbrev pub items_of : List Part → Items
+abbrev pub items_of : List Item → Items
 items_of [] = no_items
 items_of (p ∷ ps) = item p.length p.set (items_of ps)

@@ -9,14 +9,14 @@ use Rattle.dd_elem.specs.Uid.{IsUid, is_uid}
 use Rattle.dd_elem.specs.declared.tag.Tag.{Tag}
 use Rattle.dd_elem.proofs.Cleaning.{clean_of-clean_of}
 use Rattle.dd_elem.proofs.UidForm.{IsUid_from_is_uid, is_uid_from_IsUid}
-use Rattle.dd_encoding.specs.Elements.{Elements, Content, bytes, items, fragments, Entry}
+use Rattle.dd_encoding.specs.Elements.{Elements, Content, bytes, items, fragments, Element}
 use Rattle.dd_set.specs.Find.{find_in}
 use Rattle.dd_encoding.specs.declared.meta.Meta.{Meta}
 use Rattle.dd_keys.specs.declared.fault.KeyFault.{KeyFault}
 use Rattle.dd_keys.specs.declared.fault.KeyFault.TheVariants.{BadKeyUid, KeyTooLong, MetaMismatch}
 use Rattle.dd_keys.specs.Faults.{key_fault_of, key_fault, wanted_uid, mismatch_of, uid_fault_of, uid_fault}
 use Rattle.dd_keys.specs.Table.{KeyRow, UidRow}
-use Rattle.dd_keys.specs.Values.{content_value, entry_value, value_at, or_other}
+use Rattle.dd_keys.specs.Values.{content_value, element_value, value_at, or_other}
 use Rattle.dd_keys.proofs.SetValues.{key_in, uid_in}
 use Rattle.dd_keys.specs.Versions.{HasKey, HasUid}
 
@@ -30,13 +30,13 @@ content_value-clean (bytes given) value e =
 content_value-clean (items form parts) value e = absurd (cc)
 content_value-clean (fragments fs) value e = absurd (cc)
 
-entry_value-clean : (entry : Option Entry) (value : List ℕ) → entry_value entry ≡ Some value → clean_of value ≡ value
-entry_value-clean None value e = let is : [] ≡ value = cc in ap clean_of (sym is) ∙ is
-entry_value-clean (Some entry) value e = content_value-clean entry.content value e
+element_value-clean : (entry : Option Element) (value : List ℕ) → element_value entry ≡ Some value → clean_of value ≡ value
+element_value-clean None value e = let is : [] ≡ value = cc in ap clean_of (sym is) ∙ is
+element_value-clean (Some entry) value e = content_value-clean entry.content value e
 
 pub value_at-clean : (tag : Tag) (set : Elements) (value : List ℕ) → value_at tag set ≡ Some value
     → clean_of value ≡ value
-value_at-clean tag set value e = entry_value-clean (find_in tag set) value e
+value_at-clean tag set value e = element_value-clean (find_in tag set) value e
 
 -- ---- tests that end in no fault
 

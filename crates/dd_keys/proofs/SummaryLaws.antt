@@ -6,8 +6,8 @@ use Rattle.std.proofs.lemmas.List.{take_all}
 use Rattle.dd_elem.specs.Clean.{clean_of}
 use Rattle.dd_elem.specs.Key.{IsKey}
 use Rattle.dd_elem.specs.declared.tag.Tag.{Tag}
-use Rattle.dd_encoding.specs.Elements.{Elements, Content, bytes, items, fragments, Entry}
-use Rattle.dd_set.specs.Find.{same_tag, entries_of}
+use Rattle.dd_encoding.specs.Elements.{Elements, Content, bytes, items, fragments, Element}
+use Rattle.dd_set.specs.Find.{same_tag, element_list}
 use Rattle.dd_set.specs.Scan.{Summary, cleaned, summary_of_value, summary_of, Hit, hit_of, is_wanted, hits_of}
 use Rattle.dd_set.specs.Scan.{found_hit}
 use Rattle.dd_set.specs.declared.found.Found.{Found}
@@ -15,7 +15,7 @@ use Rattle.dd_part10.proofs.Tags.{same_tag-is}
 use Rattle.dd_keys.specs.Summaries.{summary_at, value_of_key, summary_of_found, summary_in, IsFront, AreFronts}
 use Rattle.dd_keys.proofs.Tells.{TellsSet}
 use Rattle.dd_keys.specs.Table.{wanted_tags}
-use Rattle.dd_keys.specs.Values.{content_value, entry_value, value_at}
+use Rattle.dd_keys.specs.Values.{content_value, element_value, value_at}
 use Rattle.dd_keys.proofs.Held.{content_value-clean, value_at-clean}
 
 -- ---- a list of found elements tells what their hits tell
@@ -48,20 +48,20 @@ content_summary (bytes value) = refl
 content_summary (items form parts) = refl
 content_summary (fragments fs) = refl
 
-hits_step : (keeps is : Bool) (tag : Tag) (e : Entry) (kept : List Entry) (others : Option Entry)
+hits_step : (keeps is : Bool) (tag : Tag) (e : Element) (kept : List Element) (others : Option Element)
     → (is ≡ true → keeps ≡ true)
-    → same_tag e.tag tag ≡ is → hits_summary tag (map hit_of kept) ≡ summary_of_value (entry_value others)
+    → same_tag e.tag tag ≡ is → hits_summary tag (map hit_of kept) ≡ summary_of_value (element_value others)
     → hits_summary tag (map hit_of (if keeps then (e ∷ kept) else kept))
-    ≡ summary_of_value (entry_value (if is then Some e else others))
+    ≡ summary_of_value (element_value (if is then Some e else others))
 unfolding hit_summary hits_summary
 hits_step true true tag e kept others wanted same h = rw same (content_summary e.content)
 hits_step true false tag e kept others wanted same h = rw same h
 hits_step false true tag e kept others wanted same h = let no = wanted refl in absurd (cc)
 hits_step false false tag e kept others wanted same h = h
 
-hits_tell : (wanted : List Tag) (tag : Tag) → is_wanted wanted tag ≡ true → (es : List Entry)
+hits_tell : (wanted : List Tag) (tag : Tag) → is_wanted wanted tag ≡ true → (es : List Element)
     → hits_summary tag (map hit_of (filter (λ e. is_wanted wanted e.tag) es))
-    ≡ summary_of_value (entry_value (find (λ e. same_tag e.tag tag) es))
+    ≡ summary_of_value (element_value (find (λ e. same_tag e.tag tag) es))
 unfolding hit_summary hits_summary
 hits_tell wanted tag is [] = refl
 hits_tell wanted tag is (e ∷ es) =
@@ -73,7 +73,7 @@ hits_tell wanted tag is (e ∷ es) =
 pub scan_tells : (founds : List Found) (set : Elements) → map found_hit founds ≡ hits_of wanted_tags set
     → TellsSet (λ tag. summary_in tag founds) set
 scan_tells founds set h tag wanted =
-    found_is tag founds ∙ ap (hits_summary tag) h ∙ hits_tell wanted_tags tag wanted (entries_of set)
+    found_is tag founds ∙ ap (hits_summary tag) h ∙ hits_tell wanted_tags tag wanted (element_list set)
 
 -- ---- a front that is not too long for a key is one
 
@@ -86,7 +86,7 @@ value_front (Some value) clean =
 pub set_fronts : (set : Elements) → AreFronts (λ tag. summary_at tag set)
 set_fronts set tag = value_front (value_at tag set) (value_at-clean tag set)
 
-hits_front : (tag : Tag) (is : Bool) (e : Entry) (others : Option Hit) → IsFront (hit_summary others)
+hits_front : (tag : Tag) (is : Bool) (e : Element) (others : Option Hit) → IsFront (hit_summary others)
     → IsFront (hit_summary (if is then Some (hit_of e) else others))
 unfolding hit_summary
 hits_front tag true e others h =
@@ -94,7 +94,7 @@ hits_front tag true e others h =
     (value_front (content_value e.content) (content_value-clean e.content))
 hits_front tag false e others h = h
 
-hits_fronts : (tag : Tag) (es : List Entry) → IsFront (hits_summary tag (map hit_of es))
+hits_fronts : (tag : Tag) (es : List Element) → IsFront (hits_summary tag (map hit_of es))
 unfolding hit_summary hits_summary
 hits_fronts tag [] = λ short. record { clean = refl; short = short }
 hits_fronts tag (e ∷ es) =
@@ -104,4 +104,4 @@ pub scan_fronts : (founds : List Found) (wanted : List Tag) (set : Elements) →
     → AreFronts (λ tag. summary_in tag founds)
 scan_fronts founds wanted set h tag =
     subst IsFront (sym (found_is tag founds ∙ ap (hits_summary tag) h))
-    (hits_fronts tag (filter (λ e. is_wanted wanted e.tag) (entries_of set)))
+    (hits_fronts tag (filter (λ e. is_wanted wanted e.tag) (element_list set)))

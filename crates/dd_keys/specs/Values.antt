@@ -1,7 +1,7 @@
 -- The keys and UIDs that a data set has, by the table.
 use Rattle.std.specs.Prelude.{ℕ, List, [], ◌∷◌, Option, unwrap_or}
 use Rattle.dd_elem.specs.declared.tag.Tag.{Tag}
-pub use Rattle.dd_set.specs.Find.{content_value, entry_value, value_at}
+pub use Rattle.dd_set.specs.Find.{content_value, element_value, value_at}
 use Rattle.dd_encoding.specs.declared.meta.Meta.{Meta}
 use Rattle.dd_keys.specs.Table.{KeyRow, charset_row, study_date_row, study_time_row, accession_row, modality_row}
 use Rattle.dd_keys.specs.Table.{description_row, patient_name_row, patient_id_row, study_row, series_row, study_id_row}

@@ -8,40 +8,40 @@ use Rattle.byteorder.specs.Endian.{little_bytes}
 use Rattle.dd_elem.specs.SetId.{max_set_id_length}
 use Rattle.dd_elem.specs.declared.vr.Vr.TheVariants.{CS, SQ, UL, US}
 use Rattle.dd_encoding.specs.Head.{head_text}
-use Rattle.dd_encoding.specs.Elements.{Entry, Part, bytes, items, no_elements, elements_of, items_of}
+use Rattle.dd_encoding.specs.Elements.{Element, Item, bytes, items, no_elements, elements_of, items_of}
 use Rattle.dd_encoding.specs.Spelling.{AreElements, AreItems, max_levels, undefined_length, items_text}
 use Rattle.dd_encoding.specs.declared.syntax.Length.TheVariants.{Defined}
 use Rattle.dd_encoding.specs.declared.syntax.Syntax.TheVariants.{Explicit}
 use Rattle.dd_encoding.proofs.Even.{length-element, length-items, length-item}
 use Rattle.dd_layout.specs.declared.label.Label.{Label}
-use Rattle.dd_layout.specs.Directory.{directory_entries, first_offset, meta_of, records_entry}
-use Rattle.dd_layout.specs.Entries.{tag, padded, long_entry, short_entry}
-use Rattle.dd_layout.specs.Records.{IsRecord, record_part}
-use Rattle.dd_layout.specs.Sizes.{entries_size, record_size}
-use Rattle.dd_layout.specs.Withdrawals.{withdrawal_entries, withdrawals_size}
+use Rattle.dd_layout.specs.Directory.{directory_elements, first_offset, meta_of, records_element}
+use Rattle.dd_layout.specs.ElementForms.{tag, padded, long_element, short_element}
+use Rattle.dd_layout.specs.Records.{IsRecord, record_item}
+use Rattle.dd_layout.specs.Sizes.{elements_size, record_size}
+use Rattle.dd_layout.specs.Withdrawals.{withdrawal_elements, withdrawals_size}
 use Rattle.dd_layout.proofs.Lengths.{length-padded, short_more, size-append}
 use Rattle.dd_layout.proofs.Valid.{one_valid, short_number}
 use Rattle.dd_layout.proofs.WithdrawalElements.{withdrawals_valid}
 
 -- ---- lengths
 
-pub items_length : (records : List (List Entry)) → length (items_text (items_of (map record_part records)))
+pub items_length : (records : List (List Element)) → length (items_text (items_of (map record_item records)))
     ≡ sum_by record_size records
 items_length [] = refl
 items_length (es ∷ more) =
-    let a = length-item Defined (elements_of es) (items_of (map record_part more)) in
+    let a = length-item Defined (elements_of es) (items_of (map record_item more)) in
     let b = items_length more in
     let c = sum_by-cons record_size es more in
     omega arith
 
-pub directory_length : (id : List ℕ) (first last : ℕ) (parts : List Part)
-    → entries_size (directory_entries id first last parts)
+pub directory_length : (id : List ℕ) (first last : ℕ) (parts : List Item)
+    → elements_size (directory_elements id first last parts)
     ≡ 54 + length (padded 0x20 id) + length (items_text (items_of parts))
 directory_length id first last parts =
-    let records : List Entry = records_entry parts ∷ [] in
-    let flag : List Entry = short_entry (tag 0x0004 0x1212) 0x0000 ∷ records in
-    let lasts : List Entry = long_entry (tag 0x0004 0x1202) last ∷ flag in
-    let firsts : List Entry = long_entry (tag 0x0004 0x1200) first ∷ lasts in
+    let records : List Element = records_element parts ∷ [] in
+    let flag : List Element = short_element (tag 0x0004 0x1212) 0x0000 ∷ records in
+    let lasts : List Element = long_element (tag 0x0004 0x1202) last ∷ flag in
+    let firsts : List Element = long_element (tag 0x0004 0x1200) first ∷ lasts in
     let a = short_more (tag 0x0004 0x1130) CS (padded 0x20 id) firsts refl in
     let b = short_more (tag 0x0004 0x1200) UL (little_bytes 4 first) lasts refl in
     let c = short_more (tag 0x0004 0x1202) UL (little_bytes 4 last) flag refl in
@@ -50,38 +50,38 @@ directory_length id first last parts =
     let f = length-items (Some SQ) Defined (items_of parts) in
     omega arith
 
-pub length_is_of_records : (label : Label) (first last : ℕ) (records : List (List Entry)) (withdrawn : List (List ℕ))
+pub length_is_of_records : (label : Label) (first last : ℕ) (records : List (List Element)) (withdrawn : List (List ℕ))
     → length (head_text (meta_of label))
-    + entries_size (directory_entries label.id first last (map record_part records) ++ withdrawal_entries withdrawn)
+    + elements_size (directory_elements label.id first last (map record_item records) ++ withdrawal_elements withdrawn)
     ≡ first_offset label + sum_by record_size records + withdrawals_size withdrawn
 length_is_of_records label first last records withdrawn =
-    let a = directory_length label.id first last (map record_part records) in
+    let a = directory_length label.id first last (map record_item records) in
     let b = directory_length label.id 0 0 [] in
     let c = items_length records in
-    let d = size-append (directory_entries label.id first last (map record_part records))
-    (withdrawal_entries withdrawn) in
+    let d = size-append (directory_elements label.id first last (map record_item records))
+    (withdrawal_elements withdrawn) in
     omega arith
 
 -- ---- elements of a set
 
-items_valid : (records : List (List Entry)) → AllByRecursion IsRecord records
+items_valid : (records : List (List Element)) → AllByRecursion IsRecord records
     → sum_by record_size records < undefined_length
-    → AreItems Explicit max_levels (items_of (map record_part records))
+    → AreItems Explicit max_levels (items_of (map record_item records))
 items_valid [] valid below = tt
 items_valid (es ∷ more) valid below =
     let a = sum_by-cons record_size es more in
     (valid.0, omega arith, items_valid more valid.1 (omega arith))
 
-directory_valid : (id : List ℕ) (first last : ℕ) (parts : List Part) (behind : List Entry)
+directory_valid : (id : List ℕ) (first last : ℕ) (parts : List Item) (behind : List Element)
     → length id ≤ max_set_id_length → AreItems Explicit max_levels (items_of parts)
     → length (items_text (items_of parts)) < undefined_length
     → AreElements Explicit max_levels 0x00041221 (elements_of behind)
-    → AreElements Explicit max_levels 0 (elements_of (directory_entries id first last parts ++ behind))
+    → AreElements Explicit max_levels 0 (elements_of (directory_elements id first last parts ++ behind))
 directory_valid id first last parts behind few valid below rest =
-    let records : List Entry = records_entry parts ∷ behind in
-    let flag : List Entry = short_entry (tag 0x0004 0x1212) 0x0000 ∷ records in
-    let lasts : List Entry = long_entry (tag 0x0004 0x1202) last ∷ flag in
-    let firsts : List Entry = long_entry (tag 0x0004 0x1200) first ∷ lasts in
+    let records : List Element = records_element parts ∷ behind in
+    let flag : List Element = short_element (tag 0x0004 0x1212) 0x0000 ∷ records in
+    let lasts : List Element = long_element (tag 0x0004 0x1202) last ∷ flag in
+    let firsts : List Element = long_element (tag 0x0004 0x1200) first ∷ lasts in
     let e = length-padded 0x20 id in
     let a : AreElements Explicit max_levels 0x00041213 (elements_of records) =
     (omega arith, omega arith, omega arith, (λ e. omega arith), (valid, below), tt, rest) in
@@ -97,13 +97,13 @@ directory_valid id first last parts behind few valid below rest =
     one_valid max_levels 0 (tag 0x0004 0x1130) (Some CS) (bytes (padded 0x20 id)) (elements_of firsts) tt tt
     (omega arith, omega arith) d
 
-pub elements_are_valid : (id : List ℕ) (first last : ℕ) (records : List (List Entry)) (withdrawn : List (List ℕ))
+pub elements_are_valid : (id : List ℕ) (first last : ℕ) (records : List (List Element)) (withdrawn : List (List ℕ))
     → length id ≤ max_set_id_length → All IsRecord records → sum_by record_size records < undefined_length
     → withdrawals_size withdrawn < undefined_length
     → AreElements Explicit max_levels 0 (elements_of
-    (directory_entries id first last (map record_part records) ++ withdrawal_entries withdrawn))
+    (directory_elements id first last (map record_item records) ++ withdrawal_elements withdrawn))
 elements_are_valid id first last records withdrawn few valid below small =
     let a = items_length records in
-    directory_valid id first last (map record_part records) (withdrawal_entries withdrawn) few
+    directory_valid id first last (map record_item records) (withdrawal_elements withdrawn) few
     (items_valid records (recursion_from_All IsRecord records valid) below) (omega arith)
     (withdrawals_valid withdrawn small)

@@ -47,13 +47,13 @@ tree_is_walk paths =
 
 -- ---- paths with parts
 
-with_part : (p : Path) → p ≢ [] → (part : List ℕ) × (path : Path) × (p ≡ part ∷ path)
-with_part [] some = absurd (some refl)
-with_part (part ∷ path) some = (part, path, refl)
+with_item : (p : Path) → p ≢ [] → (part : List ℕ) × (path : Path) × (p ≡ part ∷ path)
+with_item [] some = absurd (some refl)
+with_item (part ∷ path) some = (part, path, refl)
 
 pub above_root : (paths : List Path) → ((p : Path) → Contains paths p → p ≢ []) → Above [] (in_order paths)
 above_root paths some =
-    empty_above (in_order paths) (λ p i. with_part p (some p (contained p paths (sorted_member paths p i))))
+    empty_above (in_order paths) (λ p i. with_item p (some p (contained p paths (sorted_member paths p i))))
 
 rows_have_parts : (paths rows : List Path) → ((q : Path) → Member q rows → Member q (flat_map prefixes paths))
     → HaveParts rows

@@ -11,7 +11,7 @@ use Rattle.dd_layout.specs.declared.record.PlanRecord.{PlanRecord}
 use Rattle.dd_layout.specs.Directory.{first_offset}
 use Rattle.dd_layout.specs.Paths.{Path}
 use Rattle.dd_layout.specs.Plans.{path_of, tree, record_size_at, at, records_end}
-use Rattle.dd_layout.specs.Records.{IsFileOf, record_entries}
+use Rattle.dd_layout.specs.Records.{IsFileOf, record_elements}
 use Rattle.dd_layout.specs.Sizes.{record_size}
 use Rattle.dd_layout.specs.Stages.{numbered_at, placed_at}
 use Rattle.dd_layout.proofs.Leasts.{least_of_each, paths_have_parts}
@@ -93,7 +93,7 @@ pub size_of_turn : (versions : List Parts) (rows now : List PlanRecord) (n at : 
     → n < length rows → now ≡ placed_to (weight versions) n at rows
     → version ≡ slice_index_or versions (slice_index_or now n d).of version → parts ≡ version
     → ((next lower : ℕ) (file : Option Ranks) → IsFileOf (slice_index_or now n d).level file
-    → one ≡ record_size (record_entries (slice_index_or now n d).level next lower file parts))
+    → one ≡ record_size (record_elements (slice_index_or now n d).level next lower file parts))
     → one ≡ weight versions (slice_index_or now n d)
 size_of_turn versions rows now n at d version parts one is files h now_is read same exact =
     let row : PlanRecord = slice_index_or now n d in

@@ -6,7 +6,7 @@ use Rattle.std.proofs.lemmas.List.Sums.{sum_by-cons}
 use Rattle.std.proofs.lemmas.Option.{slice_get_read}
 use Rattle.dd_version.specs.declared.parts.Parts.{Parts}
 use Rattle.dd_layout.specs.declared.record.PlanRecord.{PlanRecord}
-use Rattle.dd_layout.specs.Records.{record_entries}
+use Rattle.dd_layout.specs.Records.{record_elements}
 use Rattle.dd_layout.specs.Sizes.{record_size}
 use Rattle.dd_layout.proofs.OffsetPass.{end_of, placed_to, weight, weight_by}
 
@@ -61,9 +61,9 @@ end_more size n at rows now d end one h now_is end_is one_is =
 -- what a turn adds
 pub weight_is : (versions : List Parts) (row : PlanRecord) (version parts : Parts) (size : ℕ)
     → row.of < length versions → version ≡ slice_index_or versions row.of version → parts ≡ version
-    → size ≡ record_size (record_entries row.level 0 0 row.file parts) → size ≡ weight versions row
+    → size ≡ record_size (record_elements row.level 0 0 row.file parts) → size ≡ weight versions row
 weight_is versions row version parts size within read same is =
-    is ∙ ap (λ (v : Parts). record_size (record_entries row.level 0 0 row.file v)) same
+    is ∙ ap (λ (v : Parts). record_size (record_elements row.level 0 0 row.file v)) same
     ∙ ap (weight_by row) (sym (slice_get_read versions (length versions) row.of version refl within read))
 
 -- the ends of all turns

@@ -5,10 +5,10 @@ use Rattle.dd_elem.specs.FileId.{Ranks, AreRanks, text_of}
 use Rattle.dd_elem.proofs.SixDigits.{length-six_digits}
 use Rattle.dd_elem.specs.declared.vr.Vr.TheVariants.{CS, IS, UL, US}
 use Rattle.dd_version.specs.declared.parts.Parts.{Parts}
-use Rattle.dd_encoding.specs.Elements.{Entry}
-use Rattle.dd_layout.specs.Entries.{tag, padded, text_entry, uid_entry, long_entry, short_entry}
-use Rattle.dd_layout.specs.Records.{IsFileOf, digest_entries, kind_of, key_entries, link_entries, record_entries}
-use Rattle.dd_layout.specs.Sizes.{entries_size}
+use Rattle.dd_encoding.specs.Elements.{Element}
+use Rattle.dd_layout.specs.ElementForms.{tag, padded, text_element, uid_element, long_element, short_element}
+use Rattle.dd_layout.specs.Records.{IsFileOf, digest_elements, kind_of, key_elements, link_elements, record_elements}
+use Rattle.dd_layout.specs.Sizes.{elements_size}
 use Rattle.dd_layout.specs.declared.level.Level.{Level}
 use Rattle.dd_layout.specs.declared.level.Level.TheVariants.{Patient, Study, Series, Image}
 use Rattle.dd_layout.proofs.Lengths.{length-padded, short_more, size-append}
@@ -24,12 +24,12 @@ length-text_of r are =
     simp length-append (omega arith)
 
 -- what a record begins with
-pub link_sum : (next lower : ℕ) (kind : List ℕ) → entries_size (link_entries next lower kind)
+pub link_sum : (next lower : ℕ) (kind : List ℕ) → elements_size (link_elements next lower kind)
     ≡ 42 + length (padded 0x20 kind)
 link_sum next lower kind =
-    let kinds : List Entry = text_entry (tag 0x0004 0x1430) CS kind ∷ [] in
-    let below : List Entry = long_entry (tag 0x0004 0x1420) lower ∷ kinds in
-    let flag : List Entry = short_entry (tag 0x0004 0x1410) 0xffff ∷ below in
+    let kinds : List Element = text_element (tag 0x0004 0x1430) CS kind ∷ [] in
+    let below : List Element = long_element (tag 0x0004 0x1420) lower ∷ kinds in
+    let flag : List Element = short_element (tag 0x0004 0x1410) 0xffff ∷ below in
     let a = short_more (tag 0x0004 0x1400) UL (little_bytes 4 next) flag refl in
     let b = short_more (tag 0x0004 0x1410) US (little_bytes 2 0xffff) below refl in
     let c = short_more (tag 0x0004 0x1420) UL (little_bytes 4 lower) kinds refl in
@@ -38,17 +38,17 @@ link_sum next lower kind =
 
 -- its keys
 same_keys : (level : Level) (file other : Option Ranks) (parts : Parts) → IsFileOf level file → IsFileOf level other
-    → entries_size (key_entries level file parts) ≡ entries_size (key_entries level other parts)
+    → elements_size (key_elements level file parts) ≡ elements_size (key_elements level other parts)
 same_keys Patient file other parts is too = refl
 same_keys Study file other parts is too = refl
 same_keys Series file other parts is too = refl
 same_keys Image None other parts is too = absurd is
 same_keys Image (Some r) None parts is too = absurd too
 same_keys Image (Some r) (Some s) parts is too =
-    let rest : List Entry =
-    uid_entry (tag 0x0004 0x1510) parts.class ∷ uid_entry (tag 0x0004 0x1511) parts.instance
-    ∷ uid_entry (tag 0x0004 0x1512) parts.transfer
-    ∷ (digest_entries parts.digest ++ (text_entry (tag 0x0020 0x0013) IS parts.number ∷ [])) in
+    let rest : List Element =
+    uid_element (tag 0x0004 0x1510) parts.class ∷ uid_element (tag 0x0004 0x1511) parts.instance
+    ∷ uid_element (tag 0x0004 0x1512) parts.transfer
+    ∷ (digest_elements parts.digest ++ (text_element (tag 0x0020 0x0013) IS parts.number ∷ [])) in
     let a = short_more (tag 0x0004 0x1500) CS (padded 0x20 (text_of r)) rest refl in
     let b = short_more (tag 0x0004 0x1500) CS (padded 0x20 (text_of s)) rest refl in
     let c = length-padded 0x20 (text_of r) in
@@ -60,11 +60,11 @@ same_keys Image (Some r) (Some s) parts is too =
 -- the whole record
 pub same_size : (level : Level) (next lower next' lower' : ℕ) (file other : Option Ranks) (parts : Parts)
     → IsFileOf level file → IsFileOf level other
-    → entries_size (record_entries level next lower file parts)
-    ≡ entries_size (record_entries level next' lower' other parts)
+    → elements_size (record_elements level next lower file parts)
+    ≡ elements_size (record_elements level next' lower' other parts)
 same_size level next lower next' lower' file other parts is too =
-    let a = size-append (link_entries next lower (kind_of level)) (key_entries level file parts) in
-    let b = size-append (link_entries next' lower' (kind_of level)) (key_entries level other parts) in
+    let a = size-append (link_elements next lower (kind_of level)) (key_elements level file parts) in
+    let b = size-append (link_elements next' lower' (kind_of level)) (key_elements level other parts) in
     let c = link_sum next lower (kind_of level) in
     let d = link_sum next' lower' (kind_of level) in
     let e = same_keys level file other parts is too in

@@ -6,9 +6,9 @@ use Rattle.dd_version.specs.declared.parts.Parts.{Parts}
 use Rattle.dd_encoding.specs.Elements.{elements_of}
 use Rattle.dd_encoding.specs.Spelling.{AreElements}
 use Rattle.dd_encoding.specs.declared.syntax.Syntax.TheVariants.{Explicit}
-use Rattle.dd_layout.specs.Cells.{IsShortEntry, table_entries}
-use Rattle.dd_layout.specs.Records.{IsFileOf, record_entries}
-use Rattle.dd_layout.specs.Sizes.{entries_size, record_size}
+use Rattle.dd_layout.specs.Cells.{IsShortElement, table_elements}
+use Rattle.dd_layout.specs.Records.{IsFileOf, record_elements}
+use Rattle.dd_layout.specs.Sizes.{elements_size, record_size}
 use Rattle.dd_layout.specs.declared.level.Level.{Level}
 use Rattle.dd_layout.specs.declared.record.PlanRecord.{PlanRecord}
 use Rattle.dd_layout.specs.declared.table.Row.{Row}
@@ -18,33 +18,33 @@ use Rattle.dd_layout.proofs.Valid.{record_valid}
 -- the rows give the elements of each record of the level
 abbrev pub IsTable : Level → List Row → Type 0
 IsTable level rows = (next lower : ℕ) (file : Option Ranks) (parts : Parts)
-    → table_entries rows level next lower file parts ≡ record_entries level next lower file parts
+    → table_elements rows level next lower file parts ≡ record_elements level next lower file parts
 
 -- the elements of one record
 one_record : (level : Level) (rows : List Row) (one : PlanRecord) (parts : Parts) → IsTable level rows
     → one.level ≡ level
-    → table_entries rows one.level one.next one.lower one.file parts
-    ≡ record_entries level one.next one.lower one.file parts
+    → table_elements rows one.level one.next one.lower one.file parts
+    ≡ record_elements level one.next one.lower one.file parts
 one_record level rows one parts table is =
-    ap (λ (l : Level). table_entries rows l one.next one.lower one.file parts) is
+    ap (λ (l : Level). table_elements rows l one.next one.lower one.file parts) is
     ∙ table one.next one.lower one.file parts
 
 -- its size is that of each
 pub size_from_one : (level : Level) (rows : List Row) (one : PlanRecord) (parts : Parts) (size : ℕ)
     → IsTable level rows → one.level ≡ level → IsFileOf level one.file
-    → size ≡ entries_size (table_entries rows one.level one.next one.lower one.file parts)
+    → size ≡ elements_size (table_elements rows one.level one.next one.lower one.file parts)
     → (next lower : ℕ) (file : Option Ranks) → IsFileOf level file
-    → 8 + size ≡ record_size (record_entries level next lower file parts)
+    → 8 + size ≡ record_size (record_elements level next lower file parts)
 size_from_one level rows one parts size table is file_is sum next lower file file_too =
-    ap (λ (n : ℕ). 8 + n) (sum ∙ ap entries_size (one_record level rows one parts table is)
+    ap (λ (n : ℕ). 8 + n) (sum ∙ ap elements_size (one_record level rows one parts table is)
     ∙ same_size level one.next one.lower next lower one.file file parts file_is file_too)
 
 -- its short values make the elements of each those of a set
 pub valid_from_one : (level : Level) (rows : List Row) (one : PlanRecord) (parts : Parts) → IsTable level rows
     → one.level ≡ level → IsFileOf level one.file
-    → AllByRecursion IsShortEntry (table_entries rows one.level one.next one.lower one.file parts)
+    → AllByRecursion IsShortElement (table_elements rows one.level one.next one.lower one.file parts)
     → (levels next lower : ℕ) (file : Option Ranks) → IsFileOf level file
-    → AreElements Explicit levels 0 (elements_of (record_entries level next lower file parts))
+    → AreElements Explicit levels 0 (elements_of (record_elements level next lower file parts))
 valid_from_one level rows one parts table is file_is short levels next lower file file_too =
     record_valid levels level one.next one.lower next lower one.file file parts file_is file_too
-    (subst (AllByRecursion IsShortEntry) (one_record level rows one parts table is) short)
+    (subst (AllByRecursion IsShortElement) (one_record level rows one parts table is) short)

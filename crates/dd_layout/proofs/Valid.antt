@@ -10,12 +10,12 @@ use Rattle.dd_elem.specs.declared.tag.Tag.{Tag}
 use Rattle.dd_elem.specs.declared.vr.Vr.{Vr}
 use Rattle.dd_elem.specs.declared.vr.Vr.TheVariants.{CS, DA, LO, PN, SH, SQ, TM}
 use Rattle.dd_version.specs.declared.parts.Parts.{Parts}
-use Rattle.dd_encoding.specs.Elements.{Elements, Entry, Content, bytes, items, fragments, element, elements_of}
+use Rattle.dd_encoding.specs.Elements.{Elements, Element, Content, bytes, items, fragments, element, elements_of}
 use Rattle.dd_encoding.specs.Spelling.{AreElements, delimiter_group, length_limit}
 use Rattle.dd_encoding.specs.declared.syntax.Syntax.TheVariants.{Explicit}
-use Rattle.dd_layout.specs.Cells.{IsShort, IsShortContent, IsShortEntry}
-use Rattle.dd_layout.specs.Entries.{tag, padded, text_entry, uid_entry}
-use Rattle.dd_layout.specs.Records.{IsFileOf, kind_of, link_entries, record_entries}
+use Rattle.dd_layout.specs.Cells.{IsShort, IsShortContent, IsShortElement}
+use Rattle.dd_layout.specs.ElementForms.{tag, padded, text_element, uid_element}
+use Rattle.dd_layout.specs.Records.{IsFileOf, kind_of, link_elements, record_elements}
 use Rattle.dd_layout.specs.declared.level.Level.{Level}
 use Rattle.dd_layout.specs.declared.level.Level.TheVariants.{Patient, Study, Series, Image}
 use Rattle.dd_layout.proofs.Lengths.{length-padded}
@@ -34,7 +34,7 @@ abbrev may_follow : ℕ → Tag → Bool
 may_follow low t = leb low (number_of t) && (ltb t.group delimiter_group && ltb t.element (2 ^ 16))
 
 -- tags rise, and each element holds bytes
-abbrev pub in_order : ℕ → List Entry → Bool
+abbrev pub in_order : ℕ → List Element → Bool
 in_order low [] = true
 in_order low (e ∷ es) = may_follow low e.tag && (holds e.vr && in_order (number_of e.tag + 1) es)
 
@@ -81,34 +81,34 @@ one_valid levels low t (Some vr) (fragments fs) rest follows h short valid = abs
 one_valid levels low t (Some vr) (bytes v) rest follows h short valid =
     value_valid levels low t vr v rest follows h short.0 (short_fits vr v short.1) valid
 
-pub entries_valid : (levels low : ℕ) (es : List Entry) → T (in_order low es) → AllByRecursion IsShortEntry es
+pub elements_valid : (levels low : ℕ) (es : List Element) → T (in_order low es) → AllByRecursion IsShortElement es
     → AreElements Explicit levels low (elements_of es)
-entries_valid levels low [] rises short = tt
-entries_valid levels low (e ∷ es) rises short =
+elements_valid levels low [] rises short = tt
+elements_valid levels low (e ∷ es) rises short =
     let a = both (may_follow low e.tag) (holds e.vr && in_order (number_of e.tag + 1) es) rises in
     let b = both (holds e.vr) (in_order (number_of e.tag + 1) es) a.1 in
     one_valid levels low e.tag e.vr e.content (elements_of es) a.0 b.0 short.0
-    (entries_valid levels (number_of e.tag + 1) es b.1 short.1)
+    (elements_valid levels (number_of e.tag + 1) es b.1 short.1)
 
 -- ---- records
 
 -- the tags of a record rise, with a character set and without
 record_rises : (level : Level) (next lower : ℕ) (file : Option Ranks) (parts : Parts)
-    → T (in_order 0 (record_entries level next lower file parts))
+    → T (in_order 0 (record_elements level next lower file parts))
 record_rises Patient next lower file parts = go (eqb (length parts.patient.charset) 0) where
-  go : (b : Bool) → T (in_order 0 (link_entries next lower (kind_of Patient)
-      ++ (cond b [] (text_entry (tag 0x0008 0x0005) CS parts.patient.charset ∷ [])
-      ++ (text_entry (tag 0x0010 0x0010) PN parts.patient.name ∷ text_entry (tag 0x0010 0x0020) LO parts.patient.id
+  go : (b : Bool) → T (in_order 0 (link_elements next lower (kind_of Patient)
+      ++ (cond b [] (text_element (tag 0x0008 0x0005) CS parts.patient.charset ∷ [])
+      ++ (text_element (tag 0x0010 0x0010) PN parts.patient.name ∷ text_element (tag 0x0010 0x0020) LO parts.patient.id
       ∷ []))))
   go true = tt
   go false = tt
 record_rises Study next lower file parts = go (eqb (length parts.study.charset) 0) where
-  go : (b : Bool) → T (in_order 0 (link_entries next lower (kind_of Study)
-      ++ (cond b [] (text_entry (tag 0x0008 0x0005) CS parts.study.charset ∷ [])
-      ++ (text_entry (tag 0x0008 0x0020) DA parts.study.date ∷ text_entry (tag 0x0008 0x0030) TM parts.study.time
-      ∷ text_entry (tag 0x0008 0x0050) SH parts.study.accession
-      ∷ text_entry (tag 0x0008 0x1030) LO parts.study.description ∷ uid_entry (tag 0x0020 0x000d) parts.study.uid
-      ∷ text_entry (tag 0x0020 0x0010) SH parts.study.id ∷ []))))
+  go : (b : Bool) → T (in_order 0 (link_elements next lower (kind_of Study)
+      ++ (cond b [] (text_element (tag 0x0008 0x0005) CS parts.study.charset ∷ [])
+      ++ (text_element (tag 0x0008 0x0020) DA parts.study.date ∷ text_element (tag 0x0008 0x0030) TM parts.study.time
+      ∷ text_element (tag 0x0008 0x0050) SH parts.study.accession
+      ∷ text_element (tag 0x0008 0x1030) LO parts.study.description ∷ uid_element (tag 0x0020 0x000d) parts.study.uid
+      ∷ text_element (tag 0x0020 0x0010) SH parts.study.id ∷ []))))
   go true = tt
   go false = tt
 record_rises Series next lower file parts = tt
@@ -126,8 +126,8 @@ short_file r are =
 -- other links and ranks leave it short
 same_short : (level : Level) (next lower next' lower' : ℕ) (file other : Option Ranks) (parts : Parts)
     → IsFileOf level file → IsFileOf level other
-    → AllByRecursion IsShortEntry (record_entries level next lower file parts)
-    → AllByRecursion IsShortEntry (record_entries level next' lower' other parts)
+    → AllByRecursion IsShortElement (record_elements level next lower file parts)
+    → AllByRecursion IsShortElement (record_elements level next' lower' other parts)
 same_short Patient next lower next' lower' file other parts is too h =
     (short_number next', (h.1.0, (short_number lower', h.1.1.1)))
 same_short Study next lower next' lower' file other parts is too h =
@@ -142,8 +142,8 @@ same_short Image next lower next' lower' (Some r) (Some s) parts is too h =
 -- a record whose size is that of one with short values
 pub record_valid : (levels : ℕ) (level : Level) (next lower next' lower' : ℕ) (file other : Option Ranks)
     (parts : Parts) → IsFileOf level file → IsFileOf level other
-    → AllByRecursion IsShortEntry (record_entries level next lower file parts)
-    → AreElements Explicit levels 0 (elements_of (record_entries level next' lower' other parts))
+    → AllByRecursion IsShortElement (record_elements level next lower file parts)
+    → AreElements Explicit levels 0 (elements_of (record_elements level next' lower' other parts))
 record_valid levels level next lower next' lower' file other parts is too short =
-    entries_valid levels 0 (record_entries level next' lower' other parts) (record_rises level next' lower' other parts)
+    elements_valid levels 0 (record_elements level next' lower' other parts) (record_rises level next' lower' other parts)
     (same_short level next lower next' lower' file other parts is too short)

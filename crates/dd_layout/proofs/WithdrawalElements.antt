@@ -8,9 +8,9 @@ use Rattle.dd_encoding.specs.Elements.{bytes, no_elements, elements_of}
 use Rattle.dd_encoding.specs.Spelling.{AreElements, max_levels, undefined_length}
 use Rattle.dd_encoding.specs.declared.syntax.Syntax.TheVariants.{Explicit}
 use Rattle.dd_encoding.proofs.Even.{length-element, length-bytes}
-use Rattle.dd_layout.specs.Entries.{tag, padded, bytes_entry}
+use Rattle.dd_layout.specs.ElementForms.{tag, padded, bytes_element}
 use Rattle.dd_layout.specs.Records.{private_creator}
-use Rattle.dd_layout.specs.Withdrawals.{withdrawal_entries, withdrawals_size, withdrawn_value}
+use Rattle.dd_layout.specs.Withdrawals.{withdrawal_elements, withdrawals_size, withdrawn_value}
 use Rattle.dd_layout.proofs.Lengths.{length-padded, short_more}
 use Rattle.dd_layout.proofs.Valid.{one_valid, value_valid}
 
@@ -44,7 +44,7 @@ pub size_by_value : (uid : List ℕ) (withdrawn : List (List ℕ))
 size_by_value uid withdrawn =
     let v : List ℕ = withdrawn_value (uid ∷ withdrawn) in
     let a = short_more (tag 0x0009 0x0010) LO (padded 0x20 private_creator)
-    (bytes_entry (tag 0x0009 0x1002) UC v ∷ []) refl in
+    (bytes_element (tag 0x0009 0x1002) UC v ∷ []) refl in
     let b = length-element (tag 0x0009 0x1002) (Some UC) (bytes v) no_elements in
     let c = length-bytes (Some UC) v in
     omega arith
@@ -52,13 +52,13 @@ size_by_value uid withdrawn =
 -- ---- elements of a set
 
 pub withdrawals_valid : (withdrawn : List (List ℕ)) → withdrawals_size withdrawn < undefined_length
-    → AreElements Explicit max_levels 0x00041221 (elements_of (withdrawal_entries withdrawn))
+    → AreElements Explicit max_levels 0x00041221 (elements_of (withdrawal_elements withdrawn))
 withdrawals_valid [] below = tt
 withdrawals_valid (uid ∷ withdrawn) below =
     let v : List ℕ = withdrawn_value (uid ∷ withdrawn) in
     let size = size_by_value uid withdrawn in
     let even = length-padded 0x20 (join_with_byte 0x5c (uid ∷ withdrawn)) in
     one_valid max_levels 0x00041221 (tag 0x0009 0x0010) (Some LO) (bytes (padded 0x20 private_creator))
-    (elements_of (bytes_entry (tag 0x0009 0x1002) UC v ∷ [])) tt tt (refl, omega arith)
+    (elements_of (bytes_element (tag 0x0009 0x1002) UC v ∷ [])) tt tt (refl, omega arith)
     (value_valid max_levels 0x00090011 (tag 0x0009 0x1002) UC v no_elements tt tt (omega (arith, even))
     (omega (arith, size, below)) tt)

@@ -6,7 +6,7 @@ use Rattle.byteorder.specs.Endian.{little_bytes}
 use Rattle.dd_elem.specs.FileId.{Ranks}
 use Rattle.dd_elem.specs.Key.{max_key_length}
 use Rattle.dd_version.specs.declared.parts.Parts.{Parts}
-use Rattle.dd_encoding.specs.Elements.{Entry, Content, bytes, items, fragments}
+use Rattle.dd_encoding.specs.Elements.{Element, Content, bytes, items, fragments}
 use Rattle.dd_layout.specs.declared.cell.Cell.{Cell}
 use Rattle.dd_layout.specs.declared.cell.CellValue.{CellValue}
 use Rattle.dd_layout.specs.declared.cell.CellValue.TheVariants as values
@@ -15,7 +15,7 @@ use Rattle.dd_layout.specs.declared.field.Field.TheVariants as fields
 use Rattle.dd_layout.specs.declared.level.Level.{Level}
 use Rattle.dd_layout.specs.declared.level.Level.TheVariants.{Patient, Study, Series, Image}
 use Rattle.dd_layout.specs.declared.table.Row.{Row}
-use Rattle.dd_layout.specs.Entries.{padded, bytes_entry}
+use Rattle.dd_layout.specs.ElementForms.{padded, bytes_element}
 use Rattle.dd_layout.specs.Records.{kind_of, file_text, private_creator}
 
 -- ---- lent values
@@ -42,12 +42,12 @@ cell_values None = []
 cell_values (Some value) = even_value value ∷ []
 
 -- the element
-abbrev pub cell_entry : Cell → Entry
-cell_entry cell = bytes_entry cell.tag cell.vr (even_value cell.value)
+abbrev pub cell_element : Cell → Element
+cell_element cell = bytes_element cell.tag cell.vr (even_value cell.value)
 
-abbrev pub cell_entries : Option Cell → List Entry
-cell_entries None = []
-cell_entries (Some cell) = cell_entry cell ∷ []
+abbrev pub cell_elements : Option Cell → List Element
+cell_elements None = []
+cell_elements (Some cell) = cell_element cell ∷ []
 
 -- an element of an even length, with no more bytes than a key may have
 abbrev pub IsShort : List ℕ → Type 0
@@ -58,8 +58,8 @@ IsShortContent (bytes v) = IsShort v
 IsShortContent (items form parts) = ⊥
 IsShortContent (fragments fs) = ⊥
 
-abbrev pub IsShortEntry : Entry → Type 0
-IsShortEntry entry = IsShortContent entry.content
+abbrev pub IsShortElement : Element → Type 0
+IsShortElement entry = IsShortContent entry.content
 
 -- ---- rows
 
@@ -101,10 +101,10 @@ field_values fields.Digest level next lower file parts = parts.digest ∷ []
 field_values fields.Number level next lower file parts = padded 0x20 parts.number ∷ []
 
 -- the element of a row in a record, where it has one
-abbrev pub row_entries : Row → Level → ℕ → ℕ → Option Ranks → Parts → List Entry
-row_entries row level next lower file parts =
-    map (λ v. bytes_entry row.tag row.vr v) (field_values row.field level next lower file parts)
+abbrev pub row_elements : Row → Level → ℕ → ℕ → Option Ranks → Parts → List Element
+row_elements row level next lower file parts =
+    map (λ v. bytes_element row.tag row.vr v) (field_values row.field level next lower file parts)
 
 -- the elements of these rows, in order
-abbrev pub table_entries : List Row → Level → ℕ → ℕ → Option Ranks → Parts → List Entry
-table_entries rows level next lower file parts = flat_map (λ row. row_entries row level next lower file parts) rows
+abbrev pub table_elements : List Row → Level → ℕ → ℕ → Option Ranks → Parts → List Element
+table_elements rows level next lower file parts = flat_map (λ row. row_elements row level next lower file parts) rows

@@ -5,25 +5,25 @@ use Rattle.dd_elem.specs.declared.vr.Vr.TheVariants.{CS, SQ}
 use Rattle.dd_encoding.specs.declared.meta.Meta.{Meta}
 use Rattle.dd_encoding.specs.Head.{head_text}
 use Rattle.dd_encoding.specs.declared.syntax.Length.TheVariants.{Defined}
-use Rattle.dd_encoding.specs.Elements.{Entry, Part, items, elements_of, items_of}
+use Rattle.dd_encoding.specs.Elements.{Element, Item, items, elements_of, items_of}
 use Rattle.dd_encoding.specs.Spelling.{elements_text}
 use Rattle.dd_layout.specs.declared.label.Label.{Label}
-use Rattle.dd_layout.specs.Entries.{tag, text_entry, long_entry, short_entry}
+use Rattle.dd_layout.specs.ElementForms.{tag, text_element, long_element, short_element}
 
 -- what stands before the records: File-set ID, the offsets of the first and of the last root record, the
 -- consistency flag
-abbrev pub front_entries : List ℕ → ℕ → ℕ → List Entry
-front_entries id first last =
-    text_entry (tag 0x0004 0x1130) CS id ∷ long_entry (tag 0x0004 0x1200) first ∷ long_entry (tag 0x0004 0x1202) last
-    ∷ short_entry (tag 0x0004 0x1212) 0x0000 ∷ []
+abbrev pub front_elements : List ℕ → ℕ → ℕ → List Element
+front_elements id first last =
+    text_element (tag 0x0004 0x1130) CS id ∷ long_element (tag 0x0004 0x1200) first ∷ long_element (tag 0x0004 0x1202) last
+    ∷ short_element (tag 0x0004 0x1212) 0x0000 ∷ []
 
 -- the sequence of the records
-abbrev pub records_entry : List Part → Entry
-records_entry records = record { tag = tag 0x0004 0x1220; vr = Some SQ; content = items Defined (items_of records) }
+abbrev pub records_element : List Item → Element
+records_element records = record { tag = tag 0x0004 0x1220; vr = Some SQ; content = items Defined (items_of records) }
 
 -- the elements of a directory up to its records
-abbrev pub directory_entries : List ℕ → ℕ → ℕ → List Part → List Entry
-directory_entries id first last records = front_entries id first last ++ (records_entry records ∷ [])
+abbrev pub directory_elements : List ℕ → ℕ → ℕ → List Item → List Element
+directory_elements id first last records = front_elements id first last ++ (records_element records ∷ [])
 
 -- the class of directories, Media Storage Directory Storage (PS3.4 annex I.4, PS3.6 annex A)
 abbrev pub directory_class : List ℕ
@@ -40,4 +40,4 @@ meta_of label = record { class = directory_class; instance = label.uid; transfer
 -- the bytes before the first record
 abbrev pub first_offset : Label → ℕ
 first_offset label =
-    length (head_text (meta_of label)) + length (elements_text (elements_of (directory_entries label.id 0 0 [])))
+    length (head_text (meta_of label)) + length (elements_text (elements_of (directory_elements label.id 0 0 [])))

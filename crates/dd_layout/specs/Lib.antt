@@ -1,6 +1,6 @@
 pub mod Cells
 pub mod Directory
-pub mod Entries
+pub mod ElementForms
 pub mod Layouts
 pub mod Levels
 pub mod Limits

@@ -9,7 +9,7 @@ use Rattle.dd_layout.specs.declared.level.Level.TheVariants.{Patient, Study, Ser
 use Rattle.dd_layout.specs.declared.record.PlanRecord.{PlanRecord}
 use Rattle.dd_layout.specs.Directory.{first_offset}
 use Rattle.dd_layout.specs.Paths.{Path, leads_to}
-use Rattle.dd_layout.specs.Records.{record_entries}
+use Rattle.dd_layout.specs.Records.{record_elements}
 use Rattle.dd_layout.specs.Sizes.{record_size}
 use Rattle.dd_layout.specs.Tree.{tree_of, ranks_along, offset, next_sibling, first_child}
 use Rattle.dd_layout.specs.Withdrawals.{withdrawals_size}
@@ -51,7 +51,7 @@ file_of paths x = file_by (ranks_along paths x)
 -- the size of the record with the keys of this version, which its links do not change
 abbrev pub size_of : List Path → Path → Option Parts → ℕ
 size_of paths x None = 0
-size_of paths x (Some version) = record_size (record_entries (level_of x) 0 0 (file_of paths x) version)
+size_of paths x (Some version) = record_size (record_elements (level_of x) 0 0 (file_of paths x) version)
 
 abbrev pub record_size_at : List Parts → Path → ℕ
 record_size_at versions x = size_of (tree versions) x (slice_get versions (least_below versions x))

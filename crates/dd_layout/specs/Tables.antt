@@ -9,7 +9,7 @@ use Rattle.dd_layout.specs.declared.field.Field.TheVariants as holds
 use Rattle.dd_layout.specs.declared.level.Level.{Level}
 use Rattle.dd_layout.specs.declared.level.Level.TheVariants.{Patient, Study, Series, Image}
 use Rattle.dd_layout.specs.declared.table.Row.{Row}
-use Rattle.dd_layout.specs.Entries.{tag}
+use Rattle.dd_layout.specs.ElementForms.{tag}
 
 -- the element with this tag and this value representation, which holds this
 abbrev pub row : Tag → Vr → Field → Row

@@ -3,8 +3,8 @@
 ghost use Rattle.std.specs.Prelude.{◌≡◌, ◌++◌, ◌≤◌, ◌∷◌, [], length, if◌then◌else◌};
 ghost use Rattle.byteorder.specs.Endian.{little_bytes};
 ghost use Rattle.dd_elem.specs.Vr.{is_long_of};
-ghost use Rattle.dd_layout.specs.Cells.{IsShort, bare_value, cell_entry, even_value};
-ghost use Rattle.dd_layout.specs.Sizes.{entries_size};
+ghost use Rattle.dd_layout.specs.Cells.{IsShort, bare_value, cell_element, even_value};
+ghost use Rattle.dd_layout.specs.Sizes.{elements_size};
 
 use byteorder::{ByteOrder, LittleEndian};
 use dd_elem::{Tag, Vr};
@@ -74,7 +74,7 @@ impl CellValue<'_> {
 impl Cell<'_> {
     /// How many bytes the element has: its header, its value and the padding (PS3.5 section 7.1.2).
     pub fn size(&self) -> u64
-        ensures { result ≡ entries_size (cell_entry self.now ∷ []) }
+        ensures { result ≡ elements_size (cell_element self.now ∷ []) }
     {
         let value = self.value.as_bytes().len() + self.value.padding().len();
         header_size(self.vr) + value as u64

@@ -2,7 +2,7 @@
 
 ghost use Rattle.std.specs.Prelude.{◌≡◌, IfSome};
 ghost use Rattle.dd_layout.specs.Cells.{IsShort, cell_values, charset_of, charset_values, even_value, field_values};
-ghost use Rattle.dd_layout.specs.Entries.{padded};
+ghost use Rattle.dd_layout.specs.ElementForms.{padded};
 ghost use Rattle.dd_layout.specs.Records.{file_text};
 
 use crate::cell::{CellValue, long_value};

@@ -3,9 +3,9 @@
 ghost use Rattle.std.specs.Prelude.{◌≡◌, ◌≤◌, map};
 ghost use Rattle.dd_elem.specs.SetId.{IsSetId};
 ghost use Rattle.dd_elem.specs.Uid.{IsUid};
-ghost use Rattle.dd_layout.specs.Cells.{cell_entry};
-ghost use Rattle.dd_layout.specs.Directory.{first_offset, front_entries};
-ghost use Rattle.dd_layout.specs.Sizes.{entries_size};
+ghost use Rattle.dd_layout.specs.Cells.{cell_element};
+ghost use Rattle.dd_layout.specs.Directory.{first_offset, front_elements};
+ghost use Rattle.dd_layout.specs.Sizes.{elements_size};
 
 use crate::cell::{Cell, CellValue, header_size, long_value};
 use crate::label::Label;
@@ -51,7 +51,7 @@ pub const RECORDS: Tag = Tag {
 /// The elements of a directory before its records, where `first` and `last` are the offsets of the
 /// first and of the last root record, or 0 (PS3.3 sections F.3.2.1 and F.3.2.2).
 pub fn front_cells(label: &Label, first: u32, last: u32) -> [Cell<'_>; 4]
-    ensures exact { map cell_entry result ≡ front_entries label.now.id first last }
+    ensures exact { map cell_element result ≡ front_elements label.now.id first last }
     ensures id { IsSetId label.now.id }
 {
     [
@@ -83,7 +83,7 @@ pub fn first_offset(label: &Label) -> u64
 /// How many bytes the elements before the records have: four headers of 8, an ID of at most 16, two
 /// offsets of 4, and a flag of 2.
 fn front_size(label: &Label) -> u64
-    ensures exact { result ≡ entries_size (front_entries label.now.id 0 0) }
+    ensures exact { result ≡ elements_size (front_elements label.now.id 0 0) }
     ensures few { result ≤ 58 }
     ensures id { IsSetId label.now.id }
 {

@@ -6,9 +6,9 @@ ghost use Rattle.dd_elem.specs.FileId.{Ranks};
 ghost use Rattle.dd_encoding.specs.Elements.{elements_of};
 ghost use Rattle.dd_encoding.specs.Spelling.{AreElements};
 ghost use Rattle.dd_encoding.specs.declared.syntax.Syntax.TheVariants.{Explicit};
-ghost use Rattle.dd_layout.specs.Cells.{IsShortEntry, table_entries};
-ghost use Rattle.dd_layout.specs.Records.{IsFileOf, record_entries};
-ghost use Rattle.dd_layout.specs.Sizes.{entries_size, record_size};
+ghost use Rattle.dd_layout.specs.Cells.{IsShortElement, table_elements};
+ghost use Rattle.dd_layout.specs.Records.{IsFileOf, record_elements};
+ghost use Rattle.dd_layout.specs.Sizes.{elements_size, record_size};
 
 use crate::level::Level;
 use crate::record::PlanRecord;
@@ -25,10 +25,10 @@ const ITEM_HEADER: u64 = HEADER_SIZE as u64;
 /// behind the 8 of the Item tag and length, so 12,000 are never passed.
 pub fn record_size(level: Level, parts: &Parts) -> u64
     ensures exact { (next lower : ℕ) (file : Option Ranks) → IsFileOf level file
-        → result ≡ record_size (record_entries level next lower file parts.now) }
+        → result ≡ record_size (record_elements level next lower file parts.now) }
     ensures few { result ≤ 12000 }
     ensures valid { (levels next lower : ℕ) (file : Option Ranks) → IsFileOf level file
-        → AreElements Explicit levels 0 (elements_of (record_entries level next lower file parts.now)) }
+        → AreElements Explicit levels 0 (elements_of (record_elements level next lower file parts.now)) }
 {
     ITEM_HEADER + cells_size(rows(level), &unlinked(level), parts)
 }
@@ -56,11 +56,11 @@ fn unlinked(level: Level) -> PlanRecord
 /// 1,024.
 fn cells_size(mut rows: &[Row], planned: &PlanRecord, parts: &Parts) -> u64
     requires { length rows.now ≤ 11 }
-    ensures exact { result ≡ entries_size
-        (table_entries rows.entry.now planned.now.level planned.now.next planned.now.lower planned.now.file parts.now) }
+    ensures exact { result ≡ elements_size
+        (table_elements rows.entry.now planned.now.level planned.now.next planned.now.lower planned.now.file parts.now) }
     ensures few { result ≤ 1036 * length rows.entry.now }
-    ensures short { AllByRecursion IsShortEntry
-        (table_entries rows.entry.now planned.now.level planned.now.next planned.now.lower planned.now.file parts.now) }
+    ensures short { AllByRecursion IsShortElement
+        (table_elements rows.entry.now planned.now.level planned.now.next planned.now.lower planned.now.file parts.now) }
 {
     let mut size = 0;
     while let [row, rest @ ..] = rows {

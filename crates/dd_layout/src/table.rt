@@ -3,8 +3,8 @@
 ghost use Rattle.std.specs.Prelude.{◌≡◌, ◌≤◌, ℕ, Option, IfSome, length};
 ghost use Rattle.dd_elem.specs.FileId.{Ranks};
 ghost use Rattle.dd_version.specs.declared.parts.Parts.{Parts};
-ghost use Rattle.dd_layout.specs.Cells.{IsShort, cell_entries, even_value, row_entries, table_entries};
-ghost use Rattle.dd_layout.specs.Records.{record_entries};
+ghost use Rattle.dd_layout.specs.Cells.{IsShort, cell_elements, even_value, row_elements, table_elements};
+ghost use Rattle.dd_layout.specs.Records.{record_elements};
 ghost use Rattle.dd_layout.specs.Tables.{table_of};
 
 use crate::cell::Cell;
@@ -29,8 +29,8 @@ impl Row {
     /// The element of a record of these parts, and None where it has none: where there is no character
     /// set.
     pub fn cell<'a>(&self, planned: &PlanRecord, parts: &'a Parts) -> Option<Cell<'a>>
-        ensures exact { cell_entries result
-            ≡ row_entries self.now planned.now.level planned.now.next planned.now.lower planned.now.file parts.now }
+        ensures exact { cell_elements result
+            ≡ row_elements self.now planned.now.level planned.now.next planned.now.lower planned.now.file parts.now }
         ensures short { IfSome result (λ cell. IsShort (even_value cell.value)) }
     {
         let value = self.field.value(planned, parts)?;
@@ -45,7 +45,7 @@ impl Row {
 /// The elements of a record of this level, in order (PS3.3 section F.3.2.2 and annex F.5).
 pub fn rows(level: Level) -> &'static [Row]
     ensures exact { (next lower : ℕ) (file : Option Ranks) (parts : Parts)
-        → table_entries result.now level next lower file parts ≡ record_entries level next lower file parts }
+        → table_elements result.now level next lower file parts ≡ record_elements level next lower file parts }
     ensures few { length result.now ≤ 11 }
     ensures listed { result.now ≡ table_of level }
 {

@@ -3,8 +3,8 @@
 ghost use Rattle.std.specs.Prelude.{◌≡◌, ◌+◌, ◌*◌, ◌≤◌, length, sum_by};
 ghost use Rattle.std.specs.List.{AllByRecursion};
 ghost use Rattle.dd_elem.specs.Uid.{IsUid};
-ghost use Rattle.dd_layout.specs.Cells.{IsShort, cell_entry, even_value};
-ghost use Rattle.dd_layout.specs.Withdrawals.{creator_entry, withdrawals_size, withdrawn_value};
+ghost use Rattle.dd_layout.specs.Cells.{IsShort, cell_element, even_value};
+ghost use Rattle.dd_layout.specs.Withdrawals.{creator_element, withdrawals_size, withdrawn_value};
 
 use crate::cell::{Cell, CellValue, header_size};
 use crate::field::PRIVATE_CREATOR;
@@ -20,7 +20,7 @@ pub const WITHDRAWN: Tag = Tag {
 
 /// The creator of the block of private elements that the withdrawn UIDs stand in (PS3.5 section 7.8.1).
 pub fn creator_cell() -> Cell<'static>
-    ensures exact { cell_entry result ≡ creator_entry }
+    ensures exact { cell_element result ≡ creator_element }
     ensures short { IsShort (even_value result.value) }
 {
     Cell {

@@ -17,8 +17,8 @@ use Rattle.dd_elem.proofs.UidForm.{IsUid_from_is_uid}
 use Rattle.dd_encoding.specs.declared.syntax.Syntax.{Syntax}
 use Rattle.dd_encoding.specs.declared.syntax.Syntax.TheVariants.{Explicit}
 use Rattle.dd_stream.specs.Bytes.{AreBytes}
-use Rattle.dd_encoding.specs.Elements.{Elements, no_elements, element, Content, bytes, items, fragments, Entry}
-use Rattle.dd_set.specs.Find.{same_tag, entries_of, find_in}
+use Rattle.dd_encoding.specs.Elements.{Elements, no_elements, element, Content, bytes, items, fragments, Element}
+use Rattle.dd_set.specs.Find.{same_tag, element_list, find_in}
 use Rattle.dd_set.specs.Reading.{read_all}
 use Rattle.dd_encoding.specs.Spelling.{Spells, header_text}
 use Rattle.dd_set.proofs.SoundItems.{all_takes}
@@ -159,7 +159,7 @@ length_takes bs x fits e =
 
 -- a value that is a UID
 content_holds : (group : Elements) (tag : Tag) (vr : Option Vr) (content : Content) (uid : List ℕ)
-    → Contains (entries_of group) (record { tag = tag; vr = vr; content = content }) → uid_of tag content ≡ Ok uid
+    → Contains (element_list group) (record { tag = tag; vr = vr; content = content }) → uid_of tag content ≡ Ok uid
     → HasMetaUid group tag uid
 content_holds group tag vr (items form parts) uid holds e = absurd cc
 content_holds group tag vr (fragments fs) uid holds e = absurd cc
@@ -178,14 +178,14 @@ content_holds group tag vr (bytes v) uid holds e =
 uid_takes : (tag : Tag) (group : Elements) (uid : List ℕ) → uid_at tag group ≡ Ok uid → HasMetaUid group tag uid
 unfolding uid_at
 uid_takes tag group uid e =
-    let a = bind_ok (ok_or (find_in tag group) (MetaMissing tag)) (λ (x : Entry). uid_of tag x.content) uid e in
+    let a = bind_ok (ok_or (find_in tag group) (MetaMissing tag)) (λ (x : Element). uid_of tag x.content) uid e in
     let found : find_in tag group ≡ Some a.0 = there (find_in tag group) (MetaMissing tag) a.0 a.1 in
     let same : a.0.tag ≡ tag = same_tag-is a.0.tag tag
-    (found_passes (λ (x : Entry). same_tag x.tag tag) (entries_of group) a.0 found) in
-    let holds : Contains (entries_of group) a.0 = found_there (λ (x : Entry). same_tag x.tag tag)
-    (entries_of group) a.0 found in
-    let tagged : Contains (entries_of group) (record { tag = tag; vr = a.0.vr; content = a.0.content }) =
-    subst (λ (t : Tag). Contains (entries_of group) (record { tag = t; vr = a.0.vr; content = a.0.content })) same holds
+    (found_passes (λ (x : Element). same_tag x.tag tag) (element_list group) a.0 found) in
+    let holds : Contains (element_list group) a.0 = found_there (λ (x : Element). same_tag x.tag tag)
+    (element_list group) a.0 found in
+    let tagged : Contains (element_list group) (record { tag = tag; vr = a.0.vr; content = a.0.content }) =
+    subst (λ (t : Tag). Contains (element_list group) (record { tag = t; vr = a.0.vr; content = a.0.content })) same holds
     in
     content_holds group tag a.0.vr a.0.content uid tagged a.2
 
@@ -201,7 +201,7 @@ uids_take group meta alone e =
     (λ (i : List ℕ). ◌>>=◌ (uid_at transfer_tag group) (λ (t : List ℕ). Ok (made a.0 i t))) meta a.2 in
     let c = bind_ok (uid_at transfer_tag group) (λ (t : List ℕ). Ok (made a.0 b.0 t)) meta b.2 in
     let holds : IsMeta group (made a.0 b.0 c.0) = record {
-      alone = alone_from (entries_of group) alone;
+      alone = alone_from (element_list group) alone;
       class = uid_takes class_tag group a.0 a.1;
       instance = uid_takes instance_tag group b.0 b.1;
       transfer = uid_takes transfer_tag group c.0 c.1;

@@ -12,8 +12,8 @@ use Rattle.dd_elem.proofs.Cleaning.{clean_of-append_padding, IsCleanOf_from_is}
 use Rattle.dd_elem.specs.declared.tag.Tag.{Tag}
 use Rattle.dd_encoding.specs.declared.syntax.Syntax.{Syntax}
 use Rattle.dd_encoding.specs.declared.syntax.Syntax.TheVariants.{Explicit}
-use Rattle.dd_encoding.specs.Elements.{Elements, no_elements, bytes, Entry}
-use Rattle.dd_set.specs.Find.{entries_of}
+use Rattle.dd_encoding.specs.Elements.{Elements, no_elements, bytes, Element}
+use Rattle.dd_set.specs.Find.{element_list}
 use Rattle.dd_encoding.specs.Spelling.{Spells, AreElements, IsContent, max_levels}
 use Rattle.dd_encoding.specs.declared.meta.Meta.{Meta}
 use Rattle.dd_encoding.specs.Head.{prefix, group_length_text}
@@ -127,7 +127,7 @@ group_valid meta class instance transfer =
 
 -- a UID is in a group that contains its element
 has_uid : (group : Elements) (tag : Tag) (uid : List ℕ) → IsUid uid
-    → Contains (entries_of group) (record { tag = tag; vr = Some UI; content = bytes (padded uid) })
+    → Contains (element_list group) (record { tag = tag; vr = Some UI; content = bytes (padded uid) })
     → HasMetaUid group tag uid
 has_uid group tag uid valid holds = record {
   vr = Some UI;
@@ -140,13 +140,13 @@ has_uid group tag uid valid holds = record {
 -- the group holds the meta information
 group_holds : (meta : Meta) → IsUid meta.class → IsUid meta.instance → IsUid meta.transfer → IsMeta (group_of meta) meta
 group_holds meta class instance transfer =
-    let c : Entry = record { tag = class_tag; vr = Some UI; content = bytes (padded meta.class) } in
-    let i : Entry = record { tag = instance_tag; vr = Some UI; content = bytes (padded meta.instance) } in
-    let t : Entry = record { tag = transfer_tag; vr = Some UI; content = bytes (padded meta.transfer) } in
-    let m : Entry = record { tag = implementation_tag; vr = Some UI; content = bytes (padded implementation_uid) } in
-    let v : Entry = record { tag = version_tag; vr = Some OB; content = bytes (0x00 ∷ 0x01 ∷ []) } in
+    let c : Element = record { tag = class_tag; vr = Some UI; content = bytes (padded meta.class) } in
+    let i : Element = record { tag = instance_tag; vr = Some UI; content = bytes (padded meta.instance) } in
+    let t : Element = record { tag = transfer_tag; vr = Some UI; content = bytes (padded meta.transfer) } in
+    let m : Element = record { tag = implementation_tag; vr = Some UI; content = bytes (padded implementation_uid) } in
+    let v : Element = record { tag = version_tag; vr = Some OB; content = bytes (0x00 ∷ 0x01 ∷ []) } in
     record {
-      alone = alone_from (entries_of (group_of meta)) refl;
+      alone = alone_from (element_list (group_of meta)) refl;
       class = has_uid (group_of meta) class_tag meta.class class
           (contains_later v c (c ∷ i ∷ t ∷ m ∷ []) (contains_first c (i ∷ t ∷ m ∷ [])));
       instance = has_uid (group_of meta) instance_tag meta.instance instance

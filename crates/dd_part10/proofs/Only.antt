@@ -15,8 +15,8 @@ use Rattle.dd_elem.proofs.Cleaning.{same_from_IsCleanOf}
 use Rattle.dd_elem.proofs.UidForm.{is_uid_from_IsUid}
 use Rattle.dd_encoding.specs.declared.syntax.Syntax.{Syntax}
 use Rattle.dd_encoding.specs.declared.syntax.Syntax.TheVariants.{Explicit}
-use Rattle.dd_encoding.specs.Elements.{Elements, no_elements, element, bytes, Entry}
-use Rattle.dd_set.specs.Find.{entries_of, find_in}
+use Rattle.dd_encoding.specs.Elements.{Elements, no_elements, element, bytes, Element}
+use Rattle.dd_set.specs.Find.{element_list, find_in}
 use Rattle.dd_set.specs.Reading.{read_all}
 use Rattle.dd_encoding.specs.Spelling.{Spells, header_text, max_levels, AreElements}
 use Rattle.dd_set.proofs.Again.{all_again}
@@ -102,10 +102,10 @@ uid_again : (tag : Tag) (group : Elements) (uid : List ℕ) → AreElements Expl
     → HasMetaUid group tag uid → uid_at tag group ≡ Ok uid
 unfolding uid_at
 uid_again tag group uid valid h =
-    let e : Entry = record { tag = tag; vr = h.vr; content = bytes h.value } in
-    let next : Entry → Result (List ℕ) FileFault = λ x. uid_of tag x.content in
+    let e : Element = record { tag = tag; vr = h.vr; content = bytes h.value } in
+    let next : Element → Result (List ℕ) FileFault = λ x. uid_of tag x.content in
     let found : ok_or (find_in tag group) (MetaMissing tag)
-    ≡ Ok e = ap (λ (o : Option Entry). ok_or o (MetaMissing tag))
+    ≡ Ok e = ap (λ (o : Option Element). ok_or o (MetaMissing tag))
     (found_in Explicit max_levels 0 group e valid h.holds) in
     let same : clean_of h.value ≡ uid = sym (same_from_IsCleanOf h.value uid h.is) in
     let is : is_uid (clean_of h.value) ≡ true = is_uid_from_IsUid (clean_of h.value)
@@ -143,7 +143,7 @@ meta_again text group meta spelled h =
     let read : with_fault faults.Meta (read_all Explicit text)
     ≡ Ok group = ap (λ r. with_fault faults.Meta r) (read_again Explicit group text spelled) in
     onward (with_fault faults.Meta (read_all Explicit text)) group next read
-    ∙ into (is_alone group) (uids_in group) (Err GroupLength) (alone_to (entries_of group) h.alone)
+    ∙ into (is_alone group) (uids_in group) (Err GroupLength) (alone_to (element_list group) h.alone)
     ∙ uids_again group meta spelled.valid h
 
 -- ---- the data set

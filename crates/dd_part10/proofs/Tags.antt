@@ -8,8 +8,8 @@ use Rattle.std.proofs.lemmas.List.Elements.{All-nil, All-cons, All-head, All-tai
 use Rattle.dd_elem.specs.declared.tag.Tag.{Tag}
 use Rattle.dd_elem.specs.Tag.{number_of}
 use Rattle.dd_encoding.specs.declared.syntax.Syntax.{Syntax}
-use Rattle.dd_encoding.specs.Elements.{Elements, no_elements, element, Entry}
-use Rattle.dd_set.specs.Find.{same_tag, find_in, entries_of}
+use Rattle.dd_encoding.specs.Elements.{Elements, no_elements, element, Element}
+use Rattle.dd_set.specs.Find.{same_tag, find_in, element_list}
 use Rattle.dd_encoding.specs.Spelling.{AreElements}
 use Rattle.dd_set.proofs.Steps.{chosen, some_is}
 use Rattle.dd_encoding.specs.Meta.{meta_group}
@@ -68,28 +68,28 @@ same_tag-other t u less = elim (same_tag t u) as (λ b. same_tag t u ≡ b → b
 ] refl
 
 -- no element of a set has a lower tag than the set may have
-pub low_below : (syntax : Syntax) (levels low : ℕ) (set : Elements) (e : Entry) → AreElements syntax levels low set
-    → Contains (entries_of set) e → low ≤ number_of e.tag
+pub low_below : (syntax : Syntax) (levels low : ℕ) (set : Elements) (e : Element) → AreElements syntax levels low set
+    → Contains (element_list set) e → low ≤ number_of e.tag
 low_below syntax levels low no_elements e h there = absurd (omega (arith, there.1))
 low_below syntax levels low (element tag vr content rest) e h there =
-    elim (contains_cases (record { tag = tag; vr = vr; content = content }) e (entries_of rest) there) [
+    elim (contains_cases (record { tag = tag; vr = vr; content = content }) e (element_list rest) there) [
       | inl is ↦ let same : number_of tag ≡ number_of e.tag =
-          ap (λ (x : Entry). number_of x.tag) is in omega (arith, h.0, same)
+          ap (λ (x : Element). number_of x.tag) is in omega (arith, h.0, same)
       | inr later ↦ let more : number_of tag + 1 ≤ number_of e.tag =
           low_below syntax levels (number_of tag + 1) rest e h.6 later in omega (arith, h.0, more)
     ]
 
 -- an element of a set is what a search for its tag finds
-pub found_in : (syntax : Syntax) (levels low : ℕ) (set : Elements) (e : Entry) → AreElements syntax levels low set
-    → Contains (entries_of set) e → find_in e.tag set ≡ Some e
+pub found_in : (syntax : Syntax) (levels low : ℕ) (set : Elements) (e : Element) → AreElements syntax levels low set
+    → Contains (element_list set) e → find_in e.tag set ≡ Some e
 found_in syntax levels low no_elements e h there = absurd (omega (arith, there.1))
 found_in syntax levels low (element tag vr content rest) e h there =
-    let first : Entry = record { tag = tag; vr = vr; content = content } in
-    elim (contains_cases first e (entries_of rest) there) [
+    let first : Element = record { tag = tag; vr = vr; content = content } in
+    elim (contains_cases first e (element_list rest) there) [
       | inl is ↦
-          let hit : same_tag tag e.tag ≡ true = subst (λ (x : Entry). same_tag tag x.tag ≡ true) is
+          let hit : same_tag tag e.tag ≡ true = subst (λ (x : Element). same_tag tag x.tag ≡ true) is
           (same_tag-itself tag) in
-          rw hit (ap (λ (x : Entry). Some x) is)
+          rw hit (ap (λ (x : Element). Some x) is)
       | inr later ↦
           let more : number_of tag + 1 ≤ number_of e.tag = low_below syntax levels
           (number_of tag + 1) rest e h.6 later in
@@ -100,11 +100,11 @@ found_in syntax levels low (element tag vr content rest) e h there =
 -- ---- a group that is alone
 
 -- an element of group 0002 that is no group length
-abbrev pub IsAlone : Entry → Type 0
+abbrev pub IsAlone : Element → Type 0
 IsAlone e = (e.tag.group ≡ meta_group) × (e.tag.element ≢ 0x0000)
 
 -- an element that passes the test
-one_alone : (e : Entry) → is_meta_tag e.tag ≡ true → IsAlone e
+one_alone : (e : Element) → is_meta_tag e.tag ≡ true → IsAlone e
 one_alone e h =
     let p = and_parts (e.tag.group == meta_group) (not (e.tag.element == 0x0000)) h in (
       eqb-true _ _ p.0,
@@ -113,20 +113,20 @@ one_alone e h =
     )
 
 -- and one that has to
-alone_one : (e : Entry) → IsAlone e → is_meta_tag e.tag ≡ true
+alone_one : (e : Element) → IsAlone e → is_meta_tag e.tag ≡ true
 alone_one e h =
     let group : (e.tag.group == meta_group) ≡ true = eq-eqb _ _ h.0 in
     let other : (e.tag.element == 0x0000) ≡ false = neq_eqb e.tag.element 0x0000 h.1 in
     rw (group, other) refl
 
 -- elements that all pass the test
-pub alone_from : (es : List Entry) → list_all (λ e. is_meta_tag e.tag) es ≡ true → All IsAlone es
+pub alone_from : (es : List Element) → list_all (λ e. is_meta_tag e.tag) es ≡ true → All IsAlone es
 alone_from [] e = All-nil IsAlone
 alone_from (x ∷ es) e =
     let p = and_parts (is_meta_tag x.tag) (list_all (λ y. is_meta_tag y.tag) es) e in
     All-cons IsAlone x es (one_alone x p.0) (alone_from es p.1)
 
 -- and those that have to
-pub alone_to : (es : List Entry) → All IsAlone es → list_all (λ e. is_meta_tag e.tag) es ≡ true
+pub alone_to : (es : List Element) → All IsAlone es → list_all (λ e. is_meta_tag e.tag) es ≡ true
 alone_to [] h = refl
 alone_to (x ∷ es) h = rw (alone_one x (All-head IsAlone x es h), alone_to es (All-tail IsAlone x es h)) refl

@@ -6,21 +6,21 @@ use Rattle.dd_elem.specs.declared.tag.Tag.{Tag}
 use Rattle.dd_elem.specs.declared.vr.Vr.{Vr}
 use Rattle.dd_encoding.specs.Elements.{Elements, bytes}
 use Rattle.dd_encoding.specs.Meta.{meta_group, class_tag, instance_tag, transfer_tag}
-use Rattle.dd_set.specs.Find.{entries_of}
+use Rattle.dd_set.specs.Find.{element_list}
 use Rattle.dd_encoding.specs.declared.meta.Meta.{Meta}
 
 -- an element with this tag holds bytes, which are this UID and padding
 pub record HasMetaUid (group : Elements) (tag : Tag) (uid : List ℕ) : Type 0 where
   pub vr : Option Vr
   pub value : List ℕ
-  pub holds : Contains (entries_of group) (record { tag = tag; vr = vr; content = bytes value })
+  pub holds : Contains (element_list group) (record { tag = tag; vr = vr; content = bytes value })
   pub is : IsCleanOf value uid
   pub valid : IsUid uid
 
 -- the elements behind the group length are of group 0002 alone, none is the group length again, and they hold the meta
 -- information
 pub record IsMeta (group : Elements) (meta : Meta) : Type 0 where
-  pub alone : All (λ e. (e.tag.group ≡ meta_group) × (e.tag.element ≢ 0x0000)) (entries_of group)
+  pub alone : All (λ e. (e.tag.group ≡ meta_group) × (e.tag.element ≢ 0x0000)) (element_list group)
   pub class : HasMetaUid group class_tag meta.class
   pub instance : HasMetaUid group instance_tag meta.instance
   pub transfer : HasMetaUid group transfer_tag meta.transfer

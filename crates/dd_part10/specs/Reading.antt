@@ -12,7 +12,7 @@ use Rattle.dd_set.specs.declared.fault.SetFault.{SetFault}
 use Rattle.dd_encoding.specs.declared.syntax.Syntax.{Syntax}
 use Rattle.dd_encoding.specs.declared.syntax.Syntax.TheVariants.{Explicit}
 use Rattle.dd_encoding.specs.Elements.{Elements, Content, bytes, items, fragments}
-use Rattle.dd_set.specs.Find.{entries_of, find_in}
+use Rattle.dd_set.specs.Find.{element_list, find_in}
 use Rattle.dd_set.specs.Reading.{read_all, ◌>>=◌}
 use Rattle.dd_set.specs.Scan.{first_of}
 use Rattle.dd_encoding.specs.Spelling.{header_text}
@@ -72,7 +72,7 @@ abbrev pub is_meta_tag : Tag → Bool
 is_meta_tag tag = (tag.group == meta_group) && not (tag.element == 0x0000)
 
 abbrev pub is_alone : Elements → Bool
-is_alone group = list_all (λ e. is_meta_tag e.tag) (entries_of group)
+is_alone group = list_all (λ e. is_meta_tag e.tag) (element_list group)
 
 -- the UID that the first element with a tag holds
 abbrev pub uid_of : Tag → Content → Result (List ℕ) FileFault

@@ -6,11 +6,11 @@ use Rattle.dd_elem.specs.declared.tag.Tag.{Tag}
 use Rattle.dd_set.specs.declared.found.Found.{Found}
 use Rattle.dd_set.specs.declared.found.FoundValue.{FoundValue}
 use Rattle.dd_set.specs.declared.found.FoundValue.TheVariants.{Items, Fragments, Bytes}
-use Rattle.dd_encoding.specs.Elements.{Elements, Content, bytes, items, fragments, Entry}
-use Rattle.dd_set.specs.Find.{same_tag, entries_of}
+use Rattle.dd_encoding.specs.Elements.{Elements, Content, bytes, items, fragments, Element}
+use Rattle.dd_set.specs.Find.{same_tag, element_list}
 use Rattle.dd_set.specs.Scan.{Hit, summary_length, found_summary, summary_of, hit_of, is_wanted, hits_of, found_hit}
 use Rattle.dd_part10.proofs.Tags.{same_tag-is}
-use Rattle.dd_keys.specs.Values.{content_value, entry_value}
+use Rattle.dd_keys.specs.Values.{content_value, element_value}
 use Rattle.dd_dir.specs.Saying.{key_of}
 
 -- what is kept of a value shows it
@@ -40,12 +40,12 @@ value_shows Fragments (items form parts) h = absurd (cc)
 value_shows Fragments (fragments fs) h = refl
 
 -- one entry more, which may be wanted and may be the one at the tag
-step : (keeps same : Bool) (tag : Tag) (e : Entry) (kept : List Entry) (other : Option Entry) (founds : List Found)
+step : (keeps same : Bool) (tag : Tag) (e : Element) (kept : List Element) (other : Option Element) (founds : List Found)
     → same_tag e.tag tag ≡ same → (same ≡ true → keeps ≡ true)
     → ((some : List Found) → map found_hit some ≡ map hit_of kept
-    → FoundShows (first_at tag some) (unwrap_or (entry_value other) []))
+    → FoundShows (first_at tag some) (unwrap_or (element_value other) []))
     → map found_hit founds ≡ map hit_of (if keeps then (e ∷ kept) else kept)
-    → FoundShows (first_at tag founds) (unwrap_or (entry_value (if same then Some e else other)) [])
+    → FoundShows (first_at tag founds) (unwrap_or (element_value (if same then Some e else other)) [])
 step true true tag e kept other [] is wanted others h = absurd (cc)
 step true true tag e kept other (found ∷ founds) is wanted others h =
     let first : found_hit found ≡ hit_of e = cc in
@@ -61,21 +61,21 @@ step true false tag e kept other (found ∷ founds) is wanted others h =
 step false true tag e kept other founds is wanted others h = let no = wanted refl in absurd (cc)
 step false false tag e kept other founds is wanted others h = others founds h
 
-entries_show : (wanted : List Tag) (tag : Tag) → is_wanted wanted tag ≡ true → (es : List Entry) (founds : List Found)
+elements_show : (wanted : List Tag) (tag : Tag) → is_wanted wanted tag ≡ true → (es : List Element) (founds : List Found)
     → map found_hit founds ≡ map hit_of (filter (λ e. is_wanted wanted e.tag) es)
-    → FoundShows (first_at tag founds) (unwrap_or (entry_value (find (λ e. same_tag e.tag tag) es)) [])
-entries_show wanted tag is [] [] h = refl
-entries_show wanted tag is [] (found ∷ founds) h = absurd (cc)
-entries_show wanted tag is (e ∷ es) founds h =
+    → FoundShows (first_at tag founds) (unwrap_or (element_value (find (λ e. same_tag e.tag tag) es)) [])
+elements_show wanted tag is [] [] h = refl
+elements_show wanted tag is [] (found ∷ founds) h = absurd (cc)
+elements_show wanted tag is (e ∷ es) founds h =
     step (is_wanted wanted e.tag) (same_tag e.tag tag) tag e (filter (λ e. is_wanted wanted e.tag) es)
     (find (λ e. same_tag e.tag tag) es) founds refl
-    (λ same. ap (is_wanted wanted) (same_tag-is e.tag tag same) ∙ is) (entries_show wanted tag is es) h
+    (λ same. ap (is_wanted wanted) (same_tag-is e.tag tag same) ∙ is) (elements_show wanted tag is es) h
 
 -- the first one found with a wanted tag shows the value there
 pub found_shows : (wanted : List Tag) (tag : Tag) (set : Elements) (founds : List Found)
     → map found_hit founds ≡ hits_of wanted set → is_wanted wanted tag ≡ true
     → FoundShows (first_at tag founds) (key_of tag set)
-found_shows wanted tag set founds h is = entries_show wanted tag is (entries_of set) founds h
+found_shows wanted tag set founds h is = elements_show wanted tag is (element_list set) founds h
 
 -- ---- by what it holds
 

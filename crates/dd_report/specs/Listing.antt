@@ -10,7 +10,7 @@ use Rattle.dd_elem.specs.Device.{counted, last_count}
 use Rattle.dd_keys.specs.Values.{value_at}
 use Rattle.dd_encoding.specs.Elements.{Elements}
 use Rattle.dd_layout.specs.declared.level.Level.TheVariants.{Patient, Study, Series, Image}
-use Rattle.dd_layout.specs.Entries.{tag}
+use Rattle.dd_layout.specs.ElementForms.{tag}
 use Rattle.dd_layout.specs.Records.{kind_of}
 use Rattle.dd_dir.specs.ForestViews.{Branch}
 use Rattle.dd_dir.specs.Trees.{Node, Trees, Walk, no_trees, offsets, tree}

@@ -10,7 +10,7 @@ ghost use Rattle.dd_part10.specs.Faults.{SaysMemory};
 ghost use Rattle.dd_part10.specs.Memory.{IsRefused};
 ghost use Rattle.dd_part10.specs.Reading.{FileParts};
 ghost use Rattle.dd_part10.specs.Taking.{IsScanned};
-ghost use Rattle.dd_layout.specs.Entries.{tag};
+ghost use Rattle.dd_layout.specs.ElementForms.{tag};
 ghost use Rattle.dd_dir.specs.ForestViews.{tree_view};
 ghost use Rattle.dd_dir.specs.Saying.{key_of};
 ghost use Rattle.dd_dir.specs.Trees.{Node};

@@ -15,8 +15,8 @@ use Rattle.dd_encoding.specs.declared.syntax.Length.TheVariants.{Defined, Undefi
 use Rattle.dd_encoding.specs.declared.syntax.Syntax.{Syntax}
 use Rattle.dd_encoding.specs.Elements.{Elements, no_elements, element, Content, bytes, items, fragments, Items}
 use Rattle.dd_encoding.specs.Elements.{no_items}
-use Rattle.dd_encoding.specs.Elements.{item, Entry}
-use Rattle.dd_encoding.specs.Elements.{Part}
+use Rattle.dd_encoding.specs.Elements.{item, Element}
+use Rattle.dd_encoding.specs.Elements.{Item}
 use Rattle.dd_encoding.specs.Spelling.{undefined_length, delimiter_group, tag_text, item_tag_text, item_end_tag}
 use Rattle.dd_encoding.specs.Spelling.{item_end_text}
 use Rattle.dd_encoding.specs.Spelling.{sequence_end_text, length_of, closed, elements_text, content_text, items_text}
@@ -31,8 +31,8 @@ use Rattle.dd_set.specs.Reading.{next_items, items_at, part_at, sequence_with, s
 use Rattle.dd_set.proofs.Cut.{body_at, whole_element, element_is, whole_item, item_is}
 use Rattle.dd_set.proofs.Steps.{done, long_again}
 use Rattle.dd_set.proofs.Taken.{closed-append}
-use Rattle.dd_set.proofs.Sound.{content_body, content_length, content_parts, entry_text, IsEntry, part_body}
-use Rattle.dd_set.proofs.Sound.{part_length, part_text, IsPart}
+use Rattle.dd_set.proofs.Sound.{content_body, content_length, content_parts, element_text, IsElement, item_body}
+use Rattle.dd_set.proofs.Sound.{part_length, item_text, IsItem}
 use Rattle.dd_encoding.proofs.Even.{some_of, even_elements, even_items, closed_longer, element_least, length-item}
 use Rattle.dd_set.proofs.Before.{more, before, behind, before-append, before-none, fewer_not, past, into, onward}
 use Rattle.dd_set.proofs.Before.{take_again, within_again, Closes, over_not, tag_again, ShapeAgain, shape_again}
@@ -53,8 +53,8 @@ SetAgain d read = (syntax : Syntax) (form : Length) (set : Elements) (left : Opt
     (before left (closed form item_end_text (elements_text set)) rest) ≡ Ok (set, behind left rest)
 
 abbrev pub PartAgain : ℕ → ItemReader → Type 0
-PartAgain d read = (syntax : Syntax) (p : Part) (left : Option ℕ) (rest : List ℕ) → IsPart syntax d p
-    → read syntax (part_length p) (before left (part_body p) rest) ≡ Ok (p, behind left rest)
+PartAgain d read = (syntax : Syntax) (p : Item) (left : Option ℕ) (rest : List ℕ) → IsItem syntax d p
+    → read syntax (part_length p) (before left (item_body p) rest) ≡ Ok (p, behind left rest)
 
 module _ (d : ℕ) (sequence : SequenceReader) (law : SequenceAgain d sequence) where
   -- a defined length that the checks of a value pass
@@ -110,7 +110,7 @@ module _ (d : ℕ) (sequence : SequenceReader) (law : SequenceAgain d sequence) 
       (list_again fs left rest h.1)
 
   -- an element behind its first eight bytes, with the tag apart
-  body_of : Syntax → ℕ → Tag → List ℕ → At → Reads Entry
+  body_of : Syntax → ℕ → Tag → List ℕ → At → Reads Element
   body_of syntax low tag head at =
       if tag.group == delimiter_group then Err UnexpectedTag
       else (if nat_lt (number_of tag) low then Err Order
@@ -119,7 +119,7 @@ module _ (d : ℕ) (sequence : SequenceReader) (law : SequenceAgain d sequence) 
       (record { tag = tag; vr = shape.0.vr; content = x.0 }, x.1)))
 
   -- an element behind its first eight bytes
-  body_again : (syntax : Syntax) (low : ℕ) (e : Entry) (h : IsEntry syntax d low e)
+  body_again : (syntax : Syntax) (low : ℕ) (e : Element) (h : IsElement syntax d low e)
       (s : ShapeAgain (names_vr syntax) e.tag e.vr (content_length e.content)) (left : Option ℕ) (rest : List ℕ)
       → body_at sequence syntax low (tag_text e.tag ++ s.first) (before left (s.second ++ content_body e.content) rest)
       ≡ Ok (e, behind left rest)
@@ -154,17 +154,17 @@ module _ (d : ℕ) (sequence : SequenceReader) (law : SequenceAgain d sequence) 
       (ne_eqb tag.group item_end_tag.group ne)
 
   -- the parts of an element's text: its first eight bytes, and the rest
-  entry_split : (syntax : Syntax) (e : Entry) (s : ShapeAgain (names_vr syntax) e.tag e.vr (content_length e.content))
-      → entry_text e ≡ (tag_text e.tag ++ s.first) ++ (s.second ++ content_body e.content)
-  entry_split syntax e s =
+  element_split : (syntax : Syntax) (e : Element) (s : ShapeAgain (names_vr syntax) e.tag e.vr (content_length e.content))
+      → element_text e ≡ (tag_text e.tag ++ s.first) ++ (s.second ++ content_body e.content)
+  element_split syntax e s =
       ap (λ (y : List ℕ). tag_text e.tag ++ y) (content_parts e.vr e.content
       ∙ ap (λ (y : List ℕ). y ++ content_body e.content) s.whole
       ∙ append_assoc s.first s.second (content_body e.content))
       ∙ sym (append_assoc (tag_text e.tag) s.first (s.second ++ content_body e.content))
 
   -- an element
-  pub element_again : (syntax : Syntax) (form : Length) (low : ℕ) (e : Entry) (left : Option ℕ) (rest : List ℕ)
-      → IsEntry syntax d low e → element_at sequence syntax form low (before left (entry_text e) rest) ≡ Ok
+  pub element_again : (syntax : Syntax) (form : Length) (low : ℕ) (e : Element) (left : Option ℕ) (rest : List ℕ)
+      → IsElement syntax d low e → element_at sequence syntax form low (before left (element_text e) rest) ≡ Ok
       (Some e, behind left rest)
   unfolding whole_element
   element_again syntax form low e left rest h =
@@ -179,7 +179,7 @@ module _ (d : ℕ) (sequence : SequenceReader) (law : SequenceAgain d sequence) 
       let took : take_at 8 start ≡ Ok (head, middle) = ap (λ (at : At). take_at 8 at)
       (before-append left head tail rest) ∙ take_again 8 (more left (length tail)) head (tail ++ rest) eight in
       element_is sequence syntax form low _
-      ∙ ap (λ (y : List ℕ). whole_element sequence syntax form low (before left y rest)) (entry_split syntax e s)
+      ∙ ap (λ (y : List ℕ). whole_element sequence syntax form low (before left y rest)) (element_split syntax e s)
       ∙ past (is_over form start) (done (None, start)) _ (over_not form left (head ++ tail) rest some_bytes)
       ∙ onward (take_at 8 start) (head, middle) (λ y. if ends_set form y.0
       then (if long_of y.0 == 0 then done (None, y.1) else Err BadDelimiter)
@@ -218,20 +218,20 @@ module _ (d : ℕ) (sequence : SequenceReader) (law : SequenceAgain d sequence) 
       (None, behind left rest) (next_elements (elements_at sequence syntax form most))
       (set_end_again syntax form low left rest over)
   elements_again (element tag vr content others) syntax form low (suc most) left rest h over lt =
-      let e : Entry = record { tag = tag; vr = vr; content = content } in
+      let e : Element = record { tag = tag; vr = vr; content = content } in
       let tail : List ℕ = closed form item_end_text (elements_text others) in
-      let whole : closed form item_end_text (elements_text (element tag vr content others)) ≡ entry_text e ++ tail =
+      let whole : closed form item_end_text (elements_text (element tag vr content others)) ≡ element_text e ++ tail =
       closed-append form item_end_text (tag_text tag) (content_text vr content ++ elements_text others)
       ∙ ap (λ (y : List ℕ). tag_text tag ++ y) (closed-append form item_end_text (content_text vr content)
       (elements_text others)) ∙ sym (append_assoc (tag_text tag) (content_text vr content) tail) in
       let start : before left (closed form item_end_text (elements_text (element tag vr content others))) rest ≡ before
-      (more left (length tail)) (entry_text e) (tail ++ rest) = ap (λ (y : List ℕ). before left y rest) whole
-      ∙ before-append left (entry_text e) tail rest in
+      (more left (length tail)) (element_text e) (tail ++ rest) = ap (λ (y : List ℕ). before left y rest) whole
+      ∙ before-append left (element_text e) tail rest in
       let least : 8 + length (elements_text others) ≤ length (elements_text (element tag vr content others)) =
       element_least tag vr content others in
       let fewer : length (elements_text others) < most = omega arith in
       ap (λ (at : At). elements_at sequence syntax form (suc most) low at) start
-      ∙ onward (element_at sequence syntax form low (before (more left (length tail)) (entry_text e) (tail ++ rest)))
+      ∙ onward (element_at sequence syntax form low (before (more left (length tail)) (element_text e) (tail ++ rest)))
       (Some e, before left tail rest) (next_elements (elements_at sequence syntax form most))
       (element_again syntax form low e (more left (length tail)) (tail ++ rest) (h.0, h.1, h.2, h.3, h.4, h.5))
       ∙ onward (elements_at sequence syntax form most (number_of tag + 1) (before left tail rest))
@@ -241,18 +241,18 @@ module _ (d : ℕ) (sequence : SequenceReader) (law : SequenceAgain d sequence) 
 -- ---- an item
 
 -- an item that fits has a length of 32 bits
-part_wide : (syntax : Syntax) (d : ℕ) (p : Part) → IsPart syntax d p → part_length p < 2 ^ 32
+part_wide : (syntax : Syntax) (d : ℕ) (p : Item) → IsItem syntax d p → part_length p < 2 ^ 32
 part_wide syntax zero p h = absurd h
 part_wide syntax (suc d) p h = fits_width p.length (elements_text p.set) h.1
 
 module _ (d : ℕ) (part : ItemReader) (law : PartAgain d part) where
   -- an item with its header
-  pub item_again : (syntax : Syntax) (form : Length) (p : Part) (left : Option ℕ) (rest : List ℕ) → IsPart syntax d p
-      → item_at part syntax form (before left (part_text p) rest) ≡ Ok (Some p, behind left rest)
+  pub item_again : (syntax : Syntax) (form : Length) (p : Item) (left : Option ℕ) (rest : List ℕ) → IsItem syntax d p
+      → item_at part syntax form (before left (item_text p) rest) ≡ Ok (Some p, behind left rest)
   unfolding whole_item
   item_again syntax form p left rest h =
       let head : List ℕ = item_tag_text ++ little_bytes 4 (part_length p) in
-      let tail : List ℕ = part_body p in
+      let tail : List ℕ = item_body p in
       let start : At = before left (head ++ tail) rest in
       let middle : At = before left tail rest in
       let took : take_at 8 start ≡ Ok (head, middle) = ap (λ (at : At). take_at 8 at)
@@ -291,7 +291,7 @@ module _ (d : ℕ) (part : ItemReader) (law : PartAgain d part) where
 
   -- the first of items that fit, and the others
   first_item : (syntax : Syntax) (e : ℕ) (form : Length) (set : Elements) (others : Items)
-      → AreItems syntax e (item form set others) → IsPart syntax e (record { length = form; set = set })
+      → AreItems syntax e (item form set others) → IsItem syntax e (record { length = form; set = set })
       × AreItems syntax e others
   first_item syntax zero form set others h = absurd h
   first_item syntax (suc e) form set others h = ((h.0, h.1), h.2)
@@ -307,23 +307,23 @@ module _ (d : ℕ) (part : ItemReader) (law : PartAgain d part) where
       onward (item_at part syntax form (before left (closed form sequence_end_text []) rest)) (None, behind left rest)
       (next_items (items_at part syntax form most)) (sequence_end_again syntax form left rest over)
   items_again (item kind set others) syntax form (suc most) left rest h over lt =
-      let p : Part = record { length = kind; set = set } in
+      let p : Item = record { length = kind; set = set } in
       let valid = first_item syntax d kind set others h in
       let tail : List ℕ = closed form sequence_end_text (items_text others) in
-      let whole : closed form sequence_end_text (items_text (item kind set others)) ≡ part_text p ++ tail =
+      let whole : closed form sequence_end_text (items_text (item kind set others)) ≡ item_text p ++ tail =
       closed-append form sequence_end_text item_tag_text (little_bytes 4 (part_length p)
-      ++ (part_body p ++ items_text others)) ∙ ap (λ (y : List ℕ). item_tag_text ++ y)
-      (closed-append form sequence_end_text (little_bytes 4 (part_length p)) (part_body p ++ items_text others)
+      ++ (item_body p ++ items_text others)) ∙ ap (λ (y : List ℕ). item_tag_text ++ y)
+      (closed-append form sequence_end_text (little_bytes 4 (part_length p)) (item_body p ++ items_text others)
       ∙ ap (λ (y : List ℕ). little_bytes 4 (part_length p) ++ y)
-      (closed-append form sequence_end_text (part_body p) (items_text others))
-      ∙ sym (append_assoc (little_bytes 4 (part_length p)) (part_body p) tail))
-      ∙ sym (append_assoc item_tag_text (little_bytes 4 (part_length p) ++ part_body p) tail) in
+      (closed-append form sequence_end_text (item_body p) (items_text others))
+      ∙ sym (append_assoc (little_bytes 4 (part_length p)) (item_body p) tail))
+      ∙ sym (append_assoc item_tag_text (little_bytes 4 (part_length p) ++ item_body p) tail) in
       let start : before left (closed form sequence_end_text (items_text (item kind set others))) rest ≡ before
-      (more left (length tail)) (part_text p) (tail ++ rest) = ap (λ (y : List ℕ). before left y rest) whole
-      ∙ before-append left (part_text p) tail rest in
+      (more left (length tail)) (item_text p) (tail ++ rest) = ap (λ (y : List ℕ). before left y rest) whole
+      ∙ before-append left (item_text p) tail rest in
       let fewer : length (items_text others) < most = let e = length-item kind set others in omega arith in
       ap (λ (at : At). items_at part syntax form (suc most) at) start
-      ∙ onward (item_at part syntax form (before (more left (length tail)) (part_text p) (tail ++ rest)))
+      ∙ onward (item_at part syntax form (before (more left (length tail)) (item_text p) (tail ++ rest)))
       (Some p, before left tail rest) (next_items (items_at part syntax form most))
       (item_again syntax form p (more left (length tail)) (tail ++ rest) valid.0)
       ∙ onward (items_at part syntax form most (before left tail rest)) (others, behind left rest)
@@ -351,7 +351,7 @@ pub part_again : (d : ℕ) (set : SetReader) → SetAgain d set → PartAgain (s
 unfolding part_at
 part_again d set law syntax p left rest h = go p.length h
   where
-    go : (form : Length) → IsPart syntax (suc d) (record { length = form; set = p.set })
+    go : (form : Length) → IsItem syntax (suc d) (record { length = form; set = p.set })
         → part_at set syntax (length_of form (elements_text p.set))
         (before left (closed form item_end_text (elements_text p.set)) rest) ≡ Ok
         (record { length = form; set = p.set }, behind left rest)

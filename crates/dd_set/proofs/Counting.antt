@@ -5,11 +5,11 @@ use Rattle.std.proofs.Common.{sym}
 use Rattle.std.proofs.Common.{ap, ◌∙◌, arith, append_assoc, length-append}
 use Rattle.std.proofs.lemmas.List.{at_drop_more, at_drop_all}
 use Rattle.dd_elem.specs.Tag.{number_of}
-use Rattle.dd_set.specs.declared.set.Element.{Element}
-use Rattle.dd_set.specs.declared.set.Item.{Item}
+use Rattle.dd_set.specs.declared.set.Element.{Element as ElementValue}
+use Rattle.dd_set.specs.declared.set.Item.{Item as ItemValue}
 use Rattle.dd_encoding.specs.declared.syntax.Syntax.{Syntax}
-use Rattle.dd_encoding.specs.Elements.{Elements, no_elements, element, Items, no_items, item, Entry, Part}
-use Rattle.dd_set.specs.Single.{entry_text, part_text, IsEntry, IsPart}
+use Rattle.dd_encoding.specs.Elements.{Elements, no_elements, element, Items, no_items, item, Element, Item}
+use Rattle.dd_set.specs.Single.{element_text, item_text, IsElement, IsItem}
 use Rattle.dd_encoding.specs.Spelling.{elements_text, items_text, tag_text, content_text, length_of, closed}
 use Rattle.dd_encoding.specs.Spelling.{item_tag_text}
 use Rattle.dd_encoding.specs.Spelling.{item_end_text, AreElements, AreItems, AreFragments, fragment_text}
@@ -21,30 +21,30 @@ use Rattle.byteorder.specs.Endian.{little_bytes}
 -- ---- the front of a row and the rest
 
 -- elements are the first of them and the rest
-abbrev pub with_entry : Entry → Elements → Elements
-with_entry e rest = element e.tag e.vr e.content rest
+abbrev pub with_element : Element → Elements → Elements
+with_element e rest = element e.tag e.vr e.content rest
 
 -- items are the first of them and the rest
-abbrev pub with_part : Part → Items → Items
-with_part p rest = item p.length p.set rest
+abbrev pub with_item : Item → Items → Items
+with_item p rest = item p.length p.set rest
 
 -- their bytes are those of the first and then those of the rest
-pub entry_first : (e : Entry) (rest : Elements) → elements_text (with_entry e rest) ≡ entry_text e ++ elements_text rest
-entry_first e rest = sym (append_assoc (tag_text e.tag) (content_text e.vr e.content) (elements_text rest))
+pub element_first : (e : Element) (rest : Elements) → elements_text (with_element e rest) ≡ element_text e ++ elements_text rest
+element_first e rest = sym (append_assoc (tag_text e.tag) (content_text e.vr e.content) (elements_text rest))
 
-pub part_first : (p : Part) (rest : Items) → items_text (with_part p rest) ≡ part_text p ++ items_text rest
+pub part_first : (p : Item) (rest : Items) → items_text (with_item p rest) ≡ item_text p ++ items_text rest
 part_first p rest =
     ap (λ (text : List ℕ). item_tag_text ++ (little_bytes 4 (length_of p.length (elements_text p.set)) ++ text))
     (refl {a = closed p.length item_end_text (elements_text p.set) ++ items_text rest})
 
 -- items are valid where the first is and the rest are
-pub parts_valid : (syntax : Syntax) (levels : ℕ) (p : Part) (rest : Items) → IsPart syntax levels p
-    → AreItems syntax levels rest → AreItems syntax levels (with_part p rest)
+pub parts_valid : (syntax : Syntax) (levels : ℕ) (p : Item) (rest : Items) → IsItem syntax levels p
+    → AreItems syntax levels rest → AreItems syntax levels (with_item p rest)
 parts_valid syntax zero p rest valid others = valid
 parts_valid syntax (suc levels) p rest valid others = (valid.0, valid.1, others)
 
-pub part_valid : (syntax : Syntax) (levels : ℕ) (p : Part) (rest : Items) → AreItems syntax levels (with_part p rest)
-    → IsPart syntax levels p × AreItems syntax levels rest
+pub part_valid : (syntax : Syntax) (levels : ℕ) (p : Item) (rest : Items) → AreItems syntax levels (with_item p rest)
+    → IsItem syntax levels p × AreItems syntax levels rest
 part_valid syntax zero p rest valid = absurd valid
 part_valid syntax (suc levels) p rest valid = ((valid.0, valid.1), valid.2)
 
@@ -61,36 +61,36 @@ pub counts_none : (syntax : Syntax) (levels : ℕ) (all : Elements) → CountsEl
 counts_none syntax levels all = record { to = λ v. v; back = λ v. v; sum = omega arith }
 
 -- one more is
-pub counts_entry : (syntax : Syntax) (levels : ℕ) (all rest : Elements) (low total : ℕ) (e : Entry)
-    → CountsElements syntax levels all (with_entry e rest) low total → IsEntry syntax levels low e
-    → CountsElements syntax levels all rest (number_of e.tag + 1) (total + length (entry_text e))
-counts_entry syntax levels all rest low total e counts valid = record {
+pub counts_element : (syntax : Syntax) (levels : ℕ) (all rest : Elements) (low total : ℕ) (e : Element)
+    → CountsElements syntax levels all (with_element e rest) low total → IsElement syntax levels low e
+    → CountsElements syntax levels all rest (number_of e.tag + 1) (total + length (element_text e))
+counts_element syntax levels all rest low total e counts valid = record {
   to = λ others. counts.to (valid.0, valid.1, valid.2, valid.3, valid.4, valid.5, others);
   back = λ v. (counts.back v).6;
   sum =
-      let one : length (elements_text (with_entry e rest)) ≡ length (entry_text e) + length (elements_text rest) =
-      ap length (entry_first e rest) ∙ length-append (entry_text e) (elements_text rest) in
+      let one : length (elements_text (with_element e rest)) ≡ length (element_text e) + length (elements_text rest) =
+      ap length (element_first e rest) ∙ length-append (element_text e) (elements_text rest) in
       omega (arith, counts.sum, one);
 }
 
 -- the whole has no size where the next has none
-pub counts_no_entry : (syntax : Syntax) (levels : ℕ) (all rest : Elements) (low total : ℕ) (e : Entry)
-    → CountsElements syntax levels all (with_entry e rest) low total
-    → ¬ (IsEntry syntax levels low e × (length (entry_text e) < 2 ^ 64))
+pub counts_no_element : (syntax : Syntax) (levels : ℕ) (all rest : Elements) (low total : ℕ) (e : Element)
+    → CountsElements syntax levels all (with_element e rest) low total
+    → ¬ (IsElement syntax levels low e × (length (element_text e) < 2 ^ 64))
     → ¬ (AreElements syntax levels 0 all × (length (elements_text all) < 2 ^ 64))
-counts_no_entry syntax levels all rest low total e counts none whole =
+counts_no_element syntax levels all rest low total e counts none whole =
     let valid = counts.back whole.0 in
-    let one : length (elements_text (with_entry e rest)) ≡ length (entry_text e) + length (elements_text rest) =
-    ap length (entry_first e rest) ∙ length-append (entry_text e) (elements_text rest) in
+    let one : length (elements_text (with_element e rest)) ≡ length (element_text e) + length (elements_text rest) =
+    ap length (element_first e rest) ∙ length-append (element_text e) (elements_text rest) in
     none ((valid.0, valid.1, valid.2, valid.3, valid.4, valid.5), omega (arith, counts.sum, one, whole.1))
 
 -- nor where the sum is too large
-pub counts_too_many : (syntax : Syntax) (levels : ℕ) (all rest : Elements) (low total : ℕ) (e : Entry)
-    → CountsElements syntax levels all (with_entry e rest) low total → ¬ (total + length (entry_text e) < 2 ^ 64)
+pub counts_too_many : (syntax : Syntax) (levels : ℕ) (all rest : Elements) (low total : ℕ) (e : Element)
+    → CountsElements syntax levels all (with_element e rest) low total → ¬ (total + length (element_text e) < 2 ^ 64)
     → ¬ (AreElements syntax levels 0 all × (length (elements_text all) < 2 ^ 64))
 counts_too_many syntax levels all rest low total e counts large whole =
-    let one : length (elements_text (with_entry e rest)) ≡ length (entry_text e) + length (elements_text rest) =
-    ap length (entry_first e rest) ∙ length-append (entry_text e) (elements_text rest) in
+    let one : length (elements_text (with_element e rest)) ≡ length (element_text e) + length (elements_text rest) =
+    ap length (element_first e rest) ∙ length-append (element_text e) (elements_text rest) in
     large (omega (arith, counts.sum, one, whole.1))
 
 -- ---- the items of a sequence
@@ -104,54 +104,54 @@ pub record CountsItems (syntax : Syntax) (levels : ℕ) (all rest : Items) (tota
 pub counts_no_items : (syntax : Syntax) (levels : ℕ) (all : Items) → CountsItems syntax levels all all 0
 counts_no_items syntax levels all = record { to = λ v. v; back = λ v. v; sum = omega arith }
 
-pub counts_part : (syntax : Syntax) (levels : ℕ) (all rest : Items) (total : ℕ) (p : Part)
-    → CountsItems syntax levels all (with_part p rest) total → IsPart syntax levels p
-    → CountsItems syntax levels all rest (total + length (part_text p))
-counts_part syntax levels all rest total p counts valid = record {
+pub counts_item : (syntax : Syntax) (levels : ℕ) (all rest : Items) (total : ℕ) (p : Item)
+    → CountsItems syntax levels all (with_item p rest) total → IsItem syntax levels p
+    → CountsItems syntax levels all rest (total + length (item_text p))
+counts_item syntax levels all rest total p counts valid = record {
   to = λ others. counts.to (parts_valid syntax levels p rest valid others);
   back = λ v. (part_valid syntax levels p rest (counts.back v)).1;
   sum =
-      let one : length (items_text (with_part p rest)) ≡ length (part_text p) + length (items_text rest) =
-      ap length (part_first p rest) ∙ length-append (part_text p) (items_text rest) in
+      let one : length (items_text (with_item p rest)) ≡ length (item_text p) + length (items_text rest) =
+      ap length (part_first p rest) ∙ length-append (item_text p) (items_text rest) in
       omega (arith, counts.sum, one);
 }
 
-pub counts_no_part : (syntax : Syntax) (levels : ℕ) (all rest : Items) (total : ℕ) (p : Part)
-    → CountsItems syntax levels all (with_part p rest) total
-    → ¬ (IsPart syntax levels p × (length (part_text p) < 2 ^ 64))
+pub counts_no_item : (syntax : Syntax) (levels : ℕ) (all rest : Items) (total : ℕ) (p : Item)
+    → CountsItems syntax levels all (with_item p rest) total
+    → ¬ (IsItem syntax levels p × (length (item_text p) < 2 ^ 64))
     → ¬ (AreItems syntax levels all × (length (items_text all) < 2 ^ 64))
-counts_no_part syntax levels all rest total p counts none whole =
+counts_no_item syntax levels all rest total p counts none whole =
     let valid = part_valid syntax levels p rest (counts.back whole.0) in
-    let one : length (items_text (with_part p rest)) ≡ length (part_text p) + length (items_text rest) =
-    ap length (part_first p rest) ∙ length-append (part_text p) (items_text rest) in
+    let one : length (items_text (with_item p rest)) ≡ length (item_text p) + length (items_text rest) =
+    ap length (part_first p rest) ∙ length-append (item_text p) (items_text rest) in
     none (valid.0, omega (arith, counts.sum, one, whole.1))
 
-pub counts_too_many_items : (syntax : Syntax) (levels : ℕ) (all rest : Items) (total : ℕ) (p : Part)
-    → CountsItems syntax levels all (with_part p rest) total → ¬ (total + length (part_text p) < 2 ^ 64)
+pub counts_too_many_items : (syntax : Syntax) (levels : ℕ) (all rest : Items) (total : ℕ) (p : Item)
+    → CountsItems syntax levels all (with_item p rest) total → ¬ (total + length (item_text p) < 2 ^ 64)
     → ¬ (AreItems syntax levels all × (length (items_text all) < 2 ^ 64))
 counts_too_many_items syntax levels all rest total p counts large whole =
-    let one : length (items_text (with_part p rest)) ≡ length (part_text p) + length (items_text rest) =
-    ap length (part_first p rest) ∙ length-append (part_text p) (items_text rest) in
+    let one : length (items_text (with_item p rest)) ≡ length (item_text p) + length (items_text rest) =
+    ap length (part_first p rest) ∙ length-append (item_text p) (items_text rest) in
     large (omega (arith, counts.sum, one, whole.1))
 
 -- ---- at a place of a list
 
 -- what is left of a list of elements begins with the next
-pub elements_view-drop : (es : List Element) (i : ℕ) (e : Element) → i < length es → e ≡ get_or es i e
-    → elements_view (drop i es) ≡ with_entry (element_view e) (elements_view (drop (i + 1) es))
+pub elements_view-drop : (es : List ElementValue) (i : ℕ) (e : ElementValue) → i < length es → e ≡ get_or es i e
+    → elements_view (drop i es) ≡ with_element (element_view e) (elements_view (drop (i + 1) es))
 elements_view-drop es i e within is = at_drop_more elements_view es i e within
-    ∙ ap (λ (x : Element). elements_view (x ∷ drop (i + 1) es)) (sym is)
+    ∙ ap (λ (x : ElementValue). elements_view (x ∷ drop (i + 1) es)) (sym is)
 
 -- and with nothing at the end
-pub elements_view-end : (es : List Element) (i : ℕ) → length es ≤ i → elements_view (drop i es) ≡ no_elements
+pub elements_view-end : (es : List ElementValue) (i : ℕ) → length es ≤ i → elements_view (drop i es) ≡ no_elements
 elements_view-end es i past = at_drop_all elements_view es i past
 
-pub items_view-drop : (parts : List Item) (i : ℕ) (p : Item) → i < length parts → p ≡ get_or parts i p
-    → items_view (drop i parts) ≡ with_part (item_view p) (items_view (drop (i + 1) parts))
+pub items_view-drop : (parts : List ItemValue) (i : ℕ) (p : ItemValue) → i < length parts → p ≡ get_or parts i p
+    → items_view (drop i parts) ≡ with_item (item_view p) (items_view (drop (i + 1) parts))
 items_view-drop parts i p within is = at_drop_more items_view parts i p within
-    ∙ ap (λ (x : Item). items_view (x ∷ drop (i + 1) parts)) (sym is)
+    ∙ ap (λ (x : ItemValue). items_view (x ∷ drop (i + 1) parts)) (sym is)
 
-pub items_view-end : (parts : List Item) (i : ℕ) → length parts ≤ i → items_view (drop i parts) ≡ no_items
+pub items_view-end : (parts : List ItemValue) (i : ℕ) → length parts ≤ i → items_view (drop i parts) ≡ no_items
 items_view-end parts i past = at_drop_all items_view parts i past
 
 -- ---- fragments

@@ -6,34 +6,34 @@ use Rattle.dd_elem.specs.Tag.{number_of}
 use Rattle.dd_set.specs.declared.fault.SetFault.TheVariants.{Order, UnexpectedTag, BadDelimiter}
 use Rattle.dd_encoding.specs.declared.syntax.Length.{Length}
 use Rattle.dd_encoding.specs.declared.syntax.Syntax.{Syntax}
-use Rattle.dd_encoding.specs.Elements.{Entry, Part, Content}
+use Rattle.dd_encoding.specs.Elements.{Element, Item, Content}
 use Rattle.dd_set.specs.Reading.{there, header_with, head_at, header_at, opening_at, behind_head, front_at}
 use Rattle.dd_set.specs.Reading.{element_behind, item_opening, behind_item_head, item_front_at, item_behind, At, Reads}
 use Rattle.dd_set.specs.Reading.{◌>>=◌, Shape, SequenceReader, ItemReader, take_at, tag_of, long_of, is_item, is_over}
 use Rattle.dd_set.specs.Reading.{ends_set, ends_sequence, shape_at, content_at, element_at, item_at}
 use Rattle.dd_encoding.specs.Spelling.{delimiter_group}
 
-abbrev entry_with : Tag → Shape → Content × At → Reads Entry
-entry_with tag shape x = Ok (record { tag = tag; vr = shape.vr; content = x.0 }, x.1)
+abbrev element_with : Tag → Shape → Content × At → Reads Element
+element_with tag shape x = Ok (record { tag = tag; vr = shape.vr; content = x.0 }, x.1)
 
 -- the value of an element that is there
 behind_content : (tag : Tag) (shape : Shape) (r : Reads Content)
-    → ((r >>= entry_with tag shape) >>= there) ≡ (r >>= λ x. Ok
+    → ((r >>= element_with tag shape) >>= there) ≡ (r >>= λ x. Ok
     (Some (record { tag = tag; vr = shape.vr; content = x.0 }), x.1))
 behind_content tag shape (Ok x) = refl
 behind_content tag shape (Err e) = refl
 
 -- an element whose first eight bytes are `head`, with a tag not below `low`
-unfoldable pub body_at : SequenceReader → Syntax → ℕ → List ℕ → At → Reads Entry
+unfoldable pub body_at : SequenceReader → Syntax → ℕ → List ℕ → At → Reads Element
 body_at sequence syntax low head at =
     if (tag_of head).group == delimiter_group then Err UnexpectedTag
     else (if nat_lt (number_of (tag_of head)) low then Err Order
     else (shape_at syntax head at
     >>= λ shape. content_at sequence syntax (record { tag = tag_of head; shape = shape.0 }) shape.1
-    >>= entry_with (tag_of head) shape.0))
+    >>= element_with (tag_of head) shape.0))
 
 -- the next element, or the end of the set
-unfoldable pub whole_element : SequenceReader → Syntax → Length → ℕ → At → Reads (Option Entry)
+unfoldable pub whole_element : SequenceReader → Syntax → Length → ℕ → At → Reads (Option Element)
 whole_element sequence syntax form low at =
     if is_over form at then Ok (None, at)
     else (take_at 8 at >>= λ head. if ends_set form head.0
@@ -41,7 +41,7 @@ whole_element sequence syntax form low at =
     else (body_at sequence syntax low head.0 head.1 >>= there))
 
 -- the next item, or the end of the sequence
-unfoldable pub whole_item : ItemReader → Syntax → Length → At → Reads (Option Part)
+unfoldable pub whole_item : ItemReader → Syntax → Length → At → Reads (Option Item)
 whole_item part syntax form at =
     if is_over form at then Ok (None, at)
     else (take_at 8 at >>= λ head. if ends_sequence form head.0
@@ -50,9 +50,9 @@ whole_item part syntax form at =
 
 module _ (sequence : SequenceReader) (syntax : Syntax) where
   -- the value behind a header with this tag
-  abbrev then_content : Tag → Shape × At → Reads Entry
+  abbrev then_content : Tag → Shape × At → Reads Element
   then_content tag shape =
-      content_at sequence syntax (record { tag = tag; shape = shape.0 }) shape.1 >>= entry_with tag shape.0
+      content_at sequence syntax (record { tag = tag; shape = shape.0 }) shape.1 >>= element_with tag shape.0
 
   behind_shape : (tag : Tag) (r : Reads Shape) → ((r >>= then_content tag) >>= there)
       ≡ (((r >>= header_with tag) >>= there) >>= element_behind sequence syntax)

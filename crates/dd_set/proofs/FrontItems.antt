@@ -8,7 +8,7 @@ use Rattle.dd_set.specs.declared.fault.SetFault.TheVariants.{Truncated, Unexpect
 use Rattle.dd_encoding.specs.declared.syntax.Length.{Length}
 use Rattle.dd_encoding.specs.declared.syntax.Length.TheVariants.{Defined, Undefined}
 use Rattle.dd_encoding.specs.declared.syntax.Syntax.{Syntax}
-use Rattle.dd_encoding.specs.Elements.{Items, item, Part}
+use Rattle.dd_encoding.specs.Elements.{Items, item, Item}
 use Rattle.dd_encoding.specs.Spelling.{undefined_length, max_levels}
 use Rattle.dd_set.specs.Reading.{◌>>=◌, At, Reads, leaves_fewer, take_at, long_of, is_item}
 use Rattle.dd_set.specs.Reading.{is_over}
@@ -42,7 +42,7 @@ module _ (part : ItemReader) (law : PartExtends part) where
       (λ p. Some p) (law c q syntax (long_of head.0) head.1 k))
       (λ none. λ ne. refl))))))
     where
-      head_goes : List ℕ × At → Reads (Option Part)
+      head_goes : List ℕ × At → Reads (Option Item)
       head_goes head =
           if ends_sequence form head.0
           then (if long_of head.0 == 0 then Ok (None, head.1) else Err BadDelimiter)
@@ -63,7 +63,7 @@ module _ (part : ItemReader) (law : PartExtends part) where
       (λ a g. items_extend n m c q syntax form a (omega arith) g same) x.0 x.1 k)
     where
       next_extends : (c : Bool) (q : List ℕ) (others those : At → Reads Items)
-          → ((a : At) → has a.left ≡ c → Extends c q (others a) (those (longer a q))) → (o : Option Part) (a : At)
+          → ((a : At) → has a.left ≡ c → Extends c q (others a) (those (longer a q))) → (o : Option Item) (a : At)
           → has a.left ≡ c → Extends c q (next_items others (o, a)) (next_items those (o, longer a q))
       next_extends c q others those ih None a k = (refl, k)
       next_extends c q others those ih (Some p) a k = extends_map c q (others a) (those (longer a q))

@@ -14,7 +14,7 @@ use Rattle.dd_set.specs.declared.fault.SetFault.TheVariants.{Truncated, BadDelim
 use Rattle.dd_encoding.specs.declared.syntax.Length.{Length}
 use Rattle.dd_encoding.specs.declared.syntax.Length.TheVariants.{Defined, Undefined}
 use Rattle.dd_encoding.specs.declared.syntax.Syntax.{Syntax}
-use Rattle.dd_encoding.specs.Elements.{Elements, element, Content, bytes, items, fragments, Entry}
+use Rattle.dd_encoding.specs.Elements.{Elements, element, Content, bytes, items, fragments, Element}
 use Rattle.dd_encoding.specs.Spelling.{undefined_length, delimiter_group, names_vr, item_syntax}
 use Rattle.dd_set.specs.Reading.{◌>>=◌, At, Reads, leaves_fewer, less, take_at, tag_of, long_of, short_of}
 use Rattle.dd_set.specs.Reading.{no_byte_left, is_over, Shape, long_length_at, long_at, explicit_at, shape_at}
@@ -303,20 +303,20 @@ module _ (sequence : SequenceReader) (law : SequenceExtends sequence) where
       (shape_extends c q syntax head at h)
       (λ s k. extends_map c q (content_at sequence syntax (header_of s.0) s.1)
       (content_at sequence syntax (header_of s.0) (longer s.1 q))
-      (λ x. entry_of s.0.vr x) (content_extends c q syntax (header_of s.0) s.1 k))))
+      (λ x. element_of s.0.vr x) (content_extends c q syntax (header_of s.0) s.1 k))))
     where
       header_of : Shape → Header
       header_of shape = record { tag = tag_of head; shape = shape }
 
-      entry_of : Option Vr → Content → Entry
-      entry_of vr x = record { tag = tag_of head; vr = vr; content = x }
+      element_of : Option Vr → Content → Element
+      element_of vr x = record { tag = tag_of head; vr = vr; content = x }
 
-      shape_then : Shape × At → Reads Entry
+      shape_then : Shape × At → Reads Element
       shape_then shape =
-          content_at sequence syntax (header_of shape.0) shape.1 >>= λ x. Ok (entry_of shape.0.vr x.0, x.1)
+          content_at sequence syntax (header_of shape.0) shape.1 >>= λ x. Ok (element_of shape.0.vr x.0, x.1)
 
   -- an element or a delimiter, where the set is not over
-  head_then : Syntax → Length → ℕ → List ℕ × At → Reads (Option Entry)
+  head_then : Syntax → Length → ℕ → List ℕ × At → Reads (Option Element)
   head_then syntax form low head =
       if ends_set form head.0
       then (if long_of head.0 == 0 then Ok (None, head.1) else Err BadDelimiter)
@@ -364,7 +364,7 @@ module _ (sequence : SequenceReader) (law : SequenceExtends sequence) where
     where
       next_extends : (c : Bool) (q : List ℕ) (others those : ℕ → At → Reads Elements)
           → ((l : ℕ) (a : At) → has a.left ≡ c → Extends c q (others l a) (those l (longer a q)))
-          → (o : Option Entry) (a : At) → has a.left ≡ c → Extends c q (next_elements others (o, a))
+          → (o : Option Element) (a : At) → has a.left ≡ c → Extends c q (next_elements others (o, a))
           (next_elements those (o, longer a q))
       next_extends c q others those ih None a k = (refl, k)
       next_extends c q others those ih (Some e) a k = extends_map c q (others (number_of e.tag + 1) a)
@@ -400,7 +400,7 @@ module _ (sequence : SequenceReader) (law : SequenceExtends sequence) where
       those = elements_at sequence syntax Defined m
 
       next_fails : ((l : ℕ) (a : At) → has a.left ≡ false → FailsAlike (others l a) (those l (longer a q)))
-          → (o : Option Entry) (a : At) → has a.left ≡ false
+          → (o : Option Element) (a : At) → has a.left ≡ false
           → FailsAlike (next_elements others (o, a)) (next_elements those (o, longer a q))
       next_fails ih None a k = tt
       next_fails ih (Some e) a k = fails_on (others (number_of e.tag + 1) a) (those (number_of e.tag + 1) (longer a q))

@@ -3,7 +3,7 @@ pub mod Before
 pub mod CleanedFronts
 pub mod Counting
 pub mod Cut
-pub mod Entries
+pub mod FoundElements
 pub mod Failing
 pub mod Feeding
 pub mod FragmentLaws

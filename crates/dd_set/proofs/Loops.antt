@@ -6,7 +6,7 @@ use Rattle.dd_elem.specs.Tag.{number_of}
 use Rattle.dd_set.specs.declared.fault.SetFault.{SetFault}
 use Rattle.dd_encoding.specs.declared.syntax.Length.{Length}
 use Rattle.dd_encoding.specs.declared.syntax.Syntax.{Syntax}
-use Rattle.dd_encoding.specs.Elements.{Elements, no_elements, element, Items, no_items, item, Entry, Part, elements_of}
+use Rattle.dd_encoding.specs.Elements.{Elements, no_elements, element, Items, no_items, item, Element, Item, elements_of}
 use Rattle.dd_encoding.specs.Elements.{items_of}
 use Rattle.dd_set.specs.AnswersAs.{FailsAs}
 use Rattle.dd_set.specs.Faults.{is_memory}
@@ -15,46 +15,46 @@ use Rattle.dd_set.specs.Reading.{items_at}
 use Rattle.dd_set.proofs.Failing.{else_then}
 
 -- these in front
-abbrev pub items_before : List Part → Items → Items
+abbrev pub items_before : List Item → Items → Items
 items_before [] rest = rest
 items_before (p ∷ ps) rest = item p.length p.set (items_before ps rest)
 
-abbrev pub elements_before : List Entry → Elements → Elements
+abbrev pub elements_before : List Element → Elements → Elements
 elements_before [] rest = rest
 elements_before (e ∷ es) rest = element e.tag e.vr e.content (elements_before es rest)
 
 -- what was read before, and what is still read
-abbrev pub with_items : List Part → Reads Items → Reads Items
+abbrev pub with_items : List Item → Reads Items → Reads Items
 with_items front read = read >>= λ x. Ok (items_before front x.0, x.1)
 
-abbrev pub with_elements : List Entry → Reads Elements → Reads Elements
+abbrev pub with_elements : List Element → Reads Elements → Reads Elements
 with_elements front read = read >>= λ x. Ok (elements_before front x.0, x.1)
 
-items_before-push : (front : List Part) (p : Part) (rest : Items)
+items_before-push : (front : List Item) (p : Item) (rest : Items)
     → items_before (front ++ p ∷ []) rest ≡ items_before front (item p.length p.set rest)
 items_before-push [] p rest = refl
 items_before-push (q ∷ qs) p rest = ap (λ (r : Items). item q.length q.set r) (items_before-push qs p rest)
 
-items_before-all : (front : List Part) → items_before front no_items ≡ items_of front
+items_before-all : (front : List Item) → items_before front no_items ≡ items_of front
 items_before-all [] = refl
 items_before-all (q ∷ qs) = ap (λ (r : Items). item q.length q.set r) (items_before-all qs)
 
-elements_before-push : (front : List Entry) (e : Entry) (rest : Elements)
+elements_before-push : (front : List Element) (e : Element) (rest : Elements)
     → elements_before (front ++ e ∷ []) rest ≡ elements_before front (element e.tag e.vr e.content rest)
 elements_before-push [] e rest = refl
 elements_before-push (q ∷ qs) e rest = ap (λ (r : Elements). element q.tag q.vr q.content r)
     (elements_before-push qs e rest)
 
-elements_before-all : (front : List Entry) → elements_before front no_elements ≡ elements_of front
+elements_before-all : (front : List Element) → elements_before front no_elements ≡ elements_of front
 elements_before-all [] = refl
 elements_before-all (q ∷ qs) = ap (λ (r : Elements). element q.tag q.vr q.content r) (elements_before-all qs)
 
-regroup_items : (front : List Part) (p : Part) (read : Reads Items)
+regroup_items : (front : List Item) (p : Item) (read : Reads Items)
     → with_items front (read >>= λ x. Ok (item p.length p.set x.0, x.1)) ≡ with_items (front ++ p ∷ []) read
 regroup_items front p (Ok x) = ap (λ (is : Items). Ok (is, x.1)) (sym (items_before-push front p x.0))
 regroup_items front p (Err e) = refl
 
-regroup_elements : (front : List Entry) (e : Entry) (read : Reads Elements)
+regroup_elements : (front : List Element) (e : Element) (read : Reads Elements)
     → with_elements front (read >>= λ x. Ok (element e.tag e.vr e.content x.0, x.1)) ≡ with_elements (front ++ e ∷ [])
     read
 regroup_elements front e (Ok x) = ap (λ (es : Elements). Ok (es, x.1)) (sym (elements_before-push front e x.0))
@@ -67,7 +67,7 @@ fails_along e r s h k = else_then (is_memory e) h (k e)
 
 module _ (part : ItemReader) (syntax : Syntax) (form : Length) where
   -- one more item
-  pub items_more : (n most : ℕ) (front : List Part) (at end : At) (p : Part) (total : Reads Items) → n < most
+  pub items_more : (n most : ℕ) (front : List Item) (at end : At) (p : Item) (total : Reads Items) → n < most
       → item_at part syntax form at ≡ Ok (Some p, end)
       → with_items front (items_at part syntax form most at) ≡ total
       → with_items (front ++ p ∷ []) (items_at part syntax form (most - 1) end) ≡ total
@@ -80,7 +80,7 @@ module _ (part : ItemReader) (syntax : Syntax) (form : Length) where
       rw k (sym one ∙ so_far)
 
   -- no more items
-  pub items_done : (n most : ℕ) (front : List Part) (at end : At) (total : Reads Items) → n < most
+  pub items_done : (n most : ℕ) (front : List Item) (at end : At) (total : Reads Items) → n < most
       → item_at part syntax form at ≡ Ok (None, end)
       → with_items front (items_at part syntax form most at) ≡ total → total ≡ Ok (items_of front, end)
   unfolding items_at
@@ -91,7 +91,7 @@ module _ (part : ItemReader) (syntax : Syntax) (form : Length) where
       sym so_far ∙ one
 
   -- a fault
-  pub items_fail : (n most : ℕ) (front : List Part) (at : At) (total : Reads Items) (e : SetFault) → n < most
+  pub items_fail : (n most : ℕ) (front : List Item) (at : At) (total : Reads Items) (e : SetFault) → n < most
       → FailsAs is_memory e (item_at part syntax form at)
       → with_items front (items_at part syntax form most at) ≡ total → FailsAs is_memory e total
   unfolding items_at
@@ -101,7 +101,7 @@ module _ (part : ItemReader) (syntax : Syntax) (form : Length) where
 
 module _ (sequence : SequenceReader) (syntax : Syntax) (form : Length) where
   -- one more element
-  pub elements_more : (n most low : ℕ) (front : List Entry) (at end : At) (e : Entry) (total : Reads Elements)
+  pub elements_more : (n most low : ℕ) (front : List Element) (at end : At) (e : Element) (total : Reads Elements)
       → n < most → element_at sequence syntax form low at ≡ Ok (Some e, end)
       → with_elements front (elements_at sequence syntax form most low at) ≡ total
       → with_elements (front ++ e ∷ []) (elements_at sequence syntax form (most - 1) (number_of e.tag + 1) end) ≡
@@ -116,7 +116,7 @@ module _ (sequence : SequenceReader) (syntax : Syntax) (form : Length) where
       rw k (sym one ∙ so_far)
 
   -- no more elements
-  pub elements_done : (n most low : ℕ) (front : List Entry) (at end : At) (total : Reads Elements) → n < most
+  pub elements_done : (n most low : ℕ) (front : List Element) (at end : At) (total : Reads Elements) → n < most
       → element_at sequence syntax form low at ≡ Ok (None, end)
       → with_elements front (elements_at sequence syntax form most low at) ≡ total → total ≡ Ok (elements_of front, end)
   unfolding elements_at
@@ -127,7 +127,7 @@ module _ (sequence : SequenceReader) (syntax : Syntax) (form : Length) where
       sym so_far ∙ one
 
   -- a fault
-  pub elements_fail : (n most low : ℕ) (front : List Entry) (at : At) (total : Reads Elements) (e : SetFault) → n < most
+  pub elements_fail : (n most low : ℕ) (front : List Element) (at : At) (total : Reads Elements) (e : SetFault) → n < most
       → FailsAs is_memory e (element_at sequence syntax form low at)
       → with_elements front (elements_at sequence syntax form most low at) ≡ total → FailsAs is_memory e total
   unfolding elements_at

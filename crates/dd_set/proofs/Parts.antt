@@ -12,17 +12,17 @@ use Rattle.dd_set.specs.declared.set.Value.TheViews.{out-DataSet, out-Item}
 use Rattle.dd_encoding.specs.declared.syntax.Length.{Length}
 use Rattle.dd_encoding.specs.declared.syntax.Length.TheVariants.{Defined, Undefined}
 use Rattle.dd_encoding.specs.Elements.{Content, Items, items, fragments}
-use Rattle.dd_set.specs.Single.{entry_text, part_text, mark_text}
+use Rattle.dd_set.specs.Single.{element_text, item_text, mark_text}
 use Rattle.dd_encoding.specs.Spelling.{elements_text, items_text, tag_text, shape_text, header_text, content_text}
 use Rattle.dd_encoding.specs.Spelling.{length_of}
 use Rattle.dd_encoding.specs.Spelling.{closed, item_tag_text, item_end_text, sequence_end_text}
 use Rattle.dd_elem.specs.Tag.{number_of}
 use Rattle.dd_encoding.specs.declared.syntax.Syntax.{Syntax}
-use Rattle.dd_set.specs.Single.{IsEntry, IsPart}
+use Rattle.dd_set.specs.Single.{IsElement, IsItem}
 use Rattle.dd_encoding.specs.Spelling.{AreElements, AreItems, AreFragments, fragment_text, fragments_text}
 use Rattle.dd_encoding.specs.Spelling.{undefined_length}
 use Rattle.dd_set.specs.Views.{set_view, element_view, elements_view, item_view, items_view, value_view, pieces}
-use Rattle.dd_set.proofs.Counting.{with_entry, entry_first, part_first, part_valid, elements_view-drop, items_view-drop}
+use Rattle.dd_set.proofs.Counting.{with_element, element_first, part_first, part_valid, elements_view-drop, items_view-drop}
 use Rattle.dd_set.proofs.Counting.{pieces-drop}
 use Rattle.dd_set.proofs.Seen.{set_view-is, element_view-is, item_view-is}
 
@@ -42,26 +42,26 @@ sequence_parts tag vr form parts =
     (sym (closed-is form sequence_end_text (items_text parts)))
 
 -- the element of a sequence, whose header has the length n
-pub entry_parts : (e : Element) (form : Length) (parts : Items) (n : ℕ) → value_view e.value ≡ items form parts
+pub element_items : (e : Element) (form : Length) (parts : Items) (n : ℕ) → value_view e.value ≡ items form parts
     → n ≡ length_of form (items_text parts) → header_text e.tag e.vr n
-    ++ (items_text parts ++ mark_text form sequence_end_text) ≡ entry_text (element_view e)
-entry_parts e form parts n is n_is =
+    ++ (items_text parts ++ mark_text form sequence_end_text) ≡ element_text (element_view e)
+element_items e form parts n is n_is =
     ap (λ (m : ℕ). header_text e.tag e.vr m ++ (items_text parts ++ mark_text form sequence_end_text)) n_is
     ∙ sequence_parts e.tag e.vr form parts ∙ ap (λ (content : Content). tag_text e.tag ++ content_text e.vr content)
-    (sym is) ∙ sym (ap entry_text (element_view-is e))
+    (sym is) ∙ sym (ap element_text (element_view-is e))
 
 -- an item is sent as its tag and its length, its data set and the mark of its end
-pub part_parts : (p : Item) (header : List ℕ) (n : ℕ) → header ≡ item_tag_text ++ little_bytes 4 n
+pub item_split : (p : Item) (header : List ℕ) (n : ℕ) → header ≡ item_tag_text ++ little_bytes 4 n
     → n ≡ length_of (out-Item p).length (elements_text (set_view (out-Item p).set))
-    → header ++ (elements_text (set_view (out-Item p).set) ++ mark_text (out-Item p).length item_end_text) ≡ part_text
+    → header ++ (elements_text (set_view (out-Item p).set) ++ mark_text (out-Item p).length item_end_text) ≡ item_text
     (item_view p)
-part_parts p header n header_is n_is =
+item_split p header n header_is n_is =
     let set = set_view (out-Item p).set in let form = (out-Item p).length in
     ap (λ (text : List ℕ). text ++ (elements_text set ++ mark_text form item_end_text))
     (header_is ∙ ap (λ (m : ℕ). item_tag_text ++ little_bytes 4 m) n_is)
     ∙ ap (λ (text : List ℕ). item_tag_text ++ (little_bytes 4 (length_of form (elements_text set)) ++ text))
     (sym (closed-is form item_end_text (elements_text set)))
-    ∙ sym (ap part_text (item_view-is p))
+    ∙ sym (ap item_text (item_view-is p))
 
 -- the elements of a data set in a list
 pub set_text : (s : DataSet) (es : List Element) → es ≡ (out-DataSet s).elements.items
@@ -72,29 +72,29 @@ set_text s es is = ap (λ (xs : List Element). elements_text (elements_view xs))
 -- ---- at a place of a list
 
 -- the text of what is left of a list of elements begins with that of the next
-pub entry_at : (es : List Element) (i : ℕ) (e : Element) → i < length es → e ≡ get_or es i e
-    → elements_text (elements_view (drop i es)) ≡ entry_text (element_view e)
+pub element_seen_at : (es : List Element) (i : ℕ) (e : Element) → i < length es → e ≡ get_or es i e
+    → elements_text (elements_view (drop i es)) ≡ element_text (element_view e)
     ++ elements_text (elements_view (drop (i + 1) es))
-entry_at es i e within is = ap elements_text (elements_view-drop es i e within is)
-    ∙ entry_first (element_view e) (elements_view (drop (i + 1) es))
+element_seen_at es i e within is = ap elements_text (elements_view-drop es i e within is)
+    ∙ element_first (element_view e) (elements_view (drop (i + 1) es))
 
 pub part_at : (parts : List Item) (i : ℕ) (p : Item) → i < length parts → p ≡ get_or parts i p
-    → items_text (items_view (drop i parts)) ≡ part_text (item_view p) ++ items_text (items_view (drop (i + 1) parts))
+    → items_text (items_view (drop i parts)) ≡ item_text (item_view p) ++ items_text (items_view (drop (i + 1) parts))
 part_at parts i p within is = ap items_text (items_view-drop parts i p within is)
     ∙ part_first (item_view p) (items_view (drop (i + 1) parts))
 
 -- elements from a place on are valid behind it too
-pub entry_valid : (syntax : Syntax) (levels low : ℕ) (es : List Element) (i : ℕ) (e : Element) → i < length es
+pub element_valid : (syntax : Syntax) (levels low : ℕ) (es : List Element) (i : ℕ) (e : Element) → i < length es
     → e ≡ get_or es i e → AreElements syntax levels low (elements_view (drop i es))
-    → IsEntry syntax levels low (element_view e) × AreElements syntax levels (number_of (element_view e).tag + 1)
+    → IsElement syntax levels low (element_view e) × AreElements syntax levels (number_of (element_view e).tag + 1)
     (elements_view (drop (i + 1) es))
-entry_valid syntax levels low es i e within is valid =
-    let v : AreElements syntax levels low (with_entry (element_view e) (elements_view (drop (i + 1) es))) =
+element_valid syntax levels low es i e within is valid =
+    let v : AreElements syntax levels low (with_element (element_view e) (elements_view (drop (i + 1) es))) =
     subst (AreElements syntax levels low) (elements_view-drop es i e within is) valid in
     ((v.0, v.1, v.2, v.3, v.4, v.5), v.6)
 
 pub part_valid_at : (syntax : Syntax) (levels : ℕ) (parts : List Item) (i : ℕ) (p : Item) → i < length parts
-    → p ≡ get_or parts i p → AreItems syntax levels (items_view (drop i parts)) → IsPart syntax levels (item_view p)
+    → p ≡ get_or parts i p → AreItems syntax levels (items_view (drop i parts)) → IsItem syntax levels (item_view p)
     × AreItems syntax levels (items_view (drop (i + 1) parts))
 part_valid_at syntax levels parts i p within is valid =
     part_valid syntax levels (item_view p) (items_view (drop (i + 1) parts))

@@ -6,7 +6,7 @@ use Rattle.dd_elem.specs.Tag.{number_of}
 use Rattle.dd_set.specs.declared.fault.SetFault.{SetFault}
 use Rattle.dd_encoding.specs.declared.syntax.Length.{Length}
 use Rattle.dd_encoding.specs.declared.syntax.Syntax.{Syntax}
-use Rattle.dd_encoding.specs.Elements.{Elements, Content, Items, Entry, Part, elements_of, items_of}
+use Rattle.dd_encoding.specs.Elements.{Elements, Content, Items, Element, Item, elements_of, items_of}
 use Rattle.dd_set.specs.AnswersAs.{FailsAs}
 use Rattle.dd_set.specs.Faults.{is_memory}
 use Rattle.dd_set.specs.Reading.{Header, front_at, element_behind, item_front_at, item_behind, At, Reads, ◌>>=◌}
@@ -66,7 +66,7 @@ module _ (part : ItemReader) (syntax : Syntax) (form : Length) (at : At) where
   unfolding item_at
   item_none end h = rw h refl
 
-  pub item_found : (n : ℕ) (mid end : At) (p : Part) → item_front_at form at ≡ Ok (Some n, mid)
+  pub item_found : (n : ℕ) (mid end : At) (p : Item) → item_front_at form at ≡ Ok (Some n, mid)
       → part syntax n mid ≡ Ok (p, end) → item_at part syntax form at ≡ Ok (Some p, end)
   unfolding item_at
   item_found n mid end p h k = rw (h, k) refl
@@ -115,7 +115,7 @@ deeper_is levels inner n syntax at e = rw e refl
 -- an element with this tag was read, and bytes with it
 pub record ElementStep (sequence : SequenceReader) (syntax : Syntax) (form : Length) (low : ℕ) (left : Option ℕ)
     (tag : Tag) (bytes : List ℕ) (now : Option ℕ) (rest : List ℕ) : Type 0 where
-  pub entry : Entry
+  pub entry : Element
   pub tagged : entry.tag ≡ tag
   pub read : element_at sequence syntax form low (record { left = left; bytes = bytes }) ≡ Ok
       (Some entry, record { left = now; bytes = rest })
@@ -124,7 +124,7 @@ pub record ElementStep (sequence : SequenceReader) (syntax : Syntax) (form : Len
 -- an item was read
 pub record ItemStep (part : ItemReader) (syntax : Syntax) (form : Length) (left : Option ℕ) (bytes : List ℕ)
     (now : Option ℕ) (rest : List ℕ) : Type 0 where
-  pub item : Part
+  pub item : Item
   pub read : item_at part syntax form (record { left = left; bytes = bytes }) ≡ Ok
       (Some item, record { left = now; bytes = rest })
   pub shorter : length rest < length bytes
@@ -162,7 +162,7 @@ item_steps part syntax form left n bytes behind now mid rest h k few = record {
 pub record ElementsGo (part : ItemReader) (syntax : Syntax) (form : Length) (first : Option ℕ) (bytes : List ℕ)
     (low : ℕ) (left : Option ℕ) (rest : List ℕ) : Type 0 where
   pub most : ℕ
-  pub front : List Entry
+  pub front : List Element
   pub enough : length rest < most
   pub so_far : with_elements front (elements_at (sequence_with part) syntax form most low
       (record { left = left; bytes = rest })) ≡ set_with part syntax form (record { left = first; bytes = bytes })
@@ -171,7 +171,7 @@ pub record ElementsGo (part : ItemReader) (syntax : Syntax) (form : Length) (fir
 pub record ItemsGo (part : ItemReader) (syntax : Syntax) (form : Length) (first : Option ℕ) (bytes : List ℕ)
     (left : Option ℕ) (rest : List ℕ) : Type 0 where
   pub most : ℕ
-  pub front : List Part
+  pub front : List Item
   pub enough : length rest < most
   pub so_far : with_items front (items_at part syntax form most (record { left = left; bytes = rest })) ≡ sequence_with
       part syntax form (record { left = first; bytes = bytes })
@@ -198,7 +198,7 @@ module _ (part : ItemReader) (syntax : Syntax) (form : Length) (first : Option �
   items_start bytes = record { most = suc (length bytes); front = []; enough = omega arith; so_far = with_no_items _ }
 
   module _ (bytes : List ℕ) (left : Option ℕ) (mid : List ℕ) where
-    pub elements_go : (low : ℕ) (e : Entry) (now : Option ℕ) (rest : List ℕ)
+    pub elements_go : (low : ℕ) (e : Element) (now : Option ℕ) (rest : List ℕ)
         → ElementsGo part syntax form first bytes low left mid
         → element_at (sequence_with part) syntax form low (record { left = left; bytes = mid }) ≡ Ok
         (Some e, record { left = now; bytes = rest }) → length rest < length mid
@@ -223,7 +223,7 @@ module _ (part : ItemReader) (syntax : Syntax) (form : Length) (first : Option �
     elements_stop low e go h = elements_fail (sequence_with part) syntax form (length mid) go.most low go.front
         (record { left = left; bytes = mid }) _ e go.enough h go.so_far
 
-    pub items_go : (p : Part) (now : Option ℕ) (rest : List ℕ) → ItemsGo part syntax form first bytes left mid
+    pub items_go : (p : Item) (now : Option ℕ) (rest : List ℕ) → ItemsGo part syntax form first bytes left mid
         → item_at part syntax form (record { left = left; bytes = mid }) ≡ Ok
         (Some p, record { left = now; bytes = rest }) → length rest < length mid
         → ItemsGo part syntax form first bytes now rest

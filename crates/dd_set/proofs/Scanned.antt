@@ -13,7 +13,7 @@ use Rattle.dd_set.specs.declared.found.FoundValue.{FoundValue}
 use Rattle.dd_encoding.specs.declared.syntax.Length.TheVariants.{Defined, Undefined}
 use Rattle.dd_encoding.specs.declared.syntax.Syntax.{Syntax}
 use Rattle.dd_set.specs.Checks.{sorted}
-use Rattle.dd_encoding.specs.Elements.{Content, bytes, items, fragments, Entry, elements_of}
+use Rattle.dd_encoding.specs.Elements.{Content, bytes, items, fragments, Element, elements_of}
 use Rattle.dd_set.specs.AnswersAs.{FailsAs}
 use Rattle.dd_set.specs.Faults.{is_memory}
 use Rattle.dd_set.specs.Reading.{Header, front_at, At, Reads, ◌>>=◌, SequenceReader, ItemReader, content_at, element_at}
@@ -21,7 +21,7 @@ use Rattle.dd_set.specs.Reading.{elements_at, sequence_with, set_with, within, f
 use Rattle.dd_set.specs.Scan.{Summary, Hit, hit_of, is_wanted, hits_of, first_tag, first_of, summary_of, found_summary}
 use Rattle.dd_set.specs.Scan.{summary_where, noted, whole_elements, summary_of_sort}
 use Rattle.dd_set.specs.Skips.{GivesSummary, IsThere}
-use Rattle.dd_set.proofs.Entries.{entries_of-elements_of}
+use Rattle.dd_set.proofs.FoundElements.{element_list-elements_of}
 use Rattle.dd_set.proofs.Feeding.{bind_fails}
 use Rattle.dd_set.proofs.Loops.{with_elements, fails_along, elements_more, elements_done, elements_fail}
 use Rattle.dd_set.proofs.ReadingOn.{with_no_elements, element_found}
@@ -58,41 +58,41 @@ summary_of_items read sorts.Fragments at end y other h =
 -- ---- sets
 
 module _ (wanted : List Tag) where
-  hits_in : List Entry → List Hit
+  hits_in : List Element → List Hit
   hits_in es = map hit_of (filter (λ e. is_wanted wanted e.tag) es)
 
-  hits_one : (b : Bool) (e : Entry) → map hit_of (if b then (e ∷ []) else []) ≡ noted e.tag (summary_where b e.content)
+  hits_one : (b : Bool) (e : Element) → map hit_of (if b then (e ∷ []) else []) ≡ noted e.tag (summary_where b e.content)
   hits_one true e = refl
   hits_one false e = refl
 
-  hits_more : (b : Bool) (q e : Entry) (all some : List Entry) → map hit_of all ≡ map hit_of some
+  hits_more : (b : Bool) (q e : Element) (all some : List Element) → map hit_of all ≡ map hit_of some
       ++ noted e.tag (summary_where (is_wanted wanted e.tag) e.content)
       → map hit_of (if b then (q ∷ all) else all) ≡ map hit_of (if b then (q ∷ some) else some)
       ++ noted e.tag (summary_where (is_wanted wanted e.tag) e.content)
   hits_more true q e all some h = ap (λ (hs : List Hit). hit_of q ∷ hs) h
   hits_more false q e all some h = h
 
-  hits_in-push : (es : List Entry) (e : Entry) → hits_in (es ++ e ∷ []) ≡ hits_in es
+  hits_in-push : (es : List Element) (e : Element) → hits_in (es ++ e ∷ []) ≡ hits_in es
       ++ noted e.tag (summary_where (is_wanted wanted e.tag) e.content)
   unfolding hits_in
   hits_in-push [] e = hits_one (is_wanted wanted e.tag) e
   hits_in-push (q ∷ qs) e = hits_more (is_wanted wanted q.tag) q e (filter (λ x. is_wanted wanted x.tag) (qs ++ e ∷ []))
       (filter (λ x. is_wanted wanted x.tag) qs) (hits_in-push qs e)
 
-  hits_of-push : (front : List Entry) (e : Entry) → hits_of wanted (elements_of (front ++ e ∷ [])) ≡ hits_of wanted
+  hits_of-push : (front : List Element) (e : Element) → hits_of wanted (elements_of (front ++ e ∷ [])) ≡ hits_of wanted
       (elements_of front) ++ noted e.tag (summary_where (is_wanted wanted e.tag) e.content)
   unfolding hits_in
-  hits_of-push front e = rw (entries_of-elements_of (front ++ e ∷ []), entries_of-elements_of front)
+  hits_of-push front e = rw (element_list-elements_of (front ++ e ∷ []), element_list-elements_of front)
       (hits_in-push front e)
 
-first_tag-push : (front : List Entry) (e : Entry) → first_tag (front ++ e ∷ []) ≡ Some
+first_tag-push : (front : List Element) (e : Element) → first_tag (front ++ e ∷ []) ≡ Some
     (unwrap_or (first_tag front) e.tag)
 first_tag-push [] e = refl
 first_tag-push (q ∷ qs) e = refl
 
-first_of-push : (front : List Entry) (e : Entry) → first_of (elements_of (front ++ e ∷ [])) ≡ Some
+first_of-push : (front : List Element) (e : Element) → first_of (elements_of (front ++ e ∷ [])) ≡ Some
     (unwrap_or (first_of (elements_of front)) e.tag)
-first_of-push front e = rw (entries_of-elements_of (front ++ e ∷ []), entries_of-elements_of front)
+first_of-push front e = rw (element_list-elements_of (front ++ e ∷ []), element_list-elements_of front)
     (first_tag-push front e)
 
 -- an element with this header was read, this is the summary of its value, and bytes went with it
@@ -122,7 +122,7 @@ value_steps reader syntax low left header value keeps all behind now mid rest h 
 -- an element with this tag was read whole
 pub record ElementThere (reader : SequenceReader) (syntax : Syntax) (low : ℕ) (left : Option ℕ) (tag : Tag)
     (all rest : List ℕ) : Type 0 where
-  pub entry : Entry
+  pub entry : Element
   pub tagged : entry.tag ≡ tag
   pub now : Option ℕ
   pub read : element_at reader syntax Defined low (record { left = left; bytes = all }) ≡ Ok
@@ -143,28 +143,28 @@ element_there reader syntax low left header all behind mid rest h k = record {
 }
 
 -- those that were read whole, and one more
-whole_more : (reader : SequenceReader) (syntax : Syntax) (n most low : ℕ) (front : List Entry) (at end : At) (e : Entry)
-    (total : List Entry) → n < most → element_at reader syntax Defined low at ≡ Ok (Some e, end)
+whole_more : (reader : SequenceReader) (syntax : Syntax) (n most low : ℕ) (front : List Element) (at end : At) (e : Element)
+    (total : List Element) → n < most → element_at reader syntax Defined low at ≡ Ok (Some e, end)
     → front ++ whole_elements reader syntax most low at ≡ total
     → (front ++ e ∷ []) ++ whole_elements reader syntax (most - 1) (number_of e.tag + 1) end ≡ total
 unfolding whole_elements
 whole_more reader syntax n zero low front at end e total lt h so_far = absurd (omega arith)
 whole_more reader syntax n (suc most) low front at end e total lt h so_far =
     let k : suc most - 1 ≡ most = omega arith in
-    let others : List Entry = whole_elements reader syntax most (number_of e.tag + 1) end in
+    let others : List Element = whole_elements reader syntax most (number_of e.tag + 1) end in
     let one : front ++ whole_elements reader syntax (suc most) low at ≡ front ++ (e ∷ others) = rw h refl in
     rw k (append_assoc front (e ∷ []) others ∙ sym one ∙ so_far)
 
-any_among : (test : Entry → Bool) (front rest : List Entry) (e : Entry) → IsTrue (test e)
+any_among : (test : Element → Bool) (front rest : List Element) (e : Element) → IsTrue (test e)
     → IsTrue (list_any test (front ++ e ∷ rest))
 any_among test front rest e h = rw (list_any-append test front (e ∷ rest)) (grind (arith, h))
 
 -- a wanted one is among them
-wanted_among : (wanted : List Tag) (front rest : List Entry) (e : Entry) (tag : Tag) → e.tag ≡ tag
+wanted_among : (wanted : List Tag) (front rest : List Element) (e : Element) (tag : Tag) → e.tag ≡ tag
     → IsTrue (is_wanted wanted tag)
-    → IsTrue (list_any (λ (q : Entry). is_wanted wanted q.tag) ((front ++ e ∷ []) ++ rest))
+    → IsTrue (list_any (λ (q : Element). is_wanted wanted q.tag) ((front ++ e ∷ []) ++ rest))
 wanted_among wanted front rest e tag same h =
-    subst (λ (es : List Entry). IsTrue (list_any (λ (q : Entry). is_wanted wanted q.tag) es))
+    subst (λ (es : List Element). IsTrue (list_any (λ (q : Element). is_wanted wanted q.tag) es))
     (sym (append_assoc front (e ∷ []) rest))
     (any_among (λ q. is_wanted wanted q.tag) front rest e (rw same h))
 
@@ -172,7 +172,7 @@ wanted_among wanted front rest e tag same h =
 pub record ScanGo (wanted : List Tag) (part : ItemReader) (syntax : Syntax) (all : List ℕ) (low : ℕ) (left : Option ℕ)
     (first : Option Tag) (hits : List Hit) (rest : List ℕ) : Type 0 where
   pub most : ℕ
-  pub front : List Entry
+  pub front : List Element
   pub enough : length rest < most
   pub so_far : with_elements front (elements_at (sequence_with part) syntax Defined most low
       (record { left = left; bytes = rest })) ≡ set_with part syntax Defined (record { left = None; bytes = all })
@@ -201,7 +201,7 @@ module _ (wanted : List Tag) (part : ItemReader) (syntax : Syntax) where
         → ScanGo wanted part syntax all (number_of header.tag + 1) now (Some (unwrap_or first header.tag))
         (hits ++ noted header.tag summary) rest
     scan_go header summary now rest go step =
-        let e : Entry = record { tag = header.tag; vr = header.shape.vr; content = step.content } in
+        let e : Element = record { tag = header.tag; vr = header.shape.vr; content = step.content } in
         record {
           most = go.most - 1;
           front = go.front ++ e ∷ [];
@@ -235,11 +235,11 @@ module _ (wanted : List Tag) (part : ItemReader) (syntax : Syntax) where
 
     pub scan_wants : (tag : Tag) (rest : List ℕ) → ScanGo wanted part syntax all low left first hits mid
         → ElementThere (sequence_with part) syntax low left tag mid rest → IsTrue (is_wanted wanted tag)
-        → IsTrue (list_any (λ (e : Entry). is_wanted wanted e.tag) (whole_elements (sequence_with part) syntax
+        → IsTrue (list_any (λ (e : Element). is_wanted wanted e.tag) (whole_elements (sequence_with part) syntax
         (suc (length all)) 0 (record { left = None; bytes = all })))
     scan_wants tag rest go step h =
         let more = whole_more (sequence_with part) syntax (length mid) go.most low go.front
         (record { left = left; bytes = mid }) (record { left = step.now; bytes = rest }) step.entry _ go.enough
         step.read go.whole in
-        subst (λ (es : List Entry). IsTrue (list_any (λ (e : Entry). is_wanted wanted e.tag) es)) more
+        subst (λ (es : List Element). IsTrue (list_any (λ (e : Element). is_wanted wanted e.tag) es)) more
         (wanted_among wanted go.front _ step.entry tag step.tagged h)

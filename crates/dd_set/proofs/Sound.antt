@@ -15,8 +15,8 @@ use Rattle.dd_encoding.specs.declared.syntax.Length.TheVariants.{Defined, Undefi
 use Rattle.dd_encoding.specs.declared.syntax.Syntax.{Syntax}
 use Rattle.dd_stream.specs.Bytes.{AreBytes}
 use Rattle.dd_encoding.specs.Elements.{Elements, no_elements, element, Content, bytes, items, fragments, Items, item}
-use Rattle.dd_encoding.specs.Elements.{Entry}
-use Rattle.dd_encoding.specs.Elements.{Part}
+use Rattle.dd_encoding.specs.Elements.{Element}
+use Rattle.dd_encoding.specs.Elements.{Item}
 use Rattle.dd_encoding.specs.Spelling.{undefined_length, delimiter_group, tag_text, shape_text, header_text}
 use Rattle.dd_encoding.specs.Spelling.{item_tag_text}
 use Rattle.dd_encoding.specs.Spelling.{item_end_tag, item_end_text, sequence_end_tag, sequence_end_text, length_of}
@@ -61,31 +61,31 @@ content_parts vr (items form parts) = refl
 content_parts vr (fragments fs) = refl
 
 -- an element by itself
-abbrev pub entry_text : Entry → List ℕ
-entry_text e = tag_text e.tag ++ content_text e.vr e.content
+abbrev pub element_text : Element → List ℕ
+element_text e = tag_text e.tag ++ content_text e.vr e.content
 
 -- an element that a set may have, with a tag not below `low`
-abbrev pub IsEntry : Syntax → ℕ → ℕ → Entry → Type 0
-IsEntry syntax d low e = (low ≤ number_of e.tag) × (e.tag.group < 2 ^ 16) × (e.tag.element < 2 ^ 16)
+abbrev pub IsElement : Syntax → ℕ → ℕ → Element → Type 0
+IsElement syntax d low e = (low ≤ number_of e.tag) × (e.tag.group < 2 ^ 16) × (e.tag.element < 2 ^ 16)
     × (e.tag.group ≢ delimiter_group) × IsContent syntax d e.vr e.content × MayHave e.tag e.content
 
 -- an item by itself: behind its header, the length that its header gives, and all of it
-abbrev pub part_body : Part → List ℕ
-part_body p = closed p.length item_end_text (elements_text p.set)
+abbrev pub item_body : Item → List ℕ
+item_body p = closed p.length item_end_text (elements_text p.set)
 
-abbrev pub part_length : Part → ℕ
+abbrev pub part_length : Item → ℕ
 part_length p = length_of p.length (elements_text p.set)
 
-abbrev pub part_text : Part → List ℕ
-part_text p = item_tag_text ++ (little_bytes 4 (part_length p) ++ part_body p)
+abbrev pub item_text : Item → List ℕ
+item_text p = item_tag_text ++ (little_bytes 4 (part_length p) ++ item_body p)
 
 -- an item that a sequence may have, where so many levels may nest, itself included
-abbrev pub IsPart : Syntax → ℕ → Part → Type 0
-IsPart syntax zero p = ⊥
-IsPart syntax (suc d) p = AreElements syntax d 0 p.set × FitsLong p.length (elements_text p.set)
+abbrev pub IsItem : Syntax → ℕ → Item → Type 0
+IsItem syntax zero p = ⊥
+IsItem syntax (suc d) p = AreElements syntax d 0 p.set × FitsLong p.length (elements_text p.set)
 
 -- one more item
-pub AreItems-more : (syntax : Syntax) (d : ℕ) (p : Part) (rest : Items) → IsPart syntax d p → AreItems syntax d rest
+pub AreItems-more : (syntax : Syntax) (d : ℕ) (p : Item) (rest : Items) → IsItem syntax d p → AreItems syntax d rest
     → AreItems syntax d (item p.length p.set rest)
 AreItems-more syntax zero p rest h k = h
 AreItems-more syntax (suc d) p rest h k = (h.0, h.1, k)
@@ -111,11 +111,11 @@ SetLaw d read = (syntax : Syntax) (form : Length) (at : At) (x : Elements × At)
     → read syntax form at ≡ Ok x → SetTaken syntax d form 0 at x.0 x.1
 
 -- an item that was read behind a header with this length
-abbrev pub PartTaken : Syntax → ℕ → ℕ → At → Part → At → Type 0
-PartTaken syntax d n at p next = Takes at (part_body p) next × (n ≡ part_length p) × IsPart syntax d p
+abbrev pub PartTaken : Syntax → ℕ → ℕ → At → Item → At → Type 0
+PartTaken syntax d n at p next = Takes at (item_body p) next × (n ≡ part_length p) × IsItem syntax d p
 
 abbrev pub PartLaw : ℕ → ItemReader → Type 0
-PartLaw d read = (syntax : Syntax) (n : ℕ) (at : At) (x : Part × At) → AreBytes at.bytes → n < 2 ^ 32
+PartLaw d read = (syntax : Syntax) (n : ℕ) (at : At) (x : Item × At) → AreBytes at.bytes → n < 2 ^ 32
     → read syntax n at ≡ Ok x → PartTaken syntax d n at x.0 x.1
 
 -- ---- ends
@@ -261,9 +261,9 @@ module _ (d : ℕ) (sequence : SequenceReader) (law : SequenceLaw d sequence) wh
       ]
 
   -- an element behind its first eight bytes
-  pub body_takes : (syntax : Syntax) (low : ℕ) (head : List ℕ) (at : At) (x : Entry × At) → length head ≡ 8
+  pub body_takes : (syntax : Syntax) (low : ℕ) (head : List ℕ) (at : At) (x : Element × At) → length head ≡ 8
       → AreBytes head → AreBytes at.bytes → body_at sequence syntax low head at ≡ Ok x → (text : List ℕ)
-      × Takes at text x.1 × (head ++ text ≡ entry_text x.0) × IsEntry syntax d low x.0
+      × Takes at text x.1 × (head ++ text ≡ element_text x.0) × IsElement syntax d low x.0
   unfolding body_at
   body_takes syntax low head at x len hfits fits e =
       let tag : Tag = tag_of head in
@@ -276,20 +276,20 @@ module _ (d : ℕ) (sequence : SequenceReader) (law : SequenceLaw d sequence) wh
       let c = bind_ok (content_at sequence syntax (record { tag = tag_of head; shape = s.0.0 }) s.0.1)
       (λ y. Ok (record { tag = tag_of head; vr = s.0.0.vr; content = y.0 }, y.1)) x s.2 in
       let t = content_takes syntax tag s.0.0 s.0.1 c.0 shaped.takes.fits shaped.form shaped.below c.1 in
-      let made : Entry = record { tag = tag; vr = s.0.0.vr; content = c.0.0 } in
+      let made : Element = record { tag = tag; vr = s.0.0.vr; content = c.0.0 } in
       let both : Takes at (shaped.text ++ content_body c.0.0) c.0.1 =
       Takes-then at s.0.1 c.0.1 shaped.text (content_body c.0.0) shaped.takes t.0 in
       let split : head ≡ tag_text tag ++ drop 4 head = sym (take-append-drop 4 head)
       ∙ ap (λ (y : List ℕ). y ++ drop 4 head) (sym (head_tag head len hfits)) in
       let shape_is : drop 4 head ++ shaped.text ≡ shape_text s.0.0.vr (content_length c.0.0) = shaped.whole
       ∙ ap (λ (n : ℕ). shape_text s.0.0.vr n) t.1 in
-      let whole : head ++ (shaped.text ++ content_body c.0.0) ≡ entry_text made =
+      let whole : head ++ (shaped.text ++ content_body c.0.0) ≡ element_text made =
       regroup head (tag_text tag) (drop 4 head) shaped.text (content_body c.0.0)
       (shape_text s.0.0.vr (content_length c.0.0)) split shape_is
       ∙ ap (λ (y : List ℕ). tag_text tag ++ y) (sym (content_parts s.0.0.vr c.0.0)) in
       let low_is : low ≤ number_of tag = ltb-false _ _ b.0 in
       let group_ne : tag.group ≢ delimiter_group = eqb-false _ _ a.0 in
-      let valid : IsEntry syntax d low made = (
+      let valid : IsElement syntax d low made = (
         low_is,
         short_below head hfits,
         short_below (drop 2 head)
@@ -298,23 +298,23 @@ module _ (d : ℕ) (sequence : SequenceReader) (law : SequenceLaw d sequence) wh
         t.2,
         t.3,
       ) in
-      subst (λ (y : Entry × At). (text : List ℕ) × Takes at text y.1 × (head ++ text ≡ entry_text y.0)
-      × IsEntry syntax d low y.0) (ok_is (made, c.0.1) x c.2)
+      subst (λ (y : Element × At). (text : List ℕ) × Takes at text y.1 × (head ++ text ≡ element_text y.0)
+      × IsElement syntax d low y.0) (ok_is (made, c.0.1) x c.2)
       (shaped.text ++ content_body c.0.0, both, whole, valid)
 
 -- an element that was read, or the end of its set
-abbrev pub ElementTaken : ℕ → Syntax → Length → ℕ → At → Option Entry → At → Type 0
+abbrev pub ElementTaken : ℕ → Syntax → Length → ℕ → At → Option Element → At → Type 0
 ElementTaken d syntax form low at None next = Takes at (closed form item_end_text []) next × Ends form next
-ElementTaken d syntax form low at (Some e) next = Takes at (entry_text e) next × IsEntry syntax d low e
+ElementTaken d syntax form low at (Some e) next = Takes at (element_text e) next × IsElement syntax d low e
 
 module _ (d : ℕ) (sequence : SequenceReader) (law : SequenceLaw d sequence) where
   -- the next element, or the end of the set
-  pub element_takes : (syntax : Syntax) (form : Length) (low : ℕ) (at : At) (x : Option Entry × At) → AreBytes at.bytes
+  pub element_takes : (syntax : Syntax) (form : Length) (low : ℕ) (at : At) (x : Option Element × At) → AreBytes at.bytes
       → element_at sequence syntax form low at ≡ Ok x → ElementTaken d syntax form low at x.0 x.1
   unfolding whole_element
   element_takes syntax form low at x fits e =
       elim (chosen (is_over form at) (Ok (None, at)) _ (Ok x) (sym (element_is sequence syntax form low at) ∙ e)) [
-        | inl over ↦ subst (λ (y : Option Entry × At). ElementTaken d syntax form low at y.0 y.1)
+        | inl over ↦ subst (λ (y : Option Element × At). ElementTaken d syntax form low at y.0 y.1)
             (ok_is (None, at) x over.1) (over_ends form item_end_text at fits over.0)
         | inr on ↦
             let h = bind_ok (take_at 8 at) (λ head. if ends_set form head.0
@@ -330,14 +330,14 @@ module _ (d : ℕ) (sequence : SequenceReader) (law : SequenceLaw d sequence) wh
                   let mark = set_mark form head t.1 t.2 ends.0 none.0 in
                   let took : Takes at (closed form item_end_text []) behind =
                   subst (λ (y : List ℕ). Takes at y behind) mark.0 t.0 in
-                  subst (λ (y : Option Entry × At). ElementTaken d syntax form low at y.0 y.1)
+                  subst (λ (y : Option Element × At). ElementTaken d syntax form low at y.0 y.1)
                   (ok_is (None, behind) x none.1) (took, ends_undefined form behind mark.1)
               | inr more ↦
                   let b = bind_ok (body_at sequence syntax low head behind) (λ y. Ok (Some y.0, y.1)) x more.1 in
                   let body = body_takes d sequence law syntax low head behind b.0 t.1 t.2 t.0.fits b.1 in
                   let both : Takes at (head ++ body.0) b.0.1 = Takes-then at behind b.0.1 head body.0 t.0 body.1 in
-                  let took : Takes at (entry_text b.0.0) b.0.1 = subst (λ (y : List ℕ). Takes at y b.0.1) body.2 both in
-                  subst (λ (y : Option Entry × At). ElementTaken d syntax form low at y.0 y.1)
+                  let took : Takes at (element_text b.0.0) b.0.1 = subst (λ (y : List ℕ). Takes at y b.0.1) body.2 both in
+                  subst (λ (y : Option Element × At). ElementTaken d syntax form low at y.0 y.1)
                   (ok_is (Some b.0.0, b.0.1) x b.2) (took, body.3)
             ]
       ]
@@ -352,7 +352,7 @@ module _ (d : ℕ) (sequence : SequenceReader) (law : SequenceLaw d sequence) wh
   next_takes : (syntax : Syntax) (form : Length) (low : ℕ) (at : At) (others : ℕ → At → Reads Elements)
       → ((l : ℕ) (a : At) (y : Elements × At) → AreBytes a.bytes → others l a ≡ Ok y
       → SetTaken syntax d form l a y.0 y.1)
-      → (o : Option Entry) (next : At) (x : Elements × At) → AreBytes next.bytes
+      → (o : Option Element) (next : At) (x : Elements × At) → AreBytes next.bytes
       → ElementTaken d syntax form low at o next → next_elements others (o, next) ≡ Ok x
       → SetTaken syntax d form low at x.0 x.1
   next_takes syntax form low at others ih None next x fits h e =
@@ -362,8 +362,8 @@ module _ (d : ℕ) (sequence : SequenceReader) (law : SequenceLaw d sequence) wh
       let a = bind_ok (others (number_of f.tag + 1) next) (λ y. Ok (element f.tag f.vr f.content y.0, y.1)) x e in
       let r = ih (number_of f.tag + 1) next a.0 fits a.1 in
       let made : Elements = element f.tag f.vr f.content a.0.0 in
-      let both : Takes at (entry_text f ++ closed form item_end_text (elements_text a.0.0)) a.0.1 =
-      Takes-then at next a.0.1 (entry_text f) (closed form item_end_text (elements_text a.0.0)) h.0 r.0 in
+      let both : Takes at (element_text f ++ closed form item_end_text (elements_text a.0.0)) a.0.1 =
+      Takes-then at next a.0.1 (element_text f) (closed form item_end_text (elements_text a.0.0)) h.0 r.0 in
       let took : Takes at (closed form item_end_text (elements_text made)) a.0.1 =
       subst (λ (y : List ℕ). Takes at y a.0.1) (set_text_more form item_end_text (tag_text f.tag)
       (content_text f.vr f.content) (elements_text a.0.0)) both in
@@ -372,7 +372,7 @@ module _ (d : ℕ) (sequence : SequenceReader) (law : SequenceLaw d sequence) wh
       (took, valid, r.2)
 
   -- bytes are left
-  taken_fits : (syntax : Syntax) (form : Length) (low : ℕ) (at : At) (o : Option Entry) (next : At)
+  taken_fits : (syntax : Syntax) (form : Length) (low : ℕ) (at : At) (o : Option Element) (next : At)
       → ElementTaken d syntax form low at o next → AreBytes next.bytes
   taken_fits syntax form low at None next h = h.0.fits
   taken_fits syntax form low at (Some e) next h = h.0.fits

@@ -11,7 +11,7 @@ use Rattle.dd_encoding.specs.declared.syntax.Length.TheVariants.{Defined, Undefi
 use Rattle.dd_encoding.specs.declared.syntax.Syntax.{Syntax}
 use Rattle.dd_stream.specs.Bytes.{AreBytes}
 use Rattle.dd_encoding.specs.Elements.{Elements, Items, no_items, item}
-use Rattle.dd_encoding.specs.Elements.{Part}
+use Rattle.dd_encoding.specs.Elements.{Item}
 use Rattle.dd_encoding.specs.Spelling.{undefined_length, header_text, item_tag, item_tag_text}
 use Rattle.dd_encoding.specs.Spelling.{sequence_end_text, closed, elements_text, items_text}
 use Rattle.dd_encoding.specs.Spelling.{max_levels}
@@ -24,24 +24,24 @@ use Rattle.dd_set.proofs.Cut.{whole_item, item_is}
 use Rattle.dd_set.proofs.Steps.{bind_ok, passes, allowed, chosen, ok_is, long_below, AreBytes-drop}
 use Rattle.dd_set.proofs.Taken.{Leaves, Takes, Takes-then, taken, Ends, closed-append, within_takes}
 use Rattle.dd_set.proofs.HeaderLaws.{head_is}
-use Rattle.dd_set.proofs.Sound.{part_body, part_length, part_text, IsPart, AreItems-more, SequenceTaken, SequenceLaw}
+use Rattle.dd_set.proofs.Sound.{item_body, part_length, item_text, IsItem, AreItems-more, SequenceTaken, SequenceLaw}
 use Rattle.dd_set.proofs.Sound.{SetLaw, PartTaken, PartLaw, over_ends, sequence_mark, ends_undefined, elements_take}
 
 -- ---- an item
 
 -- an item that was read, or the end of its sequence
-abbrev pub ItemTaken : ℕ → Syntax → Length → At → Option Part → At → Type 0
+abbrev pub ItemTaken : ℕ → Syntax → Length → At → Option Item → At → Type 0
 ItemTaken d syntax form at None next = Takes at (closed form sequence_end_text []) next × Ends form next
-ItemTaken d syntax form at (Some p) next = Takes at (part_text p) next × IsPart syntax d p
+ItemTaken d syntax form at (Some p) next = Takes at (item_text p) next × IsItem syntax d p
 
 module _ (d : ℕ) (part : ItemReader) (law : PartLaw d part) where
   -- the next item, or the end of the sequence
-  pub item_takes : (syntax : Syntax) (form : Length) (at : At) (x : Option Part × At) → AreBytes at.bytes
+  pub item_takes : (syntax : Syntax) (form : Length) (at : At) (x : Option Item × At) → AreBytes at.bytes
       → item_at part syntax form at ≡ Ok x → ItemTaken d syntax form at x.0 x.1
   unfolding whole_item
   item_takes syntax form at x fits e =
       elim (chosen (is_over form at) (Ok (None, at)) _ (Ok x) (sym (item_is part syntax form at) ∙ e)) [
-        | inl over ↦ subst (λ (y : Option Part × At). ItemTaken d syntax form at y.0 y.1) (ok_is (None, at) x over.1)
+        | inl over ↦ subst (λ (y : Option Item × At). ItemTaken d syntax form at y.0 y.1) (ok_is (None, at) x over.1)
             (over_ends form sequence_end_text at fits over.0)
         | inr on ↦
             let h = bind_ok (take_at 8 at) (λ head. if ends_sequence form head.0
@@ -59,23 +59,23 @@ module _ (d : ℕ) (part : ItemReader) (law : PartLaw d part) where
                   let mark = sequence_mark form head t.1 t.2 ends.0 none.0 in
                   let took : Takes at (closed form sequence_end_text []) behind =
                   subst (λ (y : List ℕ). Takes at y behind) mark.0 t.0 in
-                  subst (λ (y : Option Part × At). ItemTaken d syntax form at y.0 y.1) (ok_is (None, behind) x none.1)
+                  subst (λ (y : Option Item × At). ItemTaken d syntax form at y.0 y.1) (ok_is (None, behind) x none.1)
                   (took, ends_undefined form behind mark.1)
               | inr more ↦
                   let is = allowed (is_item head) UnexpectedTag
                   (part syntax (long_of head) behind >>= λ y. Ok (Some y.0, y.1)) x more.1 in
                   let b = bind_ok (part syntax (long_of head) behind) (λ y. Ok (Some y.0, y.1)) x is.1 in
-                  let p : Part = b.0.0 in
+                  let p : Item = b.0.0 in
                   let l = law syntax (long_of head) behind b.0 t.0.fits
                   (long_below (drop 4 head) (AreBytes-drop 4 head t.2)) b.1 in
                   let front : head ≡ item_tag_text ++ little_bytes 4 (part_length p) =
                   head_is head item_tag t.1 t.2 is.0 ∙ ap (λ (n : ℕ). header_text item_tag None n) l.1 in
-                  let both : Takes at (head ++ part_body p) b.0.1 =
-                  Takes-then at behind b.0.1 head (part_body p) t.0 l.0 in
-                  let whole : head ++ part_body p ≡ part_text p = ap (λ (y : List ℕ). y ++ part_body p) front
-                  ∙ append_assoc item_tag_text (little_bytes 4 (part_length p)) (part_body p) in
-                  let took : Takes at (part_text p) b.0.1 = subst (λ (y : List ℕ). Takes at y b.0.1) whole both in
-                  subst (λ (y : Option Part × At). ItemTaken d syntax form at y.0 y.1) (ok_is (Some p, b.0.1) x b.2)
+                  let both : Takes at (head ++ item_body p) b.0.1 =
+                  Takes-then at behind b.0.1 head (item_body p) t.0 l.0 in
+                  let whole : head ++ item_body p ≡ item_text p = ap (λ (y : List ℕ). y ++ item_body p) front
+                  ∙ append_assoc item_tag_text (little_bytes 4 (part_length p)) (item_body p) in
+                  let took : Takes at (item_text p) b.0.1 = subst (λ (y : List ℕ). Takes at y b.0.1) whole both in
+                  subst (λ (y : Option Item × At). ItemTaken d syntax form at y.0 y.1) (ok_is (Some p, b.0.1) x b.2)
                   (took, l.2)
             ]
       ]
@@ -90,7 +90,7 @@ module _ (d : ℕ) (part : ItemReader) (law : PartLaw d part) where
   -- the items behind one, or none
   next_item_takes : (syntax : Syntax) (form : Length) (at : At) (others : At → Reads Items)
       → ((a : At) (y : Items × At) → AreBytes a.bytes → others a ≡ Ok y → SequenceTaken syntax d form a y.0 y.1)
-      → (o : Option Part) (next : At) (x : Items × At) → AreBytes next.bytes → ItemTaken d syntax form at o next
+      → (o : Option Item) (next : At) (x : Items × At) → AreBytes next.bytes → ItemTaken d syntax form at o next
       → next_items others (o, next) ≡ Ok x → SequenceTaken syntax d form at x.0 x.1
   next_item_takes syntax form at others ih None next x fits h e =
       subst (λ (y : Items × At). SequenceTaken syntax d form at y.0 y.1) (ok_is (no_items, next) x e) (h.0, tt, h.1)
@@ -98,16 +98,16 @@ module _ (d : ℕ) (part : ItemReader) (law : PartLaw d part) where
       let a = bind_ok (others next) (λ y. Ok (item p.length p.set y.0, y.1)) x e in
       let r = ih next a.0 fits a.1 in
       let made : Items = item p.length p.set a.0.0 in
-      let both : Takes at (part_text p ++ closed form sequence_end_text (items_text a.0.0)) a.0.1 =
-      Takes-then at next a.0.1 (part_text p) (closed form sequence_end_text (items_text a.0.0)) h.0 r.0 in
+      let both : Takes at (item_text p ++ closed form sequence_end_text (items_text a.0.0)) a.0.1 =
+      Takes-then at next a.0.1 (item_text p) (closed form sequence_end_text (items_text a.0.0)) h.0 r.0 in
       let took : Takes at (closed form sequence_end_text (items_text made)) a.0.1 =
       subst (λ (y : List ℕ). Takes at y a.0.1) (items_text_more form sequence_end_text item_tag_text
-      (little_bytes 4 (part_length p)) (part_body p) (items_text a.0.0)) both in
+      (little_bytes 4 (part_length p)) (item_body p) (items_text a.0.0)) both in
       let valid : AreItems syntax d made = AreItems-more syntax d p a.0.0 h.1 r.1 in
       subst (λ (y : Items × At). SequenceTaken syntax d form at y.0 y.1) (ok_is (made, a.0.1) x a.2) (took, valid, r.2)
 
   -- bytes are left
-  item_taken_fits : (syntax : Syntax) (form : Length) (at : At) (o : Option Part) (next : At)
+  item_taken_fits : (syntax : Syntax) (form : Length) (at : At) (o : Option Item) (next : At)
       → ItemTaken d syntax form at o next → AreBytes next.bytes
   item_taken_fits syntax form at None next h = h.0.fits
   item_taken_fits syntax form at (Some p) next h = h.0.fits
@@ -142,8 +142,8 @@ part_takes d set law syntax n at x fits below e =
           let len : n ≡ undefined_length = eqb-true _ _ a.0 in
           let s = bind_ok (set syntax Undefined at) (λ y. Ok (record { length = Undefined; set = y.0 }, y.1)) x a.1 in
           let l = law syntax Undefined at s.0 fits s.1 in
-          let made : Part × At = (record { length = Undefined; set = s.0.0 }, s.0.1) in
-          subst (λ (y : Part × At). PartTaken syntax (suc d) n at y.0 y.1) (ok_is made x s.2) (l.0, len, (l.1, tt))
+          let made : Item × At = (record { length = Undefined; set = s.0.0 }, s.0.1) in
+          subst (λ (y : Item × At). PartTaken syntax (suc d) n at y.0 y.1) (ok_is made x s.2) (l.0, len, (l.1, tt))
       | inr b ↦
           let odd = passes (n % 2 == 1) OddLength _ x b.1 in
           let room = passes (leaves_fewer at.left n) Overrun _ x odd.1 in
@@ -155,8 +155,8 @@ part_takes d set law syntax n at x fits below e =
           let low : n < undefined_length = omega arith in
           let fits' : length (elements_text s.0.0) < undefined_length =
           subst (λ (k : ℕ). k < undefined_length) t.1 low in
-          let made : Part × At = (record { length = Defined; set = s.0.0 }, s.0.1) in
-          subst (λ (y : Part × At). PartTaken syntax (suc d) n at y.0 y.1) (ok_is made x s.2) (t.0, t.1, (t.2, fits'))
+          let made : Item × At = (record { length = Defined; set = s.0.0 }, s.0.1) in
+          subst (λ (y : Item × At). PartTaken syntax (suc d) n at y.0 y.1) (ok_is made x s.2) (t.0, t.1, (t.2, fits'))
     ]
 
 -- ---- levels

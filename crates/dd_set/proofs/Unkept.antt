@@ -10,9 +10,9 @@ use Rattle.dd_set.specs.declared.fault.SetFault.TheVariants.{Memory}
 use Rattle.dd_encoding.specs.declared.syntax.Length.{Length}
 use Rattle.dd_encoding.specs.declared.syntax.Length.TheVariants.{Defined, Undefined}
 use Rattle.dd_encoding.specs.declared.syntax.Syntax.{Syntax}
-use Rattle.dd_encoding.specs.Elements.{Elements, Items, items, Entry, Part}
+use Rattle.dd_encoding.specs.Elements.{Elements, Items, items, Element, Item}
 use Rattle.dd_set.specs.Memory.{keeps_no_item, unkept_sequence, keeps_no_element, unkept_set, unkept_item, WantsMemory}
-use Rattle.dd_set.specs.Memory.{WantsContent, WantsEntry}
+use Rattle.dd_set.specs.Memory.{WantsContent, WantsElement}
 use Rattle.dd_set.specs.Reading.{Header, front_at, opens_fragments, open_at}
 use Rattle.dd_set.specs.Reading.{At, Reads, Shape, ◌>>=◌, SequenceReader, SetReader, ItemReader, take_at, less}
 use Rattle.dd_set.specs.Reading.{leaves_fewer, within, undefined_at, defined_at, content_at, tag_of, long_of, shape_at}
@@ -107,7 +107,7 @@ module _ (full unkept : SequenceReader) (law : (syntax : Syntax) (form : Length)
       (body_alike syntax low head.0 head.1)))))
 
   -- where no element has a place
-  elements_alike : (others : ℕ → At → Reads Elements) (x : Option Entry × At)
+  elements_alike : (others : ℕ → At → Reads Elements) (x : Option Element × At)
       → Alike (next_elements others x) (keeps_no_element x)
   elements_alike others (None, at) = inr refl
   elements_alike others (Some e, at) = inl refl
@@ -127,7 +127,7 @@ module _ (full unkept : ItemReader) (law : (syntax : Syntax) (n : ℕ) (at : At)
       (alike_if (is_item head.0) _ _ _ _ (alike_made (full syntax (long_of head.0) head.1)
       (unkept syntax (long_of head.0) head.1) _ (law syntax (long_of head.0) head.1)) (inr refl)))))
 
-  items_alike : (others : At → Reads Items) (x : Option Part × At) → Alike (next_items others x) (keeps_no_item x)
+  items_alike : (others : At → Reads Items) (x : Option Item × At) → Alike (next_items others x) (keeps_no_item x)
   items_alike others (None, at) = inr refl
   items_alike others (Some p, at) = inl refl
 
@@ -179,7 +179,7 @@ wanted r u x end keeps (inl e) is none = ap (λ t. t >>= keeps) e
 wanted r u x end keeps (inr e) is none = ap (λ t. t >>= keeps) (e ∙ is) ∙ none
 
 -- the first item of a sequence
-pub item_wants : (levels : ℕ) (syntax : Syntax) (form : Length) (at end : At) (p : Part)
+pub item_wants : (levels : ℕ) (syntax : Syntax) (form : Length) (at end : At) (p : Item)
     → item_at (item_reader levels) syntax form at ≡ Ok (Some p, end)
     → unkept_sequence (unkept_item levels) syntax form at ≡ Err Memory
 item_wants levels syntax form at end p is =
@@ -188,7 +188,7 @@ item_wants levels syntax form at end p is =
     (item_alike (item_reader levels) (unkept_item levels) (reader_alike levels) syntax form at) is refl
 
 -- the first element of a set
-pub element_wants : (levels : ℕ) (syntax : Syntax) (form : Length) (at end : At) (e : Entry)
+pub element_wants : (levels : ℕ) (syntax : Syntax) (form : Length) (at end : At) (e : Element)
     → element_at (sequence_with (item_reader levels)) syntax form 0 at ≡ Ok (Some e, end)
     → unkept_set (unkept_item levels) syntax form at ≡ Err Memory
 element_wants levels syntax form at end e is =
@@ -232,7 +232,7 @@ sequence_fails levels syntax form start at (inl same) fails =
     ap (λ (a : At). unkept_sequence (unkept_item levels) syntax form a) (sym same) ∙ ap (λ t. t >>= keeps_no_item) fails
 sequence_fails levels syntax form start at (inr wants) fails = wants
 
-pub sequence_wants : (levels : ℕ) (syntax : Syntax) (form : Length) (start at end : At) (p : Part)
+pub sequence_wants : (levels : ℕ) (syntax : Syntax) (form : Length) (start at end : At) (p : Item)
     → (at ≡ start) ⊎ (unkept_sequence (unkept_item levels) syntax form start ≡ Err Memory)
     → item_at (item_reader levels) syntax form at ≡ Ok (Some p, end)
     → unkept_sequence (unkept_item levels) syntax form start ≡ Err Memory
@@ -251,7 +251,7 @@ set_fails levels syntax form low start at (inl same) fails =
     ap (λ (a : At). unkept_set (unkept_item levels) syntax form a) (sym same.1) ∙ ap (λ t. t >>= keeps_no_element) first
 set_fails levels syntax form low start at (inr wants) fails = wants
 
-pub set_wants : (levels : ℕ) (syntax : Syntax) (form : Length) (low : ℕ) (start at end : At) (e : Entry)
+pub set_wants : (levels : ℕ) (syntax : Syntax) (form : Length) (low : ℕ) (start at end : At) (e : Element)
     → (low ≡ 0) × (at ≡ start) ⊎ (unkept_set (unkept_item levels) syntax form start ≡ Err Memory)
     → element_at (sequence_with (item_reader levels)) syntax form low at ≡ Ok (Some e, end)
     → unkept_set (unkept_item levels) syntax form start ≡ Err Memory
@@ -273,7 +273,7 @@ pub value_wants : (levels : ℕ) (syntax : Syntax) (form : Length) (low : ℕ) (
     → front_at syntax form low at ≡ Ok (Some header, mid)
     → WantsContent (content_at (sequence_with (item_reader levels)) syntax header mid)
     (content_at (unkept_sequence (unkept_item levels)) syntax header mid)
-    → WantsEntry (element_at (sequence_with (item_reader levels)) syntax form low at)
+    → WantsElement (element_at (sequence_with (item_reader levels)) syntax form low at)
     (element_at (unkept_sequence (unkept_item levels)) syntax form low at)
 value_wants levels syntax form low at header mid is (inl e) =
     inl (content_refused (unkept_sequence (unkept_item levels)) syntax form low at header mid Memory is e)
@@ -285,7 +285,7 @@ value_wants levels syntax form low at header mid is (inr whole) = inr (
 
 pub set_stops : (levels : ℕ) (syntax : Syntax) (form : Length) (low : ℕ) (start at : At)
     → (low ≡ 0) × (at ≡ start) ⊎ (unkept_set (unkept_item levels) syntax form start ≡ Err Memory)
-    → WantsEntry (element_at (sequence_with (item_reader levels)) syntax form low at)
+    → WantsElement (element_at (sequence_with (item_reader levels)) syntax form low at)
     (element_at (unkept_sequence (unkept_item levels)) syntax form low at)
     → unkept_set (unkept_item levels) syntax form start ≡ Err Memory
 set_stops levels syntax form low start at so (inl e) = set_fails levels syntax form low start at so e

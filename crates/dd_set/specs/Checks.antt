@@ -12,7 +12,7 @@ use Rattle.dd_set.specs.declared.checks.Reach.TheVariants as reaches
 use Rattle.dd_set.specs.declared.fault.SetFault.{SetFault}
 use Rattle.dd_encoding.specs.declared.syntax.Length.TheVariants.{Defined, Undefined}
 use Rattle.dd_encoding.specs.declared.syntax.Syntax.{Syntax}
-use Rattle.dd_encoding.specs.Elements.{Content, bytes, items, fragments, Part}
+use Rattle.dd_encoding.specs.Elements.{Content, bytes, items, fragments, Item}
 use Rattle.dd_set.specs.Reading.{Header, long_length_at, At, Reads, ◌>>=◌, SequenceReader, SetReader, take_at, within}
 use Rattle.dd_set.specs.Reading.{fragments_here}
 use Rattle.dd_set.specs.Places.{shape_view}
@@ -39,7 +39,7 @@ sorted sequence (Ok (sorts.Closed inner n)) at =
 sorted sequence (Ok sorts.Fragments) at = fragments_here at >>= λ x. Ok (fragments x.0, x.1)
 sorted sequence (Err e) at = Err e
 
-abbrev pub reached : SetReader → Syntax → Result Reach SetFault → At → Reads Part
+abbrev pub reached : SetReader → Syntax → Result Reach SetFault → At → Reads Item
 reached set syntax (Ok reaches.Open) at =
     set syntax Undefined at >>= λ x. Ok (record { length = Undefined; set = x.0 }, x.1)
 reached set syntax (Ok (reaches.Closed n)) at =

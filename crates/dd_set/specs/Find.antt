@@ -2,20 +2,20 @@
 use Rattle.std.specs.Prelude.{ℕ, List, [], ◌∷◌, Option, Some, None, find, Bool, ◌&&◌, ◌==◌}
 use Rattle.dd_elem.specs.Clean.{clean_of}
 use Rattle.dd_elem.specs.declared.tag.Tag.{Tag}
-use Rattle.dd_encoding.specs.Elements.{Elements, no_elements, element, Content, bytes, items, fragments, Entry}
+use Rattle.dd_encoding.specs.Elements.{Elements, no_elements, element, Content, bytes, items, fragments, Element}
 
 -- two tags are one
 abbrev pub same_tag : Tag → Tag → Bool
 same_tag t u = (t.group == u.group) && (t.element == u.element)
 
 -- the elements of a data set in a list
-abbrev pub entries_of : Elements → List Entry
-entries_of no_elements = []
-entries_of (element tag vr content rest) = record { tag = tag; vr = vr; content = content } ∷ entries_of rest
+abbrev pub element_list : Elements → List Element
+element_list no_elements = []
+element_list (element tag vr content rest) = record { tag = tag; vr = vr; content = content } ∷ element_list rest
 
 -- the first element with this tag: the only one where tags rise
-abbrev pub find_in : Tag → Elements → Option Entry
-find_in tag set = find (λ e. same_tag e.tag tag) (entries_of set)
+abbrev pub find_in : Tag → Elements → Option Element
+find_in tag set = find (λ e. same_tag e.tag tag) (element_list set)
 
 -- a value without its padding, where it is no sequence
 abbrev pub content_value : Content → Option (List ℕ)
@@ -24,11 +24,11 @@ content_value (items form parts) = None
 content_value (fragments fs) = None
 
 -- the same of an element, and no bytes where there is none
-abbrev pub entry_value : Option Entry → Option (List ℕ)
-entry_value None = Some []
-entry_value (Some entry) = content_value entry.content
+abbrev pub element_value : Option Element → Option (List ℕ)
+element_value None = Some []
+element_value (Some entry) = content_value entry.content
 
 -- the value that a data set has at a tag: without its padding, no bytes where there is no such element, and None where
 -- that holds a sequence
 abbrev pub value_at : Tag → Elements → Option (List ℕ)
-value_at tag set = entry_value (find_in tag set)
+value_at tag set = element_value (find_in tag set)

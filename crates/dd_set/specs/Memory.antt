@@ -4,12 +4,12 @@ use Rattle.std.specs.Prelude.{◌≡◌, ◌⊎◌, ℕ, zero, suc, List, Option
 use Rattle.dd_set.specs.declared.fault.SetFault.TheVariants.{TooDeep, Memory}
 use Rattle.dd_encoding.specs.declared.syntax.Length.TheVariants.{Defined}
 use Rattle.dd_encoding.specs.declared.syntax.Syntax.{Syntax}
-use Rattle.dd_encoding.specs.Elements.{Elements, no_elements, Content, Items, no_items, Entry, Part}
+use Rattle.dd_encoding.specs.Elements.{Elements, no_elements, Content, Items, no_items, Element, Item}
 use Rattle.dd_set.specs.Reading.{At, Reads, ◌>>=◌, SequenceReader, SetReader, ItemReader, element_at, item_at, part_at}
 use Rattle.dd_encoding.specs.Spelling.{max_levels}
 
 -- an item that was read has no place
-abbrev pub keeps_no_item : Option Part × At → Reads Items
+abbrev pub keeps_no_item : Option Item × At → Reads Items
 keeps_no_item (None, at) = Ok (no_items, at)
 keeps_no_item (Some p, at) = Err Memory
 
@@ -17,7 +17,7 @@ abbrev pub unkept_sequence : ItemReader → SequenceReader
 unkept_sequence part syntax form at = item_at part syntax form at >>= keeps_no_item
 
 -- an element that was read has no place
-abbrev pub keeps_no_element : Option Entry × At → Reads Elements
+abbrev pub keeps_no_element : Option Element × At → Reads Elements
 keeps_no_element (None, at) = Ok (no_elements, at)
 keeps_no_element (Some e, at) = Err Memory
 
@@ -34,8 +34,8 @@ unkept_item (suc levels) syntax n at = part_at (unkept_set (unkept_item levels))
 abbrev pub WantsContent : Reads Content → Reads Content → Type 0
 WantsContent full unkept = (unkept ≡ Err Memory) ⊎ ((c : Content) × (end : At) × (full ≡ Ok (c, end)))
 
-abbrev pub WantsEntry : Reads (Option Entry) → Reads (Option Entry) → Type 0
-WantsEntry full unkept = (unkept ≡ Err Memory) ⊎ ((e : Entry) × (end : At) × (full ≡ Ok (Some e, end)))
+abbrev pub WantsElement : Reads (Option Element) → Reads (Option Element) → Type 0
+WantsElement full unkept = (unkept ≡ Err Memory) ⊎ ((e : Element) × (end : At) × (full ≡ Ok (Some e, end)))
 
 -- reading the bytes wants memory: an item or an element was read whole before a check failed
 abbrev pub WantsMemory : Syntax → List ℕ → Type 0

@@ -17,7 +17,7 @@ use Rattle.dd_encoding.specs.declared.syntax.Syntax.{Syntax}
 use Rattle.dd_encoding.specs.Elements.{Elements, no_elements, element, Content, bytes, items, fragments, Items}
 use Rattle.dd_encoding.specs.Elements.{no_items}
 use Rattle.dd_encoding.specs.Elements.{item}
-use Rattle.dd_encoding.specs.Elements.{Entry, Part}
+use Rattle.dd_encoding.specs.Elements.{Element, Item}
 use Rattle.dd_encoding.specs.Spelling.{undefined_length, delimiter_group, names_vr, item_syntax, max_levels}
 use Rattle.dd_encoding.specs.Spelling.{encapsulates}
 use Rattle.dd_encoding.specs.Spelling.{is_pixel_data}
@@ -230,7 +230,7 @@ abbrev pub SetReader : Type 0
 SetReader = Syntax → Length → At → Reads Elements
 
 abbrev pub ItemReader : Type 0
-ItemReader = Syntax → ℕ → At → Reads Part
+ItemReader = Syntax → ℕ → At → Reads Item
 
 -- what the next n bytes alone hold
 abbrev pub within : {X : Type 0} → ℕ → At → (At → Reads X) → Reads X
@@ -263,19 +263,19 @@ content_at sequence syntax header at =
     else defined_at sequence (item_syntax syntax header.shape.vr Defined) header.shape.length at))
 
 -- the element behind its header
-abbrev pub element_behind : SequenceReader → Syntax → Option Header × At → Reads (Option Entry)
+abbrev pub element_behind : SequenceReader → Syntax → Option Header × At → Reads (Option Element)
 element_behind sequence syntax (None, at) = Ok (None, at)
 element_behind sequence syntax (Some header, at) =
     content_at sequence syntax header at
     >>= λ x. Ok (Some (record { tag = header.tag; vr = header.shape.vr; content = x.0 }), x.1)
 
 -- the next element, or the end of the set
-unfoldable pub element_at : SequenceReader → Syntax → Length → ℕ → At → Reads (Option Entry)
+unfoldable pub element_at : SequenceReader → Syntax → Length → ℕ → At → Reads (Option Element)
 element_at sequence syntax form low at = front_at syntax form low at >>= element_behind sequence syntax
 
 -- ---- a set
 
-abbrev pub next_elements : (ℕ → At → Reads Elements) → Option Entry × At → Reads Elements
+abbrev pub next_elements : (ℕ → At → Reads Elements) → Option Element × At → Reads Elements
 next_elements others (None, at) = Ok (no_elements, at)
 next_elements others (Some e, at) = others (number_of e.tag + 1) at >>= λ x. Ok (element e.tag e.vr e.content x.0, x.1)
 
@@ -288,15 +288,15 @@ elements_at sequence syntax form (suc most) low at =
 -- ---- a sequence
 
 -- the item behind its header
-abbrev pub item_behind : ItemReader → Syntax → Option ℕ × At → Reads (Option Part)
+abbrev pub item_behind : ItemReader → Syntax → Option ℕ × At → Reads (Option Item)
 item_behind part syntax (None, at) = Ok (None, at)
 item_behind part syntax (Some n, at) = part syntax n at >>= there
 
 -- the next item, or the end of the sequence
-unfoldable pub item_at : ItemReader → Syntax → Length → At → Reads (Option Part)
+unfoldable pub item_at : ItemReader → Syntax → Length → At → Reads (Option Item)
 item_at part syntax form at = item_front_at form at >>= item_behind part syntax
 
-abbrev pub next_items : (At → Reads Items) → Option Part × At → Reads Items
+abbrev pub next_items : (At → Reads Items) → Option Item × At → Reads Items
 next_items others (None, at) = Ok (no_items, at)
 next_items others (Some p, at) = others at >>= λ x. Ok (item p.length p.set x.0, x.1)
 
@@ -305,7 +305,7 @@ items_at part syntax form zero at = Err Truncated
 items_at part syntax form (suc most) at = item_at part syntax form at >>= next_items (items_at part syntax form most)
 
 -- an item behind its tag, with the length that its header gives
-unfoldable pub part_at : SetReader → Syntax → ℕ → At → Reads Part
+unfoldable pub part_at : SetReader → Syntax → ℕ → At → Reads Item
 part_at set syntax n at =
     if n == undefined_length then (set syntax Undefined at >>= λ x. Ok (record { length = Undefined; set = x.0 }, x.1))
     else (if n % 2 == 1 then Err OddLength

@@ -15,8 +15,8 @@ use Rattle.dd_set.specs.declared.found.Scan.{Scan}
 use Rattle.dd_set.specs.declared.found.Found.{Found}
 use Rattle.dd_set.specs.declared.found.FoundValue.{FoundValue}
 use Rattle.dd_set.specs.declared.found.FoundValue.TheVariants as values
-use Rattle.dd_encoding.specs.Elements.{Elements, Content, bytes, items, fragments as fragment_list, Entry}
-use Rattle.dd_set.specs.Find.{same_tag, entries_of}
+use Rattle.dd_encoding.specs.Elements.{Elements, Content, bytes, items, fragments as fragment_list, Element}
+use Rattle.dd_set.specs.Find.{same_tag, element_list}
 use Rattle.dd_encoding.specs.declared.syntax.Length.TheVariants.{Defined}
 use Rattle.dd_encoding.specs.declared.syntax.Syntax.{Syntax}
 use Rattle.dd_set.specs.AnswersAs.{FailsAs}
@@ -49,7 +49,7 @@ pub record Hit : Type 0 where
   pub tag : Tag
   pub summary : Summary
 
-abbrev pub hit_of : Entry → Hit
+abbrev pub hit_of : Element → Hit
 hit_of e = record { tag = e.tag; summary = summary_of e.content }
 
 abbrev pub is_wanted : List Tag → Tag → Bool
@@ -57,26 +57,26 @@ is_wanted wanted tag = list_any (λ w. same_tag w tag) wanted
 
 -- the wanted elements of a set: in the order of the set, so that tags rise, and each once
 abbrev pub hits_of : List Tag → Elements → List Hit
-hits_of wanted set = map hit_of (filter (λ e. is_wanted wanted e.tag) (entries_of set))
+hits_of wanted set = map hit_of (filter (λ e. is_wanted wanted e.tag) (element_list set))
 
 -- the tag of the first element
-abbrev pub first_tag : List Entry → Option Tag
+abbrev pub first_tag : List Element → Option Tag
 first_tag [] = None
 first_tag (e ∷ es) = Some e.tag
 
 abbrev pub first_of : Elements → Option Tag
-first_of set = first_tag (entries_of set)
+first_of set = first_tag (element_list set)
 
 -- ---- where a wanted element is there
 
 -- one more element, and the others
-abbrev pub and_others : (ℕ → At → List Entry) → Reads (Option Entry) → List Entry
+abbrev pub and_others : (ℕ → At → List Element) → Reads (Option Element) → List Element
 and_others others (Ok (Some e, at)) = e ∷ others (number_of e.tag + 1) at
 and_others others (Ok (None, at)) = []
 and_others others (Err fault) = []
 
 -- the elements that are read whole, up to the end or to the first check that fails
-unfoldable pub whole_elements : SequenceReader → Syntax → ℕ → ℕ → At → List Entry
+unfoldable pub whole_elements : SequenceReader → Syntax → ℕ → ℕ → At → List Element
 whole_elements reader syntax zero low at = []
 whole_elements reader syntax (suc most) low at =
     and_others (whole_elements reader syntax most) (element_at reader syntax Defined low at)

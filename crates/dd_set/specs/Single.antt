@@ -6,29 +6,29 @@ use Rattle.dd_elem.specs.Tag.{number_of}
 use Rattle.dd_encoding.specs.declared.syntax.Length.{Length}
 use Rattle.dd_encoding.specs.declared.syntax.Length.TheVariants.{Defined, Undefined}
 use Rattle.dd_encoding.specs.declared.syntax.Syntax.{Syntax}
-use Rattle.dd_encoding.specs.Elements.{Entry, Part}
+use Rattle.dd_encoding.specs.Elements.{Element, Item}
 use Rattle.dd_encoding.specs.Spelling.{tag_text, content_text, elements_text, item_tag_text, item_end_text, length_of}
 use Rattle.dd_encoding.specs.Spelling.{closed, delimiter_group, AreElements, IsContent, MayHave, FitsLong}
 
 -- an element: tag, the rest of the header, and the value
-abbrev pub entry_text : Entry → List ℕ
-entry_text e = tag_text e.tag ++ content_text e.vr e.content
+abbrev pub element_text : Element → List ℕ
+element_text e = tag_text e.tag ++ content_text e.vr e.content
 
 -- an item: its tag, a length and its data set, with the mark of its end where it wants one
-abbrev pub part_text : Part → List ℕ
-part_text p = item_tag_text ++ (little_bytes 4 (length_of p.length (elements_text p.set))
+abbrev pub item_text : Item → List ℕ
+item_text p = item_tag_text ++ (little_bytes 4 (length_of p.length (elements_text p.set))
     ++ closed p.length item_end_text (elements_text p.set))
 
 -- an element of a set in this syntax, whose tag is not below the number `low`
-abbrev pub IsEntry : Syntax → ℕ → ℕ → Entry → Type 0
-IsEntry syntax levels low e =
+abbrev pub IsElement : Syntax → ℕ → ℕ → Element → Type 0
+IsElement syntax levels low e =
     (low ≤ number_of e.tag) × (e.tag.group < 2 ^ 16) × (e.tag.element < 2 ^ 16) × (e.tag.group ≢ delimiter_group)
     × IsContent syntax levels e.vr e.content × MayHave e.tag e.content
 
 -- an item where so many levels may still nest, itself included
-abbrev pub IsPart : Syntax → ℕ → Part → Type 0
-IsPart syntax zero p = ⊥
-IsPart syntax (suc levels) p = AreElements syntax levels 0 p.set × FitsLong p.length (elements_text p.set)
+abbrev pub IsItem : Syntax → ℕ → Item → Type 0
+IsItem syntax zero p = ⊥
+IsItem syntax (suc levels) p = AreElements syntax levels 0 p.set × FitsLong p.length (elements_text p.set)
 
 -- the mark of an end, where the form wants it
 abbrev pub mark_text : Length → List ℕ → List ℕ

@@ -6,14 +6,14 @@ use Rattle.dd_encoding.specs.Elements.{Elements, no_elements, element, Content, 
 use Rattle.dd_encoding.specs.Elements.{no_items}
 use Rattle.dd_encoding.specs.Elements.{item}
 use Rattle.dd_set.specs.Find.{same_tag}
-use Rattle.dd_set.specs.Single.{entry_text, part_text}
+use Rattle.dd_set.specs.Single.{element_text, item_text}
 use Rattle.dd_encoding.specs.Spelling.{items_text, header_text, length_of}
 
 -- of items that stand behind the bytes `front`
 abbrev pub item_places : List ℕ → Items → List ℕ
 item_places front no_items = []
 item_places front (item form set rest) = length front
-    ∷ item_places (front ++ part_text (record { length = form; set = set })) rest
+    ∷ item_places (front ++ item_text (record { length = form; set = set })) rest
 
 -- of the items of an element that stands behind the bytes `front`, where it is a sequence
 abbrev pub content_places : List ℕ → Tag → Option Vr → Content → Option (List ℕ)
@@ -27,4 +27,4 @@ abbrev pub places_in : Tag → List ℕ → Elements → Option (List ℕ)
 places_in wanted front no_elements = None
 places_in wanted front (element tag vr content rest) =
     if same_tag tag wanted then content_places front tag vr content
-    else places_in wanted (front ++ entry_text (record { tag = tag; vr = vr; content = content })) rest
+    else places_in wanted (front ++ element_text (record { tag = tag; vr = vr; content = content })) rest

@@ -5,7 +5,7 @@ ghost use Rattle.dd_set.specs.declared.fault.SetFault.TheVariants.{Memory};
 ghost use Rattle.dd_encoding.specs.Elements.{Elements};
 ghost use Rattle.dd_set.specs.AnswersAs.{AnswersAs};
 ghost use Rattle.dd_set.specs.Faults.{is_memory};
-ghost use Rattle.dd_set.specs.Memory.{unkept_sequence, unkept_set, unkept_item, WantsMemory, WantsContent, WantsEntry};
+ghost use Rattle.dd_set.specs.Memory.{unkept_sequence, unkept_set, unkept_item, WantsMemory, WantsContent, WantsElement};
 ghost use Rattle.dd_set.specs.Checks.{header_view};
 ghost use Rattle.dd_set.specs.Places.{at_view};
 ghost use Rattle.dd_set.specs.Reading.{item_reader, sequence_with, set_with, content_at, element_at, item_at, read_all};
@@ -74,7 +74,7 @@ fn element<'a>(
     ensures shorter { IfOk result (λ x. OnSome x.0 (length x.1.rest.now < length at.entry.rest.now)) }
     ensures not_longer { IfOk result (λ x. length x.1.rest.now ≤ length at.entry.rest.now) }
     ensures memory { result ≡ Err Memory
-        → WantsEntry (element_at (sequence_with (item_reader levels)) syntax form low (at_view at.entry))
+        → WantsElement (element_at (sequence_with (item_reader levels)) syntax form low (at_view at.entry))
         (element_at (unkept_sequence (unkept_item levels)) syntax form low (at_view at.entry)) }
 {
     let (header, at) = at.front(syntax, form, low)?;

@@ -3,7 +3,7 @@
 ghost use Rattle.std.specs.Prelude.{◌≡◌, ℕ, List, ◌+◌, ◌≤◌, ◌<◌, ◌^◌, ◌%◌, ◌↔◌, length, IsTrue};
 ghost use Rattle.std.specs.Option.{SomeIff};
 ghost use Rattle.dd_encoding.specs.Elements.{bytes};
-ghost use Rattle.dd_set.specs.Single.{entry_text, part_text, IsEntry, IsPart};
+ghost use Rattle.dd_set.specs.Single.{element_text, item_text, IsElement, IsItem};
 ghost use Rattle.dd_encoding.specs.Spelling.{elements_text, content_text, items_text, AreElements, IsContent, AreItems};
 ghost use Rattle.dd_encoding.specs.Spelling.{FitsLong, closed, MayHave, AreFragments, fragment_text, fragments_text};
 ghost use Rattle.dd_encoding.specs.Spelling.{undefined_length};
@@ -53,9 +53,9 @@ pub fn set_size(set: &DataSet<'_>, syntax: Syntax, levels: u32) -> Option<u64>
 /// The size of an element whose tag is not below the number `low`.
 #[cycle(sizes)]
 pub fn element_size(element: &Element<'_>, syntax: Syntax, levels: u32, low: u64) -> Option<u64>
-    ensures { let text = entry_text (element_view element.now)
+    ensures { let text = element_text (element_view element.now)
         in SomeIff result
-        (IsEntry syntax levels low (element_view element.now) × (length text < 2 ^ 64))
+        (IsElement syntax levels low (element_view element.now) × (length text < 2 ^ 64))
         (length text) }
 {
     let number = u64::from(element.tag.number());
@@ -165,9 +165,9 @@ pub fn items_size(items: &[Item<'_>], syntax: Syntax, levels: u32) -> Option<u64
 /// The size of an item, where so many levels may nest, itself included.
 #[cycle(sizes)]
 pub fn item_size(item: &Item<'_>, syntax: Syntax, levels: u32) -> Option<u64>
-    ensures { let text = part_text (item_view item.now)
+    ensures { let text = item_text (item_view item.now)
         in SomeIff result
-        (IsPart syntax levels (item_view item.now) × (length text < 2 ^ 64))
+        (IsItem syntax levels (item_view item.now) × (length text < 2 ^ 64))
         (length text) }
 {
     let below = levels.checked_sub(1)?;

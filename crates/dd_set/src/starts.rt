@@ -3,7 +3,7 @@
 ghost use Rattle.std.specs.Prelude.{◌≡◌, ℕ, List, [], ◌+◌, ◌<◌, ◌^◌, length, Option, Some, None, option_map};
 ghost use Rattle.std.specs.Prelude.{Ok, IfOk, OnErr, IsSomeAnd};
 ghost use Rattle.dd_encoding.specs.Spelling.{elements_text, items_text, max_levels, AreItems, IsContent};
-ghost use Rattle.dd_set.specs.Single.{entry_text};
+ghost use Rattle.dd_set.specs.Single.{element_text};
 ghost use Rattle.dd_set.specs.Starts.{places_in, content_places, item_places};
 ghost use Rattle.dd_set.specs.Views.{element_view, value_view, items_view};
 
@@ -60,7 +60,7 @@ fn starts_of(
     at: u64,
 ) -> Result<Option<Vec<u64>>, Memory>
     requires valid { IsContent syntax max_levels element.now.vr (value_view element.now.value) }
-    requires fits { at + length (entry_text (element_view element.now)) < 2 ^ 64 }
+    requires fits { at + length (element_text (element_view element.now)) < 2 ^ 64 }
     ensures places { (front : List ℕ) → length front ≡ at
         → IfOk result (λ starts. option_map (λ v. v.items) starts
         ≡ content_places front element.now.tag element.now.vr (value_view element.now.value)) }

@@ -5,7 +5,7 @@ ghost use Rattle.std.specs.Prelude.{true};
 ghost use Rattle.dd_elem.specs.Vr.{is_long_of};
 ghost use Rattle.dd_encoding.specs.Elements.{bytes, items, fragments as fragment_list};
 ghost use Rattle.dd_stream.specs.Sends.{SendsTo};
-ghost use Rattle.dd_set.specs.Single.{entry_text, part_text, mark_text, IsPart};
+ghost use Rattle.dd_set.specs.Single.{element_text, item_text, mark_text, IsItem};
 ghost use Rattle.dd_encoding.specs.Spelling.{Spells, elements_text, items_text, header_text, tag_text, content_text};
 ghost use Rattle.dd_encoding.specs.Spelling.{length_of, length_limit, AreElements, IsContent};
 ghost use Rattle.dd_encoding.specs.Spelling.{AreItems, FitsLong, AreFragments, fragment_text, fragments_text};
@@ -70,8 +70,8 @@ fn send_element<W: Write>(
     sent: u64,
 ) -> Result<u64, WriteFault>
     requires valid { IsContent syntax levels element.now.vr (value_view element.now.value) }
-    requires fits { sent + length (entry_text (element_view element.now)) < 2 ^ 64 }
-    ensures { let text = entry_text (element_view element.now)
+    requires fits { sent + length (element_text (element_view element.now)) < 2 ^ 64 }
+    ensures { let text = element_text (element_view element.now)
         in SendsTo W.Write text sent result writer.old writer.new }
 {
     match &element.value {
@@ -221,9 +221,9 @@ fn send_item<W: Write>(
     writer: &mut W,
     sent: u64,
 ) -> Result<u64, WriteFault>
-    requires valid { IsPart syntax levels (item_view item.now) }
-    requires fits { sent + length (part_text (item_view item.now)) < 2 ^ 64 }
-    ensures { let text = part_text (item_view item.now)
+    requires valid { IsItem syntax levels (item_view item.now) }
+    requires fits { sent + length (item_text (item_view item.now)) < 2 ^ 64 }
+    ensures { let text = item_text (item_view item.now)
         in SendsTo W.Write text sent result writer.old writer.new }
 {
     let below = levels - 1;

@@ -1,6 +1,6 @@
 use Rattle.std.proofs.Common.{drop, map}
 use Rattle.std.specs.List.{AllByRecursion}
-use Rattle.dd_layout.specs.Cells.{IsShortEntry, cell_entry}
+use Rattle.dd_layout.specs.Cells.{IsShortElement, cell_element}
 use Rattle.dd_encoding.specs.Elements.{elements_of}
 use Rattle.dd_encoding.specs.Spelling.{elements_text}
 use Rattle.dd_stream.proofs.Going.{GoesOn}
@@ -8,10 +8,10 @@ use Rattle.dd_dir.proofs.cells.send_cells.Given as goal
 
 abbrev pub invariant-loop-cell : goal.invariant-loop-cell
 invariant-loop-cell g l = record {
-  goes : GoesOn (elements_text (elements_of (map cell_entry l.cells)))
-      (elements_text (elements_of (map cell_entry (drop l.cell-index l.cells)))) l.initial.sent l.sent
+  goes : GoesOn (elements_text (elements_of (map cell_element l.cells)))
+      (elements_text (elements_of (map cell_element (drop l.cell-index l.cells)))) l.initial.sent l.sent
       (g.W.Write.contents l.initial.writer, g.W.Write.rest l.initial.writer)
       (g.W.Write.contents l.writer, g.W.Write.rest l.writer) (g.W.Write.failures l.initial.writer)
       (g.W.Write.failures l.writer);
-  short : AllByRecursion IsShortEntry (map cell_entry (drop l.cell-index l.cells));
+  short : AllByRecursion IsShortElement (map cell_element (drop l.cell-index l.cells));
 }

@@ -1,14 +1,14 @@
 use Rattle.std.proofs.Common.{ap, sym, subst, ◌-◌, ◌∙◌, arith}
 use Rattle.std.proofs.lemmas.Result.{err_from_is_err_and}
-use Rattle.dd_layout.specs.Records.{record_part}
+use Rattle.dd_layout.specs.Records.{record_item}
 use Rattle.dd_layout.specs.Sizes.{record_size}
-use Rattle.dd_set.specs.Single.{part_text}
+use Rattle.dd_set.specs.Single.{item_text}
 use Rattle.dd_encoding.specs.Spelling.{max_levels}
 use Rattle.dd_stream.proofs.Going.{first_fails, then_sends, sends_same}
-use Rattle.dd_dir.specs.Directories.{entries_of}
+use Rattle.dd_dir.specs.Directories.{elements_for}
 use Rattle.dd_dir.specs.WellFormed.{IsWellFormed}
 use Rattle.dd_dir.proofs.KeyedRecords.{keyed_is}
-use Rattle.dd_dir.proofs.RecordTexts.{entries_are, record_parts, second_fits}
+use Rattle.dd_dir.proofs.RecordTexts.{elements_are, record_parts, second_fits}
 use Rattle.dd_dir.proofs.RowTexts.{text_of}
 use Rattle.dd_dir.proofs.records.send_record.Goals as goal
 
@@ -22,8 +22,8 @@ pub returns-in_err-sent-clause-sends : goal.returns-in_err-sent-clause-sends
 returns-in_err-sent-clause-sends g c =
     let p = err_from_is_err_and c.from_residual.result c.from_residual.ensures.1 in
     let planned = c.args.planned.now in
-    let entries = entries_of c.args.versions.now planned in
-    let are = entries_are c.args.versions.now planned c.index-versions-planned.result c.parts_of-parts.result.now
+    let entries = elements_for c.args.versions.now planned in
+    let are = elements_are c.args.versions.now planned c.index-versions-planned.result c.parts_of-parts.result.now
     c.requires.sound.0 c.index-versions-planned.is c.parts_of-parts.ensures.value in
     let size = c.record_size.ensures.exact planned.next planned.lower planned.file c.requires.sound.1
     ∙ ap record_size (sym are) in
@@ -35,22 +35,22 @@ returns-in_err-sent-clause-sends g c =
 pub send_rows-requires : goal.send_rows-requires
 send_rows-requires g c =
     let planned = c.args.planned.now in
-    let entries = entries_of c.args.versions.now planned in
-    let are = entries_are c.args.versions.now planned c.index-versions-planned.result c.parts_of-parts.result.now
+    let entries = elements_for c.args.versions.now planned in
+    let are = elements_are c.args.versions.now planned c.index-versions-planned.result c.parts_of-parts.result.now
     c.requires.sound.0 c.index-versions-planned.is c.parts_of-parts.ensures.value in
     let size = c.record_size.ensures.exact planned.next planned.lower planned.file c.requires.sound.1
     ∙ ap record_size (sym are) in
     let whole = record_parts entries c.item_header-header.result c.record_size.result c.item_header-header.ensures
     size in
     let table = c.rows.ensures.exact planned.next planned.lower planned.file c.parts_of-parts.result.now ∙ sym are in
-    rw table (second_fits c.item_header-header.result (text_of entries) (part_text (record_part entries)) c.args.sent
+    rw table (second_fits c.item_header-header.result (text_of entries) (item_text (record_item entries)) c.args.sent
     c.in_ok-sent.sent whole c.requires.fits c.in_ok-sent.ensures.ok.0)
 
 pub returns-clause-sends : goal.returns-clause-sends
 returns-clause-sends g c =
     let planned = c.args.planned.now in
-    let entries = entries_of c.args.versions.now planned in
-    let are = entries_are c.args.versions.now planned c.index-versions-planned.result c.parts_of-parts.result.now
+    let entries = elements_for c.args.versions.now planned in
+    let are = elements_are c.args.versions.now planned c.index-versions-planned.result c.parts_of-parts.result.now
     c.requires.sound.0 c.index-versions-planned.is c.parts_of-parts.ensures.value in
     let size = c.record_size.ensures.exact planned.next planned.lower planned.file c.requires.sound.1
     ∙ ap record_size (sym are) in
@@ -64,7 +64,7 @@ returns-clause-sends g c =
 pub returns-clause-valid : goal.returns-clause-valid
 returns-clause-valid g c = λ ok.
     let planned = c.args.planned.now in
-    let are = entries_are c.args.versions.now planned c.index-versions-planned.result c.parts_of-parts.result.now
+    let are = elements_are c.args.versions.now planned c.index-versions-planned.result c.parts_of-parts.result.now
     c.requires.sound.0 c.index-versions-planned.is c.parts_of-parts.ensures.value in
     rw are (c.record_size.ensures.valid (max_levels - 1) planned.next planned.lower planned.file c.requires.sound.1)
 

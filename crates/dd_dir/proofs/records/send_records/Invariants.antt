@@ -2,7 +2,7 @@ use Rattle.std.proofs.Common.{drop, map}
 use Rattle.std.specs.List.{AllByRecursion}
 use Rattle.dd_stream.proofs.Going.{GoesOn}
 use Rattle.dd_layout.specs.Records.{IsRecord}
-use Rattle.dd_dir.specs.Directories.{entries_of}
+use Rattle.dd_dir.specs.Directories.{elements_for}
 use Rattle.dd_dir.specs.Keyed.{IsKeyed}
 use Rattle.dd_dir.proofs.RecordTexts.{records_text}
 use Rattle.dd_dir.proofs.records.send_records.Given as goal
@@ -14,8 +14,8 @@ invariant-loop-planned g l = record {
       l.initial.sent l.sent (g.W.Write.contents l.initial.writer, g.W.Write.rest l.initial.writer)
       (g.W.Write.contents l.writer, g.W.Write.rest l.writer) (g.W.Write.failures l.initial.writer)
       (g.W.Write.failures l.writer);
-  valid : AllByRecursion IsRecord (map (entries_of l.versions) (drop l.planned-index l.records))
-      → AllByRecursion IsRecord (map (entries_of l.versions) l.records);
+  valid : AllByRecursion IsRecord (map (elements_for l.versions) (drop l.planned-index l.records))
+      → AllByRecursion IsRecord (map (elements_for l.versions) l.records);
   keyed : AllByRecursion (IsKeyed l.versions) (drop l.planned-index l.records)
       → AllByRecursion (IsKeyed l.versions) l.records;
 }

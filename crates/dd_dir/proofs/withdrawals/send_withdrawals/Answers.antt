@@ -1,7 +1,7 @@
 use Rattle.std.proofs.Common.{◌<◌, ◌^◌, length, rules, arith}
 use Rattle.std.proofs.lemmas.Result.{err_from_is_err_and}
 use Rattle.dd_stream.proofs.Going.{first_fails, then_sends, sends_same}
-use Rattle.dd_layout.specs.Cells.{cell_entry}
+use Rattle.dd_layout.specs.Cells.{cell_element}
 use Rattle.dd_dir.proofs.WithdrawalTexts.{creator_text, value_size, withdrawal_parts}
 use Rattle.dd_dir.proofs.withdrawals.send_withdrawals.Goals as goal
 
@@ -11,7 +11,7 @@ returns-in_err-sent g c =
     let uids = c.args.withdrawn.now in
     let some : 0 < length uids = search rules in
     let whole = withdrawal_parts uids c.withdrawn_length-length.result some c.withdrawn_length-length.ensures.exact in
-    let creator = creator_text (cell_entry c.creator_cell.result) c.creator_cell.ensures.exact in
+    let creator = creator_text (cell_element c.creator_cell.result) c.creator_cell.ensures.exact in
     rw (p.1, p.2) (sends_same _ _ _ _ _ _ _ _ whole (first_fails _ _ _ _ _ _ _ _
     (sends_same _ _ _ _ _ _ _ _ creator c.in_err-sent.ensures)))
 
@@ -21,7 +21,7 @@ returns-in_err-sent-2 g c =
     let uids = c.args.withdrawn.now in
     let some : 0 < length uids = search rules in
     let whole = withdrawal_parts uids c.withdrawn_length-length.result some c.withdrawn_length-length.ensures.exact in
-    let creator = creator_text (cell_entry c.creator_cell.result) c.creator_cell.ensures.exact in
+    let creator = creator_text (cell_element c.creator_cell.result) c.creator_cell.ensures.exact in
     let size = value_size uids some in
     let room : c.withdrawn_length-length.result < 2 ^ 32 =
     omega (arith, c.withdrawn_length-length.ensures.exact, size, c.requires.small) in
@@ -34,7 +34,7 @@ returns g c =
     let uids = c.args.withdrawn.now in
     let some : 0 < length uids = search rules in
     let whole = withdrawal_parts uids c.withdrawn_length-length.result some c.withdrawn_length-length.ensures.exact in
-    let creator = creator_text (cell_entry c.creator_cell.result) c.creator_cell.ensures.exact in
+    let creator = creator_text (cell_element c.creator_cell.result) c.creator_cell.ensures.exact in
     let size = value_size uids some in
     let room : c.withdrawn_length-length.result < 2 ^ 32 =
     omega (arith, c.withdrawn_length-length.ensures.exact, size, c.requires.small) in

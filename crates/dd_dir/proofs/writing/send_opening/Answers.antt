@@ -1,6 +1,6 @@
 use Rattle.std.proofs.Common.{◌<◌, ◌^◌, map, rules}
 use Rattle.std.proofs.lemmas.Result.{err_from_is_err_and}
-use Rattle.dd_layout.specs.Cells.{cell_entry}
+use Rattle.dd_layout.specs.Cells.{cell_element}
 use Rattle.dd_stream.proofs.Going.{first_fails, then_sends, sends_same}
 use Rattle.dd_dir.proofs.DirectoryTexts.{opening_parts, second_piece_fits, third_piece_fits}
 use Rattle.dd_dir.proofs.writing.send_opening.Goals as goal
@@ -11,7 +11,7 @@ returns-in_err-sent g c =
     let label = c.args.plan.now.label in
     let versions = c.args.plan.now.versions in
     let whole = opening_parts label versions c.label-label.result.now c.directory_meta.result
-    (map cell_entry c.front_cells-front.result) c.first_root.result c.last_root.result c.args.count
+    (map cell_element c.front_cells-front.result) c.first_root.result c.last_root.result c.args.count
     c.label-label.ensures c.directory_meta.ensures c.front_cells-front.ensures.exact
     (c.first_root.ensures label versions c.records-records.ensures.all)
     (c.last_root.ensures label versions c.records-records.ensures.all) in
@@ -22,7 +22,7 @@ send_cells-requires-clause-fits g c =
     let label = c.args.plan.now.label in
     let versions = c.args.plan.now.versions in
     let whole = opening_parts label versions c.label-label.result.now c.directory_meta.result
-    (map cell_entry c.front_cells-front.result) c.first_root.result c.last_root.result c.args.count
+    (map cell_element c.front_cells-front.result) c.first_root.result c.last_root.result c.args.count
     c.label-label.ensures c.directory_meta.ensures c.front_cells-front.ensures.exact
     (c.first_root.ensures label versions c.records-records.ensures.all)
     (c.last_root.ensures label versions c.records-records.ensures.all) in
@@ -34,7 +34,7 @@ returns-in_err-sent-2 g c =
     let label = c.args.plan.now.label in
     let versions = c.args.plan.now.versions in
     let whole = opening_parts label versions c.label-label.result.now c.directory_meta.result
-    (map cell_entry c.front_cells-front.result) c.first_root.result c.last_root.result c.args.count
+    (map cell_element c.front_cells-front.result) c.first_root.result c.last_root.result c.args.count
     c.label-label.ensures c.directory_meta.ensures c.front_cells-front.ensures.exact
     (c.first_root.ensures label versions c.records-records.ensures.all)
     (c.last_root.ensures label versions c.records-records.ensures.all) in
@@ -46,7 +46,7 @@ send_header-requires g c =
     let label = c.args.plan.now.label in
     let versions = c.args.plan.now.versions in
     let whole = opening_parts label versions c.label-label.result.now c.directory_meta.result
-    (map cell_entry c.front_cells-front.result) c.first_root.result c.last_root.result c.args.count
+    (map cell_element c.front_cells-front.result) c.first_root.result c.last_root.result c.args.count
     c.label-label.ensures c.directory_meta.ensures c.front_cells-front.ensures.exact
     (c.first_root.ensures label versions c.records-records.ensures.all)
     (c.last_root.ensures label versions c.records-records.ensures.all) in
@@ -58,7 +58,7 @@ returns g c =
     let label = c.args.plan.now.label in
     let versions = c.args.plan.now.versions in
     let whole = opening_parts label versions c.label-label.result.now c.directory_meta.result
-    (map cell_entry c.front_cells-front.result) c.first_root.result c.last_root.result c.args.count
+    (map cell_element c.front_cells-front.result) c.first_root.result c.last_root.result c.args.count
     c.label-label.ensures c.directory_meta.ensures c.front_cells-front.ensures.exact
     (c.first_root.ensures label versions c.records-records.ensures.all)
     (c.last_root.ensures label versions c.records-records.ensures.all) in

@@ -4,7 +4,7 @@ use Rattle.std.proofs.lemmas.Result.{err_from_is_err_and}
 use Rattle.dd_version.specs.declared.parts.Parts.{Parts}
 use Rattle.dd_layout.specs.declared.record.PlanRecord.{PlanRecord}
 use Rattle.dd_layout.specs.Layouts.{IsSound}
-use Rattle.dd_layout.specs.Withdrawals.{withdrawal_entries, withdrawals_size}
+use Rattle.dd_layout.specs.Withdrawals.{withdrawal_elements, withdrawals_size}
 use Rattle.dd_stream.proofs.Going.{first_fails, then_sends, sends_same}
 use Rattle.dd_dir.specs.Withdrawn.{AreRisingUids}
 use Rattle.dd_dir.proofs.DirectoryFiles.{directory_is_file}
@@ -89,7 +89,7 @@ returns-clause-sends g c =
     c.records_size-count.ensures.exact in
     let records = ap₂ (λ (vs : List Parts) (rs : List PlanRecord). records_text vs rs) c.versions.ensures.all
     c.records-records.ensures.all in
-    let behind = ap (λ (uids : List (List ℕ)). text_of (withdrawal_entries uids)) c.withdrawn-withdrawn.ensures.all in
+    let behind = ap (λ (uids : List (List ℕ)). text_of (withdrawal_elements uids)) c.withdrawn-withdrawn.ensures.all in
     sends_same _ _ _ _ _ _ _ _ whole (then_sends _ _ _ _ _ _ _ _ _ _ _ c.in_ok-sent.ensures
     (then_sends _ _ _ _ _ _ _ _ _ _ _ (sends_same _ _ _ _ _ _ _ _ records c.in_ok-sent-2.ensures.sends)
     (sends_same _ _ _ _ _ _ _ _ behind c.send_withdrawals.ensures)))

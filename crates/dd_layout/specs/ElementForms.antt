@@ -4,7 +4,7 @@ use Rattle.byteorder.specs.Endian.{little_bytes}
 use Rattle.dd_elem.specs.declared.tag.Tag.{Tag}
 use Rattle.dd_elem.specs.declared.vr.Vr.{Vr}
 use Rattle.dd_elem.specs.declared.vr.Vr.TheVariants.{UI, UL, US}
-use Rattle.dd_encoding.specs.Elements.{bytes, Entry}
+use Rattle.dd_encoding.specs.Elements.{bytes, Element}
 
 -- the tag of this group and element number
 abbrev pub tag : ℕ → ℕ → Tag
@@ -15,20 +15,20 @@ abbrev pub padded : ℕ → List ℕ → List ℕ
 padded pad v = if length v % 2 == 0 then v else v ++ pad ∷ []
 
 -- an element that holds these bytes
-abbrev pub bytes_entry : Tag → Vr → List ℕ → Entry
-bytes_entry t vr v = record { tag = t; vr = Some vr; content = bytes v }
+abbrev pub bytes_element : Tag → Vr → List ℕ → Element
+bytes_element t vr v = record { tag = t; vr = Some vr; content = bytes v }
 
 -- text, padded by a space
-abbrev pub text_entry : Tag → Vr → List ℕ → Entry
-text_entry t vr v = bytes_entry t vr (padded 0x20 v)
+abbrev pub text_element : Tag → Vr → List ℕ → Element
+text_element t vr v = bytes_element t vr (padded 0x20 v)
 
 -- a UID, padded by a NUL
-abbrev pub uid_entry : Tag → List ℕ → Entry
-uid_entry t v = bytes_entry t UI (padded 0x00 v)
+abbrev pub uid_element : Tag → List ℕ → Element
+uid_element t v = bytes_element t UI (padded 0x00 v)
 
 -- a number of 32 bits, and one of 16
-abbrev pub long_entry : Tag → ℕ → Entry
-long_entry t n = bytes_entry t UL (little_bytes 4 n)
+abbrev pub long_element : Tag → ℕ → Element
+long_element t n = bytes_element t UL (little_bytes 4 n)
 
-abbrev pub short_entry : Tag → ℕ → Entry
-short_entry t n = bytes_entry t US (little_bytes 2 n)
+abbrev pub short_element : Tag → ℕ → Element
+short_element t n = bytes_element t US (little_bytes 2 n)

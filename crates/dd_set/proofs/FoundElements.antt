@@ -3,16 +3,16 @@ use Rattle.std.proofs.Common.{◌≡◌, Bool, true, false, List, [], ◌∷◌,
 use Rattle.std.proofs.Common.{ap, ◌∙◌}
 use Rattle.std.specs.Prelude.{find}
 use Rattle.dd_elem.specs.declared.tag.Tag.{Tag}
-use Rattle.dd_set.specs.declared.set.Element.{Element}
-use Rattle.dd_encoding.specs.Elements.{Entry, elements_of}
-use Rattle.dd_set.specs.Find.{same_tag, find_in, entries_of}
+use Rattle.dd_set.specs.declared.set.Element.{Element as ElementValue}
+use Rattle.dd_encoding.specs.Elements.{Element, elements_of}
+use Rattle.dd_set.specs.Find.{same_tag, find_in, element_list}
 use Rattle.dd_set.specs.Views.{element_view, elements_view}
 use Rattle.dd_set.proofs.Seen.{element_view-is}
 
 -- what is built of entries has these entries
-pub entries_of-elements_of : (es : List Entry) → entries_of (elements_of es) ≡ es
-entries_of-elements_of [] = refl
-entries_of-elements_of (e ∷ es) = ap (λ (rest : List Entry). e ∷ rest) (entries_of-elements_of es)
+pub element_list-elements_of : (es : List Element) → element_list (elements_of es) ≡ es
+element_list-elements_of [] = refl
+element_list-elements_of (e ∷ es) = ap (λ (rest : List Element). e ∷ rest) (element_list-elements_of es)
 
 -- a search among pictures is a search among what they picture
 pub find-map : {A B : Type 0} (f : A → B) (test : B → Bool) (p : A → Bool) → ((x : A) → p x ≡ test (f x))
@@ -23,11 +23,11 @@ find-map {A = A} {B = B} f test p same (x ∷ xs) =
     (if b then Some (f x) else find test (map f xs))) [ true ↦ refl | false ↦ find-map f test p same xs ])
 
 -- the element with a tag, found in a list of elements
-pub find_in-elements_view : (tag : Tag) (es : List Element) → option_map element_view
+pub find_in-elements_view : (tag : Tag) (es : List ElementValue) → option_map element_view
     (find (λ e. same_tag e.tag tag) es) ≡ find_in tag (elements_view es)
 find_in-elements_view tag es =
     let pictured : option_map element_view (find (λ e. same_tag e.tag tag) es) ≡ find (λ e. same_tag e.tag tag)
     (map element_view es) =
     find-map element_view (λ e. same_tag e.tag tag) (λ e. same_tag e.tag tag) (λ e. rw (element_view-is e) refl) es in
-    pictured ∙ ap (λ (es : List Entry). find (λ e. same_tag e.tag tag) es)
-    (sym (entries_of-elements_of (map element_view es)))
+    pictured ∙ ap (λ (es : List Element). find (λ e. same_tag e.tag tag) es)
+    (sym (element_list-elements_of (map element_view es)))
