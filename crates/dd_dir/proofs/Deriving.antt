@@ -8,7 +8,7 @@ use Rattle.dd_elem.specs.Digests.{uid_of_digest}
 use Rattle.dd_version.specs.declared.parts.Parts.{Parts}
 use Rattle.dd_layout.specs.declared.fault.PlanFault.{PlanFault}
 use Rattle.dd_layout.specs.declared.label.Label.{Label}
-use Rattle.dd_layout.specs.Bounds.{Bounds}
+use Rattle.dd_layout.specs.Limits.{Limits}
 use Rattle.dd_layout.specs.Layouts.{Layout, layout_of}
 use Rattle.dd_layout.specs.Refusal.{conflict_or, excess, refusal}
 use Rattle.dd_dir.specs.Deriving.{derived_label, derived_refusal, either}
@@ -36,7 +36,7 @@ no_clash : (pair : Option (List ℕ × List ℕ)) (other : Option PlanFault) →
 no_clash None other h = refl
 no_clash (Some pair) other h = cc
 
-pub refusal_is_derived : (id : List ℕ) (limits : Bounds) (m : List Parts) (w : List (List ℕ)) (label : Label)
+pub refusal_is_derived : (id : List ℕ) (limits : Limits) (m : List Parts) (w : List (List ℕ)) (label : Label)
     (plan : Layout) (uid : List ℕ) → plan ≡ layout_of label m w → label ≡ unnamed_label id → uid ≡ derived id m w
     → refusal label limits m w ≡ None
     → excess (record { id = id; uid = uid }) limits plan.versions plan.withdrawn ≡ derived_refusal id limits m w

@@ -3,7 +3,7 @@ use Rattle.std.specs.Prelude.{ℕ, List, Option, None, Some}
 use Rattle.dd_version.specs.declared.parts.Parts.{Parts}
 use Rattle.dd_layout.specs.declared.fault.PlanFault.{PlanFault}
 use Rattle.dd_layout.specs.declared.label.Label.{Label}
-use Rattle.dd_layout.specs.Bounds.{Bounds}
+use Rattle.dd_layout.specs.Limits.{Limits}
 use Rattle.dd_layout.specs.Refusal.{refusal}
 use Rattle.dd_dir.specs.Directories.{derived, unnamed_label}
 
@@ -17,6 +17,6 @@ either None other = other
 either (Some fault) other = Some fault
 
 -- deriving the UID comes first
-abbrev pub derived_refusal : List ℕ → Bounds → List Parts → List (List ℕ) → Option PlanFault
+abbrev pub derived_refusal : List ℕ → Limits → List Parts → List (List ℕ) → Option PlanFault
 derived_refusal id limits m withdrawn = either (refusal (unnamed_label id) limits m withdrawn)
     (refusal (derived_label id m withdrawn) limits m withdrawn)

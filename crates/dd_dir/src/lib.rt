@@ -10,6 +10,7 @@ mod cells;
 mod derived;
 mod digester;
 mod directory;
+mod directory_walk;
 mod fault;
 mod forest;
 mod laws;
@@ -21,7 +22,6 @@ mod own_checks;
 mod own_fault;
 mod own_keys;
 mod publishing;
-mod reading;
 mod record_keys;
 mod records;
 mod roots;
@@ -35,6 +35,7 @@ mod withdrawn;
 mod writing;
 
 pub use derived::{derived_uid, lay_out_derived};
+pub use directory_walk::read_directory;
 pub use fault::DirFault;
 pub use forest::{Forest, Tree};
 pub use laws::{
@@ -44,7 +45,6 @@ pub use laws::{
 pub use own::{Own, Place, catalogue_of, own_of, places_of};
 pub use own_fault::OwnFault;
 pub use publishing::{assemble, publish};
-pub use reading::read_directory;
 pub use values::digest_in;
 pub use walk_laws::{walk_is_one, walk_or_refusal};
 pub use writing::write_directory;

@@ -6,7 +6,7 @@ pub mod Device
 pub mod Digests
 pub mod FileId
 pub mod FileIdForm
-pub mod Held
+pub mod KeyBytes
 pub mod InPlace
 pub mod Key
 pub mod Ordered

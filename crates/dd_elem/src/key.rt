@@ -2,10 +2,10 @@
 
 ghost use Rattle.std.specs.Prelude.{◌≡◌, ◌<◌, ◌↔◌, List, ℕ, length, IfOk, IsErr};
 ghost use Rattle.dd_elem.specs.Clean.{clean_of};
-ghost use Rattle.dd_elem.specs.Held.{most_in_place};
+ghost use Rattle.dd_elem.specs.KeyBytes.{most_in_place};
 ghost use Rattle.dd_elem.specs.Key.{IsKey, max_key_length};
 
-use crate::held::Held;
+use crate::key_bytes::KeyBytes;
 use crate::memory::Memory;
 use crate::ordered::Ordered;
 use crate::padding::clean;
@@ -18,19 +18,19 @@ use thiserror::Error;
 /// 22 bytes are held in place and take no memory; copies of a longer key share its bytes.
 #[derive(Debug, Drop)]
 pub struct Key {
-    held: Held,
+    held: KeyBytes,
 }
 
 impl Model for Key {
     ghost use Rattle.std.specs.Prelude.{List, ℕ};
-    ghost use Rattle.dd_elem.specs.Held.{held_bytes, IsHeld};
+    ghost use Rattle.dd_elem.specs.KeyBytes.{key_bytes_view, IsKeyBytes};
     ghost use Rattle.dd_elem.specs.Key.{IsKey};
 
     ghost Value = { List ℕ };
 
-    ghost view = { λ key. held_bytes key.held };
+    ghost view = { λ key. key_bytes_view key.held };
 
-    ghost invariant = { λ key. IsHeld key.held × IsKey (held_bytes key.held) };
+    ghost invariant = { λ key. IsKeyBytes key.held × IsKey (key_bytes_view key.held) };
 }
 
 /// No key is made of the bytes.
@@ -60,7 +60,7 @@ impl Key {
         if kept.len() > Key::MAX_LEN {
             return Err(KeyRefused::TooLong);
         }
-        match Held::of(alloc, kept) {
+        match KeyBytes::of(alloc, kept) {
             Ok(held) => Ok(Key { held }),
             Err(_) => Err(KeyRefused::Memory),
         }

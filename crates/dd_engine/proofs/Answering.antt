@@ -13,7 +13,7 @@ use Rattle.dd_version.specs.declared.parts.Parts.{Parts}
 use Rattle.dd_engine.specs.Indexing.{Answer, Sourced, accepted_from, accepted, skipped_from, versions_of}
 use Rattle.dd_engine.specs.declared.engine_fault.EngineFault.{EngineFault}
 use Rattle.dd_engine.specs.declared.engine_fault.EngineFault.TheVariants.{Memory, Absent, Unread, Plan}
-use Rattle.dd_engine.specs.declared.reading.Sources.{Sources}
+use Rattle.dd_engine.specs.declared.sources.Sources.{Sources}
 use Rattle.dd_engine.specs.Supply.{AllStay, OthersStay, StayBelow, EndsWith, added}
 use Rattle.dd_engine.specs.Supply.{AnswersSource, AreAnswers, Holds, IsAnswer, IsOfSource}
 

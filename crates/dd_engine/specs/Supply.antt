@@ -8,7 +8,7 @@ use Rattle.dd_keys.specs.declared.fault.KeyFault.TheVariants.{Read, FileTooLong}
 use Rattle.dd_keys.specs.Faults.{SaysMemory}
 use Rattle.dd_engine.specs.declared.engine_fault.EngineFault.{EngineFault}
 use Rattle.dd_engine.specs.declared.engine_fault.EngineFault.TheVariants.{Memory, Absent, Unread, Plan}
-use Rattle.dd_engine.specs.declared.reading.Sources.{Sources}
+use Rattle.dd_engine.specs.declared.sources.Sources.{Sources}
 use Rattle.dd_engine.specs.Indexing.{Answer, accepted, skipped, versions_of}
 
 -- ---- the counts of a supply, by the number of the source

@@ -21,9 +21,9 @@ mod noted_merge;
 mod notes;
 mod patient_names;
 mod place_picks;
-mod reading;
 mod saying;
 mod source_picks;
+mod sources;
 mod supply;
 mod withdraw;
 

@@ -6,8 +6,8 @@ use Rattle.sha2.specs.Sha256.{sha256}
 use Rattle.dd_elem.specs.Device.{HasWorked}
 use Rattle.dd_stream.specs.Streams.{Ends}
 use Rattle.dd_stream.specs.declared.end.End.TheVariants.{Ended, Failed, TooLong}
-use Rattle.dd_files.specs.declared.reading.ReadFault.{ReadFault}
-use Rattle.dd_files.specs.declared.reading.ReadFault.TheVariants as faults
+use Rattle.dd_files.specs.declared.whole.ReadFault.{ReadFault}
+use Rattle.dd_files.specs.declared.whole.ReadFault.TheVariants as faults
 
 -- its reader failed, or gave a byte more than the limit
 abbrev pub ReadAmiss : ℕ → List ℕ → Option (List ℕ) → ℕ → ℕ → Type 0

@@ -11,10 +11,10 @@ mod digest;
 mod files;
 mod paths;
 mod piece;
-mod reading;
+mod whole;
 
 pub use copy::{CopyFault, copy_image};
 pub use digest::{digest_of, digest_text};
 pub use files::{Files, LinkFault, NotDone, NotThere, SOURCE_LIMIT, Step};
 pub use paths::{DIRECTORY, file_path, is_joined_by_slash, path_in, slashed};
-pub use reading::{ReadFault, read_whole};
+pub use whole::{ReadFault, read_whole};

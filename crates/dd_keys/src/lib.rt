@@ -9,13 +9,13 @@
 mod checks;
 mod digesting;
 mod fault;
-mod reading;
 mod rows;
 mod summary;
 mod values;
+mod versions;
 
 pub use dd_set::value_at;
 pub use dd_version::{Misfit, Parts, PatientKeys, SeriesKeys, StudyKeys, Version, is_image_class};
 pub use digesting::{Digested, read_digested};
 pub use fault::KeyFault;
-pub use reading::{ingest, one_version, version_of};
+pub use versions::{ingest, one_version, version_of};

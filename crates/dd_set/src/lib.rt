@@ -17,7 +17,7 @@ mod finding;
 mod found;
 mod fragments;
 mod headers;
-mod reading;
+mod parsing;
 mod scan_fault;
 mod scanning;
 mod sending;
@@ -35,7 +35,7 @@ pub use dd_stream::{End, Feed, Stream, WriteFault, drain, fill, finish, send, sk
 pub use fault::SetFault;
 pub use finding::value_at;
 pub use found::{Found, FoundValue, Scan};
-pub use reading::parse;
+pub use parsing::parse;
 pub use scan_fault::ScanFault;
 pub use scanning::scan;
 pub use set::{DataSet, Element, Item, Value};

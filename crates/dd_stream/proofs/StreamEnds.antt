@@ -8,7 +8,7 @@ use Rattle.dd_stream.specs.declared.end.End.{End}
 use Rattle.dd_stream.specs.Bytes.{AreBytes}
 use Rattle.dd_stream.specs.Reads.{ReadsUpTo}
 use Rattle.dd_stream.specs.StreamLaws.{moves_then, tells_then}
-use Rattle.dd_stream.specs.Streams.{Place, MayCome, Ends, Turns, Moves}
+use Rattle.dd_stream.specs.Streams.{Position, MayCome, Ends, Turns, Moves}
 
 not_some : IsSome {T = End} None → ⊥
 not_some h = absurd cc
@@ -31,7 +31,7 @@ pub over_empty : (held : List ℕ) (left : ℕ) (end : Option End)
 over_empty held left end none = none held (record { more = []; parts = sym (append-nil held); shut = λ h. refl })
 
 -- where nothing is held and nothing came, nothing may come
-pub tells_none : (p : Place) → p.held ≡ [] → MayCome p []
+pub tells_none : (p : Position) → p.held ≡ [] → MayCome p []
 tells_none p empty = record { more = []; parts = rw empty refl; shut = λ h. refl }
 
 module _ {R : Type 0} (reader : ReadOf R) where
@@ -42,7 +42,7 @@ module _ {R : Type 0} (reader : ReadOf R) where
   turned first last given left now before after end opened shut t = rw shut at (rw opened at t)
 
   -- what was taken is what the reader gave, and the reader says how it ended
-  pub stream_ends : (first last : R) (p r : Place) (taken : List ℕ) (end : End)
+  pub stream_ends : (first last : R) (p r : Position) (taken : List ℕ) (end : End)
       → (m : Moves reader first last p r taken)
       → p.held ≡ [] → p.end ≡ None → r.held ≡ [] → r.end ≡ Some end
       → (m.given ≡ taken)
@@ -55,7 +55,7 @@ module _ {R : Type 0} (reader : ReadOf R) where
 
 -- A stretch of which this is said whatever comes behind it, and then one to the end of the stream: what is said of all
 -- that the reader gave, and how it ended, are the answer.
-pub reads_to_end : {R : Type 0} (reader : ReadOf R) (first then last : R) (p q r : Place) (xs ys : List ℕ) (end : End)
+pub reads_to_end : {R : Type 0} (reader : ReadOf R) (first then last : R) (p q r : Position) (xs ys : List ℕ) (end : End)
     (said : List ℕ → Type 0) (answers : List ℕ → Option (List ℕ) → ℕ → ℕ → Type 0)
     → Moves reader first then p q xs → Moves reader then last q r ys
     → ((rest : List ℕ) → MayCome q rest → said (xs ++ rest))

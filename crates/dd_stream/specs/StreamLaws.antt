@@ -8,7 +8,7 @@ use Rattle.dd_elem.specs.declared.device.Read.{Ghosts as ReadOf}
 use Rattle.dd_stream.specs.declared.end.End.{End}
 use Rattle.dd_stream.specs.declared.end.End.TheVariants.{Ended, Failed, TooLong}
 use Rattle.dd_stream.specs.Bytes.{AreBytes}
-use Rattle.dd_stream.specs.Streams.{Place, MayCome, Ends, Turns, Moves}
+use Rattle.dd_stream.specs.Streams.{Position, MayCome, Ends, Turns, Moves}
 
 module _ {R : Type 0} (reader : ReadOf R) where
   turns_none : (state : R) (left : ℕ) (end : Option End) → Turns reader state state [] left left end end
@@ -44,7 +44,7 @@ module _ {R : Type 0} (reader : ReadOf R) where
         | inr le ↦ rw (get_or-append_right g h (length g) i 0 refl le) (q (i - length g))
       ]
 
-  pub moves_none : (state : R) (p : Place) → Moves reader state state p p []
+  pub moves_none : (state : R) (p : Position) → Moves reader state state p p []
   moves_none state p = record {
     given = [];
     gave = gives_none reader.has_given state;
@@ -54,7 +54,7 @@ module _ {R : Type 0} (reader : ReadOf R) where
     turns = turns_none state p.left p.end;
   }
 
-  pub moves_then : (first then last : R) (p q r : Place) (xs ys : List ℕ)
+  pub moves_then : (first then last : R) (p q r : Position) (xs ys : List ℕ)
       → Moves reader first then p q xs
       → Moves reader then last q r ys
       → Moves reader first last p r (xs ++ ys)
@@ -77,7 +77,7 @@ module _ {R : Type 0} (reader : ReadOf R) where
       let none = (rw t.0 at shut) refl in
       rw (t.2, none) refl
 
-  pub tells_then : (first then : R) (p q : Place) (xs ys : List ℕ)
+  pub tells_then : (first then : R) (p q : Position) (xs ys : List ℕ)
       → Moves reader first then p q xs → MayCome q ys → MayCome p (xs ++ ys)
   tells_then first then p q xs ys m t = record {
     more = m.given ++ t.more;

@@ -15,16 +15,16 @@ came (Some n) room = take n room
 came None room = []
 
 -- where a stream stands: the bytes that it read and did not give, how many it may still read, and how it ended
-pub record Place : Type 0 where
+pub record Position : Type 0 where
   pub held : List ℕ
   pub left : ℕ
   pub end : Option End
 
-abbrev pub place_of : {R : Type 0} → Stream R → Place
-place_of stream = record { held = stream.kept; left = stream.left; end = stream.end }
+abbrev pub position_of : {R : Type 0} → Stream R → Position
+position_of stream = record { held = stream.kept; left = stream.left; end = stream.end }
 
 -- the bytes that may still come: those that it holds, and others only while it has not ended
-pub record MayCome (p : Place) (rest : List ℕ) : Type 0 where
+pub record MayCome (p : Position) (rest : List ℕ) : Type 0 where
   pub more : List ℕ
   pub parts : rest ≡ p.held ++ more
   pub shut : IsSome p.end → more ≡ []
@@ -34,7 +34,7 @@ abbrev pub may_read : Option End → ℕ → ℕ
 may_read None left = left + 1
 may_read (Some end) left = 0
 
-abbrev pub most_of : Place → ℕ
+abbrev pub most_of : Position → ℕ
 most_of p = length p.held + may_read p.end p.left
 
 -- what the counts of a reader say, where it gave `given` and came to this end, with a limit of `left` bytes
@@ -54,7 +54,7 @@ module _ {R : Type 0} (reader : ReadOf R) where
   Turns old new given left now (Some end) after = (after ≡ Some end) × (new ≡ old) × (given ≡ [])
 
   -- Between two places of a stream these bytes were taken. Meanwhile its reader gave some.
-  pub record Moves (old new : R) (before after : Place) (taken : List ℕ) : Type 0 where
+  pub record Moves (old new : R) (before after : Position) (taken : List ℕ) : Type 0 where
     pub given : List ℕ
     pub gave : Gives reader.has_given old new given
     pub known : Consumes (reader.remaining old) (reader.remaining new) given

@@ -1,7 +1,7 @@
 //! How a reader came to its end.
 
 ghost use Rattle.std.specs.Prelude.{◌≡◌, [], List, ℕ, Some};
-ghost use Rattle.dd_stream.specs.Streams.{Moves, place_of};
+ghost use Rattle.dd_stream.specs.Streams.{Moves, position_of};
 
 use crate::filling::drain;
 use crate::stream::Stream;
@@ -22,7 +22,7 @@ pub enum End {
 pub fn finish<R: Read>(stream: &mut Stream<'_, R>) -> End
     ensures same { stream.new.reader.ghost_name ≡ stream.old.reader.ghost_name }
     ensures moved { (taken : List ℕ) × Moves R.Read
-        stream.old.reader.now stream.new.reader.now (place_of stream.old) (place_of stream.new) taken }
+        stream.old.reader.now stream.new.reader.now (position_of stream.old) (position_of stream.new) taken }
     ensures empty { stream.new.kept ≡ [] }
     ensures ended { stream.new.end ≡ Some result }
 {

@@ -2,7 +2,7 @@
 
 ghost use Rattle.std.specs.Prelude.{◌≡◌, ◌≤◌, [], IsSome, None};
 ghost use Rattle.std.proofs.Common.{refl, ◌∙◌};
-ghost use Rattle.dd_stream.specs.Streams.{Moves, MayCome, most_of, place_of};
+ghost use Rattle.dd_stream.specs.Streams.{Moves, MayCome, most_of, position_of};
 ghost use Rattle.dd_stream.specs.StreamLaws.{moves_none, moves_then, tells_then};
 
 use crate::end::End;
@@ -46,9 +46,9 @@ impl<'r, R: Read> Stream<'r, R> {
     fn refill(&mut self)
         ensures same { self.new.reader.ghost_name ≡ self.old.reader.ghost_name }
         ensures moved { Moves R.Read self.old.reader.now self.new.reader.now
-            (place_of self.old) (place_of self.new) [] }
+            (position_of self.old) (position_of self.new) [] }
         ensures ready { self.new.kept ≡ [] → IsSome self.new.end }
-        ensures fewer { most_of (place_of self.new) ≤ most_of (place_of self.old) }
+        ensures fewer { most_of (position_of self.new) ≤ most_of (position_of self.old) }
     {
         if self.kept.len() > 0 || self.end.is_some() {
             return;
@@ -70,11 +70,11 @@ impl<'r, R: Read> Stream<'r, R> {
 
 impl<R: Read> Feed for Stream<'_, R> {
     ghost moves = { λ old new taken. (new.reader.ghost_name ≡ old.reader.ghost_name)
-        × Moves R.Read old.reader.now new.reader.now (place_of old) (place_of new) taken };
+        × Moves R.Read old.reader.now new.reader.now (position_of old) (position_of new) taken };
 
-    ghost tells = { λ stream rest. MayCome (place_of stream) rest };
+    ghost tells = { λ stream rest. MayCome (position_of stream) rest };
 
-    ghost most = { λ stream. most_of (place_of stream) };
+    ghost most = { λ stream. most_of (position_of stream) };
 
     fn give(&mut self, room: &mut [u8]) -> usize {
         self.refill();
@@ -86,13 +86,13 @@ impl<R: Read> Feed for Stream<'_, R> {
         self.kept.pass(n)
     }
 
-    ghost stays = { λ s. (refl, moves_none R.Read s.reader.now (place_of s)) };
+    ghost stays = { λ s. (refl, moves_none R.Read s.reader.now (position_of s)) };
 
     ghost goes = { λ a b c xs ys m n. (
       n.0 ∙ m.0,
-      moves_then R.Read a.reader.now b.reader.now c.reader.now (place_of a) (place_of b) (place_of c) xs ys m.1 n.1,
+      moves_then R.Read a.reader.now b.reader.now c.reader.now (position_of a) (position_of b) (position_of c) xs ys m.1 n.1,
     ) };
 
     ghost told = { λ a b xs ys m t.
-        tells_then R.Read a.reader.now b.reader.now (place_of a) (place_of b) xs ys m.1 t };
+        tells_then R.Read a.reader.now b.reader.now (position_of a) (position_of b) xs ys m.1 t };
 }

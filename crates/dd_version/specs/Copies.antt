@@ -1,6 +1,6 @@
 -- Where an equal copy may want memory: some key has more bytes than are held in place.
 use Rattle.std.specs.Prelude.{◌<◌, ◌⊎◌, ℕ, List, [], ◌∷◌, length}
-use Rattle.dd_elem.specs.Held.{most_in_place}
+use Rattle.dd_elem.specs.KeyBytes.{most_in_place}
 use Rattle.dd_version.specs.declared.keys.PatientKeys.{PatientKeys}
 use Rattle.dd_version.specs.declared.keys.SeriesKeys.{SeriesKeys}
 use Rattle.dd_version.specs.declared.keys.StudyKeys.{StudyKeys}
