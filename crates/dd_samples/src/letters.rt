@@ -117,7 +117,7 @@ pub fn catalogue_of(alloc: Global, words: &str) -> Result<Catalogue, Fail> {
 }
 
 /// The first byte of the digest, the description and the instance of a version.
-pub fn told(alloc: Global, version: &Version) -> Result<String, Fail> {
+pub fn in_words(alloc: Global, version: &Version) -> Result<String, Fail> {
     let parts = version.parts();
     let (digest, instance) = (parts.digest[0], parts.instance);
     let description = text_of(alloc, parts.study.description.as_bytes())?;

@@ -5,4 +5,4 @@
 
 mod letters;
 
-pub use letters::{catalogue_of, fitting, image, images, parts_of, taken, told, v1_version};
+pub use letters::{catalogue_of, fitting, image, images, in_words, parts_of, taken, v1_version};

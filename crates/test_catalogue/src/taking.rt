@@ -2,7 +2,7 @@
 
 use dd_catalogue::{Catalogue, Refused, Took};
 use dd_elem::Uid;
-use dd_samples::{image, taken, told};
+use dd_samples::{image, in_words, taken};
 use dd_vectors::ask_all;
 use dd_version::Version;
 use std::alloc::Global;
@@ -30,11 +30,11 @@ fn take(alloc: Global, catalogue: &mut Catalogue, version: Version) -> Result<St
     match catalogue.take(version) {
         Ok(Took::New) => Ok(String::from_str(alloc, "New")?),
         Ok(Took::Replaced(old)) => {
-            let old = told(alloc, &old)?;
+            let old = in_words(alloc, &old)?;
             Ok(format!(in alloc; "Replaced {old}")?)
         }
         Ok(Took::Kept(given)) => {
-            let given = told(alloc, &given)?;
+            let given = in_words(alloc, &given)?;
             Ok(format!(in alloc; "Kept {given}")?)
         }
         Ok(Took::Withdrawn(_)) => Err("it is withdrawn".into()),
@@ -47,7 +47,7 @@ fn push_held(alloc: Global, text: &mut String, catalogue: &Catalogue) -> Result<
     text.push_str("holds")?;
     for (place, version) in catalogue.versions().iter().enumerate() {
         text.push_str(if place == 0 { " " } else { ", " })?;
-        text.push_str(told(alloc, version)?.as_str())?;
+        text.push_str(in_words(alloc, version)?.as_str())?;
     }
     Ok(())
 }
@@ -71,7 +71,7 @@ fn the_greatest_version_of_each_instance_stays(rt: HostRuntime) -> Result<(), Fa
 fn got(alloc: Global, question: &str) -> Result<String, Fail> {
     let catalogue = taken(alloc, "12")?;
     match catalogue.get(&Uid::new(question.as_bytes())?) {
-        Some(version) => told(alloc, version),
+        Some(version) => in_words(alloc, version),
         None => Ok(String::from_str(alloc, "none")?),
     }
 }

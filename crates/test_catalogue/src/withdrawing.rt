@@ -5,7 +5,7 @@ use dd_catalogue::{
     kept_of_kept, kept_order_is_free, withdrawn_decides,
 };
 use dd_elem::Uid;
-use dd_samples::{image, images, taken, told};
+use dd_samples::{image, images, in_words, taken};
 use dd_vectors::text_of;
 use std::alloc::Global;
 use std::test::Fail;
@@ -15,7 +15,7 @@ fn withdraw(alloc: Global, catalogue: &mut Catalogue, uid: &str) -> Result<Strin
     match catalogue.withdraw(Uid::new(uid.as_bytes())?) {
         Ok(Withdrew::New(None)) => Ok(String::from_str(alloc, "New none")?),
         Ok(Withdrew::New(Some(version))) => {
-            let version = told(alloc, &version)?;
+            let version = in_words(alloc, &version)?;
             Ok(format!(in alloc; "New {version}")?)
         }
         Ok(Withdrew::Already) => Ok(String::from_str(alloc, "Already")?),
@@ -27,7 +27,7 @@ fn withdraw(alloc: Global, catalogue: &mut Catalogue, uid: &str) -> Result<Strin
 fn take(alloc: Global, catalogue: &mut Catalogue, letter: char) -> Result<String, Fail> {
     match catalogue.take(image(alloc, letter)?) {
         Ok(Took::Withdrawn(given)) => {
-            let given = told(alloc, &given)?;
+            let given = in_words(alloc, &given)?;
             Ok(format!(in alloc; "Withdrawn {given}")?)
         }
         _ => Err("it is not withdrawn".into()),

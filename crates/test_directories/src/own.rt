@@ -4,7 +4,7 @@ use crate::walks::changed;
 use dd_catalogue::Catalogue;
 use dd_dir::{Own, Place, catalogue_of, own_of, places_of, read_directory};
 use dd_elem::Uid;
-use dd_samples::told;
+use dd_samples::in_words;
 use dd_vectors::ask_all;
 use std::alloc::{AllocError, Global};
 use std::test::Fail;
@@ -143,7 +143,7 @@ pub(crate) fn images(alloc: Global, own: &Own<'_>) -> Result<String, Fail> {
     let count = own.places.len();
     let mut text = format!(in alloc; "{count}")?;
     for (version, place) in own.versions.iter().zip(&own.places) {
-        let (version, file) = (told(alloc, version)?, str::from_utf8(place.file)?);
+        let (version, file) = (in_words(alloc, version)?, str::from_utf8(place.file)?);
         write!(text, ", {version} {file}")?;
     }
     if !own.withdrawn.is_empty() {

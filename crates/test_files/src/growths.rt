@@ -52,7 +52,7 @@ v1 encapsulated > 496 278 1.2.840.10008.5.1.4.1.1.2 1.2.3.4.5 1.2.840.10008.1.2.
 
 /// Fails where another file than that of the case was read from this many bytes.
 fn require_file(alloc: Global, case: &str, size: usize, file: &DicomFile<'_>) -> Result<(), Fail> {
-    let answer = reading::told(alloc, size, file)?;
+    let answer = reading::in_words(alloc, size, file)?;
     require(
         answered(alloc, case, &answer)?.as_str() == case,
         "the file is that of the case",
@@ -114,7 +114,7 @@ fn read_file_refused(alloc: Global, bytes: &[u8], chosen: u32) -> Result<bool, F
         answer
     };
     require(
-        streaming::told(alloc, answer, &meta)?.as_str() == "as parsed; (0010,0020) 'P1 2",
+        streaming::in_words(alloc, answer, &meta)?.as_str() == "as parsed; (0010,0020) 'P1 2",
         "the file is read as it was parsed",
     )?;
     Ok(refused)

@@ -40,7 +40,7 @@ const SYNTAXES: &str = "\
 1.2.840.10008.1.2.5.1 > None";
 
 /// What is read of a file of this many bytes.
-pub(crate) fn told(alloc: Global, size: usize, file: &DicomFile<'_>) -> Result<String, Fail> {
+pub(crate) fn in_words(alloc: Global, size: usize, file: &DicomFile<'_>) -> Result<String, Fail> {
     let (place, count) = (file.set_at, file.set.elements.len());
     let (class, instance) = (file.meta.class, file.meta.instance);
     let transfer = file.meta.transfer;
@@ -50,7 +50,7 @@ pub(crate) fn told(alloc: Global, size: usize, file: &DicomFile<'_>) -> Result<S
 fn described(alloc: Global, question: &str) -> Result<String, Fail> {
     let bytes = file_named(alloc, question)?;
     let file = parse_file(alloc, &bytes)?;
-    told(alloc, bytes.len(), &file)
+    in_words(alloc, bytes.len(), &file)
 }
 
 #[test]

@@ -68,7 +68,7 @@ fn value(alloc: Global, found: &Found) -> Result<String, Fail> {
 
 /// What was read: whether the meta information is this one, and of each element that was found the tag,
 /// the front of the value and the length; or the fault.
-pub(crate) fn told(
+pub(crate) fn in_words(
     alloc: Global,
     answer: Result<Scanned, StreamFault>,
     parsed: &Meta,
@@ -99,7 +99,7 @@ fn read(alloc: Global, question: &str) -> Result<String, Fail> {
     let (mut reader, limit, words) = reader_of(&file, rest)?;
     let wanted = tags_of(alloc, words)?;
     let answer = read_file(alloc, &mut reader, &wanted, limit);
-    told(alloc, answer, &meta_of(alloc, &v1(alloc)?)?)
+    in_words(alloc, answer, &meta_of(alloc, &v1(alloc)?)?)
 }
 
 #[test]
@@ -118,7 +118,7 @@ fn read_whole(alloc: Global, piece: u64, question: &str) -> Result<String, Fail>
         tag_of("7FE0,0010")?,
     ];
     let answer = read_file(alloc, &mut reader, &wanted, 4096);
-    told(alloc, answer, &parsed)
+    in_words(alloc, answer, &parsed)
 }
 
 #[test]
@@ -138,7 +138,7 @@ fn read_long(alloc: Global, piece: u64, question: &str) -> Result<String, Fail> 
     let file = parse_file(alloc, &bytes)?;
     let mut reader = ByteSource::new(&bytes, piece, None);
     let answer = read_file(alloc, &mut reader, &[tag_of("0010,0020")?], 65_858);
-    let told = told(alloc, answer, &file.meta)?;
+    let told = in_words(alloc, answer, &file.meta)?;
     let (size, place) = (bytes.len(), file.set_at);
     Ok(format!(in alloc; "{size} {place} {told}")?)
 }

@@ -237,7 +237,7 @@ fn tell_all(
 }
 
 // What the calls came to.
-pub(crate) fn told(alloc: Global, disc: &RefCell<Disc>, calls: &str) -> Result<String, Fail> {
+pub(crate) fn in_words(alloc: Global, disc: &RefCell<Disc>, calls: &str) -> Result<String, Fail> {
     let rt = DiscFiles(disc);
     let mut files = HostFiles::new(alloc, &rt);
     let mut said = String::new(alloc);

@@ -1,6 +1,6 @@
 //! Power cuts during runs.
 
-use crate::calls::told;
+use crate::calls::in_words;
 use crate::disc::Disc;
 use dd_vectors::claim_all;
 use std::alloc::Global;
@@ -26,7 +26,7 @@ store, folder o, store, create o/DICOMDIR, write xyz, finish, store";
 // Did no state break, and does all last at the end?
 fn is_safe(alloc: Global, calls: &str) -> Result<bool, Fail> {
     let disc = RefCell::new(Disc::new(alloc)?);
-    let said = told(alloc, &disc, calls)?;
+    let said = in_words(alloc, &disc, calls)?;
     let disc = disc.into_inner();
     Ok(!said.as_str().contains('-') && disc.broken() == 0 && disc.lasts())
 }
@@ -80,7 +80,7 @@ fn many_images_are_stored_in_batches(rt: HostRuntime) -> Result<(), Fail> {
 // Would a power cut have left a directory without its images, and does not all last at the end?
 fn is_lost(alloc: Global, calls: &str) -> Result<bool, Fail> {
     let disc = RefCell::new(Disc::new(alloc)?);
-    told(alloc, &disc, calls)?;
+    in_words(alloc, &disc, calls)?;
     let disc = disc.into_inner();
     Ok(disc.broken() > 0 && !disc.lasts())
 }
@@ -111,7 +111,7 @@ fn is_named_there(alloc: Global, case: &str) -> Result<bool, Fail> {
     let (path, folder) = case.split_once(" > ").ok_or("no folder")?;
     let disc = RefCell::new(Disc::new(alloc)?);
     let calls = format!(in alloc; "dir {folder}, create {path}, finish, store, store")?;
-    told(alloc, &disc, calls.as_str())?;
+    in_words(alloc, &disc, calls.as_str())?;
     let disc = disc.into_inner();
     let wanted = format!(in alloc; "make {path}, store {path}, store {folder}")?;
     Ok(disc.log() == wanted.as_str())

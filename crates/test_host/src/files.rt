@@ -1,6 +1,6 @@
 //! What comes back of what was written, what each call came to, and in which order all is stored.
 
-use crate::calls::{all_of, told, write_all};
+use crate::calls::{all_of, in_words, write_all};
 use crate::disc::{Disc, DiscFiles};
 use dd_files::Files;
 use dd_vectors::claim_all;
@@ -79,7 +79,7 @@ fn is_right(alloc: Global, case: &str) -> Result<bool, Fail> {
     let (calls, wanted) = case.split_once(" > ").ok_or("no answers")?;
     let (answers, left) = wanted.split_once(" >").ok_or("no bytes")?;
     let disc = RefCell::new(Disc::new(alloc)?);
-    let said = told(alloc, &disc, calls)?;
+    let said = in_words(alloc, &disc, calls)?;
     let disc = disc.into_inner();
     let found = disc.bytes("a").unwrap_or(b"none");
     Ok(said.as_str() == answers && found == left.trim_start().as_bytes())
@@ -89,7 +89,7 @@ fn is_in_order(alloc: Global, case: &str) -> Result<bool, Fail> {
     let (calls, wanted) = case.split_once(" > ").ok_or("no answers")?;
     let (answers, log) = wanted.split_once(" > ").ok_or("no log")?;
     let disc = RefCell::new(Disc::new(alloc)?);
-    let said = told(alloc, &disc, calls)?;
+    let said = in_words(alloc, &disc, calls)?;
     let disc = disc.into_inner();
     Ok(said.as_str() == answers && disc.log() == log)
 }

@@ -1,6 +1,6 @@
 //! Files of file-sets in the spellings of systems, their second names, links, and what was opened.
 
-use crate::calls::told;
+use crate::calls::in_words;
 use crate::disc::Disc;
 use dd_vectors::claim_all;
 use std::alloc::Global;
@@ -84,13 +84,13 @@ d/P, d/P/A, d/P/A, d/Q, d/q, d/Q.;1, d/Q;1, d/Q., d/q.;1, d/q;1, d/q.";
 fn is_found(alloc: Global, case: &str) -> Result<bool, Fail> {
     let (calls, wanted) = case.split_once(" > ").ok_or("no answers")?;
     let disc = RefCell::new(Disc::new(alloc)?);
-    Ok(told(alloc, &disc, calls)?.as_str() == wanted)
+    Ok(in_words(alloc, &disc, calls)?.as_str() == wanted)
 }
 
 fn is_looked_for(alloc: Global, case: &str) -> Result<bool, Fail> {
     let (calls, wanted) = case.split_once(" > ").ok_or("no looks")?;
     let disc = RefCell::new(Disc::new(alloc)?);
-    told(alloc, &disc, calls)?;
+    in_words(alloc, &disc, calls)?;
     let disc = disc.into_inner();
     Ok(disc.looks() == wanted)
 }

@@ -1,6 +1,6 @@
 //! What a terminal gets to show progress.
 
-use crate::calls::told;
+use crate::calls::in_words;
 use crate::disc::Disc;
 use dd_vectors::claim_all;
 use std::alloc::Global;
@@ -31,7 +31,7 @@ copying 9, create a, finish, slow 600, store, store, advance > <copying 1 of 9^[
 fn is_right(alloc: Global, case: &str) -> Result<bool, Fail> {
     let (calls, shown) = case.split_once(" >").ok_or("no text")?;
     let disc = RefCell::new(Disc::new(alloc)?);
-    told(alloc, &disc, calls)?;
+    in_words(alloc, &disc, calls)?;
     let disc = disc.into_inner();
     Ok(disc.screen.text.as_str() == shown.trim_start())
 }

@@ -1,7 +1,7 @@
 //! Each growth of a merge refused in turn: it wants memory, nothing has changed, and made again it answers.
 
 use crate::directories::{directories, label, slices, widest};
-use crate::picks::told;
+use crate::picks::in_words;
 use crate::withdrawals::uids_of;
 use dd_elem::{SetId, Uid};
 use dd_vectors::{growth_numbers, refuse_growth, require, was_refused};
@@ -49,7 +49,7 @@ const PICKED: &str = " \
 /// Fails where other files are picked.
 fn require_picked(alloc: Global, merged: &Merged<'_>, picked: &str) -> Result<(), Fail> {
     require(
-        told(alloc, merged)?.as_str().ends_with(picked),
+        in_words(alloc, merged)?.as_str().ends_with(picked),
         "these files are picked",
     )
 }

@@ -4,7 +4,7 @@ use crate::directories::{directories, label, slices, widest};
 use dd_dir::write_directory;
 use dd_elem::Sink;
 use dd_layout::{Label, lay_out};
-use dd_samples::{catalogue_of, told};
+use dd_samples::{catalogue_of, in_words};
 use dd_vectors::ask_all;
 use dd_version::Version;
 use dicomdir::{Choice, merge_engine};
@@ -40,7 +40,7 @@ fn all_told(alloc: Global, versions: &[Version]) -> Result<String, Fail> {
         if !text.is_empty() {
             text.push_str(", ")?;
         }
-        text.push_str(told(alloc, version)?.as_str())?;
+        text.push_str(in_words(alloc, version)?.as_str())?;
     }
     Ok(text)
 }

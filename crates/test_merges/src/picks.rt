@@ -39,7 +39,7 @@ const PICKS: &str = "\
 0 0 5 1 first,402,2020 > Own 2: 63 RecordKey 320 (0010,0020)";
 
 /// The size of a merge, and what is picked.
-pub(crate) fn told(alloc: Global, merged: &Merged<'_>) -> Result<String, Fail> {
+pub(crate) fn in_words(alloc: Global, merged: &Merged<'_>) -> Result<String, Fail> {
     let size = merged.plan.size();
     let mut text = format!(in alloc; "{size}")?;
     for pick in &merged.picks {
@@ -65,7 +65,7 @@ fn merged(alloc: Global, limits: Limits, sets: &[Vec<u8>]) -> Result<String, Fai
     let Label { id, uid } = label()?;
     let uid = Some(uid);
     match merge_engine(alloc, &sets, &Choice { id, uid }, limits) {
-        Ok(merged) => told(alloc, &merged),
+        Ok(merged) => in_words(alloc, &merged),
         Err(fault) => refused(alloc, fault),
     }
 }

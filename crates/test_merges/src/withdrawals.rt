@@ -1,7 +1,7 @@
 //! Instances that are withdrawn from a directory.
 
 use crate::directories::{directories, label};
-use crate::picks::{refused, told};
+use crate::picks::{in_words, refused};
 use dd_elem::Uid;
 use dd_layout::{Label, Limits};
 use dd_vectors::ask_all;
@@ -40,7 +40,7 @@ fn withdrawn(alloc: Global, limits: Limits, set: &[u8], uids: &[Uid]) -> Result<
     let Label { id, uid } = label()?;
     let uid = Some(uid);
     match withdraw_engine(alloc, set, uids, &Choice { id, uid }, limits) {
-        Ok(merged) => told(alloc, &merged),
+        Ok(merged) => in_words(alloc, &merged),
         Err(fault) => refused(alloc, fault),
     }
 }

@@ -122,7 +122,7 @@ fn indexed_by(alloc: Global, limit: u64) -> Result<Indexed, Fail> {
     Ok(index_engine(alloc, &mut pair, &Choice { id, uid }, limits, limit)?)
 }
 
-fn told(alloc: Global, indexed: &Indexed) -> Result<String, Fail> {
+fn in_words(alloc: Global, indexed: &Indexed) -> Result<String, Fail> {
     let mut text = String::new(alloc);
     for (at, fault) in indexed.skipped.iter() {
         let words = format!(in alloc; "skip {at}: {fault}, ")?;
@@ -138,7 +138,7 @@ fn told(alloc: Global, indexed: &Indexed) -> Result<String, Fail> {
 
 fn indexed(alloc: Global, question: &str) -> Result<String, Fail> {
     let indexed = indexed_by(alloc, question.parse()?)?;
-    told(alloc, &indexed)
+    in_words(alloc, &indexed)
 }
 
 #[test]
@@ -167,7 +167,7 @@ pub(crate) fn index_refused(alloc: Global, chosen: u32) -> Result<bool, Fail> {
         Err(_) => indexed_by(alloc, 1000)?,
     };
     require(
-        told(alloc, &indexed)?.as_str()
+        in_words(alloc, &indexed)?.as_str()
             == "skip 1: 32 NotImage 1.2.840.10008.5.1.4.1.1.88.11, pick 0, 876 bytes",
         "one source is skipped and one is picked",
     )?;

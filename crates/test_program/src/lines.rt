@@ -158,7 +158,7 @@ fn push_option(text: &mut String, value: Option<&String>) -> Result<(), Fail> {
     }
 }
 
-fn told(alloc: Global, asked: &Asked) -> Result<String, Fail> {
+fn in_words(alloc: Global, asked: &Asked) -> Result<String, Fail> {
     let (verb, max_bytes) = (asked.verb, asked.max_bytes);
     let mut text = format!(in alloc; "{verb:?}")?;
     push_option(&mut text, asked.id.as_ref())?;
@@ -206,7 +206,7 @@ fn refused(alloc: Global, fault: &LineFault) -> Result<String, Fail> {
 /// What a line asks for, or how it is refused.
 pub(crate) fn said(alloc: Global, answer: &Result<Asked, LineFault>) -> Result<String, Fail> {
     match answer {
-        Ok(asked) => told(alloc, asked),
+        Ok(asked) => in_words(alloc, asked),
         Err(fault) => refused(alloc, fault),
     }
 }

@@ -172,10 +172,10 @@ pub(crate) fn end_of(alloc: Global, line: &str, files: &mut MemFiles) -> Result<
     let mut out = Sink::new(alloc, failing(output)?);
     let mut err = Sink::new(alloc, failing(errors)?);
     let status = run(alloc, words_of(alloc, line)?, files, &mut out, &mut err);
-    told(alloc, status, &out, &err)
+    in_words(alloc, status, &out, &err)
 }
 
-fn told(alloc: Global, status: u8, out: &Sink, err: &Sink) -> Result<String, Fail> {
+fn in_words(alloc: Global, status: u8, out: &Sink, err: &Sink) -> Result<String, Fail> {
     let mut text = format!(in alloc; "{status} [")?;
     push_lines(&mut text, out.bytes())?;
     text.push_str("] [")?;

@@ -1,7 +1,7 @@
 //! Each growth of each call refused in turn: the call wants memory, nothing has changed, and made again it answers.
 
 use crate::outlines::outline;
-use crate::scanning::told;
+use crate::scanning::in_words;
 use crate::spellings::{IMAGES, PATIENT_ID, PIXEL_DATA, nested, set_of, spelled};
 use dd_elem::{ByteSource, Read, Sink, Tag, Vr};
 use dd_set::{
@@ -159,7 +159,7 @@ const WANTED: [Tag; 3] = [PATIENT_ID, IMAGES, PIXEL_DATA];
 
 /// Fails where a scan does not tell what the case says.
 fn require_told(alloc: Global, case: &str, answer: Result<Scan, ScanFault>) -> Result<(), Fail> {
-    let answer = told(alloc, answer)?;
+    let answer = in_words(alloc, answer)?;
     require(
         answered(alloc, case, &answer)?.as_str() == case,
         "the scan tells what the case says",

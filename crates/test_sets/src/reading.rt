@@ -162,7 +162,7 @@ fn where_no_items_start(rt: HostRuntime) -> Result<(), Fail> {
 }
 
 /// The value representation and the bytes of an element.
-fn told(alloc: Global, element: Option<&Element<'_>>) -> Result<String, Fail> {
+fn in_words(alloc: Global, element: Option<&Element<'_>>) -> Result<String, Fail> {
     let Some(element) = element else {
         return Ok(String::from_str(alloc, "none")?);
     };
@@ -178,7 +178,7 @@ fn found(alloc: Global, question: &str) -> Result<String, Fail> {
     let (syntax, bytes) = spelled(alloc, line)?;
     let set = set_of(alloc, syntax, &bytes)?;
     let element = set.find(tag_of(question)?);
-    told(alloc, element)
+    in_words(alloc, element)
 }
 
 #[test]

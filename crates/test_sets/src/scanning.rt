@@ -89,7 +89,7 @@ encapsulated e07f1000 4f42 0000 ffffffff feff00e0 03000000 > 5 OddLength";
 
 /// What a scan tells: the first tag, and of each element that it found the tag, the front of the value
 /// and the length; or its fault.
-pub(crate) fn told(alloc: Global, answer: Result<Scan, ScanFault>) -> Result<String, Fail> {
+pub(crate) fn in_words(alloc: Global, answer: Result<Scan, ScanFault>) -> Result<String, Fail> {
     let scan = match answer {
         Ok(scan) => scan,
         Err(fault) => return Ok(format!(in alloc; "{fault}")?),
@@ -118,7 +118,7 @@ fn scanned(alloc: Global, set: &[u8], question: &str) -> Result<String, Fail> {
     let (mut reader, limit, words) = reader_of(set, question)?;
     let wanted = tags_of(alloc, words)?;
     let answer = scan(alloc, Syntax::Explicit, &mut reader, &wanted, limit);
-    told(alloc, answer)
+    in_words(alloc, answer)
 }
 
 fn scanned_v1(alloc: Global, question: &str) -> Result<String, Fail> {
@@ -137,7 +137,7 @@ fn scanned_set(alloc: Global, piece: u64, question: &str) -> Result<String, Fail
     let mut reader = ByteSource::new(&bytes, piece, None);
     let wanted: [Tag; 3] = [PATIENT_ID, IMAGES, PIXEL_DATA];
     let answer = scan(alloc, syntax, &mut reader, &wanted, 4096);
-    told(alloc, answer)
+    in_words(alloc, answer)
 }
 
 #[test]

@@ -89,7 +89,7 @@ const PIECES: &str = "\
 10 > 110 [100020004c4f02005031]";
 
 /// How many bytes went, or the words of the fault.
-fn told(alloc: Global, answer: Result<u64, WriteFault>) -> Result<String, Fail> {
+fn in_words(alloc: Global, answer: Result<u64, WriteFault>) -> Result<String, Fail> {
     match answer {
         Ok(sent) => Ok(format!(in alloc; "{sent}")?),
         Err(fault) => Ok(format!(in alloc; "{fault}")?),
@@ -98,7 +98,7 @@ fn told(alloc: Global, answer: Result<u64, WriteFault>) -> Result<String, Fail> 
 
 /// This answer, and what the writer holds.
 fn told_with(alloc: Global, answer: Result<u64, WriteFault>, sink: &Sink) -> Result<String, Fail> {
-    let answer = told(alloc, answer)?;
+    let answer = in_words(alloc, answer)?;
     let held = hex::encode(alloc, sink.bytes())?;
     Ok(format!(in alloc; "{answer} [{held}]")?)
 }
@@ -108,7 +108,7 @@ fn told_with(alloc: Global, answer: Result<u64, WriteFault>, sink: &Sink) -> Res
 fn sent_again(alloc: Global, syntax: Syntax, bytes: &[u8], mut sink: Sink) -> Result<String, Fail> {
     let set = set_of(alloc, syntax, bytes)?;
     sink.reserve(bytes.len())?;
-    let answer = told(alloc, write_set(&set, syntax, &mut sink))?;
+    let answer = in_words(alloc, write_set(&set, syntax, &mut sink))?;
     let held = sink.bytes().len();
     if !bytes.starts_with(sink.bytes()) {
         return Err("it holds other bytes".into());
