@@ -36,7 +36,8 @@ pub(crate) fn send_cells<W: Write>(
     mut sent: u64,
 ) -> Result<u64, WriteFault>
     requires short { AllByRecursion IsShortElement (map cell_element cells.now) }
-    requires fits { sent + length (elements_text (elements_of (map cell_element cells.now))) < 2 ^ 64 }
+    requires fits { sent + length
+        (elements_text (elements_of (map cell_element cells.now))) < 2 ^ 64 }
     ensures { let text = elements_text (elements_of (map cell_element cells.now))
         in SendsTo W.Write text sent result writer.old writer.new }
 {

@@ -28,11 +28,13 @@ pub fn derived_uid(
     id: &SetId,
     limits: Limits,
 ) -> Result<Uid, PlanFault>
-    ensures uid { IfOk result (λ uid. uid ≡ derived id.now catalogue.now.versions catalogue.now.withdrawn) }
+    ensures uid { IfOk result (λ uid. uid
+        ≡ derived id.now catalogue.now.versions catalogue.now.withdrawn) }
     ensures allowed { IsOk result → refusal (unnamed_label id.now) limits catalogue.now.versions
         catalogue.now.withdrawn ≡ None }
     ensures refused { IfErr result (λ fault. (fault ≡ PlanFault.Memory)
-        ⊎ (refusal (unnamed_label id.now) limits catalogue.now.versions catalogue.now.withdrawn ≡ Some fault)) }
+        ⊎ (refusal (unnamed_label id.now) limits catalogue.now.versions catalogue.now.withdrawn
+        ≡ Some fault)) }
 {
     let plan = lay_out(alloc, catalogue, &unnamed_label(id), limits)?;
     uid_of(&plan)
@@ -53,7 +55,8 @@ pub fn lay_out_derived(
     ensures allowed { IsOk result
         → derived_refusal id.now limits catalogue.now.versions catalogue.now.withdrawn ≡ None }
     ensures refused { IfErr result (λ fault. (fault ≡ PlanFault.Memory)
-        ⊎ (derived_refusal id.now limits catalogue.now.versions catalogue.now.withdrawn ≡ Some fault)) }
+        ⊎ (derived_refusal id.now limits catalogue.now.versions catalogue.now.withdrawn
+        ≡ Some fault)) }
 {
     let plan = lay_out(alloc, catalogue, &unnamed_label(id), limits)?;
     let uid = uid_of(&plan)?;
@@ -63,7 +66,8 @@ pub fn lay_out_derived(
 /// The UID of the SHA-256 of the directory of this plan. Memory where the writer that hashes fails.
 fn uid_of(plan: &Plan) -> Result<Uid, PlanFault>
     ensures uid { IfOk result (λ uid. uid
-        ≡ uid_of_digest (sha256 (directory_of plan.now.label plan.now.versions plan.now.withdrawn))) }
+        ≡ uid_of_digest (sha256
+        (directory_of plan.now.label plan.now.versions plan.now.withdrawn))) }
     ensures refused { IfErr result (λ fault. fault ≡ PlanFault.Memory) }
 {
     let mut digester = Digester::new();

@@ -38,7 +38,8 @@ pub fn read_directory<'a>(alloc: Global, bytes: &'a [u8]) -> Result<Forest<'a>, 
         → IsErrAnd result (λ other. SaysMemory other ⊎ (other ≡ fault)) }
     // Memory runs out only where it is wanted: while the bytes are read as a file, or for the records of a
     // directory that has some.
-    ensures group { result ≡ Err (File (file_faults.Meta set_faults.Memory)) → GroupWants bytes.now }
+    ensures group { result ≡ Err (File (file_faults.Meta set_faults.Memory))
+        → GroupWants bytes.now }
     ensures set { result ≡ Err (File (file_faults.Set set_faults.Memory)) → SetWants bytes.now }
     ensures records { result ≡ Err Memory → HasRecords bytes.now }
 {
@@ -49,7 +50,8 @@ pub fn read_directory<'a>(alloc: Global, bytes: &'a [u8]) -> Result<Forest<'a>, 
 fn read_forest<'a>(alloc: Global, bytes: &'a [u8]) -> Result<Forest<'a>, DirFault>
     ensures walk { IfOk result (λ forest. IsWalk bytes.now (walk_view forest)) }
     ensures refused { IfErr result (λ fault. SaysMemory fault ⊎ Refuses bytes.now fault) }
-    ensures group { result ≡ Err (File (file_faults.Meta set_faults.Memory)) → GroupWants bytes.now }
+    ensures group { result ≡ Err (File (file_faults.Meta set_faults.Memory))
+        → GroupWants bytes.now }
     ensures set { result ≡ Err (File (file_faults.Set set_faults.Memory)) → SetWants bytes.now }
     ensures records { result ≡ Err Memory → HasRecords bytes.now }
 {
@@ -65,8 +67,10 @@ fn read_forest<'a>(alloc: Global, bytes: &'a [u8]) -> Result<Forest<'a>, DirFaul
 fn walked<'a>(alloc: Global, directory: Contents<'a>) -> Result<Forest<'a>, DirFault>
     requires rise { Rises 0 directory.starts.items }
     requires each { length directory.starts.items ≡ length directory.items.items }
-    ensures walk { IfOk result (λ forest. IsWalkOf (contents_view directory.entry) (walk_view forest)) }
-    ensures refused { IfErr result (λ fault. (fault ≡ Memory) ⊎ RefusesOf (contents_view directory.entry) fault) }
+    ensures walk { IfOk result
+        (λ forest. IsWalkOf (contents_view directory.entry) (walk_view forest)) }
+    ensures refused { IfErr result (λ fault. (fault ≡ Memory)
+        ⊎ RefusesOf (contents_view directory.entry) fault) }
     ensures memory { result ≡ Err Memory → 0 < length directory.entry.starts.items }
 {
     let Contents {

@@ -98,7 +98,8 @@ pub fn places_of<'a>(alloc: Global, forest: &Forest<'a>) -> Result<Vec<Place<'a>
 
 /// The images of a directory, depth first.
 fn listed<'f, 'a>(alloc: Global, forest: &'f Forest<'a>) -> Result<Vec<Listed<'f, 'a>>, OwnFault>
-    ensures { AnswersRecords (walk_view forest.now) (λ images found. map listed_view found.items ≡ images) result }
+    ensures { AnswersRecords (walk_view forest.now) (λ images found. map listed_view found.items
+        ≡ images) result }
 {
     let mut images = Vec::new(alloc);
     list(&forest.trees, Above::Root, &mut images)?;
@@ -114,7 +115,8 @@ fn told<'a>(
     requires listed { All (λ image. IsListed (listed_view image)) images.now }
     requires named { AreRisingUids (pieces_in (option_map (λ value. value.now) named)) }
     ensures all { IfOk result (λ own.
-        Tells (pieces_in (option_map (λ value. value.now) named.entry)) (map listed_view images.now) own) }
+        Tells (pieces_in (option_map (λ value. value.now) named.entry))
+        (map listed_view images.now) own) }
     ensures some { OnErr result ((images.now ≢ [])
         ⊎ (pieces_in (option_map (λ value. value.now) named.entry) ≢ [])) }
 {
@@ -131,7 +133,8 @@ fn told<'a>(
 /// The versions of these images.
 fn versions(alloc: Global, images: &[Listed<'_, '_>]) -> Result<Vec<Version>, Memory>
     requires { All (λ image. IsListed (listed_view image)) images.now }
-    ensures all { IfOk result (λ versions. versions.items ≡ map version_of (map listed_view images.now)) }
+    ensures all { IfOk result (λ versions. versions.items
+        ≡ map version_of (map listed_view images.now)) }
     ensures some { OnErr result (images.now ≢ []) }
 {
     let mut versions = Vec::with_capacity(alloc, images.len())?;
@@ -145,7 +148,8 @@ fn versions(alloc: Global, images: &[Listed<'_, '_>]) -> Result<Vec<Version>, Me
 /// Where the files of these images are.
 fn places<'a>(alloc: Global, images: &[Listed<'_, 'a>]) -> Result<Vec<Place<'a>>, Memory>
     requires { All (λ image. IsListed (listed_view image)) images.now }
-    ensures all { IfOk result (λ places. map place_view places.items ≡ map place_of (map listed_view images.now)) }
+    ensures all { IfOk result (λ places. map place_view places.items
+        ≡ map place_of (map listed_view images.now)) }
     ensures some { OnErr result (images.now ≢ []) }
 {
     if images.is_empty() {

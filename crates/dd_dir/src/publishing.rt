@@ -32,9 +32,12 @@ pub fn publish(
         catalogue.now.withdrawn }
     ensures within { IfOk result (λ bytes. OffsetsWithin (length bytes.items) label.now
         (harmonised catalogue.now.versions)) }
-    ensures realised { IfOk result (λ bytes. Realises label.now catalogue.now.versions bytes.items) }
-    ensures own { IfOk result (λ bytes. SaysItself catalogue.now.versions catalogue.now.withdrawn bytes.items) }
-    ensures allowed { IsOk result → refusal label.now limits catalogue.now.versions catalogue.now.withdrawn ≡ None }
+    ensures realised { IfOk result
+        (λ bytes. Realises label.now catalogue.now.versions bytes.items) }
+    ensures own { IfOk result
+        (λ bytes. SaysItself catalogue.now.versions catalogue.now.withdrawn bytes.items) }
+    ensures allowed { IsOk result
+        → refusal label.now limits catalogue.now.versions catalogue.now.withdrawn ≡ None }
     ensures refused { IfErr result (λ fault. (fault ≡ PlanFault.Memory)
         ⊎ (refusal label.now limits catalogue.now.versions catalogue.now.withdrawn ≡ Some fault)) }
 {
@@ -57,13 +60,16 @@ pub fn assemble(
     label: &Label,
     limits: Limits,
 ) -> Result<Vec<u8>, PlanFault>
-    ensures bytes { IfOk result (λ bytes. bytes.items ≡ directory label.now (held_of (taken history.now)).versions
+    ensures bytes { IfOk result (λ bytes. bytes.items
+        ≡ directory label.now (held_of (taken history.now)).versions
         (held_of (taken history.now)).withdrawn) }
-    ensures file { IsOk result → IsDirectory label.now (harmonised (held_of (taken history.now)).versions)
+    ensures file { IsOk result → IsDirectory label.now
+        (harmonised (held_of (taken history.now)).versions)
         (held_of (taken history.now)).withdrawn }
     ensures within { IfOk result (λ bytes. OffsetsWithin (length bytes.items) label.now
         (harmonised (held_of (taken history.now)).versions)) }
-    ensures realised { IfOk result (λ bytes. Realises label.now (held_of (taken history.now)).versions bytes.items) }
+    ensures realised { IfOk result
+        (λ bytes. Realises label.now (held_of (taken history.now)).versions bytes.items) }
     ensures own { IfOk result (λ bytes. SaysItself (held_of (taken history.now)).versions
         (held_of (taken history.now)).withdrawn bytes.items) }
     ensures allowed { IsOk result → refusal label.now limits (held_of (taken history.now)).versions

@@ -31,7 +31,8 @@ pub(crate) fn send_records<W: Write>(
         in sent + length (items_text (items_of parts)) < 2 ^ 64 }
     ensures sends { let parts = map record_item (map (elements_for versions.now) records.now)
         in SendsTo W.Write (items_text (items_of parts)) sent result writer.old writer.new }
-    ensures valid { IsOk result → AllByRecursion IsRecord (map (elements_for versions.now) records.now) }
+    ensures valid { IsOk result → AllByRecursion IsRecord
+        (map (elements_for versions.now) records.now) }
     ensures keyed { IsOk result → AllByRecursion (IsKeyed versions.now) records.now }
 {
     for planned in records {
@@ -48,7 +49,8 @@ fn send_record<W: Write>(
     sent: u64,
 ) -> Result<u64, WriteFault>
     requires sound { IsSound (length versions.now) planned.now }
-    requires fits { sent + length (item_text (record_item (elements_for versions.now planned.now))) < 2 ^ 64 }
+    requires fits { sent + length
+        (item_text (record_item (elements_for versions.now planned.now))) < 2 ^ 64 }
     ensures sends { let text = item_text (record_item (elements_for versions.now planned.now))
         in SendsTo W.Write text sent result writer.old writer.new }
     ensures valid { IsOk result → IsRecord (elements_for versions.now planned.now) }

@@ -18,7 +18,8 @@ use std::alloc::Global;
 /// The items of the element with this tag, where it holds items.
 pub(crate) fn items_of<'a>(set: DataSet<'a>, tag: Tag) -> Option<Vec<Item<'a>>>
     ensures { option_map (λ items. sets_of (items_view items.items)) result
-        ≡ option_and_then (λ (e : Element). item_sets_of e.content) (find_in tag (set_view set.entry)) }
+        ≡ option_and_then (λ (e : Element). item_sets_of e.content)
+        (find_in tag (set_view set.entry)) }
 {
     for element in set.elements {
         if element.tag == tag {
@@ -30,7 +31,8 @@ pub(crate) fn items_of<'a>(set: DataSet<'a>, tag: Tag) -> Option<Vec<Item<'a>>>
 
 /// The items that a value is.
 fn items_held<'a>(value: Value<'a>) -> Option<Vec<Item<'a>>>
-    ensures { option_map (λ items. sets_of (items_view items.items)) result ≡ item_sets_of (value_view value.entry) }
+    ensures { option_map (λ items. sets_of (items_view items.items)) result
+        ≡ item_sets_of (value_view value.entry) }
 {
     match value {
         Value::Items { items, .. } => Some(items),
@@ -64,7 +66,8 @@ pub(crate) fn lift<'a>(
     requires each { length starts.now ≡ length slots.old }
     ensures exact { (sets : List Elements) → AreLeft sets (slots_view slots.old)
         → IsLifted starts.now sets offset (slots_view slots.old) (slots_view slots.new) result }
-    ensures fewer { IfOk result (λ _. count_left (slots_view slots.old) ≡ 1 + count_left (slots_view slots.new)) }
+    ensures fewer { IfOk result (λ _. count_left (slots_view slots.old)
+        ≡ 1 + count_left (slots_view slots.new)) }
     ensures memory { result ≢ Err want }
 {
     match starts.binary_search(&u64::from(offset)) {

@@ -51,14 +51,16 @@ fn flag_of(value: &[u8]) -> Option<bool>
 
 /// The value of an element without its padding, where it is there and holds bytes.
 pub(crate) fn clean_at<'a>(set: &DataSet<'a>, tag: Tag) -> Option<&'a [u8]>
-    ensures { option_map (λ value. value.now) result ≡ option_map clean_of (value_of tag (set_view set.now)) }
+    ensures { option_map (λ value. value.now) result
+        ≡ option_map clean_of (value_of tag (set_view set.now)) }
 {
     Some(clean(value_of(set, tag)?))
 }
 
 /// The text of an element without its padding, where something is left.
 pub(crate) fn text_at<'a>(set: &DataSet<'a>, tag: Tag) -> Option<&'a [u8]>
-    ensures { option_map (λ text. text.now) result ≡ option_and_then text_of (value_of tag (set_view set.now)) }
+    ensures { option_map (λ text. text.now) result
+        ≡ option_and_then text_of (value_of tag (set_view set.now)) }
 {
     text_of(value_of(set, tag)?)
 }

@@ -31,7 +31,8 @@ fn step<'a>(
     requires each { length starts.now ≡ length slots.old }
     ensures exact { (sets : List Elements) → AreLeft sets (slots_view slots.old)
         → IsStep starts.now sets offset level (slots_view slots.old) (slots_view slots.new) result }
-    ensures fewer { IfOk result (λ _. count_left (slots_view slots.new) < count_left (slots_view slots.old)) }
+    ensures fewer { IfOk result
+        (λ _. count_left (slots_view slots.new) < count_left (slots_view slots.old)) }
     ensures room { IfOk result (λ _. level < max_record_levels) }
     ensures memory { result ≢ Err Memory }
 {
@@ -59,7 +60,8 @@ fn tree<'a>(
     requires some { offset ≢ 0 }
     ensures exact { (sets : List Elements) → AreLeft sets (slots_view slots.old)
         → IsTree starts.now sets offset level (slots_view slots.old) (slots_view slots.new) result }
-    ensures fewer { IfOk result (λ _. count_left (slots_view slots.new) < count_left (slots_view slots.old)) }
+    ensures fewer { IfOk result
+        (λ _. count_left (slots_view slots.new) < count_left (slots_view slots.old)) }
     ensures memory { result ≡ Err Memory → 0 < count_left (slots_view slots.old) }
 {
     let (set, links) = step(starts, slots, offset, level)?;
@@ -86,8 +88,10 @@ pub(crate) fn chain<'a>(
     requires rise { Rises 0 starts.now }
     requires each { length starts.now ≡ length slots.old }
     ensures exact { (sets : List Elements) → AreLeft sets (slots_view slots.old)
-        → AreFollowed starts.now sets first level (slots_view slots.old) (slots_view slots.new) result }
-    ensures fewer { IfOk result (λ _. count_left (slots_view slots.new) ≤ count_left (slots_view slots.old)) }
+        → AreFollowed starts.now sets first level (slots_view slots.old)
+        (slots_view slots.new) result }
+    ensures fewer { IfOk result
+        (λ _. count_left (slots_view slots.new) ≤ count_left (slots_view slots.old)) }
     ensures memory { result ≡ Err Memory → 0 < count_left (slots_view slots.old) }
 {
     let mut trees = Vec::new(alloc);

@@ -8,7 +8,8 @@ ghost use Rattle.dd_dir.specs.Trees.{Walk};
 
 /// Bytes have one walk at most. This states a law, and does nothing.
 pub fn walk_is_one()
-    ensures { (file : List ℕ) (walk other : Walk) → IsWalk file walk → IsWalk file other → other ≡ walk }
+    ensures { (file : List ℕ) (walk other : Walk) → IsWalk file walk → IsWalk file other
+        → other ≡ walk }
 {}
 
 /// Bytes have a walk, or they are refused by one fault alone: never both, and never neither. This states a law,
@@ -16,7 +17,9 @@ pub fn walk_is_one()
 pub fn walk_or_refusal()
     ensures either { (file : List ℕ) → AreBytes file → length file < 2 ^ 64
         → ((walk : Walk) × IsWalk file walk) ⊎ ((fault : DirFault) × Refuses file fault) }
-    ensures never_both { (file : List ℕ) (walk : Walk) (fault : DirFault) → IsWalk file walk → Refuses file fault → ⊥ }
-    ensures one_fault { (file : List ℕ) (fault other : DirFault) → Refuses file fault → Refuses file other
+    ensures never_both { (file : List ℕ) (walk : Walk) (fault : DirFault) → IsWalk file walk
+        → Refuses file fault → ⊥ }
+    ensures one_fault { (file : List ℕ) (fault other : DirFault) → Refuses file fault
+        → Refuses file other
         → other ≡ fault }
 {}

@@ -18,7 +18,8 @@ const SEPARATOR: u8 = b'\\';
 /// Checks the value that names the withdrawn UIDs. BadWithdrawal where a piece of it is not a UID, or where
 /// the pieces do not rise strictly. A directory without such a value passes.
 pub(crate) fn check_withdrawn(value: Option<&[u8]>) -> Result<(), OwnFault>
-    ensures ok { OnOk result (AreRisingUids (pieces_in (option_map (λ value. value.now) value.entry))) }
+    ensures ok { OnOk result
+        (AreRisingUids (pieces_in (option_map (λ value. value.now) value.entry))) }
     ensures err { IfErr result (λ fault. (fault ≡ BadWithdrawal)
         × (AreRisingUids (pieces_in (option_map (λ value. value.now) value.entry)) → ⊥)) }
 {
@@ -79,7 +80,8 @@ fn is_below(one: &[u8], other: &[u8]) -> bool
 /// The UIDs that the pieces of the value are, and an empty list where the directory has no such value.
 pub(crate) fn withdrawn_uids(alloc: Global, value: Option<&[u8]>) -> Result<Vec<Uid>, Memory>
     requires { AreRisingUids (pieces_in (option_map (λ value. value.now) value)) }
-    ensures all { IfOk result (λ uids. uids.items ≡ pieces_in (option_map (λ value. value.now) value.entry)) }
+    ensures all { IfOk result (λ uids. uids.items
+        ≡ pieces_in (option_map (λ value. value.now) value.entry)) }
     ensures some { OnErr result (pieces_in (option_map (λ value. value.now) value.entry) ≢ []) }
 {
     match value {

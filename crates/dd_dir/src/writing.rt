@@ -39,8 +39,10 @@ pub fn write_directory<W: Write>(plan: &Plan, writer: &mut W) -> Result<u64, Wri
 
     // Where the plan's versions are a catalogue in harmony, the bytes realise its tree, and say its versions; they
     // also say the plan's withdrawn UIDs, where these rise.
-    ensures realised { IsOk result → (m : List Parts) → IsCatalogue m → plan.now.versions ≡ harmonised m
-        → Realises plan.now.label m (directory_of plan.now.label plan.now.versions plan.now.withdrawn) }
+    ensures realised { IsOk result → (m : List Parts) → IsCatalogue m
+        → plan.now.versions ≡ harmonised m
+        → Realises plan.now.label m
+        (directory_of plan.now.label plan.now.versions plan.now.withdrawn) }
     ensures own { IsOk result → (m : List Parts) → IsCatalogue m → plan.now.versions ≡ harmonised m
         → IsRising (λ uid. uid) bytes_cmp plan.now.withdrawn → SaysItself m plan.now.withdrawn
         (directory_of plan.now.label plan.now.versions plan.now.withdrawn) }
@@ -55,7 +57,8 @@ pub fn write_directory<W: Write>(plan: &Plan, writer: &mut W) -> Result<u64, Wri
 
 /// How many bytes the records have together.
 fn records_size(plan: &Plan) -> u32
-    ensures exact { result ≡ records_end plan.now.label plan.now.versions - first_offset plan.now.label }
+    ensures exact { result
+        ≡ records_end plan.now.label plan.now.versions - first_offset plan.now.label }
     ensures small { size plan.now.label plan.now.versions plan.now.withdrawn < 2 ^ 32 }
     ensures id { IsSetId plan.now.label.id }
     ensures uid { IsUid plan.now.label.uid }

@@ -92,7 +92,8 @@ impl Read for ByteSource<'_> {
         ensures called { self.new.counts.calls ≡ counted self.old.counts.calls }
         ensures live { IsOk result → self.old.counts.calls < last_count }
         ensures worked { IsOk result → HasWorked self.old.counts.failures self.new.counts.failures }
-        ensures failed { IsErr result → self.new.counts.failures ≡ counted self.old.counts.failures }
+        ensures failed { IsErr result → self.new.counts.failures
+            ≡ counted self.old.counts.failures }
         ensures left { ReadConsumes (Some self.old.left) (Some self.new.left) result buf.new }
         ensures gives { GivesTold (λ s. s.given) self.old self.new (read_piece result buf.new) }
 

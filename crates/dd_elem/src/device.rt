@@ -64,8 +64,10 @@ pub trait Write {
         // Each call counts, and so does each that fails. No count of one that works was at its last value.
         ensures called { calls self.new ≡ counted (calls self.old) }
         ensures live { TakesSome result bytes.now → calls self.old < last_count }
-        ensures worked { TakesSome result bytes.now → HasWorked (failures self.old) (failures self.new) }
-        ensures failed { TakesNone result bytes.now → failures self.new ≡ counted (failures self.old) }
+        ensures worked { TakesSome result bytes.now
+            → HasWorked (failures self.old) (failures self.new) }
+        ensures failed { TakesNone result bytes.now
+            → failures self.new ≡ counted (failures self.old) }
 
         // A failure adds nothing.
         ensures appends { WriteAppends (contents self.old) (contents self.new) result bytes.now }

@@ -37,7 +37,8 @@ impl FileId {
 
     /// The File ID of these ranks: None where one is 0 or above 999,999.
     pub fn ranked(patient: u32, study: u32, series: u32, image: u32) -> Option<FileId>
-        ensures { let ranks = ranks_of patient study series image in SomeIff result (AreRanks ranks) ranks }
+        ensures { let ranks = ranks_of patient study series image in SomeIff result
+            (AreRanks ranks) ranks }
     {
         if is_rank(patient) && is_rank(study) && is_rank(series) && is_rank(image) {
             Some(FileId {

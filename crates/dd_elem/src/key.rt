@@ -53,8 +53,10 @@ impl Key {
     #[tactic(auto, using(crate::proofs::Keys::IsKey_from_clean_of))]
     pub fn copy_of(alloc: Global, bytes: &[u8]) -> Result<Key, KeyRefused>
         ensures value { IfOk result (λ key. key ≡ clean_of bytes.now) }
-        ensures too_long { (result ≡ Err KeyRefused.TooLong) ↔ (max_key_length < length (clean_of bytes.now)) }
-        ensures memory { result ≡ Err KeyRefused.Memory → most_in_place < length (clean_of bytes.now) }
+        ensures too_long { (result ≡ Err KeyRefused.TooLong) ↔
+            (max_key_length < length (clean_of bytes.now)) }
+        ensures memory { result ≡ Err KeyRefused.Memory
+            → most_in_place < length (clean_of bytes.now) }
     {
         let kept = clean(bytes);
         if kept.len() > Key::MAX_LEN {

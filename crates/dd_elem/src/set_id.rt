@@ -25,14 +25,16 @@ impl Model for SetId {
 
     ghost view = { λ id. take id.len id.bytes };
 
-    ghost invariant = { λ id. IsFilled max_set_id_length id.bytes id.len × IsTrue (is_set_id (take id.len id.bytes)) };
+    ghost invariant = { λ id. IsFilled max_set_id_length id.bytes id.len
+        × IsTrue (is_set_id (take id.len id.bytes)) };
 
     ghost inverse = { λ bytes. record { bytes = filled max_set_id_length bytes; len = length bytes } };
 
-    ghost inverse_ok = { λ id valid. fields_back max_set_id_length id.bytes id.len (λ bytes len. record {
-      bytes = bytes;
-      len = len;
-    }) valid.0 };
+    ghost inverse_ok = { λ id valid. fields_back max_set_id_length id.bytes id.len
+        (λ bytes len. record {
+          bytes = bytes;
+          len = len;
+        }) valid.0 };
 }
 
 /// The bytes are no ID of a file-set.

@@ -110,11 +110,13 @@ impl Write for Sink {
     /// at its last value and where a growth is refused, and then takes nothing.
     fn write(&mut self, bytes: &[u8]) -> io::Result<usize>
         ensures bound { WritesAtMost result bytes.now }
-        ensures appends { WriteAppends (Some self.old.bytes) (Some self.new.bytes) result bytes.now }
+        ensures appends { WriteAppends (Some self.old.bytes)
+            (Some self.new.bytes) result bytes.now }
 
         // When it works, and how many bytes it takes then.
         ensures writable { IsOk result → IsWritable self.old }
-        ensures works { IsWritable self.old → HasRoom self.old (taken_len self.old (length bytes.now)) → IsOk result }
+        ensures works { IsWritable self.old
+            → HasRoom self.old (taken_len self.old (length bytes.now)) → IsOk result }
         ensures len { IfOk result (λ n. n ≡ taken_len self.old (length bytes.now)) }
 
         // How it counts, and what stays.

@@ -28,14 +28,16 @@ impl Model for Uid {
 
     ghost view = { λ uid. take uid.len uid.bytes };
 
-    ghost invariant = { λ uid. IsFilled max_uid_length uid.bytes uid.len × IsTrue (is_uid (take uid.len uid.bytes)) };
+    ghost invariant = { λ uid. IsFilled max_uid_length uid.bytes uid.len
+        × IsTrue (is_uid (take uid.len uid.bytes)) };
 
     ghost inverse = { λ bytes. record { bytes = filled max_uid_length bytes; len = length bytes } };
 
-    ghost inverse_ok = { λ uid valid. fields_back max_uid_length uid.bytes uid.len (λ bytes len. record {
-      bytes = bytes;
-      len = len;
-    }) valid.0 };
+    ghost inverse_ok = { λ uid valid. fields_back max_uid_length uid.bytes uid.len
+        (λ bytes len. record {
+          bytes = bytes;
+          len = len;
+        }) valid.0 };
 }
 
 /// The bytes are no UID.

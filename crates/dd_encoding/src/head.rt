@@ -100,7 +100,8 @@ fn send_element<W: Write>(
     sent: u64,
 ) -> Result<u64, WriteFault>
     requires short { length value.now ≤ 64 }
-    requires fits { sent + length (tag_text tag ++ content_text (Some vr) (bytes value.now)) < 2 ^ 64 }
+    requires fits { sent + length
+        (tag_text tag ++ content_text (Some vr) (bytes value.now)) < 2 ^ 64 }
     ensures { let text = tag_text tag ++ content_text (Some vr) (bytes value.now)
         in SendsTo W.Write text sent result writer.old writer.new }
 {

@@ -67,7 +67,8 @@ pub trait Supply {
             Self.In.remaining reader ≡ Some file)) }
 
         // What stays.
-        ensures kept { (sources self.new ≡ sources self.old) × (contents self.new ≡ contents self.old)
+        ensures kept { (sources self.new ≡ sources self.old)
+            × (contents self.new ≡ contents self.old)
             × (rest self.new ≡ rest self.old) };
 
     /// Takes back a reader of a source.
@@ -86,6 +87,7 @@ pub trait Supply {
         ensures same_lent { OthersStay at (lent self.old) (lent self.new) }
 
         // What stays.
-        ensures kept { (sources self.new ≡ sources self.old) × (contents self.new ≡ contents self.old)
+        ensures kept { (sources self.new ≡ sources self.old)
+            × (contents self.new ≡ contents self.old)
             × (rest self.new ≡ rest self.old) };
 }

@@ -32,7 +32,8 @@ pub fn copy_image<R: Read, W: Write>(
     writer: &mut W,
     limit: u64,
 ) -> Result<[u8; 32], CopyFault>
-    ensures { ReadsUpTo R.Read limit reader.old reader.new (IsCopied W.Write writer.old writer.new result limit) }
+    ensures { ReadsUpTo R.Read limit reader.old reader.new
+        (IsCopied W.Write writer.old writer.new result limit) }
 {
     let mut hasher = Sha256::new();
     let mut left = limit;

@@ -62,7 +62,8 @@ pub trait Files: Write {
 
         // The reader is as new, and what it has left are the bytes of the file.
         ensures fresh { IfOk result (λ reader. (Self.In.calls reader ≡ 0)
-            × (Self.In.failures reader ≡ 0) × ((past : Self.In.Past) → Self.In.has_given reader past [])) }
+            × (Self.In.failures reader ≡ 0)
+            × ((past : Self.In.Past) → Self.In.has_given reader past [])) }
         ensures left { IfOk result (λ reader. IfSome (held self.old) (λ files.
             IsSome (files.bytes_at path.now)
             × (Self.In.remaining reader ≡ files.bytes_at path.now))) }
@@ -81,7 +82,8 @@ pub trait Files: Write {
 
         // The reader is as new, and what it has left are the bytes of the file.
         ensures fresh { IfOk result (λ reader. (Self.In.calls reader ≡ 0)
-            × (Self.In.failures reader ≡ 0) × ((past : Self.In.Past) → Self.In.has_given reader past [])) }
+            × (Self.In.failures reader ≡ 0)
+            × ((past : Self.In.Past) → Self.In.has_given reader past [])) }
         ensures left { IfOk result (λ reader. IfSome (held self.old) (λ files.
             IsSome (files.bytes_at path.now)
             × (Self.In.remaining reader ≡ files.bytes_at path.now))) }
@@ -100,7 +102,8 @@ pub trait Files: Write {
 
         // The reader is as new, and what it has left are the bytes of the file.
         ensures fresh { IfOk result (λ reader. (Self.In.calls reader ≡ 0)
-            × (Self.In.failures reader ≡ 0) × ((past : Self.In.Past) → Self.In.has_given reader past [])) }
+            × (Self.In.failures reader ≡ 0)
+            × ((past : Self.In.Past) → Self.In.has_given reader past [])) }
         ensures left { IfOk result (λ reader. IfSome (held self.old) (λ files.
             IsSome (files.bytes_at path.now)
             × (Self.In.remaining reader ≡ files.bytes_at path.now))) }
@@ -140,9 +143,11 @@ pub trait Files: Write {
         ensures refused { IsErr result → refusals self.new ≡ counted (refusals self.old) }
 
         // The file was not there, and holds nothing yet.
-        ensures free { IsOk result → IfSome (held self.old) (λ files. files.bytes_at path.now ≡ None) }
+        ensures free { IsOk result
+            → IfSome (held self.old) (λ files. files.bytes_at path.now ≡ None) }
         ensures empty { IsOk result → IfSome (Self.contents self.new) (λ bytes. bytes ≡ []) }
-        ensures started { IsOk result → held self.new ≡ option_map (started path.now) (held self.old) }
+        ensures started { IsOk result → held self.new
+            ≡ option_map (started path.now) (held self.old) }
 
         // What stays.
         ensures counts { (Self.calls self.new ≡ Self.calls self.old)
@@ -159,9 +164,12 @@ pub trait Files: Write {
         ensures refused { IsErr result → refusals self.new ≡ counted (refusals self.old) }
 
         // The file was there, the new name was not, and it has the bytes of the file.
-        ensures there { IsOk result → IfSome (held self.old) (λ files. IsSome (files.bytes_at from.now)) }
-        ensures free { IsOk result → IfSome (held self.old) (λ files. files.bytes_at path.now ≡ None) }
-        ensures linked { IsOk result → held self.new ≡ option_map (linked from.now path.now) (held self.old) }
+        ensures there { IsOk result → IfSome (held self.old)
+            (λ files. IsSome (files.bytes_at from.now)) }
+        ensures free { IsOk result
+            → IfSome (held self.old) (λ files. files.bytes_at path.now ≡ None) }
+        ensures linked { IsOk result → held self.new
+            ≡ option_map (linked from.now path.now) (held self.old) }
 
         // What stays.
         ensures counts { (Self.calls self.new ≡ Self.calls self.old)
@@ -239,7 +247,8 @@ pub trait Files: Write {
         → refusals new ≡ refusals old };
 
     // The writer's bytes are those of the file that is being written.
-    ghost same_contents: { (files : Self) → IfSome (held files) (λ now. Self.contents files ≡ written now) };
+    ghost same_contents: { (files : Self)
+        → IfSome (held files) (λ now. Self.contents files ≡ written now) };
 
     // What writes add goes to the end of that file, and no other file changes.
     ghost written_grows: { (old new : Self) (bytes : List ℕ) → Self.rest new ≡ Self.rest old

@@ -26,7 +26,8 @@ pub(crate) fn read_piece<R: Read>(
     buffer: &mut [u8; PIECE],
 ) -> Result<usize, PieceFault>
     ensures gives { Gives R.has_given reader.old reader.new (piece_given result left buffer.new) }
-    ensures left { Consumes (R.remaining reader.old) (R.remaining reader.new) (piece_given result left buffer.new) }
+    ensures left { Consumes (R.remaining reader.old) (R.remaining reader.new)
+        (piece_given result left buffer.new) }
     ensures piece { IsPiece result left buffer.new (R.remaining reader.new)
         (R.failures reader.old) (R.failures reader.new) }
     ensures calls { R.calls reader.new ≤ R.calls reader.old + 1 }

@@ -29,8 +29,10 @@ impl<R: Read, W: Write> Read for Tee<'_, R, W> {
 
     ghost Past = { ℕ × (ℕ × (((Option (List ℕ) × W.Rest) × ℕ) ⊎ R.Past)) };
 
-    ghost has_given = { λ t past bytes. (t.reader.ghost_name ≡ past.0) × ((t.writer.ghost_name ≡ past.1.0)
-        × either_fact (λ start m. IsSent t.late m start.0 (W.contents t.writer.now, W.rest t.writer.now)
+    ghost has_given = { λ t past bytes. (t.reader.ghost_name ≡ past.0)
+        × ((t.writer.ghost_name ≡ past.1.0)
+        × either_fact (λ start m. IsSent t.late m start.0
+        (W.contents t.writer.now, W.rest t.writer.now)
         start.1 (W.failures t.writer.now) × IsCounted t.late (R.calls t.reader.now))
         (λ p m. R.has_given t.reader.now p m) past.1.1 bytes) };
 

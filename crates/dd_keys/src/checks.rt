@@ -23,7 +23,8 @@ pub(crate) fn table_fault<V: Values>(meta: &Meta, values: &V) -> Option<KeyFault
 /// The first check of these rows that a file fails.
 fn first_fault<V: Values>(mut rows: &[Row], meta: &Meta, values: &V) -> Option<KeyFault>
     ensures { result
-        ≡ first (map (λ row. summary_row_fault meta.now (V.tells values.now) (row_view row)) rows.entry.now) }
+        ≡ first (map (λ row. summary_row_fault meta.now (V.tells values.now)
+        (row_view row)) rows.entry.now) }
 {
     while let [row, rest @ ..] = rows {
         if let Some(fault) = row.fault(meta, values) {
@@ -65,7 +66,8 @@ impl UidRow {
     /// The first check of a UID that a data set fails. A UID has at most 64 bytes, so that the front of a
     /// longer value is none, as the value is none.
     fn fault<V: Values>(&self, meta: &Meta, values: &V) -> Option<KeyFault>
-        ensures { result ≡ summary_uid_fault (uid_row_view self.now) meta.now (V.tells values.now self.now.tag) }
+        ensures { result ≡ summary_uid_fault (uid_row_view self.now) meta.now
+            (V.tells values.now self.now.tag) }
     {
         let ValueSummary::Bytes { front, .. } = values.value(self.tag) else {
             return Some(KeyFault::KeyIsSequence(self.tag));

@@ -31,7 +31,8 @@ impl<R: Read> Read for Digesting<'_, R> {
     ghost Past = { ℕ × (Unit {0} ⊎ R.Past) };
 
     ghost has_given = { λ d past bytes. (d.reader.ghost_name ≡ past.0)
-        × either_fact (λ _ m. Holds256 d.hasher m) (λ p m. R.has_given d.reader.now p m) past.1 bytes };
+        × either_fact (λ _ m. Holds256 d.hasher m)
+        (λ p m. R.has_given d.reader.now p m) past.1 bytes };
 
     fn read(&mut self, buf: &mut [u8]) -> io::Result<usize> {
         let n = self.reader.read(buf)?;

@@ -37,7 +37,8 @@ impl KeyRow {
         requires fronts { AreFronts (V.tells values.now) }
         requires clean { clean_of self.now.when_empty.now ≡ self.now.when_empty.now }
         requires short { length self.now.when_empty.now ≤ max_key_length }
-        ensures { IfOk result (λ key. key ≡ summary_key (V.tells values.now) (key_row_view self.now)) }
+        ensures { IfOk result (λ key. key
+            ≡ summary_key (V.tells values.now) (key_row_view self.now)) }
     {
         let ValueSummary::Bytes { front, .. } = values.value(self.tag) else {
             unreachable!()
@@ -53,7 +54,8 @@ impl KeyRow {
 impl UidRow {
     /// The UID that a data set gives.
     fn uid<V: Values>(&self, meta: &Meta, values: &V) -> Uid
-        requires { summary_uid_fault (uid_row_view self.now) meta.now (V.tells values.now self.now.tag) ≡ None }
+        requires { summary_uid_fault (uid_row_view self.now) meta.now
+            (V.tells values.now self.now.tag) ≡ None }
         ensures { result ≡ summary_uid (V.tells values.now) self.now.tag }
     {
         let ValueSummary::Bytes { front, .. } = values.value(self.tag) else {

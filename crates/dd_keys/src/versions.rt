@@ -76,9 +76,11 @@ fn version_from<V: Values>(
 /// Law: bytes of any memory are a file of a version exactly where they fail no check, and then of one
 /// version only.
 pub fn one_version()
-    ensures one { (file : List ℕ) (version other : Parts) → IsVersion file version → IsVersion file other
+    ensures one { (file : List ℕ) (version other : Parts) → IsVersion file version
+        → IsVersion file other
         → version ≡ other }
-    ensures passes { (file : List ℕ) (version : Parts) → IsVersion file version → first_fault file ≡ None }
+    ensures passes { (file : List ℕ) (version : Parts) → IsVersion file version
+        → first_fault file ≡ None }
     ensures fails { (file : List ℕ) → AreBytes file → length file < 2 ^ 64 → first_fault file ≡ None
         → (version : Parts) × IsVersion file version }
 {}

@@ -15,7 +15,8 @@ ghost use Rattle.dd_layout.specs.Withdrawals.{withdrawal_elements, withdrawals_s
 /// A directory has as many bytes as stand before its first record and its records and the elements with
 /// the withdrawn UIDs take together, whatever its offsets are. This states a law, and does nothing.
 pub fn directory_is_as_long_as_its_records()
-    ensures { (label : Label) (first last : ℕ) (records : List (List Element)) (withdrawn : List (List ℕ))
+    ensures { (label : Label) (first last : ℕ) (records : List (List Element))
+        (withdrawn : List (List ℕ))
         → length (head_text (meta_of label))
         + elements_size (directory_elements label.id first last (map record_item records)
         ++ withdrawal_elements withdrawn)
@@ -26,10 +27,12 @@ pub fn directory_is_as_long_as_its_records()
 /// records, and the elements with the withdrawn UIDs, take fewer bytes than the mark of an undefined length.
 /// This states a law, and does nothing.
 pub fn directory_is_a_data_set()
-    ensures { (id : List ℕ) (first last : ℕ) (records : List (List Element)) (withdrawn : List (List ℕ))
+    ensures { (id : List ℕ) (first last : ℕ) (records : List (List Element))
+        (withdrawn : List (List ℕ))
         → length id ≤ max_set_id_length
         → All IsRecord records → sum_by record_size records < undefined_length
         → withdrawals_size withdrawn < undefined_length
         → AreElements Explicit max_levels 0 (elements_of
-        (directory_elements id first last (map record_item records) ++ withdrawal_elements withdrawn)) }
+        (directory_elements id first last
+        (map record_item records) ++ withdrawal_elements withdrawn)) }
 {}

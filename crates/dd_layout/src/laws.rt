@@ -28,7 +28,8 @@ pub fn tree_is_one()
 
 /// One walk along paths that rise gives their tree. This states a law, and does nothing.
 pub fn walk_gives_the_tree()
-    ensures { (paths : List Path) → IsRising (λ path. path) path_cmp paths → paths_from [] paths ≡ tree_of paths }
+    ensures { (paths : List Path) → IsRising (λ path. path) path_cmp paths
+        → paths_from [] paths ≡ tree_of paths }
 {}
 
 /// Each path of a tree is known from the paths before and behind it, by their lengths alone: its
@@ -43,7 +44,8 @@ pub fn rows_are_known()
 /// there, as the next one, the first one below, and the first and the last root: its offset, or 0. This states a law,
 /// and does nothing.
 pub fn offsets_are_within()
-    ensures named { (label : Label) (versions : List Parts) (withdrawn : List (List ℕ)) (x : Option Path)
+    ensures named { (label : Label) (versions : List Parts) (withdrawn : List (List ℕ))
+        (x : Option Path)
         → IfSome x (λ path. Contains (tree versions) path)
         → at_or_none label versions x < size label versions withdrawn }
     ensures records { (label : Label) (versions : List Parts) (withdrawn : List (List ℕ))

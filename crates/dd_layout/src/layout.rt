@@ -33,10 +33,12 @@ pub fn lay_out(
     label: &Label,
     limits: Limits,
 ) -> Result<Plan, PlanFault>
-    ensures planned { IfOk result (λ plan. plan ≡ layout_of label.now catalogue.now.versions catalogue.now.withdrawn) }
+    ensures planned { IfOk result (λ plan. plan
+        ≡ layout_of label.now catalogue.now.versions catalogue.now.withdrawn) }
     ensures allowed { IsOk result
         → refusal label.now limits catalogue.now.versions catalogue.now.withdrawn ≡ None }
-    ensures refused { IfErr result (λ fault. ((fault ≡ PlanFault.Memory) × (catalogue.now ≢ nothing))
+    ensures refused { IfErr result (λ fault. ((fault ≡ PlanFault.Memory)
+        × (catalogue.now ≢ nothing))
         ⊎ (refusal label.now limits catalogue.now.versions catalogue.now.withdrawn ≡ Some fault)) }
 {
     if let Some((one, other)) = catalogue.conflict()? {
@@ -65,9 +67,11 @@ pub(crate) fn fill(
     limits: Limits,
 ) -> Result<u32, PlanFault>
     requires { records.old ≡ map (bare_at versions.now) (tree versions.now) }
-    ensures full { IfOk result (λ bytes. IsLaidOut label.now versions.now withdrawn.now records.new bytes) }
+    ensures full { IfOk result
+        (λ bytes. IsLaidOut label.now versions.now withdrawn.now records.new bytes) }
     ensures allowed { IsOk result → excess label.now limits versions.now withdrawn.now ≡ None }
-    ensures refused { IfErr result (λ fault. excess label.now limits versions.now withdrawn.now ≡ Some fault) }
+    ensures refused { IfErr result (λ fault. excess label.now limits versions.now withdrawn.now
+        ≡ Some fault) }
 {
     if let Some(level) = number(records, limits.per_level) {
         return Err(PlanFault::TooMany(level));

@@ -31,7 +31,8 @@ impl Limits {
     /// Limits of these numbers: None where `per_level` is above 999,999, the highest rank that a
     /// File ID has room for.
     pub fn new(bytes: u32, per_level: u32) -> Option<Limits>
-        ensures { SomeIff result (per_level ≤ max_rank) (record { bytes = bytes; per_level = per_level }) }
+        ensures { SomeIff result (per_level ≤ max_rank)
+            (record { bytes = bytes; per_level = per_level }) }
     {
         if per_level > FileId::MAX_RANK {
             return None;

@@ -21,7 +21,8 @@ const LEVELS: [Level; 4] = [Level::Patient, Level::Study, Level::Series, Level::
 /// The records of these versions in the order of their bytes, each with its level and the least version
 /// below it. Memory where a growth was refused: never where there are no versions.
 pub(crate) fn nodes(alloc: Global, versions: &[Version]) -> Result<Vec<PlanRecord>, Memory>
-    ensures records { IfOk result (λ records. records.items ≡ map (bare_at versions.now) (tree versions.now)) }
+    ensures records { IfOk result (λ records. records.items
+        ≡ map (bare_at versions.now) (tree versions.now)) }
     ensures some { OnErr result (versions.now ≢ []) }
 {
     if versions.is_empty() {
@@ -64,7 +65,8 @@ fn record_count(placed: &[Placed]) -> usize
 
 /// How many parts the version's path shares in front with that of the version before.
 fn shared_with(before: Option<&Version>, version: &Version) -> usize
-    ensures exact { result ≡ shared (path_before (option_copied before.entry)) (path_of version.now) }
+    ensures exact { result ≡ shared (path_before (option_copied before.entry))
+        (path_of version.now) }
     ensures few { result ≤ 4 }
 {
     match before {
@@ -82,7 +84,8 @@ fn push_records(
 ) -> Result<(), Memory>
     requires { shared ≤ 4 }
     ensures { OnOk result (records.new.items ≡ records.old.items ++ map
-        (record_here (map standing (first.now ∷ later.now))) (drop shared (prefixes (path_of first.now.version.now)))) }
+        (record_here (map standing (first.now ∷ later.now)))
+        (drop shared (prefixes (path_of first.now.version.now)))) }
 {
     for level in &LEVELS[shared..] {
         records.push(PlanRecord {
@@ -99,7 +102,8 @@ fn push_records(
 
 /// The least index of the first version and of those that follow at once below its record of this level.
 fn least_below(level: Level, first: &Placed, later: &[Placed]) -> usize
-    ensures { result ≡ least_run (front_of level first.now.version.now) first.now.of (map standing later.now) }
+    ensures { result ≡ least_run (front_of level first.now.version.now) first.now.of
+        (map standing later.now) }
 {
     let mut least = first.of;
     let mut rest = later;

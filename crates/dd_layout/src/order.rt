@@ -25,7 +25,8 @@ pub(crate) fn in_path_order<'a>(
     alloc: Global,
     versions: &'a [Version],
 ) -> Result<Vec<Placed<'a>>, Memory>
-    ensures all { IfOk result (λ placed. IsPermutation (standings 0 versions.now) (map standing placed.items)) }
+    ensures all { IfOk result
+        (λ placed. IsPermutation (standings 0 versions.now) (map standing placed.items)) }
     ensures order { IfOk result (λ placed. AreInOrder (map standing placed.items)) }
 {
     let mut placed = Vec::with_capacity(alloc, versions.len())?;

@@ -21,8 +21,10 @@ pub(crate) fn place(
 ) -> Option<u32>
     requires records { records.old ≡ map (numbered_at versions.now) (tree versions.now) }
     requires files { All (λ planned. IsFileOf planned.level planned.file) records.old }
-    ensures fits { SomeIff result (records_end label.now versions.now ≤ most) (records_end label.now versions.now) }
-    ensures placed { IsSome result → records.new ≡ map (placed_at label.now versions.now) (tree versions.now) }
+    ensures fits { SomeIff result (records_end label.now versions.now ≤ most)
+        (records_end label.now versions.now) }
+    ensures placed { IsSome result → records.new
+        ≡ map (placed_at label.now versions.now) (tree versions.now) }
 {
     let most = u64::from(most);
     let mut end = first_offset(label);

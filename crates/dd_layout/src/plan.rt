@@ -120,7 +120,8 @@ impl Plan {
     pub fn records(&self) -> &[PlanRecord]
         ensures all { result.now ≡ records_of self.now.label self.now.versions }
         ensures sound { All (IsSound (length self.now.versions)) result.now }
-        ensures within { All (StandsWithin (size self.now.label self.now.versions self.now.withdrawn)) result.now }
+        ensures within { All (StandsWithin
+            (size self.now.label self.now.versions self.now.withdrawn)) result.now }
     {
         &self.records
     }

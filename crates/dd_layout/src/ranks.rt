@@ -106,7 +106,8 @@ pub(crate) fn number(records: &mut [PlanRecord], most: u32) -> Option<Level>
     requires { most ≤ max_rank }
     ensures crowded { (versions : List Parts) → records.old ≡ map (bare_at versions) (tree versions)
         → result ≡ crowded most (tree versions) }
-    ensures numbered { (versions : List Parts) → records.old ≡ map (bare_at versions) (tree versions)
+    ensures numbered { (versions : List Parts)
+        → records.old ≡ map (bare_at versions) (tree versions)
         → result ≡ None → records.new ≡ map (numbered_at versions) (tree versions) }
     ensures files { (versions : List Parts) → records.old ≡ map (bare_at versions) (tree versions)
         → result ≡ None → All (λ planned. IsFileOf planned.level planned.file) records.new }

@@ -28,7 +28,8 @@ pub fn record_size(level: Level, parts: &Parts) -> u64
         → result ≡ record_size (record_elements level next lower file parts.now) }
     ensures few { result ≤ 12000 }
     ensures valid { (levels next lower : ℕ) (file : Option Ranks) → IsFileOf level file
-        → AreElements Explicit levels 0 (elements_of (record_elements level next lower file parts.now)) }
+        → AreElements Explicit levels 0
+        (elements_of (record_elements level next lower file parts.now)) }
 {
     ITEM_HEADER + cells_size(rows(level), &unlinked(level), parts)
 }

@@ -45,7 +45,8 @@ impl Row {
 /// The elements of a record of this level, in order (PS3.3 section F.3.2.2 and annex F.5).
 pub fn rows(level: Level) -> &'static [Row]
     ensures exact { (next lower : ℕ) (file : Option Ranks) (parts : Parts)
-        → table_elements result.now level next lower file parts ≡ record_elements level next lower file parts }
+        → table_elements result.now level next lower file parts
+        ≡ record_elements level next lower file parts }
     ensures few { length result.now ≤ 11 }
     ensures listed { result.now ≡ table_of level }
 {

@@ -21,8 +21,10 @@ impl Plan {
     /// harmonised again, and no growth is wanted, so the fault is never Conflict or Memory.
     pub fn under(self, label: &Label, limits: Limits) -> Result<Plan, PlanFault>
         ensures planned { IfOk result (λ plan. plan ≡ record self { label = label.now }) }
-        ensures allowed { IsOk result → excess label.now limits self.versions self.withdrawn ≡ None }
-        ensures refused { IfErr result (λ fault. excess label.now limits self.versions self.withdrawn ≡ Some fault) }
+        ensures allowed { IsOk result → excess label.now limits self.versions self.withdrawn
+            ≡ None }
+        ensures refused { IfErr result
+            (λ fault. excess label.now limits self.versions self.withdrawn ≡ Some fault) }
     {
         let (catalogue, mut records) = self.into_parts();
         let size = fill_again(
@@ -45,9 +47,11 @@ fn fill_again(
     limits: Limits,
 ) -> Result<u32, PlanFault>
     requires { map bare_again records.old ≡ map (bare_at versions.now) (tree versions.now) }
-    ensures full { IfOk result (λ bytes. IsLaidOut label.now versions.now withdrawn.now records.new bytes) }
+    ensures full { IfOk result
+        (λ bytes. IsLaidOut label.now versions.now withdrawn.now records.new bytes) }
     ensures allowed { IsOk result → excess label.now limits versions.now withdrawn.now ≡ None }
-    ensures refused { IfErr result (λ fault. excess label.now limits versions.now withdrawn.now ≡ Some fault) }
+    ensures refused { IfErr result (λ fault. excess label.now limits versions.now withdrawn.now
+        ≡ Some fault) }
 {
     clear(records);
     fill(records, versions, withdrawn, label, limits)

@@ -155,7 +155,8 @@ fn append_values(
 
 /// Lists the paths: the folder that is written to, if any, and then the paths that are read.
 fn paths_of(alloc: Global, given: &ArgMatches<'_>) -> Result<Vec<String>, AllocError>
-    ensures { IfOk result (λ paths. words_of paths.items ≡ given_paths (rows_of (found_of given.now))) }
+    ensures { IfOk result (λ paths. words_of paths.items
+        ≡ given_paths (rows_of (found_of given.now))) }
 {
     let mut paths = Vec::new(alloc);
     append_values(alloc, given, OUT, &mut paths)?;
@@ -166,7 +167,8 @@ fn paths_of(alloc: Global, given: &ArgMatches<'_>) -> Result<Vec<String>, AllocE
 
 /// Lists the SOP Instance UIDs of the images.
 fn uids_of(alloc: Global, given: &ArgMatches<'_>) -> Result<Vec<String>, AllocError>
-    ensures { IfOk result (λ uids. words_of uids.items ≡ given_for instance_name (rows_of (found_of given.now))) }
+    ensures { IfOk result (λ uids. words_of uids.items
+        ≡ given_for instance_name (rows_of (found_of given.now))) }
 {
     let mut uids = Vec::new(alloc);
     append_values(alloc, given, INSTANCE, &mut uids)?;
@@ -178,7 +180,8 @@ fn asked_by(alloc: Global, verb: Verb, given: &ArgMatches<'_>) -> Result<Asked, 
     requires limit { HasLimit (rows_of (found_of given.now)) }
     requires flags { HasFlags (rows_of (found_of given.now)) }
     requires enough { IsEnoughFor verb (rows_of (found_of given.now)) }
-    ensures values { IfOk result (λ asked. Asks asked (verb_name verb) (rows_of (found_of given.now))) }
+    ensures values { IfOk result
+        (λ asked. Asks asked (verb_name verb) (rows_of (found_of given.now))) }
     ensures paths { IfOk result (λ asked. least_paths asked.verb ≤ length asked.paths.items) }
     ensures set { IfOk result (λ asked. OnlyReads asked.verb → AsksForOneSet asked) }
     ensures withdraw { IfOk result (λ asked. asked.verb ≡ Verb.Withdraw → AsksToWithdraw asked) }
@@ -293,13 +296,15 @@ pub fn read_words(alloc: Global, words: &[String]) -> Result<Asked, LineFault>
     ensures passes { IfErr result (λ fault.
         takes dicomdir_app (words_of words.now) ≡ true
         → (fault ≡ LineFault.Memory)
-        ⊎ (LacksSources (subcommand_of dicomdir_app (words_of words.now)) × IsMissingArgument fault)) }
+        ⊎ (LacksSources (subcommand_of dicomdir_app (words_of words.now))
+        × IsMissingArgument fault)) }
     ensures kinds { MatchResult result
         (λ _. (fault_of dicomdir_app (words_of words.now) ≡ [])
         × ¬ LacksSources (subcommand_of dicomdir_app (words_of words.now)))
         (λ fault. IsRefusedFor (fault_of dicomdir_app (words_of words.now)) fault
         ⊎ ((fault_of dicomdir_app (words_of words.now) ≡ [])
-        × LacksSources (subcommand_of dicomdir_app (words_of words.now)) × IsMissingArgument fault)) }
+        × LacksSources (subcommand_of dicomdir_app (words_of words.now))
+        × IsMissingArgument fault)) }
 {
     let found = parsed(alloc, words)?;
     let asked = asked_of(alloc, &found)?;

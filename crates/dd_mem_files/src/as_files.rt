@@ -25,7 +25,8 @@ impl Files for MemFiles {
         ensures worked { IsOk result → HasWorked self.old.refusals self.new.refusals }
         ensures refused { IsErr result → self.new.refusals ≡ counted self.old.refusals }
         ensures may { IsOk result → MayCall self.old }
-        ensures gives { IfOk result (λ reader. bytes_at self.new.files path.now ≡ Some reader.left) }
+        ensures gives { IfOk result (λ reader. bytes_at self.new.files path.now
+            ≡ Some reader.left) }
         ensures new { IfOk result (λ reader. reader
             ≡ unread reader.left (fails_at self.old.planned.reader path.now)) }
         ensures opens { OnOk result (Opens (called self.old) self.new path.now) }
@@ -47,11 +48,13 @@ impl Files for MemFiles {
         ensures worked { IsOk result → HasWorked self.old.refusals self.new.refusals }
         ensures refused { IsErr result → self.new.refusals ≡ counted self.old.refusals }
         ensures may { IsOk result → self.old.refusals < last_count }
-        ensures gives { IfOk result (λ reader. bytes_at self.new.files path.now ≡ Some reader.left) }
+        ensures gives { IfOk result (λ reader. bytes_at self.new.files path.now
+            ≡ Some reader.left) }
         ensures new { IfOk result (λ reader. reader
             ≡ unread reader.left (fails_at self.old.planned.reader path.now)) }
         ensures opens { OnOk result (Opens self.old self.new path.now) }
-        ensures err { OnErr result (self.new ≡ record self.old { refusals = counted self.old.refusals }) }
+        ensures err { OnErr result (self.new
+            ≡ record self.old { refusals = counted self.old.refusals }) }
     {
         if self.refusals < u64::MAX {
             if let Some(reader) = self.open(path) {
@@ -69,11 +72,13 @@ impl Files for MemFiles {
         ensures worked { IsOk result → HasWorked self.old.refusals self.new.refusals }
         ensures refused { IsErr result → self.new.refusals ≡ counted self.old.refusals }
         ensures may { IsOk result → self.old.refusals < last_count }
-        ensures gives { IfOk result (λ reader. bytes_at self.new.files path.now ≡ Some reader.left) }
+        ensures gives { IfOk result (λ reader. bytes_at self.new.files path.now
+            ≡ Some reader.left) }
         ensures new { IfOk result (λ reader. reader
             ≡ unread reader.left (fails_at self.old.planned.reader path.now)) }
         ensures opens { OnOk result (Opens self.old self.new path.now) }
-        ensures err { OnErr result (self.new ≡ record self.old { refusals = counted self.old.refusals }) }
+        ensures err { OnErr result (self.new
+            ≡ record self.old { refusals = counted self.old.refusals }) }
     {
         if self.refusals < u64::MAX {
             if let Some(reader) = self.open(path) {
@@ -141,7 +146,8 @@ impl Files for MemFiles {
         ensures may { IsOk result → self.old.planned.no_links ≡ false }
         ensures ok { OnOk result (LinksFile self.old.files self.new.files from.now path.now) }
         ensures taken { result ≡ Err LinkFault.Taken → IsSome (bytes_at self.old.files path.now) }
-        ensures err { OnErr result (self.new ≡ record self.old { refusals = counted self.old.refusals }) }
+        ensures err { OnErr result (self.new
+            ≡ record self.old { refusals = counted self.old.refusals }) }
         ensures same { OnOk result (self.new ≡ record self.old { files = self.new.files }) }
     {
         let answer = if self.refusals < u64::MAX {

@@ -194,7 +194,8 @@ impl MemFiles {
     /// Opens the file at the path. None where there is no such file or a growth is refused, and then nothing has
     /// changed.
     pub(crate) fn open(&mut self, path: &str) -> Option<MemReader>
-        ensures gives { IfSome result (λ reader. bytes_at self.new.files path.now ≡ Some reader.left) }
+        ensures gives { IfSome result (λ reader. bytes_at self.new.files path.now
+            ≡ Some reader.left) }
         ensures new { IfSome result (λ reader. reader
             ≡ unread reader.left (fails_at self.old.planned.reader path.now)) }
         ensures opens { IsSome result → Opens self.old self.new path.now }
@@ -211,7 +212,8 @@ impl MemFiles {
         ensures ok { OnOk result (SetsFile self.old.files self.new.files path.now []) }
         ensures started { OnOk result (self.new.current ≡ Some path.now) }
         ensures err { OnErr result (self.new ≡ self.old) }
-        ensures same { self.new ≡ record self.old { files = self.new.files; current = self.new.current } }
+        ensures same { self.new
+            ≡ record self.old { files = self.new.files; current = self.new.current } }
     {
         let name = String::from_str(self.alloc, path)?;
         self.put(path, &[])?;
@@ -302,7 +304,8 @@ impl Write for MemFiles {
     /// and where a growth is refused. It then adds nothing.
     fn write(&mut self, bytes: &[u8]) -> io::Result<usize>
         ensures bound { WritesAtMost result bytes.now }
-        ensures appends { WriteAppends (written_of self.old) (written_of self.new) result bytes.now }
+        ensures appends { WriteAppends (written_of self.old)
+            (written_of self.new) result bytes.now }
 
         // It works only where no count is at its last value and writes are not to fail yet, and how many bytes it
         // takes then for the file that is being written.

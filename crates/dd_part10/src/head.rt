@@ -14,7 +14,8 @@ ghost use Rattle.dd_part10.specs.File.{StartsAbove, IsFile};
 /// states a law, and does nothing.
 pub fn head_makes_file()
     ensures { (meta : Meta) (syntax : Syntax) (set : Elements) (text : List ℕ)
-        → IsUid meta.class → IsUid meta.instance → IsUid meta.transfer → syntax_of meta.transfer ≡ Some syntax
+        → IsUid meta.class → IsUid meta.instance → IsUid meta.transfer
+        → syntax_of meta.transfer ≡ Some syntax
         → Spells syntax set text → StartsAbove set
         → IsFile (head_text meta ++ text) meta set (length (head_text meta)) }
 {}

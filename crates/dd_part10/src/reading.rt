@@ -34,7 +34,8 @@ pub fn parse_file<'a>(alloc: Global, bytes: &'a [u8]) -> Result<DicomFile<'a>, F
     ensures found { IfOk result (λ f. IsFile bytes.now f.meta (set_view f.set) f.set_at) }
     // A file is answered, unless memory runs out.
     ensures only { (meta : Meta) (set : Elements) (set_at : ℕ) → IsFile bytes.now meta set set_at
-        → AnswersAs is_memory file_view result (Ok (record { meta = meta; set = set; set_at = set_at })) }
+        → AnswersAs is_memory file_view result
+        (Ok (record { meta = meta; set = set; set_at = set_at })) }
     // A refusal for other than memory is the first check that fails.
     ensures fault { AnswersAs is_memory file_view result (file_in bytes.now) }
     // Memory runs out only where it is wanted, behind all checks that come before.

@@ -41,7 +41,8 @@ pub fn take_file<F: Feed>(alloc: Global, feed: &mut F, wanted: &[Tag]) -> Result
 
 /// Takes all that stands before the data set, and answers what it says and the syntax of the data set.
 fn take_head<F: Feed>(alloc: Global, feed: &mut F) -> Result<(Meta, Syntax), FileFault>
-    ensures found { Scans F.moves F.tells feed.old feed.new (λ bytes rest. HeadTaken result bytes rest) }
+    ensures found { Scans F.moves F.tells feed.old feed.new
+        (λ bytes rest. HeadTaken result bytes rest) }
     ensures memory { result ≢ Err (faults.Set Memory) }
 {
     take_prefix(feed)?;
@@ -52,7 +53,8 @@ fn take_head<F: Feed>(alloc: Global, feed: &mut F) -> Result<(Meta, Syntax), Fil
 
 /// Takes the preamble and the prefix.
 fn take_prefix<F: Feed>(feed: &mut F) -> Result<(), FileFault>
-    ensures found { Scans F.moves F.tells feed.old feed.new (λ bytes rest. PrefixTaken result bytes rest) }
+    ensures found { Scans F.moves F.tells feed.old feed.new
+        (λ bytes rest. PrefixTaken result bytes rest) }
     ensures memory { WantsNone result }
 {
     let mut front = [0; PREFIX_END];
@@ -63,7 +65,8 @@ fn take_prefix<F: Feed>(feed: &mut F) -> Result<(), FileFault>
 
 /// Takes the group length, and answers its number.
 fn take_count<F: Feed>(feed: &mut F) -> Result<u32, FileFault>
-    ensures found { Scans F.moves F.tells feed.old feed.new (λ bytes rest. CountTaken result bytes rest) }
+    ensures found { Scans F.moves F.tells feed.old feed.new
+        (λ bytes rest. CountTaken result bytes rest) }
     ensures few { IfOk result (λ n. n ≤ max_group_length) }
     ensures memory { WantsNone result }
 {
@@ -74,7 +77,8 @@ fn take_count<F: Feed>(feed: &mut F) -> Result<u32, FileFault>
 
 /// Takes group 0002, and answers the meta information.
 fn take_meta<F: Feed>(alloc: Global, feed: &mut F) -> Result<Meta, FileFault>
-    ensures found { Scans F.moves F.tells feed.old feed.new (λ bytes rest. MetaTaken result bytes rest) }
+    ensures found { Scans F.moves F.tells feed.old feed.new
+        (λ bytes rest. MetaTaken result bytes rest) }
     ensures memory { result ≢ Err (faults.Set Memory) }
 {
     let count = take_count(feed)? as usize;

@@ -172,7 +172,8 @@ pub fn item_opening(form: Length, head: &[u8]) -> Result<Option<u32>, SetFault>
 /// What stands behind a header, where the enclosing length leaves so much.
 #[tactic(auto, unfolding(crate::specs::Reading::content_at))]
 pub fn sort_of(syntax: Syntax, header: Header, left: Option<u64>) -> Result<Sort, SetFault>
-    ensures exact { (sequence : SequenceReader) (bytes : List ℕ) → let at : At = record { left = left; bytes = bytes }
+    ensures exact { (sequence : SequenceReader) (bytes : List ℕ)
+        → let at : At = record { left = left; bytes = bytes }
         in content_at sequence syntax (header_view header) at ≡ sorted sequence result at }
     ensures memory { result ≢ Err Memory }
 {

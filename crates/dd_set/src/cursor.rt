@@ -42,7 +42,8 @@ impl<'a> Cursor<'a> {
 
     /// The place behind the n bytes from here, which end where `inner` stands.
     pub fn behind(self, n: u64, inner: Cursor<'a>) -> Cursor<'a>
-        ensures { at_view result ≡ record { left = less self.entry.left n; bytes = inner.entry.rest.now } }
+        ensures { at_view result
+            ≡ record { left = less self.entry.left n; bytes = inner.entry.rest.now } }
     {
         Cursor {
             left: less(self.left, n),
@@ -89,8 +90,10 @@ impl<'a> Cursor<'a> {
         form: Length,
         low: u64,
     ) -> Result<(Option<Header>, Cursor<'a>), SetFault>
-        ensures exact { front_at syntax form low (at_view self.entry) ≡ stepped (option_map header_view) result }
-        ensures shorter { IfOk result (λ x. OnSome x.0 (length x.1.rest.now < length self.entry.rest.now)) }
+        ensures exact { front_at syntax form low (at_view self.entry)
+            ≡ stepped (option_map header_view) result }
+        ensures shorter { IfOk result
+            (λ x. OnSome x.0 (length x.1.rest.now < length self.entry.rest.now)) }
         ensures not_longer { IfOk result (λ x. length x.1.rest.now ≤ length self.entry.rest.now) }
     {
         if self.is_over(form) {
@@ -114,7 +117,8 @@ impl<'a> Cursor<'a> {
     #[tactic(auto, unfolding(crate::specs::Reading::item_front_at, crate::specs::Reading::head_at))]
     pub fn item_front(self, form: Length) -> Result<(Option<u32>, Cursor<'a>), SetFault>
         ensures exact { item_front_at form (at_view self.entry) ≡ stepped (λ n. n) result }
-        ensures shorter { IfOk result (λ x. OnSome x.0 (length x.1.rest.now < length self.entry.rest.now)) }
+        ensures shorter { IfOk result
+            (λ x. OnSome x.0 (length x.1.rest.now < length self.entry.rest.now)) }
         ensures not_longer { IfOk result (λ x. length x.1.rest.now ≤ length self.entry.rest.now) }
         ensures memory { result ≢ Err Memory }
     {

@@ -58,7 +58,8 @@ fn count_fragments(at: Cursor<'_>) -> Result<usize, SetFault>
 #[tactic(auto, unfolding(crate::specs::Reading::fragment_at))]
 fn fragment<'a>(at: Cursor<'a>) -> Result<(Option<&'a [u8]>, Cursor<'a>), SetFault>
     ensures exact { fragment_at (at_view at.entry) ≡ stepped (option_map (λ f. f.now)) result }
-    ensures shorter { IfOk result (λ x. OnSome x.0 (length x.1.rest.now < length at.entry.rest.now)) }
+    ensures shorter { IfOk result
+        (λ x. OnSome x.0 (length x.1.rest.now < length at.entry.rest.now)) }
     ensures not_longer { IfOk result (λ x. length x.1.rest.now ≤ length at.entry.rest.now) }
     ensures memory { result ≢ Err Memory }
 {

@@ -31,11 +31,14 @@ fn content<'a>(
     at: Cursor<'a>,
 ) -> Result<(Value<'a>, Cursor<'a>), SetFault>
     ensures exact { AnswersAs is_memory (λ x. (value_view x.0, at_view x.1)) result
-        (content_at (sequence_with (item_reader levels)) syntax (header_view header) (at_view at.entry)) }
+        (content_at (sequence_with (item_reader levels)) syntax (header_view header)
+        (at_view at.entry)) }
     ensures shorter { IfOk result (λ x. length x.1.rest.now ≤ length at.entry.rest.now) }
     ensures memory { result ≡ Err Memory
-        → WantsContent (content_at (sequence_with (item_reader levels)) syntax (header_view header) (at_view at.entry))
-        (content_at (unkept_sequence (unkept_item levels)) syntax (header_view header) (at_view at.entry)) }
+        → WantsContent (content_at (sequence_with (item_reader levels)) syntax (header_view header)
+        (at_view at.entry))
+        (content_at (unkept_sequence (unkept_item levels)) syntax (header_view header)
+        (at_view at.entry)) }
 {
     match sort_of(syntax, header, at.left)? {
         Sort::Bytes(n) => {
@@ -71,10 +74,12 @@ fn element<'a>(
 ) -> Result<(Option<Element<'a>>, Cursor<'a>), SetFault>
     ensures exact { AnswersAs is_memory (λ x. (option_map element_view x.0, at_view x.1)) result
         (element_at (sequence_with (item_reader levels)) syntax form low (at_view at.entry)) }
-    ensures shorter { IfOk result (λ x. OnSome x.0 (length x.1.rest.now < length at.entry.rest.now)) }
+    ensures shorter { IfOk result
+        (λ x. OnSome x.0 (length x.1.rest.now < length at.entry.rest.now)) }
     ensures not_longer { IfOk result (λ x. length x.1.rest.now ≤ length at.entry.rest.now) }
     ensures memory { result ≡ Err Memory
-        → WantsElement (element_at (sequence_with (item_reader levels)) syntax form low (at_view at.entry))
+        → WantsElement (element_at (sequence_with (item_reader levels)) syntax form low
+        (at_view at.entry))
         (element_at (unkept_sequence (unkept_item levels)) syntax form low (at_view at.entry)) }
 {
     let (header, at) = at.front(syntax, form, low)?;
@@ -98,7 +103,8 @@ fn set<'a>(
     ensures exact { AnswersAs is_memory (λ x. (set_view x.0, at_view x.1)) result
         (set_with (item_reader levels) syntax form (at_view at.entry)) }
     ensures shorter { IfOk result (λ x. length x.1.rest.now ≤ length at.entry.rest.now) }
-    ensures memory { result ≡ Err Memory → unkept_set (unkept_item levels) syntax form (at_view at.entry) ≡ Err Memory }
+    ensures memory { result ≡ Err Memory
+        → unkept_set (unkept_item levels) syntax form (at_view at.entry) ≡ Err Memory }
 {
     let mut elements = Vec::new(alloc);
     let mut place = at;
@@ -127,9 +133,11 @@ fn item<'a>(
 ) -> Result<(Option<Item<'a>>, Cursor<'a>), SetFault>
     ensures exact { AnswersAs is_memory (λ x. (option_map item_view x.0, at_view x.1)) result
         (item_at (item_reader levels) syntax form (at_view at.entry)) }
-    ensures shorter { IfOk result (λ x. OnSome x.0 (length x.1.rest.now < length at.entry.rest.now)) }
+    ensures shorter { IfOk result
+        (λ x. OnSome x.0 (length x.1.rest.now < length at.entry.rest.now)) }
     ensures not_longer { IfOk result (λ x. length x.1.rest.now ≤ length at.entry.rest.now) }
-    ensures memory { result ≡ Err Memory → item_at (unkept_item levels) syntax form (at_view at.entry) ≡ Err Memory }
+    ensures memory { result ≡ Err Memory
+        → item_at (unkept_item levels) syntax form (at_view at.entry) ≡ Err Memory }
 {
     let (length, at) = at.item_front(form)?;
     let Some(n) = length else {
@@ -179,7 +187,8 @@ fn part<'a>(
     ensures exact { AnswersAs is_memory (λ x. (item_view x.0, at_view x.1)) result
         (item_reader levels syntax n (at_view at.entry)) }
     ensures shorter { IfOk result (λ x. length x.1.rest.now ≤ length at.entry.rest.now) }
-    ensures memory { result ≡ Err Memory → unkept_item levels syntax n (at_view at.entry) ≡ Err Memory }
+    ensures memory { result ≡ Err Memory
+        → unkept_item levels syntax n (at_view at.entry) ≡ Err Memory }
 {
     if levels == 0 {
         return Err(SetFault::TooDeep);
@@ -220,7 +229,8 @@ pub fn parse<'a>(alloc: Global, syntax: Syntax, bytes: &'a [u8]) -> Result<DataS
     // What is answered is spelled so, each byte of it.
     ensures found { IfOk result (λ set. Spells syntax (set_view set) bytes.now) }
     // What is spelled so is answered, unless memory runs out.
-    ensures only { (set : Elements) → Spells syntax set bytes.now → AnswersAs is_memory set_view result (Ok set) }
+    ensures only { (set : Elements) → Spells syntax set bytes.now
+        → AnswersAs is_memory set_view result (Ok set) }
     // A refusal is the first check that fails, unless memory ran out.
     ensures exact { AnswersAs is_memory set_view result (read_all syntax bytes.now) }
     // Memory runs out only where it is wanted: behind the first item or element.

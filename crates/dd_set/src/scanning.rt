@@ -28,7 +28,8 @@ pub fn scan<R: Read>(
     wanted: &[Tag],
     limit: u64,
 ) -> Result<Scan, ScanFault>
-    ensures { ReadsUpTo R.Read limit reader.old reader.new (IsScanAnswer result syntax wanted.now limit) }
+    ensures { ReadsUpTo R.Read limit reader.old reader.new
+        (IsScanAnswer result syntax wanted.now limit) }
 {
     let mut stream = Stream::new(reader, limit);
     scan_stream(alloc, syntax, &mut stream, wanted)

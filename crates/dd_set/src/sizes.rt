@@ -122,7 +122,8 @@ fn fragments_size(fragments: &[&[u8]]) -> Option<u64>
 
 /// The size of a fragment.
 fn fragment_size(fragment: &[u8]) -> Option<u64>
-    ensures { SomeIff result ((length fragment.now % 2 ≡ 0) × (length fragment.now < undefined_length))
+    ensures { SomeIff result ((length fragment.now % 2 ≡ 0)
+        × (length fragment.now < undefined_length))
         (length (fragment_text fragment.now)) }
 {
     let size = fragment.len() as u64;

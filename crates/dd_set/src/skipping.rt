@@ -109,7 +109,8 @@ fn skip_items<F: Feed>(
     mut left: Option<u64>,
 ) -> Result<Option<u64>, SetFault>
     ensures found { Scans F.moves F.tells feed.old feed.new (λ bytes rest. Skips result
-        (sequence_with (item_reader levels) syntax form (record { left = left; bytes = bytes })) rest) }
+        (sequence_with (item_reader levels) syntax form
+        (record { left = left; bytes = bytes })) rest) }
     ensures fewer { F.most feed.new ≤ F.most feed.old }
     ensures memory { result ≢ Err Memory }
 {

@@ -19,17 +19,20 @@ pub fn no_fault_is_a_set()
 pub fn front_is_truncated()
     ensures { (syntax : Syntax) (set : Elements) (front more : List ℕ) → AreBytes front
         → Spells syntax set (front ++ more)
-        → ((other : Elements) → ¬ Spells syntax other front) → first_fault syntax front ≡ Some Truncated }
+        → ((other : Elements) → ¬ Spells syntax other front)
+        → first_fault syntax front ≡ Some Truncated }
 {}
 
 /// A set has at most one spelling.
 pub fn set_has_one_spelling()
-    ensures { (syntax : Syntax) (set : Elements) (a b : List ℕ) → Spells syntax set a → Spells syntax set b → a ≡ b }
+    ensures { (syntax : Syntax) (set : Elements) (a b : List ℕ) → Spells syntax set a
+        → Spells syntax set b → a ≡ b }
 {}
 
 /// Bytes spell at most one set.
 pub fn bytes_spell_one_set()
-    ensures { (syntax : Syntax) (a b : Elements) (bytes : List ℕ) → Spells syntax a bytes → Spells syntax b bytes
+    ensures { (syntax : Syntax) (a b : Elements) (bytes : List ℕ) → Spells syntax a bytes
+        → Spells syntax b bytes
         → a ≡ b }
 {}
 

@@ -33,7 +33,8 @@ impl DataSet<'_> {
             ≡ places_in tag [] (set_view self.now)) }
         ensures unspelled { ¬ Spells syntax (set_view self.now) (elements_text (set_view self.now))
             → result ≡ Ok None }
-        ensures memory { OnErr result (IsSomeAnd (places_in tag [] (set_view self.now)) (λ places. 0 < length places)) }
+        ensures memory { OnErr result
+            (IsSomeAnd (places_in tag [] (set_view self.now)) (λ places. 0 < length places)) }
     {
         if self.size(syntax).is_none() {
             return Ok(None);

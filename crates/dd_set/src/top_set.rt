@@ -115,7 +115,8 @@ fn take_wanted<F: Feed>(
     header: Header,
     left: Option<u64>,
 ) -> Result<(FoundValue, Option<u64>), SetFault>
-    ensures found { Scans F.moves F.tells feed.old feed.new (λ bytes rest. GivesSummary found_summary summary_of result
+    ensures found { Scans F.moves F.tells feed.old feed.new
+        (λ bytes rest. GivesSummary found_summary summary_of result
         (content_at (sequence_with (item_reader levels)) syntax (header_view header)
         (record { left = left; bytes = bytes })) rest) }
     ensures fewer { F.most feed.new ≤ F.most feed.old }

@@ -101,7 +101,8 @@ fn send_all_fragments<W: Write>(
 ) -> Result<u64, WriteFault>
     requires wide { (v : Vr) → vr ≡ Some v → is_long_of v ≡ true }
     requires valid { AreFragments (pieces fragments.now) }
-    requires fits { sent + length (tag_text tag ++ content_text vr (fragment_list (pieces fragments.now)))
+    requires fits { sent + length
+        (tag_text tag ++ content_text vr (fragment_list (pieces fragments.now)))
         < 2 ^ 64 }
     ensures { let text = tag_text tag ++ content_text vr (fragment_list (pieces fragments.now))
         in SendsTo W.Write text sent result writer.old writer.new }

@@ -37,7 +37,8 @@ pub trait Feed {
     ghost stays: { (feed : Self) → moves feed feed [] };
 
     // What is taken in two stretches is taken in one.
-    ghost goes: { (first second third : Self) (xs ys : List ℕ) → moves first second xs → moves second third ys
+    ghost goes: { (first second third : Self) (xs ys : List ℕ) → moves first second xs
+        → moves second third ys
         → moves first third (xs ++ ys) };
 
     // What was taken, and what is to come behind it, was to come before.

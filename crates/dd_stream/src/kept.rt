@@ -105,7 +105,8 @@ fn read_once<R: Read>(reader: &mut R, room: &mut [u8]) -> Option<usize>
     ensures bound { IfSome result (λ n. n ≤ length room.new) }
     ensures bytes { AreBytes room.new }
     ensures gave { Gives R.has_given reader.old reader.new (came result room.new) }
-    ensures known { Consumes (R.remaining reader.old) (R.remaining reader.new) (came result room.new) }
+    ensures known { Consumes (R.remaining reader.old) (R.remaining reader.new)
+        (came result room.new) }
     ensures end { result ≡ Some 0 → 0 < length room.new → IsAtEnd (R.remaining reader.new) }
     ensures called { R.calls reader.new ≤ R.calls reader.old + 1 }
     ensures worked { IsSome result → HasWorked (R.failures reader.old) (R.failures reader.new) }

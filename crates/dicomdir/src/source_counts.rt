@@ -37,7 +37,8 @@ impl SourceCounts {
 
     /// Is each count below its last value?
     pub(crate) fn is_live(&self) -> bool
-        ensures { IsTrue result ↔ (IsLive self.now.refusals self.now.failures × IsLive self.now.reads self.now.lent) }
+        ensures { IsTrue result ↔ (IsLive self.now.refusals self.now.failures
+            × IsLive self.now.reads self.now.lent) }
     {
         self.refusals < u64::MAX
             && self.failures < u64::MAX

@@ -147,10 +147,13 @@ impl<'a, R: System> HostFiles<'a, R> {
     /// stored and closed.
     pub(crate) fn makes_room<T>(&mut self, answer: &io::Result<T>) -> bool
         ensures none { self.old.unstored.files.items ≡ [] → self.new.unstored ≡ self.old.unstored }
-        ensures files { (self.new.unstored ≡ self.old.unstored) ⊎ (self.new.unstored.files.items ≡ []) }
-        ensures lost { IsSome self.old.unstored.lost → self.new.unstored.lost ≡ self.old.unstored.lost }
+        ensures files { (self.new.unstored ≡ self.old.unstored)
+            ⊎ (self.new.unstored.files.items ≡ []) }
+        ensures lost { IsSome self.old.unstored.lost
+            → self.new.unstored.lost ≡ self.old.unstored.lost }
         ensures folders { self.new.unstored.folders ≡ self.old.unstored.folders }
-        ensures same { self.new ≡ record self.old { unstored = self.new.unstored; progress = self.new.progress } }
+        ensures same { self.new
+            ≡ record self.old { unstored = self.new.unstored; progress = self.new.progress } }
     {
         match answer {
             Err(error) if has_no_more(error) && self.unstored.files_len() > 0 => {
@@ -163,7 +166,8 @@ impl<'a, R: System> HostFiles<'a, R> {
 
     /// Opens the file or the folder at the path for reading.
     pub(crate) fn open(&mut self, path: &str) -> io::Result<Input<R::File, R::Stdin>>
-        ensures same { self.new ≡ record self.old { unstored = self.new.unstored; progress = self.new.progress } }
+        ensures same { self.new
+            ≡ record self.old { unstored = self.new.unstored; progress = self.new.progress } }
     {
         let seen = look(self.rt, path, Links::Followed)?;
         let answer = open_seen(self.rt, path, &seen);
@@ -195,7 +199,8 @@ impl<'a, R: System> HostFiles<'a, R> {
 
     /// Opens the list of names at the path for reading.
     pub(crate) fn open_names(&mut self, path: &str) -> io::Result<Input<R::File, R::Stdin>>
-        ensures same { self.new ≡ record self.old { unstored = self.new.unstored; progress = self.new.progress } }
+        ensures same { self.new
+            ≡ record self.old { unstored = self.new.unstored; progress = self.new.progress } }
     {
         if path == "-" {
             return Ok(Input::Standard(self.rt.standard_input()));
@@ -211,7 +216,8 @@ impl<'a, R: System> HostFiles<'a, R> {
     fn open_new(&mut self, path: &str) -> io::Result<Output<R::File>>
         ensures none { self.old.unstored.files.items ≡ [] → self.new.unstored ≡ self.old.unstored }
         ensures folders { self.new.unstored.folders ≡ self.old.unstored.folders }
-        ensures same { self.new ≡ record self.old { unstored = self.new.unstored; progress = self.new.progress } }
+        ensures same { self.new
+            ≡ record self.old { unstored = self.new.unstored; progress = self.new.progress } }
     {
         let answer = output::start(self.alloc, self.rt, path);
         if self.makes_room(&answer) {
@@ -222,7 +228,8 @@ impl<'a, R: System> HostFiles<'a, R> {
 
     // Makes a folder, unless it is there. It may be a link where its path has no more than `out_len` bytes.
     fn make_one(&mut self, path: &str, out_len: usize) -> io::Result<()>
-        ensures same { self.new ≡ record self.old { unstored = self.new.unstored; progress = self.new.progress } }
+        ensures same { self.new
+            ≡ record self.old { unstored = self.new.unstored; progress = self.new.progress } }
     {
         let links = if path.len() > out_len {
             Links::Kept
@@ -239,7 +246,8 @@ impl<'a, R: System> HostFiles<'a, R> {
 
     // Makes the folders above one, unless they are there.
     fn make_above(&mut self, path: &str, out_len: usize) -> io::Result<()>
-        ensures same { self.new ≡ record self.old { unstored = self.new.unstored; progress = self.new.progress } }
+        ensures same { self.new
+            ≡ record self.old { unstored = self.new.unstored; progress = self.new.progress } }
     {
         for at in 1..path.len() {
             if let Some(folder) = before_slash(path, at) {
@@ -278,8 +286,10 @@ impl<'a, R: System> HostFiles<'a, R> {
             × Names path.now [] self.new.unstored.folders.items }
         ensures image { IsOk result → ¬ IsDirectoryPath path.now
             → Names path.now self.old.unstored.folders.items self.new.unstored.folders.items }
-        ensures path { IsOk result → option_map (λ path. string_bytes path) self.new.path ≡ Some path.now }
-        ensures kept { IsErr result → (self.new.path ≡ self.old.path) × (self.new.output ≡ self.old.output) }
+        ensures path { IsOk result → option_map (λ path. string_bytes path) self.new.path
+            ≡ Some path.now }
+        ensures kept { IsErr result → (self.new.path ≡ self.old.path)
+            × (self.new.output ≡ self.old.output) }
         ensures counts { self.new.output.counts ≡ self.old.output.counts }
         ensures refusals { self.new.refusals ≡ self.old.refusals }
     {

@@ -45,10 +45,13 @@ impl<'a, R: System> HostFiles<'a, R> {
 
     // Opens the new name at the path, where it is the file that was seen, and no symbolic link to it.
     fn open_linked(&mut self, path: &str, seen: &Metadata) -> io::Result<(R::File, Metadata)>
-        ensures files { (self.new.unstored ≡ self.old.unstored) ⊎ (self.new.unstored.files.items ≡ []) }
+        ensures files { (self.new.unstored ≡ self.old.unstored)
+            ⊎ (self.new.unstored.files.items ≡ []) }
         ensures folders { self.new.unstored.folders ≡ self.old.unstored.folders }
-        ensures lost { IsSome self.old.unstored.lost → self.new.unstored.lost ≡ self.old.unstored.lost }
-        ensures same { self.new ≡ record self.old { unstored = self.new.unstored; progress = self.new.progress } }
+        ensures lost { IsSome self.old.unstored.lost
+            → self.new.unstored.lost ≡ self.old.unstored.lost }
+        ensures same { self.new
+            ≡ record self.old { unstored = self.new.unstored; progress = self.new.progress } }
     {
         require_same(self.rt, path, seen)?;
         let answer = open_same(self.rt, path, seen);
@@ -66,7 +69,8 @@ impl<'a, R: System> HostFiles<'a, R> {
             (map (λ ended. string_bytes ended.path) self.old.unstored.files.items)
             (map (λ ended. string_bytes ended.path) self.new.unstored.files.items) }
         ensures due { IsOk result → IsTrue self.new.is_due ↔ IsDirectoryPath (string_bytes path) }
-        ensures lost { IsSome self.old.unstored.lost → self.new.unstored.lost ≡ self.old.unstored.lost }
+        ensures lost { IsSome self.old.unstored.lost
+            → self.new.unstored.lost ≡ self.old.unstored.lost }
         ensures same { self.new ≡ record self.old {
           unstored = self.new.unstored;
           is_due = self.new.is_due;
@@ -90,7 +94,8 @@ impl<'a, R: System> HostFiles<'a, R> {
             (map (λ ended. string_bytes ended.path) self.old.unstored.files.items)
             (map (λ ended. string_bytes ended.path) self.new.unstored.files.items) }
         ensures due { IsOk result → IsTrue self.new.is_due ↔ IsDirectoryPath path.now }
-        ensures lost { IsSome self.old.unstored.lost → self.new.unstored.lost ≡ self.old.unstored.lost }
+        ensures lost { IsSome self.old.unstored.lost
+            → self.new.unstored.lost ≡ self.old.unstored.lost }
         ensures same { self.new ≡ record self.old {
           unstored = self.new.unstored;
           is_due = self.new.is_due;

@@ -54,7 +54,8 @@ impl PathBuffer {
     /// Adds this text. Refused where the path gets too long, and then nothing has changed.
     pub(crate) fn push(&mut self, text: &str) -> io::Result<()>
         ensures ok { IsOk result → self.new ≡ self.old ++ text.now }
-        ensures err { IsErr result → (self.new ≡ self.old) × (most_path < length self.old + length text.now) }
+        ensures err { IsErr result → (self.new ≡ self.old)
+            × (most_path < length self.old + length text.now) }
     {
         self.push_letters(text, false)
     }
@@ -64,7 +65,8 @@ impl PathBuffer {
     fn push_letters(&mut self, text: &str, is_small: bool) -> io::Result<()>
         ensures ok { IsOk result
             → self.new ≡ self.old ++ (if is_small then in_small_letters text.now else text.now) }
-        ensures err { IsErr result → (self.new ≡ self.old) × (most_path < length self.old + length text.now) }
+        ensures err { IsErr result → (self.new ≡ self.old)
+            × (most_path < length self.old + length text.now) }
     {
         if text.len() > self.bytes.len() - self.len {
             return Err(io::Error::from(ErrorKind::InvalidInput));
@@ -82,7 +84,8 @@ impl PathBuffer {
     /// Adds a name in this spelling. Refused where the path gets too long.
     pub(crate) fn push_spelled(&mut self, name: &str, spelling: Spelling) -> io::Result<()>
         ensures ok { IsOk result → self.new ≡ self.old ++ spelled spelling name.now }
-        ensures err { IsErr result → most_path < length self.old + length (spelled spelling name.now) }
+        ensures err { IsErr result → most_path < length self.old + length
+            (spelled spelling name.now) }
     {
         self.push_letters(name, spelling.is_small)?;
         self.push(spelling.ending)

@@ -85,7 +85,8 @@ impl<F: OpenFile + Drop> Unstored<F> {
 
     /// Remembers a folder in which something was made.
     pub(crate) fn name(&mut self, folder: String) -> Result<(), AllocError>
-        ensures named { IsOk result → self.new.folders.items ≡ self.old.folders.items ++ folder ∷ [] }
+        ensures named { IsOk result → self.new.folders.items
+            ≡ self.old.folders.items ++ folder ∷ [] }
         ensures same { self.new ≡ record self.old { folders = self.new.folders } }
     {
         self.folders.push(folder)?;
@@ -95,7 +96,8 @@ impl<F: OpenFile + Drop> Unstored<F> {
     /// Remembers a file that has ended.
     pub(crate) fn keep(&mut self, path: String, file: F) -> Result<(), AllocError>
         ensures kept { IsOk result
-            → self.new.files.items ≡ self.old.files.items ++ record { path = path; file = file } ∷ [] }
+            → self.new.files.items
+            ≡ self.old.files.items ++ record { path = path; file = file } ∷ [] }
         ensures same { self.new ≡ record self.old { files = self.new.files } }
     {
         self.files.push(Ended { path, file })?;
@@ -172,7 +174,8 @@ impl<F: OpenFile + Drop> Unstored<F> {
         rt: &R,
         progress: &mut Progress<W>,
     ) -> io::Result<()>
-        ensures stored { IsOk result → IsStored self.new.files.items self.new.folders.items self.new.lost }
+        ensures stored { IsOk result
+            → IsStored self.new.files.items self.new.folders.items self.new.lost }
         ensures lost { IsErr result → IsSome self.new.lost }
         ensures stays { IsSome self.old.lost → self.new.lost ≡ self.old.lost }
     {
