@@ -36,7 +36,8 @@ cell_room vr value padding whole is short = go (is_long_of vr) where
 -- the text of what is left of a list of elements begins with that of the next
 pub cell_at : (cells : List Cell) (i : ℕ) (d : Cell) → i < length cells
     → elements_text (elements_of (map cell_element (drop i cells)))
-    ≡ element_text (cell_element (get_or cells i d)) ++ elements_text (elements_of (map cell_element (drop (i + 1) cells)))
+    ≡ element_text (cell_element (get_or cells i d))
+    ++ elements_text (elements_of (map cell_element (drop (i + 1) cells)))
 cell_at cells i d within =
     at_drop_more (λ cs. elements_text (elements_of (map cell_element cs))) cells i d within
     ∙ element_first (cell_element (get_or cells i d)) (elements_of (map cell_element (drop (i + 1) cells)))

@@ -55,7 +55,8 @@ clean_content (bytes v) = clean_of-clean_of v
 clean_content (items form parts) = refl
 clean_content (fragments fs) = refl
 
-clean_element : (entry : Option Element) → clean_of (unwrap_or (element_value entry) []) ≡ unwrap_or (element_value entry) []
+clean_element : (entry : Option Element) → clean_of (unwrap_or (element_value entry) [])
+    ≡ unwrap_or (element_value entry) []
 clean_element None = refl
 clean_element (Some entry) = clean_content entry.content
 

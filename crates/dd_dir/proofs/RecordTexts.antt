@@ -50,7 +50,8 @@ record_at versions rows i row within is =
     let rest = drop (i + 1) rows in
     at_drop_more (records_text versions) rows i row within
     ∙ ap (λ (r : PlanRecord). records_text versions (r ∷ rest)) (sym is)
-    ∙ part_first (record_item (elements_for versions row)) (items_of (map record_item (map (elements_for versions) rest)))
+    ∙ part_first (record_item (elements_for versions row)) (items_of (map record_item (map (elements_for versions)
+    rest)))
 
 -- and those that are left are valid where it is and the others are
 pub record_valid : (versions : List Parts) (rows : List PlanRecord) (i : ℕ) (row : PlanRecord) → i < length rows

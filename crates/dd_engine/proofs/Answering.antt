@@ -68,7 +68,8 @@ contents_right limit (Some file) (Some rest) given old new answer known h settle
     source_told limit file given rest old new answer known h settled
 
 -- a reader begins with the bytes of its source, where these are known
-consumes_contents : (contents start left : Option (List ℕ)) (given : List ℕ) → IfSome contents (λ file. start ≡ Some file)
+consumes_contents : (contents start left : Option (List ℕ)) (given : List ℕ)
+    → IfSome contents (λ file. start ≡ Some file)
     → Consumes start left given → Consumes contents left given
 consumes_contents None start left given same known = tt
 consumes_contents (Some file) start left given same known =
@@ -80,7 +81,8 @@ pub source_answer : (limit : ℕ) (contents start left : Option (List ℕ)) (giv
     → AnswersReader limit given left old new answer → IfErr answer IsOfSource → IsAnswer limit contents answer
 source_answer limit contents start left given old new answer same known h settled = record {
   settled = settled;
-  right = contents_right limit contents left given old new answer (consumes_contents contents start left given same known) h settled;
+  right = contents_right limit contents left given old new answer (consumes_contents contents start left given same
+      known) h settled;
 }
 
 -- ---- the counts of sources

@@ -30,7 +30,8 @@ content_value-clean (bytes given) value e =
 content_value-clean (items form parts) value e = absurd (cc)
 content_value-clean (fragments fs) value e = absurd (cc)
 
-element_value-clean : (entry : Option Element) (value : List ℕ) → element_value entry ≡ Some value → clean_of value ≡ value
+element_value-clean : (entry : Option Element) (value : List ℕ) → element_value entry ≡ Some value → clean_of value
+    ≡ value
 element_value-clean None value e = let is : [] ≡ value = cc in ap clean_of (sym is) ∙ is
 element_value-clean (Some entry) value e = content_value-clean entry.content value e
 

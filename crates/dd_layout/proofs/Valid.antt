@@ -145,5 +145,6 @@ pub record_valid : (levels : ℕ) (level : Level) (next lower next' lower' : ℕ
     → AllByRecursion IsShortElement (record_elements level next lower file parts)
     → AreElements Explicit levels 0 (elements_of (record_elements level next' lower' other parts))
 record_valid levels level next lower next' lower' file other parts is too short =
-    elements_valid levels 0 (record_elements level next' lower' other parts) (record_rises level next' lower' other parts)
+    elements_valid levels 0 (record_elements level next' lower' other parts) (record_rises level next' lower' other
+    parts)
     (same_short level next lower next' lower' file other parts is too short)

@@ -14,7 +14,8 @@ use Rattle.dd_layout.specs.ElementForms.{tag, text_element, long_element, short_
 -- consistency flag
 abbrev pub front_elements : List ℕ → ℕ → ℕ → List Element
 front_elements id first last =
-    text_element (tag 0x0004 0x1130) CS id ∷ long_element (tag 0x0004 0x1200) first ∷ long_element (tag 0x0004 0x1202) last
+    text_element (tag 0x0004 0x1130) CS id ∷ long_element (tag 0x0004 0x1200) first
+    ∷ long_element (tag 0x0004 0x1202) last
     ∷ short_element (tag 0x0004 0x1212) 0x0000 ∷ []
 
 -- the sequence of the records

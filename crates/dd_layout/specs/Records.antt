@@ -19,7 +19,8 @@ use Rattle.dd_layout.specs.ElementForms.{tag, bytes_element, text_element, uid_e
 -- first one below, and its type
 abbrev pub link_elements : ℕ → ℕ → List ℕ → List Element
 link_elements next lower kind =
-    long_element (tag 0x0004 0x1400) next ∷ short_element (tag 0x0004 0x1410) 0xffff ∷ long_element (tag 0x0004 0x1420) lower
+    long_element (tag 0x0004 0x1400) next ∷ short_element (tag 0x0004 0x1410) 0xffff
+    ∷ long_element (tag 0x0004 0x1420) lower
     ∷ text_element (tag 0x0004 0x1430) CS kind ∷ []
 
 -- the Specific Character Set, where there is one
@@ -54,7 +55,8 @@ reference_elements file parts =
 
 -- the digest of that file, and the block of private elements that it stands in (PS3.5 section 7.8.1)
 abbrev pub digest_elements : List ℕ → List Element
-digest_elements digest = text_element (tag 0x0009 0x0010) LO private_creator ∷ bytes_element (tag 0x0009 0x1001) OB digest
+digest_elements digest = text_element (tag 0x0009 0x0010) LO private_creator
+    ∷ bytes_element (tag 0x0009 0x1001) OB digest
     ∷ []
 
 abbrev pub image_elements : List ℕ → Parts → List Element

@@ -58,10 +58,12 @@ fn unlinked(level: Level) -> PlanRecord
 fn cells_size(mut rows: &[Row], planned: &PlanRecord, parts: &Parts) -> u64
     requires { length rows.now ≤ 11 }
     ensures exact { result ≡ elements_size
-        (table_elements rows.entry.now planned.now.level planned.now.next planned.now.lower planned.now.file parts.now) }
+        (table_elements rows.entry.now planned.now.level planned.now.next planned.now.lower planned.now.file
+        parts.now) }
     ensures few { result ≤ 1036 * length rows.entry.now }
     ensures short { AllByRecursion IsShortElement
-        (table_elements rows.entry.now planned.now.level planned.now.next planned.now.lower planned.now.file parts.now) }
+        (table_elements rows.entry.now planned.now.level planned.now.next planned.now.lower planned.now.file
+        parts.now) }
 {
     let mut size = 0;
     while let [row, rest @ ..] = rows {

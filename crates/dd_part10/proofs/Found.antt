@@ -185,7 +185,8 @@ uid_takes tag group uid e =
     let holds : Contains (element_list group) a.0 = found_there (λ (x : Element). same_tag x.tag tag)
     (element_list group) a.0 found in
     let tagged : Contains (element_list group) (record { tag = tag; vr = a.0.vr; content = a.0.content }) =
-    subst (λ (t : Tag). Contains (element_list group) (record { tag = t; vr = a.0.vr; content = a.0.content })) same holds
+    subst (λ (t : Tag). Contains (element_list group)
+    (record { tag = t; vr = a.0.vr; content = a.0.content })) same holds
     in
     content_holds group tag a.0.vr a.0.content uid tagged a.2
 

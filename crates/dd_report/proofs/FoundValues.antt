@@ -40,7 +40,8 @@ value_shows Fragments (items form parts) h = absurd (cc)
 value_shows Fragments (fragments fs) h = refl
 
 -- one entry more, which may be wanted and may be the one at the tag
-step : (keeps same : Bool) (tag : Tag) (e : Element) (kept : List Element) (other : Option Element) (founds : List Found)
+step : (keeps same : Bool) (tag : Tag) (e : Element) (kept : List Element) (other : Option Element)
+    (founds : List Found)
     → same_tag e.tag tag ≡ same → (same ≡ true → keeps ≡ true)
     → ((some : List Found) → map found_hit some ≡ map hit_of kept
     → FoundShows (first_at tag some) (unwrap_or (element_value other) []))
@@ -61,7 +62,8 @@ step true false tag e kept other (found ∷ founds) is wanted others h =
 step false true tag e kept other founds is wanted others h = let no = wanted refl in absurd (cc)
 step false false tag e kept other founds is wanted others h = others founds h
 
-elements_show : (wanted : List Tag) (tag : Tag) → is_wanted wanted tag ≡ true → (es : List Element) (founds : List Found)
+elements_show : (wanted : List Tag) (tag : Tag) → is_wanted wanted tag ≡ true
+    → (es : List Element) (founds : List Found)
     → map found_hit founds ≡ map hit_of (filter (λ e. is_wanted wanted e.tag) es)
     → FoundShows (first_at tag founds) (unwrap_or (element_value (find (λ e. same_tag e.tag tag) es)) [])
 elements_show wanted tag is [] [] h = refl

@@ -154,7 +154,8 @@ module _ (d : ℕ) (sequence : SequenceReader) (law : SequenceAgain d sequence) 
       (ne_eqb tag.group item_end_tag.group ne)
 
   -- the parts of an element's text: its first eight bytes, and the rest
-  element_split : (syntax : Syntax) (e : Element) (s : ShapeAgain (names_vr syntax) e.tag e.vr (content_length e.content))
+  element_split : (syntax : Syntax) (e : Element)
+      (s : ShapeAgain (names_vr syntax) e.tag e.vr (content_length e.content))
       → element_text e ≡ (tag_text e.tag ++ s.first) ++ (s.second ++ content_body e.content)
   element_split syntax e s =
       ap (λ (y : List ℕ). tag_text e.tag ++ y) (content_parts e.vr e.content

@@ -29,7 +29,8 @@ abbrev pub with_item : Item → Items → Items
 with_item p rest = item p.length p.set rest
 
 -- their bytes are those of the first and then those of the rest
-pub element_first : (e : Element) (rest : Elements) → elements_text (with_element e rest) ≡ element_text e ++ elements_text rest
+pub element_first : (e : Element) (rest : Elements) → elements_text (with_element e rest) ≡ element_text e
+    ++ elements_text rest
 element_first e rest = sym (append_assoc (tag_text e.tag) (content_text e.vr e.content) (elements_text rest))
 
 pub part_first : (p : Item) (rest : Items) → items_text (with_item p rest) ≡ item_text p ++ items_text rest

@@ -6,7 +6,8 @@ use Rattle.dd_elem.specs.Tag.{number_of}
 use Rattle.dd_set.specs.declared.fault.SetFault.{SetFault}
 use Rattle.dd_encoding.specs.declared.syntax.Length.{Length}
 use Rattle.dd_encoding.specs.declared.syntax.Syntax.{Syntax}
-use Rattle.dd_encoding.specs.Elements.{Elements, no_elements, element, Items, no_items, item, Element, Item, elements_of}
+use Rattle.dd_encoding.specs.Elements.{Elements, no_elements, element, Items, no_items, item, Element, Item}
+use Rattle.dd_encoding.specs.Elements.{elements_of}
 use Rattle.dd_encoding.specs.Elements.{items_of}
 use Rattle.dd_set.specs.AnswersAs.{FailsAs}
 use Rattle.dd_set.specs.Faults.{is_memory}
@@ -127,7 +128,8 @@ module _ (sequence : SequenceReader) (syntax : Syntax) (form : Length) where
       sym so_far ∙ one
 
   -- a fault
-  pub elements_fail : (n most low : ℕ) (front : List Element) (at : At) (total : Reads Elements) (e : SetFault) → n < most
+  pub elements_fail : (n most low : ℕ) (front : List Element) (at : At) (total : Reads Elements) (e : SetFault)
+      → n < most
       → FailsAs is_memory e (element_at sequence syntax form low at)
       → with_elements front (elements_at sequence syntax form most low at) ≡ total → FailsAs is_memory e total
   unfolding elements_at

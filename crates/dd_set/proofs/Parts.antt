@@ -22,7 +22,8 @@ use Rattle.dd_set.specs.Single.{IsElement, IsItem}
 use Rattle.dd_encoding.specs.Spelling.{AreElements, AreItems, AreFragments, fragment_text, fragments_text}
 use Rattle.dd_encoding.specs.Spelling.{undefined_length}
 use Rattle.dd_set.specs.Views.{set_view, element_view, elements_view, item_view, items_view, value_view, pieces}
-use Rattle.dd_set.proofs.Counting.{with_element, element_first, part_first, part_valid, elements_view-drop, items_view-drop}
+use Rattle.dd_set.proofs.Counting.{with_element, element_first, part_first, part_valid, elements_view-drop}
+use Rattle.dd_set.proofs.Counting.{items_view-drop}
 use Rattle.dd_set.proofs.Counting.{pieces-drop}
 use Rattle.dd_set.proofs.Seen.{set_view-is, element_view-is, item_view-is}
 

@@ -148,7 +148,8 @@ seeking_found syntax levels wanted first all at e rest so same =
 -- ---- at a place of a list
 
 -- the next element of a list is not the one
-pub seek_more : (syntax : Syntax) (levels : ℕ) (wanted : Tag) (first : ℕ) (all : Elements) (at : ℕ) (es : List ElementValue)
+pub seek_more : (syntax : Syntax) (levels : ℕ) (wanted : Tag) (first : ℕ) (all : Elements) (at : ℕ)
+    (es : List ElementValue)
     (i : ℕ) (e : ElementValue) (size : ℕ) → i < length es → e ≡ get_or es i e
     → Seeking syntax levels wanted first all at (elements_view (drop i es)) → same_tag e.tag wanted ≡ false
     → size ≡ length (element_text (element_view e)) → Seeking syntax levels wanted first all (at + size)
@@ -163,7 +164,8 @@ seek_more syntax levels wanted first all at es i e size within is so other size_
     (seeking_element syntax levels wanted first all at (element_view e) rest here tag)
 
 -- the next element is the one: its places are those of the set, with any bytes of the right lengths before them
-pub seek_found : (syntax : Syntax) (levels : ℕ) (wanted : Tag) (first : ℕ) (all : Elements) (at : ℕ) (es : List ElementValue)
+pub seek_found : (syntax : Syntax) (levels : ℕ) (wanted : Tag) (first : ℕ) (all : Elements) (at : ℕ)
+    (es : List ElementValue)
     (i : ℕ) (e : ElementValue) (before front : List ℕ) → i < length es → e ≡ get_or es i e
     → Seeking syntax levels wanted first all at (elements_view (drop i es)) → same_tag e.tag wanted ≡ true
     → length before ≡ at → length front ≡ first → content_places before e.tag e.vr (value_view e.value) ≡ places_in
@@ -181,7 +183,8 @@ seek_found syntax levels wanted first all at es i e before front within is so sa
     ∙ ap (λ (n : ℕ). starts_in wanted n all) (sym front_is) ∙ sym (places_in-sums wanted front all)
 
 -- no element was the one
-pub seek_none : (syntax : Syntax) (levels : ℕ) (wanted : Tag) (first : ℕ) (all : Elements) (at : ℕ) (es : List ElementValue)
+pub seek_none : (syntax : Syntax) (levels : ℕ) (wanted : Tag) (first : ℕ) (all : Elements) (at : ℕ)
+    (es : List ElementValue)
     (i : ℕ) (front : List ℕ) → length es ≤ i
     → Seeking syntax levels wanted first all at (elements_view (drop i es)) → length front ≡ first
     → None ≡ places_in wanted front all

@@ -61,7 +61,8 @@ module _ (wanted : List Tag) where
   hits_in : List Element → List Hit
   hits_in es = map hit_of (filter (λ e. is_wanted wanted e.tag) es)
 
-  hits_one : (b : Bool) (e : Element) → map hit_of (if b then (e ∷ []) else []) ≡ noted e.tag (summary_where b e.content)
+  hits_one : (b : Bool) (e : Element) → map hit_of (if b then (e ∷ []) else [])
+      ≡ noted e.tag (summary_where b e.content)
   hits_one true e = refl
   hits_one false e = refl
 
@@ -143,7 +144,8 @@ element_there reader syntax low left header all behind mid rest h k = record {
 }
 
 -- those that were read whole, and one more
-whole_more : (reader : SequenceReader) (syntax : Syntax) (n most low : ℕ) (front : List Element) (at end : At) (e : Element)
+whole_more : (reader : SequenceReader) (syntax : Syntax) (n most low : ℕ) (front : List Element) (at end : At)
+    (e : Element)
     (total : List Element) → n < most → element_at reader syntax Defined low at ≡ Ok (Some e, end)
     → front ++ whole_elements reader syntax most low at ≡ total
     → (front ++ e ∷ []) ++ whole_elements reader syntax (most - 1) (number_of e.tag + 1) end ≡ total

@@ -309,7 +309,8 @@ ElementTaken d syntax form low at (Some e) next = Takes at (element_text e) next
 
 module _ (d : ℕ) (sequence : SequenceReader) (law : SequenceLaw d sequence) where
   -- the next element, or the end of the set
-  pub element_takes : (syntax : Syntax) (form : Length) (low : ℕ) (at : At) (x : Option Element × At) → AreBytes at.bytes
+  pub element_takes : (syntax : Syntax) (form : Length) (low : ℕ) (at : At) (x : Option Element × At)
+      → AreBytes at.bytes
       → element_at sequence syntax form low at ≡ Ok x → ElementTaken d syntax form low at x.0 x.1
   unfolding whole_element
   element_takes syntax form low at x fits e =
@@ -336,7 +337,8 @@ module _ (d : ℕ) (sequence : SequenceReader) (law : SequenceLaw d sequence) wh
                   let b = bind_ok (body_at sequence syntax low head behind) (λ y. Ok (Some y.0, y.1)) x more.1 in
                   let body = body_takes d sequence law syntax low head behind b.0 t.1 t.2 t.0.fits b.1 in
                   let both : Takes at (head ++ body.0) b.0.1 = Takes-then at behind b.0.1 head body.0 t.0 body.1 in
-                  let took : Takes at (element_text b.0.0) b.0.1 = subst (λ (y : List ℕ). Takes at y b.0.1) body.2 both in
+                  let took : Takes at (element_text b.0.0) b.0.1 =
+                  subst (λ (y : List ℕ). Takes at y b.0.1) body.2 both in
                   subst (λ (y : Option Element × At). ElementTaken d syntax form low at y.0 y.1)
                   (ok_is (Some b.0.0, b.0.1) x b.2) (took, body.3)
             ]

@@ -55,7 +55,8 @@ module _ {R : Type 0} (reader : ReadOf R) where
 
 -- A stretch of which this is said whatever comes behind it, and then one to the end of the stream: what is said of all
 -- that the reader gave, and how it ended, are the answer.
-pub reads_to_end : {R : Type 0} (reader : ReadOf R) (first then last : R) (p q r : Position) (xs ys : List ℕ) (end : End)
+pub reads_to_end : {R : Type 0} (reader : ReadOf R) (first then last : R) (p q r : Position) (xs ys : List ℕ)
+    (end : End)
     (said : List ℕ → Type 0) (answers : List ℕ → Option (List ℕ) → ℕ → ℕ → Type 0)
     → Moves reader first then p q xs → Moves reader then last q r ys
     → ((rest : List ℕ) → MayCome q rest → said (xs ++ rest))

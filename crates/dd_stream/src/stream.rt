@@ -90,7 +90,8 @@ impl<R: Read> Feed for Stream<'_, R> {
 
     ghost goes = { λ a b c xs ys m n. (
       n.0 ∙ m.0,
-      moves_then R.Read a.reader.now b.reader.now c.reader.now (position_of a) (position_of b) (position_of c) xs ys m.1 n.1,
+      moves_then R.Read a.reader.now b.reader.now c.reader.now (position_of a) (position_of b) (position_of c) xs ys
+          m.1 n.1,
     ) };
 
     ghost told = { λ a b xs ys m t.

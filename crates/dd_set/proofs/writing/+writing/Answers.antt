@@ -7,7 +7,8 @@ use Rattle.dd_encoding.specs.Spelling.{elements_text, items_text, header_text, s
 use Rattle.dd_set.specs.Views.{elements_view, value_view, items_view}
 use Rattle.dd_stream.proofs.Going.{first_fails, then_sends, sends_same, goes_on_fails, goes_on_piece, goes_on_end}
 use Rattle.dd_stream.proofs.Going.{third_fits}
-use Rattle.dd_set.proofs.Parts.{element_items, item_split, element_seen_at, part_at, element_valid, part_valid_at, set_text}
+use Rattle.dd_set.proofs.Parts.{element_items, item_split, element_seen_at, part_at, element_valid, part_valid_at}
+use Rattle.dd_set.proofs.Parts.{set_text}
 use Rattle.dd_set.proofs.Counting.{elements_view-end}
 use Rattle.dd_set.proofs.writing.+writing.Goals as goal
 
@@ -39,7 +40,8 @@ send_set-returns-in_err-sent g t c =
 pub send_set-loop-element-preserved : goal.send_set-loop-element-preserved
 send_set-loop-element-preserved g t c =
     let es = c.deref-element-items.result.now in
-    let at = element_seen_at es c.loop-element.element-index c.element-item.result c.loop-element-test.true c.element-item.is
+    let at = element_seen_at es c.loop-element.element-index c.element-item.result c.loop-element-test.true
+    c.element-item.is
     in
     record {
       goes = goes_on_piece _ _ _ _ _ _ _ _ _ _ _ _ _ c.loop-element.invariant.goes at c.in_ok-sent.ensures;
