@@ -6,7 +6,7 @@ use Rattle.dd_encoding.specs.Elements.{Elements}
 use Rattle.dd_encoding.specs.Spelling.{elements_text, Spells}
 use Rattle.dd_encoding.specs.declared.syntax.Syntax.{Syntax}
 use Rattle.dd_encoding.specs.declared.syntax.Syntax.TheVariants.{Explicit}
-use Rattle.dd_set.proofs.Steps.{some_is}
+use Rattle.dd_grammar.proofs.Steps.{some_is}
 use Rattle.dd_encoding.specs.Syntaxes.{syntax_of}
 use Rattle.dd_encoding.proofs.KnownSyntaxes.{explicit_known}
 use Rattle.dd_layout.specs.Directory.{directory_class, directory_syntax}

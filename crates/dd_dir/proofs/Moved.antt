@@ -12,7 +12,7 @@ use Rattle.dd_encoding.specs.Elements.{Elements, no_elements, element, Content, 
 use Rattle.dd_encoding.specs.Elements.{no_items}
 use Rattle.dd_encoding.specs.Elements.{item}
 use Rattle.dd_encoding.specs.Elements.{Element, Item}
-use Rattle.dd_set.specs.Find.{same_tag}
+use Rattle.dd_grammar.specs.Lists.{same_tag}
 use Rattle.dd_set.specs.Single.{element_text, item_text}
 use Rattle.dd_encoding.specs.Spelling.{elements_text, items_text, header_text, length_of, closed, sequence_end_text}
 use Rattle.dd_encoding.specs.Spelling.{tag_text, shape_text}

@@ -4,7 +4,8 @@ use Rattle.std.proofs.Common.{option_and_then}
 use Rattle.dd_elem.specs.declared.tag.Tag.{Tag}
 use Rattle.dd_set.specs.declared.set.Element.{Element as ElementValue}
 use Rattle.dd_encoding.specs.Elements.{Elements, no_elements, element, Element}
-use Rattle.dd_set.specs.Find.{find_in, same_tag}
+use Rattle.dd_set.specs.Find.{find_in}
+use Rattle.dd_grammar.specs.Lists.{same_tag}
 use Rattle.dd_set.specs.Views.{elements_view, value_view}
 use Rattle.dd_set.proofs.Seen.{element_view-is}
 use Rattle.dd_dir.specs.Saying.{item_sets_of}

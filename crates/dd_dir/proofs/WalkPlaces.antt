@@ -8,7 +8,7 @@ use Rattle.dd_elem.specs.declared.vr.Vr.{Vr}
 use Rattle.dd_encoding.specs.Elements.{Elements, no_elements, element, Content, bytes, items, fragments, Items}
 use Rattle.dd_encoding.specs.Elements.{no_items}
 use Rattle.dd_encoding.specs.Elements.{item}
-use Rattle.dd_set.specs.Find.{same_tag}
+use Rattle.dd_grammar.specs.Lists.{same_tag}
 use Rattle.dd_set.specs.Single.{element_text, item_text}
 use Rattle.dd_encoding.specs.Spelling.{header_text, items_text, length_of}
 use Rattle.dd_set.specs.Starts.{item_places, content_places, places_in}

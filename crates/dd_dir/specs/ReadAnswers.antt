@@ -1,4 +1,4 @@
--- What the functions that read a directory answer, told by what its bytes say.
+-- What the functions that read a directory answer, in terms of what its bytes say.
 use Rattle.std.specs.Prelude.{◌≡◌, ℕ, ◌+◌, ◌<◌, ◌⊎◌, false, List, Option, Some, None, Result, Ok, Err, Vec, length}
 use Rattle.std.specs.declared.alloc.Global.{Global}
 use Rattle.dd_part10.specs.Faults as file_faults

@@ -1,4 +1,4 @@
--- What following the offsets of a directory visits, told by the records in its bytes (PS3.3 sections F.4 and F.5).
+-- What following the offsets of a directory visits, in terms of the records in its bytes (PS3.3 sections F.4 and F.5).
 use Rattle.std.specs.Prelude.{◌≡◌, ℕ, true, List, [], ◌∷◌, ◌++◌, length, map, filter, Contains, Option, Some, None}
 use Rattle.dd_version.specs.declared.parts.Parts.{Parts}
 use Rattle.dd_catalogue.specs.Harmony.{harmonised}

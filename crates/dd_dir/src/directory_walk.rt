@@ -3,7 +3,7 @@
 ghost use Rattle.std.specs.Prelude.{◌≡◌, ◌<◌, ◌⊎◌, IfOk, IfErr, IsErrAnd, MatchResult, Err, length};
 ghost use Rattle.dd_part10.specs.declared.fault.FileFault.TheVariants as file_faults;
 ghost use Rattle.dd_part10.specs.Memory.{GroupWants, SetWants};
-ghost use Rattle.dd_set.specs.declared.fault.SetFault.TheVariants as set_faults;
+ghost use Rattle.dd_grammar.specs.declared.fault.SetFault.TheVariants as set_faults;
 ghost use Rattle.dd_dir.specs.declared.fault.DirFault.{DirFault};
 ghost use Rattle.dd_dir.specs.declared.fault.DirFault.TheVariants.{File, Memory};
 ghost use Rattle.dd_dir.specs.ForestViews.{walk_view};

@@ -49,7 +49,7 @@ TakesSome r bytes = MatchResult r (λ n. n ≡ 0 → length bytes ≡ 0) (λ _. 
 abbrev pub TakesNone : {E : Type 0} → Result ℕ E → List ℕ → Type 0
 TakesNone r bytes = MatchResult r (λ n. (n ≡ 0) × (0 < length bytes)) (λ _. ⊤)
 
--- a device that is to fail for good after so many bytes, where that is wanted, has not come there
+-- a device that is to fail for good after a number of bytes, where that is wanted, has not come there
 abbrev pub IsBeforeFail : Option ℕ → ℕ → Type 0
 IsBeforeFail None passed = ⊤
 IsBeforeFail (Some fails) passed = passed < fails

@@ -11,8 +11,8 @@ use crate::device::Read;
 use std::io;
 use std::marker::Model;
 
-/// A reader over bytes in memory, which gives at most so many bytes per read and may fail for good
-/// after so many bytes.
+/// A reader over bytes in memory, which gives at most a chosen number of bytes per read and may fail for
+/// good after a chosen number.
 #[derive(Debug, Drop)]
 pub struct ByteSource<'a> {
     bytes: &'a [u8],
@@ -38,7 +38,7 @@ impl<'a> Model for ByteSource<'a> {
 
 impl<'a> ByteSource<'a> {
     /// A reader of `bytes`, of at most `piece` bytes per read (0 counts as 1). With `fails` it fails
-    /// for good after so many bytes, before it tells the end.
+    /// for good after that number of bytes, before it comes to the end.
     pub fn new(bytes: &'a [u8], piece: u64, fails: Option<u64>) -> Self
         ensures { result ≡ record {
           given = [];

@@ -14,7 +14,7 @@ const ROOM: usize = 22;
 /// Bytes, in place where they are few.
 #[derive(Debug, Drop)]
 pub(crate) enum KeyBytes {
-    /// In place: the first so many of these.
+    /// In place: the first of these, as many as the number says.
     Short(u8, [u8; ROOM]),
     /// In a block of memory that copies share.
     Long(ArcSlice<u8>),

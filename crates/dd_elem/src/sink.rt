@@ -14,7 +14,7 @@ use std::alloc::Global;
 use std::io;
 use std::marker::Model;
 
-/// A writer over memory, which may fail for good after so many bytes. A write whose growth is refused
+/// A writer over memory, which may fail for good after a chosen number of bytes. A write whose growth is refused
 /// fails too.
 #[derive(Debug, Drop)]
 pub struct Sink {
@@ -35,7 +35,7 @@ impl Model for Sink {
 }
 
 impl Sink {
-    /// A writer that holds nothing yet. With `fails` it fails for good after so many bytes.
+    /// A writer that holds nothing yet. With `fails` it fails for good after that number of bytes.
     pub fn new(alloc: Global, fails: Option<u64>) -> Self
         ensures { result ≡ record {
           bytes = [];

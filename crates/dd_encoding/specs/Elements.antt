@@ -10,13 +10,13 @@ mutual
     no_elements : Elements
     element : Tag → Option Vr → Content → Elements → Elements
 
-  -- a value: bytes, or a sequence of items and how its end is told, or the fragments of pixel data
+  -- a value: bytes, or a sequence of items and what ends it, or the fragments of pixel data
   pub data Content : Type 0 where
     bytes : List ℕ → Content
     items : Length → Items → Content
     fragments : List (List ℕ) → Content
 
-  -- the items of a sequence: each how its end is told, and its data set
+  -- the items of a sequence: each what ends it, and its data set
   pub data Items : Type 0 where
     no_items : Items
     item : Length → Elements → Items → Items

@@ -184,7 +184,7 @@ max_levels = 32
 
 abbrev mutual
   -- These are elements of a set in this syntax: no tag is below the number `low`, tags rise strictly, none is of the
-  -- group of delimiters, and below them items nest in at most so many levels.
+  -- group of delimiters, and below them items nest in at most `levels` levels.
   pub AreElements : Syntax → ℕ → ℕ → Elements → Type 0
   AreElements syntax levels low no_elements = Unit {0}
   AreElements syntax levels low (element tag vr content rest) =

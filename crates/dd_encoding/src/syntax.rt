@@ -11,7 +11,7 @@ pub enum Syntax {
     Encapsulated,
 }
 
-/// How the end of a sequence or of an item is told (PS3.5 section 7.5).
+/// What ends a sequence or an item: its length, or a delimiter (PS3.5 section 7.5).
 #[derive(Clone, Copy, Debug, PartialEq, Eq, Hash)]
 pub enum Length {
     /// The header counts the bytes.

@@ -16,7 +16,7 @@ use Rattle.dd_keys.specs.declared.fault.KeyFault.TheVariants.{File, Memory}
 use Rattle.dd_version.specs.declared.parts.Parts.{Parts}
 use Rattle.dd_part10.specs.declared.fault.FileFault.TheVariants.{Meta, Set}
 use Rattle.dd_part10.specs.Memory.{SetWants}
-use Rattle.dd_set.specs.declared.fault.SetFault.TheVariants as parsing
+use Rattle.dd_grammar.specs.declared.fault.SetFault.TheVariants as parsing
 use Rattle.dd_layout.specs.declared.fault.PlanFault.{PlanFault}
 use Rattle.dd_layout.specs.Limits.{Limits}
 use Rattle.dd_layout.specs.Layouts.{Layout, layout_of}

@@ -9,12 +9,12 @@ use Rattle.dd_part10.specs.File.{IsFile}
 use Rattle.dd_part10.specs.Reading.{FileParts, file_in}
 use Rattle.dd_part10.specs.declared.fault.FileFault.{FileFault}
 use Rattle.dd_part10.specs.declared.fault.FileFault.TheVariants as faults
-use Rattle.dd_set.specs.AnswersAs.{FailsAs}
+use Rattle.dd_grammar.specs.AnswersAs.{FailsAs}
 use Rattle.dd_part10.specs.Faults.{is_memory}
 use Rattle.dd_part10.specs.Memory.{GroupWants, SetWants}
 use Rattle.dd_part10.proofs.Found.{file_found}
 use Rattle.dd_stream.specs.Bytes.{AreBytes}
-use Rattle.dd_set.specs.declared.fault.SetFault.TheVariants.{Memory}
+use Rattle.dd_grammar.specs.declared.fault.SetFault.TheVariants.{Memory}
 use Rattle.dd_part10.proofs.Only.{file_only}
 use Rattle.dd_keys.specs.declared.fault.KeyFault.{KeyFault}
 use Rattle.dd_keys.specs.declared.fault.KeyFault.TheVariants.{File, NotImage}

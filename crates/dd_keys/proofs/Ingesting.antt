@@ -7,7 +7,7 @@ use Rattle.dd_elem.specs.Uid.{is_uid}
 use Rattle.dd_elem.specs.declared.tag.Tag.{Tag}
 use Rattle.dd_stream.specs.Streams.{Ends}
 use Rattle.dd_stream.specs.declared.end.End.TheVariants.{Ended}
-use Rattle.dd_set.specs.declared.fault.SetFault.TheVariants as parsing
+use Rattle.dd_grammar.specs.declared.fault.SetFault.TheVariants as parsing
 use Rattle.dd_part10.specs.Memory.{ScanWants, IsRefused}
 use Rattle.dd_part10.specs.Reading.{FileParts, file_in}
 use Rattle.dd_part10.specs.Streaming.{IsFileAnswer}

@@ -9,7 +9,7 @@ use Rattle.std.proofs.lemmas.List.{take_all, length-take-le}
 use Rattle.sha2.specs.Sha256.{sha256}
 use Rattle.dd_elem.specs.declared.tag.Tag.{Tag}
 use Rattle.dd_elem.proofs.UidForm.{is_uid-long}
-use Rattle.dd_set.specs.Scan.{Summary, summary_of_value, is_wanted}
+use Rattle.dd_scan.specs.Scan.{Summary, summary_of_value, is_wanted}
 use Rattle.dd_part10.specs.File.{IsFile}
 use Rattle.dd_part10.specs.Reading.{FileParts, file_in}
 use Rattle.dd_encoding.specs.Syntaxes.{syntax_of}

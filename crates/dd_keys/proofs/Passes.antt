@@ -1,7 +1,7 @@
 -- No check of the table fails exactly where those of each row pass.
 use Rattle.std.proofs.Common.{◌≡◌, List, [], ◌∷◌, Option, Some, None, map, refl}
 use Rattle.dd_elem.specs.declared.tag.Tag.{Tag}
-use Rattle.dd_set.specs.Scan.{Summary}
+use Rattle.dd_scan.specs.Scan.{Summary}
 use Rattle.dd_part10.specs.Reading.{FileParts}
 use Rattle.dd_encoding.specs.declared.meta.Meta.{Meta}
 use Rattle.dd_keys.specs.declared.fault.KeyFault.{KeyFault}

@@ -7,10 +7,10 @@ use Rattle.dd_elem.specs.Clean.{clean_of}
 use Rattle.dd_elem.specs.Key.{IsKey}
 use Rattle.dd_elem.specs.declared.tag.Tag.{Tag}
 use Rattle.dd_encoding.specs.Elements.{Elements, Content, bytes, items, fragments, Element}
-use Rattle.dd_set.specs.Find.{same_tag, element_list}
-use Rattle.dd_set.specs.Scan.{Summary, cleaned, summary_of_value, summary_of, Hit, hit_of, is_wanted, hits_of}
-use Rattle.dd_set.specs.Scan.{found_hit}
-use Rattle.dd_set.specs.declared.found.Found.{Found}
+use Rattle.dd_grammar.specs.Lists.{same_tag, element_list}
+use Rattle.dd_scan.specs.Scan.{Summary, cleaned, summary_of_value, summary_of, Hit, hit_of, is_wanted, hits_of}
+use Rattle.dd_scan.specs.Scan.{found_hit}
+use Rattle.dd_scan.specs.declared.found.Found.{Found}
 use Rattle.dd_part10.proofs.Tags.{same_tag-is}
 use Rattle.dd_keys.specs.Summaries.{summary_at, value_of_key, summary_of_found, summary_in, IsFront, AreFronts}
 use Rattle.dd_keys.proofs.Tells.{TellsSet}

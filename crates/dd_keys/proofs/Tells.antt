@@ -2,7 +2,7 @@
 use Rattle.std.specs.Prelude.{◌≡◌, true}
 use Rattle.dd_elem.specs.declared.tag.Tag.{Tag}
 use Rattle.dd_encoding.specs.Elements.{Elements}
-use Rattle.dd_set.specs.Scan.{Summary, is_wanted}
+use Rattle.dd_scan.specs.Scan.{Summary, is_wanted}
 use Rattle.dd_keys.specs.Table.{wanted_tags}
 use Rattle.dd_keys.specs.Summaries.{summary_at}
 

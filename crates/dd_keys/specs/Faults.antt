@@ -7,7 +7,7 @@ use Rattle.dd_elem.specs.Key.{max_key_length}
 use Rattle.dd_elem.specs.Uid.{is_uid}
 use Rattle.dd_elem.specs.declared.tag.Tag.{Tag}
 use Rattle.dd_encoding.specs.Elements.{Elements}
-use Rattle.dd_set.specs.declared.fault.SetFault.TheVariants as parsing
+use Rattle.dd_grammar.specs.declared.fault.SetFault.TheVariants as parsing
 use Rattle.dd_part10.specs.declared.fault.FileFault.{FileFault}
 use Rattle.dd_part10.specs.declared.fault.FileFault.TheVariants.{Meta as MetaFault, Set}
 use Rattle.dd_encoding.specs.declared.meta.Meta.{Meta}

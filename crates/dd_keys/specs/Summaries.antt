@@ -5,9 +5,9 @@ use Rattle.std.specs.Prelude.{nat_lt, if◌then◌else◌}
 use Rattle.dd_elem.specs.Key.{IsKey, max_key_length}
 use Rattle.dd_elem.specs.declared.tag.Tag.{Tag}
 use Rattle.dd_encoding.specs.Elements.{Elements}
-use Rattle.dd_set.specs.Find.{same_tag}
-use Rattle.dd_set.specs.Scan.{Summary, sequence, fragments, cleaned, summary_of_value, found_summary}
-use Rattle.dd_set.specs.declared.found.Found.{Found}
+use Rattle.dd_grammar.specs.Lists.{same_tag}
+use Rattle.dd_scan.specs.Scan.{Summary, sequence, fragments, cleaned, summary_of_value, found_summary}
+use Rattle.dd_scan.specs.declared.found.Found.{Found}
 use Rattle.dd_encoding.specs.declared.meta.Meta.{Meta}
 use Rattle.dd_keys.specs.declared.fault.KeyFault.{KeyFault}
 use Rattle.dd_keys.specs.declared.fault.KeyFault.TheVariants.{NotImage, KeyTooLong, KeyIsSequence, Memory}

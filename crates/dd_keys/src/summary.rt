@@ -3,8 +3,8 @@
 ghost use Rattle.std.specs.Prelude.{◌≡◌, find};
 ghost use Rattle.std.specs.Option.{option_copied};
 ghost use Rattle.dd_elem.specs.declared.tag.Tag.{Tag};
-ghost use Rattle.dd_set.specs.Find.{same_tag};
-ghost use Rattle.dd_set.specs.Scan.{Summary};
+ghost use Rattle.dd_grammar.specs.Lists.{same_tag};
+ghost use Rattle.dd_scan.specs.Scan.{Summary};
 ghost use Rattle.dd_set.specs.Views.{set_view};
 ghost use Rattle.dd_keys.specs.Summaries.{summary_at, summary_in, shown_summary};
 
@@ -30,7 +30,7 @@ pub(crate) trait Values {
     // The summary of the value at a tag.
     ghost tells: { Self → Tag → Summary };
 
-    /// The summary of the value of the first element with this tag: no bytes where there is none.
+    /// Gives the summary of the value of the first element with this tag: no bytes where no element has it.
     fn value(&self, tag: Tag) -> ValueSummary<'_>
         ensures { shown_summary result ≡ tells self.now tag };
 }

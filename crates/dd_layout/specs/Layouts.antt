@@ -12,7 +12,7 @@ pub record Layout : Type 0 where
   pub versions : List Parts
   pub withdrawn : List (List ℕ)
 
--- a record is of one of so many versions, and has a File ID where it is of an image
+-- a record is of a version below this number, and has a File ID where it is of an image
 abbrev pub IsSound : ℕ → PlanRecord → Type 0
 IsSound count planned = (planned.of < count) × IsFileOf planned.level planned.file
 

@@ -22,7 +22,7 @@ above Study = 1
 above Series = 2
 above Image = 3
 
--- one parent has more children of this level than so many; the root is the parent of the patients
+-- one parent has more children of this level than this number; the root is the parent of the patients
 abbrev pub is_crowded : ℕ → List Path → Level → Bool
 is_crowded most paths level =
     is_some (find (λ x. (length x == above level) && nat_lt most (length (children paths x))) ([] ∷ paths))

@@ -6,7 +6,7 @@ use Rattle.dd_set.specs.declared.set.Element.{Element as ElementValue}
 use Rattle.dd_set.specs.declared.set.Value.TheViews.{out-DataSet}
 use Rattle.dd_encoding.specs.Elements.{Element}
 use Rattle.dd_set.specs.Views.{set_view, element_view}
-use Rattle.dd_set.proofs.FoundElements.{element_list-elements_of}
+use Rattle.dd_grammar.proofs.Lists.{element_list-elements_of}
 use Rattle.dd_set.proofs.Seen.{set_view-is, element_view-is}
 use Rattle.dd_part10.specs.Reading.{is_meta_tag, is_alone}
 

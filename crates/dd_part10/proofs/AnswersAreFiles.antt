@@ -6,7 +6,7 @@ use Rattle.dd_set.specs.Views.{set_view}
 use Rattle.dd_part10.specs.declared.fault.FileFault.{FileFault}
 use Rattle.dd_part10.specs.declared.file.DicomFile.{DicomFile}
 use Rattle.dd_part10.specs.File.{IsFile}
-use Rattle.dd_set.specs.AnswersAs.{AnswersAs}
+use Rattle.dd_grammar.specs.AnswersAs.{AnswersAs}
 use Rattle.dd_part10.specs.Faults.{is_memory}
 use Rattle.dd_part10.specs.Views.{file_view}
 use Rattle.dd_part10.specs.Reading.{file_in}

@@ -8,15 +8,15 @@ use Rattle.std.proofs.lemmas.Bool.{le-ltb, lt-ltb, ltb-false}
 use Rattle.std.proofs.lemmas.List.{drop-append-le, length-drop, nil_from_length}
 use Rattle.dd_elem.specs.declared.vr.Vr.TheVariants.{UL}
 use Rattle.dd_encoding.specs.Spelling.{header_text}
-use Rattle.dd_set.proofs.Steps.{long_front}
+use Rattle.dd_grammar.proofs.Steps.{long_front}
 use Rattle.dd_part10.specs.declared.fault.FileFault.{FileFault}
 use Rattle.dd_part10.specs.declared.fault.FileFault.TheVariants.{NotPart10, GroupLength}
 use Rattle.dd_encoding.specs.Head.{prefix}
 use Rattle.dd_part10.specs.File.{max_group_length}
-use Rattle.dd_set.specs.AnswersAs.{FailsAs}
+use Rattle.dd_grammar.specs.AnswersAs.{FailsAs}
 use Rattle.dd_part10.specs.Faults.{is_memory}
 use Rattle.dd_encoding.specs.Meta.{group_length_tag}
-use Rattle.dd_set.specs.Reading.{◌>>=◌}
+use Rattle.dd_grammar.specs.Reading.{◌>>=◌}
 use Rattle.dd_part10.specs.Reading.{behind, behind_prefix, count_in, split_at, behind_length}
 use Rattle.dd_part10.proofs.Faults.{fails_along, bind_fails}
 use Rattle.dd_part10.proofs.Fronts.{behind-is}

@@ -1,17 +1,17 @@
 -- A fault that was handed on.
 use Rattle.std.proofs.Common.{◌≡◌, ℕ, List, Result, Err, refl}
 use Rattle.dd_elem.specs.declared.tag.Tag.{Tag}
-use Rattle.dd_set.specs.declared.fault.SetFault.{SetFault}
-use Rattle.dd_set.specs.declared.fault.SetFault.TheVariants.{Memory}
-use Rattle.dd_set.specs.Faults as sets
+use Rattle.dd_grammar.specs.declared.fault.SetFault.{SetFault}
+use Rattle.dd_grammar.specs.declared.fault.SetFault.TheVariants.{Memory}
+use Rattle.dd_grammar.specs.Faults as sets
 use Rattle.dd_part10.specs.declared.fault.FileFault.{FileFault}
 use Rattle.dd_part10.specs.declared.fault.FileFault.TheVariants as faults
-use Rattle.dd_set.specs.AnswersAs.{FailsAs}
+use Rattle.dd_grammar.specs.AnswersAs.{FailsAs}
 use Rattle.dd_part10.specs.Faults.{is_memory}
 use Rattle.dd_part10.specs.Memory.{GroupWants, ScanWants, IsRefused}
-use Rattle.dd_set.specs.Reading.{◌>>=◌}
+use Rattle.dd_grammar.specs.Reading.{◌>>=◌}
 use Rattle.dd_part10.specs.Reading.{with_fault, file_in}
-use Rattle.dd_set.proofs.Failing.{else_then, else_holds}
+use Rattle.dd_grammar.proofs.Failing.{else_then, else_holds}
 
 -- a reading that fails as another does
 pub fails_along : {A B : Type 0} (e : FileFault) (r : Result A FileFault) (s : Result B FileFault)

@@ -18,11 +18,12 @@ use Rattle.dd_encoding.specs.declared.syntax.Syntax.{Syntax}
 use Rattle.dd_encoding.specs.declared.syntax.Syntax.TheVariants.{Explicit}
 use Rattle.dd_stream.specs.Bytes.{AreBytes}
 use Rattle.dd_encoding.specs.Elements.{Elements, no_elements, element, Content, bytes, items, fragments, Element}
-use Rattle.dd_set.specs.Find.{same_tag, element_list, find_in}
-use Rattle.dd_set.specs.Reading.{read_all}
+use Rattle.dd_set.specs.Find.{find_in}
+use Rattle.dd_grammar.specs.Lists.{same_tag, element_list}
+use Rattle.dd_grammar.specs.Reading.{read_all}
 use Rattle.dd_encoding.specs.Spelling.{Spells, header_text}
-use Rattle.dd_set.proofs.SoundItems.{all_takes}
-use Rattle.dd_set.proofs.Steps.{AreBytes-drop, AreBytes-take, long_front, long_text, found_passes}
+use Rattle.dd_grammar.proofs.SoundItems.{all_takes}
+use Rattle.dd_grammar.proofs.Steps.{AreBytes-drop, AreBytes-take, long_front, long_text, found_passes}
 use Rattle.dd_part10.specs.declared.fault.FileFault.{FileFault}
 use Rattle.dd_part10.specs.declared.fault.FileFault.TheVariants.{NotPart10, GroupLength, MetaMissing, MetaUid}
 use Rattle.dd_part10.specs.declared.fault.FileFault.TheVariants.{OtherSyntax}
@@ -32,7 +33,7 @@ use Rattle.dd_encoding.specs.Head.{preamble_length, prefix, group_length_text}
 use Rattle.dd_part10.specs.File.{max_group_length, StartsAbove, IsFile}
 use Rattle.dd_encoding.specs.Meta.{group_length_tag, class_tag, instance_tag, transfer_tag}
 use Rattle.dd_part10.specs.Meta.{HasMetaUid, IsMeta}
-use Rattle.dd_set.specs.Reading.{◌>>=◌}
+use Rattle.dd_grammar.specs.Reading.{◌>>=◌}
 use Rattle.dd_part10.specs.Reading.{with_fault, FileParts, behind, behind_prefix, count_in, split_at}
 use Rattle.dd_part10.specs.Reading.{behind_length}
 use Rattle.dd_part10.specs.Reading.{is_alone, uid_of, uid_at, uids_in, meta_in, starts_above, set_in, file_in}

@@ -13,7 +13,7 @@ use Rattle.dd_elem.specs.declared.tag.Tag.{Tag}
 use Rattle.dd_encoding.specs.declared.syntax.Syntax.{Syntax}
 use Rattle.dd_encoding.specs.declared.syntax.Syntax.TheVariants.{Explicit}
 use Rattle.dd_encoding.specs.Elements.{Elements, no_elements, bytes, Element}
-use Rattle.dd_set.specs.Find.{element_list}
+use Rattle.dd_grammar.specs.Lists.{element_list}
 use Rattle.dd_encoding.specs.Spelling.{Spells, AreElements, IsContent, max_levels}
 use Rattle.dd_encoding.specs.declared.meta.Meta.{Meta}
 use Rattle.dd_encoding.specs.Head.{prefix, group_length_text}

@@ -16,11 +16,12 @@ use Rattle.dd_elem.proofs.UidForm.{is_uid_from_IsUid}
 use Rattle.dd_encoding.specs.declared.syntax.Syntax.{Syntax}
 use Rattle.dd_encoding.specs.declared.syntax.Syntax.TheVariants.{Explicit}
 use Rattle.dd_encoding.specs.Elements.{Elements, no_elements, element, bytes, Element}
-use Rattle.dd_set.specs.Find.{element_list, find_in}
-use Rattle.dd_set.specs.Reading.{read_all}
+use Rattle.dd_set.specs.Find.{find_in}
+use Rattle.dd_grammar.specs.Lists.{element_list}
+use Rattle.dd_grammar.specs.Reading.{read_all}
 use Rattle.dd_encoding.specs.Spelling.{Spells, header_text, max_levels, AreElements}
-use Rattle.dd_set.proofs.Again.{all_again}
-use Rattle.dd_set.proofs.Steps.{long_again}
+use Rattle.dd_grammar.proofs.Again.{all_again}
+use Rattle.dd_grammar.proofs.Steps.{long_again}
 use Rattle.dd_part10.specs.declared.fault.FileFault.{FileFault}
 use Rattle.dd_part10.specs.declared.fault.FileFault.TheVariants.{NotPart10, GroupLength, MetaMissing, MetaUid}
 use Rattle.dd_part10.specs.declared.fault.FileFault.TheVariants.{OtherSyntax}
@@ -30,7 +31,7 @@ use Rattle.dd_encoding.specs.Head.{preamble_length, prefix, group_length_text}
 use Rattle.dd_part10.specs.File.{max_group_length, StartsAbove, IsFile}
 use Rattle.dd_encoding.specs.Meta.{group_length_tag, class_tag, instance_tag, transfer_tag}
 use Rattle.dd_part10.specs.Meta.{HasMetaUid, IsMeta}
-use Rattle.dd_set.specs.Reading.{◌>>=◌}
+use Rattle.dd_grammar.specs.Reading.{◌>>=◌}
 use Rattle.dd_part10.specs.Reading.{with_fault, behind, behind_prefix, count_in, split_at, behind_length}
 use Rattle.dd_part10.specs.Reading.{is_alone}
 use Rattle.dd_part10.specs.Reading.{uid_of, uid_at, uids_in, meta_in, starts_above, set_in, file_in}

@@ -1,9 +1,9 @@
 -- Steps of reading a file that gave a value.
 use Rattle.std.proofs.Common.{◌≡◌, Bool, true, false, if◌then◌else◌, Option, Some, None, Result, Ok, Err, refl}
 use Rattle.std.specs.Option.{ok_or}
-use Rattle.dd_set.specs.declared.fault.SetFault.{SetFault}
+use Rattle.dd_grammar.specs.declared.fault.SetFault.{SetFault}
 use Rattle.dd_part10.specs.declared.fault.FileFault.{FileFault}
-use Rattle.dd_set.specs.Reading.{◌>>=◌}
+use Rattle.dd_grammar.specs.Reading.{◌>>=◌}
 use Rattle.dd_part10.specs.Reading.{with_fault}
 
 -- the value of a step that did not fail

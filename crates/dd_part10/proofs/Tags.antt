@@ -9,9 +9,10 @@ use Rattle.dd_elem.specs.declared.tag.Tag.{Tag}
 use Rattle.dd_elem.specs.Tag.{number_of}
 use Rattle.dd_encoding.specs.declared.syntax.Syntax.{Syntax}
 use Rattle.dd_encoding.specs.Elements.{Elements, no_elements, element, Element}
-use Rattle.dd_set.specs.Find.{same_tag, find_in, element_list}
+use Rattle.dd_set.specs.Find.{find_in}
+use Rattle.dd_grammar.specs.Lists.{same_tag, element_list}
 use Rattle.dd_encoding.specs.Spelling.{AreElements}
-use Rattle.dd_set.proofs.Steps.{chosen, some_is}
+use Rattle.dd_grammar.proofs.Steps.{chosen, some_is}
 use Rattle.dd_encoding.specs.Meta.{meta_group}
 use Rattle.dd_part10.specs.Reading.{is_meta_tag}
 

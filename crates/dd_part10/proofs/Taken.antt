@@ -7,26 +7,26 @@ use Rattle.std.proofs.lemmas.Bool.{cases_lt, lt-ltb, le-ltb}
 use Rattle.std.proofs.lemmas.List.{length-drop}
 use Rattle.std.proofs.Math.Seq.{drop-append_seam, take-append_seam}
 use Rattle.dd_elem.specs.declared.tag.Tag.{Tag}
-use Rattle.dd_set.specs.declared.fault.SetFault.{SetFault}
-use Rattle.dd_set.specs.declared.fault.SetFault.TheVariants.{Memory}
-use Rattle.dd_set.specs.declared.found.Scan.{Scan}
+use Rattle.dd_grammar.specs.declared.fault.SetFault.{SetFault}
+use Rattle.dd_grammar.specs.declared.fault.SetFault.TheVariants.{Memory}
+use Rattle.dd_scan.specs.declared.found.Scan.{Scan}
 use Rattle.dd_encoding.specs.declared.syntax.Syntax.{Syntax}
 use Rattle.dd_encoding.specs.declared.syntax.Syntax.TheVariants.{Explicit}
 use Rattle.dd_encoding.specs.Elements.{Elements}
-use Rattle.dd_set.specs.Faults as sets
+use Rattle.dd_grammar.specs.Faults as sets
 use Rattle.dd_set.specs.Memory.{WantsMemory}
-use Rattle.dd_set.specs.Reading.{read_all}
-use Rattle.dd_set.specs.Scan.{ScanGives, first_of}
+use Rattle.dd_grammar.specs.Reading.{read_all}
+use Rattle.dd_scan.specs.Scan.{ScanGives, first_of}
 use Rattle.dd_part10.specs.declared.fault.FileFault.{FileFault}
 use Rattle.dd_part10.specs.declared.fault.FileFault.TheVariants.{NotPart10, GroupLength}
 use Rattle.dd_part10.specs.declared.fault.FileFault.TheVariants as faults
 use Rattle.dd_encoding.specs.declared.meta.Meta.{Meta}
 use Rattle.dd_part10.specs.declared.scanned.Scanned.{Scanned}
 use Rattle.dd_encoding.specs.Head.{prefix}
-use Rattle.dd_set.specs.AnswersAs.{FailsAs, AnswersAs}
+use Rattle.dd_grammar.specs.AnswersAs.{FailsAs, AnswersAs}
 use Rattle.dd_part10.specs.Faults.{is_memory}
 use Rattle.dd_part10.specs.Memory.{WantsNone}
-use Rattle.dd_set.specs.Reading.{◌>>=◌}
+use Rattle.dd_grammar.specs.Reading.{◌>>=◌}
 use Rattle.dd_part10.specs.Reading.{behind, behind_prefix, behind_length, meta_in, starts_above, set_in}
 use Rattle.dd_part10.specs.Reading.{file_in}
 use Rattle.dd_part10.specs.Reading.{count_in, split_at, syntax_in, may_follow}

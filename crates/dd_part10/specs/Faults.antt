@@ -1,6 +1,6 @@
 -- What the faults of a file say.
 use Rattle.std.specs.Prelude.{Bool, false, T}
-use Rattle.dd_set.specs.Faults as sets
+use Rattle.dd_grammar.specs.Faults as sets
 use Rattle.dd_part10.specs.declared.fault.FileFault.{FileFault}
 use Rattle.dd_part10.specs.declared.fault.FileFault.TheVariants.{Meta, Set}
 

@@ -11,7 +11,7 @@ use Rattle.dd_encoding.specs.declared.meta.Meta.{Meta}
 use Rattle.dd_part10.specs.Meta.{IsMeta}
 use Rattle.dd_encoding.specs.Syntaxes.{syntax_of}
 
--- group 0002 has at most so many bytes behind its group length
+-- group 0002 has at most this number of bytes behind its group length
 abbrev pub max_group_length : ℕ
 max_group_length = 65536
 

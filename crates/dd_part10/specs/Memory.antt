@@ -2,15 +2,15 @@
 -- once all of group 0002 is. And why a file is refused that is read from a reader.
 use Rattle.std.specs.Prelude.{◌≡◌, ◌≢◌, List, ℕ, Some, Result, Ok, Err}
 use Rattle.dd_elem.specs.declared.tag.Tag.{Tag}
-use Rattle.dd_set.specs.declared.fault.SetFault.TheVariants.{Memory}
+use Rattle.dd_grammar.specs.declared.fault.SetFault.TheVariants.{Memory}
 use Rattle.dd_encoding.specs.declared.syntax.Syntax.{Syntax}
 use Rattle.dd_encoding.specs.declared.syntax.Syntax.TheVariants.{Explicit}
 use Rattle.dd_set.specs.Memory.{WantsMemory}
-use Rattle.dd_set.specs.Scan.{HasWanted}
+use Rattle.dd_scan.specs.Scan.{HasWanted}
 use Rattle.dd_part10.specs.declared.fault.FileFault.{FileFault}
 use Rattle.dd_part10.specs.declared.fault.FileFault.TheVariants as faults
 use Rattle.dd_encoding.specs.declared.meta.Meta.{Meta}
-use Rattle.dd_set.specs.Reading.{◌>>=◌}
+use Rattle.dd_grammar.specs.Reading.{◌>>=◌}
 use Rattle.dd_part10.specs.Reading.{behind_prefix, behind_length, meta_in, file_in}
 use Rattle.dd_encoding.specs.Syntaxes.{syntax_of}
 

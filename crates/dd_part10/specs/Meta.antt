@@ -6,7 +6,7 @@ use Rattle.dd_elem.specs.declared.tag.Tag.{Tag}
 use Rattle.dd_elem.specs.declared.vr.Vr.{Vr}
 use Rattle.dd_encoding.specs.Elements.{Elements, bytes}
 use Rattle.dd_encoding.specs.Meta.{meta_group, class_tag, instance_tag, transfer_tag}
-use Rattle.dd_set.specs.Find.{element_list}
+use Rattle.dd_grammar.specs.Lists.{element_list}
 use Rattle.dd_encoding.specs.declared.meta.Meta.{Meta}
 
 -- an element with this tag holds bytes, which are this UID and padding

@@ -8,13 +8,14 @@ use Rattle.dd_elem.specs.Clean.{clean_of}
 use Rattle.dd_elem.specs.Uid.{is_uid}
 use Rattle.dd_elem.specs.declared.tag.Tag.{Tag}
 use Rattle.dd_elem.specs.declared.vr.Vr.TheVariants.{UL}
-use Rattle.dd_set.specs.declared.fault.SetFault.{SetFault}
+use Rattle.dd_grammar.specs.declared.fault.SetFault.{SetFault}
 use Rattle.dd_encoding.specs.declared.syntax.Syntax.{Syntax}
 use Rattle.dd_encoding.specs.declared.syntax.Syntax.TheVariants.{Explicit}
 use Rattle.dd_encoding.specs.Elements.{Elements, Content, bytes, items, fragments}
-use Rattle.dd_set.specs.Find.{element_list, find_in}
-use Rattle.dd_set.specs.Reading.{read_all, ◌>>=◌}
-use Rattle.dd_set.specs.Scan.{first_of}
+use Rattle.dd_set.specs.Find.{find_in}
+use Rattle.dd_grammar.specs.Lists.{element_list}
+use Rattle.dd_grammar.specs.Reading.{read_all, ◌>>=◌}
+use Rattle.dd_scan.specs.Scan.{first_of}
 use Rattle.dd_encoding.specs.Spelling.{header_text}
 use Rattle.dd_part10.specs.declared.fault.FileFault.{FileFault}
 use Rattle.dd_part10.specs.declared.fault.FileFault.TheVariants.{NotPart10, GroupLength, MetaMissing, MetaUid}
@@ -57,7 +58,7 @@ count_in bs = ok_or (behind (header_text group_length_tag (Some UL) 4) bs) Group
     >>= λ rest. if nat_lt (length rest) 4 then Err GroupLength
     else (if nat_lt max_group_length (from_le_bytes w32 rest) then Err GroupLength else Ok (from_le_bytes w32 rest))
 
--- so many bytes, and the others behind them
+-- a number of bytes, and the others behind them
 abbrev pub split_at : ℕ → List ℕ → Result (List ℕ × List ℕ) FileFault
 split_at n bs = if nat_lt (length bs) n then Err GroupLength else Ok (take n bs, drop n bs)
 

@@ -2,21 +2,21 @@
 -- is still to come.
 use Rattle.std.specs.Prelude.{◌≡◌, ℕ, List, map, Result, Ok, Err}
 use Rattle.dd_elem.specs.declared.tag.Tag.{Tag}
-use Rattle.dd_set.specs.declared.fault.SetFault.TheVariants.{Memory}
-use Rattle.dd_set.specs.declared.found.Scan.{Scan}
+use Rattle.dd_grammar.specs.declared.fault.SetFault.TheVariants.{Memory}
+use Rattle.dd_scan.specs.declared.found.Scan.{Scan}
 use Rattle.dd_encoding.specs.declared.syntax.Syntax.{Syntax}
 use Rattle.dd_encoding.specs.declared.syntax.Syntax.TheVariants.{Explicit}
 use Rattle.dd_encoding.specs.Elements.{Elements}
 use Rattle.dd_set.specs.Memory.{WantsMemory}
-use Rattle.dd_set.specs.Scan.{IsScan, HasWanted, found_hit, hits_of}
+use Rattle.dd_scan.specs.Scan.{IsScan, HasWanted, found_hit, hits_of}
 use Rattle.dd_part10.specs.declared.fault.FileFault.{FileFault}
 use Rattle.dd_part10.specs.declared.fault.FileFault.TheVariants as faults
 use Rattle.dd_encoding.specs.declared.meta.Meta.{Meta}
 use Rattle.dd_part10.specs.declared.scanned.Scanned.{Scanned}
-use Rattle.dd_set.specs.AnswersAs.{FailsAs}
+use Rattle.dd_grammar.specs.AnswersAs.{FailsAs}
 use Rattle.dd_part10.specs.Faults.{is_memory}
 use Rattle.dd_part10.specs.Memory.{GroupWants, HasHead, IsRefused}
-use Rattle.dd_set.specs.Reading.{◌>>=◌}
+use Rattle.dd_grammar.specs.Reading.{◌>>=◌}
 use Rattle.dd_part10.specs.Reading.{FileParts, behind_prefix, split_at, behind_length, meta_in, set_in, file_in}
 
 -- ---- what was taken
@@ -44,7 +44,7 @@ MetaTaken (Ok meta) bytes rest = (group : List ℕ) × (behind_length bytes ≡ 
 MetaTaken (Err e) bytes rest = FailsAs is_memory e (behind_length bytes >>= λ parts. meta_in parts.0)
     × (e ≡ faults.Meta Memory → MetaWants bytes)
 
--- so many bytes, of a file whose group length counts them
+-- a number of bytes, of a file whose group length counts them
 abbrev pub GroupTaken : ℕ → Result Meta FileFault → List ℕ → List ℕ → Type 0
 GroupTaken n result mid rest = (bytes : List ℕ) → behind_length bytes ≡ split_at n mid → MetaTaken result bytes rest
 

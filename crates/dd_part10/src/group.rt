@@ -1,13 +1,13 @@
 //! Group 0002: the group length and the meta information.
 
 ghost use Rattle.std.specs.Prelude.{◌≡◌, ◌≢◌, ◌≤◌, Err, IfOk, length, option_map};
-ghost use Rattle.dd_set.specs.declared.fault.SetFault.TheVariants.{Memory};
+ghost use Rattle.dd_grammar.specs.declared.fault.SetFault.TheVariants.{Memory};
 ghost use Rattle.dd_encoding.specs.declared.syntax.Syntax.TheVariants.{Explicit};
 ghost use Rattle.dd_set.specs.Memory.{WantsMemory};
 ghost use Rattle.dd_set.specs.Views.{set_view};
 ghost use Rattle.dd_part10.specs.declared.fault.FileFault.TheVariants as faults;
 ghost use Rattle.dd_part10.specs.File.{max_group_length};
-ghost use Rattle.dd_set.specs.AnswersAs.{AnswersAs};
+ghost use Rattle.dd_grammar.specs.AnswersAs.{AnswersAs};
 ghost use Rattle.dd_part10.specs.Faults.{is_memory};
 ghost use Rattle.dd_part10.specs.Memory.{WantsNone};
 ghost use Rattle.dd_part10.specs.Reading.{behind, count_in, behind_length, is_meta_tag, is_alone, uid_at, uids_in};
@@ -70,7 +70,7 @@ pub fn split_group(bytes: &[u8]) -> Result<(&[u8], &[u8]), FileFault>
 
 /// The meta information in the bytes that the group length counts. Meta where they are no data set or a
 /// growth was refused, then GroupLength where an element is not of group 0002 or is a group length, then
-/// MetaMissing or MetaUid for the first of the three UIDs that is not there or is none.
+/// MetaMissing or MetaUid for the first of the three UIDs that is absent or no UID.
 #[tactic(auto, unfolding(crate::specs::Reading::meta_in))]
 pub fn read_meta(alloc: Global, bytes: &[u8]) -> Result<Meta, FileFault>
     ensures exact { AnswersAs is_memory (λ meta. meta) result (meta_in bytes.now) }
@@ -84,7 +84,7 @@ pub fn read_meta(alloc: Global, bytes: &[u8]) -> Result<Meta, FileFault>
     uids_in(&group)
 }
 
-/// The syntax of the data set that the meta information names. OtherSyntax where it is none that is read.
+/// The syntax of the data set that the meta information names. OtherSyntax where no file of it is read.
 pub fn named_syntax(meta: &Meta) -> Result<Syntax, FileFault>
     ensures exact { AnswersAs is_memory (λ syntax. syntax) result (syntax_in meta.now) }
     ensures memory { WantsNone result }
@@ -112,7 +112,7 @@ fn is_meta_tag(tag: Tag) -> bool
     tag.group == META_GROUP && tag != GROUP_LENGTH
 }
 
-/// The three UIDs that the elements hold, or the first that is not there or is none.
+/// The three UIDs that the elements hold, or the first that is absent or no UID.
 #[tactic(auto, unfolding(crate::specs::Reading::uids_in))]
 fn uids_in(group: &DataSet<'_>) -> Result<Meta, FileFault>
     ensures exact { AnswersAs is_memory (λ meta. meta) result (uids_in (set_view group.now)) }

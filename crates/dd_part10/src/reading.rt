@@ -1,15 +1,15 @@
 //! Reading a DICOM file from its bytes.
 
 ghost use Rattle.std.specs.Prelude.{◌≡◌, ◌≢◌, ℕ, ◌<◌, ◌^◌, IfOk, Ok, Err, length};
-ghost use Rattle.dd_set.specs.declared.fault.SetFault.TheVariants.{Memory};
+ghost use Rattle.dd_grammar.specs.declared.fault.SetFault.TheVariants.{Memory};
 ghost use Rattle.dd_encoding.specs.Elements.{Elements};
 ghost use Rattle.dd_set.specs.Memory.{WantsMemory};
-ghost use Rattle.dd_set.specs.Scan.{first_of};
+ghost use Rattle.dd_scan.specs.Scan.{first_of};
 ghost use Rattle.dd_set.specs.Views.{set_view};
 ghost use Rattle.dd_part10.specs.declared.fault.FileFault.TheVariants as faults;
 ghost use Rattle.dd_encoding.specs.declared.meta.Meta.{Meta};
 ghost use Rattle.dd_part10.specs.File.{IsFile};
-ghost use Rattle.dd_set.specs.AnswersAs.{AnswersAs};
+ghost use Rattle.dd_grammar.specs.AnswersAs.{AnswersAs};
 ghost use Rattle.dd_part10.specs.Faults.{is_memory};
 ghost use Rattle.dd_part10.specs.Views.{file_view};
 ghost use Rattle.dd_part10.specs.Memory.{GroupWants, SetWants, WantsNone};
@@ -81,7 +81,7 @@ pub fn behind_prefix(bytes: &[u8]) -> Result<&[u8], FileFault>
     }
 }
 
-/// The data set that follows group 0002. Set where the bytes are none or a growth was refused, and
+/// The data set that follows group 0002. Set where the bytes spell no set or a growth was refused, and
 /// GroupLength where it begins with group 0002 or a lower one.
 #[tactic(auto, unfolding(crate::specs::Reading::set_in))]
 fn read_set<'a>(alloc: Global, syntax: Syntax, bytes: &'a [u8]) -> Result<DataSet<'a>, FileFault>

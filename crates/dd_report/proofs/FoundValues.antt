@@ -3,12 +3,12 @@ use Rattle.std.proofs.Common.{◌≡◌, ℕ, Bool, true, false, List, [], ◌�
 use Rattle.std.proofs.Common.{if◌then◌else◌, refl, sym, ap, subst, ◌∙◌, Vec, Global}
 use Rattle.std.specs.Prelude.{find, unwrap_or}
 use Rattle.dd_elem.specs.declared.tag.Tag.{Tag}
-use Rattle.dd_set.specs.declared.found.Found.{Found}
-use Rattle.dd_set.specs.declared.found.FoundValue.{FoundValue}
-use Rattle.dd_set.specs.declared.found.FoundValue.TheVariants.{Items, Fragments, Bytes}
+use Rattle.dd_scan.specs.declared.found.Found.{Found}
+use Rattle.dd_scan.specs.declared.found.FoundValue.{FoundValue}
+use Rattle.dd_scan.specs.declared.found.FoundValue.TheVariants.{Items, Fragments, Bytes}
 use Rattle.dd_encoding.specs.Elements.{Elements, Content, bytes, items, fragments, Element}
-use Rattle.dd_set.specs.Find.{same_tag, element_list}
-use Rattle.dd_set.specs.Scan.{Hit, summary_length, found_summary, summary_of, hit_of, is_wanted, hits_of, found_hit}
+use Rattle.dd_grammar.specs.Lists.{same_tag, element_list}
+use Rattle.dd_scan.specs.Scan.{Hit, summary_length, found_summary, summary_of, hit_of, is_wanted, hits_of, found_hit}
 use Rattle.dd_part10.proofs.Tags.{same_tag-is}
 use Rattle.dd_keys.specs.Values.{content_value, element_value}
 use Rattle.dd_dir.specs.Saying.{key_of}

@@ -8,7 +8,7 @@ use Rattle.sha2.specs.Sha256.{sha256}
 use Rattle.dd_elem.specs.Device.{Gives}
 use Rattle.dd_elem.specs.declared.device.Read.{Ghosts as ReadOf}
 use Rattle.dd_elem.specs.declared.tag.Tag.{Tag}
-use Rattle.dd_set.specs.declared.fault.SetFault.TheVariants.{Memory}
+use Rattle.dd_grammar.specs.declared.fault.SetFault.TheVariants.{Memory}
 use Rattle.dd_part10.specs.declared.fault.FileFault.{FileFault}
 use Rattle.dd_part10.specs.declared.fault.FileFault.TheVariants as faults
 use Rattle.dd_part10.specs.declared.scanned.Scanned.{Scanned}

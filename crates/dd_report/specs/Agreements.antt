@@ -6,7 +6,7 @@ use Rattle.std.specs.Option.{option_or}
 use Rattle.std.specs.Str.{bytes_eq}
 use Rattle.dd_elem.specs.declared.tag.Tag.{Tag}
 use Rattle.dd_set.specs.Find.{find_in}
-use Rattle.dd_set.specs.Scan.{summary_length}
+use Rattle.dd_scan.specs.Scan.{summary_length}
 use Rattle.dd_part10.specs.declared.fault.FileFault.{FileFault}
 use Rattle.dd_part10.specs.declared.fault.FileFault.TheVariants.{OtherSyntax}
 use Rattle.dd_encoding.specs.Meta.{class_tag, instance_tag, transfer_tag}

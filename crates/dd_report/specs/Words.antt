@@ -1,10 +1,10 @@
 -- The words of the faults of a file (PS3.10 section 7), as the program prints them, and the line with them.
 use Rattle.std.specs.Prelude.{ℕ, List, [], ◌∷◌, ◌++◌, codes}
 use Rattle.dd_elem.specs.Tag.{text_of}
-use Rattle.dd_set.specs.declared.fault.SetFault.{SetFault}
-use Rattle.dd_set.specs.declared.fault.SetFault.TheVariants.{Truncated, Order, BadVr, Reserved, OddLength}
-use Rattle.dd_set.specs.declared.fault.SetFault.TheVariants.{UndefinedLength, UnexpectedTag, BadDelimiter, Overrun}
-use Rattle.dd_set.specs.declared.fault.SetFault.TheVariants.{TooDeep, Memory}
+use Rattle.dd_grammar.specs.declared.fault.SetFault.{SetFault}
+use Rattle.dd_grammar.specs.declared.fault.SetFault.TheVariants.{Truncated, Order, BadVr, Reserved, OddLength}
+use Rattle.dd_grammar.specs.declared.fault.SetFault.TheVariants.{UndefinedLength, UnexpectedTag, BadDelimiter, Overrun}
+use Rattle.dd_grammar.specs.declared.fault.SetFault.TheVariants.{TooDeep, Memory}
 use Rattle.dd_part10.specs.declared.fault.FileFault.{FileFault}
 use Rattle.dd_part10.specs.declared.fault.FileFault.TheVariants.{NotPart10, GroupLength, MetaMissing, MetaUid}
 use Rattle.dd_part10.specs.declared.fault.FileFault.TheVariants.{OtherSyntax, Meta, Set}

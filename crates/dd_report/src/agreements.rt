@@ -3,8 +3,8 @@ ghost use Rattle.std.specs.Prelude.{◌≡◌, ◌↔◌, ◌∷◌, ℕ, List, 
 ghost use Rattle.std.specs.Option.{option_copied};
 ghost use Rattle.dd_elem.specs.Device.{Gives};
 ghost use Rattle.dd_encoding.specs.Elements.{Elements};
-ghost use Rattle.dd_set.specs.Find.{same_tag};
-ghost use Rattle.dd_set.specs.Scan.{found_hit, hits_of, is_wanted};
+ghost use Rattle.dd_grammar.specs.Lists.{same_tag};
+ghost use Rattle.dd_scan.specs.Scan.{found_hit, hits_of, is_wanted};
 ghost use Rattle.dd_part10.specs.declared.fault.FileFault.{FileFault};
 ghost use Rattle.dd_part10.specs.Faults.{SaysMemory};
 ghost use Rattle.dd_part10.specs.Memory.{IsRefused};

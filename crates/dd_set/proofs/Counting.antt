@@ -1,8 +1,6 @@
 -- How the size of a set or a sequence is counted, part by part.
-use Rattle.std.proofs.Common.{Bor, ◌%◌}
-use Rattle.std.proofs.Common.{◌≡◌, ℕ, zero, suc, ◌+◌, ◌<◌, ◌≤◌, ◌^◌, List, [], ◌∷◌, ◌++◌, length, get_or, drop, refl}
-use Rattle.std.proofs.Common.{sym}
-use Rattle.std.proofs.Common.{ap, ◌∙◌, arith, append_assoc, length-append}
+use Rattle.std.proofs.Common.{Bor, ◌%◌, ◌≡◌, ℕ, zero, suc, ◌+◌, ◌<◌, ◌≤◌, ◌^◌, List, [], ◌∷◌, ◌++◌, length, get_or}
+use Rattle.std.proofs.Common.{drop, refl, sym, ap, ◌∙◌, arith, append_assoc, length-append}
 use Rattle.std.proofs.lemmas.List.{at_drop_more, at_drop_all}
 use Rattle.dd_elem.specs.Tag.{number_of}
 use Rattle.dd_set.specs.declared.set.Element.{Element as ElementValue}
@@ -11,10 +9,8 @@ use Rattle.dd_encoding.specs.declared.syntax.Syntax.{Syntax}
 use Rattle.dd_encoding.specs.Elements.{Elements, no_elements, element, Items, no_items, item, Element, Item}
 use Rattle.dd_set.specs.Single.{element_text, item_text, IsElement, IsItem}
 use Rattle.dd_encoding.specs.Spelling.{elements_text, items_text, tag_text, content_text, length_of, closed}
-use Rattle.dd_encoding.specs.Spelling.{item_tag_text}
-use Rattle.dd_encoding.specs.Spelling.{item_end_text, AreElements, AreItems, AreFragments, fragment_text}
-use Rattle.dd_encoding.specs.Spelling.{fragments_text}
-use Rattle.dd_encoding.specs.Spelling.{undefined_length}
+use Rattle.dd_encoding.specs.Spelling.{item_tag_text, item_end_text, AreElements, AreItems, AreFragments, fragment_text}
+use Rattle.dd_encoding.specs.Spelling.{fragments_text, undefined_length}
 use Rattle.dd_set.specs.Views.{element_view, elements_view, item_view, items_view, pieces}
 use Rattle.byteorder.specs.Endian.{little_bytes}
 

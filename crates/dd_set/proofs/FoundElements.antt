@@ -4,15 +4,12 @@ use Rattle.std.proofs.Common.{ap, ◌∙◌}
 use Rattle.std.specs.Prelude.{find}
 use Rattle.dd_elem.specs.declared.tag.Tag.{Tag}
 use Rattle.dd_set.specs.declared.set.Element.{Element as ElementValue}
-use Rattle.dd_encoding.specs.Elements.{Element, elements_of}
-use Rattle.dd_set.specs.Find.{same_tag, find_in, element_list}
+use Rattle.dd_encoding.specs.Elements.{Element}
+use Rattle.dd_set.specs.Find.{find_in}
+use Rattle.dd_grammar.specs.Lists.{same_tag}
 use Rattle.dd_set.specs.Views.{element_view, elements_view}
 use Rattle.dd_set.proofs.Seen.{element_view-is}
-
--- what is built of entries has these entries
-pub element_list-elements_of : (es : List Element) → element_list (elements_of es) ≡ es
-element_list-elements_of [] = refl
-element_list-elements_of (e ∷ es) = ap (λ (rest : List Element). e ∷ rest) (element_list-elements_of es)
+use Rattle.dd_grammar.proofs.Lists.{element_list-elements_of}
 
 -- a search among pictures is a search among what they picture
 pub find-map : {A B : Type 0} (f : A → B) (test : B → Bool) (p : A → Bool) → ((x : A) → p x ≡ test (f x))

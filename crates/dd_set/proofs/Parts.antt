@@ -14,8 +14,7 @@ use Rattle.dd_encoding.specs.declared.syntax.Length.TheVariants.{Defined, Undefi
 use Rattle.dd_encoding.specs.Elements.{Content, Items, items, fragments}
 use Rattle.dd_set.specs.Single.{element_text, item_text, mark_text}
 use Rattle.dd_encoding.specs.Spelling.{elements_text, items_text, tag_text, shape_text, header_text, content_text}
-use Rattle.dd_encoding.specs.Spelling.{length_of}
-use Rattle.dd_encoding.specs.Spelling.{closed, item_tag_text, item_end_text, sequence_end_text}
+use Rattle.dd_encoding.specs.Spelling.{length_of, closed, item_tag_text, item_end_text, sequence_end_text}
 use Rattle.dd_elem.specs.Tag.{number_of}
 use Rattle.dd_encoding.specs.declared.syntax.Syntax.{Syntax}
 use Rattle.dd_set.specs.Single.{IsElement, IsItem}
@@ -23,8 +22,7 @@ use Rattle.dd_encoding.specs.Spelling.{AreElements, AreItems, AreFragments, frag
 use Rattle.dd_encoding.specs.Spelling.{undefined_length}
 use Rattle.dd_set.specs.Views.{set_view, element_view, elements_view, item_view, items_view, value_view, pieces}
 use Rattle.dd_set.proofs.Counting.{with_element, element_first, part_first, part_valid, elements_view-drop}
-use Rattle.dd_set.proofs.Counting.{items_view-drop}
-use Rattle.dd_set.proofs.Counting.{pieces-drop}
+use Rattle.dd_set.proofs.Counting.{items_view-drop, pieces-drop}
 use Rattle.dd_set.proofs.Seen.{set_view-is, element_view-is, item_view-is}
 
 -- contents with the mark of their end are the contents and then the mark

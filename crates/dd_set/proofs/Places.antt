@@ -1,7 +1,7 @@
 -- The places of items as sums of lengths, and how they are found from left to right.
 use Rattle.std.proofs.Common.{◌≡◌, ℕ, suc, ◌+◌, ◌<◌, ◌≤◌, ◌^◌, Bool, true, false, List, [], ◌∷◌, ◌++◌, length, drop}
-use Rattle.std.proofs.Common.{get_or, Option, None, Some, if◌then◌else◌, refl, sym, ap, subst, ◌∙◌, arith}
-use Rattle.std.proofs.Common.{append_assoc, length-append}
+use Rattle.std.proofs.Common.{get_or, Option, None, Some, if◌then◌else◌, refl, sym, ap, subst, ◌∙◌, arith, append_assoc}
+use Rattle.std.proofs.Common.{length-append}
 use Rattle.dd_elem.specs.declared.tag.Tag.{Tag}
 use Rattle.dd_elem.specs.declared.vr.Vr.{Vr}
 use Rattle.dd_elem.specs.Tag.{number_of}
@@ -9,10 +9,8 @@ use Rattle.dd_set.specs.declared.set.Element.{Element as ElementValue}
 use Rattle.dd_set.specs.declared.set.Item.{Item as ItemValue}
 use Rattle.dd_encoding.specs.declared.syntax.Syntax.{Syntax}
 use Rattle.dd_encoding.specs.Elements.{Elements, no_elements, element, Content, bytes, items, fragments, Items}
-use Rattle.dd_encoding.specs.Elements.{no_items}
-use Rattle.dd_encoding.specs.Elements.{item, Element}
-use Rattle.dd_encoding.specs.Elements.{Item}
-use Rattle.dd_set.specs.Find.{same_tag}
+use Rattle.dd_encoding.specs.Elements.{no_items, item, Element, Item}
+use Rattle.dd_grammar.specs.Lists.{same_tag}
 use Rattle.dd_set.specs.Single.{element_text, item_text, IsElement, IsItem}
 use Rattle.dd_encoding.specs.Spelling.{elements_text, items_text, header_text, length_of, AreElements, AreItems}
 use Rattle.dd_set.specs.Starts.{places_in, content_places, item_places}

@@ -1,26 +1,25 @@
 -- Reading where nothing has a place: it goes as reading does, up to the first item or element that was read whole.
 use Rattle.std.proofs.Common.{◌≡◌, ℕ, zero, suc, ◌%◌, ◌≤◌, ◌⊎◌, inl, inr, Bool, true, false, ◌==◌, nat_lt}
-use Rattle.std.proofs.Common.{if◌then◌else◌, List, length, Option, Some, None, Result, Ok, Err}
-use Rattle.std.proofs.Common.{refl, sym, ap, subst, ◌∙◌}
+use Rattle.std.proofs.Common.{if◌then◌else◌, List, length, Option, Some, None, Result, Ok, Err, refl, sym, ap, subst}
+use Rattle.std.proofs.Common.{◌∙◌}
 use Rattle.std.proofs.lemmas.Bool.{cases_lt, lt-ltb}
 use Rattle.dd_elem.specs.Tag.{number_of}
-use Rattle.dd_set.specs.declared.fault.SetFault.{SetFault}
-use Rattle.dd_set.specs.declared.fault.SetFault.TheVariants.{Truncated}
-use Rattle.dd_set.specs.declared.fault.SetFault.TheVariants.{Memory}
+use Rattle.dd_grammar.specs.declared.fault.SetFault.{SetFault}
+use Rattle.dd_grammar.specs.declared.fault.SetFault.TheVariants.{Truncated, Memory}
 use Rattle.dd_encoding.specs.declared.syntax.Length.{Length}
 use Rattle.dd_encoding.specs.declared.syntax.Length.TheVariants.{Defined, Undefined}
 use Rattle.dd_encoding.specs.declared.syntax.Syntax.{Syntax}
 use Rattle.dd_encoding.specs.Elements.{Elements, Items, items, Element, Item}
 use Rattle.dd_set.specs.Memory.{keeps_no_item, unkept_sequence, keeps_no_element, unkept_set, unkept_item, WantsMemory}
 use Rattle.dd_set.specs.Memory.{WantsContent, WantsElement}
-use Rattle.dd_set.specs.Reading.{Header, front_at, opens_fragments, open_at}
-use Rattle.dd_set.specs.Reading.{At, Reads, Shape, ◌>>=◌, SequenceReader, SetReader, ItemReader, take_at, less}
-use Rattle.dd_set.specs.Reading.{leaves_fewer, within, undefined_at, defined_at, content_at, tag_of, long_of, shape_at}
-use Rattle.dd_set.specs.Reading.{is_over, ends_set, element_at, next_elements, elements_at, ends_sequence}
-use Rattle.dd_set.specs.Reading.{is_item, item_at, next_items, items_at, part_at, sequence_with, set_with, item_reader}
+use Rattle.dd_grammar.specs.Reading.{Header, front_at, opens_fragments, open_at, At, Reads, Shape, ◌>>=◌}
+use Rattle.dd_grammar.specs.Reading.{SequenceReader, SetReader, ItemReader, take_at, less, leaves_fewer, within}
+use Rattle.dd_grammar.specs.Reading.{undefined_at, defined_at, content_at, tag_of, long_of, shape_at, is_over, ends_set}
+use Rattle.dd_grammar.specs.Reading.{element_at, next_elements, elements_at, ends_sequence, is_item, item_at}
+use Rattle.dd_grammar.specs.Reading.{next_items, items_at, part_at, sequence_with, set_with, item_reader}
 use Rattle.dd_encoding.specs.Spelling.{undefined_length, item_syntax, delimiter_group}
-use Rattle.dd_set.proofs.Cut.{body_at, whole_element, element_is, whole_item, item_is}
-use Rattle.dd_set.proofs.ReadingOn.{element_found, content_refused}
+use Rattle.dd_grammar.proofs.Cut.{body_at, whole_element, element_is, whole_item, item_is}
+use Rattle.dd_grammar.proofs.ReadingOn.{element_found, content_refused}
 
 -- the second reading wants memory, or gives what the first one gives
 abbrev pub Alike : {X : Type 0} → Result X SetFault → Result X SetFault → Type 0

@@ -1,9 +1,9 @@
 -- What counting the fragments of a list returned, against reading it.
 use Rattle.std.specs.Prelude.{◌≡◌, ℕ, List, length, Result, Ok, Err}
-use Rattle.dd_set.specs.declared.fault.SetFault.{SetFault}
-use Rattle.dd_set.specs.AnswersAs.{FailsAs}
-use Rattle.dd_set.specs.Faults.{is_memory}
-use Rattle.dd_set.specs.Reading.{At, Reads}
+use Rattle.dd_grammar.specs.declared.fault.SetFault.{SetFault}
+use Rattle.dd_grammar.specs.AnswersAs.{FailsAs}
+use Rattle.dd_grammar.specs.Faults.{is_memory}
+use Rattle.dd_grammar.specs.Reading.{At, Reads}
 
 -- reading gives a list of this length, or fails with this fault
 abbrev pub Counts : Result ℕ SetFault → Reads (List (List ℕ)) → Type 0

@@ -1,17 +1,9 @@
 -- The element of a data set with a given tag, and its value.
-use Rattle.std.specs.Prelude.{ℕ, List, [], ◌∷◌, Option, Some, None, find, Bool, ◌&&◌, ◌==◌}
+use Rattle.std.specs.Prelude.{ℕ, List, [], Option, Some, None, find}
 use Rattle.dd_elem.specs.Clean.{clean_of}
 use Rattle.dd_elem.specs.declared.tag.Tag.{Tag}
-use Rattle.dd_encoding.specs.Elements.{Elements, no_elements, element, Content, bytes, items, fragments, Element}
-
--- two tags are one
-abbrev pub same_tag : Tag → Tag → Bool
-same_tag t u = (t.group == u.group) && (t.element == u.element)
-
--- the elements of a data set in a list
-abbrev pub element_list : Elements → List Element
-element_list no_elements = []
-element_list (element tag vr content rest) = record { tag = tag; vr = vr; content = content } ∷ element_list rest
+use Rattle.dd_encoding.specs.Elements.{Elements, Content, bytes, items, fragments, Element}
+use Rattle.dd_grammar.specs.Lists.{same_tag, element_list}
 
 -- the first element with this tag: the only one where tags rise
 abbrev pub find_in : Tag → Elements → Option Element
@@ -23,7 +15,7 @@ content_value (bytes value) = Some (clean_of value)
 content_value (items form parts) = None
 content_value (fragments fs) = None
 
--- the same of an element, and no bytes where there is none
+-- the value of an element, and no bytes where no element was found
 abbrev pub element_value : Option Element → Option (List ℕ)
 element_value None = Some []
 element_value (Some entry) = content_value entry.content

@@ -1,14 +1,7 @@
-pub mod AnswersAs
-pub mod Checks
 pub mod Counts
-pub mod Faults
 pub mod Find
 pub mod Memory
 pub mod Places
-pub mod Reading
-pub mod Scan
-pub mod Scanning
 pub mod Single
-pub mod Skips
 pub mod Starts
 pub mod Views

@@ -1,11 +1,12 @@
 -- Where reading wants memory: the same reading where nothing has a place, in which the first item or element that was
 -- read whole finds none. All else about the bytes is checked as by `Reading`.
 use Rattle.std.specs.Prelude.{◌≡◌, ◌⊎◌, ℕ, zero, suc, List, Option, Some, None, Ok, Err}
-use Rattle.dd_set.specs.declared.fault.SetFault.TheVariants.{TooDeep, Memory}
+use Rattle.dd_grammar.specs.declared.fault.SetFault.TheVariants.{TooDeep, Memory}
 use Rattle.dd_encoding.specs.declared.syntax.Length.TheVariants.{Defined}
 use Rattle.dd_encoding.specs.declared.syntax.Syntax.{Syntax}
 use Rattle.dd_encoding.specs.Elements.{Elements, no_elements, Content, Items, no_items, Element, Item}
-use Rattle.dd_set.specs.Reading.{At, Reads, ◌>>=◌, SequenceReader, SetReader, ItemReader, element_at, item_at, part_at}
+use Rattle.dd_grammar.specs.Reading.{At, Reads, ◌>>=◌, SequenceReader, SetReader, ItemReader, element_at, item_at}
+use Rattle.dd_grammar.specs.Reading.{part_at}
 use Rattle.dd_encoding.specs.Spelling.{max_levels}
 
 -- an item that was read has no place
@@ -24,7 +25,7 @@ keeps_no_element (Some e, at) = Err Memory
 abbrev pub unkept_set : ItemReader → SetReader
 unkept_set part syntax form at = element_at (unkept_sequence part) syntax form 0 at >>= keeps_no_element
 
--- an item where so many levels may still nest
+-- an item where this number of levels may still nest
 abbrev pub unkept_item : ℕ → ItemReader
 unkept_item zero syntax n at = Err TooDeep
 unkept_item (suc levels) syntax n at = part_at (unkept_set (unkept_item levels)) syntax n at

@@ -25,7 +25,7 @@ IsElement syntax levels low e =
     (low ≤ number_of e.tag) × (e.tag.group < 2 ^ 16) × (e.tag.element < 2 ^ 16) × (e.tag.group ≢ delimiter_group)
     × IsContent syntax levels e.vr e.content × MayHave e.tag e.content
 
--- an item where so many levels may still nest, itself included
+-- an item where this number of levels may still nest, itself included
 abbrev pub IsItem : Syntax → ℕ → Item → Type 0
 IsItem syntax zero p = ⊥
 IsItem syntax (suc levels) p = AreElements syntax levels 0 p.set × FitsLong p.length (elements_text p.set)

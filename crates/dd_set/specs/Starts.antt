@@ -3,9 +3,8 @@ use Rattle.std.specs.Prelude.{ℕ, List, [], ◌∷◌, ◌++◌, length, Option
 use Rattle.dd_elem.specs.declared.tag.Tag.{Tag}
 use Rattle.dd_elem.specs.declared.vr.Vr.{Vr}
 use Rattle.dd_encoding.specs.Elements.{Elements, no_elements, element, Content, bytes, items, fragments, Items}
-use Rattle.dd_encoding.specs.Elements.{no_items}
-use Rattle.dd_encoding.specs.Elements.{item}
-use Rattle.dd_set.specs.Find.{same_tag}
+use Rattle.dd_encoding.specs.Elements.{no_items, item}
+use Rattle.dd_grammar.specs.Lists.{same_tag}
 use Rattle.dd_set.specs.Single.{element_text, item_text}
 use Rattle.dd_encoding.specs.Spelling.{items_text, header_text, length_of}
 

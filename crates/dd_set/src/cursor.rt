@@ -1,16 +1,15 @@
 //! Headers and bytes taken from where reading stands.
 
 ghost use Rattle.std.specs.Prelude.{◌≡◌, ◌≢◌, ◌+◌, ◌≤◌, ◌<◌, length, IfOk, OnSome, Err, option_map};
-ghost use Rattle.dd_set.specs.declared.fault.SetFault.TheVariants.{Memory};
-ghost use Rattle.dd_set.specs.Checks.{header_view};
-ghost use Rattle.dd_set.specs.Reading.{long_length_at, front_at, item_front_at, take_at, is_over, less};
+ghost use Rattle.dd_grammar.specs.declared.fault.SetFault.TheVariants.{Memory};
+ghost use Rattle.dd_grammar.specs.Checks.{header_view};
+ghost use Rattle.dd_grammar.specs.Reading.{long_length_at, front_at, item_front_at, take_at, is_over, less};
 ghost use Rattle.dd_set.specs.Places.{at_view, stepped};
 
-use crate::checks::{
-    Header, Opening, Shape, element_opening, ends_here, item_opening, leaves_fewer, less,
-};
-use crate::fault::SetFault;
 use dd_encoding::{HEADER_SIZE, LONG_LENGTH_SIZE, Length, Syntax};
+use dd_grammar::{
+    Header, Opening, SetFault, Shape, element_opening, ends_here, item_opening, leaves_fewer, less,
+};
 
 /// A place in the bytes: what is to come, and how much of it the nearest enclosing length leaves.
 #[derive(Clone, Copy)]
@@ -52,7 +51,7 @@ impl<'a> Cursor<'a> {
     }
 
     /// Takes n bytes.
-    #[tactic(auto, unfolding(crate::specs::Reading::take_at))]
+    #[tactic(auto, unfolding(dd_grammar::specs::Reading::take_at))]
     pub fn take(self, n: u64) -> Result<(&'a [u8], Cursor<'a>), SetFault>
         ensures exact { take_at n (at_view self.entry) ≡ stepped (λ bytes. bytes.now) result }
         ensures whole { IfOk result (λ x. length x.0.now ≡ n) }
@@ -71,7 +70,7 @@ impl<'a> Cursor<'a> {
     }
 
     /// Takes the length of a long header, behind its first eight bytes.
-    #[tactic(auto, unfolding(crate::specs::Reading::long_length_at))]
+    #[tactic(auto, unfolding(dd_grammar::specs::Reading::long_length_at))]
     fn long(self) -> Result<(u32, Cursor<'a>), SetFault>
         ensures exact { long_length_at (at_view self.entry) ≡ stepped (λ n. n) result }
         ensures not_longer { IfOk result (λ x. length x.1.rest.now ≤ length self.entry.rest.now) }
@@ -81,9 +80,21 @@ impl<'a> Cursor<'a> {
         Ok((length, at))
     }
 
+    /// Takes the eight bytes that a header begins with.
+    fn head(self) -> Result<([u8; HEADER_SIZE], Cursor<'a>), SetFault>
+        ensures exact { take_at 8 (at_view self.entry) ≡ stepped (λ head. head) result }
+        ensures shorter { IfOk result (λ x. length x.1.rest.now < length self.entry.rest.now) }
+        ensures memory { result ≢ Err Memory }
+    {
+        let (bytes, at) = self.take(HEADER_SIZE as u64)?;
+        let mut head = [0; HEADER_SIZE];
+        head.copy_from_slice(bytes);
+        Ok((head, at))
+    }
+
     /// Takes the next header of a set of this form, or None at the end of the set. Tags below the
     /// number `low` may not follow.
-    #[tactic(auto, unfolding(crate::specs::Reading::front_at, crate::specs::Reading::head_at))]
+    #[tactic(auto, unfolding(dd_grammar::specs::Reading::front_at, dd_grammar::specs::Reading::head_at))]
     pub fn front(
         self,
         syntax: Syntax,
@@ -99,8 +110,8 @@ impl<'a> Cursor<'a> {
         if self.is_over(form) {
             return Ok((None, self));
         }
-        let (head, at) = self.take(HEADER_SIZE as u64)?;
-        match element_opening(syntax, form, low, head)? {
+        let (head, at) = self.head()?;
+        match element_opening(syntax, form, low, &head)? {
             Opening::End => Ok((None, at)),
             Opening::Whole(header) => Ok((Some(header), at)),
             Opening::Long(tag, vr) => {
@@ -114,7 +125,7 @@ impl<'a> Cursor<'a> {
 
     /// Takes the length of the next item of a sequence of this form, or None at the end of the
     /// sequence.
-    #[tactic(auto, unfolding(crate::specs::Reading::item_front_at, crate::specs::Reading::head_at))]
+    #[tactic(auto, unfolding(dd_grammar::specs::Reading::item_front_at, dd_grammar::specs::Reading::head_at))]
     pub fn item_front(self, form: Length) -> Result<(Option<u32>, Cursor<'a>), SetFault>
         ensures exact { item_front_at form (at_view self.entry) ≡ stepped (λ n. n) result }
         ensures shorter { IfOk result
@@ -125,7 +136,7 @@ impl<'a> Cursor<'a> {
         if self.is_over(form) {
             return Ok((None, self));
         }
-        let (head, at) = self.take(HEADER_SIZE as u64)?;
-        Ok((item_opening(form, head)?, at))
+        let (head, at) = self.head()?;
+        Ok((item_opening(form, &head)?, at))
     }
 }

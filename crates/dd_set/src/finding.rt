@@ -9,7 +9,7 @@ use crate::set::{DataSet, Element, Value};
 use dd_elem::{Tag, clean};
 
 impl<'a> DataSet<'a> {
-    /// The first element with this tag, or None where there is none.
+    /// Finds the first element with this tag. None where no element has it.
     pub fn find(&self, tag: Tag) -> Option<&Element<'a>>
         ensures { option_map element_view (option_copied result) ≡ find_in tag (set_view self.now) }
     {

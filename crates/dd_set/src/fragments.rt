@@ -1,18 +1,17 @@
 //! Fragments of pixel data, read from their bytes.
 
 ghost use Rattle.std.specs.Prelude.{◌≡◌, ◌≢◌, ◌<◌, ◌≤◌, ℕ, List, length, Ok, Err, IfOk, OnSome, option_map};
-ghost use Rattle.dd_set.specs.declared.fault.SetFault.TheVariants.{Memory};
-ghost use Rattle.dd_set.specs.AnswersAs.{AnswersAs};
-ghost use Rattle.dd_set.specs.Faults.{is_memory};
+ghost use Rattle.dd_grammar.specs.declared.fault.SetFault.TheVariants.{Memory};
+ghost use Rattle.dd_grammar.specs.AnswersAs.{AnswersAs};
+ghost use Rattle.dd_grammar.specs.Faults.{is_memory};
 ghost use Rattle.dd_set.specs.Places.{at_view, stepped};
-ghost use Rattle.dd_set.specs.Reading.{At, fragment_at, fragments_here};
+ghost use Rattle.dd_grammar.specs.Reading.{At, fragment_at, fragments_here};
 ghost use Rattle.dd_set.specs.Counts.{Counts};
 ghost use Rattle.dd_set.specs.Views.{pieces};
 
-use crate::checks::fragment_length;
 use crate::cursor::Cursor;
-use crate::fault::SetFault;
 use dd_encoding::Length;
+use dd_grammar::{SetFault, fragment_length};
 use std::alloc::Global;
 
 /// Reads the fragments of a list, to its end. It walks the list twice, so that it takes memory once, and
@@ -55,7 +54,7 @@ fn count_fragments(at: Cursor<'_>) -> Result<usize, SetFault>
 }
 
 /// Reads the next fragment of a list, or None at its end.
-#[tactic(auto, unfolding(crate::specs::Reading::fragment_at))]
+#[tactic(auto, unfolding(dd_grammar::specs::Reading::fragment_at))]
 fn fragment<'a>(at: Cursor<'a>) -> Result<(Option<&'a [u8]>, Cursor<'a>), SetFault>
     ensures exact { fragment_at (at_view at.entry) ≡ stepped (option_map (λ f. f.now)) result }
     ensures shorter { IfOk result

@@ -1,25 +1,24 @@
 //! Reading a data set from its bytes.
 
 ghost use Rattle.std.specs.Prelude.{◌≡◌, ◌<◌, ◌≤◌, length, IfOk, Ok, Err, OnSome, option_map};
-ghost use Rattle.dd_set.specs.declared.fault.SetFault.TheVariants.{Memory};
+ghost use Rattle.dd_grammar.specs.declared.fault.SetFault.TheVariants.{Memory};
 ghost use Rattle.dd_encoding.specs.Elements.{Elements};
-ghost use Rattle.dd_set.specs.AnswersAs.{AnswersAs};
-ghost use Rattle.dd_set.specs.Faults.{is_memory};
+ghost use Rattle.dd_grammar.specs.AnswersAs.{AnswersAs};
+ghost use Rattle.dd_grammar.specs.Faults.{is_memory};
 ghost use Rattle.dd_set.specs.Memory.{unkept_sequence, unkept_set, unkept_item, WantsMemory, WantsContent};
 ghost use Rattle.dd_set.specs.Memory.{WantsElement};
-ghost use Rattle.dd_set.specs.Checks.{header_view};
+ghost use Rattle.dd_grammar.specs.Checks.{header_view};
 ghost use Rattle.dd_set.specs.Places.{at_view};
-ghost use Rattle.dd_set.specs.Reading.{item_reader, sequence_with, set_with, content_at, element_at, item_at, read_all};
+ghost use Rattle.dd_grammar.specs.Reading.{item_reader, sequence_with, set_with, content_at, element_at, item_at};
+ghost use Rattle.dd_grammar.specs.Reading.{read_all};
 ghost use Rattle.dd_encoding.specs.Spelling.{Spells};
 ghost use Rattle.dd_set.specs.Views.{set_view, element_view, value_view, item_view, items_view};
 
-use crate::checks::{Header, Reach, Sort, reach_of, sort_of};
 use crate::cursor::Cursor;
-use crate::fault::SetFault;
 use crate::fragments::fragments;
-use crate::headers::{MAX_LEVELS, low_behind};
 use crate::set::{DataSet, Element, Item, Value};
 use dd_encoding::{Length, Syntax};
+use dd_grammar::{Header, MAX_LEVELS, Reach, SetFault, Sort, low_behind, reach_of, sort_of};
 use std::alloc::Global;
 
 /// The value behind a header.
@@ -175,7 +174,7 @@ fn sequence<'a>(
     }
 }
 
-/// An item behind its tag, with the length that its header gives, where so many levels may still
+/// An item behind its tag, with the length that its header gives, where `levels` levels may still
 /// nest.
 #[cycle(parser)]
 fn part<'a>(
@@ -210,7 +209,7 @@ fn part<'a>(
 }
 
 /// The whole of the bytes as one set.
-#[tactic(auto, unfolding(crate::specs::Reading::read_all))]
+#[tactic(auto, unfolding(dd_grammar::specs::Reading::read_all))]
 fn whole<'a>(alloc: Global, syntax: Syntax, bytes: &'a [u8]) -> Result<DataSet<'a>, SetFault>
     ensures exact { AnswersAs is_memory set_view result (read_all syntax bytes.now) }
     ensures memory { result ≡ Err Memory → WantsMemory syntax bytes.now }

@@ -9,13 +9,13 @@ ghost use Rattle.dd_encoding.specs.Spelling.{FitsLong, closed, MayHave, AreFragm
 ghost use Rattle.dd_encoding.specs.Spelling.{undefined_length};
 ghost use Rattle.dd_set.specs.Views.{set_view, element_view, value_view, items_view, item_view, pieces};
 
-use crate::headers::{
-    MAX_LEVELS, PLAIN_SIZE, UNDEFINED_LENGTH, encapsulates, holds_bytes, is_pixel_data,
-    item_syntax, length_limit, low_behind, shape_size,
-};
 use crate::set::{DataSet, Element, Item, Value};
+use crate::written_headers::{PLAIN_SIZE, holds_bytes, length_limit, shape_size};
 use dd_elem::{Tag, Vr};
 use dd_encoding::{DELIMITER_GROUP, Length, Syntax, TAG_SIZE};
+use dd_grammar::{
+    MAX_LEVELS, UNDEFINED_LENGTH, encapsulates, is_pixel_data, item_syntax, low_behind,
+};
 
 impl DataSet<'_> {
     ghost use Rattle.dd_encoding.specs.Spelling.{Spells};
@@ -32,7 +32,7 @@ impl DataSet<'_> {
     }
 }
 
-/// The size of a data set, below which so many levels may nest.
+/// The size of a data set, below which `levels` levels may nest.
 #[cycle(sizes)]
 pub fn set_size(set: &DataSet<'_>, syntax: Syntax, levels: u32) -> Option<u64>
     ensures { let text = elements_text (set_view set.now)
@@ -147,7 +147,7 @@ fn bytes_size(value: &[u8], vr: Option<Vr>, syntax: Syntax) -> Option<u64>
     Some(shape_size(vr) + size)
 }
 
-/// The size of the items of a sequence, where so many levels may nest, theirs included.
+/// The size of the items of a sequence, where `levels` levels may nest, theirs included.
 #[cycle(sizes)]
 pub fn items_size(items: &[Item<'_>], syntax: Syntax, levels: u32) -> Option<u64>
     ensures { let text = items_text (items_view items.now)
@@ -163,7 +163,7 @@ pub fn items_size(items: &[Item<'_>], syntax: Syntax, levels: u32) -> Option<u64
     Some(total)
 }
 
-/// The size of an item, where so many levels may nest, itself included.
+/// The size of an item, where `levels` levels may nest, itself included.
 #[cycle(sizes)]
 pub fn item_size(item: &Item<'_>, syntax: Syntax, levels: u32) -> Option<u64>
     ensures { let text = item_text (item_view item.now)

@@ -4,9 +4,9 @@ ghost use Rattle.std.specs.Prelude.{◌≡◌, ◌<◌, ◌≤◌, ◌^◌, ◌+
 ghost use Rattle.dd_stream.specs.Bytes.{AreBytes};
 ghost use Rattle.dd_encoding.specs.Elements.{Elements};
 ghost use Rattle.dd_set.specs.Memory.{WantsMemory};
-ghost use Rattle.dd_set.specs.Reading.{first_fault};
+ghost use Rattle.dd_grammar.specs.Reading.{first_fault};
 ghost use Rattle.dd_encoding.specs.Spelling.{Spells};
-ghost use Rattle.dd_set.specs.declared.fault.SetFault.TheVariants.{Truncated};
+ghost use Rattle.dd_grammar.specs.declared.fault.SetFault.TheVariants.{Truncated};
 ghost use Rattle.dd_encoding.specs.declared.syntax.Syntax.{Syntax};
 
 /// Bytes pass every check exactly where they spell a set.

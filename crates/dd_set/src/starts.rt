@@ -1,17 +1,18 @@
 //! Where the items of a sequence start.
 
-ghost use Rattle.std.specs.Prelude.{◌≡◌, ℕ, List, [], ◌+◌, ◌<◌, ◌^◌, length, Option, Some, None, option_map};
-ghost use Rattle.std.specs.Prelude.{Ok, IfOk, OnErr, IsSomeAnd};
+ghost use Rattle.std.specs.Prelude.{◌≡◌, ℕ, List, [], ◌+◌, ◌<◌, ◌^◌, length, Option, Some, None, option_map, Ok, IfOk};
+ghost use Rattle.std.specs.Prelude.{OnErr, IsSomeAnd};
 ghost use Rattle.dd_encoding.specs.Spelling.{elements_text, items_text, max_levels, AreItems, IsContent};
 ghost use Rattle.dd_set.specs.Single.{element_text};
 ghost use Rattle.dd_set.specs.Starts.{places_in, content_places, item_places};
 ghost use Rattle.dd_set.specs.Views.{element_view, value_view, items_view};
 
-use crate::headers::{MAX_LEVELS, item_syntax, shape_size};
 use crate::set::{DataSet, Element, Item, Value};
 use crate::sizes::{element_size, item_size};
+use crate::written_headers::shape_size;
 use dd_elem::{Memory, Tag};
 use dd_encoding::{Syntax, TAG_SIZE};
+use dd_grammar::{MAX_LEVELS, item_syntax};
 use std::alloc::Global;
 
 impl DataSet<'_> {

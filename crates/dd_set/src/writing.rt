@@ -1,23 +1,21 @@
 //! Data sets sent to a writer.
 
-ghost use Rattle.std.specs.Prelude.{◌≡◌, ◌+◌, ◌++◌, ◌<◌, ◌^◌, length, unwrap_or, Some, None, Err, IfSome};
-ghost use Rattle.std.specs.Prelude.{true};
+ghost use Rattle.std.specs.Prelude.{◌≡◌, ◌+◌, ◌++◌, ◌<◌, ◌^◌, length, unwrap_or, Some, None, Err, IfSome, true};
 ghost use Rattle.dd_elem.specs.Vr.{is_long_of};
 ghost use Rattle.dd_encoding.specs.Elements.{bytes, items, fragments as fragment_list};
 ghost use Rattle.dd_stream.specs.Sends.{SendsTo};
 ghost use Rattle.dd_set.specs.Single.{element_text, item_text, mark_text, IsItem};
 ghost use Rattle.dd_encoding.specs.Spelling.{Spells, elements_text, items_text, header_text, tag_text, content_text};
-ghost use Rattle.dd_encoding.specs.Spelling.{length_of, length_limit, AreElements, IsContent};
-ghost use Rattle.dd_encoding.specs.Spelling.{AreItems, FitsLong, AreFragments, fragment_text, fragments_text};
-ghost use Rattle.dd_encoding.specs.Spelling.{undefined_length};
+ghost use Rattle.dd_encoding.specs.Spelling.{length_of, length_limit, AreElements, IsContent, AreItems, FitsLong};
+ghost use Rattle.dd_encoding.specs.Spelling.{AreFragments, fragment_text, fragments_text, undefined_length};
 ghost use Rattle.dd_set.specs.Views.{set_view, element_view, value_view, items_view, item_view, pieces};
 
-use crate::headers::{MAX_LEVELS, UNDEFINED_LENGTH, item_syntax};
 use crate::sending::send_front;
 use crate::set::{DataSet, Element, Item, Value};
 use crate::sizes::{items_size, set_size};
 use dd_elem::{Tag, Vr, Write};
 use dd_encoding::{ITEM_END, Length, SEQUENCE_END, Syntax, item_header, plain_header};
+use dd_grammar::{MAX_LEVELS, UNDEFINED_LENGTH, item_syntax};
 use dd_stream::{WriteFault, send};
 
 /// Sends the bytes that spell the set, and answers how many they are. 13 NotWritable exactly where
@@ -40,7 +38,7 @@ pub fn write_set<W: Write>(
     }
 }
 
-/// Sends a data set, below which so many levels may nest.
+/// Sends a data set, below which `levels` levels may nest.
 #[cycle(writing)]
 fn send_set<W: Write>(
     set: &DataSet<'_>,
@@ -193,7 +191,7 @@ fn header_length(size: Option<u64>) -> u32
     }
 }
 
-/// Sends the items of a sequence, where so many levels may nest, theirs included.
+/// Sends the items of a sequence, where `levels` levels may nest, theirs included.
 #[cycle(writing)]
 fn send_items<W: Write>(
     items: &[Item<'_>],
@@ -213,7 +211,7 @@ fn send_items<W: Write>(
     Ok(sent)
 }
 
-/// Sends an item, where so many levels may nest, itself included.
+/// Sends an item, where `levels` levels may nest, itself included.
 #[cycle(writing)]
 fn send_item<W: Write>(
     item: &Item<'_>,

@@ -29,7 +29,7 @@ pub record MayCome (p : Position) (rest : List ℕ) : Type 0 where
   pub parts : rest ≡ p.held ++ more
   pub shut : IsSome p.end → more ≡ []
 
--- no more than so many may come
+-- at most this number of bytes may come
 abbrev pub may_read : Option End → ℕ → ℕ
 may_read None left = left + 1
 may_read (Some end) left = 0

@@ -14,7 +14,7 @@ pub trait Feed {
     // These may be all the bytes that are still to come.
     ghost tells: { Self → List ℕ → Type 0 };
 
-    // No more bytes than so many are still to come.
+    // At most this number of bytes is still to come.
     ghost most: { Self → ℕ };
 
     /// Takes at most `room.len()` bytes to the front of `room`, and answers how many. 0 says that the

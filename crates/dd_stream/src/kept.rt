@@ -73,7 +73,7 @@ impl Kept {
         n
     }
 
-    /// Has the bytes of one more read, of at most so many, in place of those that were there. Answers
+    /// Has the bytes of one more read, of at most `most`, in place of the ones before. Answers
     /// how many, or None where the reader failed.
     pub(crate) fn refill<R: Read>(&mut self, reader: &mut R, most: usize) -> Option<usize>
         requires some { 0 < most }

@@ -1,4 +1,4 @@
-//! Why a run is refused, and how that is told.
+//! Why a run is refused, and the line that says so.
 ghost use Rattle.std.specs.Prelude.{◌≡◌, ◌↔◌, ◌⊎◌, length};
 ghost use Rattle.dicomdir.specs.declared.refusal.ProgramFault.TheVariants as faults;
 ghost use Rattle.dicomdir.specs.declared.refusal.Subject.TheVariants as subjects;

@@ -3,7 +3,7 @@ use Rattle.std.proofs.lemmas.Result.{err_from_is_err_and}
 use Rattle.dd_set.specs.Views.{set_view}
 use Rattle.dd_part10.specs.declared.fault.FileFault.TheVariants as file_faults
 use Rattle.dd_part10.specs.File.{IsFile}
-use Rattle.dd_set.specs.declared.fault.SetFault.TheVariants as set_faults
+use Rattle.dd_grammar.specs.declared.fault.SetFault.TheVariants as set_faults
 use Rattle.dd_dir.specs.ReadAnswers.{TellsContents, contents_view}
 use Rattle.dd_dir.specs.Reading.{contents_in, is_directory_meta}
 use Rattle.dd_dir.proofs.Answering.{is_directory, is_explicit, all_bytes, told_refused, told_no_file, told_wanted}

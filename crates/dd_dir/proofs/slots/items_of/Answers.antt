@@ -2,7 +2,7 @@ use Rattle.std.proofs.Common.{◌≡◌, ◌∷◌, None, true, List, ap, arith,
 use Rattle.std.specs.Vec.Iter.{into_iter_items}
 use Rattle.std.proofs.lemmas.Grind.{common_steps}
 use Rattle.dd_set.specs.declared.set.Element.{Element}
-use Rattle.dd_set.specs.Find.{same_tag}
+use Rattle.dd_grammar.specs.Lists.{same_tag}
 use Rattle.dd_set.specs.Views.{set_view, elements_view, value_view}
 use Rattle.dd_dir.specs.Saying.{item_sets_of}
 use Rattle.dd_dir.proofs.Sequences.{items_in, items_in-is, first_holds}

@@ -2,7 +2,7 @@ use Rattle.std.proofs.Common.{rules}
 use borrow.Author.Tests.{tests}
 use Rattle.std.proofs.lemmas.Iterator.{YieldsList-from_slice}
 use Rattle.std.proofs.lemmas.Iterator.Search.{find_from_yields_List}
-use Rattle.dd_set.specs.Find.{same_tag}
+use Rattle.dd_grammar.specs.Lists.{same_tag}
 use Rattle.dd_keys.proofs.summary.find_in.Goals as goal
 
 pub returns : goal.returns

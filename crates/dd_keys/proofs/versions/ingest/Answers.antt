@@ -2,7 +2,7 @@
 use Rattle.std.proofs.Common.{subst}
 use Rattle.std.proofs.lemmas.Result.{err_from_is_err_and}
 use Rattle.dd_elem.specs.declared.tag.Tag.{Tag}
-use Rattle.dd_set.specs.Scan.{Summary}
+use Rattle.dd_scan.specs.Scan.{Summary}
 use Rattle.dd_encoding.specs.declared.meta.Meta.{Meta}
 use Rattle.dd_keys.specs.Summaries.{IsJudged, summary_fault, summary_in, summary_parts}
 use Rattle.dd_keys.specs.Table.{wanted_tags}

@@ -1,6 +1,6 @@
 use Rattle.std.proofs.Common.{◌≡◌, Err, ap}
 use Rattle.std.proofs.lemmas.Result.{err_from_is_err_and}
-use Rattle.dd_set.specs.declared.fault.SetFault.TheVariants.{Memory}
+use Rattle.dd_grammar.specs.declared.fault.SetFault.TheVariants.{Memory}
 use Rattle.dd_part10.specs.declared.fault.FileFault.TheVariants as faults
 use Rattle.dd_part10.proofs.Wanting.{fault_is, group_wants, set_wants}
 use Rattle.dd_part10.proofs.reading.checked_file.Goals as goal

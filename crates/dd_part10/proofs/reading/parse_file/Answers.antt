@@ -1,5 +1,5 @@
 use Rattle.std.proofs.Common.{arith, subst}
-use Rattle.dd_set.specs.AnswersAs.{AnswersAs}
+use Rattle.dd_grammar.specs.AnswersAs.{AnswersAs}
 use Rattle.dd_part10.specs.Faults.{is_memory}
 use Rattle.dd_part10.specs.Views.{file_view}
 use Rattle.dd_part10.proofs.Only.{file_only}

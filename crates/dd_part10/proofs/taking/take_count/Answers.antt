@@ -1,5 +1,5 @@
 use Rattle.std.proofs.Common.{◌≡◌, length, take, arith}
-use Rattle.dd_set.proofs.Feeding.{front_length}
+use Rattle.dd_scan.proofs.Feeding.{front_length}
 use Rattle.dd_part10.proofs.Taken.{count_taken}
 use Rattle.dd_part10.proofs.taking.take_count.Goals as goal
 

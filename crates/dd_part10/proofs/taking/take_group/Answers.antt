@@ -1,6 +1,6 @@
 use Rattle.std.proofs.Common.{◌≡◌, ◌++◌, length, take, arith, subst}
 use Rattle.std.proofs.lemmas.List.{take_all}
-use Rattle.dd_set.proofs.Feeding.{front_length, over_length}
+use Rattle.dd_scan.proofs.Feeding.{front_length, over_length}
 use Rattle.dd_part10.proofs.Taken.{split_short, meta_taken}
 use Rattle.dd_part10.proofs.taking.take_group.Goals as goal
 

@@ -1,6 +1,6 @@
 use Rattle.std.proofs.Common.{◌≡◌, length, take, arith}
 use Rattle.std.proofs.lemmas.Result.{err_from_is_err_and}
-use Rattle.dd_set.proofs.Feeding.{front_length}
+use Rattle.dd_scan.proofs.Feeding.{front_length}
 use Rattle.dd_part10.proofs.Taken.{prefix_taken, prefix_fails}
 use Rattle.dd_part10.proofs.taking.take_prefix.Goals as goal
 

@@ -1,8 +1,8 @@
 -- Each of them is the one of the file.
 use Rattle.std.proofs.Common.{◌≡◌, ◌∙◌, ℕ, List, Option, ap, map, refl}
 use Rattle.std.specs.Prelude.{is_some}
-use Rattle.dd_set.specs.declared.found.Found.{Found}
-use Rattle.dd_set.specs.Scan.{found_hit, hits_of}
+use Rattle.dd_scan.specs.declared.found.Found.{Found}
+use Rattle.dd_scan.specs.Scan.{found_hit, hits_of}
 use Rattle.dd_dir.specs.ForestViews.{tree_view}
 use Rattle.dd_dir.specs.Saying.{digest_in}
 use Rattle.dd_report.specs.Agreements.{compared_tags}

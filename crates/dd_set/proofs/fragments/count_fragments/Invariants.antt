@@ -1,7 +1,7 @@
 use Rattle.std.proofs.Common.{◌≡◌, ℕ, ◌+◌, ◌<◌, ◌≤◌, List, length}
 use Rattle.dd_set.specs.Places.{at_view}
-use Rattle.dd_set.specs.Reading.{fragments_at, fragments_here}
-use Rattle.dd_set.proofs.FragmentLaws.{with_fragments}
+use Rattle.dd_grammar.specs.Reading.{fragments_at, fragments_here}
+use Rattle.dd_grammar.proofs.FragmentLaws.{with_fragments}
 use Rattle.dd_set.proofs.fragments.count_fragments.Given as goal
 
 -- the fragments read so far are `l.count` in number, and reading gives the others from here

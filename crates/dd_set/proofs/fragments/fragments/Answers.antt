@@ -2,10 +2,10 @@ use Rattle.std.proofs.Common.{◌≡◌, ◌-◌, ◌<◌, length, [], ◌∷◌
 use Rattle.std.proofs.lemmas.Result.{err_from_is_err_and}
 use Rattle.std.proofs.lemmas.List.{map_push}
 use Rattle.dd_set.specs.Places.{at_view}
-use Rattle.dd_set.specs.Reading.{fragment_at, fragments_here}
+use Rattle.dd_grammar.specs.Reading.{fragment_at, fragments_here}
 use Rattle.dd_set.specs.Views.{pieces}
-use Rattle.dd_set.proofs.Feeding.{fails_is}
-use Rattle.dd_set.proofs.FragmentLaws.{fragments_more, fragments_done, fragments_fail}
+use Rattle.dd_grammar.proofs.Failing.{fails_is}
+use Rattle.dd_grammar.proofs.FragmentLaws.{fragments_more, fragments_done, fragments_fail}
 use Rattle.dd_set.proofs.fragments.fragments.Goals as goal
 
 pub returns-in_err-found-clause-exact : goal.returns-in_err-found-clause-exact

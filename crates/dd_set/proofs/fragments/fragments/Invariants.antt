@@ -1,8 +1,8 @@
 use Rattle.std.proofs.Common.{◌≡◌, ℕ, ◌<◌, ◌≤◌, length}
 use Rattle.dd_set.specs.Places.{at_view}
-use Rattle.dd_set.specs.Reading.{fragments_at, fragments_here}
+use Rattle.dd_grammar.specs.Reading.{fragments_at, fragments_here}
 use Rattle.dd_set.specs.Views.{pieces}
-use Rattle.dd_set.proofs.FragmentLaws.{with_fragments}
+use Rattle.dd_grammar.proofs.FragmentLaws.{with_fragments}
 use Rattle.dd_set.proofs.fragments.fragments.Given as goal
 
 -- the fragments so far and those that reading gives from here are those that it gives from the start

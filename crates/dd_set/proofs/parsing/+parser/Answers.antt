@@ -1,6 +1,6 @@
 -- What the loops read, and the item of defined length; the search finds the rest.
-use Rattle.std.proofs.Common.{rules, ◌≡◌, ◌+◌, ◌-◌, ◌<◌, length, suc, [], ◌∷◌, ◌++◌, map, ap, sym}
-use Rattle.std.proofs.Common.{subst, ◌∙◌, arith, inl, inr, Some, None, Ok, Err}
+use Rattle.std.proofs.Common.{rules, ◌≡◌, ◌+◌, ◌-◌, ◌<◌, length, suc, [], ◌∷◌, ◌++◌, map, ap, sym, subst, ◌∙◌, arith}
+use Rattle.std.proofs.Common.{inl, inr, Some, None, Ok, Err}
 use Rattle.std.proofs.lemmas.Result.{err_from_is_err_and}
 use Rattle.std.proofs.lemmas.List.{map_push}
 use Rattle.dd_elem.specs.Tag.{number_of}
@@ -8,23 +8,23 @@ use Rattle.dd_set.specs.declared.set.DataSet.{the_lemmas}
 use Rattle.dd_set.specs.declared.set.Value.TheViews.{roll-Item, roll-Element, roll-DataSet}
 use Rattle.dd_encoding.specs.declared.syntax.Length.TheVariants.{Defined}
 use Rattle.dd_encoding.specs.Elements.{elements_of, fragments}
-use Rattle.dd_set.specs.AnswersAs.{FailsAs}
-use Rattle.dd_set.specs.Faults.{is_memory}
-use Rattle.dd_set.specs.Checks.{header_view}
+use Rattle.dd_grammar.specs.AnswersAs.{FailsAs}
+use Rattle.dd_grammar.specs.Faults.{is_memory}
+use Rattle.dd_grammar.specs.Checks.{header_view}
 use Rattle.dd_set.specs.Places.{at_view}
-use Rattle.dd_set.specs.Reading.{item_reader, sequence_with, set_with, item_at, element_at, less, At}
+use Rattle.dd_grammar.specs.Reading.{item_reader, sequence_with, set_with, item_at, element_at, less, At}
 use Rattle.dd_set.specs.Memory.{unkept_sequence, unkept_set, unkept_item}
-use Rattle.dd_set.specs.declared.fault.SetFault.TheVariants.{Memory}
+use Rattle.dd_grammar.specs.declared.fault.SetFault.TheVariants.{Memory}
 use Rattle.dd_set.specs.Views.{set_view, element_view, value_view, item_view}
-use Rattle.dd_set.proofs.Feeding.{fails_is}
-use Rattle.dd_set.proofs.Loops.{fails_along, items_more, items_done, items_fail, elements_more, elements_done}
-use Rattle.dd_set.proofs.Loops.{elements_fail}
-use Rattle.dd_set.proofs.ReadingOn.{element_none, element_found, front_refused, content_stops}
-use Rattle.dd_set.proofs.ReadingOn.{item_none, item_found, item_front_refused, part_refused, part_stops, within_found}
-use Rattle.dd_set.proofs.ReadingOn.{within_fails, deeper_is}
+use Rattle.dd_grammar.proofs.Failing.{fails_is}
+use Rattle.dd_grammar.proofs.Loops.{fails_along, items_more, items_done, items_fail, elements_more, elements_done}
+use Rattle.dd_grammar.proofs.Loops.{elements_fail}
+use Rattle.dd_grammar.proofs.ReadingOn.{element_none, element_found, front_refused, content_stops, item_none}
+use Rattle.dd_grammar.proofs.ReadingOn.{item_found, item_front_refused, part_refused, part_stops, within_found}
+use Rattle.dd_grammar.proofs.ReadingOn.{within_fails, deeper_is}
 use Rattle.dd_set.proofs.Unkept.{fault_is, sequence_fails, sequence_wants, set_stops, set_wants, deeper_unkept}
 use Rattle.dd_set.proofs.Unkept.{value_wants}
-use Rattle.dd_set.proofs.Steps.{bind_made}
+use Rattle.dd_grammar.proofs.Steps.{bind_made}
 use Rattle.dd_set.proofs.parsing.+parser.Goals as goal
 
 pub sequence-returns-in_err-found-clause-exact : goal.sequence-returns-in_err-found-clause-exact

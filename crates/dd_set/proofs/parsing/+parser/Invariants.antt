@@ -1,11 +1,11 @@
 -- Each call is to a function further down the list, or into an item, where one level less is left.
 use Rattle.std.proofs.Common.{◌≡◌, ℕ, ◌+◌, ◌*◌, ◌<◌, ◌≤◌, ◌⊎◌, Err, length, map}
-use Rattle.dd_set.specs.Reading.{item_reader, sequence_with, set_with, items_at, elements_at}
+use Rattle.dd_grammar.specs.Reading.{item_reader, sequence_with, set_with, items_at, elements_at}
 use Rattle.dd_set.specs.Memory.{unkept_sequence, unkept_set, unkept_item}
-use Rattle.dd_set.specs.declared.fault.SetFault.TheVariants.{Memory}
+use Rattle.dd_grammar.specs.declared.fault.SetFault.TheVariants.{Memory}
 use Rattle.dd_set.specs.Places.{at_view}
 use Rattle.dd_set.specs.Views.{item_view, element_view}
-use Rattle.dd_set.proofs.Loops.{with_items, with_elements}
+use Rattle.dd_grammar.proofs.Loops.{with_items, with_elements}
 use Rattle.dd_set.proofs.parsing.+parser.Given as goal
 
 abbrev pub decreases-part : goal.decreases-part

@@ -1,6 +1,6 @@
 use Rattle.std.proofs.Common.{arith, rules}
 use Rattle.dd_set.specs.Views.{set_view}
-use Rattle.dd_set.proofs.Laws.{is_found, is_only}
+use Rattle.dd_grammar.proofs.Laws.{is_found, is_only}
 use Rattle.dd_set.proofs.parsing.parse.Goals as goal
 
 pub returns-clause-found : goal.returns-clause-found

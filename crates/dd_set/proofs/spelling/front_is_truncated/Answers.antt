@@ -1,4 +1,4 @@
-use Rattle.dd_set.proofs.Laws.{front_too_short}
+use Rattle.dd_grammar.proofs.Laws.{front_too_short}
 use Rattle.dd_set.proofs.spelling.front_is_truncated.Goals as goal
 
 pub returns : goal.returns

@@ -1,4 +1,4 @@
-use Rattle.dd_set.proofs.Laws.{no_fault}
+use Rattle.dd_grammar.proofs.Laws.{no_fault}
 use Rattle.dd_set.proofs.spelling.no_fault_is_a_set.Goals as goal
 
 pub returns : goal.returns

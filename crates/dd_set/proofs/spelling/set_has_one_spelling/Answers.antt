@@ -1,4 +1,4 @@
-use Rattle.dd_set.proofs.Laws.{one_spelling}
+use Rattle.dd_grammar.proofs.Laws.{one_spelling}
 use Rattle.dd_set.proofs.spelling.set_has_one_spelling.Goals as goal
 
 pub returns : goal.returns

@@ -5,7 +5,7 @@ use Rattle.std.specs.Prelude.{find}
 use Rattle.std.proofs.lemmas.Iterator.{YieldsList-from_slice}
 use Rattle.std.proofs.lemmas.Iterator.Search.{find_from_yields_List}
 use Rattle.dd_set.specs.declared.set.Value.TheViews.{out-DataSet}
-use Rattle.dd_set.specs.Find.{same_tag}
+use Rattle.dd_grammar.specs.Lists.{same_tag}
 use Rattle.dd_set.proofs.FoundElements.{find_in-elements_view}
 use Rattle.dd_set.proofs.Seen.{set_view-is}
 use Rattle.dd_set.proofs.set.DataSet.find.Goals as goal

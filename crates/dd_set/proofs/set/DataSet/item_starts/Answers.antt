@@ -3,7 +3,7 @@ use Rattle.std.proofs.Common.{◌∙◌, arith, true, false}
 use Rattle.std.proofs.lemmas.Result.{IfOk-weaker, on_err_weaker}
 use Rattle.std.proofs.Math.ListN.{length-replicate}
 use Rattle.dd_encoding.specs.Elements.{Elements}
-use Rattle.dd_set.specs.Find.{same_tag}
+use Rattle.dd_grammar.specs.Lists.{same_tag}
 use Rattle.dd_set.specs.Starts.{places_in}
 use Rattle.dd_set.specs.Views.{set_view, elements_view}
 use Rattle.dd_set.proofs.Places.{seek_more, seek_found, seek_none}

@@ -1,0 +1,17 @@
+pub mod Again
+pub mod Before
+pub mod Cut
+pub mod Failing
+pub mod FragmentLaws
+pub mod FrontItems
+pub mod Fronts
+pub mod HeaderLaws
+pub mod Laws
+pub mod Lists
+pub mod Loops
+pub mod ReadingOn
+pub mod Sound
+pub mod SoundItems
+pub mod Steps
+pub mod Taken
+pub mod Widths

@@ -1,0 +1,5 @@
+pub mod AnswersAs
+pub mod Checks
+pub mod Faults
+pub mod Lists
+pub mod Reading

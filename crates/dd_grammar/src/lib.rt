@@ -1,0 +1,21 @@
+//! The grammar of data sets: the definition of reading their bytes from left to right, check by check,
+//! and the checks themselves, over what a header says and over numbers alone (PS3.5 sections 6 and 7,
+//! annex A). Nothing is read here: `dd_set` reads from memory, and `dd_scan` from a stream.
+//!
+//! Its one promise: each check answers what the definition has at its place, so those who read share
+//! the checks, their order and their refusals.
+#![tactic(auto)]
+
+mod checks;
+mod fault;
+mod header_bytes;
+mod syntax_rules;
+
+pub use checks::{
+    Header, Opening, Reach, Shape, Sort, element_opening, ends_here, fragment_length, item_opening,
+    leaves_fewer, less, reach_of, sort_of,
+};
+pub use fault::SetFault;
+pub use syntax_rules::{
+    MAX_LEVELS, UNDEFINED_LENGTH, encapsulates, is_pixel_data, item_syntax, low_behind, names_vr,
+};

@@ -1,0 +1,139 @@
+//! Values of a feed without their padding.
+
+ghost use Rattle.std.specs.Prelude.{◌≡◌, ◌≤◌, ◌<◌, ◌+◌, ◌^◌, ◌++◌, ℕ, List, length, IfSome, IsNone};
+ghost use Rattle.dd_elem.specs.Clean.{clean_of};
+ghost use Rattle.dd_encoding.specs.Elements.{bytes as value};
+ghost use Rattle.dd_stream.specs.Feeds.{IsOver, Scans};
+ghost use Rattle.dd_grammar.specs.Reading.{take_at};
+ghost use Rattle.dd_scan.specs.Scan.{found_summary, summary_of};
+ghost use Rattle.dd_scan.specs.Skips.{GivesSummary};
+
+use crate::found::FoundValue;
+use crate::taking::take;
+use dd_elem::{Key, clean};
+use dd_grammar::{SetFault, leaves_fewer, less};
+use dd_stream::{Feed, fill};
+use std::alloc::Global;
+
+/// How many bytes of a value are kept: as many as a key has at most.
+const KEPT: usize = Key::MAX_LEN;
+
+/// How many bytes a short value has at most: room for as many is made for each value, and for most
+/// values this is enough.
+const SHORT: usize = 64;
+
+/// The most bytes of a value that are looked at together behind those.
+const PIECE: usize = 256;
+
+/// Takes a value of n bytes, and keeps its front without its padding.
+pub fn take_cleaned<F: Feed>(
+    alloc: Global,
+    feed: &mut F,
+    n: u32,
+    left: Option<u64>,
+) -> Result<(FoundValue, Option<u64>), SetFault>
+    ensures found { Scans F.moves F.tells feed.old feed.new
+        (λ bytes rest. GivesSummary found_summary (λ v. summary_of (value v)) result
+        (take_at n (record { left = left; bytes = bytes })) rest) }
+    ensures fewer { F.most feed.new ≤ F.most feed.old }
+{
+    let length = n as usize;
+    if length <= SHORT {
+        let mut room = [0; SHORT];
+        take_short(alloc, feed, &mut room[..length], left)
+    } else {
+        take_long(alloc, feed, n, left)
+    }
+}
+
+/// Takes a value of as many bytes as there is room for, and keeps it without its padding.
+fn take_short<F: Feed>(
+    alloc: Global,
+    feed: &mut F,
+    room: &mut [u8],
+    left: Option<u64>,
+) -> Result<(FoundValue, Option<u64>), SetFault>
+    requires { length room.old ≤ SHORT }
+    ensures found { Scans F.moves F.tells feed.old feed.new
+        (λ bytes rest. GivesSummary found_summary (λ v. summary_of (value v)) result
+        (take_at (length room.old) (record { left = left; bytes = bytes })) rest) }
+    ensures fewer { F.most feed.new ≤ F.most feed.old }
+{
+    let left = take(feed, room, left)?;
+    let cleaned = clean(room);
+    let length = cleaned.len() as u64;
+    let front = cleaned.to_vec(alloc)?;
+    Ok((FoundValue::Bytes { front, length }, left))
+}
+
+/// Takes a value of n bytes, and keeps its front without its padding.
+fn take_long<F: Feed>(
+    alloc: Global,
+    feed: &mut F,
+    n: u32,
+    left: Option<u64>,
+) -> Result<(FoundValue, Option<u64>), SetFault>
+    ensures found { Scans F.moves F.tells feed.old feed.new
+        (λ bytes rest. GivesSummary found_summary (λ v. summary_of (value v)) result
+        (take_at n (record { left = left; bytes = bytes })) rest) }
+    ensures fewer { F.most feed.new ≤ F.most feed.old }
+{
+    let n = u64::from(n);
+    if leaves_fewer(left, n) {
+        return Err(SetFault::Overrun);
+    }
+    let mut room = [0; KEPT];
+    let first = n.min(KEPT as u64) as usize;
+    let front = &mut room[..first];
+    if fill(feed, front) < first {
+        return Err(SetFault::Truncated);
+    }
+    let passed = first as u64;
+    let cleaned = clean(front).len() as u64;
+    let Some(length) = cleaned_length(feed, cleaned, passed, n) else {
+        return Err(SetFault::Truncated);
+    };
+    let kept = length.min(KEPT as u64) as usize;
+    let front = front[..kept].to_vec(alloc)?;
+    Ok((FoundValue::Bytes { front, length }, less(left, n)))
+}
+
+/// Skips the bytes of a value behind the first `passed` of n, and answers how many of all stay without
+/// the padding, where `cleaned` of the first do. None where the feed is over before.
+fn cleaned_length<F: Feed>(feed: &mut F, mut cleaned: u64, mut passed: u64, n: u64) -> Option<u64>
+    requires { passed ≤ n }
+    ensures moved { (taken : List ℕ) × F.moves feed.old feed.new taken × (passed + length taken ≤ n)
+        × (IsNone result → passed + length taken < n)
+        × IfSome result (λ k. (passed + length taken ≡ n)
+        × ((front : List ℕ) → length front ≡ passed → cleaned ≡ length (clean_of front)
+        → k ≡ length (clean_of (front ++ taken)))) }
+    ensures over { IsNone result → IsOver F.tells feed.new }
+    ensures fewer { F.most feed.new ≤ F.most feed.old }
+{
+    let mut piece = [0; PIECE];
+    while passed < n {
+        let wanted = (n - passed).min(PIECE as u64) as usize;
+        let room = &mut piece[..wanted];
+        let came = feed.give(room);
+        if came == 0 {
+            return None;
+        }
+        cleaned = cleaned_with(cleaned, passed, &room[..came]);
+        passed += came as u64;
+    }
+    Some(cleaned)
+}
+
+/// How many bytes stay without the padding of the first `passed`, of which `cleaned` stay, and this
+/// piece behind them.
+fn cleaned_with(cleaned: u64, passed: u64, piece: &[u8]) -> u64
+    requires { passed + length piece.now < 2 ^ 64 }
+    ensures { (front : List ℕ) → length front ≡ passed → cleaned ≡ length (clean_of front)
+        → result ≡ length (clean_of (front ++ piece.now)) }
+{
+    let kept = clean(piece).len();
+    if kept == 0 {
+        return cleaned;
+    }
+    passed + kept as u64
+}

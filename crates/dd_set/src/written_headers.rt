@@ -1,0 +1,43 @@
+//! What stands before a value that is written, and which values may stand there.
+
+ghost use Rattle.std.specs.Prelude.{◌≡◌, ◌≤◌, ◌↔◌, ℕ, length, IsTrue, Some, None, true, false};
+ghost use Rattle.dd_encoding.specs.Spelling.{length_limit, HoldsBytes, shape_text};
+
+use dd_elem::Vr;
+use dd_encoding::{HEADER_SIZE, LONG_HEADER_SIZE, Syntax, TAG_SIZE};
+use dd_grammar::{UNDEFINED_LENGTH, names_vr};
+
+/// How many bytes a plain header has: that of an item or a delimiter.
+pub const PLAIN_SIZE: u64 = HEADER_SIZE as u64;
+
+/// Whether bytes may stand under this value representation.
+pub fn holds_bytes(syntax: Syntax, vr: Option<Vr>) -> bool
+    ensures { IsTrue result ↔ HoldsBytes syntax vr }
+{
+    match (names_vr(syntax), vr) {
+        (true, Some(vr)) => vr != Vr::SQ,
+        (true, None) => false,
+        (false, vr) => vr.is_none(),
+    }
+}
+
+/// The defined lengths that a header of this value representation has room for are below this.
+pub fn length_limit(vr: Option<Vr>) -> u64
+    ensures { result ≡ length_limit vr }
+{
+    match vr {
+        Some(vr) if !vr.is_long() => 0x1_0000,
+        _ => u64::from(UNDEFINED_LENGTH),
+    }
+}
+
+/// How many bytes a header of this value representation has behind the tag.
+pub fn shape_size(vr: Option<Vr>) -> u64
+    ensures exact { (n : ℕ) → result ≡ length (shape_text vr n) }
+    ensures few { result ≤ 8 }
+{
+    match vr {
+        Some(vr) if vr.is_long() => (LONG_HEADER_SIZE - TAG_SIZE) as u64,
+        _ => (HEADER_SIZE - TAG_SIZE) as u64,
+    }
+}
