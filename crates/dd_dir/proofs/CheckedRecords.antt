@@ -12,7 +12,6 @@ use Rattle.dd_elem.specs.Uid.{is_uid}
 use Rattle.dd_version.proofs.ImageClasses.{is_image_class_decides}
 use Rattle.dd_version.proofs.KnownSyntaxes.{is_known_syntax_decides}
 use Rattle.dd_version.specs.Fitting.{Fits, is_empty}
-use Rattle.dd_keys.specs.Values.{content_value, element_value, value_at}
 use Rattle.dd_layout.specs.declared.field.Field.{Field}
 use Rattle.dd_layout.specs.declared.level.Level.{Level}
 use Rattle.dd_layout.specs.declared.level.Level.TheVariants.{Patient, Study, Series, Image}
@@ -20,7 +19,7 @@ use Rattle.dd_layout.specs.declared.table.Row.{Row}
 use Rattle.dd_layout.specs.declared.table.TheConstants as row
 use Rattle.dd_layout.specs.Tables.{table_of}
 use Rattle.dd_encoding.specs.Elements.{Elements, Content, Element, bytes, items, fragments}
-use Rattle.dd_set.specs.Find.{find_in}
+use Rattle.dd_set.specs.Find.{content_value, element_value, find_in, value_at}
 use Rattle.dd_dir.specs.declared.own_fault.OwnFault.{OwnFault}
 use Rattle.dd_dir.specs.Own.{Above, root, in_patient, in_study, in_series, in_image, Listed, below, fault_at}
 use Rattle.dd_dir.specs.Own.{followed, is_bad, is_key, is_sound, key_fault, level_in, listed_at, listed_in, suits}

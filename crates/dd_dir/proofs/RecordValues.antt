@@ -7,7 +7,7 @@ use Rattle.dd_elem.specs.FileId.{AreRanks, Ranks, text_of}
 use Rattle.dd_elem.specs.Key.{IsKey}
 use Rattle.dd_elem.specs.Uid.{IsUid}
 use Rattle.dd_elem.specs.declared.vr.Vr.TheVariants.{CS, DA, LO, PN, SH, TM}
-use Rattle.dd_keys.specs.Values.{value_at}
+use Rattle.dd_set.specs.Find.{value_at}
 use Rattle.dd_version.specs.declared.keys.PatientKeys.{PatientKeys}
 use Rattle.dd_version.specs.declared.keys.SeriesKeys.{SeriesKeys}
 use Rattle.dd_version.specs.declared.keys.StudyKeys.{StudyKeys}

@@ -9,7 +9,7 @@ use Rattle.dd_elem.proofs.UidForm.{is_uid_from_IsUid}
 use Rattle.dd_version.proofs.ImageClasses.{is_image_class_decides}
 use Rattle.dd_version.proofs.KnownSyntaxes.{is_known_syntax_decides}
 use Rattle.dd_version.specs.Fitting.{is_empty}
-use Rattle.dd_keys.specs.Values.{value_at}
+use Rattle.dd_set.specs.Find.{value_at}
 use Rattle.dd_version.specs.declared.parts.Parts.{Parts}
 use Rattle.dd_layout.specs.declared.level.Level.TheVariants.{Patient, Study, Series, Image}
 use Rattle.dd_layout.specs.declared.table.Row.{Row}

@@ -1,6 +1,6 @@
 -- Which images a directory that this crate wrote lists (PS3.3 sections F.3 to F.5): the IMAGE records, each with the
 -- records above it; or the first check that a record fails, depth first.
-use Rattle.std.specs.Prelude.{◌≡◌, ◌≢◌, ◌⊎◌, ℕ, Bool, true, false, not, ◌&&◌, ◌==◌, nat_le, List, [], ◌∷◌, ◌++◌}
+use Rattle.std.specs.Prelude.{◌≡◌, ◌≢◌, ◌⊎◌, ℕ, Bool, true, false, not, ◌&&◌, nat_le, List, [], ◌∷◌, ◌++◌}
 use Rattle.std.specs.Prelude.{length, find, Option, Some, None, is_some, option_map, Result, Ok, Err}
 use Rattle.std.specs.Prelude.{if◌then◌else◌}
 use Rattle.std.specs.Str.{bytes_eq}
@@ -9,7 +9,7 @@ use Rattle.dd_elem.specs.Key.{max_key_length}
 use Rattle.dd_elem.specs.Uid.{is_uid}
 use Rattle.dd_version.specs.Classes.{is_image_class}
 use Rattle.dd_version.specs.Fitting.{is_empty}
-use Rattle.dd_keys.specs.Values.{value_at}
+use Rattle.dd_set.specs.Find.{value_at}
 use Rattle.dd_layout.specs.declared.field.Field.{Field}
 use Rattle.dd_layout.specs.declared.field.Field.TheVariants as fields
 use Rattle.dd_layout.specs.declared.level.Level.{Level}

@@ -5,9 +5,8 @@ use Rattle.std.specs.Str.{bytes_eq}
 use Rattle.std.specs.Int.{w16, w32, from_le_bytes}
 use Rattle.dd_elem.specs.Clean.{clean_of}
 use Rattle.dd_elem.specs.declared.tag.Tag.{Tag}
-use Rattle.dd_keys.specs.Values.{value_at}
 use Rattle.dd_encoding.specs.Elements.{Elements, Content, bytes, items, fragments, Element, Items, no_items, item}
-use Rattle.dd_set.specs.Find.{find_in}
+use Rattle.dd_set.specs.Find.{find_in, value_at}
 use Rattle.dd_layout.specs.ElementForms.{tag}
 use Rattle.dd_layout.specs.Records.{private_creator}
 use Rattle.dd_dir.specs.Trees.{Beside}

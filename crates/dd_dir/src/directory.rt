@@ -12,14 +12,13 @@ use crate::fault::DirFault;
 use crate::slots::items_of;
 use crate::values::{clean_at, number_at};
 use dd_elem::Uid;
-use dd_keys::value_at;
 use dd_layout::table::CREATOR;
 use dd_layout::{
     DIRECTORY_CLASS, DIRECTORY_SYNTAX, FIRST_ROOT, LAST_ROOT, PRIVATE_CREATOR, RECORDS, SET_ID,
     WITHDRAWN,
 };
 use dd_part10::Meta;
-use dd_set::{DataSet, Item, Syntax};
+use dd_set::{DataSet, Item, Syntax, value_at};
 use std::alloc::Global;
 
 /// What a directory says: its UID, its File-set ID, the value that names its withdrawn UIDs, the offsets of the

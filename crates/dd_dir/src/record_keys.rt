@@ -9,13 +9,12 @@ ghost use Rattle.dd_layout.specs.ElementForms.{tag};
 ghost use Rattle.dd_set.specs.Views.{set_view};
 ghost use Rattle.dd_dir.specs.Saying.{key_of};
 
-use dd_keys::value_at;
 use dd_layout::Row;
 use dd_layout::table::{
     ACCESSION, CHARSET, DESCRIPTION, MODALITY, PATIENT_ID, PATIENT_NAME, SERIES_NUMBER, SERIES_UID,
     STUDY_DATE, STUDY_ID, STUDY_TIME, STUDY_UID,
 };
-use dd_set::DataSet;
+use dd_set::{DataSet, value_at};
 
 /// A PATIENT record, and the values of its keys without their padding.
 #[derive(Clone, Copy)]

@@ -9,7 +9,8 @@ ghost use Rattle.dd_set.specs.Views.{set_view};
 ghost use Rattle.dd_keys.specs.Summaries.{summary_at, summary_in, shown_summary};
 
 use dd_elem::{Key, Tag};
-use dd_set::{DataSet, Found, FoundValue, value_at};
+use dd_scan::{Found, FoundValue};
+use dd_set::{DataSet, value_at};
 
 /// The summary of the value of an element.
 #[derive(Clone, Copy)]

@@ -1,7 +1,7 @@
 //! A file of which little is kept.
 
 use dd_encoding::Meta;
-use dd_set::Found;
+use dd_scan::Found;
 
 /// What was read of a DICOM file whose data set was not kept.
 #[derive(Debug, Drop, PartialEq)]

@@ -15,7 +15,7 @@ use crate::reading::{behind_prefix, may_follow};
 use crate::scanned::Scanned;
 use dd_elem::Tag;
 use dd_encoding::{COUNT_LENGTH, Meta, PREFIX_END, Syntax};
-use dd_set::{Scan, take_set};
+use dd_scan::{Scan, take_set};
 use dd_stream::{Feed, fill};
 use std::alloc::Global;
 

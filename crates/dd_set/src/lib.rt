@@ -5,8 +5,7 @@
 //! Its one promise: what is read is the one set that the bytes spell, what is refused spells none and
 //! is refused by the first check that it fails, and what is written is the spelling. Only where a
 //! growth is refused, behind the first item or element, is the answer want of memory instead. The checks
-//! are those of `dd_grammar`. `scan` of `dd_scan`, which makes the same ones on the bytes of a reader, is
-//! passed on.
+//! are those of `dd_grammar`, which `dd_scan` makes on the bytes of a reader.
 #![tactic(auto)]
 
 mod cursor;
@@ -23,7 +22,6 @@ mod written_headers;
 
 pub use dd_encoding::{HEADER_SIZE, LONG_HEADER_SIZE, Length, Syntax, item_header, send_header};
 pub use dd_grammar::SetFault;
-pub use dd_scan::{Found, FoundValue, Scan, ScanFault, scan, take_set};
 pub use dd_stream::{End, Feed, Stream, WriteFault, drain, fill, finish, send, skip};
 pub use finding::value_at;
 pub use parsing::parse;

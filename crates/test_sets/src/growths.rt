@@ -4,10 +4,8 @@ use crate::outlines::outline;
 use crate::scanning::in_words;
 use crate::spellings::{IMAGES, PATIENT_ID, PIXEL_DATA, nested, set_of, spelled};
 use dd_elem::{ByteSource, Read, Sink, Tag, Vr};
-use dd_set::{
-    DataSet, Scan, ScanFault, SetFault, Stream, Syntax, WriteFault, scan, send, send_header,
-    take_set, write_set,
-};
+use dd_scan::{Scan, ScanFault, scan, take_set};
+use dd_set::{DataSet, SetFault, Stream, Syntax, WriteFault, send, send_header, write_set};
 use dd_vectors::{answered, growth_numbers, question, refuse_growth, require, was_refused};
 use std::alloc::Global;
 use std::test::Fail;

@@ -2,7 +2,8 @@
 
 use crate::spellings::{PIXEL_DATA, nested, set_of, spelled};
 use dd_elem::ByteSource;
-use dd_set::{ScanFault, SetFault, Syntax, scan};
+use dd_scan::{ScanFault, scan};
+use dd_set::{SetFault, Syntax};
 use dd_vectors::ask_all;
 use std::alloc::Global;
 use std::test::Fail;
