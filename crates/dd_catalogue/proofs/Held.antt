@@ -1,16 +1,18 @@
 -- What a catalogue holds after each of its steps.
 use Rattle.std.specs.Prelude.{◌≡◌, ◌≤◌, ◌+◌, ◌*◌, ℕ, Bool, true, false, not, ◌&&◌, List, [], ◌∷◌, ◌++◌, Contains}
-use Rattle.std.specs.Prelude.{filter, length, map}
+use Rattle.std.specs.Prelude.{filter, length, map, min}
 use Rattle.std.proofs.Common.{refl, sym, ◌∙◌, ap, subst, append-nil, arith, length-append}
 use Rattle.std.proofs.lemmas.List.Elements.{filter_agree, filter_passes, All-contains}
+use Rattle.std.proofs.lemmas.List.{length-map}
+use Rattle.dd_elem.specs.Device.{last_count}
 use Rattle.dd_elem.specs.Ordered.{bytes_cmp}
 use Rattle.dd_version.specs.Orders.{parts_cmp}
 use Rattle.dd_version.specs.declared.parts.Parts.{Parts}
-use Rattle.dd_catalogue.specs.Compared.{compared}
+use Rattle.dd_catalogue.specs.Compared.{compared_keys}
 use Rattle.dd_catalogue.specs.BestLaws.{best_of_rising, same_best_at}
 use Rattle.dd_catalogue.specs.CatalogueJoin.{uids_ordered, same_contents}
 use Rattle.dd_catalogue.specs.Contents.{Contents, IsHeld, SameContents, and_version, and_withdrawn, all_of, held_of}
-use Rattle.dd_catalogue.specs.Contents.{is_withdrawn, kept_of, left_of, uids_of}
+use Rattle.dd_catalogue.specs.Contents.{compared_in_merge, is_withdrawn, kept_of, left_of, uids_of}
 use Rattle.dd_catalogue.specs.Free.{is_free}
 use Rattle.dd_catalogue.specs.FreeLaws.{free_of_best, free_of_set, kept_is_free, kept_itself, free-append, same_free}
 use Rattle.dd_catalogue.specs.Harmony.{agreed, harmonised}
@@ -19,6 +21,7 @@ use Rattle.dd_catalogue.specs.Versions.{best_of, compared_of, versions_ordered, 
 use Rattle.dd_catalogue.proofs.BestMembers.{absorbed, best_of_same}
 use Rattle.dd_catalogue.proofs.Counted.{compared_at_most, length-best}
 use Rattle.dd_catalogue.proofs.FreeMembers.{free_decides, kept_of_same, withdrawn_member}
+use Rattle.dd_catalogue.proofs.Woven.{compared_at_end}
 
 -- ---- filters
 
@@ -156,39 +159,51 @@ held_less c uid h = same_contents _ (held_of (and_withdrawn uid c)) (sym (kept_l
 
 -- ---- merges
 
--- what the comparisons of a merge come to
-pub few_of_maps : (m n t : List Parts) (w x : List (List ℕ)) (maps sifted : ℕ) → maps ≡ compared_of m n
-    → t ≡ best_of (m ++ n) → x ≡ w → sifted ≤ length t + length x
-    → maps + sifted ≤ 2 * (length m + length n + length w)
-few_of_maps m n t w x maps sifted a b e few =
-    omega (
-      arith,
-      a,
-      compared_at_most instance_of bytes_cmp parts_cmp m n,
-      ap length b,
-      ap length e,
-      length-best instance_of bytes_cmp parts_cmp (m ++ n),
-      length-append m n,
-    )
+-- where the versions of both were merged, and then sifted by what the first had withdrawn
+pub counted_maps : (c d : Contents) (t : List Parts) (x : List (List ℕ)) (maps sifted : ℕ) → IsHeld c
+    → d.withdrawn ≡ [] → maps ≡ compared_of c.versions d.versions → t ≡ best_of (c.versions ++ d.versions)
+    → x ≡ c.withdrawn → sifted ≡ min (compared_keys bytes_cmp (map instance_of t) x) last_count
+    → min (maps + sifted) last_count ≡ min (compared_in_merge c d) last_count
+counted_maps c d t x maps sifted h none a b e s =
+    let w = c.withdrawn in
+    let t' = best_of (c.versions ++ d.versions) in
+    let same : w ++ d.withdrawn ≡ w = ap (λ y. w ++ y) none ∙ append-nil w in
+    let sets : compared_keys bytes_cmp w d.withdrawn ≡ 0 =
+    compared_at_end (λ u. u) bytes_cmp bytes_cmp w d.withdrawn (ap length none) in
+    let uids : uids_of (w ++ d.withdrawn) ≡ w = ap uids_of same ∙ best_of_rising uids_ordered w h.withdrawn in
+    let walk : compared_keys bytes_cmp (map instance_of t) x
+    ≡ compared_keys bytes_cmp (map instance_of t') (uids_of (w ++ d.withdrawn)) =
+    rw (b, e, uids) refl in
+    omega (arith, s, sets, a, walk)
 
-pub few_of_both : (m n t : List Parts) (w u x y : List (List ℕ)) (sets maps sifted : ℕ)
-    → sets ≡ compared (λ u. u) bytes_cmp bytes_cmp w u → maps ≡ compared_of m n
-    → t ≡ best_of (m ++ n) → x ≡ uids_of (w ++ u) → y ≡ x → sifted ≤ length t + length y
-    → sets + maps + sifted ≤ 2 * (length m + length n + (length w + length u))
-few_of_both m n t w u x y sets maps sifted s a b e f few =
+-- where the withdrawn UIDs of both were merged, then the versions of both, and these were sifted by them
+pub counted_both : (c d : Contents) (t : List Parts) (x : List (List ℕ)) (sets maps sifted : ℕ)
+    → sets ≡ compared_keys bytes_cmp c.withdrawn d.withdrawn → maps ≡ compared_of c.versions d.versions
+    → t ≡ best_of (c.versions ++ d.versions) → x ≡ uids_of (c.withdrawn ++ d.withdrawn)
+    → sifted ≡ min (compared_keys bytes_cmp (map instance_of t) x) last_count
+    → min (min (sets + maps) last_count + sifted) last_count ≡ min (compared_in_merge c d) last_count
+counted_both c d t x sets maps sifted r a b e s =
+    let walk : compared_keys bytes_cmp (map instance_of t) x
+    ≡ compared_keys bytes_cmp (map instance_of (best_of (c.versions ++ d.versions)))
+    (uids_of (c.withdrawn ++ d.withdrawn)) = rw (b, e) refl in
+    omega (arith, s, r, a, walk)
+
+pub few_in_merge : (c d : Contents)
+    → compared_in_merge c d
+    ≤ 2 * (length c.versions + length d.versions + (length c.withdrawn + length d.withdrawn))
+few_in_merge c d =
+    let m = c.versions ++ d.versions in
+    let w = c.withdrawn ++ d.withdrawn in
     omega (
       arith,
-      s,
-      compared_at_most (λ u. u) bytes_cmp bytes_cmp w u,
-      a,
-      compared_at_most instance_of bytes_cmp parts_cmp m n,
-      ap length b,
-      ap length e,
-      ap length f,
-      length-best instance_of bytes_cmp parts_cmp (m ++ n),
-      length-append m n,
-      length-best (λ u. u) bytes_cmp bytes_cmp (w ++ u),
-      length-append w u,
+      compared_at_most (λ u. u) bytes_cmp bytes_cmp c.withdrawn d.withdrawn,
+      compared_at_most instance_of bytes_cmp parts_cmp c.versions d.versions,
+      compared_at_most (λ u. u) bytes_cmp bytes_cmp (map instance_of (best_of m)) (uids_of w),
+      length-map (best_of m) instance_of,
+      length-best instance_of bytes_cmp parts_cmp m,
+      length-append c.versions d.versions,
+      length-best (λ u. u) bytes_cmp bytes_cmp w,
+      length-append c.withdrawn d.withdrawn,
     )
 
 -- where the other has withdrawn nothing

@@ -20,6 +20,7 @@ pub mod Places
 pub mod References
 pub mod Retold
 pub mod SameVersions
+pub mod Sifted
 pub mod TakenOut
 pub mod TakenParts
 pub mod TwoOwners

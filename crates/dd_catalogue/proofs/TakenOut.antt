@@ -12,7 +12,7 @@ use Rattle.dd_elem.specs.Ordered.{bytes_cmp}
 use Rattle.dd_catalogue.specs.Best.{IsAbove, IsRising, at}
 use Rattle.dd_catalogue.specs.Free.{is_free, free}
 use Rattle.dd_catalogue.specs.Rising.{by_test, above_trans, greater_turned, less_turned}
-use Rattle.dd_catalogue.specs.Table.{IsPlace, found_place}
+use Rattle.dd_catalogue.specs.Table.{IsPlace}
 use Rattle.dd_catalogue.proofs.BestMembers.{above_member}
 use Rattle.dd_catalogue.proofs.Members.{member_of}
 use Rattle.dd_catalogue.proofs.Places.{at_here, at_between}
@@ -55,11 +55,6 @@ free_err w k j r up is e = not_ok r ∙ sym (free_placed w k r up is) ∙ ap (λ
     not_ok : (r : Result ℕ ℕ) → is_err r ≡ not (is_ok r)
     not_ok (Ok i) = refl
     not_ok (Err i) = refl
-
-pub found_within : (k : List ℕ) (w : List (List ℕ)) (r : Result ℕ ℕ) → IsPlace (λ u. u) k w r
-    → found_place r ≤ length w
-found_within k w (Ok i) is = omega (arith, is.0)
-found_within k w (Err i) is = is.0
 
 pub free_of_none : {V : Type 0} (key : V → List ℕ) (w : List (List ℕ)) (m : List V) → length w ≡ 0
     → free key bytes_cmp w m ≡ m

@@ -5,7 +5,7 @@ use Rattle.std.proofs.lemmas.Cmp.{nat_list_cmp_total}
 use Rattle.std.proofs.lemmas.Map.Lookups.{exact_bytes}
 use Rattle.dd_elem.specs.Ordered.{bytes_cmp}
 use Rattle.dd_catalogue.specs.BestLaws.{rising-best, best_comm, best_left, best_right, best_self, best_of_rising}
-use Rattle.dd_catalogue.specs.Contents.{Contents, IsHeld, all_of, held_of, left_of, nothing, uids_of}
+use Rattle.dd_catalogue.specs.Contents.{Contents, HoldsBoth, IsHeld, all_of, held_of, left_of, nothing, uids_of}
 use Rattle.dd_catalogue.specs.FreeLaws.{kept_comm, kept_is_free, kept_itself, kept_of_kept_sets, kept_twice}
 use Rattle.dd_catalogue.specs.Joins.{JoinLaws}
 use Rattle.dd_catalogue.specs.Rising.{Orders}
@@ -43,8 +43,7 @@ held_itself c h = same_contents (held_of c) c
     (kept_itself versions_ordered c.versions c.withdrawn h.versions h.apart)
     (best_of_rising uids_ordered c.withdrawn h.withdrawn)
 
--- what is held of what two hold is what is held of both
-pub held_of_held : (c d : Contents) → held_of (all_of (held_of c) (held_of d)) ≡ held_of (all_of c d)
+pub held_of_held : (c d : Contents) → HoldsBoth c d
 held_of_held c d = same_contents (held_of (all_of (held_of c) (held_of d))) (held_of (all_of c d))
     (kept_of_kept_sets versions_ordered c.versions d.versions c.withdrawn d.withdrawn)
     (uids_of_uids c.withdrawn d.withdrawn)

@@ -16,3 +16,7 @@ is_compared key keys m n v = is_reached key keys (key v) m && is_reached key key
 -- how many keys of either list are at most the greatest key of each: a key that both have counts once
 abbrev pub compared : {V K : Type 0} → (V → K) → (K → K → Ordering) → (V → V → Ordering) → List V → List V → ℕ
 compared key keys values m n = count_by (is_compared key keys m n) (best key keys values (m ++ n))
+
+-- the same of two lists of keys
+abbrev pub compared_keys : {K : Type 0} → (K → K → Ordering) → List K → List K → ℕ
+compared_keys keys w u = compared (λ k. k) keys keys w u

@@ -1,12 +1,13 @@
 -- What a catalogue holds: versions, and the SOP Instance UIDs (PS3.3 section C.12.1) that are withdrawn. It keeps the
 -- best of the versions whose instances are not withdrawn.
-use Rattle.std.specs.Prelude.{◌≡◌, ℕ, List, [], ◌∷◌, ◌++◌, Bool, not}
+use Rattle.std.specs.Prelude.{◌≡◌, ◌+◌, ℕ, List, [], ◌∷◌, ◌++◌, Bool, not, map}
 use Rattle.dd_elem.specs.Ordered.{bytes_cmp}
 use Rattle.dd_version.specs.Orders.{parts_cmp}
 use Rattle.dd_version.specs.declared.parts.Parts.{Parts}
 use Rattle.dd_catalogue.specs.Best.{IsRising, SameMembers}
+use Rattle.dd_catalogue.specs.Compared.{compared_keys}
 use Rattle.dd_catalogue.specs.Free.{is_free, free, set_of, best_free}
-use Rattle.dd_catalogue.specs.Versions.{IsCatalogue, instance_of}
+use Rattle.dd_catalogue.specs.Versions.{IsCatalogue, best_of, compared_of, instance_of}
 
 -- versions and withdrawn UIDs: both taken in any order and with repeats, or as a catalogue holds them
 pub record Contents : Type 0 where
@@ -40,6 +41,14 @@ held_of c = record { versions = kept_of c.versions c.withdrawn; withdrawn = uids
 abbrev pub all_of : Contents → Contents → Contents
 all_of c d = record { versions = c.versions ++ d.versions; withdrawn = c.withdrawn ++ d.withdrawn }
 
+-- how many pairs of UIDs a merge of d into c compares: of the withdrawn UIDs of both, of the versions of both, and of
+-- the best of these versions with all withdrawn UIDs
+abbrev pub compared_in_merge : Contents → Contents → ℕ
+compared_in_merge c d =
+    compared_keys bytes_cmp c.withdrawn d.withdrawn + compared_of c.versions d.versions
+    + compared_keys bytes_cmp (map instance_of (best_of (c.versions ++ d.versions)))
+    (uids_of (c.withdrawn ++ d.withdrawn))
+
 -- one version more, and one UID more
 abbrev pub and_version : Parts → Contents → Contents
 and_version v c = record { versions = v ∷ c.versions; withdrawn = c.withdrawn }
@@ -57,3 +66,14 @@ pub record IsHeld (c : Contents) : Type 0 where
 pub record SameContents (c d : Contents) : Type 0 where
   pub versions : SameMembers c.versions d.versions
   pub withdrawn : SameMembers c.withdrawn d.withdrawn
+
+-- what is held of what two hold is what one holds that took both
+abbrev pub HoldsBoth : Contents → Contents → Type 0
+HoldsBoth c d = held_of (all_of (held_of c) (held_of d)) ≡ held_of (all_of c d)
+
+-- the same of one version more, and of one UID more
+abbrev pub HoldsVersion : Contents → Parts → Type 0
+HoldsVersion c v = held_of (and_version v (held_of c)) ≡ held_of (and_version v c)
+
+abbrev pub HoldsWithdrawn : Contents → List ℕ → Type 0
+HoldsWithdrawn c uid = held_of (and_withdrawn uid (held_of c)) ≡ held_of (and_withdrawn uid c)

@@ -1,5 +1,6 @@
 -- What a table of the greatest values does with one more value.
-use Rattle.std.specs.Prelude.{◌≡◌, ◌<◌, ◌≤◌, ℕ, List, Option, Some, None, Result, Ok, Err, length, if◌then◌else◌}
+use Rattle.std.specs.Prelude.{◌≡◌, ◌<◌, ◌≤◌, ◌+◌, ◌-◌, ℕ, List, Option, Some, None, Result, Ok, Err, length, min}
+use Rattle.std.specs.Prelude.{if◌then◌else◌}
 use Rattle.std.specs.List.{AllWithin, HoldsAt}
 use Rattle.std.specs.Ordering.{is_lt}
 use Rattle.std.specs.declared.cmp.Ordering.{Ordering}
@@ -19,7 +20,17 @@ abbrev pub taken_by : {V : Type 0} → (V → V → Ordering) → V → Option V
 taken_by values v None = Fresh
 taken_by values v (Some w) = if is_lt (values w v) then Displaced w else Returned v
 
--- the place, whether the value is there or not
+-- how many keys are smaller than the key that was looked for
 abbrev pub found_place : Result ℕ ℕ → ℕ
 found_place (Ok i) = i
 found_place (Err i) = i
+
+-- how many are at most that key
+abbrev pub passed_by : Result ℕ ℕ → ℕ
+passed_by (Ok i) = i + 1
+passed_by (Err i) = i
+
+-- how many of n keys a search compares and does not pass: the first one that is greater, where there is one
+abbrev pub met_by : ℕ → Result ℕ ℕ → ℕ
+met_by n (Ok i) = 0
+met_by n (Err i) = min 1 (n - i)

@@ -1,15 +1,16 @@
 //! Catalogues of versions.
 
-ghost use Rattle.std.specs.Prelude.{◌≡◌, ◌≢◌, ◌==◌, ◌≤◌, ◌+◌, ◌*◌, ◌⊎◌, [], length, map, option_copied};
+ghost use Rattle.std.specs.Prelude.{◌≡◌, ◌≢◌, ◌==◌, ◌≤◌, ◌+◌, ◌*◌, ◌⊎◌, [], length, map, min, option_copied};
 ghost use Rattle.std.specs.Prelude.{IsOk, IfOk, IfErr, OnOk, OnErr, IsSome, IsTrue};
 ghost use Rattle.dd_catalogue.specs.Clash.{IsClash, clash};
 ghost use Rattle.dd_catalogue.specs.Harmony.{IsHarmonised, harmonised};
 ghost use Rattle.dd_catalogue.specs.Versions.{IsCatalogue, best_of, compared_of, kept};
 ghost use Rattle.dd_catalogue.specs.Best.{IsRising};
-ghost use Rattle.dd_catalogue.specs.Contents.{IsHeld, all_of, and_version, and_withdrawn, held_of};
-ghost use Rattle.dd_catalogue.specs.Contents.{is_withdrawn, kept_of, nothing};
+ghost use Rattle.dd_catalogue.specs.Contents.{IsHeld, all_of, and_version, and_withdrawn, compared_in_merge};
+ghost use Rattle.dd_catalogue.specs.Contents.{held_of, is_withdrawn, kept_of, nothing};
 ghost use Rattle.dd_catalogue.specs.Equal.{are_same_uids};
 ghost use Rattle.dd_catalogue.specs.Taking.{took_of, withdrew_of};
+ghost use Rattle.dd_elem.specs.Device.{last_count};
 ghost use Rattle.dd_elem.specs.Ordered.{bytes_cmp};
 
 use crate::conflicts::first_clash;
@@ -245,12 +246,16 @@ impl Catalogue {
         Ok(())
     }
 
-    /// The same as `merge`. Answers how many pairs of SOP Instance UIDs were compared. Where nothing is
-    /// withdrawn that is one for each UID of either catalogue that is at most the greatest of each, so no
-    /// more than both hold together; else at most twice as many as all versions and withdrawn UIDs of both.
+    /// The same as `merge`. Answers how many pairs of SOP Instance UIDs were compared: for the withdrawn UIDs of
+    /// both, for the versions of both, and for the best of these versions with all withdrawn UIDs. For two lists
+    /// that is one for each UID of either that is at most the greatest of each. Where nothing is withdrawn it is
+    /// no more than both catalogues hold together, else at most twice as many as they have versions and withdrawn
+    /// UIDs. A number above `u64::MAX` is answered as `u64::MAX`.
     pub fn merge_counted(&mut self, other: &Catalogue) -> Result<u64, Memory>
         ensures ok { OnOk result (self.new ≡ held_of (all_of self.old other.now)) }
-        ensures count { self.old.withdrawn ≡ [] → other.now.withdrawn ≡ []
+        ensures count { IfOk result (λ count.
+            count ≡ min (compared_in_merge self.old other.now) last_count) }
+        ensures versions { self.old.withdrawn ≡ [] → other.now.withdrawn ≡ []
             → IfOk result (λ count. count ≡ compared_of self.old.versions other.now.versions) }
         ensures few { self.old.withdrawn ≡ [] → other.now.withdrawn ≡ []
             → IfOk result (λ count. count ≤ length self.old.versions + length other.now.versions) }
@@ -278,13 +283,12 @@ impl Catalogue {
     fn merge_versions(&mut self, other: &Catalogue) -> Result<u64, Memory>
         requires { other.now.withdrawn ≡ [] }
         ensures ok { OnOk result (self.new ≡ held_of (all_of self.old other.now)) }
-        ensures count { self.old.withdrawn ≡ []
+        ensures count { IfOk result (λ count.
+            count ≡ min (compared_in_merge self.old other.now) last_count) }
+        ensures versions { self.old.withdrawn ≡ []
             → IfOk result (λ count. count ≡ compared_of self.old.versions other.now.versions) }
         ensures few { self.old.withdrawn ≡ []
             → IfOk result (λ count. count ≤ length self.old.versions + length other.now.versions) }
-        ensures twice { IfOk result (λ count.
-            count ≤ 2 * (length self.old.versions + length other.now.versions
-            + length self.old.withdrawn)) }
         ensures err { OnErr result (self.new ≡ self.old) }
         ensures empty { other.now ≡ nothing → IsOk result }
         ensures catalogues { IsHeld self.old × IsHeld other.now }

@@ -4,7 +4,8 @@ ghost use Rattle.std.specs.Prelude.{◌≡◌, ◌↔◌, [], ◌++◌, ℕ, Lis
 ghost use Rattle.dd_version.specs.declared.parts.Parts.{Parts};
 ghost use Rattle.dd_catalogue.specs.Best.{SameMembers};
 ghost use Rattle.dd_catalogue.specs.Clash.{Conflict, IsClash, clash, conflicts};
-ghost use Rattle.dd_catalogue.specs.Contents.{Contents, IsHeld, is_withdrawn, kept_of, left_of};
+ghost use Rattle.dd_catalogue.specs.Contents.{Contents, HoldsBoth, HoldsVersion, HoldsWithdrawn, IsHeld};
+ghost use Rattle.dd_catalogue.specs.Contents.{is_withdrawn, kept_of, left_of};
 ghost use Rattle.dd_catalogue.specs.Equal.{holds_same};
 ghost use Rattle.dd_catalogue.specs.Harmony.{IsHarmonised, harmonised};
 ghost use Rattle.dd_catalogue.specs.Versions.{IsBestOf, IsCatalogue, best_of};
@@ -43,6 +44,14 @@ pub fn kept_of_all()
 pub fn kept_of_kept()
     ensures { (s t : List Parts) (w u : List (List ℕ))
         → kept_of (kept_of s w ++ kept_of t u) (w ++ u) ≡ kept_of (s ++ t) (w ++ u) }
+{}
+
+/// What two catalogues hold together is what one holds that took and withdrew all the same, and so is what a
+/// catalogue holds that takes one version more or withdraws one instance more.
+pub fn held_of_held()
+    ensures both { (c d : Contents) → HoldsBoth c d }
+    ensures version { (c : Contents) (v : Parts) → HoldsVersion c v }
+    ensures withdrawn { (c : Contents) (uid : List ℕ) → HoldsWithdrawn c uid }
 {}
 
 /// The order of versions and withdrawals does not change what is kept, and neither do repeats.

@@ -32,7 +32,7 @@ pub use history::{History, build, build_order_is_free};
 pub use join::{Join, gather, gather_order_is_free, join_is_lawful, join_order_is_free};
 pub use laws::{
     best_is_best, best_is_one, best_of_bests, clash_is_clash, clash_is_one, conflicts_decides,
-    equal_is_same, harmonised_is_harmonised, harmonised_is_one, held_is_apart,
+    equal_is_same, harmonised_is_harmonised, harmonised_is_one, held_is_apart, held_of_held,
     kept_is_best_of_left, kept_of_all, kept_of_kept, kept_order_is_free, withdrawn_decides,
 };
 pub use taking::{Refused, Took, Withdrew};

@@ -1,12 +1,14 @@
 //! Keys that are taken out of a list.
 
-ghost use Rattle.std.specs.Prelude.{◌≡◌, ◌+◌, ◌<◌, ◌≤◌, [], length, map};
+ghost use Rattle.std.specs.Prelude.{◌≡◌, ◌<◌, ◌≤◌, ◌^◌, [], length, map, min};
 ghost use Rattle.std.specs.List.{AllWithin};
 ghost use Rattle.std.specs.declared.cmp.Ordering.TheVariants.{Less};
 ghost use Rattle.dd_elem.specs.Ordered.{bytes_cmp};
+ghost use Rattle.dd_elem.specs.Device.{last_count};
 ghost use Rattle.dd_catalogue.specs.Best.{IsRising};
+ghost use Rattle.dd_catalogue.specs.Compared.{compared_keys};
 ghost use Rattle.dd_catalogue.specs.Free.{free};
-ghost use Rattle.dd_catalogue.specs.Table.{IsPlace, found_place};
+ghost use Rattle.dd_catalogue.specs.Table.{IsPlace, found_place, met_by, passed_by};
 
 use crate::lent::Keyed;
 use crate::table::Table;
@@ -14,13 +16,13 @@ use dd_elem::Uid;
 use std::cmp::Ordering;
 
 /// Takes the values with these keys out of the list, which rises, in one walk along both. Answers how many
-/// pairs of keys were compared: each key that was passed was compared once as the smaller one, and each
-/// value at most once more.
+/// pairs of keys were compared.
 pub(crate) fn sift<T: Keyed + Drop>(held: &mut Vec<T>, keys: &[Uid]) -> u64
     requires held { IsRising T.key_of bytes_cmp held.old.items }
     requires keys { IsRising (λ uid. uid) bytes_cmp keys.now }
     ensures items { held.new.items ≡ free T.key_of bytes_cmp keys.now held.old.items }
-    ensures few { result ≤ length held.old.items + length keys.now }
+    ensures count { result
+        ≡ min (compared_keys bytes_cmp (map T.key_of held.old.items) keys.now) last_count }
     ensures none { keys.now ≡ [] → result ≡ 0 }
 {
     if keys.is_empty() {
@@ -31,10 +33,8 @@ pub(crate) fn sift<T: Keyed + Drop>(held: &mut Vec<T>, keys: &[Uid]) -> u64
     let mut kept = 0;
     for place in 0..held.len() {
         let found = seek(keys, passed, held[place].key());
-        passed = place_of(&found);
-        if passed < keys.len() {
-            met = met.saturating_add(1);
-        }
+        met = met.saturating_add(count_met(&found, keys.len()));
+        passed = count_passed(&found);
         if found.is_err() {
             held.swap(kept, place);
             kept += 1;
@@ -64,13 +64,24 @@ fn seek(keys: &[Uid], from: usize, key: &[u8]) -> Result<usize, usize>
     Err(place)
 }
 
-/// The place of the key, whether it is there or not.
-fn place_of(found: &Result<usize, usize>) -> usize
-    ensures { result ≡ found_place found.now }
+/// How many keys the search passed.
+fn count_passed(found: &Result<usize, usize>) -> usize
+    requires { passed_by found.now < 2 ^ 64 }
+    ensures { result ≡ passed_by found.now }
 {
     match found {
-        Ok(place) => *place,
+        Ok(place) => *place + 1,
         Err(place) => *place,
+    }
+}
+
+/// How many keys the search compared and did not pass.
+fn count_met(found: &Result<usize, usize>, keys: usize) -> u64
+    ensures { result ≡ met_by keys found.now }
+{
+    match found {
+        Err(place) if *place < keys => 1,
+        _ => 0,
     }
 }
 

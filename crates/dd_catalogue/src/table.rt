@@ -1,12 +1,14 @@
 //! Tables: of each key the greatest value.
 
-ghost use Rattle.std.specs.Prelude.{◌≡◌, ◌≢◌, ◌<◌, ◌≤◌, ◌+◌, [], ◌∷◌, List, is_some, length, option_copied, map, ◌++◌};
+ghost use Rattle.std.specs.Prelude.{◌≡◌, ◌≢◌, ◌<◌, ◌≤◌, ◌+◌, [], ◌∷◌, ◌++◌, List, is_some, length};
+ghost use Rattle.std.specs.Prelude.{map, min, option_copied};
 ghost use Rattle.std.specs.Prelude.{IsOk, IfOk, IfErr, OnOk, OnErr, IsSome};
 ghost use Rattle.std.specs.List.{HoldsAt, AllWithin};
 ghost use Rattle.std.specs.declared.cmp.Ordering.TheVariants.{Less, Equal, Greater};
+ghost use Rattle.dd_elem.specs.Device.{last_count};
 ghost use Rattle.dd_elem.specs.Ordered.{bytes_cmp};
 ghost use Rattle.dd_catalogue.specs.Best.{IsRising, at, best, put};
-ghost use Rattle.dd_catalogue.specs.Compared.{compared};
+ghost use Rattle.dd_catalogue.specs.Compared.{compared, compared_keys};
 ghost use Rattle.dd_catalogue.specs.Free.{free};
 ghost use Rattle.dd_catalogue.specs.Table.{IsPlace, taken_by};
 
@@ -113,7 +115,8 @@ impl<T: Keyed + Copied + Drop> Table<T> {
     pub(crate) fn sift(&mut self, keys: &[Uid]) -> u64
         requires { IsRising (λ uid. uid) bytes_cmp keys.now }
         ensures after { self.new ≡ free T.key_of bytes_cmp keys.now self.old }
-        ensures few { result ≤ length self.old + length keys.now }
+        ensures count { result
+            ≡ min (compared_keys bytes_cmp (map T.key_of self.old) keys.now) last_count }
         ensures none { keys.now ≡ [] → result ≡ 0 }
     {
         sift(&mut self.held, keys)

@@ -1,8 +1,8 @@
 //! What is withdrawn, and what it takes out.
 
 use dd_catalogue::{
-    Catalogue, History, Took, Withdrew, build, held_is_apart, kept_is_best_of_left, kept_of_all,
-    kept_of_kept, kept_order_is_free, withdrawn_decides,
+    Catalogue, History, Took, Withdrew, build, held_is_apart, held_of_held, kept_is_best_of_left,
+    kept_of_all, kept_of_kept, kept_order_is_free, withdrawn_decides,
 };
 use dd_elem::Uid;
 use dd_samples::{image, images, in_words, taken};
@@ -115,16 +115,16 @@ fn counted(alloc: Global, left: &str, right: &str, gone: &[&str]) -> Result<(u64
 }
 
 #[test]
-fn a_merge_with_withdrawals_counts_few(rt: HostRuntime) -> Result<(), Fail> {
+fn a_merge_with_withdrawals_counts_what_it_compares(rt: HostRuntime) -> Result<(), Fail> {
     assert_eq!(rt; counted(rt.alloc(), "1234", "1234", &[])?, (4, 4));
-    assert_eq!(rt; counted(rt.alloc(), "1234", "", &["1.2.3.4.5"])?, (2, 3));
+    assert_eq!(rt; counted(rt.alloc(), "1234", "", &["1.2.3.4.5"])?, (1, 3));
     assert_eq!(rt;
         counted(rt.alloc(), "1234", "", &["1.2.3.4.6", "1.2.9.1.1"])?,
-        (5, 2)
+        (4, 2)
     );
     assert_eq!(rt;
         counted(rt.alloc(), "1234", "", &["1.1", "1.2.3.4.6", "1.3"])?,
-        (6, 3)
+        (5, 3)
     );
     Ok(())
 }
@@ -138,4 +138,5 @@ fn laws_of_withdrawing() {
     kept_of_kept();
     kept_order_is_free();
     held_is_apart();
+    held_of_held();
 }

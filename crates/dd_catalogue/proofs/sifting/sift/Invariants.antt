@@ -1,6 +1,7 @@
-use Rattle.std.proofs.Common.{◌≡◌, ◌≤◌, ℕ, length, drop, get_or}
+use Rattle.std.proofs.Common.{◌≡◌, ◌≤◌, ◌+◌, ℕ, length, drop, get_or, map}
 use Rattle.std.proofs.lemmas.List.Filters.{FiltersInPlace}
 use Rattle.dd_elem.specs.Ordered.{bytes_cmp}
+use Rattle.dd_catalogue.specs.Compared.{compared_keys}
 use Rattle.dd_catalogue.specs.Free.{is_free}
 use Rattle.dd_catalogue.proofs.TakenOut.{AreBelow}
 use Rattle.dd_catalogue.proofs.sifting.sift.Given as goal
@@ -14,4 +15,7 @@ invariant-loop-place g l = record {
   passed : l.passed ≤ length l.keys;
   smaller : AreBelow g.T.Keyed.key_of l.keys l.passed (drop l.place l.initial.held.items);
   met : l.met ≤ l.place;
+  count : l.passed + l.met
+      + compared_keys bytes_cmp (map g.T.Keyed.key_of (drop l.place l.initial.held.items)) (drop l.passed l.keys)
+      ≡ compared_keys bytes_cmp (map g.T.Keyed.key_of l.initial.held.items) l.keys;
 }

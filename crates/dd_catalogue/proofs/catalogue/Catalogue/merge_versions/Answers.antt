@@ -1,7 +1,7 @@
-use Rattle.std.proofs.Common.{◌≡◌, ◌++◌, sym, ◌∙◌, ap, subst, arith}
+use Rattle.std.proofs.Common.{◌≡◌, ◌++◌, sym, ◌∙◌, ap, subst}
 use Rattle.dd_catalogue.specs.Contents.{Contents, IsHeld, left_of}
 use Rattle.dd_catalogue.specs.Versions.{best_of}
-use Rattle.dd_catalogue.proofs.Held.{few_of_maps, held_of_maps, left_twice}
+use Rattle.dd_catalogue.proofs.Held.{counted_maps, held_of_maps, left_twice}
 use Rattle.dd_catalogue.proofs.catalogue.Catalogue.merge_versions.Goals as goal
 
 pub invariant_of-self-2 : goal.invariant_of-self-2
@@ -20,12 +20,11 @@ returns-clause-ok c =
     ∙ held_of_maps old other (subst IsHeld (sym c.self.view_is) c.known.ensures)
     (rw (← c.other.view_is) at c.requires))
 
-pub returns-clause-twice : goal.returns-clause-twice
-returns-clause-twice c =
-    rw (← c.self.view_is, ← c.other.view_is) (omega (
-      arith,
-      c.saturating_add.ensures,
-      few_of_maps c.self.inside.table c.other.inside.table c.merge.new.self c.self.inside.withdrawn c.values.result.now
-          c.in_ok-maps.maps c.sift-sifted.result c.in_ok-maps.ensures.count c.in_ok-maps.ensures.ok c.values.ensures.all
-          c.sift-sifted.ensures.few,
-    ))
+pub returns-clause-count : goal.returns-clause-count
+returns-clause-count c =
+    let old : Contents = record { versions = c.self.inside.table; withdrawn = c.self.inside.withdrawn } in
+    let other : Contents = record { versions = c.other.inside.table; withdrawn = c.other.inside.withdrawn } in
+    rw (← c.self.view_is, ← c.other.view_is) (c.saturating_add.ensures ∙ counted_maps old other c.merge.new.self
+    c.values.result.now c.in_ok-maps.maps c.sift-sifted.result (subst IsHeld (sym c.self.view_is) c.known.ensures)
+    (rw (← c.other.view_is) at c.requires) c.in_ok-maps.ensures.count c.in_ok-maps.ensures.ok c.values.ensures.all
+    c.sift-sifted.ensures.count)
