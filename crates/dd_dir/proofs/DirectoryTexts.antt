@@ -7,6 +7,7 @@ use Rattle.std.specs.List.{All, AllByRecursion, slice_get}
 use Rattle.std.proofs.lemmas.List.Elements.{recursion_from_All}
 use Rattle.std.proofs.lemmas.List.Sums.{sum_by-cons}
 use Rattle.std.proofs.lemmas.Option.{slice_get-get_or}
+use Rattle.dd_elem.specs.declared.counts.Counts.{Counts}
 use Rattle.dd_elem.specs.declared.vr.Vr.TheVariants.{SQ}
 use Rattle.dd_version.specs.declared.parts.Parts.{Parts}
 use Rattle.dd_encoding.specs.Head.{head_text}
@@ -202,6 +203,6 @@ withdrawals_fit label versions withdrawn count n m sound below count_is first se
 
 -- the answer is the size of a text that was sent whole
 pub size_told : {R : Type 0} (text : List ℕ) (n : ℕ) (result : Result ℕ WriteFault) (old new : Option (List ℕ) × R)
-    (failures after : ℕ) → Sends text 0 result old new failures after → length text ≡ n → IfOk result (λ k. k ≡ n)
-size_told text n (Ok k) old new failures after sends is = omega (arith, sends.ok.0, is)
-size_told text n (Err fault) old new failures after sends is = tt
+    (before after : Counts) → Sends text 0 result old new before after → length text ≡ n → IfOk result (λ k. k ≡ n)
+size_told text n (Ok k) old new before after sends is = omega (arith, sends.ok.0, is)
+size_told text n (Err fault) old new before after sends is = tt

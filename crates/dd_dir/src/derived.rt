@@ -1,6 +1,7 @@
 //! The UID of a file-set that follows from what it holds.
 
-ghost use Rattle.std.specs.Prelude.{◌≡◌, ◌⊎◌, None, Some, IfErr, IfOk, IsOk};
+ghost use Rattle.std.specs.Prelude.{◌≡◌, ◌≢◌, ◌⊎◌, None, Some, IfErr, IfOk, IsOk};
+ghost use Rattle.dd_catalogue.specs.Contents.{nothing};
 ghost use Rattle.dd_elem.specs.Digests.{uid_of_digest};
 ghost use Rattle.dd_layout.specs.Layouts.{layout_of};
 ghost use Rattle.dd_layout.specs.Refusal.{refusal};
@@ -20,8 +21,7 @@ const UNNAMED: &[u8] = b"2.25.0";
 
 /// The UID of the SHA-256 of the directory of this catalogue under this ID and the UID 2.25.0. The
 /// directory is hashed as it is sent, and never held in memory. Refused as `lay_out` refuses under that
-/// label, and as Memory where the writer that hashes fails, which is where a count of its calls is at
-/// its last value.
+/// label.
 pub fn derived_uid(
     alloc: Global,
     catalogue: &Catalogue,
@@ -32,12 +32,13 @@ pub fn derived_uid(
         ≡ derived id.now catalogue.now.versions catalogue.now.withdrawn) }
     ensures allowed { IsOk result → refusal (unnamed_label id.now) limits catalogue.now.versions
         catalogue.now.withdrawn ≡ None }
-    ensures refused { IfErr result (λ fault. (fault ≡ PlanFault.Memory)
+    ensures refused { IfErr result (λ fault. ((fault ≡ PlanFault.Memory)
+        × (catalogue.now ≢ nothing))
         ⊎ (refusal (unnamed_label id.now) limits catalogue.now.versions catalogue.now.withdrawn
         ≡ Some fault)) }
 {
     let plan = lay_out(alloc, catalogue, &unnamed_label(id), limits)?;
-    uid_of(&plan)
+    Ok(uid_of(&plan))
 }
 
 /// Lays out the directory of this catalogue under this ID and the UID that `derived_uid` gives. The catalogue
@@ -54,26 +55,29 @@ pub fn lay_out_derived(
         catalogue.now.versions catalogue.now.withdrawn) }
     ensures allowed { IsOk result
         → derived_refusal id.now limits catalogue.now.versions catalogue.now.withdrawn ≡ None }
-    ensures refused { IfErr result (λ fault. (fault ≡ PlanFault.Memory)
+    ensures refused { IfErr result (λ fault. ((fault ≡ PlanFault.Memory)
+        × (catalogue.now ≢ nothing))
         ⊎ (derived_refusal id.now limits catalogue.now.versions catalogue.now.withdrawn
         ≡ Some fault)) }
 {
     let plan = lay_out(alloc, catalogue, &unnamed_label(id), limits)?;
-    let uid = uid_of(&plan)?;
+    let uid = uid_of(&plan);
     plan.under(&Label { id: *id, uid }, limits)
 }
 
-/// The UID of the SHA-256 of the directory of this plan. Memory where the writer that hashes fails.
-fn uid_of(plan: &Plan) -> Result<Uid, PlanFault>
-    ensures uid { IfOk result (λ uid. uid
-        ≡ uid_of_digest (sha256
-        (directory_of plan.now.label plan.now.versions plan.now.withdrawn))) }
-    ensures refused { IfErr result (λ fault. fault ≡ PlanFault.Memory) }
+/// The UID of the SHA-256 of the directory of this plan. The writer that hashes fails only where the count of
+/// its calls is at its last value, and it is called at most once for each byte.
+fn uid_of(plan: &Plan) -> Uid
+    ensures { result ≡ uid_of_digest (sha256
+        (directory_of plan.now.label plan.now.versions plan.now.withdrawn)) }
 {
     let mut digester = Digester::new();
     match write_directory(plan, &mut digester) {
-        Ok(_) => Ok(Uid::from_digest(&digester.digest())),
-        Err(_) => Err(PlanFault::Memory),
+        Ok(_) => Uid::from_digest(&digester.digest()),
+        Err(_) => {
+            digester.fails_late();
+            unreachable!()
+        }
     }
 }
 

@@ -2,6 +2,7 @@
 
 ghost use Rattle.std.specs.Prelude.{◌≡◌, [], Some};
 ghost use Rattle.sha2.specs.Sha256.{sha256};
+ghost use Rattle.dd_dir.specs.Hashing.{FailsLate};
 
 use crate::message::Message;
 use dd_elem::{Counts, Write};
@@ -19,13 +20,13 @@ pub(crate) struct Digester {
 
 impl Model for Digester {
     ghost use Rattle.sha2.specs.Hashers.{Holds256};
-    ghost use Rattle.dd_dir.specs.Hashing.{Hashing};
+    ghost use Rattle.dd_dir.specs.Hashing.{FailsLate, Hashing};
 
     ghost Value = { Hashing };
 
     ghost view = { λ d. record { bytes = d.message.bytes; counts = d.counts } };
 
-    ghost invariant = { λ d. Holds256 d.hasher d.message.bytes };
+    ghost invariant = { λ d. Holds256 d.hasher d.message.bytes × FailsLate d.counts };
 }
 
 impl Digester {
@@ -38,6 +39,14 @@ impl Digester {
             message: Message::new(),
             counts: Counts::new(),
         }
+    }
+
+    /// A call of it failed only where the count of its calls is at its last value. This states a law, and does
+    /// nothing.
+    pub(crate) fn fails_late(&self)
+        ensures { FailsLate self.now.counts }
+    {
+        let _ = &self.counts;
     }
 
     /// The SHA-256 of the bytes that it took.

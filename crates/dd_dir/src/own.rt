@@ -60,9 +60,10 @@ pub fn own_of<'a>(alloc: Global, forest: &Forest<'a>) -> Result<Own<'a>, OwnFaul
     ensures { AnswersWalk (walk_view forest.now) (NamesSome (walk_view forest.now))
         (Tells (withdrawn_of (walk_view forest.now))) result }
 {
-    check_withdrawn(forest.withdrawn)?;
+    let named = forest.withdrawn;
+    check_withdrawn(named)?;
     let images = listed(alloc, forest)?;
-    Ok(told(alloc, forest.withdrawn, &images)?)
+    Ok(told(alloc, named, &images)?)
 }
 
 /// Makes the catalogue of a directory that this crate wrote: the best of the versions of the images that it

@@ -9,9 +9,8 @@ use crate::forest::Tree;
 use crate::own_fault::OwnFault;
 use crate::values::digest_in;
 use dd_elem::{Key, Uid, is_file_id};
-use dd_keys::value_at;
 use dd_layout::{Field, Level, Row, rows};
-use dd_set::DataSet;
+use dd_set::{DataSet, value_at};
 use dd_version::{is_image_class, is_known_syntax};
 
 /// The first check that a record of this level fails: below an image there is none.

@@ -18,8 +18,7 @@ use std::alloc::Global;
 
 /// The bytes of the directory of these versions, in harmony, and of these withdrawn UIDs, under this label
 /// (PS3.10 section 8.6).
-/// Refused as `lay_out` refuses, and as Memory where the bytes find no room, or where the count of the
-/// sink's own calls is at its end.
+/// Refused as `lay_out` refuses, and as Memory where the bytes find no room, those of an empty catalogue too.
 pub fn publish(
     alloc: Global,
     catalogue: &Catalogue,

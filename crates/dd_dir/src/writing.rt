@@ -31,6 +31,10 @@ pub fn write_directory<W: Write>(plan: &Plan, writer: &mut W) -> Result<u64, Wri
     ensures sends { let text = directory_of plan.now.label plan.now.versions plan.now.withdrawn
         in SendsTo W.Write text 0 result writer.old writer.new }
 
+    // A directory has fewer than 2^32 bytes, whether or not all were sent.
+    ensures short { length (directory_of plan.now.label plan.now.versions plan.now.withdrawn)
+        < 2 ^ 32 }
+
     // Where the bytes were sent whole, they are as many as the plan says, and a file of the class of directories. All
     // offsets in them are smaller than their number.
     ensures size { IfOk result (λ n. n ≡ size plan.now.label plan.now.versions plan.now.withdrawn) }

@@ -1,11 +1,12 @@
 -- A tee sends what passes piece by piece.
 use Rattle.std.proofs.Common.{◌≡◌, ℕ, List, ◌++◌, Option, None, ◌⊎◌, inl, inr, subst}
 use Rattle.dd_elem.specs.Device.{either_fact}
+use Rattle.dd_elem.specs.declared.counts.Counts.{Counts}
 use Rattle.dd_stream.specs.Sends.{Goes}
 use Rattle.dd_filing.specs.Sent.{IsSent}
 
 -- where no write failed, all that passed was written
-pub sent_whole : {R : Type 0} (late : Option ℕ) (given : List ℕ) (old new : Option (List ℕ) × R) (f g : ℕ)
+pub sent_whole : {R : Type 0} (late : Option ℕ) (given : List ℕ) (old new : Option (List ℕ) × R) (f g : Counts)
     → late ≡ None → IsSent late given old new f g → Goes given old new f g
 sent_whole late given old new f g unfailed h = subst (λ (l : Option ℕ). IsSent l given old new f g) unfailed h
 

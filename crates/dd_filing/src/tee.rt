@@ -2,7 +2,9 @@
 
 ghost use Rattle.std.specs.Prelude.{◌≡◌, ◌⊎◌, ℕ, List, Option};
 ghost use Rattle.dd_elem.specs.Device.{either_fact};
+ghost use Rattle.dd_elem.specs.declared.counts.Counts.{Counts};
 ghost use Rattle.dd_filing.specs.Sent.{IsCounted, IsSent, late_count};
+ghost use Rattle.dd_stream.specs.Sends.{counts_of};
 
 use dd_elem::{Read, Write};
 use dd_stream::send;
@@ -27,13 +29,13 @@ impl<R: Read, W: Write> Read for Tee<'_, R, W> {
 
     ghost remaining = { λ t. R.remaining t.reader.now };
 
-    ghost Past = { ℕ × (ℕ × (((Option (List ℕ) × W.Rest) × ℕ) ⊎ R.Past)) };
+    ghost Past = { ℕ × (ℕ × (((Option (List ℕ) × W.Rest) × Counts) ⊎ R.Past)) };
 
     ghost has_given = { λ t past bytes. (t.reader.ghost_name ≡ past.0)
         × ((t.writer.ghost_name ≡ past.1.0)
         × either_fact (λ start m. IsSent t.late m start.0
         (W.contents t.writer.now, W.rest t.writer.now)
-        start.1 (W.failures t.writer.now) × IsCounted t.late (R.calls t.reader.now))
+        start.1 (counts_of W.Write t.writer.now) × IsCounted t.late (R.calls t.reader.now))
         (λ p m. R.has_given t.reader.now p m) past.1.1 bytes) };
 
     fn read(&mut self, buf: &mut [u8]) -> io::Result<usize> {

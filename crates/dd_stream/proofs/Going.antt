@@ -1,5 +1,5 @@
 -- How texts go to a writer, part by part.
-use Rattle.std.proofs.Common.{◌≡◌, ℕ, ◌+◌, ◌-◌, ◌<◌, ◌^◌, List, [], ◌++◌, length, take, drop, Option, Result, Ok, Err}
+use Rattle.std.proofs.Common.{◌≡◌, ℕ, ◌+◌, ◌-◌, ◌<◌, ◌≤◌, ◌^◌, List, [], ◌++◌, length, take, drop, Option, Result, Ok, Err}
 use Rattle.std.proofs.Common.{refl, sym, ap, subst, ◌∙◌, arith, append_assoc, append-nil, length-append, length-drop}
 use Rattle.std.proofs.Common.{take-append-drop}
 use Rattle.std.proofs.lemmas.List.{take_all, length-take}
@@ -7,6 +7,7 @@ use Rattle.std.specs.Io.KnownBytes.{Appends}
 use Rattle.std.proofs.KnownBytes.{Appends-nil, Appends-trans}
 use Rattle.dd_elem.proofs.Known.{appends_more}
 use Rattle.dd_elem.specs.Device.{counted, HasFailed}
+use Rattle.dd_elem.specs.declared.counts.Counts.{Counts}
 use Rattle.dd_stream.specs.declared.write_fault.WriteFault.{WriteFault}
 use Rattle.dd_stream.specs.declared.write_fault.WriteFault.TheVariants.{Write, NotWritable}
 use Rattle.dd_stream.specs.Sends.{Goes, Stops, StopsBy, Sends}
@@ -34,11 +35,12 @@ took_none a b c bytes at n none one two =
 pub failed_then : (first before after : ℕ) → before ≡ first → after ≡ counted before → HasFailed first after
 failed_then first before after same failed = omega (arith, same, failed)
 
--- the writer failed after the front of a text
-stops_at : {R : Type 0} (bytes : List ℕ) (sent at : ℕ) (a b : Option (List ℕ) × R) (failures after : ℕ)
-    → at < length bytes → Appends a.0 b.0 (take at bytes) → b.1 ≡ a.1 → HasFailed failures after
-    → Stops bytes sent (sent + at) a b failures after
-stops_at bytes sent at a b failures after within holds stays failed = record {
+-- the writer failed after the front of a text, in one call more
+stops_at : {R : Type 0} (bytes : List ℕ) (sent at : ℕ) (a b : Option (List ℕ) × R) (before after : Counts)
+    → at < length bytes → Appends a.0 b.0 (take at bytes) → b.1 ≡ a.1
+    → HasFailed before.failures after.failures → after.calls ≤ before.calls + at + 1
+    → Stops bytes sent (sent + at) a b before after
+stops_at bytes sent at a b before after within holds stays failed called = record {
   front = take at bytes;
   rest = drop at bytes;
   parts = sym (take-append-drop at bytes);
@@ -46,32 +48,35 @@ stops_at bytes sent at a b failures after within holds stays failed = record {
   count = omega (arith, length-take at bytes);
   holds = holds;
   failed = failed;
+  called = omega (arith, within, called);
   stays = stays;
 }
 
-pub fails_at : {R : Type 0} (bytes : List ℕ) (sent at : ℕ) (a b : Option (List ℕ) × R) (failures after : ℕ)
-    → at < length bytes → Appends a.0 b.0 (take at bytes) → b.1 ≡ a.1 → HasFailed failures after
-    → Sends bytes sent (Err (Write (sent + at))) a b failures after
-fails_at bytes sent at a b failures after within holds stays failed =
-    record { ok = tt; err = stops_at bytes sent at a b failures after within holds stays failed }
+pub fails_at : {R : Type 0} (bytes : List ℕ) (sent at : ℕ) (a b : Option (List ℕ) × R) (before after : Counts)
+    → at < length bytes → Appends a.0 b.0 (take at bytes) → b.1 ≡ a.1
+    → HasFailed before.failures after.failures → after.calls ≤ before.calls + at + 1
+    → Sends bytes sent (Err (Write (sent + at))) a b before after
+fails_at bytes sent at a b before after within holds stays failed called =
+    record { ok = tt; err = stops_at bytes sent at a b before after within holds stays failed called }
 
 -- ---- several texts, one behind the other
 
 -- no text at all
-pub goes_none : {R : Type 0} (a : Option (List ℕ) × R) (failures : ℕ) → Goes [] a a failures failures
-goes_none a failures = record { holds = Appends-nil a.0; worked = refl; stays = refl }
+pub goes_none : {R : Type 0} (a : Option (List ℕ) × R) (f : Counts) → Goes [] a a f f
+goes_none a f = record { holds = Appends-nil a.0; worked = refl; called = omega arith; stays = refl }
 
 -- one went and then another
-pub goes_then : {R : Type 0} (xs ys : List ℕ) (a b c : Option (List ℕ) × R) (f g h : ℕ) → Goes xs a b f g
+pub goes_then : {R : Type 0} (xs ys : List ℕ) (a b c : Option (List ℕ) × R) (f g h : Counts) → Goes xs a b f g
     → Goes ys b c g h → Goes (xs ++ ys) a c f h
 goes_then xs ys a b c f g h one two = record {
   holds = Appends-trans a.0 b.0 c.0 xs ys one.holds two.holds;
   worked = two.worked ∙ one.worked;
+  called = omega (arith, one.called, two.called, length-append xs ys);
   stays = two.stays ∙ one.stays;
 }
 
 -- one went and the writer failed in another
-pub stops_then : {R : Type 0} (xs ys : List ℕ) (sent k : ℕ) (a b c : Option (List ℕ) × R) (f g h : ℕ) → Goes xs a b f g
+pub stops_then : {R : Type 0} (xs ys : List ℕ) (sent k : ℕ) (a b c : Option (List ℕ) × R) (f g h : Counts) → Goes xs a b f g
     → Stops ys (sent + length xs) k b c g h → Stops (xs ++ ys) sent k a c f h
 stops_then xs ys sent k a b c f g h one two = record {
   front = xs ++ two.front;
@@ -80,12 +85,13 @@ stops_then xs ys sent k a b c f g h one two = record {
   more = two.more;
   count = two.count ∙ (omega (arith, length-append xs two.front));
   holds = Appends-trans a.0 b.0 c.0 xs two.front one.holds two.holds;
-  failed = subst (λ (n : ℕ). HasFailed n h) one.worked two.failed;
+  failed = subst (λ (n : ℕ). HasFailed n h.failures) one.worked two.failed;
+  called = omega (arith, one.called, two.called, length-append xs ys);
   stays = two.stays ∙ one.stays;
 }
 
 -- the writer failed in one, so that another did not go at all
-pub stops_before : {R : Type 0} (xs ys : List ℕ) (sent k : ℕ) (a b : Option (List ℕ) × R) (f g : ℕ)
+pub stops_before : {R : Type 0} (xs ys : List ℕ) (sent k : ℕ) (a b : Option (List ℕ) × R) (f g : Counts)
     → Stops xs sent k a b f g → Stops (xs ++ ys) sent k a b f g
 stops_before xs ys sent k a b f g one = record {
   front = one.front;
@@ -95,11 +101,12 @@ stops_before xs ys sent k a b f g one = record {
   count = one.count;
   holds = one.holds;
   failed = one.failed;
+  called = omega (arith, one.called, length-append xs ys);
   stays = one.stays;
 }
 
 -- the same piece, behind some bytes
-stops_behind : {R : Type 0} (piece : List ℕ) (before k : ℕ) (a b : Option (List ℕ) × R) (f g : ℕ)
+stops_behind : {R : Type 0} (piece : List ℕ) (before k : ℕ) (a b : Option (List ℕ) × R) (f g : Counts)
     → Stops piece 0 k a b f g → Stops piece (0 + before) (before + k) a b f g
 stops_behind piece before k a b f g stopped = record {
   front = stopped.front;
@@ -109,12 +116,13 @@ stops_behind piece before k a b f g stopped = record {
   count = omega (arith, stopped.count);
   holds = stopped.holds;
   failed = stopped.failed;
+  called = stopped.called;
   stays = stopped.stays;
 }
 
 -- what went before goes whole, and a part of the next piece does not go
 pub stops_amid : {R : Type 0} (sent piece : List ℕ) (fault : WriteFault) (a b c : Option (List ℕ) × R)
-    (f g h : ℕ) → Goes sent a b f g → StopsBy piece 0 fault b c g h
+    (f g h : Counts) → Goes sent a b f g → StopsBy piece 0 fault b c g h
     → (taken : ℕ) × Stops (sent ++ piece) 0 taken a c f h
 stops_amid sent piece NotWritable a b c f g h went stopped = absurd stopped
 stops_amid sent piece (Write k) a b c f g h went stopped = (
@@ -125,21 +133,21 @@ stops_amid sent piece (Write k) a b c f g h went stopped = (
 -- ---- a text of which the front is sent
 
 -- Of a whole text the front is sent, which behind `start` bytes makes `sent`, and the rest is not.
-pub record GoesOn {R : Type 0} (all rest : List ℕ) (start sent : ℕ) (old new : Option (List ℕ) × R) (failures after : ℕ)
+pub record GoesOn {R : Type 0} (all rest : List ℕ) (start sent : ℕ) (old new : Option (List ℕ) × R) (before after : Counts)
     : Type 0 where
   pub gone : List ℕ
   pub parts : all ≡ gone ++ rest
   pub count : sent ≡ start + length gone
-  pub goes : Goes gone old new failures after
+  pub goes : Goes gone old new before after
 
 -- nothing is sent at first
-pub goes_on_none : {R : Type 0} (all : List ℕ) (start : ℕ) (a : Option (List ℕ) × R) (f : ℕ)
+pub goes_on_none : {R : Type 0} (all : List ℕ) (start : ℕ) (a : Option (List ℕ) × R) (f : Counts)
     → GoesOn all all start start a a f f
 goes_on_none all start a f = record { gone = []; parts = refl; count = omega arith; goes = goes_none a f }
 
 -- a piece more
 pub goes_on_piece : {R : Type 0} (all rest piece others : List ℕ) (start sent n : ℕ) (a b c : Option (List ℕ) × R)
-    (f g h : ℕ) → GoesOn all rest start sent a b f g → rest ≡ piece ++ others → Sends piece sent (Ok n) b c g h
+    (f g h : Counts) → GoesOn all rest start sent a b f g → rest ≡ piece ++ others → Sends piece sent (Ok n) b c g h
     → GoesOn all others start n a c f h
 goes_on_piece all rest piece others start sent n a b c f g h so_far is more = record {
   gone = so_far.gone ++ piece;
@@ -150,7 +158,7 @@ goes_on_piece all rest piece others start sent n a b c f g h so_far is more = re
 
 -- the writer failed in a piece
 stops_on : {R : Type 0} (all rest piece others : List ℕ) (start sent : ℕ) (fault : WriteFault)
-    (a b c : Option (List ℕ) × R) (f g h : ℕ) → GoesOn all rest start sent a b f g → rest ≡ piece ++ others
+    (a b c : Option (List ℕ) × R) (f g h : Counts) → GoesOn all rest start sent a b f g → rest ≡ piece ++ others
     → StopsBy piece sent fault b c g h → StopsBy all start fault a c f h
 stops_on all rest piece others start sent NotWritable a b c f g h so_far is stopped = stopped
 stops_on all rest piece others start sent (Write k) a b c f g h so_far is stopped =
@@ -163,13 +171,13 @@ stops_on all rest piece others start sent (Write k) a b c f g h so_far is stoppe
     (so_far.parts ∙ ap (λ (xs : List ℕ). so_far.gone ++ xs) is)) whole
 
 pub goes_on_fails : {R : Type 0} (all rest piece others : List ℕ) (start sent : ℕ) (fault : WriteFault)
-    (a b c : Option (List ℕ) × R) (f g h : ℕ) → GoesOn all rest start sent a b f g → rest ≡ piece ++ others
+    (a b c : Option (List ℕ) × R) (f g h : Counts) → GoesOn all rest start sent a b f g → rest ≡ piece ++ others
     → Sends piece sent (Err fault) b c g h → Sends all start (Err fault) a c f h
 goes_on_fails all rest piece others start sent fault a b c f g h so_far is stopped =
     record { ok = tt; err = stops_on all rest piece others start sent fault a b c f g h so_far is stopped.err }
 
 -- the whole is sent
-pub goes_on_whole : {R : Type 0} (all : List ℕ) (start sent : ℕ) (a b : Option (List ℕ) × R) (f g : ℕ)
+pub goes_on_whole : {R : Type 0} (all : List ℕ) (start sent : ℕ) (a b : Option (List ℕ) × R) (f g : Counts)
     → GoesOn all [] start sent a b f g → Sends all start (Ok sent) a b f g
 goes_on_whole all start sent a b f g so_far =
     let same : all ≡ so_far.gone = so_far.parts ∙ append-nil so_far.gone in
@@ -183,14 +191,14 @@ goes_on_whole all start sent a b f g so_far =
     }
 
 -- nothing is left to send
-pub goes_on_end : {R : Type 0} (all rest : List ℕ) (start sent : ℕ) (a b : Option (List ℕ) × R) (f g : ℕ)
+pub goes_on_end : {R : Type 0} (all rest : List ℕ) (start sent : ℕ) (a b : Option (List ℕ) × R) (f g : Counts)
     → GoesOn all rest start sent a b f g → rest ≡ [] → Sends all start (Ok sent) a b f g
 goes_on_end all rest start sent a b f g so_far none = goes_on_whole all start sent a b f g
     (subst (λ (xs : List ℕ). GoesOn all xs start sent a b f g) none so_far)
 
 -- the last piece
 pub goes_on_last : {R : Type 0} (all rest piece : List ℕ) (start sent : ℕ) (r : Result ℕ WriteFault)
-    (a b c : Option (List ℕ) × R) (f g h : ℕ) → GoesOn all rest start sent a b f g → rest ≡ piece
+    (a b c : Option (List ℕ) × R) (f g h : Counts) → GoesOn all rest start sent a b f g → rest ≡ piece
     → Sends piece sent r b c g h → Sends all start r a c f h
 goes_on_last all rest piece start sent (Err fault) a b c f g h so_far is ended =
     goes_on_fails all rest piece [] start sent fault a b c f g h so_far (is ∙ sym (append-nil piece)) ended
@@ -199,7 +207,7 @@ goes_on_last all rest piece start sent (Ok n) a b c f g h so_far is ended =
     (is ∙ sym (append-nil piece)) ended)
 
 -- there is room for a piece where there is for the whole
-pub goes_on_fits : {R : Type 0} (all rest piece others : List ℕ) (start sent : ℕ) (a b : Option (List ℕ) × R) (f g : ℕ)
+pub goes_on_fits : {R : Type 0} (all rest piece others : List ℕ) (start sent : ℕ) (a b : Option (List ℕ) × R) (f g : Counts)
     → GoesOn all rest start sent a b f g → rest ≡ piece ++ others → start + length all < 2 ^ 64
     → sent + length piece < 2 ^ 64
 goes_on_fits all rest piece others start sent a b f g so_far is fits =
@@ -212,14 +220,14 @@ goes_on_fits all rest piece others start sent a b f g so_far is fits =
 
 -- the writer failed in the first of two
 pub first_fails : {R : Type 0} (piece others : List ℕ) (sent : ℕ) (fault : WriteFault) (a b : Option (List ℕ) × R)
-    (f g : ℕ) → Sends piece sent (Err fault) a b f g → Sends (piece ++ others) sent (Err fault) a b f g
+    (f g : Counts) → Sends piece sent (Err fault) a b f g → Sends (piece ++ others) sent (Err fault) a b f g
 first_fails piece others sent fault a b f g stopped =
     goes_on_fails (piece ++ others) (piece ++ others) piece others sent sent fault a a b f f g
     (goes_on_none (piece ++ others) sent a f) refl stopped
 
 -- the first of two went, and the second as it did
 pub then_sends : {R : Type 0} (piece others : List ℕ) (sent n : ℕ) (r : Result ℕ WriteFault)
-    (a b c : Option (List ℕ) × R) (f g h : ℕ) → Sends piece sent (Ok n) a b f g → Sends others n r b c g h
+    (a b c : Option (List ℕ) × R) (f g h : Counts) → Sends piece sent (Ok n) a b f g → Sends others n r b c g h
     → Sends (piece ++ others) sent r a c f h
 then_sends piece others sent n r a b c f g h one two =
     let so_far : GoesOn (piece ++ others) others sent n a b f g =
@@ -229,7 +237,7 @@ then_sends piece others sent n r a b c f g h one two =
 
 -- the same text
 pub sends_same : {R : Type 0} (text same : List ℕ) (sent : ℕ) (r : Result ℕ WriteFault) (a b : Option (List ℕ) × R)
-    (f g : ℕ) → text ≡ same → Sends text sent r a b f g → Sends same sent r a b f g
+    (f g : Counts) → text ≡ same → Sends text sent r a b f g → Sends same sent r a b f g
 sends_same text same sent r a b f g is sends = subst (λ (t : List ℕ). Sends t sent r a b f g) is sends
 
 -- there is room for the last of three texts where there is for the whole

@@ -9,28 +9,28 @@ use Rattle.dd_dir.specs.Deriving.{derived_refusal}
 use Rattle.dd_dir.proofs.Deriving.{plan_is_derived, refusal_is_derived, uid_is_derived}
 use Rattle.dd_dir.proofs.derived.lay_out_derived.Goals as goal
 
-uid_is : (c : goal.After-under) → c.in_ok-uid.uid
+uid_is : (c : goal.After-under) → c.uid_of-uid.result
     ≡ derived c.args.id.now c.args.catalogue.now.versions c.args.catalogue.now.withdrawn
 uid_is c =
-    c.in_ok-uid.ensures.uid
+    c.uid_of-uid.ensures
     ∙ uid_is_derived c.args.id.now c.args.catalogue.now.versions c.args.catalogue.now.withdrawn
     c.unnamed_label.result c.in_ok-plan.plan c.in_ok-plan.ensures.planned c.unnamed_label.ensures
 
 -- the refusal of the plan under the derived UID
 refusal_is : (c : goal.After-under)
-    → excess (record { id = c.args.id.now; uid = c.in_ok-uid.uid }) c.args.limits c.in_ok-plan.plan.versions
+    → excess (record { id = c.args.id.now; uid = c.uid_of-uid.result }) c.args.limits c.in_ok-plan.plan.versions
     c.in_ok-plan.plan.withdrawn
     ≡ derived_refusal c.args.id.now c.args.limits c.args.catalogue.now.versions c.args.catalogue.now.withdrawn
 refusal_is c =
     refusal_is_derived c.args.id.now c.args.limits c.args.catalogue.now.versions c.args.catalogue.now.withdrawn
-    c.unnamed_label.result c.in_ok-plan.plan c.in_ok-uid.uid c.in_ok-plan.ensures.planned c.unnamed_label.ensures
+    c.unnamed_label.result c.in_ok-plan.plan c.uid_of-uid.result c.in_ok-plan.ensures.planned c.unnamed_label.ensures
     (uid_is c) (c.in_ok-plan.ensures.allowed refl)
 
 pub returns-clause-planned : goal.returns-clause-planned
 returns-clause-planned c =
     subst (λ (x : Layout). IfOk c.under.result (λ plan. plan ≡ x))
     (plan_is_derived c.args.id.now c.args.catalogue.now.versions c.args.catalogue.now.withdrawn
-    c.unnamed_label.result c.in_ok-plan.plan c.in_ok-uid.uid c.in_ok-plan.ensures.planned
+    c.unnamed_label.result c.in_ok-plan.plan c.uid_of-uid.result c.in_ok-plan.ensures.planned
     (uid_is c))
     c.under.ensures.planned
 

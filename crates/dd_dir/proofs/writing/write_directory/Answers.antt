@@ -133,3 +133,24 @@ returns-clause-own g c = λ ok m up is rising.
     (rw c.versions.ensures.all at c.in_ok-sent-2.ensures.keyed refl) in
     let uids : AreRisingUids plan.withdrawn = record { each = c.records_size-count.ensures.uids; rising = rising } in
     says_itself plan.label plan.versions m plan.withdrawn sent up uids is
+
+pub returns-in_err-sent-clause-short : goal.returns-in_err-sent-clause-short
+returns-in_err-sent-clause-short g c =
+    let plan = c.args.plan.now in
+    let sound = subst (All (IsSound (length plan.versions))) c.records-records.ensures.all
+    c.records-records.ensures.sound in
+    omega (arith, directory_length plan.label plan.versions plan.withdrawn sound, c.records_size-count.ensures.small)
+
+pub returns-in_err-sent-2-clause-short : goal.returns-in_err-sent-2-clause-short
+returns-in_err-sent-2-clause-short g c =
+    let plan = c.args.plan.now in
+    let sound = subst (All (IsSound (length plan.versions))) c.records-records.ensures.all
+    c.records-records.ensures.sound in
+    omega (arith, directory_length plan.label plan.versions plan.withdrawn sound, c.records_size-count.ensures.small)
+
+pub returns-clause-short : goal.returns-clause-short
+returns-clause-short g c =
+    let plan = c.args.plan.now in
+    let sound = subst (All (IsSound (length plan.versions))) c.records-records.ensures.all
+    c.records-records.ensures.sound in
+    omega (arith, directory_length plan.label plan.versions plan.withdrawn sound, c.records_size-count.ensures.small)

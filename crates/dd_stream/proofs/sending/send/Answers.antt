@@ -11,6 +11,7 @@ loop-at-preserved g c = record {
   holds = took_more _ _ _ c.args.bytes.now c.loop-at.at c.in-Ok.n c.loop-at.invariant.holds c.in-Ok.ensures.appends;
   stays = c.in-Ok.ensures.rest ∙ c.loop-at.invariant.stays;
   worked = (c.in-Ok.ensures.worked (λ none. absurd (omega arith))).0 ∙ c.loop-at.invariant.worked;
+  called = omega (arith, c.in-Ok.ensures.called, c.loop-at.invariant.called);
 }
 
 pub returns-in_default : goal.returns-in_default
@@ -23,9 +24,11 @@ returns-in_default g c =
           w.in-Ok.ensures.appends)
           (w.in-Ok.ensures.rest ∙ c.loop-at.invariant.stays)
           (failed_then _ _ _ c.loop-at.invariant.worked (w.in-Ok.ensures.failed (none, grind (arith, common_steps))))
+          (omega (arith, w.in-Ok.ensures.called, c.loop-at.invariant.called))
       | in_default-via-in_default w ↦
           fails_at c.args.bytes.now c.args.sent c.loop-at.at _ _ _ _ c.loop-at-test.true
           (Appends-kept _ _ _ _ c.loop-at.invariant.holds w.in_default.ensures.appends)
           (w.in_default.ensures.rest ∙ c.loop-at.invariant.stays)
           (failed_then _ _ _ c.loop-at.invariant.worked (w.in_default.ensures.failed tt))
+          (omega (arith, w.in_default.ensures.called, c.loop-at.invariant.called))
     ]
