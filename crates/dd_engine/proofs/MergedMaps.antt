@@ -88,7 +88,7 @@ lists_withdrawn m set listing says listed =
     sym listed.names ∙ ap withdrawn_of (says.only listed.walk listed.is_walk) ∙ says.names
 
 -- the versions of the images of each set, and the versions of each catalogue
-abbrev versions_by_set : List SetListing → List (List Parts)
+abbrev pub versions_by_set : List SetListing → List (List Parts)
 versions_by_set listings = map (λ listing. map version_of listing.images) listings
 
 abbrev versions_by_map : List Contents → List (List Parts)
@@ -120,7 +120,7 @@ list_withdrawn (set ∷ sets) (m ∷ maps) (first ∷ listings) published listed
 
 -- ---- all together
 
-numbered_together : (at : ℕ) (listings : List SetListing)
+pub numbered_together : (at : ℕ) (listings : List SetListing)
     → versions_in (numbered at listings) ≡ together (versions_by_set listings)
 numbered_together at [] = refl
 numbered_together at (first ∷ listings) =

@@ -40,7 +40,7 @@ places_below : (n : ℕ) (images : List (ℕ × Listed)) → AreBelow n images
 places_below n [] below = tt
 places_below n (image ∷ images) below = (below.0, places_below n images below.1)
 
-many_own : (sets : List (List ℕ)) (listings : List SetListing) → AreOwn sets listings
+pub many_own : (sets : List (List ℕ)) (listings : List SetListing) → AreOwn sets listings
     → length listings ≡ length sets
 many_own [] [] own = refl
 many_own [] (first ∷ listings) own = absurd own
@@ -54,7 +54,7 @@ all_numbered_below sets listings own =
     numbered_below (length sets) 0 listings (omega (arith, many_own sets listings own))
 
 -- what holds of all elements of a mapped list holds of the elements, mapped
-unmapped : {A B : Type 0} (P : B → Type 0) (f : A → B) (xs : List A) → All P (map f xs) → All (λ x. P (f x)) xs
+pub unmapped : {A B : Type 0} (P : B → Type 0) (f : A → B) (xs : List A) → All P (map f xs) → All (λ x. P (f x)) xs
 unmapped P f xs all k d below =
     subst P (get_or-map f xs k d (f d) below) (all k (f d) (omega (arith, below, length-map xs f)))
 

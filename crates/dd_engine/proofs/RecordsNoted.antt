@@ -23,9 +23,9 @@ use Rattle.dd_engine.specs.declared.noted_merge.NotedMerge.{NotedMerge}
 use Rattle.dd_engine.specs.declared.notes.Clash.{Clash}
 use Rattle.dd_engine.specs.declared.notes.LeftOut.{LeftOut}
 use Rattle.dd_engine.specs.declared.notes.NotedFault.{NotedFault}
-use Rattle.dd_engine.specs.MergeNotes.{ClashesIn, FindsBoth, LeavesOut, NotesSets, NotesSetsFault, filed_in, unnoted}
+use Rattle.dd_engine.specs.MergeNotes.{ClashesIn, FindsBoth, LeavesOut, NotesSets, NotesSetsFault, unnoted}
 use Rattle.dd_engine.specs.MergeSteps.{ArePlaced, plan_fault}
-use Rattle.dd_engine.specs.Merging.{Merges, SetListing, held_in, numbered, pick_view}
+use Rattle.dd_engine.specs.Merging.{Merges, SetListing, filed_in, held_in, numbered, pick_view}
 use Rattle.dd_engine.specs.Merging.{place_pick, places_in, versions_in, withdrawn_in}
 use Rattle.dd_engine.specs.Noting.{AreBelow, AreLeftOut, IsBelow, IsClashOf, LeftAs, both, clash_of, first_by, first_of}
 use Rattle.dd_engine.specs.Noting.{is_other, left_as, left_out}
@@ -126,7 +126,7 @@ zip_images [] = refl
 zip_images (image ∷ images) =
     ap (λ l. (place_pick (image.0, place_of image.1), version_of image.1) ∷ l) (zip_images images)
 
-filed_is : (listings : List SetListing) (versions : List Parts) (picks : List Pick)
+pub filed_is : (listings : List SetListing) (versions : List Parts) (picks : List Pick)
     → ArePlaced (numbered 0 listings) versions picks
     → map (λ v. (pick_view v.0, v.1)) (zip picks versions) ≡ filed_in listings
 filed_is listings versions picks placed =
@@ -172,7 +172,7 @@ clashes given listings versions picks m fault clash placed is are = by fault her
 
 -- ---- numbers of sets
 
-filed_below : (n : ℕ) (images : List (ℕ × Listed)) → ImagesBelow n images
+pub filed_below : (n : ℕ) (images : List (ℕ × Listed)) → ImagesBelow n images
     → AllByRecursion {X = (ℕ × List ℕ) × Parts} (λ v. v.0.0 < n)
     (map (λ image. (place_pick (image.0, place_of image.1), version_of image.1)) images)
 filed_below n [] below = tt

@@ -1,7 +1,9 @@
 -- What is gathered of one set more, and which set is the first that fails.
-use Rattle.std.specs.Prelude.{◌≡◌, ◌<◌, ◌+◌, ℕ, suc, List, [], ◌∷◌, ◌++◌, length, map, take, get_or, Ok, Err}
+use Rattle.std.specs.Prelude.{◌≡◌, ◌<◌, ◌+◌, ℕ, suc, List, [], ◌∷◌, ◌++◌, length, map, take, get_or, Option, None, Some}
+use Rattle.std.specs.Prelude.{Ok, Err}
 use Rattle.std.proofs.Common.{refl, sym, ◌∙◌, ap, ap₂, subst, arith, append_assoc}
 use Rattle.std.proofs.lemmas.List.{append-nil, map-append, take_more}
+use Rattle.dd_catalogue.specs.Contents.{held_of}
 use Rattle.dd_dir.specs.declared.own.Place.{Place as PlaceValue}
 use Rattle.dd_dir.specs.Own.{Listed, own}
 use Rattle.dd_dir.specs.OwnVersions.{Place, place_of, place_view, version_of}
@@ -10,11 +12,13 @@ use Rattle.dd_dir.specs.Trees.{Walk}
 use Rattle.dd_dir.specs.Withdrawn.{AreRisingUids, withdrawn_of}
 use Rattle.dd_version.specs.declared.parts.Parts.{Parts}
 use Rattle.dd_engine.specs.declared.gathering.Gathered.{Gathered}
+use Rattle.dd_engine.specs.declared.merge.Pick.{Pick}
 use Rattle.dd_engine.specs.declared.merge_fault.MergeFault.{MergeFault}
 use Rattle.dd_engine.specs.declared.merge_fault.MergeFault.TheVariants.{Dir, Own, Plan, Memory}
 use Rattle.dd_engine.specs.Merging.{AreOwn, IsFirst, IsForeign, IsOwn, SetListing, numbered, place_pick, places_in}
-use Rattle.dd_engine.specs.Merging.{versions_in, withdrawn_in}
-use Rattle.dd_engine.specs.MergeSteps.{FailsAt, Gathers, GathersAll, GathersOf}
+use Rattle.dd_engine.specs.Merging.{held_in, pick_view, versions_in, withdrawn_in}
+use Rattle.dd_engine.specs.MergeSteps.{ArePlaced, FailsAt, Gathers, GathersAll, GathersOf, Withdrawal, withdrawals_from}
+use Rattle.dd_engine.specs.MergeSteps.{withdrawals_in}
 use Rattle.dd_engine.proofs.ImagePicks.{twice}
 
 -- ---- what one set more lists
@@ -44,31 +48,88 @@ numbered_more at n (first ∷ listings) last is =
     ∙ sym (append_assoc (map (λ image. (at, image)) first.images) (numbered (suc at) listings)
     (map (λ image. (n, image)) last.images))
 
-withdrawn_after : (listings : List SetListing) (last : SetListing)
-    → withdrawn_in (listings ++ last ∷ []) ≡ withdrawn_in listings ++ last.withdrawn
-withdrawn_after [] last = append-nil last.withdrawn
-withdrawn_after (first ∷ listings) last =
-    ap (λ l. first.withdrawn ++ l) (withdrawn_after listings last)
-    ∙ sym (append_assoc first.withdrawn (withdrawn_in listings) last.withdrawn)
+withdrawals_more : (at n : ℕ) (listings : List SetListing) (last : SetListing) → at + length listings ≡ n
+    → withdrawals_from at (listings ++ last ∷ [])
+    ≡ withdrawals_from at listings ++ map (λ uid. (Some n, uid)) last.withdrawn
+withdrawals_more at n [] last is =
+    let here : at ≡ n = omega (arith, is) in
+    append-nil (map (λ uid. (Some at, uid)) last.withdrawn)
+    ∙ ap (λ k. map (λ (uid : List ℕ). (Some k, uid)) last.withdrawn) here
+withdrawals_more at n (first ∷ listings) last is =
+    ap (λ l. map (λ uid. (Some at, uid)) first.withdrawn ++ l)
+    (withdrawals_more (suc at) n listings last (omega (arith, is)))
+    ∙ sym (append_assoc (map (λ uid. (Some at, uid)) first.withdrawn) (withdrawals_from (suc at) listings)
+    (map (λ uid. (Some n, uid)) last.withdrawn))
 
--- what is withdrawn of them behind what is given
-withdrawn_more : (given : List (List ℕ)) (listings : List SetListing) (last : SetListing)
-    → given ++ withdrawn_in (listings ++ last ∷ []) ≡ (given ++ withdrawn_in listings) ++ last.withdrawn
-withdrawn_more given listings last =
-    ap (λ l. given ++ l) (withdrawn_after listings last)
-    ∙ sym (append_assoc given (withdrawn_in listings) last.withdrawn)
+-- what is withdrawn of them after what is given
+given_more : (given : List (List ℕ)) (n : ℕ) (listings : List SetListing) (last : SetListing)
+    → length listings ≡ n
+    → withdrawals_in given (listings ++ last ∷ [])
+    ≡ withdrawals_in given listings ++ map (λ uid. (Some n, uid)) last.withdrawn
+given_more given n listings last many =
+    let front : List Withdrawal = map (λ uid. (None, uid)) given in
+    ap (λ l. front ++ l) (withdrawals_more 0 n listings last (omega (arith, many)))
+    ∙ sym (append_assoc front (withdrawals_from 0 listings) (map (λ uid. (Some n, uid)) last.withdrawn))
+
+-- ---- the UIDs and the numbers of withdrawals
+
+pub uids_numbered : (number : Option ℕ) (uids : List (List ℕ))
+    → map (λ (uid : Withdrawal). uid.1) (map (λ uid. (number, uid)) uids) ≡ uids
+uids_numbered number [] = refl
+uids_numbered number (uid ∷ uids) = ap (λ l. uid ∷ l) (uids_numbered number uids)
+
+pub numbers_numbered : (number : Option ℕ) (uids : List (List ℕ))
+    → map (λ (uid : Withdrawal). uid.0) (map (λ uid. (number, uid)) uids) ≡ map (λ _. number) uids
+numbers_numbered number [] = refl
+numbers_numbered number (uid ∷ uids) = ap (λ l. number ∷ l) (numbers_numbered number uids)
+
+uids_of_sets : (at : ℕ) (listings : List SetListing)
+    → map (λ (uid : Withdrawal). uid.1) (withdrawals_from at listings) ≡ withdrawn_in listings
+uids_of_sets at [] = refl
+uids_of_sets at (listing ∷ listings) =
+    map-append (λ (uid : Withdrawal). uid.1) (map (λ uid. (Some at, uid)) listing.withdrawn)
+    (withdrawals_from (suc at) listings)
+    ∙ ap₂ (λ (a b : List (List ℕ)). a ++ b) (uids_numbered (Some at) listing.withdrawn)
+    (uids_of_sets (suc at) listings)
+
+pub uids_withdrawn : (given : List (List ℕ)) (listings : List SetListing)
+    → map (λ (uid : Withdrawal). uid.1) (withdrawals_in given listings) ≡ given ++ withdrawn_in listings
+uids_withdrawn given listings =
+    map-append (λ (uid : Withdrawal). uid.1) (map (λ uid. (None, uid)) given) (withdrawals_from 0 listings)
+    ∙ ap₂ (λ (a b : List (List ℕ)). a ++ b) (uids_numbered None given) (uids_of_sets 0 listings)
+
+pub uids_more : (uids : List Withdrawal) (number : Option ℕ) (own all added new : List (List ℕ))
+    → all ≡ map (λ uid. uid.1) uids → new ≡ all ++ added → added ≡ own
+    → new ≡ map (λ uid. uid.1) (uids ++ map (λ uid. (number, uid)) own)
+uids_more uids number own all added new was is told =
+    is ∙ ap₂ (λ (a b : List (List ℕ)). a ++ b) was (told ∙ sym (uids_numbered number own))
+    ∙ sym (map-append (λ (uid : Withdrawal). uid.1) uids (map (λ uid. (number, uid)) own))
+
+pub numbers_more : (uids : List Withdrawal) (number : Option ℕ) (own added : List (List ℕ)) (all new : List (Option ℕ))
+    → all ≡ map (λ uid. uid.0) uids → new ≡ all ++ map (λ _. number) added → added ≡ own
+    → new ≡ map (λ uid. uid.0) (uids ++ map (λ uid. (number, uid)) own)
+numbers_more uids number own added all new was is told =
+    is ∙ ap₂ (λ (a b : List (Option ℕ)). a ++ b) was
+    (ap (map (λ _. number)) told ∙ sym (numbers_numbered number own))
+    ∙ sym (map-append (λ (uid : Withdrawal). uid.0) uids (map (λ uid. (number, uid)) own))
 
 -- ---- what was gathered of them
 
 pub gathers_more : (given : List (List ℕ)) (n : ℕ) (listings : List SetListing) (last : SetListing)
     (gathered : Gathered) → length listings ≡ n
     → Gathers (numbered 0 listings ++ map (λ image. (n, image)) last.images)
-    ((given ++ withdrawn_in listings) ++ last.withdrawn) gathered
+    (withdrawals_in given listings ++ map (λ uid. (Some n, uid)) last.withdrawn)
+    (map (λ listing. listing.unreached) listings ++ last.unreached ∷ []) gathered
     → GathersOf given (listings ++ last ∷ []) gathered
 gathers_more given n listings last gathered many is =
-    subst (λ u. Gathers (numbered 0 (listings ++ last ∷ [])) u gathered) (sym (withdrawn_more given listings last))
-    (subst (λ l. Gathers l ((given ++ withdrawn_in listings) ++ last.withdrawn) gathered)
-    (sym (numbered_more 0 n listings last (omega (arith, many)))) is)
+    let all = listings ++ last ∷ [] in
+    subst (λ c. Gathers (numbered 0 all) (withdrawals_in given all) c gathered)
+    (sym (map-append (λ (listing : SetListing). listing.unreached) listings (last ∷ [])))
+    (subst (λ u. Gathers (numbered 0 all) u (map (λ listing. listing.unreached) listings ++ last.unreached ∷ []) gathered)
+    (sym (given_more given n listings last many))
+    (subst (λ l. Gathers l (withdrawals_in given listings ++ map (λ uid. (Some n, uid)) last.withdrawn)
+    (map (λ listing. listing.unreached) listings ++ last.unreached ∷ []) gathered)
+    (sym (numbered_more 0 n listings last (omega (arith, many)))) is))
 
 pub versions_more : (before : List (ℕ × Listed)) (at : ℕ) (images : List Listed) (old new added : List Parts)
     → old ≡ versions_in before → new ≡ old ++ added → added ≡ map version_of images
@@ -97,14 +158,32 @@ picks_more before at images old new added was is views =
     ∙ ap (map place_pick)
     (sym (map-append (λ (i : ℕ × Listed). (i.0, place_of i.1)) before (map (λ image. (at, image)) images)))
 
+-- ---- what is made of what was gathered
+
+pub placed_is : (given : List (List ℕ)) (listings : List SetListing) (gathered : Gathered) (versions : List Parts)
+    (picks : List Pick) → versions ≡ gathered.versions.items → picks ≡ gathered.picks.items
+    → GathersOf given listings gathered → ArePlaced (numbered 0 listings) versions picks
+placed_is given listings gathered versions picks all files held = record {
+  versions = all ∙ held.versions;
+  picks = ap (map (λ pick. pick_view pick)) files ∙ held.picks;
+}
+
+pub held_is : (given : List (List ℕ)) (listings : List SetListing) (gathered : Gathered)
+    → GathersOf given listings gathered
+    → held_of (record { versions = gathered.versions.items; withdrawn = gathered.withdrawn.items })
+    ≡ held_in given listings
+held_is given listings gathered held =
+    ap₂ (λ (v : List Parts) (w : List (List ℕ)). held_of (record { versions = v; withdrawn = w })) held.versions
+    (held.withdrawn ∙ uids_withdrawn given listings)
+
 -- ---- the answer of one set
 
 -- dd_dir would have written the set: it lists these images, and withdraws what its walk names
 pub own_listing : (set : List ℕ) (walk : Walk) (images : List Listed) → IsWalk set walk
     → AreRisingUids (withdrawn_of walk) → own walk ≡ Ok images
-    → IsOwn set (record { images = images; withdrawn = withdrawn_of walk })
+    → IsOwn set (record { images = images; withdrawn = withdrawn_of walk; unreached = walk.unreached })
 own_listing set walk images is rising lists =
-    record { walk = walk; is_walk = is; names = refl; rising = rising; lists = lists }
+    record { walk = walk; is_walk = is; names = refl; rising = rising; lists = lists; unreached = refl }
 
 -- ---- faults
 

@@ -16,9 +16,9 @@ use Rattle.dd_engine.specs.declared.notes.NotedFault.{NotedFault}
 use Rattle.dd_engine.specs.declared.notes.Notes.{Notes}
 use Rattle.dd_engine.specs.Choosing.{label_for, refusal_for}
 use Rattle.dd_engine.specs.Indexed.{Indexes, IsIndexed}
-use Rattle.dd_engine.specs.Indexing.{Answer, accepted, best_of_sources}
+use Rattle.dd_engine.specs.Indexing.{Answer, accepted, best_of_sources, versions_of}
 use Rattle.dd_engine.specs.Noting.{AreLeftOut, IsClashOf, IsFound}
-use Rattle.dd_engine.specs.PatientNames.{AreNamed}
+use Rattle.dd_engine.specs.PatientNames.{AreNamed, NamedPatient, with_kept_digest}
 use Rattle.dd_engine.specs.Picking.{ArePicked, files_of}
 use Rattle.dd_engine.specs.Supply.{AreAnswers}
 
@@ -32,6 +32,11 @@ unnoted (Err noted) = Err noted.fault
 -- the notes name the sources that are left out: of the instance of each, a version with other bytes is kept
 abbrev pub LeavesOut : List Answer → List (LeftOut ℕ) → Type 0
 LeavesOut answers notes = AreLeftOut (λ at. at) (best_of_sources (accepted answers)) (accepted answers) notes
+
+-- the notes name the patients with more than one name in the versions that have the digest of the kept one
+abbrev pub NamesPatients : List Answer → List NamedPatient → Type 0
+NamesPatients answers patients =
+    AreNamed (with_kept_digest (best_of_sources (accepted answers)) (versions_of (accepted answers))) patients
 
 -- where the plan is refused for two versions that clash, the first source of each; None for any other fault
 abbrev pub ClashesIn : List Answer → EngineFault → Option (Clash ℕ) → Type 0
@@ -53,7 +58,7 @@ IsRefused choice limits answers noted =
 abbrev pub NotesIndex : Choice → Limits → List Answer → Result NotedIndex (NotedFault EngineFault ℕ) → Type 0
 NotesIndex choice limits answers (Ok noted) =
     IsIndexed choice limits answers noted.indexed × LeavesOut answers noted.notes.left_out.items
-    × AreNamed (best_of_sources (accepted answers)) noted.notes.names.items
+    × NamesPatients answers noted.notes.names.items
 NotesIndex choice limits answers (Err noted) = IsRefused choice limits answers noted
 
 -- ---- the answer for this number of sources, where `contents` gives the bytes of each source that are known
@@ -87,4 +92,4 @@ pub record IsPlanned (choice : Choice) (limits : Limits) (answers : List Answer)
   pub picks : let m = best_of_sources (accepted answers) in ArePicked (files_of (accepted answers)) (harmonised m)
       (records_of (label_for choice m []) (harmonised m)) from
   pub left : LeavesOut answers noted.left_out.items
-  pub names : AreNamed (best_of_sources (accepted answers)) noted.names.items
+  pub names : NamesPatients answers noted.names.items

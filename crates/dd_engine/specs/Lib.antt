@@ -2,6 +2,7 @@ pub mod Choosing
 pub mod IndexNotes
 pub mod Indexed
 pub mod Indexing
+pub mod Mentions
 pub mod MergeNotes
 pub mod MergeSteps
 pub mod Merging
@@ -10,7 +11,9 @@ pub mod Namings
 pub mod PatientNames
 pub mod Picking
 pub mod Published
+pub mod SameSets
 pub mod SameVersions
 pub mod Saying
+pub mod SetNotes
 pub mod Supplies
 pub mod Supply

@@ -1,8 +1,6 @@
--- What a merge of directories answers, together with its notes on the files that they list.
-use Rattle.std.specs.Prelude.{◌≡◌, ℕ, List, map, Option, None, Result, Ok, Err}
-use Rattle.dd_dir.specs.OwnVersions.{place_of, version_of}
+-- What a merge of directories answers, together with its notes on them and on the files that they list.
+use Rattle.std.specs.Prelude.{◌≡◌, ℕ, List, Option, None, Result, Ok, Err}
 use Rattle.dd_dir.specs.Reading.{Refuses}
-use Rattle.dd_version.specs.declared.parts.Parts.{Parts}
 use Rattle.dd_layout.specs.Limits.{Limits}
 use Rattle.dd_engine.specs.declared.choice.Choice.{Choice}
 use Rattle.dd_engine.specs.declared.merge.Merged.{Merged}
@@ -13,11 +11,13 @@ use Rattle.dd_engine.specs.declared.noted_merge.NotedMerge.{NotedMerge}
 use Rattle.dd_engine.specs.declared.notes.Clash.{Clash}
 use Rattle.dd_engine.specs.declared.notes.LeftOut.{LeftOut}
 use Rattle.dd_engine.specs.declared.notes.NotedFault.{NotedFault}
-use Rattle.dd_engine.specs.Merging.{AreOwn, IsFirst, IsForeign, IsMerged, SetListing, held_in, numbered, pick_view}
-use Rattle.dd_engine.specs.Merging.{place_pick}
+use Rattle.dd_engine.specs.declared.notes.Notes.{Notes}
+use Rattle.dd_engine.specs.Merging.{AreOwn, IsFirst, IsForeign, IsMerged, SetListing, filed_in, held_in, numbered}
+use Rattle.dd_engine.specs.Merging.{pick_view, versions_in}
 use Rattle.dd_engine.specs.MergeSteps.{MergesAs}
 use Rattle.dd_engine.specs.Noting.{AreLeftOut, IsClashOf, IsFound}
-use Rattle.dd_engine.specs.PatientNames.{AreNamed}
+use Rattle.dd_engine.specs.PatientNames.{AreNamed, NamedPatient, with_kept_digest}
+use Rattle.dd_engine.specs.SetNotes.{AreSetNotes}
 
 -- the answer without its notes
 abbrev pub unnoted : Result NotedMerge (NotedFault MergeFault Pick) → Result Merged MergeFault
@@ -25,11 +25,6 @@ unnoted (Ok noted) = Ok noted.merged
 unnoted (Err noted) = Err noted.fault
 
 -- ---- the answer, where the sets list this, and the given UIDs are withdrawn as well
-
--- the versions of all images, each with the set and the File ID of its file
-abbrev pub filed_in : List SetListing → List ((ℕ × List ℕ) × Parts)
-filed_in listings =
-    map (λ image. (place_pick (image.0, place_of image.1), version_of image.1)) (numbered 0 listings)
 
 -- the notes name the files that are left out: of the instance of each, a version with other bytes is kept
 abbrev pub LeavesOut : List (List ℕ) → List SetListing → List (LeftOut Pick) → Type 0
@@ -47,12 +42,26 @@ abbrev pub FindsBoth : MergeFault → Option (Clash Pick) → Type 0
 FindsBoth (Plan fault) clash = IsFound fault clash
 FindsBoth fault clash = Unit {0}
 
+-- the notes name the patients with more than one name in the versions that have the digest of the kept one
+abbrev pub NamesPatients : List (List ℕ) → List SetListing → List NamedPatient → Type 0
+NamesPatients given listings patients =
+    AreNamed (with_kept_digest (held_in given listings).versions (versions_in (numbered 0 listings))) patients
+
+-- the answer without the notes on the sets
+abbrev pub PlansMerge : Choice → Limits → List (List ℕ) → List SetListing
+    → Result (Merged × Notes Pick) (NotedFault MergeFault Pick) → Type 0
+PlansMerge choice limits given listings (Ok planned) =
+    IsMerged choice limits given listings planned.0 × LeavesOut given listings planned.1.left_out.items
+    × NamesPatients given listings planned.1.names.items
+PlansMerge choice limits given listings (Err noted) =
+    MergesAs choice limits given listings (Err noted.fault) × ClashesIn given listings noted.fault noted.clash
+
 -- the merge answers this, with notes
 abbrev pub NotesMerge : Choice → Limits → List (List ℕ) → List SetListing
     → Result NotedMerge (NotedFault MergeFault Pick) → Type 0
 NotesMerge choice limits given listings (Ok noted) =
     IsMerged choice limits given listings noted.merged × LeavesOut given listings noted.notes.left_out.items
-    × AreNamed (held_in given listings).versions noted.notes.names.items
+    × NamesPatients given listings noted.notes.names.items × AreSetNotes given listings noted.sets
 NotesMerge choice limits given listings (Err noted) =
     MergesAs choice limits given listings (Err noted.fault) × ClashesIn given listings noted.fault noted.clash
 

@@ -1,5 +1,5 @@
 -- What the steps of a merge answer.
-use Rattle.std.specs.Prelude.{◌≡◌, ◌++◌, ℕ, List, map, Some, Result, Ok, Err}
+use Rattle.std.specs.Prelude.{◌≡◌, ◌++◌, ℕ, suc, List, [], ◌∷◌, length, map, drop, Option, None, Some, Result, Ok, Err}
 use Rattle.dd_dir.specs.declared.own_fault.OwnFault.{OwnFault}
 use Rattle.dd_dir.specs.declared.own_fault.OwnFault.TheVariants as owns
 use Rattle.dd_dir.specs.Own.{Listed}
@@ -16,7 +16,7 @@ use Rattle.dd_engine.specs.declared.merge_fault.MergeFault.{MergeFault}
 use Rattle.dd_engine.specs.declared.merge_fault.MergeFault.TheVariants.{Dir, Own, Plan, Memory}
 use Rattle.dd_engine.specs.Choosing.{refusal_for}
 use Rattle.dd_engine.specs.Merging.{AreOwn, IsForeign, IsMerged, IsOwn, RefusesSets, SetListing, held_in, numbered}
-use Rattle.dd_engine.specs.Merging.{pick_view, place_pick, places_in, versions_in, withdrawn_in}
+use Rattle.dd_engine.specs.Merging.{pick_view, place_pick, places_in, versions_in}
 
 -- ---- faults in the words of a merge: want of memory is its own
 
@@ -54,15 +54,39 @@ pub record ArePlaced (images : List (ℕ × Listed)) (all : List Parts) (files :
   pub versions : all ≡ versions_in images
   pub picks : map (λ pick. pick_view pick) files ≡ map (λ place. place_pick place) (places_in images)
 
--- what was gathered is of these images, their versions and where the files are, and of these withdrawn UIDs
-pub record Gathers (images : List (ℕ × Listed)) (uids : List (List ℕ)) (gathered : Gathered) : Type 0 where
+-- a UID that is withdrawn, and the number of the set that withdraws it: None for a given one
+abbrev pub Withdrawal : Type 0
+Withdrawal = Option ℕ × List ℕ
+
+-- those of the sets in a row; the first set has this number
+abbrev pub withdrawals_from : ℕ → List SetListing → List Withdrawal
+withdrawals_from at [] = []
+withdrawals_from at (listing ∷ more) =
+    map (λ uid. (Some at, uid)) listing.withdrawn ++ withdrawals_from (suc at) more
+
+-- the given ones, and then those of all sets
+abbrev pub withdrawals_in : List (List ℕ) → List SetListing → List Withdrawal
+withdrawals_in given listings = map (λ uid. (None, uid)) given ++ withdrawals_from 0 listings
+
+-- what was gathered is of these images, their versions and where the files are, of these UIDs that are withdrawn, and of
+-- sets with these counts of records that are not reached
+pub record Gathers (images : List (ℕ × Listed)) (uids : List Withdrawal) (counts : List ℕ) (gathered : Gathered)
+    : Type 0 where
   pub versions : gathered.versions.items ≡ versions_in images
   pub picks : map (λ pick. pick_view pick) gathered.picks.items ≡ map (λ place. place_pick place) (places_in images)
-  pub withdrawn : gathered.withdrawn.items ≡ uids
+  pub withdrawn : gathered.withdrawn.items ≡ map (λ uid. uid.1) uids
+  pub by : gathered.by.items ≡ map (λ uid. uid.0) uids
+  pub unreached : gathered.unreached.items ≡ counts
 
 -- it is of all that the sets list, and of these withdrawn UIDs
 abbrev pub GathersOf : List (List ℕ) → List SetListing → Gathered → Type 0
-GathersOf given listings gathered = Gathers (numbered 0 listings) (given ++ withdrawn_in listings) gathered
+GathersOf given listings gathered = Gathers (numbered 0 listings) (withdrawals_in given listings)
+    (map (λ listing. listing.unreached) listings) gathered
+
+-- the SOP Instance UIDs of the images, and the UIDs that the sets withdraw, which come after the given ones
+abbrev pub known_in : Gathered → List (List ℕ) → List (List ℕ)
+known_in gathered given =
+    map (λ version. version.instance) gathered.versions.items ++ drop (length given) gathered.withdrawn.items
 
 -- what was gathered of all sets, or why they are refused
 abbrev pub GathersAll : List (List ℕ) → List (List ℕ) → Result Gathered MergeFault → Type 0

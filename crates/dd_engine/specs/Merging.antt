@@ -25,10 +25,12 @@ use Rattle.dd_engine.specs.Picking.{ArePicked, FileKey}
 
 -- ---- what the sets list
 
--- the images that a set lists, and the SOP Instance UIDs (PS3.3 section C.12.1) that it withdraws
+-- the images that a set lists, the SOP Instance UIDs (PS3.3 section C.12.1) that it withdraws, and how many of its
+-- records are not reached
 pub record SetListing : Type 0 where
   pub images : List Listed
   pub withdrawn : List (List ℕ)
+  pub unreached : ℕ
 
 -- the bytes are a directory as dd_dir writes one, and this is what it lists and withdraws
 pub record IsOwn (set : List ℕ) (listing : SetListing) : Type 0 where
@@ -37,6 +39,7 @@ pub record IsOwn (set : List ℕ) (listing : SetListing) : Type 0 where
   pub names : withdrawn_of walk ≡ listing.withdrawn
   pub rising : AreRisingUids listing.withdrawn
   pub lists : own walk ≡ Ok listing.images
+  pub unreached : walk.unreached ≡ listing.unreached
 
 -- the bytes are a directory that dd_dir would not have written: its withdrawn UIDs or one of its records fail a check
 pub record IsForeign (set : List ℕ) (fault : OwnFault) : Type 0 where
@@ -93,6 +96,11 @@ pick_view pick = (pick.set, pick.file.now)
 -- the places of the files of all images that the sets list
 abbrev pub stands_in : List SetListing → List ((ℕ × List ℕ) × FileKey)
 stands_in listings = map (λ place. stands_at place) (places_in (numbered 0 listings))
+
+-- the versions of all images, each with the set and the File ID of its file
+abbrev pub filed_in : List SetListing → List ((ℕ × List ℕ) × Parts)
+filed_in listings =
+    map (λ image. (place_pick (image.0, place_of image.1), version_of image.1)) (numbered 0 listings)
 
 -- ---- the answer
 

@@ -1,8 +1,10 @@
 -- Patient IDs that stand with more than one Patient's Name in versions.
-use Rattle.std.specs.Prelude.{◌≡◌, ◌≢◌, ◌<◌, ◌↔◌, ℕ, List, length, All, Contains}
+use Rattle.std.specs.Prelude.{◌≡◌, ◌≢◌, ◌<◌, ◌↔◌, Bool, false, ℕ, List, length, filter, All, Contains, Option, None, Some}
 use Rattle.std.specs.List.Sorted.{IsStrictlySortedBy}
 use Rattle.std.specs.Ordering.{flip_args}
 use Rattle.std.specs.declared.cmp.Ordering.{Ordering}
+use Rattle.dd_catalogue.specs.Clash.{same}
+use Rattle.dd_catalogue.specs.Versions.{kept}
 use Rattle.dd_elem.specs.Ordered.{bytes_cmp}
 use Rattle.dd_version.specs.Orders.{by_bytes}
 use Rattle.dd_version.specs.declared.parts.Parts.{Parts}
@@ -33,3 +35,14 @@ pub record AreNamed (versions : List Parts) (patients : List NamedPatient) : Typ
   pub own : All (HasItsNames versions) patients
   pub every : (id one other : List ℕ) → HasName versions id one → HasName versions id other → one ≢ other
       → (patient : NamedPatient) × Contains patients patient × (patient.id ≡ id)
+
+-- ---- the versions whose names are noted
+
+-- the kept version has the bytes of this one: their digests are the same
+abbrev pub is_alike : Option Parts → Parts → Bool
+is_alike None version = false
+is_alike (Some one) version = same one.digest version.digest
+
+-- of the versions that were read, those with the digest of the version that m keeps of their instance
+abbrev pub with_kept_digest : List Parts → List Parts → List Parts
+with_kept_digest m versions = filter (λ version. is_alike (kept m version.instance) version) versions

@@ -1,12 +1,13 @@
 //! What directories list, gathered.
 
-ghost use Rattle.std.specs.Prelude.{◌≡◌, ◌⊎◌, ◌++◌, List, [], ℕ, map, IfOk, OnOk};
+ghost use Rattle.std.specs.Prelude.{◌≡◌, ◌⊎◌, ◌++◌, ◌∷◌, List, [], ℕ, map, None, Some, IfOk, OnOk};
 ghost use Rattle.dd_dir.specs.ReadAnswers.{SaysMemory};
 ghost use Rattle.dd_dir.specs.Own.{Listed};
 ghost use Rattle.dd_dir.specs.OwnVersions.{Tells, place_view};
 ghost use Rattle.dd_dir.specs.Reading.{Refuses};
 ghost use Rattle.dd_engine.specs.Merging.{pick_view, place_pick};
-ghost use Rattle.dd_engine.specs.MergeSteps.{AnswersSet, FailsAt, Gathers, GathersAll, own_fault};
+ghost use Rattle.dd_engine.specs.MergeSteps.{AnswersSet, FailsAt, Gathers, GathersAll, Withdrawal};
+ghost use Rattle.dd_engine.specs.MergeSteps.{own_fault};
 
 use crate::merge::Pick;
 use crate::merge_fault::MergeFault;
@@ -22,8 +23,12 @@ pub(crate) struct Gathered<'a> {
     pub(crate) versions: Vec<Version>,
     /// Where their files are.
     pub(crate) picks: Vec<Pick<'a>>,
-    /// The SOP Instance UIDs that are withdrawn.
+    /// The SOP Instance UIDs that are withdrawn: the given ones, then those of each set.
     pub(crate) withdrawn: Vec<Uid>,
+    /// The number of the set that withdraws each of these. None beside a given one.
+    pub(crate) by: Vec<Option<usize>>,
+    /// How many records of each set are not reached.
+    pub(crate) unreached: Vec<u64>,
 }
 
 // By hand, so that dropping it is one call.
@@ -33,6 +38,8 @@ impl Drop for Gathered<'_> {
             versions: _versions,
             picks: _picks,
             withdrawn: _withdrawn,
+            by: _by,
+            unreached: _unreached,
         } = self;
     }
 }
@@ -46,23 +53,29 @@ impl<'a> Gathered<'a> {
             versions,
             picks,
             withdrawn,
+            by: _by,
+            unreached: _unreached,
         } = self;
         (versions, picks, withdrawn)
     }
 
     /// Gathers of no set, with these UIDs withdrawn.
     fn new(alloc: Global, given: &[Uid]) -> Result<Gathered<'a>, Memory>
-        ensures { IfOk result (Gathers [] given.now) }
+        ensures { IfOk result (Gathers [] (map (λ uid. (None, uid)) given.now) []) }
     {
+        let mut by = Vec::new(alloc);
+        add_numbers(&mut by, None, given)?;
         Ok(Gathered {
             versions: Vec::new(alloc),
             picks: Vec::new(alloc),
             withdrawn: given.to_vec(alloc)?,
+            by,
+            unreached: Vec::new(alloc),
         })
     }
 
     /// Adds what the set of this number lists.
-    fn keep(&mut self, at: usize, mut own: Own<'a>) -> Result<(), Memory>
+    fn keep(&mut self, at: usize, mut own: Own<'a>, unreached: u64) -> Result<(), Memory>
         ensures versions { OnOk result
             (self.new.versions.items ≡ self.old.versions.items ++ own.entry.versions.items) }
         ensures picks { OnOk result (map (λ pick. pick_view pick) self.new.picks.items
@@ -70,8 +83,14 @@ impl<'a> Gathered<'a> {
             ++ map (λ place. place_pick (at, place_view place)) own.entry.places.items) }
         ensures withdrawn { OnOk result (self.new.withdrawn.items
             ≡ self.old.withdrawn.items ++ own.entry.withdrawn.items) }
+        ensures by { OnOk result (self.new.by.items
+            ≡ self.old.by.items ++ map (λ _. Some at) own.entry.withdrawn.items) }
+        ensures unreached { OnOk result (self.new.unreached.items
+            ≡ self.old.unreached.items ++ unreached ∷ []) }
     {
+        self.unreached.push(unreached)?;
         self.versions.append(&mut own.versions)?;
+        add_numbers(&mut self.by, Some(at), &own.withdrawn)?;
         append(&mut self.withdrawn, &mut own.withdrawn)?;
         add_picks(&mut self.picks, at, &own.places)
     }
@@ -100,26 +119,28 @@ fn add_set<'a>(
     set: &'a [u8],
     gathered: &mut Gathered<'a>,
 ) -> Result<(), MergeFault>
-    ensures { (before : List (ℕ × Listed)) (uids : List (List ℕ)) → Gathers before uids gathered.old
+    ensures { (before : List (ℕ × Listed)) (uids : List Withdrawal) (counts : List ℕ)
+        → Gathers before uids counts gathered.old
         → AnswersSet (λ listing done. Gathers (before ++ map (λ image. (at, image)) listing.images)
-        (uids ++ listing.withdrawn) gathered.new) at set.now result }
+        (uids ++ map (λ uid. (Some at, uid)) listing.withdrawn)
+        (counts ++ listing.unreached ∷ []) gathered.new) at set.now result }
 {
-    let own = own_set(alloc, at, set)?;
-    gathered.keep(at, own)?;
+    let (own, unreached) = own_set(alloc, at, set)?;
+    gathered.keep(at, own, unreached)?;
     Ok(())
 }
 
-/// What this set lists, which has this number.
-fn own_set<'a>(alloc: Global, at: usize, set: &'a [u8]) -> Result<Own<'a>, MergeFault>
-    ensures { AnswersSet (λ listing own. Tells listing.withdrawn listing.images own) at set.now
-        result }
+/// Reads what this set lists, which has this number, and counts its records that are not reached.
+fn own_set<'a>(alloc: Global, at: usize, set: &'a [u8]) -> Result<(Own<'a>, u64), MergeFault>
+    ensures { AnswersSet (λ listing own. Tells listing.withdrawn listing.images own.0
+        × (own.1 ≡ listing.unreached)) at set.now result }
 {
     let forest = match read_directory(alloc, set) {
         Ok(forest) => forest,
         Err(fault) => return Err(dir_fault(at, fault)),
     };
     match own_of(alloc, &forest) {
-        Ok(own) => Ok(own),
+        Ok(own) => Ok((own, forest.unreached)),
         Err(fault) => Err(own_fault(at, fault)),
     }
 }
@@ -173,6 +194,21 @@ fn add_picks<'a>(to: &mut Vec<Pick<'a>>, at: usize, places: &[Place<'a>]) -> Res
             set: at,
             file: place.file,
         })?;
+    }
+    Ok(())
+}
+
+/// Adds this number once for each of these UIDs.
+fn add_numbers(
+    to: &mut Vec<Option<usize>>,
+    number: Option<usize>,
+    uids: &[Uid],
+) -> Result<(), Memory>
+    ensures { OnOk result (to.new.items ≡ to.old.items ++ map (λ _. number) uids.now) }
+{
+    to.reserve(uids.len())?;
+    for _uid in uids {
+        to.push(number)?;
     }
     Ok(())
 }

@@ -1,11 +1,15 @@
-//! What holds of every index, whatever the order in which its sources come.
+//! What holds of every index and every merge, whatever the order in which sources or sets come.
 
-ghost use Rattle.std.specs.Prelude.{◌↔◌, ℕ, List, Option, Result};
+ghost use Rattle.std.specs.Prelude.{◌↔◌, ℕ, List, [], Contains, Option, Result};
 ghost use Rattle.dd_version.specs.declared.parts.Parts.{Parts};
 ghost use Rattle.dd_layout.specs.Limits.{Limits};
 ghost use Rattle.dd_engine.specs.declared.choice.Choice.{Choice};
 ghost use Rattle.dd_engine.specs.declared.engine.Indexed.{Indexed};
 ghost use Rattle.dd_engine.specs.declared.engine_fault.EngineFault.{EngineFault};
+ghost use Rattle.dd_engine.specs.declared.merge.Merged.{Merged};
+ghost use Rattle.dd_engine.specs.declared.merge_fault.MergeFault.{MergeFault};
+ghost use Rattle.dd_engine.specs.Merging.{Merges};
+ghost use Rattle.dd_engine.specs.SameSets.{MergesAgree};
 ghost use Rattle.dd_engine.specs.SameVersions.{Agree, IndexesKnown, IsVersionThere};
 
 /// Sources with the same versions have one plan under one choice of a label, and so one directory, or one
@@ -19,4 +23,15 @@ pub fn same_versions_have_one_plan()
         → ((version : Parts) → IsVersionThere limit contents sources version
         ↔ IsVersionThere limit other others version)
         → Agree first second }
+{}
+
+/// Merges of the same sets have one plan under one choice of a label, and so one directory, or one refusal of it.
+/// Neither the order of the sets nor repeats change it.
+pub fn same_sets_have_one_plan()
+    ensures { (choice : Choice) (limits : Limits) (sets others : List (List ℕ))
+        (first second : Result Merged MergeFault)
+        → Merges choice limits [] sets first
+        → Merges choice limits [] others second
+        → ((set : List ℕ) → Contains sets set ↔ Contains others set)
+        → MergesAgree first second }
 {}

@@ -5,6 +5,7 @@ ghost use Rattle.std.specs.List.{list_all, zip};
 ghost use Rattle.dd_catalogue.specs.Clash.{same};
 ghost use Rattle.dd_catalogue.specs.Versions.{kept};
 ghost use Rattle.dd_engine.specs.Noting.{AreLeftOut, is_other};
+ghost use Rattle.dd_engine.specs.PatientNames.{is_alike};
 ghost use Rattle.dd_engine.specs.Picking.{AreHeld, files_of};
 
 use crate::marks::{first_mark, in_order, marks_of};
@@ -77,6 +78,17 @@ fn is_kept(catalogue: &Catalogue, version: &Version) -> bool
         version.now) }
 {
     other_of(catalogue, version).is_none()
+}
+
+/// Says whether the catalogue keeps a version of this version's instance that has its digest.
+pub(crate) fn has_kept_digest(catalogue: &Catalogue, version: &Version) -> bool
+    ensures { result ≡ is_alike (kept catalogue.now.versions version.now.instance) version.now }
+{
+    let parts = version.parts();
+    match catalogue.get(&parts.instance) {
+        Some(kept) => are_same(&kept.parts().digest, &parts.digest),
+        None => false,
+    }
 }
 
 /// Are the digests the same?

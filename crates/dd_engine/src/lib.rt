@@ -2,8 +2,8 @@
 //! their images (PS3.3 annex F); and `first_saying`, which finds the record that files an image as a plan does.
 //!
 //! What they promise stands at `index_engine`, `merge_engine`, `withdraw_engine` and `first_saying`; and at
-//! `index_with_notes`, `merge_with_notes` and `withdraw_with_notes`, which also say which files are left out, and
-//! which Patient IDs have more than one Patient's Name.
+//! `index_with_notes`, `merge_with_notes` and `withdraw_with_notes`, which also say which files are left out and
+//! which Patient IDs have more than one Patient's Name, and the last two what `SetNotes` has.
 #![tactic(auto)]
 
 mod choice;
@@ -14,6 +14,7 @@ mod gathering;
 mod laws;
 mod left_out;
 mod marks;
+mod mentions;
 mod merge;
 mod merge_fault;
 mod noted_index;
@@ -22,6 +23,7 @@ mod notes;
 mod patient_names;
 mod place_picks;
 mod saying;
+mod set_notes;
 mod source_picks;
 mod sources;
 mod supply;
@@ -30,7 +32,7 @@ mod withdraw;
 pub use choice::Choice;
 pub use engine::{Indexed, index_engine};
 pub use engine_fault::EngineFault;
-pub use laws::same_versions_have_one_plan;
+pub use laws::{same_sets_have_one_plan, same_versions_have_one_plan};
 pub use merge::{Merged, Pick, merge_engine};
 pub use merge_fault::MergeFault;
 pub use noted_index::{NotedIndex, index_with_notes};
@@ -38,5 +40,6 @@ pub use noted_merge::{NotedMerge, merge_with_notes, withdraw_with_notes};
 pub use notes::{Clash, LeftOut, NotedFault, Notes};
 pub use patient_names::PatientNames;
 pub use saying::first_saying;
+pub use set_notes::{SetNotes, Unreached, WithdrawnImage};
 pub use supply::Supply;
 pub use withdraw::withdraw_engine;

@@ -46,8 +46,9 @@ impl NotedIndex {
 }
 
 /// Does what `index_engine` does, and notes which sources are left out: of the instance of each, a version with
-/// other bytes is kept. It also notes each Patient ID that stands with more than one Patient's Name in the kept
-/// versions. Where two kept versions clash, the refusal names the first source of each.
+/// other bytes is kept. It also notes each Patient ID that stands with more than one Patient's Name in the versions
+/// whose digest is that of the kept version of their instance. Where two kept versions clash, the refusal names the
+/// first source of each.
 pub fn index_with_notes<S: Supply>(
     alloc: Global,
     supply: &mut S,
@@ -131,7 +132,7 @@ fn planned(
     };
     let picks = source_picks(alloc, &plan, &sources.versions, &sources.numbers)?;
     let left_out = left_out(alloc, catalogue, &sources.versions, &sources.numbers)?;
-    let names = patient_names(alloc, catalogue.versions())?;
+    let names = patient_names(alloc, catalogue, &sources.versions)?;
     Ok((plan, picks, Notes { left_out, names }))
 }
 

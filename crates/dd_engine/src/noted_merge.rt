@@ -2,9 +2,10 @@
 
 ghost use Rattle.std.specs.Prelude.{◌≡◌, ◌<◌, ◌∷◌, All, IfErr, IfOk, List, [], ℕ, length, map};
 ghost use Rattle.dd_engine.specs.Merging.{IsNamedSet, SetListing, held_in, numbered};
-ghost use Rattle.dd_engine.specs.MergeNotes.{ClashesIn, FindsBoth, NotesMerge, NotesSets};
+ghost use Rattle.dd_engine.specs.MergeNotes.{ClashesIn, FindsBoth, NotesMerge, NotesSets, PlansMerge};
 ghost use Rattle.dd_engine.specs.MergeSteps.{ArePlaced, GathersOf, plan_fault};
 ghost use Rattle.dd_engine.specs.Noting.{AreBelow, IsBelow};
+ghost use Rattle.dd_engine.specs.SetNotes.{NameSetsBelow};
 
 use crate::choice::{Choice, plan_for};
 use crate::clash::clash_of;
@@ -15,6 +16,7 @@ use crate::merge_fault::MergeFault;
 use crate::notes::{NotedFault, Notes};
 use crate::patient_names::patient_names;
 use crate::place_picks::place_picks;
+use crate::set_notes::{SetNotes, set_notes};
 use dd_catalogue::Catalogue;
 use dd_elem::Uid;
 use dd_layout::{Limits, PlanFault};
@@ -28,6 +30,8 @@ pub struct NotedMerge<'a> {
     pub merged: Merged<'a>,
     /// The notes on files of the sets.
     pub notes: Notes<Pick<'a>>,
+    /// The notes on the sets as sets.
+    pub sets: SetNotes<'a>,
 }
 
 impl<'a> NotedMerge<'a> {
@@ -38,14 +42,16 @@ impl<'a> NotedMerge<'a> {
         let NotedMerge {
             merged,
             notes: _notes,
+            sets: _sets,
         } = self;
         merged
     }
 }
 
 /// Does what `merge_engine` does, and notes which files are left out: of the instance of each, a version with
-/// other bytes is kept. It also notes each Patient ID that stands with more than one Patient's Name in the kept
-/// versions. Where two kept versions clash, the refusal names the first file of each.
+/// other bytes is kept. It also notes each Patient ID that stands with more than one Patient's Name in the versions
+/// whose digest is that of the kept version of their instance; which sets have records that are not reached; and
+/// which images a set withdraws. Where two kept versions clash, the refusal names the first file of each.
 pub fn merge_with_notes<'a>(
     alloc: Global,
     sets: &'a [&'a [u8]],
@@ -57,6 +63,7 @@ pub fn merge_with_notes<'a>(
         All (λ pick. pick.set < length sets.now) noted.merged.picks.items) }
     ensures below { IfOk result (λ noted.
         AreBelow (λ pick. pick.set) (length sets.now) noted.notes.left_out.items) }
+    ensures sets { IfOk result (λ noted. NameSetsBelow (length sets.now) noted.sets) }
     ensures named { IfErr result (λ noted. IsNamedSet (length sets.now) noted.fault) }
     ensures clash { IfErr result (λ noted.
         IsBelow (λ pick. pick.set) (length sets.now) noted.clash) }
@@ -65,7 +72,9 @@ pub fn merge_with_notes<'a>(
     noted_sets(alloc, sets, &[], choice, limits)
 }
 
-/// Does what `withdraw_engine` does, with the notes that `merge_with_notes` gives. The set has the number 0.
+/// Does what `withdraw_engine` does, with the notes that `merge_with_notes` gives, and notes which of the given UIDs
+/// no record lists and the set does not withdraw. An image whose UID is given is not noted as withdrawn. The set has
+/// the number 0.
 pub fn withdraw_with_notes<'a>(
     alloc: Global,
     set: &'a [u8],
@@ -77,6 +86,7 @@ pub fn withdraw_with_notes<'a>(
     ensures within { IfOk result (λ noted. All (λ pick. pick.set < 1) noted.merged.picks.items) }
     ensures below { IfOk result (λ noted.
         AreBelow (λ pick. pick.set) 1 noted.notes.left_out.items) }
+    ensures sets { IfOk result (λ noted. NameSetsBelow 1 noted.sets) }
     ensures named { IfErr result (λ noted. IsNamedSet 1 noted.fault) }
     ensures clash { IfErr result (λ noted. IsBelow (λ pick. pick.set) 1 noted.clash) }
     ensures found { IfErr result (λ noted. FindsBoth noted.fault noted.clash) }
@@ -97,13 +107,14 @@ pub(crate) fn noted_sets<'a>(
         All (λ pick. pick.set < length sets.now) noted.merged.picks.items) }
     ensures below { IfOk result (λ noted.
         AreBelow (λ pick. pick.set) (length sets.now) noted.notes.left_out.items) }
+    ensures sets { IfOk result (λ noted. NameSetsBelow (length sets.now) noted.sets) }
     ensures named { IfErr result (λ noted. IsNamedSet (length sets.now) noted.fault) }
     ensures clash { IfErr result (λ noted.
         IsBelow (λ pick. pick.set) (length sets.now) noted.clash) }
     ensures found { IfErr result (λ noted. FindsBoth noted.fault noted.clash) }
 {
     let gathered = gather_sets(alloc, sets, given)?;
-    noted(alloc, gathered, choice, limits)
+    noted(alloc, gathered, given, choice, limits)
 }
 
 /// Plans the directory of what was gathered of all sets, with notes. The catalogue keeps the list of withdrawn UIDs,
@@ -111,18 +122,25 @@ pub(crate) fn noted_sets<'a>(
 fn noted<'a>(
     alloc: Global,
     gathered: Gathered<'a>,
+    given: &[Uid],
     choice: &Choice,
     limits: Limits,
 ) -> Result<NotedMerge<'a>, NotedFault<MergeFault, Pick<'a>>>
-    requires { (given : List (List ℕ)) × (listings : List SetListing)
-        × GathersOf given listings gathered }
-    ensures { (given : List (List ℕ)) (listings : List SetListing)
-        → GathersOf given listings gathered.entry
-        → NotesMerge choice.now limits given listings result }
+    requires { (listings : List SetListing) × GathersOf given.now listings gathered }
+    ensures { (listings : List SetListing) → GathersOf given.now listings gathered.entry
+        → NotesMerge choice.now limits given.now listings result }
 {
+    let sets = set_notes(alloc, &gathered, given)?;
     let (versions, places, withdrawn) = gathered.into_parts();
     let catalogue = Catalogue::from_parts(alloc, &versions, withdrawn)?;
-    planned(alloc, &versions, &places, &catalogue, choice, limits)
+    match planned(alloc, &versions, &places, &catalogue, choice, limits) {
+        Ok((merged, notes)) => Ok(NotedMerge {
+            merged,
+            notes,
+            sets,
+        }),
+        Err(fault) => Err(fault),
+    }
 }
 
 /// Plans the directory of the catalogue of what was gathered, with notes.
@@ -133,14 +151,14 @@ fn planned<'a>(
     catalogue: &Catalogue,
     choice: &Choice,
     limits: Limits,
-) -> Result<NotedMerge<'a>, NotedFault<MergeFault, Pick<'a>>>
+) -> Result<(Merged<'a>, Notes<Pick<'a>>), NotedFault<MergeFault, Pick<'a>>>
     requires { (given : List (List ℕ)) × (listings : List SetListing)
         × ArePlaced (numbered 0 listings) versions.now places.now
         × (catalogue.now ≡ held_in given listings) }
     ensures { (given : List (List ℕ)) (listings : List SetListing)
         → ArePlaced (numbered 0 listings) versions.now places.now
         → catalogue.now ≡ held_in given listings
-        → NotesMerge choice.now limits given listings result }
+        → PlansMerge choice.now limits given listings result }
 {
     let plan = match plan_for(alloc, catalogue, choice, limits) {
         Ok(plan) => plan,
@@ -148,11 +166,8 @@ fn planned<'a>(
     };
     let picks = place_picks(alloc, &plan, versions, places)?;
     let left_out = left_out(alloc, catalogue, versions, places)?;
-    let names = patient_names(alloc, catalogue.versions())?;
-    Ok(NotedMerge {
-        merged: Merged { plan, picks },
-        notes: Notes { left_out, names },
-    })
+    let names = patient_names(alloc, catalogue, versions)?;
+    Ok((Merged { plan, picks }, Notes { left_out, names }))
 }
 
 /// Makes the refusal of the plan, with the first file of each of the two versions that it names, if it names two.

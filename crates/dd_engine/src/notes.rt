@@ -32,7 +32,8 @@ pub struct Clash<T> {
 pub struct Notes<T> {
     /// The files that are left out, in the order in which they came.
     pub left_out: Vec<LeftOut<T>>,
-    /// The Patient IDs that stand with more than one Patient's Name in the kept versions, in rising order.
+    /// The Patient IDs that stand with more than one Patient's Name in the versions whose digest is that of the kept
+    /// version of their instance, in rising order.
     pub names: Vec<PatientNames>,
 }
 

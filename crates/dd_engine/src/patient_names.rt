@@ -5,8 +5,10 @@ ghost use Rattle.std.specs.List.{prefix_len};
 ghost use Rattle.std.specs.List.Sorted.{IsStrictlySortedBy};
 ghost use Rattle.dd_catalogue.specs.Best.{SameMembers};
 ghost use Rattle.dd_engine.specs.Namings.{grouped, has_id, has_several, naming_cmp, naming_of, patient_of};
-ghost use Rattle.dd_engine.specs.PatientNames.{AreNamed};
+ghost use Rattle.dd_engine.specs.PatientNames.{AreNamed, with_kept_digest};
 
+use crate::left_out::has_kept_digest;
+use dd_catalogue::Catalogue;
 use dd_elem::{Key, Memory, Ordered};
 use dd_version::Version;
 use std::alloc::Global;
@@ -102,33 +104,43 @@ impl<'a> Ordered for Naming<'a> {
     }
 }
 
-/// Finds the Patient IDs that stand with more than one Patient's Name in these versions. The IDs rise by bytes, and
-/// the names of each fall by bytes. Memory where a growth was refused, which can't be where there are no versions.
+/// Finds the Patient IDs that stand with more than one Patient's Name in those of these versions that have the digest
+/// of the version that the catalogue keeps of their instance. The IDs rise by bytes, and the names of each fall by
+/// bytes. Memory where a growth was refused, which can't be where there are no versions.
 pub(crate) fn patient_names(
     alloc: Global,
+    catalogue: &Catalogue,
     versions: &[Version],
 ) -> Result<Vec<PatientNames>, Memory>
-    ensures named { IfOk result (λ patients. AreNamed versions.now patients.items) }
+    ensures named { IfOk result (λ patients.
+        AreNamed (with_kept_digest catalogue.now.versions versions.now) patients.items) }
     ensures some { OnErr result (versions.now ≢ []) }
 {
     if versions.is_empty() {
         return Ok(Vec::new(alloc));
     }
-    let namings = in_order(namings_of(alloc, versions)?);
+    let namings = in_order(namings_of(alloc, catalogue, versions)?);
     of_several_names(alloc, &namings)
 }
 
-/// Lists the Patient ID and the Patient's Name of each version.
-fn namings_of<'a>(alloc: Global, versions: &'a [Version]) -> Result<Vec<Naming<'a>>, Memory>
-    ensures { IfOk result (λ namings. namings.items ≡ map naming_of versions.now) }
+/// Lists the Patient ID and the Patient's Name of each version that has the digest of the one that is kept.
+fn namings_of<'a>(
+    alloc: Global,
+    catalogue: &Catalogue,
+    versions: &'a [Version],
+) -> Result<Vec<Naming<'a>>, Memory>
+    ensures { IfOk result (λ namings. namings.items
+        ≡ map naming_of (with_kept_digest catalogue.now.versions versions.now)) }
 {
     let mut namings = Vec::with_capacity(alloc, versions.len())?;
     for version in versions {
-        let patient = &version.parts().patient;
-        namings.push(Naming {
-            id: &patient.id,
-            name: &patient.name,
-        })?;
+        if has_kept_digest(catalogue, version) {
+            let patient = &version.parts().patient;
+            namings.push(Naming {
+                id: &patient.id,
+                name: &patient.name,
+            })?;
+        }
     }
     Ok(namings)
 }

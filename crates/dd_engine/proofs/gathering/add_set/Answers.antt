@@ -1,17 +1,21 @@
-use Rattle.std.proofs.Common.{List, ap₂, ◌++◌, ◌∙◌, ℕ}
-use Rattle.dd_engine.proofs.SetsGathered.{picks_more, versions_more}
+use Rattle.std.proofs.Common.{List, [], ◌∷◌, ap₂, ◌++◌, ◌∙◌, ℕ}
+use Rattle.std.specs.Prelude.{Some}
+use Rattle.dd_engine.proofs.SetsGathered.{numbers_more, picks_more, uids_more, versions_more}
 use Rattle.dd_engine.proofs.gathering.add_set.Goals as goal
 
 pub returns : goal.returns
-returns c = λ before uids held.
-    let told = c.in_ok-own.ensures in (
-      told.0,
+returns c = λ before uids counts held.
+    let told = c.in_ok-own.ensures in
+    let listing = told.0 in
+    let kept = c.in_ok-keep.ensures in (
+      listing,
       told.1,
       record {
-        versions = versions_more before c.args.at told.0.images _ _ _ held.versions c.in_ok-keep.ensures.versions
-            told.2.versions;
-        picks = picks_more before c.args.at told.0.images _ _ _ held.picks c.in_ok-keep.ensures.picks told.2.places;
-        withdrawn = c.in_ok-keep.ensures.withdrawn
-            ∙ ap₂ (λ (a b : List (List ℕ)). a ++ b) held.withdrawn told.2.withdrawn;
+        versions = versions_more before c.args.at listing.images _ _ _ held.versions kept.versions told.2.0.versions;
+        picks = picks_more before c.args.at listing.images _ _ _ held.picks kept.picks told.2.0.places;
+        withdrawn = uids_more uids (Some c.args.at) listing.withdrawn _ _ _ held.withdrawn kept.withdrawn
+            told.2.0.withdrawn;
+        by = numbers_more uids (Some c.args.at) listing.withdrawn _ _ _ held.by kept.by told.2.0.withdrawn;
+        unreached = kept.unreached ∙ ap₂ (λ (a : List ℕ) (b : ℕ). a ++ b ∷ []) held.unreached told.2.1;
       },
     )

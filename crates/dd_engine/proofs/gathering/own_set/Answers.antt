@@ -1,3 +1,4 @@
+use Rattle.std.proofs.Common.{refl}
 use Rattle.dd_dir.specs.ForestViews.{walk_view}
 use Rattle.dd_dir.specs.Withdrawn.{withdrawn_of}
 use Rattle.dd_engine.proofs.SetsGathered.{own_listing}
@@ -10,7 +11,7 @@ pub returns-in-Ok-own_of : goal.returns-in-Ok-own_of
 returns-in-Ok-own_of c =
     let walk = walk_view c.in-Ok.forest in
     let told = c.in-Ok-own_of.ensures in (
-      record { images = told.1.0; withdrawn = withdrawn_of walk },
+      record { images = told.1.0; withdrawn = withdrawn_of walk; unreached = walk.unreached },
       own_listing c.args.set.now walk told.1.0 c.in-Ok.ensures.walk told.0 told.1.1,
-      told.1.2,
+      (told.1.2, refl),
     )

@@ -3,7 +3,7 @@ use Rattle.dd_version.specs.declared.parts.Parts.{Parts}
 use Rattle.dd_layout.specs.Layouts.{layout_of}
 use Rattle.dd_engine.specs.Choosing.{label_for, refusal_for}
 use Rattle.dd_engine.specs.Indexing.{accepted}
-use Rattle.dd_engine.specs.PatientNames.{AreNamed}
+use Rattle.dd_engine.specs.PatientNames.{AreNamed, with_kept_digest}
 use Rattle.dd_engine.proofs.NotedPlans.{leaves_out, sources_kept}
 use Rattle.dd_engine.proofs.Planning.{planned_picks, planned_versions, zip_is}
 use Rattle.dd_engine.proofs.noted_index.planned.Goals as goal
@@ -42,6 +42,7 @@ returns-clause-planned c = λ answers held best.
           c.in_ok-picks.picks.items best.0 best.1 picked c.in-Ok.ensures.planned c.in_ok-picks.ensures.all;
       left = leaves_out answers _ c.args.catalogue.now.versions c.in_ok-left_out.left_out.items best.0 left
           c.in_ok-left_out.ensures;
-      names = subst (λ m. AreNamed m c.in_ok-names.names.items) (c.versions.ensures.all ∙ best.0)
+      names = subst (λ versions. AreNamed versions c.in_ok-names.names.items)
+          (ap₂ (λ (m l : List Parts). with_kept_digest m l) best.0 (c.deref-5.ensures.value ∙ held.versions))
           c.in_ok-names.ensures.named;
     }

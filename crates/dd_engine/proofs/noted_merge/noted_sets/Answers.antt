@@ -1,7 +1,9 @@
 use Rattle.std.proofs.Common.{◌<◌, All, IfErr, IfOk, map, rules, subst, ℕ}
 use Rattle.std.proofs.lemmas.List.{length-map}
 use Rattle.dd_engine.specs.Noting.{AreBelow, IsBelow}
+use Rattle.dd_engine.specs.SetNotes.{NameSetsBelow}
 use Rattle.dd_engine.proofs.RecordsNoted.{clash_below, files_found, merged_within, notes_below}
+use Rattle.dd_engine.proofs.SetsNamed.{sets_below}
 use Rattle.dd_engine.proofs.noted_merge.noted_sets.Goals as goal
 
 pub returns-clause-within : goal.returns-clause-within
@@ -17,6 +19,13 @@ returns-clause-below c =
     subst (λ (n : ℕ). IfOk c.noted.result (λ noted. AreBelow (λ pick. pick.set) n noted.notes.left_out.items))
     (length-map c.args.sets.now (λ set. set.now))
     (notes_below c.args.choice.now c.args.limits c.args.given.now sets c.noted.result (search rules))
+
+pub returns-clause-sets : goal.returns-clause-sets
+returns-clause-sets c =
+    let sets = map (λ set. set.now) c.args.sets.now in
+    subst (λ (n : ℕ). IfOk c.noted.result (λ noted. NameSetsBelow n noted.sets))
+    (length-map c.args.sets.now (λ set. set.now))
+    (sets_below c.args.choice.now c.args.limits c.args.given.now sets c.noted.result (search rules))
 
 pub returns-clause-clash : goal.returns-clause-clash
 returns-clause-clash c =

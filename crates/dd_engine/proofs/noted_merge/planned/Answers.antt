@@ -1,10 +1,11 @@
 -- The catalogue of what was gathered is planned, and its picks are those of the plan's images.
-use Rattle.std.proofs.Common.{ap, refl, subst, sym, ◌∙◌, ◌++◌}
+use Rattle.std.proofs.Common.{List, ap, ap₂, refl, subst, sym, ◌∙◌, ◌++◌}
 use Rattle.dd_catalogue.specs.Contents.{Contents}
+use Rattle.dd_version.specs.declared.parts.Parts.{Parts}
 use Rattle.dd_layout.specs.Layouts.{layout_of}
 use Rattle.dd_engine.specs.Choosing.{label_for, refusal_for}
 use Rattle.dd_engine.specs.Merging.{held_in, numbered, stands_in, withdrawn_in}
-use Rattle.dd_engine.specs.PatientNames.{AreNamed}
+use Rattle.dd_engine.specs.PatientNames.{AreNamed, with_kept_digest}
 use Rattle.dd_engine.proofs.MergePlans.{picked_of, planned_of}
 use Rattle.dd_engine.proofs.PlacePicks.{places_kept, side_by_side}
 use Rattle.dd_engine.proofs.RecordsNoted.{leaves_out}
@@ -43,6 +44,7 @@ returns c = λ given listings placed is.
       },
       leaves_out given listings c.args.versions.now c.args.places.now c.args.catalogue.now.versions
           c.in_ok-left_out.left_out.items placed (ap (λ (d : Contents). d.versions) is) c.in_ok-left_out.ensures,
-      subst (λ m. AreNamed m c.in_ok-names.names.items)
-          (c.versions.ensures.all ∙ ap (λ (d : Contents). d.versions) is) c.in_ok-names.ensures.named,
+      subst (λ l. AreNamed l c.in_ok-names.names.items)
+          (ap₂ (λ (m l : List Parts). with_kept_digest m l) (ap (λ (d : Contents). d.versions) is) placed.versions)
+          c.in_ok-names.ensures.named,
     )
