@@ -34,6 +34,7 @@ CASES = [
     ("withdraw --d", "withdraw --dry-run "),
     ("check --k", "check --keys "),
     ("check --q", "check --quiet "),
+    ("check --s", "check --strict "),
     ("check --keys two\\ f", "check --keys two\\ folders/"),
     ("list on", "list one/"),
     ("list --l", "list --long "),

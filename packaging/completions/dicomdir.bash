@@ -64,7 +64,7 @@ _dicomdir()
             index:*) choice="$own $writing --files0-from -h --help" ;;
             merge:*) choice="$writing --files0-from --link -h --help" ;;
             withdraw:*) choice="$writing -h --help" ;;
-            check:*) choice='--keys --quiet -h --help' ;;
+            check:*) choice='--keys --strict --quiet -h --help' ;;
             list:*) choice='--long -h --help' ;;
             :*) choice='-h --help -V --version' ;;
         esac

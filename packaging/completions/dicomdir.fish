@@ -31,6 +31,8 @@ complete -c dicomdir -n '__fish_seen_subcommand_from merge' -l link \
     -d 'Gives images second names in place of copies'
 complete -c dicomdir -n '__fish_seen_subcommand_from check' -l keys \
     -d 'Also compares what each image says of itself with its record'
+complete -c dicomdir -n '__fish_seen_subcommand_from check' -l strict \
+    -d 'Also finds each file whose record has no digest to compare'
 complete -c dicomdir -n '__fish_seen_subcommand_from list' -l long \
     -d 'Also prints names, dates, times, modalities and numbers'
 

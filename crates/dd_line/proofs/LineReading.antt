@@ -114,7 +114,7 @@ checking = built_leaf check_app.top
 check_flags : TakesFlags Check checking.rules
 check_flags = record {
   keys = has_flag (codes "keys") _ checking.rules refl (λ other. other refl);
-  strict = lacks_flag (codes "strict") _ checking.rules refl;
+  strict = has_flag (codes "strict") _ checking.rules refl (λ lists. cc);
   dry_run = lacks_flag (codes "dry-run") _ checking.rules refl;
   quiet = has_flag (codes "quiet") _ checking.rules refl (λ lists. cc);
   long = lacks_flag (codes "long") _ checking.rules refl;

@@ -62,7 +62,7 @@ help_serves s named none name met other words fault = go (bytes_eq s.name name) 
 -- such a command has each flag, or is one that lacks it
 pub record TakesFlags (verb : Verb) (rules : List Rule) : Type 0 where
   pub keys : TakesFlag (codes "keys") (verb ≢ Check) rules
-  pub strict : TakesFlag (codes "strict") (OnlyReads verb) rules
+  pub strict : TakesFlag (codes "strict") (verb ≡ ListSet) rules
   pub dry_run : TakesFlag (codes "dry-run") (OnlyReads verb) rules
   pub quiet : TakesFlag (codes "quiet") (verb ≡ ListSet) rules
   pub long : TakesFlag (codes "long") (verb ≢ ListSet) rules

@@ -76,7 +76,7 @@ indexing = built_leaf index_app.top
 index_flags : TakesFlags Index indexing.rules
 index_flags = record {
   keys = lacks_flag (codes "keys") _ indexing.rules refl;
-  strict = has_flag (codes "strict") _ indexing.rules refl (λ reads. reads);
+  strict = has_flag (codes "strict") _ indexing.rules refl (λ lists. cc);
   dry_run = has_flag (codes "dry-run") _ indexing.rules refl (λ reads. reads);
   quiet = has_flag (codes "quiet") _ indexing.rules refl (λ lists. cc);
   long = lacks_flag (codes "long") _ indexing.rules refl;
@@ -102,7 +102,7 @@ merging = built_leaf merge_app.top
 merge_flags : TakesFlags Merge merging.rules
 merge_flags = record {
   keys = lacks_flag (codes "keys") _ merging.rules refl;
-  strict = has_flag (codes "strict") _ merging.rules refl (λ reads. reads);
+  strict = has_flag (codes "strict") _ merging.rules refl (λ lists. cc);
   dry_run = has_flag (codes "dry-run") _ merging.rules refl (λ reads. reads);
   quiet = has_flag (codes "quiet") _ merging.rules refl (λ lists. cc);
   long = lacks_flag (codes "long") _ merging.rules refl;
@@ -130,7 +130,7 @@ withdrawing = built_leaf withdraw_app.top
 withdraw_flags : TakesFlags Withdraw withdrawing.rules
 withdraw_flags = record {
   keys = lacks_flag (codes "keys") _ withdrawing.rules refl;
-  strict = has_flag (codes "strict") _ withdrawing.rules refl (λ reads. reads);
+  strict = has_flag (codes "strict") _ withdrawing.rules refl (λ lists. cc);
   dry_run = has_flag (codes "dry-run") _ withdrawing.rules refl (λ reads. reads);
   quiet = has_flag (codes "quiet") _ withdrawing.rules refl (λ lists. cc);
   long = lacks_flag (codes "long") _ withdrawing.rules refl;

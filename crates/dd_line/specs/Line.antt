@@ -3,7 +3,7 @@
 --   dicomdir index [OPTIONS] [--files0-from FILE] OUT SRC...
 --   dicomdir merge [OPTIONS] [--files0-from FILE] [--link] OUT SET...
 --   dicomdir withdraw [OPTIONS] OUT SET UID...
---   dicomdir check [--keys] [--quiet] SET
+--   dicomdir check [--keys] [--strict] [--quiet] SET
 --   dicomdir list [--long] SET
 --
 -- OPTIONS are `[--id ID] [--uid UID] [--max-bytes N] [--strict] [--dry-run] [--quiet]`. Where `--files0-from` is given,
@@ -153,9 +153,12 @@ withdraw_app =
 abbrev pub reading_app : Text → App
 reading_app name = with_rule (new_app name) (one_path set_name)
 
--- `check [--keys] [--quiet] SET`
+-- `check [--keys] [--strict] [--quiet] SET`
 abbrev pub check_app : App
-check_app = with_rule (with_rule (reading_app (verb_name Check)) (flag keys_name)) (flag quiet_name)
+check_app = with_rule (with_rule (with_rule (reading_app (verb_name Check))
+    (flag keys_name))
+    (flag strict_name))
+    (flag quiet_name)
 
 -- `list [--long] SET`
 abbrev pub list_app : App
@@ -310,7 +313,7 @@ pub record IsEnoughFor (verb : Verb) (given : List Row) : Type 0 where
   pub withdraw : verb ≡ Withdraw → GivesInstances given
   pub uids : verb ≢ Withdraw → given_for instance_name given ≡ []
   pub keys : verb ≢ Check → is_given keys_name given ≡ false
-  pub strict : OnlyReads verb → is_given strict_name given ≡ false
+  pub strict : verb ≡ ListSet → is_given strict_name given ≡ false
   pub dry_run : OnlyReads verb → is_given dry_run_name given ≡ false
   pub quiet : verb ≡ ListSet → is_given quiet_name given ≡ false
   pub long : verb ≢ ListSet → is_given long_name given ≡ false

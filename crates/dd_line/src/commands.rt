@@ -231,6 +231,11 @@ fn check_command<'a>(alloc: Global) -> Result<Command<'a>, AllocError>
             KEYS,
             "Also compares what each image says of itself with its record",
         ))?
+        .arg(flag(
+            alloc,
+            STRICT,
+            "Also finds each file whose record has no digest to compare",
+        ))?
         .arg(flag(alloc, QUIET, "Shows no progress"))
 }
 

@@ -57,6 +57,11 @@ Example:
   dicomdir merge BOTH DISC1 DISC2
 
 Lines of the output:
+  NOTE <set>: <u> records are not reached
+                                  No offset leads to them: they are left out.
+  NOTE <path>: withdrawn in <set>: <uid>
+                                  That set withdraws the image, which is left
+                                  out. It is printed with --strict alone.
   NOTE ..                         See 'dicomdir index --help'. With --strict
                                   the status is then 1, behind
                                   FAULT -: 98 Strict, and nothing was made.
@@ -83,7 +88,9 @@ Example:
   dicomdir withdraw NEW DISC1 1.2.840.113619.2.1.5
 
 Lines of the output:
-  NOTE ..                         See 'dicomdir index --help'. With --strict
+  NOTE -: <uid> is in no record   SET has no image with this UID. It is
+                                  withdrawn all the same.
+  NOTE ..                         See 'dicomdir merge --help'. With --strict
                                   the status is then 1, behind
                                   FAULT -: 98 Strict, and nothing was made.
   DONE <n> instances, <b> bytes   The file-set is whole. Its DICOMDIR has <b>
@@ -98,14 +105,22 @@ An ID has up to 16 characters of A to Z, 0 to 9 and _.";
 /// The end of the help of `check`.
 pub(crate) const CHECK: &str = "\
 Lines of the output:
-  OK <n> records                  Each file is there and unchanged.
+  OK <n> records                  Each file is there and can be read. It is
+                                  unchanged, where its record has a digest.
   MISSING <id>                    The file with this File ID is not there.
   UNREADABLE <id>                 A read of it failed, or it is too long.
   DIFFERS <id> <digest> <digest>  Its SHA-256 is not the recorded one.
   MISLABELLED <id> <tag>          It says something else at this tag (--keys).
+  NODIGEST <id>                   Its record has no digest (--strict), and
+                                  nothing else is found of it.
   BADID <offset>                  The record there has no proper File ID.
   UNREACHED <n>                   No offset leads to <n> records.
   BROKEN <fault>                  The DICOMDIR can't be read.
+
+Only a DICOMDIR of this program has digests. In other file-sets an image that
+was emptied or cut passes. --keys opens and parses each image, and so finds an
+empty one, and one that ends within an element. --strict finds each file that
+has no digest to compare.
 
 The status is 0 after OK and 3 after any other line.";
 

@@ -30,7 +30,7 @@ pub enum Verb {
     Merge,
     /// Makes such a file-set of one file-set without some of its images, for good: `withdraw OUT SET UID...`.
     Withdraw,
-    /// Compares the files of a file-set with its directory: `check [--keys] [--quiet] SET`.
+    /// Compares the files of a file-set with its directory: `check [--keys] [--strict] [--quiet] SET`.
     Check,
     /// Lists the records of a directory: `list [--long] SET`.
     List,
@@ -57,8 +57,8 @@ pub struct Asked {
     /// Whether the flag `--keys` is set, by which `check` also compares what each file says of itself with its
     /// record. False for every other command.
     pub keys: bool,
-    /// Whether the command is refused where it would leave something out: `--strict` of a command that writes.
-    /// False for `check` and `list`.
+    /// Whether the flag `--strict` is set, by which a command that writes is refused where it would leave something
+    /// out, and `check` also finds a file of which no digest is recorded. False for `list`.
     pub strict: bool,
     /// Whether the command says what it would make, and makes nothing: `--dry-run` of a command that writes.
     /// False for `check` and `list`.
@@ -187,7 +187,7 @@ fn asked_by(alloc: Global, verb: Verb, given: &ArgMatches<'_>) -> Result<Asked, 
     ensures withdraw { IfOk result (λ asked. asked.verb ≡ Verb.Withdraw → AsksToWithdraw asked) }
     ensures uids { IfOk result (λ asked. asked.verb ≢ Verb.Withdraw → asked.uids.items ≡ []) }
     ensures keys { IfOk result (λ asked. asked.verb ≢ Verb.Check → asked.keys ≡ false) }
-    ensures strict { IfOk result (λ asked. OnlyReads asked.verb → asked.strict ≡ false) }
+    ensures strict { IfOk result (λ asked. asked.verb ≡ Verb.List → asked.strict ≡ false) }
     ensures dry { IfOk result (λ asked. OnlyReads asked.verb → asked.dry_run ≡ false) }
     ensures quiet { IfOk result (λ asked. asked.verb ≡ Verb.List → asked.quiet ≡ false) }
     ensures long { IfOk result (λ asked. asked.verb ≢ Verb.List → asked.long ≡ false) }
@@ -220,7 +220,7 @@ fn asked_of(alloc: Global, found: &ArgMatches<'_>) -> Result<Asked, AllocError>
     ensures withdraw { IfOk result (λ asked. asked.verb ≡ Verb.Withdraw → AsksToWithdraw asked) }
     ensures uids { IfOk result (λ asked. asked.verb ≢ Verb.Withdraw → asked.uids.items ≡ []) }
     ensures keys { IfOk result (λ asked. asked.verb ≢ Verb.Check → asked.keys ≡ false) }
-    ensures strict { IfOk result (λ asked. OnlyReads asked.verb → asked.strict ≡ false) }
+    ensures strict { IfOk result (λ asked. asked.verb ≡ Verb.List → asked.strict ≡ false) }
     ensures dry { IfOk result (λ asked. OnlyReads asked.verb → asked.dry_run ≡ false) }
     ensures quiet { IfOk result (λ asked. asked.verb ≡ Verb.List → asked.quiet ≡ false) }
     ensures long { IfOk result (λ asked. asked.verb ≢ Verb.List → asked.long ≡ false) }
@@ -283,7 +283,7 @@ pub fn read_words(alloc: Global, words: &[String]) -> Result<Asked, LineFault>
     ensures withdraw { IfOk result (λ asked. asked.verb ≡ Verb.Withdraw → AsksToWithdraw asked) }
     ensures uids { IfOk result (λ asked. asked.verb ≢ Verb.Withdraw → asked.uids.items ≡ []) }
     ensures keys { IfOk result (λ asked. asked.verb ≢ Verb.Check → asked.keys ≡ false) }
-    ensures strict { IfOk result (λ asked. OnlyReads asked.verb → asked.strict ≡ false) }
+    ensures strict { IfOk result (λ asked. asked.verb ≡ Verb.List → asked.strict ≡ false) }
     ensures dry { IfOk result (λ asked. OnlyReads asked.verb → asked.dry_run ≡ false) }
     ensures quiet { IfOk result (λ asked. asked.verb ≡ Verb.List → asked.quiet ≡ false) }
     ensures long { IfOk result (λ asked. asked.verb ≢ Verb.List → asked.long ≡ false) }

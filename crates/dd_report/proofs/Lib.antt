@@ -5,6 +5,7 @@ mod HexDigits
 mod KeyFindings
 mod ListedLines
 pub mod Masking
+mod NoDigests
 mod RecordLines
 mod SentTexts
 mod TextLemmas

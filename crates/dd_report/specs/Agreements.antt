@@ -20,12 +20,11 @@ use Rattle.dd_dir.specs.ForestViews.{Branch}
 use Rattle.dd_dir.specs.Saying.{digest_in, key_of}
 use Rattle.dd_dir.specs.Trees.{Node, Trees, no_trees, tree}
 use Rattle.dd_report.specs.declared.checking.Comparison.{Comparison}
-use Rattle.dd_report.specs.declared.checking.Comparison.TheVariants.{Digests, Keys}
 use Rattle.dd_report.specs.declared.findings.Finding.{Finding}
 use Rattle.dd_report.specs.declared.findings.Finding.TheVariants.{Mislabelled, NoFile}
 use Rattle.dd_report.specs.declared.agreements.Inherited.{Inherited}
 use Rattle.dd_report.specs.declared.agreements.Shown.{Shown}
-use Rattle.dd_report.specs.Finding.{by_digest}
+use Rattle.dd_report.specs.Finding.{by_digest, without_digest}
 
 -- ---- a record and those above it
 
@@ -136,10 +135,15 @@ is_image node = bytes_eq node.kind (kind_of Image)
 abbrev pub by_keys : Standing → List ℕ → Option Finding
 by_keys standing given = option_or (by_digest standing.node given) (mislabelled standing (file_in given))
 
--- what is found by this comparison: what a file says of itself is compared with IMAGE records alone
+-- what a comparison of keys or of digests alone finds: what a file says of itself is compared with IMAGE records alone
+abbrev pub compared_by : Bool → Standing → List ℕ → Option Finding
+compared_by keys standing given =
+    if keys && is_image standing.node then by_keys standing given else by_digest standing.node given
+
+-- what is found by this comparison: that the record has no digest is found where it is strict and nothing else is found
 abbrev pub found_in : Comparison → Standing → List ℕ → Option Finding
-found_in Digests standing given = by_digest standing.node given
-found_in Keys standing given = if is_image standing.node then by_keys standing given else by_digest standing.node given
+found_in comparison standing given =
+    option_or (compared_by comparison.keys standing given) (without_digest comparison.strict standing.node)
 
 -- ---- what the code holds
 

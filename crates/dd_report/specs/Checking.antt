@@ -14,8 +14,8 @@ use Rattle.dd_report.specs.declared.checking.CheckFault.{CheckFault}
 use Rattle.dd_report.specs.declared.checking.CheckFault.TheVariants.{Memory, Unsent}
 use Rattle.dd_report.specs.declared.checking.Comparison.{Comparison}
 use Rattle.dd_report.specs.declared.findings.Finding.{Finding}
-use Rattle.dd_report.specs.declared.findings.Finding.TheVariants.{BadId, Differs, Mislabelled, Missing, NoFile}
-use Rattle.dd_report.specs.declared.findings.Finding.TheVariants.{Unreadable}
+use Rattle.dd_report.specs.declared.findings.Finding.TheVariants.{BadId, Differs, Mislabelled, Missing, NoDigest}
+use Rattle.dd_report.specs.declared.findings.Finding.TheVariants.{NoFile, Unreadable}
 use Rattle.dd_files.specs.Files.{Held}
 use Rattle.dd_report.specs.Agreements.{Standing, found_in, standings_below}
 use Rattle.dd_report.specs.Finding.{IsFound, NamesFile, file_in}
@@ -38,6 +38,7 @@ finding_parts node (Differs recorded found) =
     differs_parts (file_in node) (encode_lower recorded) (encode_lower found)
 finding_parts node (Mislabelled tag) = mislabelled_parts (file_in node) (text_of tag)
 finding_parts node (NoFile fault) = mislabelled_parts (file_in node) (codes "31 File " ++ file_words fault)
+finding_parts node NoDigest = codes "NODIGEST " ∷ file_in node ∷ []
 
 abbrev pub finding_line : Node → Option Finding → List ℕ
 finding_line node None = []

@@ -1,7 +1,7 @@
 -- What a check of a record finds of the file that it names (PS3.3 section F.3.2.2, Referenced File ID).
 use Rattle.std.proofs.Common.{inl, inr}
-use Rattle.std.specs.Prelude.{◌≡◌, ◌≢◌, ◌⊎◌, ℕ, List, [], Option, None, Some, true}
-use Rattle.std.specs.Prelude.{if◌then◌else◌}
+use Rattle.std.specs.Prelude.{◌≡◌, ◌≢◌, ◌⊎◌, ◌&&◌, not, ℕ, Bool, List, [], Option, None}
+use Rattle.std.specs.Prelude.{Some, is_some, true, if◌then◌else◌}
 use Rattle.std.specs.Borrow.{MutBor}
 use Rattle.std.specs.Str.{bytes_eq}
 use Rattle.sha2.specs.Sha256.{sha256}
@@ -15,7 +15,7 @@ use Rattle.dd_dir.specs.Trees.{Node}
 use Rattle.dd_dir.specs.Saying.{digest_in, key_of}
 use Rattle.dd_files.specs.ReadToEnd.{ReadAmiss}
 use Rattle.dd_report.specs.declared.findings.Finding.{Finding}
-use Rattle.dd_report.specs.declared.findings.Finding.TheVariants.{Differs, Missing, Unreadable}
+use Rattle.dd_report.specs.declared.findings.Finding.TheVariants.{Differs, Missing, NoDigest, Unreadable}
 
 -- the File ID of a record, without its padding: no bytes where it has none
 abbrev pub file_in : Node → List ℕ
@@ -39,6 +39,10 @@ compared (Some recorded) found = if bytes_eq recorded found then None else Some 
 -- what is found of bytes that were read whole, by the digest that the record has
 abbrev pub by_digest : Node → List ℕ → Option Finding
 by_digest node given = compared (digest_in node.set) (sha256 given)
+
+-- a record has no digest, which is found where `strict` asks for it
+abbrev pub without_digest : Bool → Node → Option Finding
+without_digest strict node = if strict && not (is_some (digest_in node.set)) then Some NoDigest else None
 
 -- what is found of it, where `whole` says what is found of bytes that were read whole
 abbrev pub IsFound : Option Finding → (List ℕ → Option Finding) → ℕ → List ℕ → Option (List ℕ) → ℕ → ℕ → Type 0

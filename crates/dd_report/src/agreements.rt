@@ -25,7 +25,7 @@ use dd_elem::{Key, Memory, Read, Tag, Uid, tags};
 use dd_keys::{Digested, read_digested};
 use dd_layout::table::{CLASS, INSTANCE, TRANSFER};
 use dd_part10::{self, FileFault, Scanned, StreamFault};
-use dd_set::{Found, FoundValue};
+use dd_scan::{Found, FoundValue};
 use std::alloc::Global;
 
 /// The tags of a file's data set that are compared, rising.

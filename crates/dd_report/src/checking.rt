@@ -1,10 +1,10 @@
 //! The files of a file-set, compared with its directory.
-ghost use Rattle.std.specs.Prelude.{◌≡◌, ◌↔◌, ◌∷◌, List, [], ℕ, IfOk, IsErr, IsTrue, not};
+ghost use Rattle.std.specs.Prelude.{◌≡◌, ◌↔◌, ◌∷◌, List, [], ℕ, IfOk, IsErr, IsTrue, not, true};
 ghost use Rattle.dd_dir.specs.ForestViews.{tree_view, trees_view, walk_view};
 ghost use Rattle.dd_dir.specs.Trees.{Node};
 ghost use Rattle.dd_version.specs.Fitting.{is_empty};
-ghost use Rattle.dd_report.specs.Agreements.{IsInherited, branch_standings, found_in, is_image, standing_below};
-ghost use Rattle.dd_report.specs.Agreements.{standings_below};
+ghost use Rattle.dd_report.specs.Agreements.{IsInherited, branch_standings, compared_by, found_in, is_image};
+ghost use Rattle.dd_report.specs.Agreements.{standing_below, standings_below};
 ghost use Rattle.dd_report.specs.Checking.{Checks, ChecksAll, FindsFile, TellsFirst, TellsSome, TellsWalk};
 ghost use Rattle.dd_report.specs.Checking.{differs_parts, end_line, finding_line};
 ghost use Rattle.dd_report.specs.Checking.{most_read};
@@ -13,7 +13,7 @@ ghost use Rattle.dd_report.specs.Telling.{Tells, shown_line, way_of};
 ghost use Rattle.dd_report.specs.Text.{FailsInText, TakesText};
 
 use crate::agreements::{Inherited, finding_by_keys};
-use crate::findings::{Finding, file_in, finding_by, id_of, unopened};
+use crate::findings::{Finding, file_in, finding_by, id_of, unopened, without_digest};
 use crate::line_buffer::LineBuffer;
 use crate::listing::record_count;
 use crate::words::{tell_fault, tell_tag};
@@ -34,63 +34,60 @@ pub enum CheckFault {
     Unsent,
 }
 
-/// Says what is compared of a record and of the file that it names.
+/// Says what is compared of a record and of the file that it names. The digest that the record has is always
+/// compared with that of the file.
 #[derive(Clone, Copy, Debug, PartialEq, Eq)]
-pub enum Comparison {
-    /// The digest that the record has is compared with that of the file.
-    Digests,
-    /// The digests are compared. Where they do not differ, what an IMAGE record and those above it say is compared
-    /// with what the file says of itself: its transfer syntax, class and instance, patient, study and series.
-    Keys,
+pub struct Comparison {
+    /// Whether what an IMAGE record and those above it say is compared with what the file says of itself, where the
+    /// digests do not differ: its transfer syntax, class and instance, patient, study and series.
+    pub keys: bool,
+    /// Whether a record without a digest is a finding, where nothing else is found of its file.
+    pub strict: bool,
 }
 
 /// A check that is asked for.
 #[derive(Clone, Copy)]
-struct Check<'a> {
+pub struct Check<'a> {
     /// What takes memory for paths and for what is kept of files.
-    alloc: Global,
+    pub alloc: Global,
     /// The folder of the file-set.
-    folder: &'a str,
+    pub folder: &'a str,
     /// What is compared.
-    comparison: Comparison,
+    pub comparison: Comparison,
 }
 
-/// Checks the files in this folder that the records of a directory name, by this comparison. Prints what is
+/// Checks the files in the folder that the records of a directory name. Prints what is
 /// found, depth first and once for each record. Meanwhile `files` shows how many records are checked.
 /// Answers whether anything is found. Memory where a growth is refused; Unsent where the output fails. The
 /// findings of the records before that are sent.
 pub fn check_records<F: Files, W: Write>(
-    alloc: Global,
-    folder: &str,
+    check: Check<'_>,
     forest: &Forest<'_>,
-    comparison: Comparison,
     files: &mut F,
     to: &mut W,
 ) -> Result<bool, CheckFault>
     ensures told { IfOk result (λ found. (text : List ℕ)
-        × TellsWalk F.In.Read (F.held files.old) folder.now comparison
+        × TellsWalk F.In.Read (F.held files.old)
+        check.entry.folder.now check.entry.comparison
         (walk_view forest.now) found (F.refusals files.old) (F.refusals files.new) text
         × TakesText W.Write to.old to.new text) }
 
     // Where memory ran out the findings of the first records are sent; where the output failed, a front of the text.
     ensures cut { result ≡ Err CheckFault.Memory → (text : List ℕ)
-        × TellsFirst F.In.Read (F.held files.old) folder.now comparison
+        × TellsFirst F.In.Read (F.held files.old)
+        check.entry.folder.now check.entry.comparison
         (standings_below [] (walk_view forest.now).trees)
         (F.refusals files.old) (F.refusals files.new) text
         × TakesText W.Write to.old to.new text }
     ensures unsent { result ≡ Err CheckFault.Unsent → (text : List ℕ)
-        × TellsSome F.In.Read (F.held files.old) folder.now comparison
+        × TellsSome F.In.Read (F.held files.old)
+        check.entry.folder.now check.entry.comparison
         (walk_view forest.now) (F.refusals files.old) (F.refusals files.new) text
         × FailsInText W.Write to.old to.new text }
 
     // What stays.
     ensures kept { F.held files.new ≡ F.held files.old }
 {
-    let check = Check {
-        alloc,
-        folder,
-        comparison,
-    };
     let mut lines = LineBuffer::new();
     let checked = check_forest(check, forest, files, &mut lines, to);
     if is_unsent(&checked) {
@@ -288,7 +285,7 @@ fn finding_in<F: Files>(
     }
 }
 
-/// Judges the file by this comparison, by reading it once.
+/// Judges the file and its record by this comparison, by reading the file once.
 fn finding_of_file<R: Read>(
     check: Check<'_>,
     tree: &Tree<'_>,
@@ -302,13 +299,30 @@ fn finding_of_file<R: Read>(
         reader.old reader.new) }
 
     // By the digest alone it takes no memory.
-    ensures memory { IsErr result → check.entry.comparison ≡ Comparison.Keys }
+    ensures memory { IsErr result → check.entry.comparison.keys ≡ true }
 {
-    match check.comparison {
-        Comparison::Keys if is_image(tree) => {
-            finding_by_keys(check.alloc, tree, inherited, reader, SOURCE_LIMIT)
-        }
-        _ => Ok(finding_by(tree, reader, SOURCE_LIMIT)),
+    let compared = finding_compared(check, tree, inherited, reader)?;
+    Ok(compared.or(without_digest(tree, check.comparison.strict)))
+}
+
+/// Judges the file by what is compared, by reading it once.
+fn finding_compared<R: Read>(
+    check: Check<'_>,
+    tree: &Tree<'_>,
+    inherited: Inherited<'_>,
+    reader: &mut R,
+) -> Result<Option<Finding>, Memory>
+    ensures found { IfOk result (λ finding. (above : List Node)
+        → IsInherited inherited.entry ((tree_view tree.now).node ∷ above)
+        → FindsBy R.Read most_read
+        (compared_by check.entry.comparison.keys (standing_below above (tree_view tree.now).node))
+        finding reader.old reader.new) }
+    ensures memory { IsErr result → check.entry.comparison.keys ≡ true }
+{
+    if check.comparison.keys && is_image(tree) {
+        finding_by_keys(check.alloc, tree, inherited, reader, SOURCE_LIMIT)
+    } else {
+        Ok(finding_by(tree, reader, SOURCE_LIMIT))
     }
 }
 
@@ -343,6 +357,7 @@ fn tell_finding<W: Write>(
         }
         Finding::Mislabelled(tag) => tell_tag(file_in(tree), *tag, lines, to),
         Finding::NoFile(fault) => tell_fault(file_in(tree), fault, lines, to),
+        Finding::NoDigest => lines.add_line(&[b"NODIGEST ", file_in(tree)], to),
     }
 }
 

@@ -4,7 +4,7 @@ ghost use Rattle.dd_elem.specs.FileIdForm.{IsFileId};
 ghost use Rattle.dd_dir.specs.ForestViews.{tree_view};
 ghost use Rattle.dd_dir.specs.Saying.{key_of};
 ghost use Rattle.dd_report.specs.Finding.{FindsBy, FindsIn, HasFileId, IsUnread, NamesFile, by_digest, compared};
-ghost use Rattle.dd_report.specs.Finding.{file_in};
+ghost use Rattle.dd_report.specs.Finding.{file_in, without_digest};
 
 use dd_dir::{Tree, digest_in};
 use dd_elem::{Read, Tag, is_file_id};
@@ -33,6 +33,8 @@ pub enum Finding {
     Mislabelled(Tag),
     /// It is no DICOM file, for this reason.
     NoFile(FileFault),
+    /// The record has no digest to compare with that of the file.
+    NoDigest,
 }
 
 /// Judges the file that a record names. Finds nothing where the record is not in use or names no file. `file`
@@ -140,5 +142,16 @@ pub(crate) fn compared(recorded: Option<[u8; 32]>, found: [u8; 32]) -> Option<Fi
     match recorded {
         Some(recorded) if recorded != found => Some(Finding::Differs { recorded, found }),
         _ => None,
+    }
+}
+
+/// Judges a record by its digest alone: `NoDigest` where a strict check asks for one and the record has none.
+pub(crate) fn without_digest(tree: &Tree<'_>, strict: bool) -> Option<Finding>
+    ensures { result ≡ without_digest strict (tree_view tree.now).node }
+{
+    if strict && digest_in(&tree.set).is_none() {
+        Some(Finding::NoDigest)
+    } else {
+        None
     }
 }

@@ -14,7 +14,7 @@ mod listing;
 mod text;
 mod words;
 
-pub use checking::{CheckFault, Comparison, check_records};
+pub use checking::{Check, CheckFault, Comparison, check_records};
 pub use findings::{Finding, finding_of};
 pub use listing::{list_long, list_records};
 pub use text::{Text, print_line, send_text, show_line};

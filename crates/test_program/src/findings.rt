@@ -86,6 +86,7 @@ fn words(alloc: Global, found: Option<Finding>) -> Result<&'static str, Fail> {
         }
         Some(Finding::Mislabelled(_)) => "Mislabelled",
         Some(Finding::NoFile(_)) => "NoFile",
+        Some(Finding::NoDigest) => "NoDigest",
     })
 }
 

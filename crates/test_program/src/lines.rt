@@ -55,6 +55,9 @@ dicomdir check --keys set > Check - - 4294967295 set with keys
 dicomdir check set --keys > Check - - 4294967295 set with keys
 dicomdir check --keys -- --keys > Check - - 4294967295 --keys with keys
 dicomdir check -- --keys > Check - - 4294967295 --keys
+dicomdir check --strict set > Check - - 4294967295 set with strict
+dicomdir check --quiet --strict --keys set > Check - - 4294967295 set with keys with strict with quiet
+dicomdir check -- --strict > Check - - 4294967295 --strict
 dicomdir list set > List - - 4294967295 set
 dicomdir list '' > List - - 4294967295 ''
 dicomdir list --long set > List - - 4294967295 set with long
@@ -91,8 +94,8 @@ dicomdir index --long out a.dcm > 2 true
 dicomdir check --long a > 2 true
 dicomdir check --dry-run a > 2 true
 dicomdir list --quiet a > 2 true
-dicomdir check --strict a > 2 true
-dicomdir check --keys --strict a > 2 true
+dicomdir check --strict --strict a > 2 true
+dicomdir check --strict=true a > 2 true
 dicomdir list --strict a > 2 true
 dicomdir merge > 2 true
 dicomdir merge out > 2 true

@@ -9,7 +9,7 @@ use Rattle.dd_report.proofs.checking.check_records.Goals as goal
 pub returns-then-is_unsent-clause-unsent : goal.returns-then-is_unsent-clause-unsent
 returns-then-is_unsent-clause-unsent g c = λ _.
     walk_unsent g.F.In.Read
-    (g.F.Files.held c.args.files.now) c.args.folder.now c.args.comparison
+    (g.F.Files.held c.args.files.now) c.args.check.folder.now c.args.check.comparison
     (walk_view c.args.forest.now) c.check_forest-checked.result (g.F.Files.refusals c.args.files.now)
     (g.F.Files.refusals c.check_forest-checked.new.files)
     (way c.new-lines.result (g.W.Write.contents c.args.to.now) (g.W.Write.failures c.args.to.now))
@@ -20,7 +20,7 @@ returns-then-is_unsent-clause-unsent g c = λ _.
 pub returns-in-Ok-clause-told : goal.returns-in-Ok-clause-told
 returns-in-Ok-clause-told g c =
     walk_went g.F.In.Read
-    (g.F.Files.held c.args.files.now) c.args.folder.now c.args.comparison
+    (g.F.Files.held c.args.files.now) c.args.check.folder.now c.args.check.comparison
     (walk_view c.args.forest.now) c.check_forest-checked.result (g.F.Files.refusals c.args.files.now)
     (g.F.Files.refusals c.check_forest-checked.new.files)
     (way c.new-lines.result (g.W.Write.contents c.args.to.now) (g.W.Write.failures c.args.to.now))
@@ -33,7 +33,7 @@ pub returns-in-Err-clause-unsent : goal.returns-in-Err-clause-unsent
 returns-in-Err-clause-unsent g c = λ _.
     let not : c.check_forest-checked.result ≢ Err Unsent = λ is. (let e = c.if-is_unsent.ensures.1 is in absurd (cc)) in
     rest_unsent g.F.In.Read
-    (g.F.Files.held c.args.files.now) c.args.folder.now c.args.comparison
+    (g.F.Files.held c.args.files.now) c.args.check.folder.now c.args.check.comparison
     (walk_view c.args.forest.now) c.check_forest-checked.result (g.F.Files.refusals c.args.files.now)
     (g.F.Files.refusals c.check_forest-checked.new.files)
     (way c.new-lines.result (g.W.Write.contents c.args.to.now) (g.W.Write.failures c.args.to.now))
