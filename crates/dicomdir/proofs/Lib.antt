@@ -2,6 +2,7 @@ mod BadUids
 mod CountLines
 mod DryRuns
 mod EmptyWords
+mod EngineMade
 mod FirstPaths
 mod ImagesMade
 mod LinesRefused

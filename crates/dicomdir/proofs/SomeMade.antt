@@ -1,10 +1,11 @@
 -- A file-set was made, whichever files its images were made of.
-use Rattle.std.proofs.Common.{◌≡◌, ℕ, List, [], ◌∷◌, Option, Result, Ok, Err, IsOk, inl, inr, map, refl}
-use Rattle.std.proofs.Common.{◌∙◌, subst, true}
-use Rattle.std.proofs.lemmas.List.{length-map}
+use Rattle.std.proofs.Common.{◌≡◌, ℕ, List, [], ◌∷◌, Option, Result, Ok, Err, IfOk, inl, inr, map}
+use Rattle.std.proofs.Common.{◌∙◌, false, subst, true}
+use Rattle.std.proofs.lemmas.List.{length-map, map-id}
 use Rattle.std.specs.Prelude.{zip}
 use Rattle.clap.specs.Words.{Row, Text}
 use Rattle.dd_elem.specs.FileId.{Ranks}
+use Rattle.dd_engine.specs.declared.choice.Choice.{Choice}
 use Rattle.dd_files.specs.Files.{Held}
 use Rattle.dd_version.specs.declared.parts.Parts.{Parts}
 use Rattle.dd_line.specs.Line.{IsAsked}
@@ -12,9 +13,13 @@ use Rattle.dd_line.specs.declared.line.Asked.{Asked}
 use Rattle.dd_layout.specs.declared.record.PlanRecord.{PlanRecord}
 use Rattle.dd_layout.specs.Layouts.{Layout}
 use Rattle.dicomdir.specs.DryRun.{HasLink, first_path}
-use Rattle.dicomdir.specs.Made.{DoneMakes, IsWhole, MakesFileSet, MakesImage, MakesRow, MakesRows, MakesSome, MayLink}
+use Rattle.dicomdir.specs.Indexes.{DoneIndexes, limits_of}
+use Rattle.dicomdir.specs.Made.{DoneMakes, IsMemberPath, IsPathAt, IsWhole, MakesFileSet, MakesImage, MakesRow}
+use Rattle.dicomdir.specs.Made.{MakesRows, MakesSome, MayLink}
+use Rattle.dicomdir.specs.Merges.{DoneMerges}
 use Rattle.dicomdir.specs.Words.{folder_of}
 use Rattle.dicomdir.proofs.DryRuns.{given_folder, given_link}
+use Rattle.dicomdir.proofs.WholeSets.{index_is_whole, merge_is_whole}
 
 -- what an image was made of may be said otherwise
 image_by : (From To : List ℕ → Type 0) (folder : List ℕ) (file : Ranks) (planned : Parts) (old new : Option Held)
@@ -64,6 +69,23 @@ module _ {P Q : Type 0} (From : P → List ℕ → Type 0) (To : Q → List ℕ 
     directory = made.directory;
   }
 
+-- where no second names are asked for, images get none
+unlinked : {P : Type 0} (StandsAt : P → List ℕ → Type 0) (folder : List ℕ) (plan : Layout) (picks : List P)
+    (old new : Option Held) → MakesFileSet (MayLink (false ≡ true) StandsAt) folder plan picks old new
+    → MakesFileSet (MayLink ⊥ StandsAt) folder plan picks old new
+unlinked {P = P} StandsAt folder plan picks old new made =
+    subst (λ (all : List P). MakesFileSet (MayLink ⊥ StandsAt) folder plan all old new) (map-id picks)
+    (set_by (MayLink (false ≡ true) StandsAt) (MayLink ⊥ StandsAt) (λ pick. pick) (λ pick path may. absurd (cc)) folder
+    plan picks old new made)
+
+pub unlinked_done : {P E : Type 0} (r : Result ℕ E) (StandsAt : P → List ℕ → Type 0) (folder : List ℕ) (plan : Layout)
+    (picks : List P) (old new : Option Held)
+    → IfOk r (λ status. status ≡ 0 → MakesFileSet (MayLink (false ≡ true) StandsAt) folder plan picks old new)
+    → IfOk r (λ status. status ≡ 0 → MakesFileSet (MayLink ⊥ StandsAt) folder plan picks old new)
+unlinked_done (Ok status) StandsAt folder plan picks old new made =
+    λ done. unlinked StandsAt folder plan picks old new (made done)
+unlinked_done (Err refusal) StandsAt folder plan picks old new made = tt
+
 -- the file-set of these picks is some file-set
 some_made : {P : Type 0} (GivesNames : Type 0) (StandsAt : P → List ℕ → Type 0) (folder : List ℕ) (plan : Layout)
     (picks : List P) (old new : Option Held)
@@ -89,13 +111,23 @@ some_by GivesNames Asked folder old new follows some = record {
 }
 
 -- the same of a command that is done
-pub done_makes : {P E : Type 0} (r : Result ℕ E) (GivesNames : Type 0) (StandsAt : P → List ℕ → Type 0)
-    (folder : List ℕ) (plan : Layout) (picks : List P) (old new : Option Held) → IsWhole plan picks
-    → (IsOk r → MakesFileSet (MayLink GivesNames StandsAt) folder plan picks old new)
-    → DoneMakes r GivesNames folder old new
-done_makes (Ok status) GivesNames StandsAt folder plan picks old new all made =
-    λ done. some_made GivesNames StandsAt folder plan picks old new all (made refl)
-done_makes (Err refusal) GivesNames StandsAt folder plan picks old new all made = tt
+pub index_makes : {E : Type 0} (r : Result ℕ E) (choice : Choice) (bytes : ℕ) (sources : List (List ℕ))
+    (folder : List ℕ) (old new : Option Held) → DoneIndexes r choice bytes sources folder old new
+    → DoneMakes r ⊥ folder old new
+index_makes (Ok status) choice bytes sources folder old new indexes = λ done.
+    let h = indexes done in
+    some_made ⊥ (IsPathAt sources) folder h.indexed.plan h.indexed.picks.items old new
+    (index_is_whole choice (limits_of bytes) h.answers h.indexed h.is) h.made
+index_makes (Err refusal) choice bytes sources folder old new indexes = tt
+
+pub merge_makes : {E : Type 0} (r : Result ℕ E) (choice : Choice) (bytes : ℕ) (given folders : List (List ℕ))
+    (GivesNames : Type 0) (folder : List ℕ) (old new : Option Held)
+    → DoneMerges r choice bytes given folders GivesNames folder old new → DoneMakes r GivesNames folder old new
+merge_makes (Ok status) choice bytes given folders GivesNames folder old new merges = λ done.
+    let h = merges done in
+    some_made GivesNames (IsMemberPath folders) folder h.merged.plan h.merged.picks.items old new
+    (merge_is_whole choice (limits_of bytes) given h.listings h.merged h.is) h.made
+merge_makes (Err refusal) choice bytes given folders GivesNames folder old new merges = tt
 
 pub done_by : {E : Type 0} (r : Result ℕ E) (GivesNames Asked : Type 0) (folder : List ℕ) (old new : Option Held)
     → (GivesNames → Asked) → DoneMakes r GivesNames folder old new → DoneMakes r Asked folder old new

@@ -1,15 +1,13 @@
 -- A plan has a pick for each of its images.
 use Rattle.std.proofs.Common.{◌≡◌, ◌∙◌, ℕ, List, [], ◌∷◌, length, map, filter, is_some, refl, sym, ap, subst}
-use Rattle.std.proofs.Common.{Option, Some, Result, Ok, Err, IfOk}
+use Rattle.std.proofs.Common.{Some}
 use Rattle.std.specs.List.{AllByRecursion}
 use Rattle.std.proofs.lemmas.List.{length-map}
 use Rattle.dd_engine.specs.declared.choice.Choice.{Choice}
-use Rattle.dd_engine.specs.declared.engine_fault.EngineFault.{EngineFault}
+use Rattle.dd_engine.specs.declared.engine.Indexed.{Indexed}
 use Rattle.dd_engine.specs.declared.merge.Merged.{Merged}
-use Rattle.dd_engine.specs.declared.noted_index.NotedIndex.{NotedIndex}
-use Rattle.dd_engine.specs.declared.notes.NotedFault.{NotedFault}
 use Rattle.dd_engine.specs.Indexed.{IsIndexed}
-use Rattle.dd_engine.specs.IndexNotes.{NotesSupply}
+use Rattle.dd_engine.specs.Indexing.{Answer}
 use Rattle.dd_engine.specs.Merging.{IsMerged, SetListing}
 use Rattle.dd_engine.specs.Picking.{ArePicked, FileKey, is_image}
 use Rattle.dd_layout.proofs.HasLevel.{HasLevel}
@@ -58,13 +56,10 @@ whole files plan laid seen picks is same are =
     subst (λ (layout : Layout). IsWhole layout picks) (sym is)
     (sym same ∙ picked files laid.label laid.versions seen are)
 
-pub index_is_whole : (choice : Choice) (limits : Limits) (limit : ℕ) (contents : ℕ → Option (List ℕ)) (sources : ℕ)
-    (r : Result NotedIndex (NotedFault EngineFault ℕ)) → NotesSupply choice limits limit contents sources r
-    → IfOk r (λ noted. IsWhole noted.indexed.plan noted.indexed.picks.items)
-index_is_whole choice limits limit contents sources (Ok noted) h =
-    let is : IsIndexed choice limits h.0 noted.indexed = h.3.0 in
-    whole _ _ _ noted.indexed.picks.items noted.indexed.picks.items is.plan refl is.picks
-index_is_whole choice limits limit contents sources (Err noted) h = tt
+pub index_is_whole : (choice : Choice) (limits : Limits) (answers : List Answer) (indexed : Indexed)
+    → IsIndexed choice limits answers indexed → IsWhole indexed.plan indexed.picks.items
+index_is_whole choice limits answers indexed is =
+    whole _ _ _ indexed.picks.items indexed.picks.items is.plan refl is.picks
 
 pub merge_is_whole : (choice : Choice) (limits : Limits) (given : List (List ℕ)) (listings : List SetListing)
     (merged : Merged) → IsMerged choice limits given listings merged → IsWhole merged.plan merged.picks.items

@@ -3,9 +3,11 @@ pub mod Done
 pub mod DryRun
 pub mod EmptyPaths
 pub mod FileSupply
+pub mod Indexes
 pub mod ListedNames
 pub mod Made
 pub mod MaskedWords
+pub mod Merges
 pub mod Mistakes
 pub mod Names
 pub mod Noted
@@ -23,6 +25,7 @@ pub use Rattle.dd_engine.specs.PatientNames
 pub use Rattle.dd_engine.specs.Picking
 pub use Rattle.dd_engine.specs.Published
 pub use Rattle.dd_engine.specs.Saying
+pub use Rattle.dd_engine.specs.SetNotes
 pub use Rattle.dd_engine.specs.Supply
 pub use Rattle.dd_files.specs.Copying
 pub use Rattle.dd_files.specs.Files

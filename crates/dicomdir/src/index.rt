@@ -2,9 +2,12 @@
 ghost use Rattle.std.specs.Prelude.{◌≡◌, ◌≤◌, ℕ, IfErr, IfOk, IsErr, IsOk, false, length, true};
 ghost use Rattle.dd_elem.specs.Device.{HasFailed};
 ghost use Rattle.dd_engine.specs.Indexed.{IsNamed, IsWithin};
+ghost use Rattle.dd_engine.specs.IndexNotes.{NotesSupply};
 ghost use Rattle.dd_engine.specs.Noting.{AreBelow, IsBelow};
 ghost use Rattle.dd_line.specs.Line.{words_of};
-ghost use Rattle.dicomdir.specs.Made.{DoneMakes, IsPathAt, IsWhole, MakesFileSet, MayLink};
+ghost use Rattle.dicomdir.specs.FileSupply.{contents_by};
+ghost use Rattle.dicomdir.specs.Indexes.{DoneIndexes, most_of_source};
+ghost use Rattle.dicomdir.specs.Made.{IsPathAt, MakesFileSet, MayLink};
 ghost use Rattle.dicomdir.specs.Refusal.{IsOfWork};
 
 use crate::file_set::write_file_set;
@@ -38,7 +41,8 @@ pub(crate) fn run_index<F: Files, O: Write>(
     ensures status { IfOk result (λ status. status ≤ 1) }
     ensures dry { making.entry.dry_run ≡ true → F.held files.new ≡ F.held files.old }
     ensures made { making.entry.dry_run ≡ false
-        → DoneMakes result ⊥ making.entry.folder.now (F.held files.old) (F.held files.new) }
+        → DoneIndexes result choice.now making.entry.max_bytes (words_of sources.now)
+        making.entry.folder.now (F.held files.old) (F.held files.new) }
 {
     let mut counts = counts_of(alloc, sources.len())?;
     let limits = Limits::of_bytes(making.max_bytes);
@@ -123,12 +127,13 @@ fn index_files<F: Files>(
     files: &mut F,
 ) -> Result<NotedIndex, NotedFault<EngineFault, usize>>
     requires { length counts.old ≡ length sources.now }
+    ensures answers { NotesSupply choice.now limits most_of_source
+        (contents_by (F.held files.old) (words_of sources.now)) (length sources.now) result }
     ensures named { IfErr result (λ noted. IsNamed (length sources.now) noted.fault) }
     ensures clash { IfErr result (λ noted. IsBelow (λ at. at) (length sources.now) noted.clash) }
     ensures within { IfOk result (λ noted. IsWithin (length sources.now) noted.indexed) }
     ensures below { IfOk result (λ noted.
         AreBelow (λ at. at) (length sources.now) noted.notes.left_out.items) }
-    ensures whole { IfOk result (λ noted. IsWhole noted.indexed.plan noted.indexed.picks.items) }
     ensures kept { F.held files.new ≡ F.held files.old }
 {
     let mut supply = FileSupply::new(files, sources, counts);

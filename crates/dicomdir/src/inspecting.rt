@@ -1,5 +1,5 @@
 //! The commands that read one file-set.
-ghost use Rattle.std.specs.Prelude.{◌≡◌, ◌<◌, ◌≤◌, ◌⊎◌, ℕ, IfErr, IfOk, false, true};
+ghost use Rattle.std.specs.Prelude.{◌≡◌, ◌<◌, ◌≤◌, ◌⊎◌, ℕ, IfErr, IfOk};
 ghost use Rattle.dd_elem.specs.Device.{HasFailed};
 ghost use Rattle.dicomdir.specs.Refusal.{IsOfWork};
 
@@ -9,18 +9,20 @@ use dd_dir::{DirFault, read_directory};
 use dd_elem::Write;
 use dd_files::Files;
 use dd_line::Asked;
-use dd_report::{CheckFault, Comparison, check_records, list_long, list_records, print_line};
+use dd_report::{
+    Check, CheckFault, Comparison, check_records, list_long, list_records, print_line,
+};
 use std::alloc::Global;
 
-/// Gives the comparison that `check` makes: of keys where the line has `--keys`, else of digests.
+/// Gives the comparison that `check` makes: of keys, too, where the line has `--keys`, and one that finds records
+/// without a digest where it has `--strict`.
 pub(crate) fn comparison_of(asked: &Asked) -> Comparison
-    ensures keys { asked.now.keys ≡ true → result ≡ Comparison.Keys }
-    ensures digests { asked.now.keys ≡ false → result ≡ Comparison.Digests }
+    ensures keys { result.keys ≡ asked.now.keys }
+    ensures strict { result.strict ≡ asked.now.strict }
 {
-    if asked.keys {
-        Comparison::Keys
-    } else {
-        Comparison::Digests
+    Comparison {
+        keys: asked.keys,
+        strict: asked.strict,
     }
 }
 
@@ -42,7 +44,12 @@ pub(crate) fn run_check<F: Files, O: Write>(
         Err(fault) if fault.is_want_of_memory() => return Err(Refusal::memory()),
         Err(fault) => return Ok(tell_broken(&fault, out)),
     };
-    match check_records(alloc, folder, &forest, comparison, files, out) {
+    let check = Check {
+        alloc,
+        folder,
+        comparison,
+    };
+    match check_records(check, &forest, files, out) {
         Ok(false) => Ok(0),
         Ok(true) => Ok(3),
         Err(CheckFault::Unsent) => Ok(1),

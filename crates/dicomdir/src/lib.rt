@@ -23,14 +23,16 @@ mod origins;
 mod program;
 mod refusal;
 mod set_directory;
+mod set_notes;
 mod shown_path;
 mod source_counts;
 mod sources;
 
 pub use dd_engine::{
     Choice, Clash, EngineFault, Indexed, LeftOut, MergeFault, Merged, NotedFault, NotedIndex,
-    NotedMerge, Notes, PatientNames, Pick, Supply, first_saying, index_engine, index_with_notes,
-    merge_engine, merge_with_notes, withdraw_engine, withdraw_with_notes,
+    NotedMerge, Notes, PatientNames, Pick, SetNotes, Supply, Unreached, WithdrawnImage,
+    first_saying, index_engine, index_with_notes, merge_engine, merge_with_notes, withdraw_engine,
+    withdraw_with_notes,
 };
 pub use dd_files::{
     CopyFault, DIRECTORY, Files, LinkFault, NotDone, NotThere, Step, copy_image, digest_text,

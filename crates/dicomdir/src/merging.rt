@@ -1,11 +1,15 @@
 //! The commands `merge` and `withdraw`: make a file-set of others.
-ghost use Rattle.std.specs.Prelude.{◌≡◌, ◌<◌, ◌≤◌, ℕ, All, IfErr, IfOk, IsErr, IsOk, false, length, true};
+ghost use Rattle.std.specs.Prelude.{◌≡◌, ◌↔◌, ◌<◌, ◌≤◌, ℕ, [], All, IfErr, IfOk, IsErr, IsOk, IsTrue};
+ghost use Rattle.std.specs.Prelude.{false, length, map, take, true};
 ghost use Rattle.dd_elem.specs.Device.{HasFailed};
 ghost use Rattle.dd_engine.specs.Merging.{IsNamedSet};
 ghost use Rattle.dd_engine.specs.Noting.{AreBelow, IsBelow};
+ghost use Rattle.dd_engine.specs.SetNotes.{NameSetsBelow};
 ghost use Rattle.dd_line.specs.Line.{words_of};
-ghost use Rattle.dicomdir.specs.Made.{DoneMakes, IsMemberPath, IsWhole, MakesFileSet, MayLink};
-ghost use Rattle.dicomdir.specs.Refusal.{IsOfWork};
+ghost use Rattle.dicomdir.specs.Made.{IsMemberPath, MakesFileSet, MayLink};
+ghost use Rattle.dicomdir.specs.Merges.{DoneMerges};
+ghost use Rattle.dicomdir.specs.Noted.{IsNoted};
+ghost use Rattle.dicomdir.specs.Refusal.{IsOfWork, IsStrict};
 
 use crate::file_set::write_file_set;
 use crate::making::{Ending, Making, tell_counts};
@@ -14,11 +18,11 @@ use crate::notes::{has_notes, refuse_noted, tell_clash, tell_names, tell_picks_l
 use crate::origins::SetFiles;
 use crate::refusal::{ProgramFault, Refusal, Subject};
 use crate::set_directory::read_directories;
+use crate::set_notes::{has_set_notes, tell_unlisted, tell_unreached, tell_withdrawn};
 use crate::shown_path::ShownPath;
 use dd_elem::{Memory, Write};
 use dd_engine::{
-    Choice, MergeFault, Merged, NotedFault, NotedMerge, Notes, Pick, merge_with_notes,
-    withdraw_with_notes,
+    Choice, MergeFault, Merged, NotedFault, NotedMerge, Pick, merge_with_notes, withdraw_with_notes,
 };
 use dd_files::Files;
 use dd_layout::{Limits, PlanFault};
@@ -39,8 +43,8 @@ pub(crate) fn run_merge<F: Files, O: Write>(
     ensures status { IfOk result (λ status. status ≤ 1) }
     ensures dry { making.entry.dry_run ≡ true → F.held files.new ≡ F.held files.old }
     ensures made { making.entry.dry_run ≡ false
-        → DoneMakes result (making.entry.link ≡ true) making.entry.folder.now
-        (F.held files.old) (F.held files.new) }
+        → DoneMerges result choice.now making.entry.max_bytes [] (words_of sets.now)
+        (making.entry.link ≡ true) making.entry.folder.now (F.held files.old) (F.held files.new) }
 {
     let directories = read_directories(alloc, sets, files)?;
     let slices = slices(alloc, &directories)?;
@@ -72,7 +76,9 @@ pub(crate) fn run_withdraw<F: Files, O: Write>(
     ensures status { IfOk result (λ status. status ≤ 1) }
     ensures dry { making.entry.dry_run ≡ true → F.held files.new ≡ F.held files.old }
     ensures made { making.entry.dry_run ≡ false
-        → DoneMakes result ⊥ making.entry.folder.now (F.held files.old) (F.held files.new) }
+        → DoneMerges result names.now.choice making.entry.max_bytes names.now.withdrawn.items
+        (words_of (take 1 sets.now)) ⊥ making.entry.folder.now
+        (F.held files.old) (F.held files.new) }
 {
     match withdraw_of(alloc, making, &sets[..1], names, files, out) {
         Ok(status) => Ok(status),
@@ -94,7 +100,9 @@ fn withdraw_of<F: Files, O: Write>(
     ensures status { IfOk result (λ status. status ≤ 1) }
     ensures dry { making.entry.dry_run ≡ true → F.held files.new ≡ F.held files.old }
     ensures made { making.entry.dry_run ≡ false
-        → DoneMakes result ⊥ making.entry.folder.now (F.held files.old) (F.held files.new) }
+        → DoneMerges result names.now.choice making.entry.max_bytes names.now.withdrawn.items
+        (words_of sets.now) ⊥ making.entry.folder.now
+        (F.held files.old) (F.held files.new) }
 {
     let directories = read_directories(alloc, sets, files)?;
     let slices = slices(alloc, &directories)?;
@@ -128,34 +136,64 @@ fn write_noted<'a, F: Files, O: Write>(
     out: &mut O,
 ) -> Result<u8, Refusal>
     requires sets { length sets.now.directories.now ≡ length sets.now.folders.now }
+    requires named { NameSetsBelow (length sets.now.folders.now) noted.now.sets }
     requires within { All (λ pick. pick.set < length sets.now.folders.now)
         noted.now.merged.picks.items }
     requires below { AreBelow (λ pick. pick.set) (length sets.now.folders.now)
         noted.now.notes.left_out.items }
-    requires whole { IsWhole noted.now.merged.plan noted.now.merged.picks.items }
     ensures refusal { IfErr result (IsOfWork (length sets.now.folders.now)) }
     ensures status { IfOk result (λ status. status ≤ 1) }
     ensures dry { making.entry.dry_run ≡ true → F.held files.new ≡ F.held files.old }
-    ensures made { making.entry.dry_run ≡ false
-        → DoneMakes result (sets.now.link ≡ true) making.entry.folder.now
-        (F.held files.old) (F.held files.new) }
+    ensures strict { making.entry.strict ≡ true → IsNoted noted.now
+        → IfOk result (λ status. status ≡ 1) × IfErr result IsStrict
+        × (F.held files.new ≡ F.held files.old) }
+    ensures made { making.entry.dry_run ≡ false → IfOk result (λ status. status ≡ 0
+        → MakesFileSet
+        (MayLink (sets.now.link ≡ true) (IsMemberPath (words_of sets.now.folders.now)))
+        making.entry.folder.now noted.now.merged.plan noted.now.merged.picks.items
+        (F.held files.old) (F.held files.new)) }
 {
-    let NotedMerge { merged, notes } = noted;
-    if tell_noted(notes, sets.folders, out).is_err() {
+    if tell_noted(noted, making.strict, sets.folders, out).is_err() {
         return Ok(1);
     }
-    refuse_noted(making.strict, has_notes(notes))?;
-    write_merged(alloc, making, sets, merged, files, out)
+    refuse_noted(making.strict, is_noted(noted))?;
+    write_merged(alloc, making, sets, &noted.merged, files, out)
 }
 
-/// Prints which files are left out, and which Patient IDs have more than one name. It fails only where the output
+/// Says whether there is a note on these file-sets.
+fn is_noted(noted: &NotedMerge<'_>) -> bool
+    ensures { IsTrue result ↔ IsNoted noted.now }
+{
+    has_notes(&noted.notes) || has_set_notes(&noted.sets)
+}
+
+/// Prints what is noted of these file-sets: records that are not reached, files that are left out, images that are
+/// withdrawn, UIDs that are in no record, and Patient IDs that have more than one name. A withdrawal is to pass
+/// from site to site without a word, so it is printed only where the run is strict. It fails only where the output
 /// failed.
-fn tell_noted<O: Write>(notes: &Notes<Pick<'_>>, folders: &[String], out: &mut O) -> fmt::Result
-    requires { AreBelow (λ pick. pick.set) (length folders.now) notes.now.left_out.items }
+fn tell_noted<O: Write>(
+    noted: &NotedMerge<'_>,
+    is_strict: bool,
+    folders: &[String],
+    out: &mut O,
+) -> fmt::Result
+    requires below { AreBelow (λ pick. pick.set) (length folders.now)
+        noted.now.notes.left_out.items }
+    requires named { NameSetsBelow (length folders.now) noted.now.sets }
     ensures worked { IsOk result → O.failures out.new ≡ O.failures out.old }
     ensures failed { IsErr result → HasFailed (O.failures out.old) (O.failures out.new) }
 {
+    let NotedMerge {
+        merged: _merged,
+        notes,
+        sets,
+    } = noted;
+    tell_unreached(&sets.unreached, folders, out)?;
     tell_picks_left_out(&notes.left_out, folders, out)?;
+    if is_strict {
+        tell_withdrawn(&sets.withdrawn, folders, out)?;
+    }
+    tell_unlisted(&sets.unlisted, out)?;
     tell_names(&notes.names, out)
 }
 
@@ -195,7 +233,9 @@ fn write_merged<'a, F: Files, O: Write>(
 
 /// The bytes of all directories.
 pub(crate) fn slices<'a>(alloc: Global, all: &'a [Vec<u8>]) -> Result<Vec<&'a [u8]>, Memory>
-    ensures { IfOk result (λ slices. length slices.items ≡ length all.now) }
+    ensures count { IfOk result (λ slices. length slices.items ≡ length all.now) }
+    ensures bytes { IfOk result (λ slices.
+        map (λ slice. slice.now) slices.items ≡ map (λ bytes. bytes.items) all.now) }
 {
     let mut slices = Vec::with_capacity(alloc, all.len())?;
     for bytes in all {

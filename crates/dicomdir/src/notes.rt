@@ -15,7 +15,7 @@ use itoa::Buffer;
 use std::fmt::{self, InlineText};
 
 /// The text of a UID: it has at most 64 characters (PS3.5 section 9.1).
-type UidText = InlineText<64>;
+pub(crate) type UidText = InlineText<64>;
 
 /// Prints each source that is skipped, and why. It fails only where the output failed.
 pub(crate) fn tell_skipped<O: Write>(

@@ -65,9 +65,10 @@ struct LinePaths<'a> {
 /// A path that is empty is refused before any file is opened: OUT as a folder that is not made, any other
 /// as a file that is not there.
 ///
-/// `check [--keys] SET` compares the files of a file-set with its directory, which any program may have written.
-/// It prints what it finds, or `OK <n> records`. With `--keys` it also compares what image files say of themselves
-/// with their records. `list [--long] SET` prints its records and the instances that it withdraws.
+/// `check [--keys] [--strict] SET` compares the files of a file-set with its directory, which any program may have
+/// written. It prints what it finds, or `OK <n> records`. With `--keys` it also compares what image files say of
+/// themselves with their records, and with `--strict` it finds each file whose record has no digest. `list [--long]
+/// SET` prints the records of a file-set and the instances that it withdraws.
 ///
 /// The files show the progress of all but `list`, unless the line has `--quiet`.
 pub fn run<F: Files, O: Write, E: Write>(

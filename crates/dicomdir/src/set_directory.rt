@@ -1,5 +1,7 @@
 //! The directories of file-sets, read from their folders.
-ghost use Rattle.std.specs.Prelude.{◌≡◌, ◌<◌, ℕ, IfErr, IfOk, length};
+ghost use Rattle.std.specs.Prelude.{◌≡◌, ◌<◌, ℕ, IfErr, IfOk, length, map};
+ghost use Rattle.dd_line.specs.Line.{words_of};
+ghost use Rattle.dicomdir.specs.Merges.{AreDirectories, HasDirectory};
 ghost use Rattle.dicomdir.specs.Refusal.{IsOfWork};
 
 use crate::refusal::{ProgramFault, Refusal, Subject};
@@ -15,16 +17,18 @@ pub(crate) fn read_directories<F: Files>(
 ) -> Result<Vec<Vec<u8>>, Refusal>
     ensures refusal { IfErr result (IsOfWork (length folders.now)) }
     ensures all { IfOk result (λ all. length all.items ≡ length folders.now) }
+    ensures read { IfOk result (λ all. AreDirectories (words_of folders.now)
+        (map (λ bytes. bytes.items) all.items) (F.held files.old)) }
     ensures kept { F.held files.new ≡ F.held files.old }
 {
     files.begin_progress(Step::Reading, folders.len() as u64);
     let mut all = Vec::new(alloc);
     for (at, folder) in folders.iter().enumerate() {
         let bytes = directory_bytes(alloc, at, folder.as_str(), files)?;
-        if all.push(bytes).is_err() {
-            return Err(Refusal::memory());
+        match all.push(bytes) {
+            Ok(()) => files.advance(),
+            Err(_) => return Err(Refusal::memory()),
         }
-        files.advance();
     }
     files.hide_progress();
     Ok(all)
@@ -39,6 +43,8 @@ pub(crate) fn directory_bytes<F: Files>(
     files: &mut F,
 ) -> Result<Vec<u8>, Refusal>
     ensures refusal { (paths : ℕ) → at < paths → IfErr result (IsOfWork paths) }
+    ensures read { IfOk result (λ bytes.
+        HasDirectory folder.now bytes.items (F.held files.old)) }
     ensures kept { F.held files.new ≡ F.held files.old }
 {
     let path = path_in(alloc, folder, DIRECTORY)?;

@@ -148,3 +148,42 @@ d=set d/DICOMDIR=first,402,'P9: 13 - dicomdir check --keys d > 1 [MISLABELLED P]
 fn files_are_compared_with_their_records(rt: HostRuntime) -> Result<(), Fail> {
     ask_all(rt.alloc(), KEYS, ran)
 }
+
+/// Runs `check --strict` on file-sets whose records have digests, on some of another program, whose image is in use
+/// where the flag at 674 says so, and on one whose digest is of another creator. An image that was cut has no other
+/// finding but with `--keys`.
+const STRICT: &str = "\
+d=set: - - dicomdir check --strict d > 0 [OK 4 records|] [] kept
+d/DICOMDIR=empty: - - dicomdir check --strict d > 0 [OK 0 records|] [] kept
+index d a.dcm d.dcm: - - dicomdir check --keys d --strict > 0 [OK 5 records|] [] kept
+d/DICOMDIR=v3 d/IMAGES/SR1=note.txt: - - dicomdir check --strict d > 3 [NODIGEST IMAGES\\SR1|] [] kept
+d/DICOMDIR=v3 d/IMAGES/SR1=note.txt: - - dicomdir check --strict --keys d > 3 [NODIGEST IMAGES\\SR1|] [] kept
+d/DICOMDIR=v3 d/IMAGES/SR1=note.txt: 14 - dicomdir check --strict d > 1 [NODIGEST IMAGE] [] kept
+d/DICOMDIR=v3,674,ffff d/IMAGES/IM1=c.dcm d/IMAGES/SR1=note.txt: - - dicomdir check --strict d > \
+3 [NODIGEST IMAGES\\IM1|NODIGEST IMAGES\\SR1|] [] kept
+d/DICOMDIR=v3,674,ffff d/IMAGES/IM1=c.dcm d/IMAGES/SR1=note.txt: - - dicomdir check --strict --keys d > \
+3 [NODIGEST IMAGES\\IM1|NODIGEST IMAGES\\SR1|] [] kept
+d/DICOMDIR=v3,674,ffff d/IMAGES/IM1=part.dcm d/IMAGES/SR1=note.txt: - - dicomdir check d > 0 [OK 5 records|] [] kept
+d/DICOMDIR=v3,674,ffff d/IMAGES/IM1=part.dcm d/IMAGES/SR1=note.txt: - - dicomdir check --strict d > \
+3 [NODIGEST IMAGES\\IM1|NODIGEST IMAGES\\SR1|] [] kept
+d/DICOMDIR=v3,674,ffff d/IMAGES/IM1=part.dcm d/IMAGES/SR1=note.txt: - - dicomdir check --strict --keys d > \
+3 [MISLABELLED IMAGES\\IM1 31 File 27 Set 1 Truncated|NODIGEST IMAGES\\SR1|] [] kept
+d/DICOMDIR=v3,674,ffff d/IMAGES/IM1=d.dcm: - - dicomdir check --strict --keys d > \
+3 [MISLABELLED IMAGES\\IM1 (0002,0003)|MISSING IMAGES\\SR1|] [] kept
+d/DICOMDIR=v3,674,ffff,710,'i d/IMAGES/SR1=a.dcm: - - dicomdir check --strict d > \
+3 [BADID 646|NODIGEST IMAGES\\SR1|] [] kept
+d/DICOMDIR=v3 d/IMAGES/SR1=a.dcm; unread d/IMAGES/SR1: - - dicomdir check --strict d > \
+3 [UNREADABLE IMAGES\\SR1|] [] kept
+d/DICOMDIR=v3,584,32030000 d/IMAGES/SR1=a.dcm: - - dicomdir check --strict d > \
+3 [NODIGEST IMAGES\\SR1|UNREACHED 1|] [] kept
+d=set d/DICOMDIR=first,810,'X: - - dicomdir check --strict d > \
+3 [NODIGEST PT000001\\ST000001\\SE000001\\IM000001|] [] kept
+d=set d/PT000001/ST000001/SE000001/IM000001=e.dcm: - - dicomdir check --strict d > \
+3 [DIFFERS PT000001\\ST000001\\SE000001\\IM000001 900e75e1c153f87b21e09f9db68aef627f2dd320eb3afb1f2574594e6c862a92 \
+3701174b5ad976c7de170363bdf11977a0101e4fa19672b64e1cb1470846b2ca|] [] kept
+d/DICOMDIR=note.txt: - - dicomdir check --strict d > 3 [BROKEN 51 File 21 NotPart10|] [] kept";
+
+#[test]
+fn files_without_digests_are_found(rt: HostRuntime) -> Result<(), Fail> {
+    ask_all(rt.alloc(), STRICT, ran)
+}

@@ -75,7 +75,7 @@ d1/DICOMDIR=first,834,453361fd925712bb2f4ef496dfa3480f0d7a1e22fc15dc69e72aeb8086
 d1=set d1/PT000001/ST000001/SE000001/IM000001=note.txt: - - dicomdir merge o d1 > \
 1 [] [FAULT d1/PT000001/ST000001/SE000001/IM000001: 97 Changed|] changed
 d1=set d1/DICOMDIR=first,402,'P9: - - dicomdir withdraw o d1 1.2.3 > \
-1 [] [FAULT d1/PT000001/ST000001/SE000001/IM000001: 97 Changed|] changed
+1 [NOTE -: 1.2.3 is in no record|] [FAULT d1/PT000001/ST000001/SE000001/IM000001: 97 Changed|] changed
 d1=set: - - dicomdir merge full nowhere --uid 1.02 > 2 [] [FAULT -: 71 BadUid|] kept
 d1=set: - - dicomdir merge full nowhere --id bad --uid 1.02 > 2 [] [FAULT -: 72 BadSetId|] kept
 d1=set: - - dicomdir merge o d1 --uid 2.25.0 --dry-run > 0 [PLAN 1 instances, 876 bytes|] [] kept
@@ -108,6 +108,55 @@ fn merges_say_how_they_ended(rt: HostRuntime) -> Result<(), Fail> {
     ask_all(rt.alloc(), MERGES, ran)
 }
 
+/// What is on the disc beside the rest, the line, its status, what both outputs hold, and whether some file is new
+/// or has changed, where something is noted: names of two sets that share an image, records that are not reached,
+/// images that a set withdraws, and all of these in their order. A refusal of the plan is not noted.
+const NOTED: &str = "\
+index d1 a.dcm; index d2 a.dcm p.dcm: - - dicomdir merge o d1 d2 --uid 2.25.0 > \
+0 [NOTE -: Patient ID P1 has 2 names: DOE^J?RG, DOE^JOHN|DONE 2 instances, 1130 bytes|] [] changed
+index d1 a.dcm; index d2 a.dcm p.dcm: - - dicomdir merge o d2 d1 --strict > \
+1 [NOTE -: Patient ID P1 has 2 names: DOE^J?RG, DOE^JOHN|] [FAULT -: 98 Strict|] kept
+d1/DICOMDIR=first,568,00000000 d2/DICOMDIR=first,358,00000000: - - dicomdir merge o d1 d2/ d1 --uid 2.25.0 > \
+0 [NOTE d1: 1 records are not reached|NOTE d2/: 3 records are not reached|NOTE d1: 1 records are not reached|\
+DONE 0 instances, 320 bytes|] [] changed
+d1/DICOMDIR=first,568,00000000 d2=set: - - dicomdir merge o d2 d1 --uid 2.25.0 --dry-run > \
+0 [NOTE d1: 1 records are not reached|PLAN 1 instances, 876 bytes|] [] kept
+d1/DICOMDIR=first,568,00000000: - - dicomdir merge o d1 --strict > \
+1 [NOTE d1: 1 records are not reached|] [FAULT -: 98 Strict|] kept
+d1/DICOMDIR=first,568,00000000: 8 - dicomdir merge o d1 > 1 [NOTE d1:] [] kept
+d1/DICOMDIR=first,568,00000000 d2=set d3/DICOMDIR=first,402,'P2,772,'6: - - dicomdir merge o d1 d3 d2 --strict > \
+1 [NOTE d2/PT000001/ST000001/SE000001/IM000001: has 1.2.3.4.5|\
+NOTE d3/PT000001/ST000001/SE000001/IM000001: has 1.2.3.4.6|] [FAULT -: 41 Conflict 1.2.3.4.5 1.2.3.4.6|] kept
+d1/DICOMDIR=first,568,00000000: - - dicomdir merge o d1 --strict --max-bytes 319 > 1 [] [FAULT -: 43 TooLarge|] kept
+d1=set; withdraw d2 d1 1.2.3.4.5: - - dicomdir merge o d1 d2 --uid 2.25.0 > \
+0 [DONE 0 instances, 362 bytes|] [] changed
+d1=set; withdraw d2 d1 1.2.3.4.5: - - dicomdir merge o d1 d2/ d1 d2 --strict > \
+1 [NOTE d1/PT000001/ST000001/SE000001/IM000001: withdrawn in d2/: 1.2.3.4.5|\
+NOTE d1/PT000001/ST000001/SE000001/IM000001: withdrawn in d2/: 1.2.3.4.5|] [FAULT -: 98 Strict|] kept
+d1=set; withdraw d2 d1 1.2.3.4.5: - - dicomdir merge o d2 d1 --strict --dry-run > \
+1 [NOTE d1/PT000001/ST000001/SE000001/IM000001: withdrawn in d2: 1.2.3.4.5|] [FAULT -: 98 Strict|] kept
+d1=set; withdraw d2 d1 1.2.3.4.5: 8 - dicomdir merge o d1 d2 --strict > 1 [NOTE d1/] [] kept
+d1=set; withdraw d2 d1 1.2.3.4.6: - - dicomdir merge o d1 d2 --strict --uid 2.25.0 > \
+0 [DONE 1 instances, 918 bytes|] [] changed
+index d1 a.dcm; index d2 c.dcm; index d3 p.dcm; index d4 d.dcm; withdraw d5 d2 1.2.3.4.8; \
+d6/DICOMDIR=first,568,00000000: - - dicomdir merge o d1 d2 d3 d4 d5 d6 --uid 2.25.0 > \
+0 [NOTE d6: 1 records are not reached|\
+NOTE d1/PT000001/ST000001/SE000001/IM000001: left out for d2/PT000001/ST000001/SE000001/IM000001: \
+same SOP Instance UID 1.2.3.4.5, other bytes|NOTE -: Patient ID P1 has 2 names: DOE^JUDY, DOE^JOHN|\
+DONE 2 instances, 1172 bytes|] [] changed
+index d1 a.dcm; index d2 c.dcm; index d3 p.dcm; index d4 d.dcm; withdraw d5 d2 1.2.3.4.8; \
+d6/DICOMDIR=first,568,00000000: - - dicomdir merge o d1 d2 d3 d4 d5 d6 --strict > \
+1 [NOTE d6: 1 records are not reached|\
+NOTE d1/PT000001/ST000001/SE000001/IM000001: left out for d2/PT000001/ST000001/SE000001/IM000001: \
+same SOP Instance UID 1.2.3.4.5, other bytes|\
+NOTE d3/PT000001/ST000001/SE000001/IM000001: withdrawn in d5: 1.2.3.4.8|\
+NOTE -: Patient ID P1 has 2 names: DOE^JUDY, DOE^JOHN|] [FAULT -: 98 Strict|] kept";
+
+#[test]
+fn merges_say_what_is_noted(rt: HostRuntime) -> Result<(), Fail> {
+    ask_all(rt.alloc(), NOTED, ran)
+}
+
 /// Steps, a line, and a step that leaves the same files: sets in any order and number, and their sources; the
 /// first place of an image, by the File ID that the set has for it; and what stays after a refusal.
 const SAME: &str = "\
@@ -129,6 +178,10 @@ index d1 a.dcm; index d2 d.dcm; index d3 c.dcm: merge o d1 d2 d3 > merge o d2 d1
 index d1 a.dcm; index d2 d.dcm; index d3 c.dcm: merge o d1 d2 d3 > merge o d2 d3 d1
 index d1 a.dcm; index d2 d.dcm; index d3 c.dcm: merge o d1 d2 d3 > merge o d3 d1 d2
 index d1 a.dcm; index d2 d.dcm; index d3 c.dcm: merge o d1 d2 d3 > merge o d3 d2 d1
+index d1 a.dcm; index d2 d.dcm; index d3 c.dcm: merge o \
+d1 d1 d1 d1 d1 d1 d1 d1 d1 d1 d1 d1 d1 d1 d1 d1 d1 d1 d1 d1 d1 d1 d1 d1 d1 d1 d1 d1 d1 d1 d1 d1 \
+d1 d1 d1 d1 d1 d1 d1 d1 d1 d1 d1 d1 d1 d1 d1 d1 d1 d1 d1 d1 d1 d1 d1 d1 d1 d1 d1 d1 d1 d1 d1 d1 \
+d2 d1 d1 d1 d1 d3 > index o a.dcm d.dcm c.dcm
 d1=set d2=set d2/DICOMDIR=first,402,'P0: merge o d2 d1 --uid 2.25.0 > o=set
 d1=set: merge --link o d1 d1 --uid 2.25.0 > o=set
 d1=set; no links: merge --link o d1 d1 --uid 2.25.0 > o=set

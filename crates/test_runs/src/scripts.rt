@@ -18,10 +18,14 @@ fn disc_after(alloc: Global, steps: &str) -> Result<MemFiles, Fail> {
 /// How the lines begin that steps run.
 const RUNS: [&str; 3] = ["index ", "merge ", "withdraw "];
 
-/// Runs a line, which must be done, has second names refused, or puts files.
+/// Runs a line, which must be done, has second names refused, has the first reader of a file fail, or puts files.
 fn take_step(alloc: Global, step: &str, files: &mut MemFiles) -> Result<(), Fail> {
     if step == "no links" {
         files.refuse_links();
+        return Ok(());
+    }
+    if let Some(path) = step.strip_prefix("unread ") {
+        files.fail_read(path, 1, 0)?;
         return Ok(());
     }
     if !RUNS.iter().any(|run| step.starts_with(run)) {

@@ -1,6 +1,14 @@
--- The engine picks a file for each image of its plan.
-use Rattle.dicomdir.proofs.WholeSets.{merge_is_whole}
+-- What was made is of the answer of the engine, whose sets are the directories in the folders.
+use Rattle.std.proofs.Common.{◌≡◌, [], map, true}
+use Rattle.dd_line.specs.Line.{words_of}
+use Rattle.dicomdir.proofs.EngineMade.{done_merges}
 use Rattle.dicomdir.proofs.merging.run_merge.Goals as goal
 
-pub write_noted-requires-clause-whole : goal.write_noted-requires-clause-whole
-write_noted-requires-clause-whole g c = merge_is_whole _ _ _ _ _ c.in-Ok.ensures.merges.2.0
+pub returns-clause-made : goal.returns-clause-made
+returns-clause-made g c = λ makes.
+    done_merges c.write_noted.result c.args.choice.now c.args.making.max_bytes [] (words_of c.args.sets.now)
+    (map (λ bytes. bytes.items) c.in_ok-directories.directories.items) (c.args.making.link ≡ true)
+    c.args.making.folder.now _ _ c.in-Ok.noted c.in_ok-directories.ensures.read
+    (rw (c.of_bytes-limits.ensures, c.deref-2.ensures.value, c.in_ok-slices.ensures.bytes, c.deref.ensures.value) at
+    c.in-Ok.ensures.merges)
+    (rw c.in_ok-directories.ensures.kept at c.write_noted.ensures.made makes)

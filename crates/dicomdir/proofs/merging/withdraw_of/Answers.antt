@@ -1,13 +1,20 @@
--- Images get no second names. The engine picks a file for each image of its plan.
-use Rattle.std.proofs.Common.{◌≡◌, false, true}
-use Rattle.dicomdir.proofs.SomeMade.{done_by}
-use Rattle.dicomdir.proofs.WholeSets.{merge_is_whole}
+-- What was made is of the answer of the engine, whose one set is the directory in the folder. Images get no second names.
+use Rattle.std.proofs.Common.{◌≡◌, ◌∙◌, ap, length, map}
+use Rattle.dd_line.specs.Line.{words_of}
+use Rattle.dicomdir.specs.Made.{IsMemberPath}
+use Rattle.dicomdir.proofs.EngineMade.{done_merges, only_one}
+use Rattle.dicomdir.proofs.SomeMade.{unlinked_done}
 use Rattle.dicomdir.proofs.merging.withdraw_of.Goals as goal
 
 pub returns-clause-made : goal.returns-clause-made
 returns-clause-made g c = λ makes.
-    done_by c.write_noted.result (false ≡ true) ⊥ c.args.making.folder.now _ _ (λ link. cc)
-    (rw c.in_ok-directories.ensures.kept at c.write_noted.ensures.made makes)
-
-pub write_noted-requires-clause-whole : goal.write_noted-requires-clause-whole
-write_noted-requires-clause-whole g c = merge_is_whole _ _ _ _ _ c.in-Ok.ensures.merges.2.0
+    let count = c.in_ok-slices.ensures.count ∙ ap (λ all. length all) c.deref.ensures.value
+    ∙ c.in_ok-directories.ensures.all ∙ c.requires in
+    let set = only_one c.in_ok-slices.slices.items c.index.result.now (λ slice. slice.now) count c.index.ensures
+    ∙ (rw c.deref.ensures.value at c.in_ok-slices.ensures.bytes) in
+    done_merges c.write_noted.result c.args.names.now.choice c.args.making.max_bytes c.args.names.now.withdrawn.items
+    (words_of c.args.sets.now) (map (λ bytes. bytes.items) c.in_ok-directories.directories.items) ⊥
+    c.args.making.folder.now _ _ c.in-Ok.noted c.in_ok-directories.ensures.read
+    (rw (c.of_bytes-limits.ensures, c.deref-2.ensures.value, set) at c.in-Ok.ensures.merges)
+    (unlinked_done c.write_noted.result (IsMemberPath (words_of c.args.sets.now)) c.args.making.folder.now _ _ _ _
+    (rw c.in_ok-directories.ensures.kept at c.write_noted.ensures.made makes))

@@ -1,5 +1,5 @@
 use Rattle.std.proofs.Common.{refl}
-use Rattle.dicomdir.proofs.BadUids.{bad_at, bad_behind, bad_left, whatever_fault}
+use Rattle.dicomdir.proofs.BadUids.{bad_at, bad_behind, bad_left, uid_read, whatever_fault}
 use Rattle.dicomdir.specs.Names.{HasBadUid}
 use Rattle.dicomdir.proofs.names.uids_of.Goals as goal
 
@@ -15,4 +15,6 @@ loop-texts-preserved c = (
       c.text-item.is bad),
   λ bad. bad_left c.loop-texts.texts.now c.text-item.result c.in-len1-up.len_at_least c.text-item.is
       (c.in_ok-uid.ensures.good refl) (c.loop-texts.invariant.1 bad),
+  uid_read c.loop-texts.texts.now c.text-item.result c.in-len1-up.len_at_least c.text-item.is c.loop-texts.uids.items
+      _ _ _ c.in-Ok.ensures.items c.in_ok-uid.ensures.value c.loop-texts.invariant.2,
 )

@@ -1,0 +1,31 @@
+use Rattle.std.proofs.Common.{◌≡◌, ◌∙◌, ◌+◌, [], ◌∷◌, ℕ, List, Option, ap, arith, get_or, length, map, string_bytes, subst, sym}
+use Rattle.std.proofs.lemmas.List.{get_or-map, length-map, length_push, map_push}
+use Rattle.dd_files.specs.Files.{Held}
+use Rattle.dd_line.specs.Line.{words_of}
+use Rattle.dicomdir.proofs.EngineMade.{directory_more}
+use Rattle.dicomdir.specs.Merges.{HasDirectory}
+use Rattle.dicomdir.proofs.set_directory.read_directories.Goals as goal
+
+pub loop-at-preserved : goal.loop-at-preserved
+loop-at-preserved g c =
+    let folders = c.args.folders.now in
+    let at = c.loop-at.at in
+    let all = c.loop-at.all.items in
+    let bytes = c.in_ok-bytes.bytes in
+    let before = c.loop-at.invariant in
+    let item = c.index-folders-at.result in
+    let folder : c.as_str.result.now ≡ get_or (words_of folders) at [] =
+    c.as_str.ensures.value ∙ ap (λ word. string_bytes word) c.index-folders-at.is
+    ∙ sym (get_or-map (λ word. string_bytes word) folders at item [] (omega (arith, c.loop-at-test.true))) in
+    let read = subst (λ (path : List ℕ). HasDirectory path bytes.items (g.F.Files.held c.loop-at.files)) folder
+    c.in_ok-bytes.ensures.read in
+    record {
+      count = ap (λ items. length items) c.in-Ok.ensures.items ∙ length_push all bytes ∙ ap (λ n. n + 1) before.count;
+      read = rw (c.in-Ok.ensures.items, map_push (λ bytes. bytes.items) all bytes)
+          (directory_more (words_of folders) (map (λ bytes. bytes.items) all) at bytes.items
+          (g.F.Files.held c.args.files.now)
+          (omega (arith, c.loop-at-test.true, length-map folders (λ word. string_bytes word))) before.read
+          (subst (λ (files : Option Held). HasDirectory (get_or (words_of folders) at []) bytes.items files) before.kept
+          read));
+      kept = c.advance.ensures.kept ∙ c.in_ok-bytes.ensures.kept ∙ before.kept;
+    }
