@@ -81,7 +81,8 @@ def of_reading(case, at, error, lasts):
     if call.name == "statx" and call.answer < 0:
         return None
     if call.path == NULL:
-        return "error: /dev/null can't be opened"
+        # What a read of it answers is not looked at.
+        return None if call.name == "read" else "error: /dev/null can't be opened"
     if call.path == DIRECTORY:
         return of_look(case, call, lasts)
     if is_on_the_way(calls, at):
@@ -149,6 +150,14 @@ def line_of(case, found):
     return f"{found}\n" if found.startswith("error") else f"FAULT {found}\n"
 
 
+def found_lines(case, findings):
+    """The output where these are found of their files, and of each other file what the undisturbed run finds."""
+    found = {finding.split(" ")[1]: finding for finding in findings}
+    others = [line for line in case.right.out.splitlines() if line.startswith("NODIGEST ")]
+    lines = [found.pop(line.split(" ")[1], line) for line in others] + list(found.values())
+    return "".join(f"{line}\n" for line in lines)
+
+
 def is_as_failed(case, run, task):
     """Has the run the status and the lines that must come of it that this call fails, and each later one of its name
     where that lasts?"""
@@ -164,7 +173,7 @@ def is_as_failed(case, run, task):
             continue
         return (run.status, run.err) == (1, line_of(case, found)) and case.right.out.startswith(run.out)
     if findings:
-        return (run.status, run.out, run.err) == (3, "".join(f"{found}\n" for found in findings), "")
+        return (run.status, run.out, run.err) == (3, found_lines(case, findings), "")
     return run.is_as(case.right)
 
 

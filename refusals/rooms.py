@@ -45,11 +45,14 @@ COMMANDS = [
     Command("merge of two sets by second names", "merge OUT SETA SETB --link --uid 2.25.0"),
     Command("merge of two sets with other bytes of an image, which is refused",
             "merge OUT SETA SETN --uid 2.25.0 --strict"),
+    Command("merge of sets with a withdrawn image and a record that is not reached, which is refused",
+            "merge OUT SETA SETU SETW --uid 2.25.0 --strict"),
     Command("withdraw of one image of two", "withdraw OUT SETA 1.2.3.1000 1.2.3.1 --uid 2.25.0"),
     Command("list of two images", "list SETA"),
     Command("list of two images at length", "list --long SETA"),
     Command("check of two images", "check SETA"),
     Command("check of two images and what they say", "check --keys SETA"),
+    Command("check of two images that have no digests", "check --strict SETD"),
 ]
 
 
@@ -173,6 +176,15 @@ def look():
     return sorted(found)
 
 
+def hide_image(path):
+    """Takes away the offset that leads from the series of a directory to its images: (0004,1420), whose value ends 8
+    bytes before that of (0004,1430)."""
+    directory = bytearray(pathlib.Path(path).read_bytes())
+    end = directory.index(b"SERIES") - 8
+    directory[end - 4:end] = bytes(4)
+    pathlib.Path(path).write_bytes(directory)
+
+
 def text_of(path):
     """What a file says."""
     return pathlib.Path(path).read_text(encoding="utf-8", errors="replace")
@@ -201,8 +213,14 @@ class Room:
         pathlib.Path("names").write_bytes(b"text\0b.dcm")
         os.mkdir("OTHER")
         pathlib.Path("OTHER/text").write_bytes(b"another file\n")
-        for words in ("index SETA a.dcm b.dcm", "index SETB b.dcm c.dcm", "index SETN noted.dcm"):
+        for words in ("index SETA a.dcm b.dcm", "index SETB b.dcm c.dcm", "index SETN noted.dcm", "index SETU c.dcm"):
             subprocess.run([program] + words.split(), check=True, stdout=subprocess.DEVNULL)
+        # The digests of a directory are those of their creator: with another one no record has any.
+        shutil.copytree("SETA", "SETD")
+        directory = pathlib.Path("SETD/DICOMDIR")
+        directory.write_bytes(directory.read_bytes().replace(b"DD FILESET 1", b"XX FILESET 1"))
+        subprocess.run([program, "withdraw", "SETW", "SETB", "1.2.3.1000"], check=True, stdout=subprocess.DEVNULL)
+        hide_image("SETU/DICOMDIR")
         self.given = look()
 
     def run(self, command, **settings):

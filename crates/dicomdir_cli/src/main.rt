@@ -10,13 +10,16 @@ use dicomdir::{print_line, run};
 use dicomdir_host::{Counted, HostFiles};
 use std::env;
 use std::fs::{self, File};
-use std::io::{self, ErrorKind};
+use std::io::{self, ErrorKind, Read};
 use std::os::fd::{AsRawFd, IntoRawFd};
 use std::process::ExitCode;
 use words::{Number, bad_word};
 
 // How many standard descriptors there are: input, output and error output.
 const STANDARD: i32 = 3;
+
+// How many bytes of the stack a run may take, with some to spare. It takes 225 KiB at most, whatever it reads.
+const STACK: usize = 262_144;
 
 // Tells why there are no words, and which one is not text, and answers the status.
 fn refuse_words<E: Write>(kind: ErrorKind, bad: Option<usize>, err: &mut E) -> u8
@@ -44,15 +47,24 @@ fn refuse_words<E: Write>(kind: ErrorKind, bad: Option<usize>, err: &mut E) -> u
     2
 }
 
+// Takes as much of the stack as a run may, so that the system ends a run that has less of it here, before anything is
+// made. A compiler can't leave out bytes that the system is asked to read to, and /dev/null has none.
+#[inline(never)]
+fn probe_stack<N: Read>(null: &mut N) {
+    let mut room = [0; STACK];
+    let _ = null.read(&mut room);
+}
+
 // Opens /dev/null for reading in place of each standard descriptor that is closed, so that no file of a run becomes
 // one of them. A write to an output that was closed still fails.
 fn fill_standard<R: fs::Files>(rt: &R) -> io::Result<()>
 where
-    R::File: AsRawFd + IntoRawFd,
+    R::File: AsRawFd + IntoRawFd + Read,
 {
     for _ in 0..=STANDARD {
-        let null = File::open(rt, "/dev/null")?;
+        let mut null = File::open(rt, "/dev/null")?;
         if null.as_raw_fd() >= STANDARD {
+            probe_stack(&mut null);
             return Ok(());
         }
         let _ = null.into_raw_fd();
