@@ -14,7 +14,7 @@ CT = "1.2.840.10008.5.1.4.1.1.2"
 # What is run in place of the program. It notes the command, and waits in one that begins with the words of PAUSE_AT.
 NOTING = """#!/bin/sh
 printf '%s\\n' "$1 $2 $3" | head -n 1 >>"$CALLS"
-case "$1 $2 $3" in "$PAUSE_AT"*) : >"$CALLS.paused"; exec sleep 60 ;; esac
+case "$1 $2 $3" in "$PAUSE_AT"*) : >"$CALLS.paused"; exec sleep 600 ;; esac
 sleep "$DELAY"
 exec "$REAL" "$@"
 """
@@ -43,7 +43,7 @@ def image(instance, patient="P1", name="DOE^JOHN", study=None, series=None, more
 
 
 def tree(folder):
-    """All that stands in a folder: of each name its kind, its rights, its names, and its bytes."""
+    """All that stands in a folder: of each name its kind, its rights, its names, and its bytes, where they may be read."""
     standing = {}
     for path in sorted(pathlib.Path(folder).rglob("*")):
         about = path.lstat()
@@ -51,7 +51,7 @@ def tree(folder):
         if path.is_symlink():
             what.append(os.readlink(path))
         elif path.is_file():
-            what += [about.st_nlink, path.read_bytes()]
+            what += [about.st_nlink, path.read_bytes() if os.access(path, os.R_OK) else None]
         standing[str(path.relative_to(folder))] = what
     return standing
 
@@ -66,10 +66,10 @@ def calls_of(path):
 
 
 class Beside:
-    """A folder for runs beside each other, and what was found."""
+    """A folder for runs beside each other, and what was found. Is GNU parallel there, for hosts?"""
 
-    def __init__(self, work, program):
-        self.work, self.program = pathlib.Path(work), str(program)
+    def __init__(self, work, program, hosts):
+        self.work, self.program, self.hosts = pathlib.Path(work), str(program), hosts
         self.noting = self.work / "dicomdir"
         self.noting.write_text(NOTING)
         self.noting.chmod(0o755)
@@ -87,7 +87,11 @@ class Beside:
         return {**os.environ, **noted, **more}
 
     def make(self, folder, prepare, inner="w"):
-        """A new folder, with what a case wants in one in it."""
+        """A new folder, with what a case wants in one in it. What stood there is removed, whatever its rights are."""
+        for path, names, _ in os.walk(folder):
+            for name in names:
+                if not os.path.islink(f"{path}/{name}"):
+                    os.chmod(f"{path}/{name}", 0o700)
         shutil.rmtree(folder, ignore_errors=True)
         pathlib.Path(f"{folder}.calls").unlink(missing_ok=True)
         inside = folder / inner
@@ -100,7 +104,7 @@ class Beside:
         if closed:
             words = ["sh", "-c", 'exec "$@" ' + " ".join(f"{number}>&-" for number in closed), "sh", *words]
         with open("/dev/full", "wb") as device:
-            done = subprocess.run(words, cwd=inside, env=environment, input=given, timeout=120, umask=umask,
+            done = subprocess.run(words, cwd=inside, env=environment, input=given, timeout=600, umask=umask,
                                   stdout=device if full else subprocess.PIPE, stderr=subprocess.PIPE, check=False)
         return done.returncode, done.stdout, done.stderr
 

@@ -13,11 +13,16 @@ import time
 from beside import TOP, image, tree
 
 # In which phase a run waits, by the beginning of a command of the program, or by a tool that is run in place of the
-# system's. The list of names is read to its end, which does not come.
-PHASES = {"reading": None, "cutting": "xargs", "indexing": "index --quiet", "merging": "merge --link", "removing": "rm"}
-# Waits where its words are those of that phase.
+# system's. The list of names is read to its end, which does not come. Where the file-set is published OUT is taken, and
+# one process does all.
+PHASES = {"reading": None, "cutting": "xargs", "indexing": "index --quiet", "merging": "merge --link", "removing": "rm",
+          "printing": "cat", "publishing": "index OUT"}
+# Waits where its words are those of that phase. Takes OUT where the file-set is to be moved to it.
 TOOL = """#!/bin/sh
-case "$0 $*" in */xargs*stat*|*/rm\\ -rf\\ --\\ */[0-9]) : >"$CALLS.paused"; exec sleep 60 ;; esac
+case "$0 $*" in
+    */xargs*stat*|*/rm\\ -rf\\ --\\ */[0-9]|*/cat*/lines) : >"$CALLS.paused"; exec sleep 600 ;;
+    */mv*/set\\ *) mkdir OUT; : >OUT/theirs ;;
+esac
 PATH=${PATH#*:}
 exec "${0##*/}" "$@"
 """
@@ -44,7 +49,7 @@ def has_parts_run(pid):
         return False
 
 
-def wait_for(is_there, seconds=20):
+def wait_for(is_there, seconds=120):
     """Waits until the condition holds. Says whether it did."""
     end = time.monotonic() + seconds
     while not is_there():
@@ -57,7 +62,7 @@ def wait_for(is_there, seconds=20):
 class Run:
     """A run in a folder of its own, which waits in a phase, if one is named."""
 
-    def __init__(self, runs, name, phase=None, delay="0", out="OUT", terminal=False, hosts=False):
+    def __init__(self, runs, name, phase=None, delay="0", out="OUT", terminal=False, hosts=False, skips=False):
         self.runs, self.name = runs, name
         self.room = runs.work / f"signal-{name}"
         self.inside, self.calls = self.room / "w", f"{self.room}.calls"
@@ -65,12 +70,15 @@ class Run:
         self.inside.mkdir()
         for at in range(16):
             (self.inside / f"{at:03}").write_bytes(image(f"1.2.3.{at + 1}", f"P{at % 3}"))
+        if skips:
+            (self.inside / "007").write_bytes(b"This is no image.\n")
         waits = PHASES.get(phase) or "never"
         tools = self.room / "tools"
         tools.mkdir()
-        if waits in ("xargs", "rm"):
-            (tools / waits).write_text(TOOL)
-            (tools / waits).chmod(0o755)
+        tool = "mv" if phase == "publishing" else waits
+        if tool in ("xargs", "rm", "cat", "mv"):
+            (tools / tool).write_text(TOOL)
+            (tools / tool).chmod(0o755)
         environment = runs.environment(self.room, PAUSE_AT=waits, DELAY=delay, TMPDIR=str(self.room / "tmp"),
                                        PATH=f"{tools}:{os.environ['PATH']}")
         (self.inside / "hosts").write_text(":\n")
@@ -116,7 +124,7 @@ class Run:
         if self.child:
             # What the run waits for is not closed before its end.
             try:
-                status = self.child.wait(30)
+                status = self.child.wait(120)
             except subprocess.TimeoutExpired:
                 self.child.kill()
                 status = None
@@ -131,16 +139,16 @@ class Run:
         left = [name for name in tree(self.room) if "dicomdir-parallel" in name or name.startswith("tmp/")]
         if left:
             self.runs.fault(f"{self.name}: left there: {left[:5]}")
-        if not wait_for(lambda: not processes(self.calls), 2):
+        if not wait_for(lambda: not processes(self.calls), 20):
             self.runs.fault(f"{self.name}: processes are left: {processes(self.calls)}")
 
-    def is_ended_by(self, number, status):
+    def is_ended_by(self, number, status, made=(), output=b""):
         """Notes what is not as wanted where this signal ended the run. Bash is not ended by QUIT, but answers it."""
         if status != (128 + number if number == signal.SIGQUIT else -number):
             self.runs.fault(f"{self.name}: the status is {status}")
-        if (self.inside / "OUT").exists():
-            self.runs.fault(f"{self.name}: OUT is there")
-        if self.child and (self.output or self.errors):
+        if tuple(name for name in tree(self.inside) if name.startswith("OUT")) != made:
+            self.runs.fault(f"{self.name}: OUT is there, or not as it was")
+        if self.child and (self.output != output or self.errors):
             self.runs.fault(f"{self.name}: it says {self.output + self.errors}")
         self.looks_clean()
 
@@ -153,9 +161,18 @@ def try_phase(runs, phase, number, out="OUT", hosts=False):
         runs.fault(f"{run.name}: it did not come there")
     sent = time.monotonic()
     os.kill(run.pid, number)
-    run.is_ended_by(number, run.end())
-    if time.monotonic() - sent > 20:
+    run.is_ended_by(number, run.end(), ("OUT", "OUT/theirs") if phase == "publishing" else ())
+    if time.monotonic() - sent > 60:
         runs.fault(f"{run.name}: it took {time.monotonic() - sent:.1f} seconds to end")
+
+
+def try_skipping(runs, number):
+    """Sends a signal to a run of which all is left to one process when a line is printed."""
+    run = Run(runs, f"skipping-{number.name}", "publishing", skips=True)
+    if not run.has_come("publishing"):
+        runs.fault(f"{run.name}: it did not come there")
+    os.kill(run.pid, number)
+    run.is_ended_by(number, run.end(), ("OUT", "OUT/theirs"), b"SKIP 007: 31 File 21 NotPart10\n")
 
 
 def try_terminal(runs, phase):
@@ -170,12 +187,12 @@ def try_terminal(runs, phase):
         runs.fault(f"{run.name}: the terminal got {got!r}")
 
 
-def try_any_time(runs, seed):
-    """Sends a signal at any time. The run is ended by it, or whole."""
+def try_any_time(runs, seed, latest):
+    """Sends a signal at any time of the first seconds. The run is ended by it, or whole."""
     chance = random.Random(seed)
     number = chance.choice([signal.SIGINT, signal.SIGTERM, signal.SIGHUP])
-    run = Run(runs, f"any-time-{seed}", delay="0.05")
-    time.sleep(chance.uniform(0, 3))
+    run = Run(runs, f"any-time-{seed}-{latest}", delay="0.05")
+    time.sleep(chance.uniform(0, latest))
     if run.child.poll() is None:
         os.kill(run.pid, number)
     status = run.end()
@@ -218,13 +235,14 @@ def try_signals(runs):
         signal.signal(number, signal.SIG_DFL)
     tries = [(try_phase, phase, number) for phase in PHASES for number in (signal.SIGINT, signal.SIGTERM)]
     tries += [(try_phase, "indexing", number) for number in (signal.SIGHUP, signal.SIGQUIT)]
-    tries += [(try_phase, "indexing", number, "OUT", True) for number in (signal.SIGINT, signal.SIGTERM)]
+    tries += [(try_phase, "indexing", number, "OUT", True) for number in (signal.SIGINT, signal.SIGTERM) if runs.hosts]
     tries += [(try_phase, "merging", signal.SIGTERM, "OUT/a/b")]
+    tries += [(try_skipping, number) for number in (signal.SIGINT, signal.SIGTERM)]
     tries += [(try_terminal, phase) for phase in ("cutting", "indexing", "merging", "removing")]
-    tries += [(try_any_time, seed) for seed in range(12)]
+    tries += [(try_any_time, seed, latest) for seed in range(12) for latest in (0.1, 3)]
     with concurrent.futures.ThreadPoolExecutor(2 * (os.cpu_count() or 1)) as at_once:
         begun = [at_once.submit(what, runs, *words) for what, *words in tries]
-        begun += [at_once.submit(try_killed, runs, hosts) for hosts in (False, True)]
+        begun += [at_once.submit(try_killed, runs, hosts) for hosts in {False, runs.hosts}]
         begun += [at_once.submit(try_progress, runs)]
     for one in begun:
         one.result()
