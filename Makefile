@@ -1,5 +1,5 @@
-# Installs the prebuilt program, its scripts, their man pages and completions, and the documents, and makes a Debian
-# package of them.
+# Tests the prebuilt program; installs it, its scripts, their man pages and completions, and the documents; and makes a
+# Debian package of them.
 # PREFIX and DESTDIR may hold spaces.
 SHELL := /bin/sh
 PREFIX ?= /usr/local
@@ -17,13 +17,14 @@ ours := $(share)/doc/dicomdir
 help:
 	@echo 'dicomdir $(version), a program for Linux on x86-64 with glibc 2.34 or newer'
 	@echo
+	@echo '  make check      tests it in a few seconds, without network and root'
 	@echo '  make install    copies it, its scripts, man pages, completions and documents to PREFIX, /usr/local'
 	@echo '                  by default; where DESTDIR is given, to that folder in place of /'
 	@echo '  make uninstall  removes these files again, from the same PREFIX and DESTDIR'
 	@echo '  make deb        makes a Debian package of them, in packaging/out'
 	@echo '  make man        takes the tables of the man page from docs/FAULTS.md'
 	@echo
-	@echo 'packaging/test tries all of this. ./dicomdir-build makes the program itself.'
+	@echo 'packaging/test tries what is installed. ./dicomdir-build makes the program itself.'
 
 # The bytes are those that were built.
 install:
@@ -54,6 +55,9 @@ uninstall:
 	for folder in $(ours)/docs $(ours) $(share)/dicomdir; do \
 		if [ -d "$$folder" ]; then rmdir --ignore-fail-on-non-empty "$$folder"; fi; done
 
+check:
+	@packaging/check
+
 deb:
 	packaging/deb
 
@@ -61,4 +65,4 @@ man:
 	packaging/faults >docs/dicomdir.1.new || { rm docs/dicomdir.1.new; exit 1; }
 	mv docs/dicomdir.1.new docs/dicomdir.1
 
-.PHONY: help install uninstall deb man
+.PHONY: help check install uninstall deb man
