@@ -1,4 +1,4 @@
-"""Runs with growths refused."""
+"""Runs with allocations refused."""
 import re
 
 from rooms import count_kinds, harm, result_of, tell_standing
@@ -9,14 +9,14 @@ FAULT = re.compile(r"FAULT OUT[^:\n]*: (94 Create|95 Folder)\n")
 
 
 def tasks(case):
-    """Each growth of the undisturbed run, refused alone and with all that follow; and one more, that never comes."""
-    for growth in range(1, case.right.growths + 2):
+    """Each allocation of the undisturbed run, refused alone and with all that follow; and one more, that never comes."""
+    for allocation in range(1, case.right.allocations + 2):
         for lasts in (False, True):
-            yield growth, lasts
+            yield allocation, lasts
 
 
 def judge(case, run):
-    """What is wrong in a run in which growths were refused."""
+    """What is wrong in a run in which allocations were refused."""
     found = harm(case, run)
     # A file whose new name finds no memory is copied.
     copied = [path for path in case.right.second if path in run.left and path not in run.second]
@@ -35,20 +35,20 @@ def judge(case, run):
 
 def try_one(room, case, task):
     """Does a task."""
-    growth, lasts = task
-    run = room.run(case.command, REFUSE_GROWTH=str(growth), **({"REFUSE_LATER": "1"} if lasts else {}))
-    what = f"growth {growth} {'and all later' if lasts else 'alone'}"
-    if growth > case.right.growths:
-        wrong = ["the undisturbed run has no such growth"] if run.refused or not run.is_as(case.right) else []
+    allocation, lasts = task
+    run = room.run(case.command, REFUSE_ALLOCATION=str(allocation), **({"REFUSE_LATER": "1"} if lasts else {}))
+    what = f"allocation {allocation} {'and all later' if lasts else 'alone'}"
+    if allocation > case.right.allocations:
+        wrong = ["the undisturbed run has no such allocation"] if run.refused or not run.is_as(case.right) else []
         return result_of(case, what, run, "", wrong)
     kind = run.kind_as(case.right) if run.is_as(case.right) else run.err.rsplit(": ", 1)[-1].strip()
     return result_of(case, what, run, kind, judge(case, run))
 
 
 def sum_up(case, results):
-    """Tells what came of the growths of a command."""
+    """Tells what came of the allocations of a command."""
     kinds = [result.kind for _, result in results if result.kind]
-    print(f"{case.command.name}: {case.right.growths} growths, {len(kinds)} runs: {count_kinds(kinds)}")
+    print(f"{case.command.name}: {case.right.allocations} allocations, {len(kinds)} runs: {count_kinds(kinds)}")
     tell_standing(results)
 
 

@@ -2,24 +2,24 @@
  * A library that is loaded into a program by LD_PRELOAD, and refuses it memory or calls of the system. refusals/run
  * compiles it and says when it refuses what, by environment variables that are read once, before main:
  *
- *   REFUSE_GROWTH=N        The N-th growth is refused, counted from 1. A growth is a request for memory: malloc,
+ *   REFUSE_ALLOCATION=N        The N-th allocation is refused, counted from 1. An allocation is a request for memory: malloc,
  *                          calloc, realloc, posix_memalign and aligned_alloc count together.
  *   REFUSE_CALL='NAME N E' The N-th call of this name, counted from 1, is not made and fails with error E, a number.
  *                          NAME is statx, fstat (a statx of an open file), open, create (an open that makes the
  *                          file), read, write, mkdir, link, fsync or close.
- *   REFUSE_LATER=1         Each later growth, or each later call of this name, is refused as well.
+ *   REFUSE_LATER=1         Each later allocation, or each later call of this name, is refused as well.
  *   REFUSE_LOG=FILE        A line for each of these calls is appended: its name, what it answered (an error as
  *                          -E), and its path or descriptor. Of link it has the new path, and behind that the old.
  *                          The line of a refused one begins with '!'.
- *   REFUSE_COUNTS=FILE     When the program ends, a line 'armed A growths G refused R' is appended: how often the
- *                          growths began to be counted, how many came while they were, and how many of them were
+ *   REFUSE_COUNTS=FILE     When the program ends, a line 'armed An allocations G refused R' is appended: how often the
+ *                          allocations began to be counted, how many came while they were, and how many of them were
  *                          refused.
  *
  * Only what main does is counted, and so nothing of the loader, nor of libc's start and end.
  *
- * A test can choose the growth by itself: a request of 2^62 + N bytes, which no machine can grant, is refused, and
- * has the N-th growth after it refused. A request of 2^62 bytes ends that; then a request of 1,000,003 bytes is
- * refused where a growth was. Without the library the first two are refused too, and no other growth is.
+ * A test can choose the allocation by itself: a request of 2^62 + N bytes, which no machine can grant, is refused, and
+ * has the N-th allocation after it refused. A request of 2^62 bytes ends that; then a request of 1,000,003 bytes is
+ * refused where an allocation was. Without the library the first two are refused too, and no other allocation is.
  *
  * The program has one thread, so the counts are plain numbers.
  */
@@ -52,7 +52,7 @@ static void append(const char *path, const char *line)
 
 /* ---- What is refused ---- */
 
-static unsigned long growth_to_refuse, call_to_refuse;
+static unsigned long allocation_to_refuse, call_to_refuse;
 static char call_name[16];
 static int call_error;
 static int refuses_later;
@@ -68,20 +68,20 @@ static int is_chosen(unsigned long count, unsigned long chosen)
 
 static void read_settings(void)
 {
-    const char *growth = getenv("REFUSE_GROWTH"), *call = getenv("REFUSE_CALL");
+    const char *allocation = getenv("REFUSE_ALLOCATION"), *call = getenv("REFUSE_CALL");
 
     refuses_later = getenv("REFUSE_LATER") != NULL;
     log_path = getenv("REFUSE_LOG");
     counts_path = getenv("REFUSE_COUNTS");
-    if (growth != NULL)
-        growth_to_refuse = strtoul(growth, NULL, 10);
+    if (allocation != NULL)
+        allocation_to_refuse = strtoul(allocation, NULL, 10);
     if (call != NULL && sscanf(call, "%15s %lu %d", call_name, &call_to_refuse, &call_error) != 3) {
         append("/dev/stderr", "refuse: REFUSE_CALL is not 'NAME N E'\n");
         _exit(125);
     }
 }
 
-/* ---- Growths ---- */
+/* ---- Allocations ---- */
 
 /* The functions of libc under their other names. */
 extern void *__libc_malloc(size_t size);
@@ -92,20 +92,20 @@ extern void *__libc_memalign(size_t alignment, size_t size);
 static const size_t request_to_arm = (size_t)1 << 62;
 static const size_t request_to_tell = 1000003;
 static int is_armed;
-static unsigned long armed, growths, refused;
-/* How many growths there were, and how many were refused, when it was armed last. */
-static unsigned long growths_before, refused_before;
+static unsigned long armed, allocations, refused;
+/* How many allocations there were, and how many were refused, when it was armed last. */
+static unsigned long allocations_before, refused_before;
 
 static void arm(unsigned long chosen)
 {
     is_armed = 1;
     armed += 1;
-    growths_before = growths;
+    allocations_before = allocations;
     refused_before = refused;
-    growth_to_refuse = chosen;
+    allocation_to_refuse = chosen;
 }
 
-static int refuses_growth(size_t size)
+static int refuses_allocation(size_t size)
 {
     if (size == request_to_arm) {
         is_armed = 0;
@@ -117,8 +117,8 @@ static int refuses_growth(size_t size)
     }
     if (!is_armed)
         return size == request_to_tell && refused > refused_before;
-    growths += 1;
-    if (!is_chosen(growths - growths_before, growth_to_refuse))
+    allocations += 1;
+    if (!is_chosen(allocations - allocations_before, allocation_to_refuse))
         return 0;
     refused += 1;
     return 1;
@@ -130,27 +130,27 @@ static void *no_memory(void)
     return NULL;
 }
 
-void *malloc(size_t size) { return refuses_growth(size) ? no_memory() : __libc_malloc(size); }
+void *malloc(size_t size) { return refuses_allocation(size) ? no_memory() : __libc_malloc(size); }
 
 void *calloc(size_t count, size_t size)
 {
     size_t all;
 
-    if (__builtin_mul_overflow(count, size, &all) || refuses_growth(all))
+    if (__builtin_mul_overflow(count, size, &all) || refuses_allocation(all))
         return no_memory();
     return __libc_calloc(count, size);
 }
 
-void *realloc(void *old, size_t size) { return refuses_growth(size) ? no_memory() : __libc_realloc(old, size); }
+void *realloc(void *old, size_t size) { return refuses_allocation(size) ? no_memory() : __libc_realloc(old, size); }
 
 void *aligned_alloc(size_t alignment, size_t size)
 {
-    return refuses_growth(size) ? no_memory() : __libc_memalign(alignment, size);
+    return refuses_allocation(size) ? no_memory() : __libc_memalign(alignment, size);
 }
 
 int posix_memalign(void **place, size_t alignment, size_t size)
 {
-    void *granted = refuses_growth(size) ? NULL : __libc_memalign(alignment, size);
+    void *granted = refuses_allocation(size) ? NULL : __libc_memalign(alignment, size);
 
     if (granted == NULL)
         return ENOMEM;
@@ -286,8 +286,8 @@ static int main_that_counts(int argc, char **argv, char **environment)
 
     read_settings();
     has_begun = 1;
-    if (growth_to_refuse != 0)
-        arm(growth_to_refuse);
+    if (allocation_to_refuse != 0)
+        arm(allocation_to_refuse);
     status = real_main(argc, argv, environment);
     has_begun = 0;
     is_armed = 0;
@@ -315,6 +315,6 @@ __attribute__((destructor)) static void tell_counts(void)
 
     if (counts_path == NULL)
         return;
-    snprintf(line, sizeof line, "armed %lu growths %lu refused %lu\n", armed, growths, refused);
+    snprintf(line, sizeof line, "armed %lu allocations %lu refused %lu\n", armed, allocations, refused);
     append(counts_path, line);
 }

@@ -1,7 +1,7 @@
 #!/usr/bin/python3
-"""Runs the program with growths or calls of the system refused, and compares each run with the undisturbed one.
+"""Runs the program with allocations or calls of the system refused, and compares each run with the undisturbed one.
 
-    refused.py growths|calls PROGRAM LIBRARY EXAMPLE FOLDER
+    refused.py allocations|calls PROGRAM LIBRARY EXAMPLE FOLDER
 
 LIBRARY is refuse.c, compiled. All happens in FOLDER, which is new, in as many processes as JOBS says, else as there
 are processors. A line for each run is left in FOLDER/runs. The status is 1 where a run is not as it has to be; such
@@ -13,10 +13,10 @@ import os
 import sys
 
 import calls
-import growths
+import allocations
 from rooms import COMMANDS, DIRECTORY, Room
 
-PARTS = {"growths": growths, "calls": calls}
+PARTS = {"allocations": allocations, "calls": calls}
 # It ends once this number of things are wrong.
 ENOUGH = 20
 
@@ -53,7 +53,7 @@ def learn(words):
     room = Room(*program, os.path.join(folder, "room"))
     for command in COMMANDS:
         case = room.learn(command)
-        if case.right.growths == 0 or not case.right.calls:
+        if case.right.allocations == 0 or not case.right.calls:
             sys.exit("refused.py: the library tells nothing of the program")
         if "--link" in command.words and not are_linked(case.right):
             sys.exit("refused.py: the program has copied an image that it can give a second name")

@@ -17,8 +17,8 @@ SECONDS = 20
 LIMITS = {resource.RLIMIT_CORE: 0, resource.RLIMIT_FSIZE: 1 << 24, resource.RLIMIT_AS: 1 << 30}
 DIRECTORY = "OUT/DICOMDIR"
 OUTPUT = "the output"
-# More growths than any run asks for: none is refused, and all are counted.
-NO_GROWTH = "1000000000"
+# More allocations than any run asks for: none is refused, and all are counted.
+NO_ALLOCATION = "1000000000"
 
 
 @dataclasses.dataclass(frozen=True)
@@ -81,7 +81,7 @@ class Run:
     # The path of each file in OUT that is a second name of a given file, and that one's path.
     second: dict
     calls: list
-    growths: int
+    allocations: int
     refused: int
 
     def told(self):
@@ -228,7 +228,7 @@ class Room:
         begin(command)
         for path in (self.log, self.counts):
             pathlib.Path(path).write_bytes(b"")
-        settings = {"REFUSE_GROWTH": NO_GROWTH, **settings}
+        settings = {"REFUSE_ALLOCATION": NO_ALLOCATION, **settings}
         settings.update(LD_PRELOAD=self.library, REFUSE_LOG=self.log, REFUSE_COUNTS=self.counts)
         with open(self.out, "wb") as out, open(self.err, "wb") as err:
             try:
@@ -236,12 +236,12 @@ class Room:
                                         stdin=subprocess.DEVNULL, stdout=out, stderr=err, check=False).returncode
             except subprocess.TimeoutExpired:
                 status = None
-        counts = re.fullmatch(r"armed 1 growths (\d+) refused (\d+)\n", text_of(self.counts))
-        growths, refused = (int(counts[1]), int(counts[2])) if counts else (0, 0)
+        counts = re.fullmatch(r"armed 1 allocations (\d+) refused (\d+)\n", text_of(self.counts))
+        allocations, refused = (int(counts[1]), int(counts[2])) if counts else (0, 0)
         calls = calls_of(text_of(self.log))
         refused += sum(call.is_refused for call in calls)
         left, second = tree("OUT"), seconds(self.given)
-        return Run(status, text_of(self.out), text_of(self.err), left, second, calls, growths, refused)
+        return Run(status, text_of(self.out), text_of(self.err), left, second, calls, allocations, refused)
 
     def learn(self, command):
         """Runs a command undisturbed."""

@@ -14,7 +14,7 @@ use Rattle.dd_catalogue.specs.Harmony.{greatest_like, patient_of, patient_key, s
 use Rattle.dd_catalogue.specs.Harmony.{series_of, series_key, agreed, harmonised}
 use Rattle.dd_catalogue.specs.Rising.{Orders}
 use Rattle.dd_catalogue.specs.Versions.{IsCatalogue}
-use Rattle.dd_catalogue.proofs.Clashes.{one_version}
+use Rattle.dd_catalogue.proofs.FirstConflicts.{one_version}
 use Rattle.dd_catalogue.proofs.Harmonies.{member-map}
 use Rattle.dd_catalogue.proofs.Harmonised.{is_like, only_like, patients_ordered, studies_ordered, series_ordered}
 use Rattle.dd_catalogue.proofs.Harmonised.{member-unmap}

@@ -19,7 +19,7 @@ use Rattle.dd_catalogue.specs.Rising.{Orders, either}
 use Rattle.dd_catalogue.proofs.Cases.{by_option}
 use Rattle.dd_catalogue.specs.Versions.{instance_of, IsCatalogue, best_of, versions_ordered}
 use Rattle.dd_catalogue.proofs.Again.{StandsFor, AllStandFor, agreed_again}
-use Rattle.dd_catalogue.proofs.Clashes.{one_version}
+use Rattle.dd_catalogue.proofs.FirstConflicts.{one_version}
 use Rattle.dd_catalogue.proofs.Harmonies.{member-map, harmonised_rises}
 use Rattle.dd_catalogue.proofs.Harmonised.{is_like, only_like, patients_ordered, studies_ordered, series_ordered}
 use Rattle.dd_catalogue.proofs.Harmonised.{member-unmap, same_catalogue}

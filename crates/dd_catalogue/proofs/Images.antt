@@ -4,7 +4,7 @@ use Rattle.std.proofs.Common.{refl, sym, ◌∙◌, ap, subst, inl, inr}
 use Rattle.dd_version.specs.declared.parts.Parts.{Parts}
 use Rattle.dd_catalogue.specs.Agreement.{IsSameImage, HaveSameImages}
 use Rattle.dd_catalogue.proofs.Members.{Member, member_of, contained}
-use Rattle.dd_catalogue.specs.Clash.{conflicts, pair_or, clash}
+use Rattle.dd_catalogue.specs.Conflicts.{conflicts, pair_or, first_conflict}
 use Rattle.dd_catalogue.specs.Harmony.{patient_of, study_of, series_of, agreed, harmonised}
 use Rattle.dd_catalogue.specs.Rising.{by_test}
 use Rattle.dd_catalogue.proofs.Harmonies.{member-map}
@@ -36,22 +36,22 @@ same_conflicts : (v v' w w' : Parts) → IsSameImage v v' → IsSameImage w w' �
 same_conflicts v v' w w' one other =
     rw (one.patient, one.study, one.series, other.patient, other.study, other.series) refl
 
-clash_by_pair : (f : Parts → Parts) (v : Parts) (m : List Parts) (other : Option (List ℕ × List ℕ))
+conflict_by_pair : (f : Parts → Parts) (v : Parts) (m : List Parts) (other : Option (List ℕ × List ℕ))
     → IsSameImage v (f v) → ((w : Parts) → Member w m → IsSameImage w (f w))
     → pair_or (f v) (find (conflicts (f v)) (map f m)) other ≡ pair_or v (find (conflicts v) m) other
-clash_by_pair f v [] other one h = refl
-clash_by_pair f v (w ∷ m) other one h =
+conflict_by_pair f v [] other one h = refl
+conflict_by_pair f v (w ∷ m) other one h =
     let same = same_conflicts v (f v) w (f w) one (h w (inl refl)) in
     by_test (conflicts v w)
     (λ e. rw (same ∙ e, e) (λ j. Some (sym one.instance j, sym (h w (inl refl)).instance j)))
-    (λ e. rw (same ∙ e, e) (clash_by_pair f v m other one (λ u i. h u (inr i))))
+    (λ e. rw (same ∙ e, e) (conflict_by_pair f v m other one (λ u i. h u (inr i))))
 
-same_clash : (f : Parts → Parts) (m : List Parts) → ((v : Parts) → Member v m → IsSameImage v (f v))
-    → clash (map f m) ≡ clash m
-same_clash f [] h = refl
-same_clash f (v ∷ m) h =
-    clash_by_pair f v m (clash (map f m)) (h v (inl refl)) (λ w i. h w (inr i))
-    ∙ ap (λ x. pair_or v (find (conflicts v) m) x) (same_clash f m (λ w i. h w (inr i)))
+same_conflict : (f : Parts → Parts) (m : List Parts) → ((v : Parts) → Member v m → IsSameImage v (f v))
+    → first_conflict (map f m) ≡ first_conflict m
+same_conflict f [] h = refl
+same_conflict f (v ∷ m) h =
+    conflict_by_pair f v m (first_conflict (map f m)) (h v (inl refl)) (λ w i. h w (inr i))
+    ∙ ap (λ x. pair_or v (find (conflicts v) m) x) (same_conflict f m (λ w i. h w (inr i)))
 
-pub harmony_keeps_clash : (m : List Parts) → clash (harmonised m) ≡ clash m
-harmony_keeps_clash m = same_clash (agreed m) m (λ v i. agreed_image m v i)
+pub harmony_keeps_conflict : (m : List Parts) → first_conflict (harmonised m) ≡ first_conflict m
+harmony_keeps_conflict m = same_conflict (agreed m) m (λ v i. agreed_image m v i)

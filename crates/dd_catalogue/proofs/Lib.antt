@@ -4,7 +4,7 @@ pub mod AnyOrder
 pub mod BestMembers
 pub mod BestOfBests
 pub mod Cases
-pub mod Clashes
+pub mod FirstConflicts
 pub mod Counted
 pub mod Distinct
 pub mod FirstAndRest

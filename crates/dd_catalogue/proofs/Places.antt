@@ -18,7 +18,7 @@ use Rattle.dd_catalogue.specs.Rising.{Orders, less_turned, greater_turned}
 use Rattle.dd_catalogue.proofs.Members.{member_of, Member}
 use Rattle.dd_catalogue.proofs.BestMembers.{at-member, above_member}
 use Rattle.dd_catalogue.specs.Table.{IsPlace, taken_by}
-use Rattle.dd_catalogue.specs.declared.table.Taken.TheVariants.{Displaced, Returned}
+use Rattle.dd_catalogue.specs.declared.best.Taken.TheVariants.{Displaced, Returned}
 use Rattle.std.proofs.lemmas.List.{get_or_default, set-get_or}
 use Rattle.std.proofs.lemmas.Option.{same_Some, slice_get_within, get_or_from_slice_get}
 

@@ -9,8 +9,8 @@ use Rattle.dd_catalogue.specs.Table.{taken_by}
 use Rattle.dd_catalogue.specs.Contents.{Contents, is_withdrawn}
 use Rattle.dd_catalogue.specs.Taking.{as_took, took_by, took_of}
 use Rattle.dd_catalogue.specs.Versions.{kept}
-use Rattle.dd_catalogue.specs.declared.table.Taken.{Taken}
-use Rattle.dd_catalogue.specs.declared.taking.Took.{Took}
+use Rattle.dd_catalogue.specs.declared.best.Taken.{Taken}
+use Rattle.dd_catalogue.specs.declared.outcomes.Took.{Took}
 
 pub retold : (v : Parts) (held : Option Parts) (t : Taken Parts) → t ≡ taken_by parts_cmp v held
     → as_took t ≡ took_by v held

@@ -13,7 +13,7 @@ use Rattle.dd_catalogue.proofs.Cases.{by_option}
 use Rattle.dd_catalogue.specs.BestLaws.{best_at, at-best}
 use Rattle.dd_catalogue.proofs.Members.{Member, member_of, contained}
 use Rattle.dd_catalogue.proofs.BestMembers.{absorbed, one_itself}
-use Rattle.dd_catalogue.specs.Clash.{same, splits, conflicts, pair_or, clash}
+use Rattle.dd_catalogue.specs.Conflicts.{same, splits, conflicts, pair_or, first_conflict}
 use Rattle.dd_catalogue.specs.Owners.{Filing, uid_of, owner_of, filing_cmp, filing_total, filing_apart}
 use Rattle.dd_catalogue.specs.Owners.{is_of_another_owner, HasThoseOfTwoOwners, study_filing, series_filing}
 use Rattle.dd_catalogue.proofs.FirstAndRest.{first_and_rest, rest_of}
@@ -130,18 +130,18 @@ quiet m studies series v w two two' i j none =
     cc (found, not_found))
     (λ f. ap (λ (x : Bool). x || splits uid_of owner_of (series_filing v) (series_filing w)) e ∙ f))
 
-pub clash_quiet : (m rest : List Parts) (studies series : List Filing) (v : Parts)
+pub conflict_quiet : (m rest : List Parts) (studies series : List Filing) (v : Parts)
     → HasThoseOfTwoOwners (map study_filing m) studies → HasThoseOfTwoOwners (map series_filing m) series
     → ((w : Parts) → Member w (v ∷ rest) → Member w m)
     → (is_some (at uid_of bytes_cmp studies v.study.uid) || is_some (at uid_of bytes_cmp series v.series.uid)) ≡ false
-    → clash (v ∷ rest) ≡ clash rest
-clash_quiet m rest studies series v two two' within none =
-    ap (λ f. pair_or v f (clash rest)) (find_none (conflicts v) rest
+    → first_conflict (v ∷ rest) ≡ first_conflict rest
+conflict_quiet m rest studies series v two two' within none =
+    ap (λ f. pair_or v f (first_conflict rest)) (find_none (conflicts v) rest
     (λ w j. quiet m studies series v w two two' (within v (inl refl)) (within w (inr j)) none))
 
-pub clash_alone : (v : Parts) (rest : List Parts) → pair_or v (find (conflicts v) rest) None ≡ None
-    → clash (v ∷ rest) ≡ clash rest
-clash_alone v rest e =
+pub conflict_alone : (v : Parts) (rest : List Parts) → pair_or v (find (conflicts v) rest) None ≡ None
+    → first_conflict (v ∷ rest) ≡ first_conflict rest
+conflict_alone v rest e =
     by_option (find (conflicts v) rest) (λ f. rw f refl) (λ w f. let is = rw f at e in absurd (none-some _ (sym is)))
 
 -- ---- the versions that are left, and all but the first of them
@@ -152,18 +152,18 @@ pub later_within : (all m : List Parts) (x : Parts) → 0 < length m → x ≡ g
 later_within all m x below read within v i =
     within v (subst (λ n. Member v n) (sym (first_and_rest m x below read)) (inr i))
 
-pub later_alone : (all m : List Parts) (x : Parts) → 0 < length m → x ≡ get_or m 0 x → clash m ≡ clash all
-    → pair_or x (find (conflicts x) (rest_of m)) None ≡ None → clash (rest_of m) ≡ clash all
+pub later_alone : (all m : List Parts) (x : Parts) → 0 < length m → x ≡ get_or m 0 x → first_conflict m ≡ first_conflict all
+    → pair_or x (find (conflicts x) (rest_of m)) None ≡ None → first_conflict (rest_of m) ≡ first_conflict all
 later_alone all m x below read so none =
-    sym (clash_alone x (rest_of m) none) ∙ ap clash (sym (first_and_rest m x below read)) ∙ so
+    sym (conflict_alone x (rest_of m) none) ∙ ap first_conflict (sym (first_and_rest m x below read)) ∙ so
 
 pub later_quiet : (all m : List Parts) (x : Parts) (studies series : List Filing) → 0 < length m → x ≡ get_or m 0 x
-    → clash m ≡ clash all
+    → first_conflict m ≡ first_conflict all
     → ((v : Parts) → Member v m → Member v all) → HasThoseOfTwoOwners (map study_filing all) studies
     → HasThoseOfTwoOwners (map series_filing all) series
     → (is_some (at uid_of bytes_cmp studies x.study.uid) || is_some (at uid_of bytes_cmp series x.series.uid)) ≡ false
-    → clash (rest_of m) ≡ clash all
+    → first_conflict (rest_of m) ≡ first_conflict all
 later_quiet all m x studies series below read so within two two' none =
     let cons = first_and_rest m x below read in
-    sym (clash_quiet all (rest_of m) studies series x two two'
-    (λ w i. within w (subst (λ n. Member w n) (sym cons) i)) none) ∙ ap clash (sym cons) ∙ so
+    sym (conflict_quiet all (rest_of m) studies series x two two'
+    (λ w i. within w (subst (λ n. Member w n) (sym cons) i)) none) ∙ ap first_conflict (sym cons) ∙ so

@@ -3,7 +3,7 @@ pub mod Agreement
 pub mod Best
 pub mod BestLaws
 pub mod CatalogueJoin
-pub mod Clash
+pub mod Conflicts
 pub mod Compared
 pub mod Contents
 pub mod Equal

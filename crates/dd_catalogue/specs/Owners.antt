@@ -10,7 +10,7 @@ use Rattle.dd_elem.specs.Ordered.{TellsApart, bytes_cmp}
 use Rattle.dd_version.specs.Orders.{both_tie}
 use Rattle.dd_version.specs.declared.parts.Parts.{Parts}
 use Rattle.dd_catalogue.specs.Best.{at}
-use Rattle.dd_catalogue.specs.Clash.{splits}
+use Rattle.dd_catalogue.specs.Conflicts.{splits}
 
 -- the UID of a study and the ID of the patient that it is filed under, or the UID of a series and that of its study
 pub record Filing : Type 0 where

@@ -6,8 +6,8 @@ use Rattle.std.specs.Ordering.{is_lt}
 use Rattle.std.specs.declared.cmp.Ordering.{Ordering}
 use Rattle.std.specs.declared.cmp.Ordering.TheVariants.{Less, Equal, Greater}
 use Rattle.dd_elem.specs.Ordered.{bytes_cmp}
-use Rattle.dd_catalogue.specs.declared.table.Taken.{Taken}
-use Rattle.dd_catalogue.specs.declared.table.Taken.TheVariants.{Fresh, Displaced, Returned}
+use Rattle.dd_catalogue.specs.declared.best.Taken.{Taken}
+use Rattle.dd_catalogue.specs.declared.best.Taken.TheVariants.{Fresh, Displaced, Returned}
 
 -- a place of the value with this key, or the place between the smaller and the greater keys
 abbrev pub IsPlace : {V : Type 0} → (V → List ℕ) → List ℕ → List V → Result ℕ ℕ → Type 0

@@ -5,12 +5,12 @@ use Rattle.dd_version.specs.Orders.{parts_cmp}
 use Rattle.dd_version.specs.declared.parts.Parts.{Parts}
 use Rattle.dd_catalogue.specs.Versions.{kept}
 use Rattle.dd_catalogue.specs.Contents.{Contents, is_withdrawn}
-use Rattle.dd_catalogue.specs.declared.table.Taken.{Taken}
-use Rattle.dd_catalogue.specs.declared.table.Taken.TheVariants.{Fresh, Displaced, Returned}
-use Rattle.dd_catalogue.specs.declared.taking.Took.{Took}
-use Rattle.dd_catalogue.specs.declared.taking.Withdrew.{Withdrew}
-use Rattle.dd_catalogue.specs.declared.taking.Withdrew.TheVariants.{New as Fresh_withdrawal, Already}
-use Rattle.dd_catalogue.specs.declared.taking.Took.TheVariants.{New, Replaced, Kept, Withdrawn}
+use Rattle.dd_catalogue.specs.declared.best.Taken.{Taken}
+use Rattle.dd_catalogue.specs.declared.best.Taken.TheVariants.{Fresh, Displaced, Returned}
+use Rattle.dd_catalogue.specs.declared.outcomes.Took.{Took}
+use Rattle.dd_catalogue.specs.declared.outcomes.Withdrew.{Withdrew}
+use Rattle.dd_catalogue.specs.declared.outcomes.Withdrew.TheVariants.{New as Fresh_withdrawal, Already}
+use Rattle.dd_catalogue.specs.declared.outcomes.Took.TheVariants.{New, Replaced, Kept, Withdrawn}
 
 -- where this one of its instance is kept
 abbrev pub took_by : Parts → Option Parts → Took

@@ -2,7 +2,7 @@
 
 ghost use Rattle.std.specs.Prelude.{◌≡◌, ◌≢◌, ◌==◌, ◌≤◌, ◌+◌, ◌*◌, ◌⊎◌, [], length, map, min, option_copied};
 ghost use Rattle.std.specs.Prelude.{IsOk, IfOk, IfErr, OnOk, OnErr, IsSome, IsTrue};
-ghost use Rattle.dd_catalogue.specs.Clash.{IsClash, clash};
+ghost use Rattle.dd_catalogue.specs.Conflicts.{IsConflict, first_conflict};
 ghost use Rattle.dd_catalogue.specs.Harmony.{IsHarmonised, harmonised};
 ghost use Rattle.dd_catalogue.specs.Versions.{IsCatalogue, best_of, compared_of, kept};
 ghost use Rattle.dd_catalogue.specs.Best.{IsRising};
@@ -13,13 +13,13 @@ ghost use Rattle.dd_catalogue.specs.Taking.{took_of, withdrew_of};
 ghost use Rattle.dd_elem.specs.Device.{last_count};
 ghost use Rattle.dd_elem.specs.Ordered.{bytes_cmp};
 
-use crate::conflicts::first_clash;
+use crate::best::Table;
+use crate::conflicts::first_conflict;
 use crate::harmony::in_harmony;
 use crate::join::Join;
 use crate::lent::lent;
+use crate::outcomes::{Refused, Took, Withdrew, told};
 use crate::sifting::sift_lent;
-use crate::table::Table;
-use crate::taking::{Refused, Took, Withdrew, told};
 use crate::withdrawals::{Withdrawals, distinct};
 use dd_elem::{Memory, Uid};
 use dd_version::Version;
@@ -101,7 +101,7 @@ impl Catalogue {
     }
 
     /// The best of these versions, with nothing withdrawn: they are sorted once, and each that is kept is
-    /// copied once. Memory where a growth was refused: never where there are no versions.
+    /// copied once. Memory where an allocation was refused: never where there are no versions.
     #[tactic(auto, using(crate::proofs::Held::left_of_none))]
     pub fn from_versions(alloc: Global, versions: &[Version]) -> Result<Catalogue, Memory>
         ensures best { IfOk result (λ catalogue. catalogue.versions ≡ best_of versions.now) }
@@ -119,7 +119,7 @@ impl Catalogue {
 
     /// Makes a catalogue of the best of the versions whose instances are not withdrawn, and of these withdrawn
     /// UIDs. The versions are sorted once, and each that is kept is copied once. The list of UIDs is sorted in
-    /// place and kept, and copies of the catalogue share it. Memory where a growth was refused, and never where
+    /// place and kept, and copies of the catalogue share it. Memory where an allocation was refused, and never where
     /// both lists are empty.
     pub fn from_parts(
         alloc: Global,
@@ -196,7 +196,7 @@ impl Catalogue {
 
     /// Takes a version. It is kept where its instance is not withdrawn, and the catalogue has no version of
     /// that instance, or a smaller one, which is handed back; else it is handed back itself. Refused where a
-    /// growth was: the version is handed back and nothing has changed. No memory is taken where the instance
+    /// allocation was: the version is handed back and nothing has changed. No memory is taken where the instance
     /// is held or withdrawn.
     pub fn take(&mut self, version: Version) -> Result<Took, Refused>
         ensures ok { OnOk result (self.new ≡ held_of (and_version version self.old)) }
@@ -218,7 +218,7 @@ impl Catalogue {
     }
 
     /// Withdraws an instance: no version of it is kept from now on, whatever is taken or merged. Withdrawn
-    /// UIDs that copies of the catalogue share are copied first. Memory where a growth was refused; then
+    /// UIDs that copies of the catalogue share are copied first. Memory where an allocation was refused; then
     /// nothing has changed. No memory is taken where it is withdrawn already.
     pub fn withdraw(&mut self, instance: Uid) -> Result<Withdrew, Memory>
         ensures ok { OnOk result (self.new ≡ held_of (and_withdrawn instance self.old)) }
@@ -234,7 +234,7 @@ impl Catalogue {
     }
 
     /// Takes copies of all versions of the other catalogue, in one walk through both, and withdraws what
-    /// it has withdrawn. Memory where a growth was refused; then nothing has changed. No memory is taken
+    /// it has withdrawn. Memory where an allocation was refused; then nothing has changed. No memory is taken
     /// where the other catalogue has no version and has withdrawn nothing.
     pub fn merge(&mut self, other: &Catalogue) -> Result<(), Memory>
         ensures ok { OnOk result (self.new ≡ held_of (all_of self.old other.now)) }
@@ -302,19 +302,19 @@ impl Catalogue {
 
     /// The least instance that conflicts with a greater one, and the least greater one with which it
     /// conflicts: two versions conflict where they have one study and different Patient IDs, or one
-    /// series and different studies. Memory where a growth was refused, and never where the catalogue
+    /// series and different studies. Memory where an allocation was refused, and never where the catalogue
     /// is empty.
     pub fn conflict(&self) -> Result<Option<(Uid, Uid)>, Memory>
-        ensures first { IfOk result (λ pair. IsClash self.now.versions pair) }
-        ensures pair { IfOk result (λ pair. pair ≡ clash self.now.versions) }
+        ensures first { IfOk result (λ pair. IsConflict self.now.versions pair) }
+        ensures pair { IfOk result (λ pair. pair ≡ first_conflict self.now.versions) }
         ensures some { OnErr result (self.now.versions ≢ []) }
     {
-        first_clash(self.table.allocator(), self.versions())
+        first_conflict(self.table.allocator(), self.versions())
     }
 
     /// The same instances, each with the greatest keys of its patient, its study and its series among
     /// all versions here. The keys of a patient, a study or a series are taken whole. What is withdrawn
-    /// stays withdrawn. The answer shares the withdrawn UIDs as `copy` does. Memory where a growth was refused,
+    /// stays withdrawn. The answer shares the withdrawn UIDs as `copy` does. Memory where an allocation was refused,
     /// and never where the catalogue has no version and has withdrawn nothing.
     pub fn harmonise(&self) -> Result<Catalogue, Memory>
         ensures agreed { IfOk result (λ catalogue.
@@ -331,7 +331,7 @@ impl Catalogue {
     }
 
     /// An equal catalogue. It shares the withdrawn UIDs of a catalogue that was made with them, and has a copy
-    /// of those of another. Memory where a growth was refused, and never where the catalogue has no version and
+    /// of those of another. Memory where an allocation was refused, and never where the catalogue has no version and
     /// has withdrawn nothing.
     pub fn copy(&self) -> Result<Catalogue, Memory>
         ensures same { IfOk result (λ catalogue. catalogue ≡ self.now) }

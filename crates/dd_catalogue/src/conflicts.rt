@@ -3,7 +3,7 @@
 ghost use Rattle.std.specs.Prelude.{◌≡◌, ◌≢◌, ◌||◌, [], None, find, is_some, map, IfOk, OnErr};
 ghost use Rattle.dd_elem.specs.Ordered.{bytes_cmp};
 ghost use Rattle.dd_catalogue.specs.Best.{at};
-ghost use Rattle.dd_catalogue.specs.Clash.{clash, conflicts, pair_or};
+ghost use Rattle.dd_catalogue.specs.Conflicts.{first_conflict, conflicts, pair_or};
 ghost use Rattle.dd_catalogue.specs.Owners.{uid_of, series_filing, study_filing};
 
 use crate::lent::Greatest;
@@ -13,9 +13,12 @@ use dd_version::{PatientKeys, SeriesKeys, StudyKeys, Version};
 use std::alloc::Global;
 
 /// The first version that conflicts with a later one, and the first later one with which it does.
-/// Memory where a growth was refused: never where there are no versions.
-pub(crate) fn first_clash(alloc: Global, versions: &[Version]) -> Result<Option<(Uid, Uid)>, Memory>
-    ensures pair { IfOk result (λ pair. pair ≡ clash versions.now) }
+/// Memory where an allocation was refused: never where there are no versions.
+pub(crate) fn first_conflict(
+    alloc: Global,
+    versions: &[Version],
+) -> Result<Option<(Uid, Uid)>, Memory>
+    ensures pair { IfOk result (λ pair. pair ≡ first_conflict versions.now) }
     ensures some { OnErr result (versions.now ≢ []) }
 {
     if versions.is_empty() {
@@ -23,12 +26,12 @@ pub(crate) fn first_clash(alloc: Global, versions: &[Version]) -> Result<Option<
     }
     let studies = owners::<StudyKeys, PatientKeys>(alloc, versions)?;
     let series = owners::<SeriesKeys, StudyKeys>(alloc, versions)?;
-    clash_by(alloc, versions, &studies, &series)
+    conflict_by(alloc, versions, &studies, &series)
 }
 
 /// The same, where these are the owners of the versions' studies and series. A version is compared with
 /// the later ones only if its study or its series is filed under two owners.
-fn clash_by<'b, 'a>(
+fn conflict_by<'b, 'a>(
     alloc: Global,
     versions: &[Version],
     filed_studies: &'b [Filed<'a>],
@@ -36,7 +39,7 @@ fn clash_by<'b, 'a>(
 ) -> Result<Option<(Uid, Uid)>, Memory>
     requires studies { filed_studies.now ≡ map study_filing versions.now }
     requires series { filed_series.now ≡ map series_filing versions.now }
-    ensures { IfOk result (λ pair. pair ≡ clash versions.now) }
+    ensures { IfOk result (λ pair. pair ≡ first_conflict versions.now) }
 {
     let studies = of_two_owners(alloc, filed_studies)?;
     let series = of_two_owners(alloc, filed_series)?;

@@ -5,15 +5,15 @@ ghost use Rattle.dd_catalogue.specs.Agreeing.{agreed_by};
 ghost use Rattle.dd_catalogue.specs.Harmony.{harmonised};
 ghost use Rattle.dd_catalogue.specs.Versions.{IsCatalogue};
 
+use crate::best::Table;
 use crate::lent::Greatest;
-use crate::table::Table;
 use crate::tuples::greatest;
 use dd_elem::Memory;
 use dd_version::{Parts, PatientKeys, SeriesKeys, StudyKeys, Version};
 use std::alloc::Global;
 
 /// The versions with the greatest keys of each patient, study and series among them. Memory where a
-/// growth was refused: never where there are no versions.
+/// allocation was refused: never where there are no versions.
 pub(crate) fn in_harmony(alloc: Global, versions: &[Version]) -> Result<Table<Version>, Memory>
     requires { IsCatalogue versions.now }
     ensures table { IfOk result (λ table. table ≡ harmonised versions.now) }

@@ -5,7 +5,7 @@ ghost use Rattle.std.specs.Ordering.{is_lt};
 ghost use Rattle.dd_version.specs.Orders.{parts_cmp};
 ghost use Rattle.dd_version.specs.declared.parts.Parts.{Parts};
 ghost use Rattle.dd_catalogue.specs.Agreement.{Agree, AllAgree, HaveSameImages};
-ghost use Rattle.dd_catalogue.specs.Clash.{clash};
+ghost use Rattle.dd_catalogue.specs.Conflicts.{first_conflict};
 ghost use Rattle.dd_catalogue.specs.Harmony.{harmonised};
 ghost use Rattle.dd_catalogue.specs.Histories.{together};
 ghost use Rattle.dd_catalogue.specs.Versions.{IsCatalogue, best_of};
@@ -27,9 +27,9 @@ pub fn harmony_keeps_images()
     ensures { (m : List Parts) → HaveSameImages m (harmonised m) }
 {}
 
-/// Harmony neither makes a clash nor ends one.
-pub fn harmony_keeps_clash()
-    ensures { (m : List Parts) → clash (harmonised m) ≡ clash m }
+/// Harmony neither makes a conflict nor ends one.
+pub fn harmony_keeps_conflict()
+    ensures { (m : List Parts) → first_conflict (harmonised m) ≡ first_conflict m }
 {}
 
 /// A catalogue agrees with itself.

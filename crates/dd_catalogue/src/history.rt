@@ -23,7 +23,7 @@ pub enum History {
 
 /// The catalogue that a history gives: the best of all versions that were taken in it and whose
 /// instances were not withdrawn in it, and what was withdrawn. They are sorted once, however the history
-/// nests, and each version that is kept is copied once. Memory where a growth was refused, and never where
+/// nests, and each version that is kept is copied once. Memory where an allocation was refused, and never where
 /// nothing was taken or withdrawn.
 pub fn build(alloc: Global, history: &History) -> Result<Catalogue, Memory>
     ensures best { IfOk result (λ catalogue. catalogue ≡ held_of (taken history.now)) }
@@ -39,7 +39,7 @@ pub fn build(alloc: Global, history: &History) -> Result<Catalogue, Memory>
 }
 
 /// Adds a reference to each version that was taken, and to each UID that was withdrawn. Memory where a
-/// growth was refused, and never where nothing was taken or withdrawn.
+/// allocation was refused, and never where nothing was taken or withdrawn.
 fn collect<'a>(
     history: &'a History,
     versions: &mut Vec<&'a Version>,

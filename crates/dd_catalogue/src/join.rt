@@ -19,7 +19,7 @@ pub trait Join {
     // does joining the second to the first take memory?
     ghost takes_memory: { Self → Self → Type 0 };
 
-    /// Joins the other value to this one. Memory where a growth was refused, and only where the join takes
+    /// Joins the other value to this one. Memory where an allocation was refused, and only where the join takes
     /// memory; then nothing has changed. Both are values, over which the laws hold.
     fn join(&mut self, other: &Self) -> Result<(), Memory>
         ensures ok { OnOk result (self.new ≡ joined self.old other.now) }
@@ -30,7 +30,7 @@ pub trait Join {
     ghost laws: { JoinLaws is_value joined };
 }
 
-/// Joins each of `rest` to `first`, in turn. Memory where a growth was refused; then `first` holds its
+/// Joins each of `rest` to `first`, in turn. Memory where an allocation was refused; then `first` holds its
 /// join with those before, and joining one of `rest` to that takes memory. What was joined are values, so
 /// that two answers over the same members are equal (`gather_order_is_free`).
 pub fn gather<J: Join>(first: &mut J, rest: &[J]) -> Result<(), Memory>

@@ -3,7 +3,7 @@
 ghost use Rattle.std.specs.Prelude.{◌≡◌, ◌↔◌, [], ◌++◌, ℕ, List, Option, Contains, Decides, true};
 ghost use Rattle.dd_version.specs.declared.parts.Parts.{Parts};
 ghost use Rattle.dd_catalogue.specs.Best.{SameMembers};
-ghost use Rattle.dd_catalogue.specs.Clash.{Conflict, IsClash, clash, conflicts};
+ghost use Rattle.dd_catalogue.specs.Conflicts.{Conflict, IsConflict, first_conflict, conflicts};
 ghost use Rattle.dd_catalogue.specs.Contents.{Contents, HoldsBoth, HoldsVersion, HoldsWithdrawn, IsHeld};
 ghost use Rattle.dd_catalogue.specs.Contents.{is_withdrawn, kept_of, left_of};
 ghost use Rattle.dd_catalogue.specs.Equal.{holds_same};
@@ -71,15 +71,15 @@ pub fn conflicts_decides()
     ensures { (v w : Parts) → Decides (conflicts v w) (Conflict v w) }
 {}
 
-/// The clash of a catalogue is its first conflict.
-pub fn clash_is_clash()
-    ensures { (m : List Parts) → IsCatalogue m → IsClash m (clash m) }
+/// The conflict of a catalogue is its first conflict.
+pub fn first_conflict_is_first()
+    ensures { (m : List Parts) → IsCatalogue m → IsConflict m (first_conflict m) }
 {}
 
-/// A catalogue has one clash.
-pub fn clash_is_one()
+/// A catalogue has one conflict.
+pub fn first_conflict_is_one()
     ensures { (m : List Parts) (one other : Option (List ℕ × List ℕ)) → IsCatalogue m
-        → IsClash m one → IsClash m other → one ≡ other }
+        → IsConflict m one → IsConflict m other → one ≡ other }
 {}
 
 /// Every catalogue has a harmony: each of its versions with the greatest keys of its patient, its study and

@@ -6,33 +6,34 @@
 //! merges change it.
 #![tactic(auto)]
 
+mod best;
 mod catalogue;
 mod conflicts;
+mod entries;
 mod harmony;
 mod harmony_laws;
 mod history;
 mod join;
 mod laws;
 mod lent;
+mod outcomes;
 mod owners;
 mod sifting;
-mod table;
-mod taking;
 mod tuples;
-mod values;
 mod weaving;
 mod withdrawals;
 
 pub use catalogue::Catalogue;
 pub use harmony_laws::{
-    catalogue_agrees_with_itself, harmony_again_is_same, harmony_is_not_less, harmony_keeps_clash,
-    harmony_keeps_images, merged_harmonies_are_merged_sets,
+    catalogue_agrees_with_itself, harmony_again_is_same, harmony_is_not_less,
+    harmony_keeps_conflict, harmony_keeps_images, merged_harmonies_are_merged_sets,
 };
 pub use history::{History, build, build_order_is_free};
 pub use join::{Join, gather, gather_order_is_free, join_is_lawful, join_order_is_free};
 pub use laws::{
-    best_is_best, best_is_one, best_of_bests, clash_is_clash, clash_is_one, conflicts_decides,
-    equal_is_same, harmonised_is_harmonised, harmonised_is_one, held_is_apart, held_of_held,
-    kept_is_best_of_left, kept_of_all, kept_of_kept, kept_order_is_free, withdrawn_decides,
+    best_is_best, best_is_one, best_of_bests, conflicts_decides, equal_is_same,
+    first_conflict_is_first, first_conflict_is_one, harmonised_is_harmonised, harmonised_is_one,
+    held_is_apart, held_of_held, kept_is_best_of_left, kept_of_all, kept_of_kept,
+    kept_order_is_free, withdrawn_decides,
 };
-pub use taking::{Refused, Took, Withdrew};
+pub use outcomes::{Refused, Took, Withdrew};

@@ -10,8 +10,8 @@ ghost use Rattle.dd_catalogue.specs.Compared.{compared_keys};
 ghost use Rattle.dd_catalogue.specs.Free.{free};
 ghost use Rattle.dd_catalogue.specs.Table.{IsPlace, found_place, met_by, passed_by};
 
+use crate::best::Table;
 use crate::lent::Keyed;
-use crate::table::Table;
 use dd_elem::Uid;
 use std::cmp::Ordering;
 

@@ -5,7 +5,7 @@ ghost use Rattle.dd_elem.specs.Ordered.{bytes_cmp};
 ghost use Rattle.dd_catalogue.specs.Best.{IsRising, at};
 ghost use Rattle.dd_catalogue.specs.Contents.{uids_of};
 
-use crate::table::Table;
+use crate::best::Table;
 use dd_elem::{Memory, Uid};
 use std::alloc::Global;
 use std::cmp::Ordering;
@@ -56,7 +56,7 @@ impl Withdrawals {
         }
     }
 
-    /// The list of these UIDs, which copies can share. Memory where a growth was refused: never where there
+    /// The list of these UIDs, which copies can share. Memory where an allocation was refused: never where there
     /// are no UIDs.
     pub(crate) fn shared(alloc: Global, uids: Table<Uid>) -> Result<Withdrawals, Memory>
         ensures equal { IfOk result (λ withdrawals. withdrawals ≡ uids) }
@@ -95,7 +95,7 @@ impl Withdrawals {
         self.table().has(uid.as_bytes())
     }
 
-    /// An equal list, which shares the memory of this one where copies can. Memory where a growth was refused,
+    /// An equal list, which shares the memory of this one where copies can. Memory where an allocation was refused,
     /// or no more copies can share it: never where it is empty.
     pub(crate) fn copy(&self) -> Result<Withdrawals, Memory>
         ensures equal { IfOk result (λ withdrawals. withdrawals ≡ self.now) }
@@ -109,7 +109,7 @@ impl Withdrawals {
         }
     }
 
-    /// Adds a UID. A list that copies share is copied first. Memory where a growth was refused; then nothing
+    /// Adds a UID. A list that copies share is copied first. Memory where an allocation was refused; then nothing
     /// has changed.
     pub(crate) fn add(&mut self, uid: Uid) -> Result<(), Memory>
         ensures ok { OnOk result (self.new ≡ uids_of (uid ∷ self.old)) }
@@ -127,7 +127,7 @@ impl Withdrawals {
     }
 }
 
-/// Adds a UID to the table. Memory where a growth was refused; then nothing has changed.
+/// Adds a UID to the table. Memory where an allocation was refused; then nothing has changed.
 fn add(uids: &mut Table<Uid>, uid: Uid) -> Result<(), Memory>
     ensures ok { OnOk result (uids.new ≡ uids_of (uid ∷ uids.old)) }
     ensures err { OnErr result (uids.new ≡ uids.old) }

@@ -2,7 +2,7 @@
 use Rattle.std.specs.Prelude.{◌≡◌, ℕ, List, Option, None, Some}
 use Rattle.std.proofs.Common.{refl, sym, ◌∙◌, ap}
 use Rattle.sha2.specs.Sha256.{sha256}
-use Rattle.dd_catalogue.specs.Clash.{clash}
+use Rattle.dd_catalogue.specs.Conflicts.{first_conflict}
 use Rattle.dd_catalogue.specs.Harmony.{harmonised}
 use Rattle.dd_elem.specs.Digests.{uid_of_digest}
 use Rattle.dd_version.specs.declared.parts.Parts.{Parts}
@@ -31,10 +31,10 @@ plan_is_derived id m w label plan uid plan_is uid_is =
     ap (λ (p : Layout). record p { label = record { id = id; uid = uid } }) plan_is
     ∙ ap (λ (u : List ℕ). layout_of (record { id = id; uid = u }) m w) uid_is
 
--- versions that were laid out do not clash, so only the label and the limits count
-no_clash : (pair : Option (List ℕ × List ℕ)) (other : Option PlanFault) → conflict_or pair other ≡ None → pair ≡ None
-no_clash None other h = refl
-no_clash (Some pair) other h = cc
+-- versions that were laid out do not conflict, so only the label and the limits count
+no_conflict : (pair : Option (List ℕ × List ℕ)) (other : Option PlanFault) → conflict_or pair other ≡ None → pair ≡ None
+no_conflict None other h = refl
+no_conflict (Some pair) other h = cc
 
 pub refusal_is_derived : (id : List ℕ) (limits : Limits) (m : List Parts) (w : List (List ℕ)) (label : Label)
     (plan : Layout) (uid : List ℕ) → plan ≡ layout_of label m w → label ≡ unnamed_label id → uid ≡ derived id m w
@@ -43,7 +43,7 @@ pub refusal_is_derived : (id : List ℕ) (limits : Limits) (m : List Parts) (w :
 refusal_is_derived id limits m w label plan uid plan_is label_is uid_is none =
     let at_first : refusal (unnamed_label id) limits m w ≡ None =
     ap (λ (l : Label). refusal l limits m w) (sym label_is) ∙ none in
-    let clean : clash m ≡ None = no_clash (clash m) (excess label limits (harmonised m) w) none in
+    let clean : first_conflict m ≡ None = no_conflict (first_conflict m) (excess label limits (harmonised m) w) none in
     ap (λ (p : Layout). excess (record { id = id; uid = uid }) limits p.versions p.withdrawn) plan_is
     ∙ ap (λ (u : List ℕ). excess (record { id = id; uid = u }) limits (harmonised m) w) uid_is
     ∙ ap (λ (c : Option (List ℕ × List ℕ)). conflict_or c (excess (derived_label id m w) limits (harmonised m) w))

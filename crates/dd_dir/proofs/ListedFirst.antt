@@ -1,6 +1,6 @@
 -- Where images are listed and no record fails, one is listed before any record fails.
 use Rattle.std.proofs.Common.{◌≡◌, ◌≢◌, ◌⊎◌, List, [], ◌∷◌, ◌++◌, map, Ok, refl, sym, ◌∙◌, ap, inl, inr}
-use Rattle.dd_dir.specs.declared.listing.Listed.{Listed as ListedValue}
+use Rattle.dd_dir.specs.declared.listed_images.Listed.{Listed as ListedValue}
 use Rattle.dd_dir.specs.Own.{Above, Listed, ListsFirst, below, fault_at, level_in, listed_at, listed_in, listed_with}
 use Rattle.dd_dir.specs.Own.{own, root, unless}
 use Rattle.dd_dir.specs.OwnViews.{listed_view}

@@ -8,7 +8,7 @@ use Rattle.std.proofs.lemmas.List.Elements.{All-get_or}
 use Rattle.dd_encoding.specs.Elements.{Elements}
 use Rattle.dd_set.specs.Views.{set_view}
 use Rattle.dd_dir.specs.declared.forest.Tree.{Tree, out-Tree, the_lemmas}
-use Rattle.dd_dir.specs.declared.listing.Listed.{Listed as ListedValue}
+use Rattle.dd_dir.specs.declared.listed_images.Listed.{Listed as ListedValue}
 use Rattle.dd_dir.specs.declared.own_fault.OwnFault.{OwnFault}
 use Rattle.dd_dir.specs.declared.own_fault.OwnFault.TheVariants.{BadWithdrawal, ForeignRecord, Memory, NoDigest}
 use Rattle.dd_dir.specs.declared.own_fault.OwnFault.TheVariants.{RecordKey}

@@ -6,7 +6,7 @@ use Rattle.dd_layout.specs.declared.level.Level.{Level}
 use Rattle.dd_layout.specs.declared.table.Row.{Row}
 use Rattle.std.specs.Prelude.{find}
 use Rattle.dd_layout.specs.Tables.{table_of}
-use Rattle.dd_dir.specs.declared.listing.Listed.{Listed as ListedValue}
+use Rattle.dd_dir.specs.declared.listed_images.Listed.{Listed as ListedValue}
 use Rattle.dd_dir.specs.declared.own_fault.OwnFault.{OwnFault}
 use Rattle.dd_dir.specs.declared.own_fault.OwnFault.TheVariants as faults
 use Rattle.dd_dir.specs.Own.{Above, Listed, below, fault_at, followed, is_bad, is_own, key_fault, lacks_digest}

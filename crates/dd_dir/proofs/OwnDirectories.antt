@@ -9,7 +9,7 @@ use Rattle.dd_catalogue.proofs.Members.{Member, contained, member_of}
 use Rattle.dd_catalogue.proofs.BestMembers.{best_of_same}
 use Rattle.dd_catalogue.specs.Harmony.{harmonised}
 use Rattle.dd_catalogue.specs.Versions.{IsCatalogue, versions_ordered}
-use Rattle.dd_catalogue.proofs.Clashes.{one_version}
+use Rattle.dd_catalogue.proofs.FirstConflicts.{one_version}
 use Rattle.dd_catalogue.proofs.Harmonies.{harmonised_rises, member-map}
 use Rattle.dd_version.specs.declared.parts.Parts.{Parts}
 use Rattle.dd_layout.specs.declared.label.Label.{Label}

@@ -5,9 +5,9 @@ use Rattle.dd_set.specs.Views.{set_view}
 use Rattle.dd_layout.specs.declared.level.Level.{Level}
 use Rattle.dd_layout.specs.declared.level.Level.TheVariants.{Patient, Study, Series, Image}
 use Rattle.dd_layout.specs.Tables.{table_of}
-use Rattle.dd_dir.specs.declared.listing.Above.{Above as AboveValue}
-use Rattle.dd_dir.specs.declared.listing.Above.TheVariants as values
-use Rattle.dd_dir.specs.declared.listing.Listed.{Listed as ListedValue}
+use Rattle.dd_dir.specs.declared.listed_images.Above.{Above as AboveValue}
+use Rattle.dd_dir.specs.declared.listed_images.Above.TheVariants as values
+use Rattle.dd_dir.specs.declared.listed_images.Listed.{Listed as ListedValue}
 use Rattle.dd_dir.specs.declared.own_fault.OwnFault.{OwnFault}
 use Rattle.dd_dir.specs.ForestViews.{Branch}
 use Rattle.dd_dir.specs.Own.{Above, root, in_patient, in_study, in_series, in_image, Listed, ListsFirst, ListsWith}

@@ -19,7 +19,7 @@ use Rattle.dd_dir.specs.Walks.{Stands, IsChain, AreApart, with, with_all, found_
 
 -- ---- want of memory
 
--- the fault says that a growth was refused: here, or while the bytes were read as a file
+-- the fault says that an allocation was refused: here, or while the bytes were read as a file
 abbrev pub SaysMemory : DirFault → Type 0
 SaysMemory Memory = Unit {0}
 SaysMemory (File fault) = file_faults.SaysMemory fault
@@ -78,7 +78,7 @@ IsStep starts sets offset level old new (Err fault) =
 
 -- ---- trees
 
--- a growth was refused, or the way from this offset breaks off by this fault
+-- an allocation was refused, or the way from this offset breaks off by this fault
 abbrev pub Fails : List ℕ → List Elements → ℕ → ℕ → List (Option Elements) → DirFault → Type 0
 Fails starts sets offset level old fault =
     (fault ≡ Memory) ⊎ Stops (stands_in starts sets) offset level (reached starts old) fault

@@ -10,7 +10,7 @@ ghost use Rattle.dd_dir.specs.Directories.{derived, directory_of, unnamed_label}
 ghost use Rattle.sha2.specs.Sha256.{sha256};
 
 use crate::digester::Digester;
-use crate::writing::write_directory;
+use crate::directory_writing::write_directory;
 use dd_catalogue::Catalogue;
 use dd_elem::{SetId, Uid};
 use dd_layout::{Label, Limits, Plan, PlanFault, lay_out};

@@ -24,7 +24,7 @@ use std::alloc::Global;
 /// Refused, in this order: File where the bytes are no DICOM file; NotDirectory where the file is no
 /// directory; RecordShape, Dangling, Twice or TooDeep at the first offset, depth first, that breaks the
 /// trees; LastRoot where the last root reached is not the one that is named. Memory, alone or within
-/// File, where a growth was refused.
+/// File, where an allocation was refused.
 pub fn read_directory<'a>(alloc: Global, bytes: &'a [u8]) -> Result<Forest<'a>, DirFault>
     // What is answered is the walk of the bytes.
     ensures walk { IfOk result (λ forest. IsWalk bytes.now (walk_view forest)) }

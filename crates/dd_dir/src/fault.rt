@@ -32,7 +32,7 @@ pub enum DirFault {
     /// The last root record is another one than the directory names.
     #[error("56 LastRoot")]
     LastRoot,
-    /// A growth was refused.
+    /// An allocation was refused.
     #[error("91 Memory")]
     Memory,
     /// The record would be below 32 others.
@@ -41,7 +41,7 @@ pub enum DirFault {
 }
 
 impl DirFault {
-    /// Does the fault say that a growth was refused?
+    /// Does the fault say that an allocation was refused?
     pub fn is_want_of_memory(&self) -> bool
         ensures { IsTrue result ↔ SaysMemory self.now }
     {

@@ -2,20 +2,22 @@
 //!
 //! Its one promise: the bytes that are written for a catalogue are one directory, whose offsets realise the tree
 //! of its versions, and which says each version and each withdrawn UID again; and a directory of any producer is
-//! read as the one walk that its offsets give, or refused by the first check that fails. Only where a growth is
+//! read as the one walk that its offsets give, or refused by the first check that fails. Only where an allocation is
 //! refused is the answer want of memory instead.
 #![tactic(auto)]
 
+mod buffer;
 mod cells;
 mod derived;
 mod digester;
 mod directory;
 mod directory_walk;
+mod directory_writing;
 mod fault;
 mod forest;
 mod laws;
 mod links;
-mod listing;
+mod listed_images;
 mod message;
 mod own;
 mod own_checks;
@@ -30,12 +32,12 @@ mod values;
 mod walk;
 mod walk_laws;
 mod well_formed;
-mod withdrawals;
+mod withdrawal_writing;
 mod withdrawn;
-mod writing;
 
 pub use derived::{derived_uid, lay_out_derived};
 pub use directory_walk::read_directory;
+pub use directory_writing::write_directory;
 pub use fault::DirFault;
 pub use forest::{Forest, Tree};
 pub use laws::{
@@ -47,4 +49,3 @@ pub use own_fault::OwnFault;
 pub use publishing::{assemble, publish};
 pub use values::digest_in;
 pub use walk_laws::{walk_is_one, walk_or_refusal};
-pub use writing::write_directory;

@@ -9,7 +9,7 @@ ghost use Rattle.dd_dir.specs.OwnViews.{AnswersRecords, IsListed, listed_view};
 ghost use Rattle.dd_dir.specs.Withdrawn.{AreRisingUids, pieces_in, withdrawn_of};
 
 use crate::forest::Forest;
-use crate::listing::{Above, Listed, list};
+use crate::listed_images::{Above, Listed, list};
 use crate::own_fault::OwnFault;
 use crate::own_keys::{digest, uid, version_of};
 use crate::record_keys::held;
@@ -70,7 +70,7 @@ pub fn own_of<'a>(alloc: Global, forest: &Forest<'a>) -> Result<Own<'a>, OwnFaul
 /// lists and does not withdraw, and the UIDs that it withdraws. Otherwise the first check that fails:
 /// BadWithdrawal, or a check of a record, depth first: the record is not in use or its type is not the one of
 /// its level, it is of an image without a digest, or the first of its elements in the order of tags is not
-/// what it must be. Memory where a growth was refused, which wants an image before the first such record, or
+/// what it must be. Memory where an allocation was refused, which wants an image before the first such record, or
 /// a withdrawn UID.
 pub fn catalogue_of(alloc: Global, forest: &Forest<'_>) -> Result<Catalogue, OwnFault>
     ensures { AnswersWalk (walk_view forest.now) (NamesSome (walk_view forest.now))

@@ -23,7 +23,7 @@ pub enum OwnFault {
     /// The value that names the withdrawn UIDs has a piece that is not a UID, or its pieces do not rise.
     #[error("65 BadWithdrawal")]
     BadWithdrawal,
-    /// A growth was refused.
+    /// An allocation was refused.
     #[error("91 Memory")]
     Memory,
 }

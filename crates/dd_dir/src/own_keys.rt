@@ -12,7 +12,7 @@ ghost use Rattle.dd_dir.specs.OwnVersions.{digest_of, patient_in, series_in, stu
 ghost use Rattle.dd_dir.specs.OwnViews.{IsListed, Passes, listed_view};
 ghost use Rattle.dd_dir.specs.Saying.{digest_in};
 
-use crate::listing::Listed;
+use crate::listed_images::Listed;
 use crate::record_keys::{PatientRecord, SeriesRecord, StudyRecord, held};
 use crate::values::digest_in;
 use dd_elem::{Key, KeyRefused, Memory, Uid};

@@ -9,10 +9,10 @@ ghost use Rattle.dd_dir.specs.Directories.{IsDirectory, OffsetsWithin, directory
 ghost use Rattle.dd_dir.specs.SaysItself.{SaysItself};
 ghost use Rattle.dd_dir.specs.Visits.{Realises};
 
+use crate::buffer::Buffer;
+use crate::directory_writing::write_directory;
 use crate::well_formed::catalogue_is_held;
-use crate::writing::write_directory;
 use dd_catalogue::{Catalogue, History, build};
-use dd_elem::Sink;
 use dd_layout::{Label, Limits, PlanFault, lay_out};
 use std::alloc::Global;
 
@@ -42,10 +42,9 @@ pub fn publish(
 {
     catalogue_is_held(catalogue);
     let plan = lay_out(alloc, catalogue, label, limits)?;
-    let mut sink = Sink::new(alloc, None);
-    sink.reserve(plan.size() as usize)?;
-    match write_directory(&plan, &mut sink) {
-        Ok(_) => Ok(sink.into_bytes()),
+    let mut buffer = Buffer::with_capacity(alloc, plan.size() as usize)?;
+    match write_directory(&plan, &mut buffer) {
+        Ok(_) => Ok(buffer.into_bytes()),
         Err(_) => Err(PlanFault::Memory),
     }
 }

@@ -1,4 +1,3 @@
-mod Source
 pub mod Cleaning
 pub mod DigestUids
 pub mod FileIdForms

@@ -1,4 +1,3 @@
-pub mod ByteSource
 pub mod Characters
 pub mod Clean
 pub mod Counts
@@ -11,7 +10,6 @@ pub mod InPlace
 pub mod Key
 pub mod Ordered
 pub mod SetId
-pub mod Sink
 pub mod Tag
 pub mod Uid
 pub mod Vr

@@ -39,7 +39,7 @@ pub enum KeyRefused {
     /// More than 1,024 bytes are left without padding.
     #[error("a key has at most 1024 bytes")]
     TooLong,
-    /// A growth was refused.
+    /// An allocation was refused.
     #[error("91 Memory")]
     Memory,
 }
@@ -49,7 +49,7 @@ impl Key {
     pub const MAX_LEN: usize = 1024;
 
     /// The key that these bytes are without their padding (PS3.5 section 6.2). TooLong where more than
-    /// 1,024 bytes are left; Memory where a growth was refused, which at most 22 bytes do not want.
+    /// 1,024 bytes are left; Memory where an allocation was refused, which at most 22 bytes do not want.
     #[tactic(auto, using(crate::proofs::Keys::IsKey_from_clean_of))]
     pub fn copy_of(alloc: Global, bytes: &[u8]) -> Result<Key, KeyRefused>
         ensures value { IfOk result (λ key. key ≡ clean_of bytes.now) }

@@ -21,7 +21,7 @@ pub(crate) enum KeyBytes {
 }
 
 impl KeyBytes {
-    /// A copy of these bytes. Memory where a growth was refused, and never of at most 22 bytes.
+    /// A copy of these bytes. Memory where an allocation was refused, and never of at most 22 bytes.
     pub(crate) fn of(alloc: Global, bytes: &[u8]) -> Result<KeyBytes, Memory>
         ensures value { IfOk result (λ held. key_bytes_view held ≡ bytes.now) }
         ensures valid { IfOk result IsKeyBytes }

@@ -6,7 +6,6 @@
 //! fails without counting it.
 #![tactic(auto)]
 
-mod byte_source;
 mod characters;
 mod counts;
 mod device;
@@ -19,14 +18,12 @@ mod memory;
 mod ordered;
 mod padding;
 mod set_id;
-mod sink;
 mod tag;
 pub mod tags;
 mod uid;
 mod uid_text;
 mod vr;
 
-pub use byte_source::ByteSource;
 pub use counts::Counts;
 pub use device::{Read, Write};
 pub use file_id::FileId;
@@ -36,7 +33,6 @@ pub use memory::Memory;
 pub use ordered::Ordered;
 pub use padding::clean;
 pub use set_id::{BadSetId, SetId};
-pub use sink::Sink;
 pub use tag::Tag;
 pub use uid::{BadUid, Uid};
 pub use vr::Vr;

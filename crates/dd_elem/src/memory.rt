@@ -4,7 +4,7 @@ ghost use Rattle.std.specs.Prelude.{◌≡◌};
 use std::alloc::{AllocError, AllocFailed};
 use thiserror::Error;
 
-/// Want of memory: a growth was refused. Fault 91.
+/// Want of memory: an allocation was refused. Fault 91.
 #[derive(Clone, Copy, Debug, PartialEq, Eq, Error)]
 #[error("91 Memory")]
 pub struct Memory;

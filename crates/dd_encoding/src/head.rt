@@ -7,10 +7,10 @@ ghost use Rattle.dd_encoding.specs.Head.{head_text, group_text, uids_text, uid_t
 ghost use Rattle.dd_encoding.specs.Spelling.{tag_text, content_text};
 ghost use Rattle.dd_stream.specs.Sends.{SendsTo};
 
+use crate::header_sending::send_header;
 use crate::headers::{HEADER_SIZE, LONG_HEADER_SIZE};
 use crate::meta::{CLASS, GROUP_LENGTH, INSTANCE, META_GROUP, Meta};
-use crate::places::{GROUP_AT, PREAMBLE_LENGTH, PREFIX};
-use crate::sending::send_header;
+use crate::preamble::{GROUP_AT, PREAMBLE_LENGTH, PREFIX};
 use dd_elem::{Tag, Vr, Write};
 use dd_stream::{WriteFault, send};
 use dd_version::TRANSFER;

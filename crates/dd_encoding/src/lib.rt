@@ -6,22 +6,22 @@
 //! head that is sent is the one of its meta information.
 #![tactic(auto)]
 
+mod encodings;
 mod head;
+mod header_sending;
 mod headers;
 mod meta;
-mod places;
-mod sending;
+mod preamble;
 mod syntax;
-mod syntaxes;
 
 pub use head::{head_size, write_head};
+pub use header_sending::send_header;
 pub use headers::{
     DELIMITER_GROUP, HEADER_SIZE, ITEM, ITEM_END, LONG_HEADER_SIZE, LONG_LENGTH_SIZE, SEQUENCE_END,
     TAG_SIZE, item_header, plain_header,
 };
 pub use meta::{CLASS, GROUP_LENGTH, INSTANCE, META_GROUP, Meta};
-pub use places::{
+pub use preamble::{
     COUNT_HEADER, COUNT_LENGTH, COUNT_SIZE, GROUP_AT, PREAMBLE_LENGTH, PREFIX, PREFIX_END,
 };
-pub use sending::send_header;
 pub use syntax::{Length, Syntax};

@@ -1,7 +1,7 @@
 //! The file meta information, which stands in group 0002 of a file (PS3.10 section 7.1).
 
+use crate::encodings::syntax_of;
 use crate::syntax::Syntax;
-use crate::syntaxes::syntax_of;
 use dd_elem::{Tag, Uid};
 
 /// The group of the file meta information.

@@ -8,7 +8,7 @@ use Rattle.std.proofs.lemmas.Option.{none-some, same_Some}
 use Rattle.dd_catalogue.proofs.BestMembers.{at-member, best_is_best}
 use Rattle.dd_catalogue.proofs.Cases.{by_option}
 use Rattle.dd_catalogue.proofs.Members.{Member, contained, member_of}
-use Rattle.dd_catalogue.specs.Clash.{clash, conflicts}
+use Rattle.dd_catalogue.specs.Conflicts.{first_conflict, conflicts}
 use Rattle.dd_catalogue.specs.Harmony.{harmonised}
 use Rattle.dd_catalogue.specs.Rising.{by_test}
 use Rattle.dd_catalogue.specs.Versions.{IsCatalogue, best_of, instance_of, kept, versions_ordered}
@@ -24,11 +24,11 @@ use Rattle.dd_layout.specs.declared.fault.PlanFault.TheVariants.{Conflict, TooLa
 use Rattle.dd_layout.specs.declared.label.Label.{Label}
 use Rattle.dd_layout.specs.declared.level.Level.{Level}
 use Rattle.dd_engine.specs.declared.choice.Choice.{Choice}
-use Rattle.dd_engine.specs.declared.notes.Clash.{Clash}
+use Rattle.dd_engine.specs.declared.notes.ConflictingFiles.{ConflictingFiles}
 use Rattle.dd_engine.specs.Choosing.{derivation, label_for, refusal_for}
-use Rattle.dd_engine.specs.Noting.{IsClashOf, both, first_by, first_of}
+use Rattle.dd_engine.specs.Noting.{IsConflictOf, both, first_by, first_of}
 
--- ---- the two versions that a refusal names clash
+-- ---- the two versions that a refusal names conflict
 
 excess_apart : (label : Label) (limits : Limits) (l : List Parts) (w : List (List ℕ)) (a b : List ℕ)
     → excess label limits l w ≡ Some (Conflict a b) → ⊥
@@ -47,27 +47,27 @@ pair_is (Some pair) e a b apart is =
     let second : pair.1 ≡ b = cc is in
     λ j. Some (first j, second j)
 
-refusal_clash : (label : Label) (limits : Limits) (m : List Parts) (w : List (List ℕ)) (a b : List ℕ)
-    → refusal label limits m w ≡ Some (Conflict a b) → clash m ≡ Some (a, b)
-refusal_clash label limits m w a b is =
-    pair_is (clash m) (excess label limits (harmonised m) w) a b (excess_apart label limits (harmonised m) w a b) is
+refusal_conflict : (label : Label) (limits : Limits) (m : List Parts) (w : List (List ℕ)) (a b : List ℕ)
+    → refusal label limits m w ≡ Some (Conflict a b) → first_conflict m ≡ Some (a, b)
+refusal_conflict label limits m w a b is =
+    pair_is (first_conflict m) (excess label limits (harmonised m) w) a b (excess_apart label limits (harmonised m) w a b) is
 
-derivation_clash : (uid : Option (List ℕ)) (id : List ℕ) (limits : Limits) (m : List Parts) (w : List (List ℕ))
-    (a b : List ℕ) → derivation uid id limits m w ≡ Some (Conflict a b) → clash m ≡ Some (a, b)
-derivation_clash None id limits m w a b is = refusal_clash (unnamed_label id) limits m w a b is
-derivation_clash (Some uid) id limits m w a b is = absurd (none-some (Conflict a b) is)
+derivation_conflict : (uid : Option (List ℕ)) (id : List ℕ) (limits : Limits) (m : List Parts) (w : List (List ℕ))
+    (a b : List ℕ) → derivation uid id limits m w ≡ Some (Conflict a b) → first_conflict m ≡ Some (a, b)
+derivation_conflict None id limits m w a b is = refusal_conflict (unnamed_label id) limits m w a b is
+derivation_conflict (Some uid) id limits m w a b is = absurd (none-some (Conflict a b) is)
 
 one_of : {G : Type 0} (d e : Option PlanFault) (fault : PlanFault) → (d ≡ Some fault → G) → (e ≡ Some fault → G)
     → either d e ≡ Some fault → G
 one_of None e fault first second is = second is
 one_of (Some d) e fault first second is = first is
 
-named_clash : (choice : Choice) (limits : Limits) (m : List Parts) (w : List (List ℕ)) (a b : List ℕ)
-    → refusal_for choice limits m w ≡ Some (Conflict a b) → clash m ≡ Some (a, b)
-named_clash choice limits m w a b is =
+named_conflict : (choice : Choice) (limits : Limits) (m : List Parts) (w : List (List ℕ)) (a b : List ℕ)
+    → refusal_for choice limits m w ≡ Some (Conflict a b) → first_conflict m ≡ Some (a, b)
+named_conflict choice limits m w a b is =
     one_of (derivation choice.uid choice.id limits m w) (refusal (label_for choice m w) limits m w) (Conflict a b)
-    (λ e. derivation_clash choice.uid choice.id limits m w a b e)
-    (λ e. refusal_clash (label_for choice m w) limits m w a b e) is
+    (λ e. derivation_conflict choice.uid choice.id limits m w a b e)
+    (λ e. refusal_conflict (label_for choice m w) limits m w a b e) is
 
 -- ---- they are kept
 
@@ -85,10 +85,10 @@ found_member test (w ∷ m) v is = by_test (test w)
     (λ e. inl (same_Some w v (rw e at is)))
     (λ e. inr (found_member test m v (rw e at is)))
 
-clash_has : (m : List Parts) (a b : List ℕ) → clash m ≡ Some (a, b) → HasInstance m a × HasInstance m b
-clash_has [] a b is = absurd (none-some (a, b) is)
-clash_has (v ∷ m) a b is = by_option (find (conflicts v) m)
-    (λ e. let rest = clash_has m a b (rw e at is) in (below_first v m a rest.0, below_first v m b rest.1))
+conflict_has : (m : List Parts) (a b : List ℕ) → first_conflict m ≡ Some (a, b) → HasInstance m a × HasInstance m b
+conflict_has [] a b is = absurd (none-some (a, b) is)
+conflict_has (v ∷ m) a b is = by_option (find (conflicts v) m)
+    (λ e. let rest = conflict_has m a b (rw e at is) in (below_first v m a rest.0, below_first v m b rest.1))
     (λ w e. let pair = same_Some (v.instance, w.instance) (a, b) (rw e at is) in (
       record { version = v; member = inl refl; is = ap (λ (p : List ℕ × List ℕ). p.0) pair },
       record {
@@ -131,12 +131,12 @@ mapped_some f (Some a) p is some = refl
 
 -- of a catalogue of versions that are among these
 pub both_found : {T U : Type 0} (place : T → U) (versions : List (U × Parts)) (choice : Choice) (limits : Limits)
-    (m : List Parts) (w : List (List ℕ)) (a b : List ℕ) (noted : Option (Clash T)) → IsCatalogue m
+    (m : List Parts) (w : List (List ℕ)) (a b : List ℕ) (noted : Option (ConflictingFiles T)) → IsCatalogue m
     → ((v : Parts) → Member v m → Member v (map (λ held. held.1) versions))
-    → refusal_for choice limits m w ≡ Some (Conflict a b) → IsClashOf place m versions (Conflict a b) noted
+    → refusal_for choice limits m w ≡ Some (Conflict a b) → IsConflictOf place m versions (Conflict a b) noted
     → IsSome noted
 both_found place versions choice limits m w a b noted up among refused is =
-    let has = clash_has m a b (named_clash choice limits m w a b refused) in
+    let has = conflict_has m a b (named_conflict choice limits m w a b refused) in
     mapped_some (λ pair. (place pair.one, place pair.other)) noted _ is
     (both_some (first_by versions (kept m a)) (first_by versions (kept m b))
     (by_some versions m a up among has.0) (by_some versions m b up among has.1))

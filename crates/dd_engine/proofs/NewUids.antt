@@ -12,7 +12,7 @@ use Rattle.std.proofs.lemmas.List.{append-nil, length-append, length-take-le, ma
 use Rattle.std.proofs.lemmas.Map.Lookups.{exact_bytes}
 use Rattle.std.proofs.lemmas.Option.{none-some, same_Some}
 use Rattle.std.proofs.Math.Seq.{drop-append_seam}
-use Rattle.dd_catalogue.specs.Clash.{same}
+use Rattle.dd_catalogue.specs.Conflicts.{same}
 use Rattle.dd_catalogue.specs.Rising.{by_test, is_eq_Equal}
 use Rattle.dd_dir.specs.OwnVersions.{version_of}
 use Rattle.dd_elem.specs.Ordered.{bytes_cmp}

@@ -4,12 +4,12 @@ use Rattle.std.proofs.Common.{refl, sym, ◌∙◌, ap₂, subst}
 use Rattle.dd_version.specs.declared.parts.Parts.{Parts}
 use Rattle.dd_layout.specs.declared.fault.PlanFault.{PlanFault}
 use Rattle.dd_layout.specs.declared.fault.PlanFault.TheVariants as plans
-use Rattle.dd_engine.specs.declared.notes.Clash.{Clash}
+use Rattle.dd_engine.specs.declared.notes.ConflictingFiles.{ConflictingFiles}
 use Rattle.dd_engine.specs.declared.notes.LeftOut.{LeftOut}
 use Rattle.dd_engine.specs.Indexed.{as_engine}
-use Rattle.dd_engine.specs.IndexNotes.{ClashesIn, LeavesOut}
+use Rattle.dd_engine.specs.IndexNotes.{ConflictsIn, LeavesOut}
 use Rattle.dd_engine.specs.Indexing.{Answer, Sourced, accepted, best_of_sources, versions_of}
-use Rattle.dd_engine.specs.Noting.{AreLeftOut, IsClashOf, left_out}
+use Rattle.dd_engine.specs.Noting.{AreLeftOut, IsConflictOf, left_out}
 use Rattle.dd_engine.specs.Picking.{AreHeld, file_of, files_of}
 use Rattle.dd_engine.proofs.ImagePicks.{each_kept}
 use Rattle.dd_engine.proofs.SourcePicks.{files_named}
@@ -33,26 +33,26 @@ leaves_out answers zips m notes best is are =
 
 -- ---- refusals
 
-no_clash : (clash : Option (Clash ℕ)) → option_map {U = ℕ × ℕ} (λ clash. (clash.one, clash.other)) clash ≡ None
-    → clash ≡ None
-no_clash None is = refl
-no_clash (Some clash) is = cc
+no_conflict : (conflict : Option (ConflictingFiles ℕ)) → option_map {U = ℕ × ℕ} (λ conflict. (conflict.one, conflict.other)) conflict ≡ None
+    → conflict ≡ None
+no_conflict None is = refl
+no_conflict (Some conflict) is = cc
 
-clash_too : (answers : List Answer) (zips : List Sourced) (m : List Parts) (fault : PlanFault)
-    (clash : Option (Clash ℕ)) → m ≡ best_of_sources (accepted answers) → zips ≡ accepted answers
-    → IsClashOf (λ at. at) m zips fault clash
-    → IsClashOf (λ at. at) (best_of_sources (accepted answers)) (accepted answers) fault clash
-clash_too answers zips m fault clash best is are =
-    subst (λ s. IsClashOf (λ at. at) (best_of_sources (accepted answers)) s fault clash) is
-    (subst (λ l. IsClashOf (λ at. at) l zips fault clash) best are)
+conflict_too : (answers : List Answer) (zips : List Sourced) (m : List Parts) (fault : PlanFault)
+    (conflict : Option (ConflictingFiles ℕ)) → m ≡ best_of_sources (accepted answers) → zips ≡ accepted answers
+    → IsConflictOf (λ at. at) m zips fault conflict
+    → IsConflictOf (λ at. at) (best_of_sources (accepted answers)) (accepted answers) fault conflict
+conflict_too answers zips m fault conflict best is are =
+    subst (λ s. IsConflictOf (λ at. at) (best_of_sources (accepted answers)) s fault conflict) is
+    (subst (λ l. IsConflictOf (λ at. at) l zips fault conflict) best are)
 
 -- the sources of the two versions that the refusal names
-pub clashes : (answers : List Answer) (zips : List Sourced) (m : List Parts) (fault : PlanFault)
-    (clash : Option (Clash ℕ)) → m ≡ best_of_sources (accepted answers) → zips ≡ accepted answers
-    → IsClashOf (λ at. at) m zips fault clash → ClashesIn answers (as_engine fault) clash
-clashes answers zips m plans.Memory clash best is are = no_clash clash are
-clashes answers zips m (plans.Conflict one other) clash best is are =
-    clash_too answers zips m (plans.Conflict one other) clash best is are
-clashes answers zips m (plans.TooMany level) clash best is are =
-    clash_too answers zips m (plans.TooMany level) clash best is are
-clashes answers zips m plans.TooLarge clash best is are = clash_too answers zips m plans.TooLarge clash best is are
+pub conflicts : (answers : List Answer) (zips : List Sourced) (m : List Parts) (fault : PlanFault)
+    (conflict : Option (ConflictingFiles ℕ)) → m ≡ best_of_sources (accepted answers) → zips ≡ accepted answers
+    → IsConflictOf (λ at. at) m zips fault conflict → ConflictsIn answers (as_engine fault) conflict
+conflicts answers zips m plans.Memory conflict best is are = no_conflict conflict are
+conflicts answers zips m (plans.Conflict one other) conflict best is are =
+    conflict_too answers zips m (plans.Conflict one other) conflict best is are
+conflicts answers zips m (plans.TooMany level) conflict best is are =
+    conflict_too answers zips m (plans.TooMany level) conflict best is are
+conflicts answers zips m plans.TooLarge conflict best is are = conflict_too answers zips m plans.TooLarge conflict best is are

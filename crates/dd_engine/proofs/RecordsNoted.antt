@@ -20,14 +20,14 @@ use Rattle.dd_engine.specs.declared.merge.Pick.{Pick}
 use Rattle.dd_engine.specs.declared.merge_fault.MergeFault.{MergeFault}
 use Rattle.dd_engine.specs.declared.merge_fault.MergeFault.TheVariants.{Dir, Own, Plan, Memory}
 use Rattle.dd_engine.specs.declared.noted_merge.NotedMerge.{NotedMerge}
-use Rattle.dd_engine.specs.declared.notes.Clash.{Clash}
+use Rattle.dd_engine.specs.declared.notes.ConflictingFiles.{ConflictingFiles}
 use Rattle.dd_engine.specs.declared.notes.LeftOut.{LeftOut}
 use Rattle.dd_engine.specs.declared.notes.NotedFault.{NotedFault}
-use Rattle.dd_engine.specs.MergeNotes.{ClashesIn, FindsBoth, LeavesOut, NotesSets, NotesSetsFault, unnoted}
+use Rattle.dd_engine.specs.MergeNotes.{ConflictsIn, FindsBoth, LeavesOut, NotesSets, NotesSetsFault, unnoted}
 use Rattle.dd_engine.specs.MergeSteps.{ArePlaced, plan_fault}
 use Rattle.dd_engine.specs.Merging.{Merges, SetListing, filed_in, held_in, numbered, pick_view}
 use Rattle.dd_engine.specs.Merging.{place_pick, places_in, versions_in, withdrawn_in}
-use Rattle.dd_engine.specs.Noting.{AreBelow, AreLeftOut, IsBelow, IsClashOf, LeftAs, both, clash_of, first_by, first_of}
+use Rattle.dd_engine.specs.Noting.{AreBelow, AreLeftOut, IsBelow, IsConflictOf, LeftAs, both, conflict_of, first_by, first_of}
 use Rattle.dd_engine.specs.Noting.{is_other, left_as, left_out}
 use Rattle.dd_engine.specs.Picking.{FileKey, file_of, files_of}
 use Rattle.dd_engine.proofs.BothFound.{best_among, best_rises, both_found}
@@ -35,7 +35,7 @@ use Rattle.dd_engine.proofs.ImagePicks.{told_by, twice}
 use Rattle.dd_engine.proofs.PicksWithin.{all_numbered_below, picks_within}
 use Rattle.dd_engine.proofs.PicksWithin.{AreBelow as ImagesBelow}
 use Rattle.dd_engine.proofs.PlacePicks.{left_member}
-use Rattle.dd_engine.proofs.SourcesNoted.{holds_of_clash, holds_of_notes}
+use Rattle.dd_engine.proofs.SourcesNoted.{holds_of_conflict, holds_of_notes}
 
 -- ---- notes where each place is mapped
 
@@ -91,25 +91,25 @@ module _ {T U : Type 0} (f : T → U) where
   both_told (Some a) None = refl
   both_told (Some a) (Some b) = refl
 
-  clash_of_told : (m : List Parts) (versions : List (T × Parts)) (fault : PlanFault)
-      → option_map pair_told (clash_of m versions fault) ≡ clash_of m (map told versions) fault
-  clash_of_told m versions (plans.Conflict one other) =
+  conflict_of_told : (m : List Parts) (versions : List (T × Parts)) (fault : PlanFault)
+      → option_map pair_told (conflict_of m versions fault) ≡ conflict_of m (map told versions) fault
+  conflict_of_told m versions (plans.Conflict one other) =
       both_told (first_by versions (kept m one)) (first_by versions (kept m other))
       ∙ ap₂ (λ a b. both a b) (by_told versions (kept m one)) (by_told versions (kept m other))
-  clash_of_told m versions (plans.TooMany level) = refl
-  clash_of_told m versions plans.TooLarge = refl
-  clash_of_told m versions plans.Memory = refl
+  conflict_of_told m versions (plans.TooMany level) = refl
+  conflict_of_told m versions plans.TooLarge = refl
+  conflict_of_told m versions plans.Memory = refl
 
-  places_told : (clash : Option (Clash T))
-      → option_map {U = U × U} (λ clash. (f clash.one, f clash.other)) clash
-      ≡ option_map pair_told (option_map (λ clash. (clash.one, clash.other)) clash)
+  places_told : (conflict : Option (ConflictingFiles T))
+      → option_map {U = U × U} (λ conflict. (f conflict.one, f conflict.other)) conflict
+      ≡ option_map pair_told (option_map (λ conflict. (conflict.one, conflict.other)) conflict)
   places_told None = refl
-  places_told (Some clash) = refl
+  places_told (Some conflict) = refl
 
-  pub clash_told : (m : List Parts) (versions : List (T × Parts)) (fault : PlanFault) (clash : Option (Clash T))
-      → IsClashOf (λ at. at) m versions fault clash → IsClashOf f m (map told versions) fault clash
-  clash_told m versions fault clash is =
-      places_told clash ∙ ap (option_map pair_told) is ∙ clash_of_told m versions fault
+  pub conflict_told : (m : List Parts) (versions : List (T × Parts)) (fault : PlanFault) (conflict : Option (ConflictingFiles T))
+      → IsConflictOf (λ at. at) m versions fault conflict → IsConflictOf f m (map told versions) fault conflict
+  conflict_told m versions fault conflict is =
+      places_told conflict ∙ ap (option_map pair_told) is ∙ conflict_of_told m versions fault
 
 -- ---- versions and their files, side by side
 
@@ -145,27 +145,27 @@ leaves_out given listings versions picks m notes placed is are =
 
 -- ---- refusals
 
-no_clash : (clash : Option (Clash Pick))
-    → option_map {U = (ℕ × List ℕ) × (ℕ × List ℕ)} (λ clash. (pick_view clash.one, pick_view clash.other)) clash ≡ None
-    → clash ≡ None
-no_clash None is = refl
-no_clash (Some clash) is = cc
+no_conflict : (conflict : Option (ConflictingFiles Pick))
+    → option_map {U = (ℕ × List ℕ) × (ℕ × List ℕ)} (λ conflict. (pick_view conflict.one, pick_view conflict.other)) conflict ≡ None
+    → conflict ≡ None
+no_conflict None is = refl
+no_conflict (Some conflict) is = cc
 
-pub clashes : (given : List (List ℕ)) (listings : List SetListing) (versions : List Parts) (picks : List Pick)
-    (m : List Parts) (fault : PlanFault) (clash : Option (Clash Pick)) → ArePlaced (numbered 0 listings) versions picks
-    → m ≡ (held_in given listings).versions → IsClashOf (λ at. at) m (zip picks versions) fault clash
-    → ClashesIn given listings (plan_fault fault) clash
-clashes given listings versions picks m fault clash placed is are = by fault here where
-  here : IsClashOf (λ pick. pick_view pick) (held_in given listings).versions (filed_in listings) fault clash
+pub conflicts : (given : List (List ℕ)) (listings : List SetListing) (versions : List Parts) (picks : List Pick)
+    (m : List Parts) (fault : PlanFault) (conflict : Option (ConflictingFiles Pick)) → ArePlaced (numbered 0 listings) versions picks
+    → m ≡ (held_in given listings).versions → IsConflictOf (λ at. at) m (zip picks versions) fault conflict
+    → ConflictsIn given listings (plan_fault fault) conflict
+conflicts given listings versions picks m fault conflict placed is are = by fault here where
+  here : IsConflictOf (λ pick. pick_view pick) (held_in given listings).versions (filed_in listings) fault conflict
   here =
-      clash_told (λ pick. pick_view pick) m (zip picks versions) fault clash are
-      ∙ ap₂ (λ (l : List Parts) (s : List ((ℕ × List ℕ) × Parts)). clash_of l s fault) is
+      conflict_told (λ pick. pick_view pick) m (zip picks versions) fault conflict are
+      ∙ ap₂ (λ (l : List Parts) (s : List ((ℕ × List ℕ) × Parts)). conflict_of l s fault) is
       (filed_is listings versions picks placed)
 
   by : (fault : PlanFault)
-      → IsClashOf (λ pick. pick_view pick) (held_in given listings).versions (filed_in listings) fault clash
-      → ClashesIn given listings (plan_fault fault) clash
-  by plans.Memory are = no_clash clash are
+      → IsConflictOf (λ pick. pick_view pick) (held_in given listings).versions (filed_in listings) fault conflict
+      → ConflictsIn given listings (plan_fault fault) conflict
+  by plans.Memory are = no_conflict conflict are
   by (plans.Conflict one other) are = are
   by (plans.TooMany level) are = are
   by plans.TooLarge are = are
@@ -184,22 +184,22 @@ filed_versions : (images : List (ℕ × Listed))
 filed_versions [] = refl
 filed_versions (image ∷ images) = ap (λ l. version_of image.1 ∷ l) (filed_versions images)
 
-none_below : (n : ℕ) (clash : Option (Clash Pick)) → clash ≡ None → IsBelow (λ pick. pick.set) n clash
-none_below n clash is = subst (λ o. IsBelow (λ pick. pick.set) n o) (sym is) tt
+none_below : (n : ℕ) (conflict : Option (ConflictingFiles Pick)) → conflict ≡ None → IsBelow (λ pick. pick.set) n conflict
+none_below n conflict is = subst (λ o. IsBelow (λ pick. pick.set) n o) (sym is) tt
 
 module _ (choice : Choice) (limits : Limits) (given sets : List (List ℕ)) where
-  dropped_fault : (fault : MergeFault) (clash : Option (Clash Pick))
-      → NotesSetsFault choice limits given sets fault clash → Merges choice limits given sets (Err fault)
-  dropped_fault (Dir at fault) clash is = is.0
-  dropped_fault (Own at fault) clash is = is.0
-  dropped_fault (Plan fault) clash is = (is.0, is.1, is.2)
-  dropped_fault Memory clash is = tt
+  dropped_fault : (fault : MergeFault) (conflict : Option (ConflictingFiles Pick))
+      → NotesSetsFault choice limits given sets fault conflict → Merges choice limits given sets (Err fault)
+  dropped_fault (Dir at fault) conflict is = is.0
+  dropped_fault (Own at fault) conflict is = is.0
+  dropped_fault (Plan fault) conflict is = (is.0, is.1, is.2)
+  dropped_fault Memory conflict is = is.0
 
   -- the answer without its notes
   pub dropped : (result : Result NotedMerge (NotedFault MergeFault Pick))
       → NotesSets choice limits given sets result → Merges choice limits given sets (unnoted result)
   dropped (Ok noted) is = (is.0, is.1, is.2.0)
-  dropped (Err noted) is = dropped_fault noted.fault noted.clash is
+  dropped (Err noted) is = dropped_fault noted.fault noted.conflict is
 
   pub merged_within : (result : Result NotedMerge (NotedFault MergeFault Pick))
       → NotesSets choice limits given sets result
@@ -216,38 +216,38 @@ module _ (choice : Choice) (limits : Limits) (given sets : List (List ℕ)) wher
       (filed_below (length sets) (numbered 0 is.0) (all_numbered_below sets is.0 is.1)) is.2.1
   notes_below (Err noted) is = tt
 
-  pub clash_below : (result : Result NotedMerge (NotedFault MergeFault Pick))
+  pub conflict_below : (result : Result NotedMerge (NotedFault MergeFault Pick))
       → NotesSets choice limits given sets result
-      → IfErr result (λ noted. IsBelow (λ pick. pick.set) (length sets) noted.clash)
-  clash_below (Ok noted) is = tt
-  clash_below (Err noted) is = by noted.fault noted.clash is where
-    by : (fault : MergeFault) (clash : Option (Clash Pick)) → NotesSetsFault choice limits given sets fault clash
-        → IsBelow (λ pick. pick.set) (length sets) clash
-    by (Dir at fault) clash is = none_below (length sets) clash is.1
-    by (Own at fault) clash is = none_below (length sets) clash is.1
-    by (Plan fault) clash is =
-        holds_of_clash (λ pick. pick_view pick) (λ (place : ℕ × List ℕ). place.0 < length sets)
-        (held_in given is.0).versions (filed_in is.0) fault clash
+      → IfErr result (λ noted. IsBelow (λ pick. pick.set) (length sets) noted.conflict)
+  conflict_below (Ok noted) is = tt
+  conflict_below (Err noted) is = by noted.fault noted.conflict is where
+    by : (fault : MergeFault) (conflict : Option (ConflictingFiles Pick)) → NotesSetsFault choice limits given sets fault conflict
+        → IsBelow (λ pick. pick.set) (length sets) conflict
+    by (Dir at fault) conflict is = none_below (length sets) conflict is.1
+    by (Own at fault) conflict is = none_below (length sets) conflict is.1
+    by (Plan fault) conflict is =
+        holds_of_conflict (λ pick. pick_view pick) (λ (place : ℕ × List ℕ). place.0 < length sets)
+        (held_in given is.0).versions (filed_in is.0) fault conflict
         (filed_below (length sets) (numbered 0 is.0) (all_numbered_below sets is.0 is.1)) is.3
-    by Memory clash is = none_below (length sets) clash is
+    by Memory conflict is = none_below (length sets) conflict is.1
 
-  -- where two versions clash, a file of each is found
+  -- where two versions conflict, a file of each is found
   pub files_found : (result : Result NotedMerge (NotedFault MergeFault Pick))
-      → NotesSets choice limits given sets result → IfErr result (λ noted. FindsBoth noted.fault noted.clash)
+      → NotesSets choice limits given sets result → IfErr result (λ noted. FindsBoth noted.fault noted.conflict)
   files_found (Ok noted) is = tt
-  files_found (Err noted) is = by noted.fault noted.clash is where
-    by : (fault : MergeFault) (clash : Option (Clash Pick)) → NotesSetsFault choice limits given sets fault clash
-        → FindsBoth fault clash
-    by (Plan (plans.Conflict a b)) clash is =
+  files_found (Err noted) is = by noted.fault noted.conflict is where
+    by : (fault : MergeFault) (conflict : Option (ConflictingFiles Pick)) → NotesSetsFault choice limits given sets fault conflict
+        → FindsBoth fault conflict
+    by (Plan (plans.Conflict a b)) conflict is =
         let s = versions_in (numbered 0 is.0) in
         let w = given ++ withdrawn_in is.0 in
-        both_found (λ pick. pick_view pick) (filed_in is.0) choice limits (best_of (left_of s w)) (uids_of w) a b clash
+        both_found (λ pick. pick_view pick) (filed_in is.0) choice limits (best_of (left_of s w)) (uids_of w) a b conflict
         (best_rises (left_of s w))
         (λ v i. subst (λ l. Member v l) (sym (filed_versions (numbered 0 is.0)))
         (left_member s w v (best_among (left_of s w) v i))) is.2 is.3
-    by (Plan (plans.TooMany level)) clash is = tt
-    by (Plan plans.TooLarge) clash is = tt
-    by (Plan plans.Memory) clash is = tt
-    by (Dir at fault) clash is = tt
-    by (Own at fault) clash is = tt
-    by Memory clash is = tt
+    by (Plan (plans.TooMany level)) conflict is = tt
+    by (Plan plans.TooLarge) conflict is = tt
+    by (Plan plans.Memory) conflict is = tt
+    by (Dir at fault) conflict is = tt
+    by (Own at fault) conflict is = tt
+    by Memory conflict is = tt

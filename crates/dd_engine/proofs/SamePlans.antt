@@ -1,9 +1,9 @@
 -- Catalogues that are one in harmony and withdraw the same have one plan under each choice of a label, and one refusal.
 use Rattle.std.specs.Prelude.{◌≡◌, ℕ, List, Option, None, Some}
 use Rattle.std.proofs.Common.{refl, sym, ◌∙◌, ap, ap₂}
-use Rattle.dd_catalogue.specs.Clash.{clash}
+use Rattle.dd_catalogue.specs.Conflicts.{first_conflict}
 use Rattle.dd_catalogue.specs.Harmony.{harmonised}
-use Rattle.dd_catalogue.proofs.Images.{harmony_keeps_clash}
+use Rattle.dd_catalogue.proofs.Images.{harmony_keeps_conflict}
 use Rattle.dd_dir.specs.Deriving.{either}
 use Rattle.dd_dir.specs.Directories.{directory_of, unnamed_label}
 use Rattle.dd_elem.specs.Digests.{uid_of_digest}
@@ -37,8 +37,8 @@ same_plan choice m n w u one also =
 same_refusal : (label : Label) (limits : Limits) (m n : List Parts) (w : List (List ℕ))
     → harmonised m ≡ harmonised n → refusal label limits m w ≡ refusal label limits n w
 same_refusal label limits m n w one =
-    let clashes : clash m ≡ clash n = sym (harmony_keeps_clash m) ∙ ap clash one ∙ harmony_keeps_clash n in
-    ap₂ (λ (c : Option (List ℕ × List ℕ)) (l : List Parts). conflict_or c (excess label limits l w)) clashes one
+    let conflicts : first_conflict m ≡ first_conflict n = sym (harmony_keeps_conflict m) ∙ ap first_conflict one ∙ harmony_keeps_conflict n in
+    ap₂ (λ (c : Option (List ℕ × List ℕ)) (l : List Parts). conflict_or c (excess label limits l w)) conflicts one
 
 same_derivation : (uid : Option (List ℕ)) (id : List ℕ) (limits : Limits) (m n : List Parts) (w : List (List ℕ))
     → harmonised m ≡ harmonised n → derivation uid id limits m w ≡ derivation uid id limits n w

@@ -19,14 +19,14 @@ use Rattle.dd_engine.specs.declared.choice.Choice.{Choice}
 use Rattle.dd_engine.specs.declared.engine_fault.EngineFault.{EngineFault}
 use Rattle.dd_engine.specs.declared.engine_fault.EngineFault.TheVariants.{Memory, Absent, Unread, Plan}
 use Rattle.dd_engine.specs.declared.noted_index.NotedIndex.{NotedIndex}
-use Rattle.dd_engine.specs.declared.notes.Clash.{Clash}
+use Rattle.dd_engine.specs.declared.notes.ConflictingFiles.{ConflictingFiles}
 use Rattle.dd_engine.specs.declared.notes.LeftOut.{LeftOut}
 use Rattle.dd_engine.specs.declared.notes.NotedFault.{NotedFault}
 use Rattle.dd_engine.specs.Choosing.{label_for}
 use Rattle.dd_engine.specs.Indexed.{Indexes, IsWithin}
-use Rattle.dd_engine.specs.IndexNotes.{ClashesIn, FindsBoth, NotesIndex}
+use Rattle.dd_engine.specs.IndexNotes.{ConflictsIn, FindsBoth, NotesIndex}
 use Rattle.dd_engine.specs.Indexing.{Answer, accepted, accepted_from, best_of_sources, versions_of}
-use Rattle.dd_engine.specs.Noting.{AreBelow, AreLeftOut, IsBelow, IsClashOf, LeftAs, both, first_by, first_of, is_other}
+use Rattle.dd_engine.specs.Noting.{AreBelow, AreLeftOut, IsBelow, IsConflictOf, LeftAs, both, first_by, first_of, is_other}
 use Rattle.dd_engine.specs.Noting.{left_as}
 use Rattle.dd_engine.specs.Picking.{FileKey, files_of, found_by}
 use Rattle.dd_engine.proofs.BothFound.{best_among, best_rises, both_found}
@@ -96,16 +96,16 @@ module _ {T U : Type 0} (place : T → U) (P : U → Type 0) where
       let pair = same_Some (a, b) (one, other) is in
       (first one (ap (λ (p : U × U). Some p.0) pair), second other (ap (λ (p : U × U). Some p.1) pair))
 
-  pub holds_of_clash : (m : List Parts) (versions : List (U × Parts)) (fault : PlanFault) (clash : Option (Clash T))
-      → AllByRecursion (λ v. P v.0) versions → IsClashOf place m versions fault clash
-      → IfSome clash (λ clash. P (place clash.one) × P (place clash.other))
-  holds_of_clash m versions fault None all is = tt
-  holds_of_clash m versions (plans.Conflict a b) (Some clash) all is =
-      of_both (first_by versions (kept m a)) (first_by versions (kept m b)) (place clash.one) (place clash.other)
+  pub holds_of_conflict : (m : List Parts) (versions : List (U × Parts)) (fault : PlanFault) (conflict : Option (ConflictingFiles T))
+      → AllByRecursion (λ v. P v.0) versions → IsConflictOf place m versions fault conflict
+      → IfSome conflict (λ conflict. P (place conflict.one) × P (place conflict.other))
+  holds_of_conflict m versions fault None all is = tt
+  holds_of_conflict m versions (plans.Conflict a b) (Some conflict) all is =
+      of_both (first_by versions (kept m a)) (first_by versions (kept m b)) (place conflict.one) (place conflict.other)
       (sym is) (λ at e. by_first versions (kept m a) at all e) (λ at e. by_first versions (kept m b) at all e)
-  holds_of_clash m versions (plans.TooMany level) (Some clash) all is = absurd (cc is)
-  holds_of_clash m versions plans.TooLarge (Some clash) all is = absurd (cc is)
-  holds_of_clash m versions plans.Memory (Some clash) all is = absurd (cc is)
+  holds_of_conflict m versions (plans.TooMany level) (Some conflict) all is = absurd (cc is)
+  holds_of_conflict m versions plans.TooLarge (Some conflict) all is = absurd (cc is)
+  holds_of_conflict m versions plans.Memory (Some conflict) all is = absurd (cc is)
 
 -- ---- numbers of sources
 
@@ -117,8 +117,8 @@ accepted_within answers = by (length answers) 0 answers (omega arith) where
   by n at (Ok version ∷ answers) h = (omega arith, by n (suc at) answers (omega arith))
   by n at (Err fault ∷ answers) h = by n (suc at) answers (omega arith)
 
-none_below : (n : ℕ) (clash : Option (Clash ℕ)) → clash ≡ None → IsBelow (λ at. at) n clash
-none_below n clash is = subst (λ o. IsBelow (λ at. at) n o) (sym is) tt
+none_below : (n : ℕ) (conflict : Option (ConflictingFiles ℕ)) → conflict ≡ None → IsBelow (λ at. at) n conflict
+none_below n conflict is = subst (λ o. IsBelow (λ at. at) n o) (sym is) tt
 
 module _ (choice : Choice) (limits : Limits) (answers : List Answer) where
   pub indexed_within : (result : Result NotedIndex (NotedFault EngineFault ℕ)) → NotesIndex choice limits answers result
@@ -141,33 +141,33 @@ module _ (choice : Choice) (limits : Limits) (answers : List Answer) where
       (accepted answers) noted.notes.left_out.items (accepted_within answers) is.1
   notes_below (Err noted) is = tt
 
-  pub clash_below : (result : Result NotedIndex (NotedFault EngineFault ℕ)) → NotesIndex choice limits answers result
-      → IfErr result (λ noted. IsBelow (λ at. at) (length answers) noted.clash)
-  clash_below (Ok noted) is = tt
-  clash_below (Err noted) is = by noted.fault noted.clash is.1 where
-    by : (fault : EngineFault) (clash : Option (Clash ℕ)) → ClashesIn answers fault clash
-        → IsBelow (λ at. at) (length answers) clash
-    by (Plan fault) clash is =
-        holds_of_clash (λ at. at) (λ (at : ℕ). at < length answers) (best_of_sources (accepted answers))
-        (accepted answers) fault clash (accepted_within answers) is
-    by Memory clash is = none_below (length answers) clash is
-    by (Absent at) clash is = none_below (length answers) clash is
-    by (Unread at) clash is = none_below (length answers) clash is
+  pub conflict_below : (result : Result NotedIndex (NotedFault EngineFault ℕ)) → NotesIndex choice limits answers result
+      → IfErr result (λ noted. IsBelow (λ at. at) (length answers) noted.conflict)
+  conflict_below (Ok noted) is = tt
+  conflict_below (Err noted) is = by noted.fault noted.conflict is.1 where
+    by : (fault : EngineFault) (conflict : Option (ConflictingFiles ℕ)) → ConflictsIn answers fault conflict
+        → IsBelow (λ at. at) (length answers) conflict
+    by (Plan fault) conflict is =
+        holds_of_conflict (λ at. at) (λ (at : ℕ). at < length answers) (best_of_sources (accepted answers))
+        (accepted answers) fault conflict (accepted_within answers) is
+    by Memory conflict is = none_below (length answers) conflict is
+    by (Absent at) conflict is = none_below (length answers) conflict is
+    by (Unread at) conflict is = none_below (length answers) conflict is
 
-  -- where two versions clash, a source of each is found
+  -- where two versions conflict, a source of each is found
   pub sources_found : (result : Result NotedIndex (NotedFault EngineFault ℕ)) → NotesIndex choice limits answers result
-      → IfErr result (λ noted. FindsBoth noted.fault noted.clash)
+      → IfErr result (λ noted. FindsBoth noted.fault noted.conflict)
   sources_found (Ok noted) is = tt
-  sources_found (Err noted) is = by noted.fault noted.clash is.0 is.1 where
-    by : (fault : EngineFault) (clash : Option (Clash ℕ)) → Indexes choice limits answers (Err fault)
-        → ClashesIn answers fault clash → FindsBoth fault clash
-    by (Plan (plans.Conflict a b)) clash refused is =
+  sources_found (Err noted) is = by noted.fault noted.conflict is.0 is.1 where
+    by : (fault : EngineFault) (conflict : Option (ConflictingFiles ℕ)) → Indexes choice limits answers (Err fault)
+        → ConflictsIn answers fault conflict → FindsBoth fault conflict
+    by (Plan (plans.Conflict a b)) conflict refused is =
         let s = versions_of (accepted answers) in
-        both_found (λ at. at) (accepted answers) choice limits (best_of s) [] a b clash (best_rises s)
+        both_found (λ at. at) (accepted answers) choice limits (best_of s) [] a b conflict (best_rises s)
         (best_among s) refused is
-    by (Plan (plans.TooMany level)) clash refused is = tt
-    by (Plan plans.TooLarge) clash refused is = tt
-    by (Plan plans.Memory) clash refused is = tt
-    by Memory clash refused is = tt
-    by (Absent at) clash refused is = tt
-    by (Unread at) clash refused is = tt
+    by (Plan (plans.TooMany level)) conflict refused is = tt
+    by (Plan plans.TooLarge) conflict refused is = tt
+    by (Plan plans.Memory) conflict refused is = tt
+    by Memory conflict refused is = tt
+    by (Absent at) conflict refused is = tt
+    by (Unread at) conflict refused is = tt

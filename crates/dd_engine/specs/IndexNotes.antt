@@ -10,14 +10,14 @@ use Rattle.dd_engine.specs.declared.engine.Indexed.{Indexed}
 use Rattle.dd_engine.specs.declared.engine_fault.EngineFault.{EngineFault}
 use Rattle.dd_engine.specs.declared.engine_fault.EngineFault.TheVariants.{Memory, Absent, Unread, Plan}
 use Rattle.dd_engine.specs.declared.noted_index.NotedIndex.{NotedIndex}
-use Rattle.dd_engine.specs.declared.notes.Clash.{Clash}
+use Rattle.dd_engine.specs.declared.notes.ConflictingFiles.{ConflictingFiles}
 use Rattle.dd_engine.specs.declared.notes.LeftOut.{LeftOut}
 use Rattle.dd_engine.specs.declared.notes.NotedFault.{NotedFault}
 use Rattle.dd_engine.specs.declared.notes.Notes.{Notes}
 use Rattle.dd_engine.specs.Choosing.{label_for, refusal_for}
 use Rattle.dd_engine.specs.Indexed.{Indexes, IsIndexed}
 use Rattle.dd_engine.specs.Indexing.{Answer, accepted, best_of_sources, versions_of}
-use Rattle.dd_engine.specs.Noting.{AreLeftOut, IsClashOf, IsFound}
+use Rattle.dd_engine.specs.Noting.{AreLeftOut, IsConflictOf, IsFound}
 use Rattle.dd_engine.specs.PatientNames.{AreNamed, NamedPatient, with_kept_digest}
 use Rattle.dd_engine.specs.Picking.{ArePicked, files_of}
 use Rattle.dd_engine.specs.Supply.{AreAnswers}
@@ -38,21 +38,21 @@ abbrev pub NamesPatients : List Answer → List NamedPatient → Type 0
 NamesPatients answers patients =
     AreNamed (with_kept_digest (best_of_sources (accepted answers)) (versions_of (accepted answers))) patients
 
--- where the plan is refused for two versions that clash, the first source of each; None for any other fault
-abbrev pub ClashesIn : List Answer → EngineFault → Option (Clash ℕ) → Type 0
-ClashesIn answers (Plan fault) clash =
-    IsClashOf (λ at. at) (best_of_sources (accepted answers)) (accepted answers) fault clash
-ClashesIn answers fault clash = clash ≡ None
+-- where the plan is refused for two versions that conflict, the first source of each; None for any other fault
+abbrev pub ConflictsIn : List Answer → EngineFault → Option (ConflictingFiles ℕ) → Type 0
+ConflictsIn answers (Plan fault) conflict =
+    IsConflictOf (λ at. at) (best_of_sources (accepted answers)) (accepted answers) fault conflict
+ConflictsIn answers fault conflict = conflict ≡ None
 
--- where the plan is refused for two versions that clash, a source of each is named
-abbrev pub FindsBoth : EngineFault → Option (Clash ℕ) → Type 0
-FindsBoth (Plan fault) clash = IsFound fault clash
-FindsBoth fault clash = Unit {0}
+-- where the plan is refused for two versions that conflict, a source of each is named
+abbrev pub FindsBoth : EngineFault → Option (ConflictingFiles ℕ) → Type 0
+FindsBoth (Plan fault) conflict = IsFound fault conflict
+FindsBoth fault conflict = Unit {0}
 
--- the index is refused, with a note of the two sources that clash
+-- the index is refused, with a note of the two sources that conflict
 abbrev pub IsRefused : Choice → Limits → List Answer → NotedFault EngineFault ℕ → Type 0
 IsRefused choice limits answers noted =
-    Indexes choice limits answers (Err noted.fault) × ClashesIn answers noted.fault noted.clash
+    Indexes choice limits answers (Err noted.fault) × ConflictsIn answers noted.fault noted.conflict
 
 -- the index answers this, with notes
 abbrev pub NotesIndex : Choice → Limits → List Answer → Result NotedIndex (NotedFault EngineFault ℕ) → Type 0
@@ -63,18 +63,18 @@ NotesIndex choice limits answers (Err noted) = IsRefused choice limits answers n
 
 -- ---- the answer for this number of sources, where `contents` gives the bytes of each source that are known
 
-abbrev pub NotesFault : Choice → Limits → ℕ → (ℕ → Option (List ℕ)) → ℕ → EngineFault → Option (Clash ℕ) → Type 0
-NotesFault choice limits limit contents sources (Absent at) clash = (at < sources) × (clash ≡ None)
-NotesFault choice limits limit contents sources (Unread at) clash = (at < sources) × (clash ≡ None)
-NotesFault choice limits limit contents sources Memory clash = clash ≡ None
-NotesFault choice limits limit contents sources (Plan fault) clash = (answers : List Answer)
+abbrev pub NotesFault : Choice → Limits → ℕ → (ℕ → Option (List ℕ)) → ℕ → EngineFault → Option (ConflictingFiles ℕ) → Type 0
+NotesFault choice limits limit contents sources (Absent at) conflict = (at < sources) × (conflict ≡ None)
+NotesFault choice limits limit contents sources (Unread at) conflict = (at < sources) × (conflict ≡ None)
+NotesFault choice limits limit contents sources Memory conflict = conflict ≡ None
+NotesFault choice limits limit contents sources (Plan fault) conflict = (answers : List Answer)
     × (length answers ≡ sources) × AreAnswers limit contents answers
-    × Indexes choice limits answers (Err (Plan fault)) × ClashesIn answers (Plan fault) clash
+    × Indexes choice limits answers (Err (Plan fault)) × ConflictsIn answers (Plan fault) conflict
 
 abbrev pub NotesSupply : Choice → Limits → ℕ → (ℕ → Option (List ℕ)) → ℕ
     → Result NotedIndex (NotedFault EngineFault ℕ) → Type 0
 NotesSupply choice limits limit contents sources (Err noted) =
-    NotesFault choice limits limit contents sources noted.fault noted.clash
+    NotesFault choice limits limit contents sources noted.fault noted.conflict
 NotesSupply choice limits limit contents sources (Ok noted) = (answers : List Answer)
     × (length answers ≡ sources) × AreAnswers limit contents answers × NotesIndex choice limits answers (Ok noted)
 

@@ -2,7 +2,7 @@
 use Rattle.std.specs.Prelude.{ℕ, List, [], ◌∷◌, map, Option, None, Some, if◌then◌else◌}
 use Rattle.std.specs.List.{enumerate_from}
 use Rattle.std.specs.declared.cmp.Ordering.{Ordering}
-use Rattle.dd_catalogue.specs.Clash.{same}
+use Rattle.dd_catalogue.specs.Conflicts.{same}
 use Rattle.dd_elem.specs.Ordered.{bytes_cmp}
 use Rattle.dd_engine.specs.declared.mentions.Mention.{Mention}
 

@@ -8,14 +8,14 @@ use Rattle.dd_engine.specs.declared.merge.Pick.{Pick}
 use Rattle.dd_engine.specs.declared.merge_fault.MergeFault.{MergeFault}
 use Rattle.dd_engine.specs.declared.merge_fault.MergeFault.TheVariants.{Dir, Own, Plan, Memory}
 use Rattle.dd_engine.specs.declared.noted_merge.NotedMerge.{NotedMerge}
-use Rattle.dd_engine.specs.declared.notes.Clash.{Clash}
+use Rattle.dd_engine.specs.declared.notes.ConflictingFiles.{ConflictingFiles}
 use Rattle.dd_engine.specs.declared.notes.LeftOut.{LeftOut}
 use Rattle.dd_engine.specs.declared.notes.NotedFault.{NotedFault}
 use Rattle.dd_engine.specs.declared.notes.Notes.{Notes}
-use Rattle.dd_engine.specs.Merging.{AreOwn, IsFirst, IsForeign, IsMerged, SetListing, filed_in, held_in, numbered}
+use Rattle.dd_engine.specs.Merging.{AreOwn, IsFirst, IsForeign, IsGiven, IsMerged, SetListing, filed_in, held_in, numbered}
 use Rattle.dd_engine.specs.Merging.{pick_view, versions_in}
 use Rattle.dd_engine.specs.MergeSteps.{MergesAs}
-use Rattle.dd_engine.specs.Noting.{AreLeftOut, IsClashOf, IsFound}
+use Rattle.dd_engine.specs.Noting.{AreLeftOut, IsConflictOf, IsFound}
 use Rattle.dd_engine.specs.PatientNames.{AreNamed, NamedPatient, with_kept_digest}
 use Rattle.dd_engine.specs.SetNotes.{AreSetNotes}
 
@@ -31,16 +31,16 @@ abbrev pub LeavesOut : List (List ℕ) → List SetListing → List (LeftOut Pic
 LeavesOut given listings notes =
     AreLeftOut (λ pick. pick_view pick) (held_in given listings).versions (filed_in listings) notes
 
--- where the plan is refused for two versions that clash, the first file of each; None for any other fault
-abbrev pub ClashesIn : List (List ℕ) → List SetListing → MergeFault → Option (Clash Pick) → Type 0
-ClashesIn given listings (Plan fault) clash =
-    IsClashOf (λ pick. pick_view pick) (held_in given listings).versions (filed_in listings) fault clash
-ClashesIn given listings fault clash = clash ≡ None
+-- where the plan is refused for two versions that conflict, the first file of each; None for any other fault
+abbrev pub ConflictsIn : List (List ℕ) → List SetListing → MergeFault → Option (ConflictingFiles Pick) → Type 0
+ConflictsIn given listings (Plan fault) conflict =
+    IsConflictOf (λ pick. pick_view pick) (held_in given listings).versions (filed_in listings) fault conflict
+ConflictsIn given listings fault conflict = conflict ≡ None
 
--- where the plan is refused for two versions that clash, a file of each is named
-abbrev pub FindsBoth : MergeFault → Option (Clash Pick) → Type 0
-FindsBoth (Plan fault) clash = IsFound fault clash
-FindsBoth fault clash = Unit {0}
+-- where the plan is refused for two versions that conflict, a file of each is named
+abbrev pub FindsBoth : MergeFault → Option (ConflictingFiles Pick) → Type 0
+FindsBoth (Plan fault) conflict = IsFound fault conflict
+FindsBoth fault conflict = Unit {0}
 
 -- the notes name the patients with more than one name in the versions that have the digest of the kept one
 abbrev pub NamesPatients : List (List ℕ) → List SetListing → List NamedPatient → Type 0
@@ -54,7 +54,7 @@ PlansMerge choice limits given listings (Ok planned) =
     IsMerged choice limits given listings planned.0 × LeavesOut given listings planned.1.left_out.items
     × NamesPatients given listings planned.1.names.items
 PlansMerge choice limits given listings (Err noted) =
-    MergesAs choice limits given listings (Err noted.fault) × ClashesIn given listings noted.fault noted.clash
+    MergesAs choice limits given listings (Err noted.fault) × ConflictsIn given listings noted.fault noted.conflict
 
 -- the merge answers this, with notes
 abbrev pub NotesMerge : Choice → Limits → List (List ℕ) → List SetListing
@@ -63,21 +63,21 @@ NotesMerge choice limits given listings (Ok noted) =
     IsMerged choice limits given listings noted.merged × LeavesOut given listings noted.notes.left_out.items
     × NamesPatients given listings noted.notes.names.items × AreSetNotes given listings noted.sets
 NotesMerge choice limits given listings (Err noted) =
-    MergesAs choice limits given listings (Err noted.fault) × ClashesIn given listings noted.fault noted.clash
+    MergesAs choice limits given listings (Err noted.fault) × ConflictsIn given listings noted.fault noted.conflict
 
 -- ---- the answer for sets with these bytes, where the given UIDs are withdrawn as well
 
-abbrev pub NotesSetsFault : Choice → Limits → List (List ℕ) → List (List ℕ) → MergeFault → Option (Clash Pick) → Type 0
-NotesSetsFault choice limits given sets (Dir at fault) clash =
-    IsFirst (λ set. Refuses set fault) sets at × (clash ≡ None)
-NotesSetsFault choice limits given sets (Own at fault) clash =
-    IsFirst (λ set. IsForeign set fault) sets at × (clash ≡ None)
-NotesSetsFault choice limits given sets (Plan fault) clash = (listings : List SetListing) × AreOwn sets listings
-    × MergesAs choice limits given listings (Err (Plan fault)) × ClashesIn given listings (Plan fault) clash
-NotesSetsFault choice limits given sets Memory clash = clash ≡ None
+abbrev pub NotesSetsFault : Choice → Limits → List (List ℕ) → List (List ℕ) → MergeFault → Option (ConflictingFiles Pick) → Type 0
+NotesSetsFault choice limits given sets (Dir at fault) conflict =
+    IsFirst (λ set. Refuses set fault) sets at × (conflict ≡ None)
+NotesSetsFault choice limits given sets (Own at fault) conflict =
+    IsFirst (λ set. IsForeign set fault) sets at × (conflict ≡ None)
+NotesSetsFault choice limits given sets (Plan fault) conflict = (listings : List SetListing) × AreOwn sets listings
+    × MergesAs choice limits given listings (Err (Plan fault)) × ConflictsIn given listings (Plan fault) conflict
+NotesSetsFault choice limits given sets Memory conflict = IsGiven given sets × (conflict ≡ None)
 
 abbrev pub NotesSets : Choice → Limits → List (List ℕ) → List (List ℕ)
     → Result NotedMerge (NotedFault MergeFault Pick) → Type 0
 NotesSets choice limits given sets (Ok noted) = (listings : List SetListing) × AreOwn sets listings
     × NotesMerge choice limits given listings (Ok noted)
-NotesSets choice limits given sets (Err noted) = NotesSetsFault choice limits given sets noted.fault noted.clash
+NotesSets choice limits given sets (Err noted) = NotesSetsFault choice limits given sets noted.fault noted.conflict

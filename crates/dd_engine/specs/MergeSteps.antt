@@ -15,7 +15,7 @@ use Rattle.dd_engine.specs.declared.merge.Pick.{Pick}
 use Rattle.dd_engine.specs.declared.merge_fault.MergeFault.{MergeFault}
 use Rattle.dd_engine.specs.declared.merge_fault.MergeFault.TheVariants.{Dir, Own, Plan, Memory}
 use Rattle.dd_engine.specs.Choosing.{refusal_for}
-use Rattle.dd_engine.specs.Merging.{AreOwn, IsForeign, IsMerged, IsOwn, RefusesSets, SetListing, held_in, numbered}
+use Rattle.dd_engine.specs.Merging.{AreOwn, IsForeign, IsGiven, IsMerged, IsOwn, RefusesSets, SetListing, held_in, numbered}
 use Rattle.dd_engine.specs.Merging.{pick_view, place_pick, places_in, versions_in}
 
 -- ---- faults in the words of a merge: want of memory is its own
@@ -68,8 +68,8 @@ withdrawals_from at (listing ∷ more) =
 abbrev pub withdrawals_in : List (List ℕ) → List SetListing → List Withdrawal
 withdrawals_in given listings = map (λ uid. (None, uid)) given ++ withdrawals_from 0 listings
 
--- what was gathered is of these images, their versions and where the files are, of these UIDs that are withdrawn, and of
--- sets with these counts of records that are not reached
+-- what was gathered is of these images, their versions and where the files are, of these UIDs that are withdrawn, and
+-- of sets with these counts of records that are not reached
 pub record Gathers (images : List (ℕ × Listed)) (uids : List Withdrawal) (counts : List ℕ) (gathered : Gathered)
     : Type 0 where
   pub versions : gathered.versions.items ≡ versions_in images
@@ -92,13 +92,13 @@ known_in gathered given =
 abbrev pub GathersAll : List (List ℕ) → List (List ℕ) → Result Gathered MergeFault → Type 0
 GathersAll given sets (Ok gathered) = (listings : List SetListing)
     × AreOwn sets listings × GathersOf given listings gathered
-GathersAll given sets (Err fault) = RefusesSets sets fault
+GathersAll given sets (Err fault) = RefusesSets given sets fault
 
 -- the answer where the sets list this and these UIDs are withdrawn as well
 abbrev pub MergesAs : Choice → Limits → List (List ℕ) → List SetListing → Result Merged MergeFault → Type 0
 MergesAs choice limits given listings (Ok merged) = IsMerged choice limits given listings merged
 MergesAs choice limits given listings (Err (Plan fault)) =
     let h = held_in given listings in refusal_for choice limits h.versions h.withdrawn ≡ Some fault
-MergesAs choice limits given listings (Err Memory) = Unit {0}
+MergesAs choice limits given listings (Err Memory) = IsGiven given listings
 MergesAs choice limits given listings (Err (Dir at fault)) = ⊥
 MergesAs choice limits given listings (Err (Own at fault)) = ⊥

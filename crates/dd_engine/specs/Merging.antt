@@ -1,6 +1,6 @@
 -- What merging directories answers: the walks of their bytes, the images that these list and the UIDs that they
 -- withdraw, what is kept of all together laid out, and for each image the file that it is copied from.
-use Rattle.std.specs.Prelude.{◌≡◌, ◌<◌, ℕ, suc, List, [], ◌∷◌, ◌++◌, length, map, take, get_or, None, Some, Result, Ok}
+use Rattle.std.specs.Prelude.{◌≡◌, ◌≢◌, ◌⊎◌, ◌<◌, ℕ, suc, List, [], ◌∷◌, ◌++◌, length, map, take, get_or, None, Some, Result, Ok}
 use Rattle.std.specs.Prelude.{Err}
 use Rattle.dd_catalogue.specs.Contents.{Contents, held_of}
 use Rattle.dd_catalogue.specs.Harmony.{harmonised}
@@ -121,13 +121,17 @@ pub record IsFirst (Fails : List ℕ → Type 0) (sets : List (List ℕ)) (at : 
   pub fails : Fails (get_or sets at [])
   pub before : (listings : List SetListing) × AreOwn (take at sets) listings
 
--- why these sets are refused, whatever is done with what they list: one fails, and no set before it does, or memory was
--- refused
-abbrev pub RefusesSets : List (List ℕ) → MergeFault → Type 0
-RefusesSets sets (Dir at fault) = IsFirst (λ set. Refuses set fault) sets at
-RefusesSets sets (Own at fault) = IsFirst (λ set. IsForeign set fault) sets at
-RefusesSets sets (Plan fault) = ⊥
-RefusesSets sets Memory = Unit {0}
+-- a UID to withdraw or a set is given: without both no memory is wanted
+abbrev pub IsGiven : {A : Type 0} → List (List ℕ) → List A → Type 0
+IsGiven given sets = (given ≢ []) ⊎ (sets ≢ [])
+
+-- why these sets are refused, whatever is done with what they list, where these UIDs are withdrawn as well: one fails,
+-- and no set before it does, or memory was refused
+abbrev pub RefusesSets : List (List ℕ) → List (List ℕ) → MergeFault → Type 0
+RefusesSets given sets (Dir at fault) = IsFirst (λ set. Refuses set fault) sets at
+RefusesSets given sets (Own at fault) = IsFirst (λ set. IsForeign set fault) sets at
+RefusesSets given sets (Plan fault) = ⊥
+RefusesSets given sets Memory = IsGiven given sets
 
 -- the answer for the bytes of these sets, where these UIDs are withdrawn as well
 abbrev pub Merges : Choice → Limits → List (List ℕ) → List (List ℕ) → Result Merged MergeFault → Type 0
@@ -137,7 +141,7 @@ Merges choice limits given sets (Err (Dir at fault)) = IsFirst (λ set. Refuses 
 Merges choice limits given sets (Err (Own at fault)) = IsFirst (λ set. IsForeign set fault) sets at
 Merges choice limits given sets (Err (Plan fault)) = (listings : List SetListing) × AreOwn sets listings
     × (let h = held_in given listings in refusal_for choice limits h.versions h.withdrawn ≡ Some fault)
-Merges choice limits given sets (Err Memory) = Unit {0}
+Merges choice limits given sets (Err Memory) = IsGiven given sets
 
 -- ---- numbers of sets
 

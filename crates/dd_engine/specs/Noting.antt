@@ -1,15 +1,15 @@
 -- What is noted beside a plan: which files are left out, since other bytes are kept of their instance, and which files
--- have two versions that clash.
+-- have two versions that conflict.
 use Rattle.std.specs.Prelude.{◌≡◌, ◌<◌, Bool, false, not, ℕ, List, All, map, filter, find, Option, None, Some, IfSome}
 use Rattle.std.specs.Prelude.{IsSome, option_map}
 use Rattle.std.specs.Ordering.{is_eq}
-use Rattle.dd_catalogue.specs.Clash.{same}
+use Rattle.dd_catalogue.specs.Conflicts.{same}
 use Rattle.dd_catalogue.specs.Versions.{kept}
 use Rattle.dd_version.specs.Orders.{parts_cmp}
 use Rattle.dd_version.specs.declared.parts.Parts.{Parts}
 use Rattle.dd_layout.specs.declared.fault.PlanFault.{PlanFault}
 use Rattle.dd_layout.specs.declared.fault.PlanFault.TheVariants.{Conflict, TooMany, TooLarge, Memory}
-use Rattle.dd_engine.specs.declared.notes.Clash.{Clash}
+use Rattle.dd_engine.specs.declared.notes.ConflictingFiles.{ConflictingFiles}
 use Rattle.dd_engine.specs.declared.notes.LeftOut.{LeftOut}
 use Rattle.dd_engine.specs.Picking.{FileKey, files_of, found_by}
 
@@ -37,7 +37,7 @@ abbrev pub AreLeftOut : {T U : Type 0} → (T → U) → List Parts → List (U 
 AreLeftOut place m versions notes =
     map (λ note. (place note.file, Some (place note.kept), note.instance)) notes ≡ left_out m versions
 
--- ---- the places of two versions that clash
+-- ---- the places of two versions that conflict
 
 -- the place of the first of these versions that equals this one
 abbrev pub first_of : {T : Type 0} → List (T × Parts) → Parts → Option T
@@ -53,24 +53,24 @@ both (Some one) None = None
 both (Some one) (Some other) = Some (one, other)
 
 -- where the fault names two versions that m keeps, the first place of each among the versions as they came
-abbrev pub clash_of : {T : Type 0} → List Parts → List (T × Parts) → PlanFault → Option (T × T)
-clash_of m versions (Conflict one other) = both (first_by versions (kept m one)) (first_by versions (kept m other))
-clash_of m versions (TooMany level) = None
-clash_of m versions TooLarge = None
-clash_of m versions Memory = None
+abbrev pub conflict_of : {T : Type 0} → List Parts → List (T × Parts) → PlanFault → Option (T × T)
+conflict_of m versions (Conflict one other) = both (first_by versions (kept m one)) (first_by versions (kept m other))
+conflict_of m versions (TooMany level) = None
+conflict_of m versions TooLarge = None
+conflict_of m versions Memory = None
 
 -- the note has the first places of the two versions; where the fault does not name two versions that m keeps, there is
 -- no note
-abbrev pub IsClashOf : {T U : Type 0} → (T → U) → List Parts → List (U × Parts) → PlanFault → Option (Clash T) → Type 0
-IsClashOf place m versions fault clash =
-    option_map (λ clash. (place clash.one, place clash.other)) clash ≡ clash_of m versions fault
+abbrev pub IsConflictOf : {T U : Type 0} → (T → U) → List Parts → List (U × Parts) → PlanFault → Option (ConflictingFiles T) → Type 0
+IsConflictOf place m versions fault conflict =
+    option_map (λ conflict. (place conflict.one, place conflict.other)) conflict ≡ conflict_of m versions fault
 
 -- where the refusal of a plan names two versions, there is a note
-abbrev pub IsFound : {T : Type 0} → PlanFault → Option (Clash T) → Type 0
-IsFound (Conflict one other) clash = IsSome clash
-IsFound (TooMany level) clash = Unit {0}
-IsFound TooLarge clash = Unit {0}
-IsFound Memory clash = Unit {0}
+abbrev pub IsFound : {T : Type 0} → PlanFault → Option (ConflictingFiles T) → Type 0
+IsFound (Conflict one other) conflict = IsSome conflict
+IsFound (TooMany level) conflict = Unit {0}
+IsFound TooLarge conflict = Unit {0}
+IsFound Memory conflict = Unit {0}
 
 -- ---- numbers of sources or sets
 
@@ -78,5 +78,5 @@ IsFound Memory clash = Unit {0}
 abbrev pub AreBelow : {T : Type 0} → (T → ℕ) → ℕ → List (LeftOut T) → Type 0
 AreBelow number count notes = All (λ note. (number note.file < count) × (number note.kept < count)) notes
 
-abbrev pub IsBelow : {T : Type 0} → (T → ℕ) → ℕ → Option (Clash T) → Type 0
-IsBelow number count clash = IfSome clash (λ clash. (number clash.one < count) × (number clash.other < count))
+abbrev pub IsBelow : {T : Type 0} → (T → ℕ) → ℕ → Option (ConflictingFiles T) → Type 0
+IsBelow number count conflict = IfSome conflict (λ conflict. (number conflict.one < count) × (number conflict.other < count))

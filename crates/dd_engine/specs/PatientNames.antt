@@ -3,7 +3,7 @@ use Rattle.std.specs.Prelude.{◌≡◌, ◌≢◌, ◌<◌, ◌↔◌, Bool, fa
 use Rattle.std.specs.List.Sorted.{IsStrictlySortedBy}
 use Rattle.std.specs.Ordering.{flip_args}
 use Rattle.std.specs.declared.cmp.Ordering.{Ordering}
-use Rattle.dd_catalogue.specs.Clash.{same}
+use Rattle.dd_catalogue.specs.Conflicts.{same}
 use Rattle.dd_catalogue.specs.Versions.{kept}
 use Rattle.dd_elem.specs.Ordered.{bytes_cmp}
 use Rattle.dd_version.specs.Orders.{by_bytes}

@@ -3,7 +3,7 @@
 use Rattle.std.specs.Prelude.{◌≡◌, ◌≢◌, ◌&&◌, Bool, true, false, ℕ, List, [], ◌∷◌, All, map, filter, Option, None, Some}
 use Rattle.std.specs.Prelude.{slice_get, if◌then◌else◌}
 use Rattle.std.specs.declared.cmp.Ordering.{Ordering}
-use Rattle.dd_catalogue.specs.Clash.{same}
+use Rattle.dd_catalogue.specs.Conflicts.{same}
 use Rattle.dd_version.specs.Orders.{by_bytes, ◌then◌}
 use Rattle.dd_version.specs.declared.parts.Parts.{Parts}
 use Rattle.dd_layout.specs.declared.level.Level.{Level}

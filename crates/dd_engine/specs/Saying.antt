@@ -1,8 +1,8 @@
 -- Which record files an image as a plan does.
-use Rattle.std.specs.Prelude.{◌≡◌, ◌<◌, ℕ, List, length, map, slice_get, slice_index_or}
+use Rattle.std.specs.Prelude.{◌≡◌, ◌<◌, ℕ, List, [], length, map, slice_get, slice_index_or}
 use Rattle.std.specs.Prelude.{Option, None, Some, Result, Ok, Err}
 use Rattle.dd_dir.specs.Own.{Listed}
-use Rattle.dd_filing.specs.Filing.{FiledAs}
+use Rattle.dd_version.specs.Filing.{FiledAs}
 use Rattle.dd_version.specs.declared.parts.Parts.{Parts}
 use Rattle.dd_engine.specs.declared.merge.Pick.{Pick}
 use Rattle.dd_engine.specs.declared.merge_fault.MergeFault.{MergeFault}
@@ -30,4 +30,4 @@ IsFirstSaying planned images (Some pick) = (at : ℕ) × IsFirstFiled planned (v
 abbrev pub AnswersSaying : Parts → List (List ℕ) → Result (Option Pick) MergeFault → Type 0
 AnswersSaying planned sets (Ok pick) = (listings : List SetListing)
     × AreOwn sets listings × IsFirstSaying planned (numbered 0 listings) pick
-AnswersSaying planned sets (Err fault) = RefusesSets sets fault
+AnswersSaying planned sets (Err fault) = RefusesSets [] sets fault

@@ -3,7 +3,7 @@
 use Rattle.std.specs.Prelude.{◌≡◌, ◌<◌, Bool, ℕ, suc, nat_lt, List, [], ◌∷◌, ◌++◌, All, map, filter, Option, None, Some}
 use Rattle.std.specs.Prelude.{option_map, if◌then◌else◌}
 use Rattle.std.specs.List.{enumerate_from, filter_map, list_any}
-use Rattle.dd_catalogue.specs.Clash.{same}
+use Rattle.dd_catalogue.specs.Conflicts.{same}
 use Rattle.dd_dir.specs.OwnVersions.{place_of}
 use Rattle.dd_version.specs.declared.parts.Parts.{Parts}
 use Rattle.dd_engine.specs.declared.merge.Pick.{Pick}

@@ -52,7 +52,7 @@ EndsWith (Plan fault) sources refusals refused unread failed = ⊥
 
 -- ---- the answers for sources
 
--- the fault says neither that a read failed nor that a growth was refused
+-- the fault says neither that a read failed nor that an allocation was refused
 abbrev pub IsOfSource : KeyFault → Type 0
 IsOfSource fault = (fault ≢ Read) × ¬ SaysMemory fault
 

@@ -1,6 +1,7 @@
 //! Which label a file-set gets.
 
-ghost use Rattle.std.specs.Prelude.{◌≡◌, ◌⊎◌, None, Some, IfErr, IfOk, IsOk};
+ghost use Rattle.std.specs.Prelude.{◌≡◌, ◌≢◌, ◌⊎◌, None, Some, IfErr, IfOk, IsOk};
+ghost use Rattle.dd_catalogue.specs.Contents.{nothing};
 ghost use Rattle.dd_layout.specs.Layouts.{layout_of};
 ghost use Rattle.dd_engine.specs.Choosing.{label_for, refusal_for};
 
@@ -32,7 +33,8 @@ pub(crate) fn plan_for(
         catalogue.now.versions catalogue.now.withdrawn) }
     ensures allowed { IsOk result
         → refusal_for choice.now limits catalogue.now.versions catalogue.now.withdrawn ≡ None }
-    ensures refused { IfErr result (λ fault. (fault ≡ PlanFault.Memory)
+    ensures refused { IfErr result (λ fault. ((fault ≡ PlanFault.Memory)
+        × (catalogue.now ≢ nothing))
         ⊎ (refusal_for choice.now limits catalogue.now.versions catalogue.now.withdrawn
         ≡ Some fault)) }
 {

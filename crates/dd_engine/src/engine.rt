@@ -39,7 +39,7 @@ impl Drop for Indexed {
 /// the best of their versions under the label that is asked for. A source without a version is skipped.
 ///
 /// Absent and Unread name the first source that failed: it could not be opened, or its reader failed. A Plan
-/// fault is the refusal of these versions. Memory where a growth was refused. Each reader is ended before the
+/// fault is the refusal of these versions. Memory where an allocation was refused. Each reader is ended before the
 /// answer.
 pub fn index_engine<S: Supply>(
     alloc: Global,

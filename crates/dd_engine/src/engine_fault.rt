@@ -9,7 +9,7 @@ use thiserror::Error;
 /// Why an index was not made.
 #[derive(Clone, Copy, Debug, PartialEq, Eq, Error)]
 pub enum EngineFault {
-    /// A growth was refused.
+    /// An allocation was refused.
     #[error("91 Memory")]
     Memory,
     /// The source of this number could not be opened.

@@ -1,6 +1,7 @@
 //! What directories list, gathered.
 
-ghost use Rattle.std.specs.Prelude.{◌≡◌, ◌⊎◌, ◌++◌, ◌∷◌, List, [], ℕ, map, None, Some, IfOk, OnOk};
+ghost use Rattle.std.specs.Prelude.{◌≡◌, ◌≢◌, ◌⊎◌, ◌++◌, ◌∷◌, List, [], ℕ, map, None, Some, IfOk, OnErr};
+ghost use Rattle.std.specs.Prelude.{OnOk};
 ghost use Rattle.dd_dir.specs.ReadAnswers.{SaysMemory};
 ghost use Rattle.dd_dir.specs.Own.{Listed};
 ghost use Rattle.dd_dir.specs.OwnVersions.{Tells, place_view};
@@ -61,14 +62,17 @@ impl<'a> Gathered<'a> {
 
     /// Gathers of no set, with these UIDs withdrawn.
     fn new(alloc: Global, given: &[Uid]) -> Result<Gathered<'a>, Memory>
-        ensures { IfOk result (Gathers [] (map (λ uid. (None, uid)) given.now) []) }
+        ensures all { IfOk result (Gathers [] (map (λ uid. (None, uid)) given.now) []) }
+        ensures some { OnErr result (given.now ≢ []) }
     {
-        let mut by = Vec::new(alloc);
+        let mut withdrawn = Vec::with_capacity(alloc, given.len())?;
+        withdrawn.extend_from_slice(given)?;
+        let mut by = Vec::with_capacity(alloc, given.len())?;
         add_numbers(&mut by, None, given)?;
         Ok(Gathered {
             versions: Vec::new(alloc),
             picks: Vec::new(alloc),
-            withdrawn: given.to_vec(alloc)?,
+            withdrawn,
             by,
             unreached: Vec::new(alloc),
         })
@@ -97,7 +101,8 @@ impl<'a> Gathered<'a> {
 }
 
 /// Gathers what all these sets list, and withdraws these UIDs as well. Refused by the first set that is not a
-/// directory as dd_dir writes one.
+/// directory as dd_dir writes one. Memory where an allocation was refused, which can't be where there are no sets and
+/// no UIDs.
 pub(crate) fn gather_sets<'a>(
     alloc: Global,
     sets: &[&'a [u8]],
@@ -198,13 +203,15 @@ fn add_picks<'a>(to: &mut Vec<Pick<'a>>, at: usize, places: &[Place<'a>]) -> Res
     Ok(())
 }
 
-/// Adds this number once for each of these UIDs.
+/// Adds this number once for each of these UIDs. Memory where an allocation was refused, which can't be where there are
+/// none.
 fn add_numbers(
     to: &mut Vec<Option<usize>>,
     number: Option<usize>,
     uids: &[Uid],
 ) -> Result<(), Memory>
-    ensures { OnOk result (to.new.items ≡ to.old.items ++ map (λ _. number) uids.now) }
+    ensures all { OnOk result (to.new.items ≡ to.old.items ++ map (λ _. number) uids.now) }
+    ensures some { OnErr result (uids.now ≢ []) }
 {
     to.reserve(uids.len())?;
     for _uid in uids {

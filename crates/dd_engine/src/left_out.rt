@@ -1,8 +1,8 @@
 //! Finds the files that are left out, since other bytes are kept of their instance.
 
-ghost use Rattle.std.specs.Prelude.{◌≡◌, false, true, not, None, Some, IfOk, IfSome, map};
+ghost use Rattle.std.specs.Prelude.{◌≡◌, ◌≢◌, [], false, true, not, None, Some, IfOk, IfSome, OnErr, map};
 ghost use Rattle.std.specs.List.{list_all, zip};
-ghost use Rattle.dd_catalogue.specs.Clash.{same};
+ghost use Rattle.dd_catalogue.specs.Conflicts.{same};
 ghost use Rattle.dd_catalogue.specs.Versions.{kept};
 ghost use Rattle.dd_engine.specs.Noting.{AreLeftOut, is_other};
 ghost use Rattle.dd_engine.specs.PatientNames.{is_alike};
@@ -17,7 +17,7 @@ use std::alloc::Global;
 
 /// Lists the files of whose instance the catalogue keeps other bytes, in the order in which they came, each with
 /// the first file of the kept version. The files are given by their versions and, in the same order, by their
-/// places. Memory where a growth was refused.
+/// places. Memory where an allocation was refused, which can't be where there are no versions.
 pub(crate) fn left_out<T: Copy>(
     alloc: Global,
     catalogue: &Catalogue,
@@ -26,9 +26,10 @@ pub(crate) fn left_out<T: Copy>(
 ) -> Result<Vec<LeftOut<T>>, Memory>
     requires { AreHeld (map (λ file. file.1) (files_of (zip places.now versions.now)))
         catalogue.now.versions }
-    ensures { IfOk result (λ notes.
+    ensures all { IfOk result (λ notes.
         AreLeftOut (λ at. at) catalogue.now.versions (zip places.now versions.now)
         notes.items) }
+    ensures some { OnErr result (versions.now ≢ []) }
 {
     if are_kept(catalogue, versions) {
         return Ok(Vec::new(alloc));

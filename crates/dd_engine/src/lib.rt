@@ -7,7 +7,7 @@
 #![tactic(auto)]
 
 mod choice;
-mod clash;
+mod conflict;
 mod engine;
 mod engine_fault;
 mod gathering;
@@ -37,7 +37,7 @@ pub use merge::{Merged, Pick, merge_engine};
 pub use merge_fault::MergeFault;
 pub use noted_index::{NotedIndex, index_with_notes};
 pub use noted_merge::{NotedMerge, merge_with_notes, withdraw_with_notes};
-pub use notes::{Clash, LeftOut, NotedFault, Notes};
+pub use notes::{ConflictingFiles, LeftOut, NotedFault, Notes};
 pub use patient_names::PatientNames;
 pub use saying::first_saying;
 pub use set_notes::{SetNotes, Unreached, WithdrawnImage};

@@ -46,7 +46,7 @@ pub(crate) fn marks_of<'a, T: Copy>(
 }
 
 /// Finds for each image of the plan, in the order of the records, the place of its file: of the first one where
-/// several of these files are the same. Memory where a growth was refused.
+/// several of these files are the same. Memory where an allocation was refused.
 pub(crate) fn first_marks<T: Copy>(
     alloc: Global,
     plan: &Plan,
@@ -61,7 +61,7 @@ pub(crate) fn first_marks<T: Copy>(
     picks_among(alloc, plan, &marks)
 }
 
-/// Puts the marks into the order of their files. Those of one file stay in their order. Memory where a growth was
+/// Puts the marks into the order of their files. Those of one file stay in their order. Memory where an allocation was
 /// refused.
 pub(crate) fn in_order<T: Copy>(mut marks: Vec<Mark<'_, T>>) -> Result<Vec<Mark<'_, T>>, Memory>
     ensures order { IfOk result (λ ordered. IsSorted mark_cmp ordered.items) }

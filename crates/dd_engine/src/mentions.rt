@@ -17,7 +17,7 @@ pub(crate) struct Mention<'a> {
     pub(crate) number: Option<usize>,
 }
 
-/// Mentions each of these UIDs with the number that stands beside it. Memory where a growth was refused.
+/// Mentions each of these UIDs with the number that stands beside it. Memory where an allocation was refused.
 pub(crate) fn mentions_of<'a>(
     alloc: Global,
     uids: &'a [Uid],
@@ -36,7 +36,7 @@ pub(crate) fn mentions_of<'a>(
     Ok(mentions)
 }
 
-/// Puts the mentions into the order of their UIDs. Those of one UID stay in their order. Memory where a growth was
+/// Puts the mentions into the order of their UIDs. Those of one UID stay in their order. Memory where an allocation was
 /// refused.
 pub(crate) fn in_order<'a>(mut mentions: Vec<Mention<'a>>) -> Result<Vec<Mention<'a>>, Memory>
     ensures order { IfOk result (λ ordered. IsSorted mention_cmp ordered.items) }

@@ -44,11 +44,11 @@ impl Drop for Merged<'_> {
 /// for. It has the best of the versions that they list and of which no set withdraws the instance. It names all
 /// instances that they withdraw.
 ///
-/// Dir names the first set that is no directory, and Own the first that was not written here. A Plan fault is
-/// the refusal of these versions. Memory where a growth was refused. Where the sets are the directories of
-/// catalogues that agree in pairs, the plan has the images of the catalogue that joins these, whatever labels
-/// they were published under. It is the plan of that catalogue where none of them withdraws an instance of
-/// another.
+/// Dir names the first set that is no directory, and Own the first that was not written here. A Plan fault is the
+/// refusal of these versions. Memory where an allocation was refused, which can't be where there are no sets. Where
+/// the sets are the directories of catalogues that agree in pairs, the plan has the images of the catalogue that
+/// joins these, whatever labels they were published under. It is the plan of that catalogue where none of them
+/// withdraws an instance of another.
 pub fn merge_engine<'a>(
     alloc: Global,
     sets: &'a [&'a [u8]],

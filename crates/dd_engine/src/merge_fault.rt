@@ -20,7 +20,7 @@ pub enum MergeFault {
     /// The versions have no place in a directory.
     #[error(transparent)]
     Plan(PlanFault),
-    /// A growth was refused.
+    /// An allocation was refused.
     #[error("91 Memory")]
     Memory,
 }

@@ -3,14 +3,14 @@
 ghost use Rattle.std.specs.Prelude.{◌≡◌, ◌+◌, List, IfErr, IfOk, IsOk, length};
 ghost use Rattle.dd_engine.specs.Indexed.{IsNamed, IsWithin, as_engine};
 ghost use Rattle.dd_engine.specs.Indexing.{Answer};
-ghost use Rattle.dd_engine.specs.IndexNotes.{ClashesIn, FindsBoth, IsHeldBest, IsPlanned};
+ghost use Rattle.dd_engine.specs.IndexNotes.{ConflictsIn, FindsBoth, IsHeldBest, IsPlanned};
 ghost use Rattle.dd_engine.specs.IndexNotes.{IsRefused, NotesIndex, NotesSupply};
 ghost use Rattle.dd_engine.specs.Noting.{AreBelow, IsBelow};
 ghost use Rattle.dd_engine.specs.Supplies.{IndexingEndsBy};
 ghost use Rattle.dd_engine.specs.Supply.{AllStay, EachGrows, Holds};
 
 use crate::choice::{Choice, plan_for};
-use crate::clash::clash_of;
+use crate::conflict::conflict_of;
 use crate::engine::Indexed;
 use crate::engine_fault::EngineFault;
 use crate::left_out::left_out;
@@ -47,7 +47,7 @@ impl NotedIndex {
 
 /// Does what `index_engine` does, and notes which sources are left out: of the instance of each, a version with
 /// other bytes is kept. It also notes each Patient ID that stands with more than one Patient's Name in the versions
-/// whose digest is that of the kept version of their instance. Where two kept versions clash, the refusal names the
+/// whose digest is that of the kept version of their instance. Where two kept versions conflict, the refusal names the
 /// first source of each.
 pub fn index_with_notes<S: Supply>(
     alloc: Global,
@@ -64,8 +64,8 @@ pub fn index_with_notes<S: Supply>(
 
     // The source that a fault names failed, and none before it.
     ensures named { IfErr result (λ noted. IsNamed (S.sources supply.old) noted.fault) }
-    ensures clash { IfErr result (λ noted. IsBelow (λ at. at) (S.sources supply.old) noted.clash) }
-    ensures found { IfErr result (λ noted. FindsBoth noted.fault noted.clash) }
+    ensures conflict { IfErr result (λ noted. IsBelow (λ at. at) (S.sources supply.old) noted.conflict) }
+    ensures found { IfErr result (λ noted. FindsBoth noted.fault noted.conflict) }
     ensures fault { IfErr result (λ noted.
         IndexingEndsBy S.Supply noted.fault supply.old supply.new) }
     ensures worked { IsOk result → AllStay (S.refusals supply.old) (S.refusals supply.new)
@@ -143,13 +143,13 @@ fn refused(
     fault: PlanFault,
 ) -> NotedFault<EngineFault, usize>
     ensures fault { result.fault ≡ as_engine fault }
-    ensures clash { (answers : List Answer) → Holds answers sources.now
+    ensures conflict { (answers : List Answer) → Holds answers sources.now
         → IsHeldBest answers catalogue.now
-        → ClashesIn answers result.fault result.clash }
+        → ConflictsIn answers result.fault result.conflict }
 {
-    let clash = clash_of(catalogue, &sources.versions, &sources.numbers, &fault);
+    let conflict = conflict_of(catalogue, &sources.versions, &sources.numbers, &fault);
     NotedFault {
         fault: EngineFault::from(fault),
-        clash,
+        conflict,
     }
 }

@@ -2,13 +2,13 @@
 
 ghost use Rattle.std.specs.Prelude.{◌≡◌, ◌<◌, ◌∷◌, All, IfErr, IfOk, List, [], ℕ, length, map};
 ghost use Rattle.dd_engine.specs.Merging.{IsNamedSet, SetListing, held_in, numbered};
-ghost use Rattle.dd_engine.specs.MergeNotes.{ClashesIn, FindsBoth, NotesMerge, NotesSets, PlansMerge};
+ghost use Rattle.dd_engine.specs.MergeNotes.{ConflictsIn, FindsBoth, NotesMerge, NotesSets, PlansMerge};
 ghost use Rattle.dd_engine.specs.MergeSteps.{ArePlaced, GathersOf, plan_fault};
 ghost use Rattle.dd_engine.specs.Noting.{AreBelow, IsBelow};
 ghost use Rattle.dd_engine.specs.SetNotes.{NameSetsBelow};
 
 use crate::choice::{Choice, plan_for};
-use crate::clash::clash_of;
+use crate::conflict::conflict_of;
 use crate::gathering::{Gathered, gather_sets};
 use crate::left_out::left_out;
 use crate::merge::{Merged, Pick};
@@ -51,7 +51,7 @@ impl<'a> NotedMerge<'a> {
 /// Does what `merge_engine` does, and notes which files are left out: of the instance of each, a version with
 /// other bytes is kept. It also notes each Patient ID that stands with more than one Patient's Name in the versions
 /// whose digest is that of the kept version of their instance; which sets have records that are not reached; and
-/// which images a set withdraws. Where two kept versions clash, the refusal names the first file of each.
+/// which images a set withdraws. Where two kept versions conflict, the refusal names the first file of each.
 pub fn merge_with_notes<'a>(
     alloc: Global,
     sets: &'a [&'a [u8]],
@@ -65,9 +65,9 @@ pub fn merge_with_notes<'a>(
         AreBelow (λ pick. pick.set) (length sets.now) noted.notes.left_out.items) }
     ensures sets { IfOk result (λ noted. NameSetsBelow (length sets.now) noted.sets) }
     ensures named { IfErr result (λ noted. IsNamedSet (length sets.now) noted.fault) }
-    ensures clash { IfErr result (λ noted.
-        IsBelow (λ pick. pick.set) (length sets.now) noted.clash) }
-    ensures found { IfErr result (λ noted. FindsBoth noted.fault noted.clash) }
+    ensures conflict { IfErr result (λ noted.
+        IsBelow (λ pick. pick.set) (length sets.now) noted.conflict) }
+    ensures found { IfErr result (λ noted. FindsBoth noted.fault noted.conflict) }
 {
     noted_sets(alloc, sets, &[], choice, limits)
 }
@@ -88,8 +88,8 @@ pub fn withdraw_with_notes<'a>(
         AreBelow (λ pick. pick.set) 1 noted.notes.left_out.items) }
     ensures sets { IfOk result (λ noted. NameSetsBelow 1 noted.sets) }
     ensures named { IfErr result (λ noted. IsNamedSet 1 noted.fault) }
-    ensures clash { IfErr result (λ noted. IsBelow (λ pick. pick.set) 1 noted.clash) }
-    ensures found { IfErr result (λ noted. FindsBoth noted.fault noted.clash) }
+    ensures conflict { IfErr result (λ noted. IsBelow (λ pick. pick.set) 1 noted.conflict) }
+    ensures found { IfErr result (λ noted. FindsBoth noted.fault noted.conflict) }
 {
     noted_sets(alloc, &[set], uids, choice, limits)
 }
@@ -109,9 +109,9 @@ pub(crate) fn noted_sets<'a>(
         AreBelow (λ pick. pick.set) (length sets.now) noted.notes.left_out.items) }
     ensures sets { IfOk result (λ noted. NameSetsBelow (length sets.now) noted.sets) }
     ensures named { IfErr result (λ noted. IsNamedSet (length sets.now) noted.fault) }
-    ensures clash { IfErr result (λ noted.
-        IsBelow (λ pick. pick.set) (length sets.now) noted.clash) }
-    ensures found { IfErr result (λ noted. FindsBoth noted.fault noted.clash) }
+    ensures conflict { IfErr result (λ noted.
+        IsBelow (λ pick. pick.set) (length sets.now) noted.conflict) }
+    ensures found { IfErr result (λ noted. FindsBoth noted.fault noted.conflict) }
 {
     let gathered = gather_sets(alloc, sets, given)?;
     noted(alloc, gathered, given, choice, limits)
@@ -178,14 +178,14 @@ fn refused<'a>(
     fault: PlanFault,
 ) -> NotedFault<MergeFault, Pick<'a>>
     ensures fault { result.fault ≡ plan_fault fault }
-    ensures clash { (given : List (List ℕ)) (listings : List SetListing)
+    ensures conflict { (given : List (List ℕ)) (listings : List SetListing)
         → ArePlaced (numbered 0 listings) versions.now places.now
         → catalogue.now ≡ held_in given listings
-        → ClashesIn given listings result.fault result.clash }
+        → ConflictsIn given listings result.fault result.conflict }
 {
-    let clash = clash_of(catalogue, versions, places, &fault);
+    let conflict = conflict_of(catalogue, versions, places, &fault);
     NotedFault {
         fault: MergeFault::from(fault),
-        clash,
+        conflict,
     }
 }

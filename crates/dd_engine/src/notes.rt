@@ -18,9 +18,9 @@ pub struct LeftOut<T> {
     pub instance: Uid,
 }
 
-/// The files of two kept versions whose keys clash.
+/// The files of two kept versions whose keys conflict.
 #[derive(Clone, Copy, Debug)]
-pub struct Clash<T> {
+pub struct ConflictingFiles<T> {
     /// Where the first file is of the version that the fault names first.
     pub one: T,
     /// Where the first file of the other version is.
@@ -37,57 +37,63 @@ pub struct Notes<T> {
     pub names: Vec<PatientNames>,
 }
 
-/// Why there is no plan, with the files of two versions that clash, if that is why.
+/// Why there is no plan, with the files of two versions that conflict, if that is why.
 #[derive(Clone, Copy, Debug)]
 pub struct NotedFault<F, T> {
     /// Why there is no plan.
     pub fault: F,
     /// The files of the two versions that the fault names. None where it does not name two versions.
-    pub clash: Option<Clash<T>>,
+    pub conflict: Option<ConflictingFiles<T>>,
 }
 
 impl<T> From<EngineFault> for NotedFault<EngineFault, T> {
-    ghost from_gives = { λ fault noted. noted ≡ record { fault = fault; clash = None } };
+    ghost from_gives = { λ fault noted. noted ≡ record { fault = fault; conflict = None } };
 
-    /// Gives the fault, with no clash.
+    /// Gives the fault, with no conflict.
     fn from(fault: EngineFault) -> NotedFault<EngineFault, T> {
-        NotedFault { fault, clash: None }
+        NotedFault {
+            fault,
+            conflict: None,
+        }
     }
 }
 
 impl<T> From<dd_elem::Memory> for NotedFault<EngineFault, T> {
     ghost use Rattle.dd_engine.specs.declared.engine_fault.EngineFault.TheVariants as faults;
 
-    ghost from_gives = { λ _ noted. noted ≡ record { fault = faults.Memory; clash = None } };
+    ghost from_gives = { λ _ noted. noted ≡ record { fault = faults.Memory; conflict = None } };
 
-    /// Gives the fault, with no clash.
+    /// Gives the fault, with no conflict.
     fn from(_refused: dd_elem::Memory) -> NotedFault<EngineFault, T> {
         NotedFault {
             fault: EngineFault::Memory,
-            clash: None,
+            conflict: None,
         }
     }
 }
 
 impl<T> From<MergeFault> for NotedFault<MergeFault, T> {
-    ghost from_gives = { λ fault noted. noted ≡ record { fault = fault; clash = None } };
+    ghost from_gives = { λ fault noted. noted ≡ record { fault = fault; conflict = None } };
 
-    /// Gives the fault, with no clash.
+    /// Gives the fault, with no conflict.
     fn from(fault: MergeFault) -> NotedFault<MergeFault, T> {
-        NotedFault { fault, clash: None }
+        NotedFault {
+            fault,
+            conflict: None,
+        }
     }
 }
 
 impl<T> From<dd_elem::Memory> for NotedFault<MergeFault, T> {
     ghost use Rattle.dd_engine.specs.declared.merge_fault.MergeFault.TheVariants as faults;
 
-    ghost from_gives = { λ _ noted. noted ≡ record { fault = faults.Memory; clash = None } };
+    ghost from_gives = { λ _ noted. noted ≡ record { fault = faults.Memory; conflict = None } };
 
-    /// Gives the fault, with no clash.
+    /// Gives the fault, with no conflict.
     fn from(_refused: dd_elem::Memory) -> NotedFault<MergeFault, T> {
         NotedFault {
             fault: MergeFault::Memory,
-            clash: None,
+            conflict: None,
         }
     }
 }

@@ -106,7 +106,7 @@ impl<'a> Ordered for Naming<'a> {
 
 /// Finds the Patient IDs that stand with more than one Patient's Name in those of these versions that have the digest
 /// of the version that the catalogue keeps of their instance. The IDs rise by bytes, and the names of each fall by
-/// bytes. Memory where a growth was refused, which can't be where there are no versions.
+/// bytes. Memory where an allocation was refused, which can't be where there are no versions.
 pub(crate) fn patient_names(
     alloc: Global,
     catalogue: &Catalogue,

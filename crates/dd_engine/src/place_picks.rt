@@ -1,6 +1,6 @@
 //! Picks the file of a set that each image of a directory is copied from.
 
-ghost use Rattle.std.specs.Prelude.{◌≡◌, List, ℕ, IfOk, map};
+ghost use Rattle.std.specs.Prelude.{◌≡◌, ◌≢◌, List, [], ℕ, IfOk, OnErr, map};
 ghost use Rattle.dd_catalogue.specs.Contents.{kept_of};
 ghost use Rattle.dd_catalogue.specs.Harmony.{harmonised};
 ghost use Rattle.dd_dir.specs.Own.{Listed};
@@ -17,8 +17,8 @@ use dd_version::Version;
 use std::alloc::Global;
 
 /// Picks for each image of the plan, in the order of the records, the first of these places whose version has its
-/// SOP Instance UID and its digest. The places stand in the order of their versions. Memory where a growth was
-/// refused.
+/// SOP Instance UID and its digest. The places stand in the order of their versions. Memory where an allocation was
+/// refused, which can't be where there are no versions.
 pub(crate) fn place_picks<'a>(
     alloc: Global,
     plan: &Plan,
@@ -28,11 +28,15 @@ pub(crate) fn place_picks<'a>(
     requires { (images : List (ℕ × Listed)) × (uids : List (List ℕ))
         × (plan.now.versions ≡ harmonised (kept_of (versions_in images) uids))
         × ArePlaced images versions.now picks.now }
-    ensures { (images : List (ℕ × Listed)) → ArePlaced images versions.now picks.now
+    ensures all { (images : List (ℕ × Listed)) → ArePlaced images versions.now picks.now
         → IfOk result (λ picks.
         ArePicked (map (λ place. stands_at place) (places_in images)) plan.now.versions
         (records_of plan.now.label plan.now.versions) (map (λ pick. pick_view pick) picks.items)) }
+    ensures some { OnErr result (versions.now ≢ []) }
 {
+    if versions.is_empty() {
+        return Ok(Vec::new(alloc));
+    }
     let marks = marks_of(alloc, versions, picks)?;
     first_marks(alloc, plan, marks)
 }

@@ -6,8 +6,7 @@ ghost use Rattle.dd_engine.specs.Saying.{AnswersSaying, IsFiledAt, IsFirstFiled}
 use crate::gathering::gather_sets;
 use crate::merge::Pick;
 use crate::merge_fault::MergeFault;
-use dd_filing::is_filed_as;
-use dd_version::{Parts, Version};
+use dd_version::{Parts, Version, is_filed_as};
 use std::alloc::Global;
 
 /// Finds the first record that files an image as this version: with its digest, and with the keys that

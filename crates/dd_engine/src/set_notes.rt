@@ -5,7 +5,7 @@ ghost use Rattle.std.specs.Prelude.{None, IfOk, OnErr};
 ghost use Rattle.std.specs.List.{enumerate_from, zip};
 ghost use Rattle.std.specs.List.Sorted.{IsSorted};
 ghost use Rattle.dd_engine.specs.Mentions.{first_number, in_places, mention_cmp, mention_view};
-ghost use Rattle.dd_engine.specs.Merging.{SetListing};
+ghost use Rattle.dd_engine.specs.Merging.{SetListing, IsGiven};
 ghost use Rattle.dd_engine.specs.MergeSteps.{GathersOf, known_in};
 ghost use Rattle.dd_engine.specs.SetNotes.{AreSetNotes, AreWithdrawn, new_to, withdrawn_among};
 
@@ -59,15 +59,18 @@ impl Drop for SetNotes<'_> {
     }
 }
 
-/// Notes what was gathered of these sets as sets, where these UIDs are withdrawn as well.
+/// Notes what was gathered of these sets as sets, where these UIDs are withdrawn as well. Memory where an allocation
+/// was refused, which can't be where there are no sets and no UIDs.
 pub(crate) fn set_notes<'a>(
     alloc: Global,
     gathered: &Gathered<'a>,
     given: &[Uid],
 ) -> Result<SetNotes<'a>, Memory>
     requires { (listings : List SetListing) × GathersOf given.now listings gathered.now }
-    ensures { (listings : List SetListing) → GathersOf given.now listings gathered.now
+    ensures all { (listings : List SetListing) → GathersOf given.now listings gathered.now
         → IfOk result (AreSetNotes given.now listings) }
+    ensures some { (listings : List SetListing) → GathersOf given.now listings gathered.now
+        → OnErr result (IsGiven given.now listings) }
 {
     let unreached = unreached_sets(alloc, &gathered.unreached)?;
     let withdrawn = withdrawn_images(alloc, gathered)?;
@@ -79,10 +82,12 @@ pub(crate) fn set_notes<'a>(
     })
 }
 
-/// Lists the sets with records that are not reached, by the count of these in each set.
+/// Lists the sets with records that are not reached, by the count of these in each set. Memory where an allocation was
+/// refused, which can't be where there are no sets.
 fn unreached_sets(alloc: Global, counts: &[u64]) -> Result<Vec<Unreached>, Memory>
-    ensures { IfOk result (λ sets. map (λ note. (note.set, note.records)) sets.items
+    ensures all { IfOk result (λ sets. map (λ note. (note.set, note.records)) sets.items
         ≡ filter (λ set. nat_lt 0 set.1) (enumerate_from 0 counts.now)) }
+    ensures some { OnErr result (counts.now ≢ []) }
 {
     let mut sets = Vec::new(alloc);
     for (set, records) in counts.iter().enumerate() {
@@ -97,7 +102,7 @@ fn unreached_sets(alloc: Global, counts: &[u64]) -> Result<Vec<Unreached>, Memor
 }
 
 /// Lists the images whose instance a set withdraws, but those whose UID is given, each with the first set that
-/// withdraws it. Memory where a growth was refused, which can't be where nothing is withdrawn.
+/// withdraws it. Memory where an allocation was refused, which can't be where nothing is withdrawn.
 fn withdrawn_images<'a>(
     alloc: Global,
     gathered: &Gathered<'a>,
@@ -115,7 +120,7 @@ fn withdrawn_images<'a>(
 }
 
 /// Lists the files of whose instance the first of these mentions has a number, each with that number. The files are
-/// given by their versions and, in the same order, by their places. Memory where a growth was refused.
+/// given by their versions and, in the same order, by their places. Memory where an allocation was refused.
 fn numbered_images<T: Copy>(
     alloc: Global,
     mentions: &[Mention<'_>],
@@ -141,8 +146,8 @@ fn numbered_images<T: Copy>(
     Ok(images)
 }
 
-/// Lists the given UIDs that no image has and no set withdraws, in their order, each once. Memory where a growth was
-/// refused, which can't be where none is given.
+/// Lists the given UIDs that no image has and no set withdraws, in their order, each once. Memory where an allocation
+/// was refused, which can't be where none is given.
 fn unlisted_uids(alloc: Global, gathered: &Gathered<'_>, given: &[Uid]) -> Result<Vec<Uid>, Memory>
     requires { length given.now ≤ length gathered.now.withdrawn.items }
     ensures all { IfOk result (λ uids.

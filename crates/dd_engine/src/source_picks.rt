@@ -15,7 +15,7 @@ use std::alloc::Global;
 
 /// For each image of the plan, in the order of the records, the number of the first source with its SOP
 /// Instance UID and its digest. The sources are given by their versions and, in the same order, their
-/// numbers. Memory where a growth was refused: never where there are no versions.
+/// numbers. Memory where an allocation was refused: never where there are no versions.
 pub(crate) fn source_picks(
     alloc: Global,
     plan: &Plan,

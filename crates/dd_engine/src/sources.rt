@@ -79,7 +79,7 @@ impl Sources {
 /// one more. Each reader is ended before the answer.
 ///
 /// Absent and Unread name the first source that could not be opened or whose reader failed. Memory
-/// where a growth is refused.
+/// where an allocation is refused.
 pub(crate) fn read_sources<S: Supply>(
     alloc: Global,
     supply: &mut S,
@@ -148,7 +148,7 @@ fn read_one<S: Supply>(
     }
 }
 
-/// Does the fault say that the source has no version, and not that its reader failed or a growth was
+/// Does the fault say that the source has no version, and not that its reader failed or an allocation was
 /// refused?
 fn is_of_source(fault: &KeyFault) -> bool
     ensures { IsTrue result ↔ IsOfSource fault.now }

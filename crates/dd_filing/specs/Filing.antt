@@ -7,6 +7,7 @@ use Rattle.dd_stream.specs.declared.end.End.TheVariants.{Ended, Failed, TooLong}
 use Rattle.dd_part10.specs.Memory.{ScanWants}
 use Rattle.dd_keys.specs.declared.fault.KeyFault.{KeyFault}
 use Rattle.dd_version.specs.declared.parts.Parts.{Parts}
+use Rattle.dd_version.specs.Filing.{FiledAs}
 use Rattle.dd_keys.specs.Faults.{IsWantOfMemory}
 use Rattle.dd_keys.specs.Table.{wanted_tags}
 use Rattle.dd_keys.specs.Versions.{IsVersion}
@@ -16,19 +17,6 @@ use Rattle.dd_filing.specs.declared.copying.FilingFault.{FilingFault}
 use Rattle.dd_filing.specs.declared.copying.FilingFault.TheVariants.{Memory, Unread, Unsent, Changed}
 
 -- ---- the copied file beside the planned version
-
--- The found version has the planned digest. Its keys are equal that tell its IMAGE record from others (PS3.3 section
--- F.5.4), and those of the patient, study and series above it. Other keys may differ, as those of one patient may in
--- two files.
-pub record FiledAs (planned found : Parts) : Type 0 where
-  pub digest : found.digest ≡ planned.digest
-  pub instance : found.instance ≡ planned.instance
-  pub class : found.class ≡ planned.class
-  pub transfer : found.transfer ≡ planned.transfer
-  pub number : found.number ≡ planned.number
-  pub patient : found.patient.id ≡ planned.patient.id
-  pub study : found.study.uid ≡ planned.study.uid
-  pub series : found.series.uid ≡ planned.series.uid
 
 -- what a found version is: filed as planned, of another digest, or of the planned digest and filed otherwise
 abbrev pub IsVersionAs : Parts → Filed → Parts → Type 0

@@ -16,7 +16,7 @@ use thiserror::Error;
 /// Says why a copy was refused.
 #[derive(Clone, Copy, Debug, PartialEq, Eq, Error)]
 pub enum FilingFault {
-    /// A growth was refused.
+    /// An allocation was refused.
     #[error("91 Memory")]
     Memory,
     /// The reader failed.

@@ -9,5 +9,5 @@ mod agreeing;
 mod copying;
 mod tee;
 
-pub use agreeing::{Filed, is_filed_as, one_filed};
+pub use agreeing::{Filed, one_filed};
 pub use copying::{FilingFault, copy_version, file_image};

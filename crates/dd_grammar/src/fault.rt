@@ -42,7 +42,7 @@ pub enum SetFault {
     /// Items nest deeper than 32 levels.
     #[error("10 TooDeep")]
     TooDeep,
-    /// A growth was refused.
+    /// An allocation was refused.
     #[error("91 Memory")]
     Memory,
 }

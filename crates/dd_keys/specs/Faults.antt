@@ -79,7 +79,7 @@ first_fault file = fault_of (file_in file)
 
 -- ---- want of memory: where parsing the file wants it, and behind all checks
 
--- the fault says that a growth was refused: here, or while the bytes were read as a file
+-- the fault says that an allocation was refused: here, or while the bytes were read as a file
 abbrev pub SaysMemory : KeyFault → Type 0
 SaysMemory Memory = Unit {0}
 SaysMemory (File fault) = file_faults.SaysMemory fault

@@ -13,7 +13,7 @@ use thiserror::Error;
 /// want of memory.
 #[derive(Clone, Copy, Debug, PartialEq, Eq, Error)]
 pub enum KeyFault {
-    /// The bytes are no file; or a growth was refused while they were read as one.
+    /// The bytes are no file; or an allocation was refused while they were read as one.
     #[error("31 File {0}")]
     File(FileFault),
     /// The file is of this SOP class, which is no image class that is taken.
@@ -40,13 +40,13 @@ pub enum KeyFault {
     /// The file has more bytes than the limit.
     #[error("39 FileTooLong")]
     FileTooLong,
-    /// A growth was refused after all checks.
+    /// An allocation was refused after all checks.
     #[error("91 Memory")]
     Memory,
 }
 
 impl KeyFault {
-    /// Does the fault say that a growth was refused?
+    /// Does the fault say that an allocation was refused?
     pub fn is_want_of_memory(&self) -> bool
         ensures { IsTrue result ↔ SaysMemory self.now }
     {

@@ -2,16 +2,16 @@
 //! memory or from a reader.
 //!
 //! Its one promise: what is read as the version of a file is that, and a refusal names the first check
-//! that the file fails. Where a growth is refused, while the file is read or behind all checks, the
+//! that the file fails. Where an allocation is refused, while the file is read or behind all checks, the
 //! answer is want of memory instead.
 #![tactic(auto)]
 
-mod checks;
 mod digesting;
 mod fault;
+mod row_checks;
+mod row_values;
 mod rows;
 mod summary;
-mod values;
 mod versions;
 
 pub use dd_set::value_at;

@@ -9,7 +9,7 @@ ghost use Rattle.dd_set.specs.Views.{set_view};
 ghost use Rattle.dd_keys.specs.Summaries.{summary_at, summary_in, shown_summary};
 
 use dd_elem::{Key, Tag};
-use dd_scan::{Found, FoundValue};
+use dd_scan::{Found, FoundValue, find_in};
 use dd_set::{DataSet, value_at};
 
 /// The summary of the value of an element.
@@ -68,11 +68,4 @@ impl Values for Vec<Found> {
             },
         }
     }
-}
-
-/// The first of the found elements with this tag.
-fn find_in(found: &[Found], tag: Tag) -> Option<&Found>
-    ensures { option_copied result ≡ find (λ found. same_tag found.tag tag) found.now }
-{
-    found.iter().find(|found| found.tag == tag)
 }

@@ -10,12 +10,12 @@ ghost use Rattle.dd_keys.specs.Faults.{first_fault};
 ghost use Rattle.dd_keys.specs.Summaries.{AreFronts, IsJudged, summary_fault, summary_parts};
 ghost use Rattle.dd_keys.specs.Versions.{IsVersion};
 
-use crate::checks::table_fault;
 use crate::digesting::{Digested, read_digested};
 use crate::fault::KeyFault;
+use crate::row_checks::table_fault;
+use crate::row_values::parts_in;
 use crate::rows::WANTED;
 use crate::summary::Values;
-use crate::values::parts_in;
 use dd_elem::Read;
 use dd_part10::{Meta, parse_file};
 use dd_version::{Version, is_image_class};

@@ -2,7 +2,7 @@
 use Rattle.std.specs.Prelude.{◌≡◌, ℕ, List, [], ◌∷◌, map}
 use Rattle.std.proofs.Common.{refl, ◌∙◌, ap, inl, inr}
 use Rattle.dd_catalogue.specs.Agreement.{IsSameImage}
-use Rattle.dd_catalogue.specs.Clash.{clash}
+use Rattle.dd_catalogue.specs.Conflicts.{first_conflict}
 use Rattle.dd_catalogue.specs.Harmony.{agreed, harmonised}
 use Rattle.dd_catalogue.proofs.Images.{agreed_image}
 use Rattle.dd_catalogue.proofs.Members.{Member}
@@ -28,8 +28,8 @@ same_tree m = ap tree_of (same_paths (agreed m) m (λ v i. agreed_image m v i))
 
 pub refused_by_the_tree : (label : Label) (limits : Limits) (m : List Parts) (withdrawn : List (List ℕ))
     → refusal label limits m withdrawn
-    ≡ conflict_or (clash m) (crowding_or (crowded limits.per_level (tree m))
+    ≡ conflict_or (first_conflict m) (crowding_or (crowded limits.per_level (tree m))
     (oversize limits.bytes (size label (harmonised m) withdrawn)))
 refused_by_the_tree label limits m withdrawn =
-    ap (λ t. conflict_or (clash m) (crowding_or (crowded limits.per_level t)
+    ap (λ t. conflict_or (first_conflict m) (crowding_or (crowded limits.per_level t)
     (oversize limits.bytes (size label (harmonised m) withdrawn)))) (same_tree m)

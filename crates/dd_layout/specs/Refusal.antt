@@ -1,7 +1,7 @@
 -- Why a catalogue has no place in a directory (PS3.3 section F.3, PS3.10 section 8.2).
 use Rattle.std.specs.Prelude.{ℕ, ◌==◌, ◌&&◌, Bool, List, [], ◌∷◌, length, find, is_some, Option, None, Some, nat_lt}
 use Rattle.std.specs.Prelude.{if◌then◌else◌}
-use Rattle.dd_catalogue.specs.Clash.{clash}
+use Rattle.dd_catalogue.specs.Conflicts.{first_conflict}
 use Rattle.dd_catalogue.specs.Harmony.{harmonised}
 use Rattle.dd_version.specs.declared.parts.Parts.{Parts}
 use Rattle.dd_layout.specs.declared.fault.PlanFault.{PlanFault}
@@ -51,4 +51,4 @@ excess label limits versions withdrawn =
 
 -- of a catalogue of these versions and withdrawn UIDs, under this label
 abbrev pub refusal : Label → Limits → List Parts → List (List ℕ) → Option PlanFault
-refusal label limits m withdrawn = conflict_or (clash m) (excess label limits (harmonised m) withdrawn)
+refusal label limits m withdrawn = conflict_or (first_conflict m) (excess label limits (harmonised m) withdrawn)

@@ -20,7 +20,7 @@ pub enum PlanFault {
     /// The directory has more bytes than the limits allow.
     #[error("43 TooLarge")]
     TooLarge,
-    /// A growth was refused.
+    /// An allocation was refused.
     #[error("91 Memory")]
     Memory,
 }

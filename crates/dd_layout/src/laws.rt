@@ -2,7 +2,7 @@
 
 ghost use Rattle.std.specs.Prelude.{◌≡◌, ◌≢◌, ◌<◌, ◌∷◌, ◌++◌, ℕ, List, [], All, Contains, Option, IfSome};
 ghost use Rattle.dd_catalogue.specs.Best.{IsRising};
-ghost use Rattle.dd_catalogue.specs.Clash.{clash};
+ghost use Rattle.dd_catalogue.specs.Conflicts.{first_conflict};
 ghost use Rattle.dd_catalogue.specs.Harmony.{harmonised};
 ghost use Rattle.dd_version.specs.declared.parts.Parts.{Parts};
 ghost use Rattle.dd_layout.specs.declared.label.Label.{Label};
@@ -58,7 +58,7 @@ pub fn harmony_keeps_the_tree()
     ensures tree { (m : List Parts) → tree (harmonised m) ≡ tree m }
     ensures refusal { (label : Label) (limits : Limits) (m : List Parts) (withdrawn : List (List ℕ))
         → refusal label limits m withdrawn
-        ≡ conflict_or (clash m) (crowding_or (crowded limits.per_level (tree m))
+        ≡ conflict_or (first_conflict m) (crowding_or (crowded limits.per_level (tree m))
         (oversize limits.bytes (size label (harmonised m) withdrawn))) }
 {}
 

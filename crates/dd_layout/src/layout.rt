@@ -12,11 +12,11 @@ use crate::label::Label;
 use crate::limits::Limits;
 use crate::links::link;
 use crate::nodes::nodes;
-use crate::places::place;
+use crate::offsets::place;
 use crate::plan::Plan;
 use crate::ranks::number;
 use crate::record::PlanRecord;
-use crate::withdrawals::withdrawals_size;
+use crate::withdrawal_elements::withdrawals_size;
 use dd_catalogue::Catalogue;
 use dd_elem::Uid;
 use dd_version::Version;
@@ -25,7 +25,7 @@ use std::alloc::Global;
 /// Lays out the directory of these versions, in harmony, and of what is withdrawn, under this label.
 /// Refused, in this order, as Conflict where two versions conflict, with the first pair; as TooMany where
 /// one record or the root has more children than the limits allow, with the topmost level of such
-/// children; as TooLarge where the file has more bytes than they allow; and as Memory where a growth was
+/// children; as TooLarge where the file has more bytes than they allow; and as Memory where an allocation was
 /// refused, which never is where there are neither versions nor withdrawn UIDs.
 pub fn lay_out(
     alloc: Global,

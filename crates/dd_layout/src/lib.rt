@@ -3,11 +3,12 @@
 //!
 //! Its one promise: the records of a plan are those of the tree of its versions in harmony, each with the offset
 //! that its bytes have in the directory under that label; and what is refused has two versions in conflict, or
-//! passes a limit. Only where a growth is refused is the answer want of memory instead.
+//! passes a limit. Only where an allocation is refused is the answer want of memory instead.
 #![tactic(auto)]
 
 mod cell;
 mod directories;
+mod directory_meta;
 mod fault;
 mod field;
 mod front;
@@ -17,20 +18,20 @@ mod layout;
 mod level;
 mod limits;
 mod links;
-mod meta;
 mod nodes;
+mod offsets;
 mod order;
-mod places;
 mod plan;
 mod ranks;
 mod record;
-mod sizes;
+mod record_sizes;
 pub mod table;
 mod under;
-mod withdrawals;
+mod withdrawal_elements;
 
 pub use cell::{Cell, CellValue};
 pub use directories::{directory_is_a_data_set, directory_is_as_long_as_its_records};
+pub use directory_meta::{DIRECTORY_CLASS, DIRECTORY_SYNTAX, directory_meta};
 pub use fault::PlanFault;
 pub use field::{FLAG_IN_USE, Field, PRIVATE_CREATOR};
 pub use front::{FIRST_ROOT, LAST_ROOT, RECORDS, SET_ID, first_offset, front_cells};
@@ -42,9 +43,8 @@ pub use laws::{
 pub use layout::lay_out;
 pub use level::Level;
 pub use limits::Limits;
-pub use meta::{DIRECTORY_CLASS, DIRECTORY_SYNTAX, directory_meta};
 pub use plan::Plan;
 pub use record::PlanRecord;
-pub use sizes::record_size;
+pub use record_sizes::record_size;
 pub use table::{Row, rows};
-pub use withdrawals::{WITHDRAWN, creator_cell, withdrawals_size, withdrawn_length};
+pub use withdrawal_elements::{WITHDRAWN, creator_cell, withdrawals_size, withdrawn_length};

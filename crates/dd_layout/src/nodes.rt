@@ -19,7 +19,7 @@ use std::alloc::Global;
 const LEVELS: [Level; 4] = [Level::Patient, Level::Study, Level::Series, Level::Image];
 
 /// The records of these versions in the order of their bytes, each with its level and the least version
-/// below it. Memory where a growth was refused: never where there are no versions.
+/// below it. Memory where an allocation was refused: never where there are no versions.
 pub(crate) fn nodes(alloc: Global, versions: &[Version]) -> Result<Vec<PlanRecord>, Memory>
     ensures records { IfOk result (λ records. records.items
         ≡ map (bare_at versions.now) (tree versions.now)) }

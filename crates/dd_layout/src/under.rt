@@ -18,7 +18,7 @@ use dd_version::Version;
 impl Plan {
     /// Gives the plan of the same catalogue under another label, within these limits. It is the plan that
     /// `lay_out` gives for that catalogue, and the fault is the one that it gives. But nothing is sorted or
-    /// harmonised again, and no growth is wanted, so the fault is never Conflict or Memory.
+    /// harmonised again, and no allocation is wanted, so the fault is never Conflict or Memory.
     pub fn under(self, label: &Label, limits: Limits) -> Result<Plan, PlanFault>
         ensures planned { IfOk result (λ plan. plan ≡ record self { label = label.now }) }
         ensures allowed { IsOk result → excess label.now limits self.versions self.withdrawn

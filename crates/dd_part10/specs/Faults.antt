@@ -4,7 +4,7 @@ use Rattle.dd_grammar.specs.Faults as sets
 use Rattle.dd_part10.specs.declared.fault.FileFault.{FileFault}
 use Rattle.dd_part10.specs.declared.fault.FileFault.TheVariants.{Meta, Set}
 
--- a growth was refused
+-- an allocation was refused
 abbrev pub is_memory : FileFault → Bool
 is_memory (Meta fault) = sets.is_memory fault
 is_memory (Set fault) = sets.is_memory fault

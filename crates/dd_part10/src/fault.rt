@@ -30,16 +30,16 @@ pub enum FileFault {
     #[error("25 OtherSyntax {0}")]
     OtherSyntax(Uid),
     /// The bytes that the group length counts are no data set. This comes before every check of what
-    /// they hold, and is `Memory` where a growth was refused.
+    /// they hold, and is `Memory` where an allocation was refused.
     #[error("26 Meta {0}")]
     Meta(SetFault),
-    /// The bytes behind group 0002 are no data set, or a growth was refused while they were read.
+    /// The bytes behind group 0002 are no data set, or an allocation was refused while they were read.
     #[error("27 Set {0}")]
     Set(SetFault),
 }
 
 impl FileFault {
-    /// Does the fault say that a growth was refused?
+    /// Does the fault say that an allocation was refused?
     pub fn is_want_of_memory(&self) -> bool
         ensures { IsTrue result ↔ SaysMemory self.now }
     {

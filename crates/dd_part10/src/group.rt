@@ -69,7 +69,7 @@ pub fn split_group(bytes: &[u8]) -> Result<(&[u8], &[u8]), FileFault>
 }
 
 /// The meta information in the bytes that the group length counts. Meta where they are no data set or a
-/// growth was refused, then GroupLength where an element is not of group 0002 or is a group length, then
+/// allocation was refused, then GroupLength where an element is not of group 0002 or is a group length, then
 /// MetaMissing or MetaUid for the first of the three UIDs that is absent or no UID.
 #[tactic(auto, unfolding(crate::specs::Reading::meta_in))]
 pub fn read_meta(alloc: Global, bytes: &[u8]) -> Result<Meta, FileFault>

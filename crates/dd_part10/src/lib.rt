@@ -2,7 +2,7 @@
 //! transfer syntaxes, eight of which have encapsulated pixel data.
 //!
 //! Its one promise: what is read as a file is one, what is one is read, and a refusal names the first
-//! check that the bytes fail. Only where a growth is refused, while group 0002 or the data set is read
+//! check that the bytes fail. Only where an allocation is refused, while group 0002 or the data set is read
 //! and all before it is right, is the answer want of memory instead. `read_file` makes the same checks on
 //! the bytes of a reader, and holds nothing of the data set but what was asked for; of it, it wants memory
 //! only where an element that was asked for is there. A head that is written is the head of a file with its
@@ -10,6 +10,7 @@
 #![tactic(auto)]
 
 mod fault;
+mod feed_file;
 mod file;
 mod group;
 mod head;
@@ -17,15 +18,14 @@ mod reading;
 mod scanned;
 mod stream_fault;
 mod streaming;
-mod taking;
 
 pub use dd_encoding::{Meta, head_size, write_head};
 pub use dd_version::TRANSFER;
 pub use fault::FileFault;
+pub use feed_file::take_file;
 pub use file::DicomFile;
 pub use head::head_makes_file;
 pub use reading::parse_file;
 pub use scanned::Scanned;
 pub use stream_fault::StreamFault;
 pub use streaming::read_file;
-pub use taking::take_file;

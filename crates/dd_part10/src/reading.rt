@@ -27,7 +27,7 @@ use std::alloc::Global;
 /// The DICOM file that the bytes are (PS3.10 section 7): 128 bytes of any preamble, `DICM`, the group
 /// length (0002,0000) with at most 65,536, group 0002 in Explicit VR with the UIDs of `Meta`, and a
 /// data set above group 0002 in the transfer syntax that they name. Otherwise the first check that the
-/// bytes fail, which `FileFault` names; or, where a growth was refused, `Meta` or `Set` with
+/// bytes fail, which `FileFault` names; or, where an allocation was refused, `Meta` or `Set` with
 /// `SetFault::Memory`, behind all checks that come before that one.
 pub fn parse_file<'a>(alloc: Global, bytes: &'a [u8]) -> Result<DicomFile<'a>, FileFault>
     // What is answered is a file.
@@ -81,7 +81,7 @@ pub fn behind_prefix(bytes: &[u8]) -> Result<&[u8], FileFault>
     }
 }
 
-/// The data set that follows group 0002. Set where the bytes spell no set or a growth was refused, and
+/// The data set that follows group 0002. Set where the bytes spell no set or an allocation was refused, and
 /// GroupLength where it begins with group 0002 or a lower one.
 #[tactic(auto, unfolding(crate::specs::Reading::set_in))]
 fn read_set<'a>(alloc: Global, syntax: Syntax, bytes: &'a [u8]) -> Result<DataSet<'a>, FileFault>

@@ -12,7 +12,7 @@ pub enum StreamFault {
     /// The reader gave more bytes than the limit.
     #[error("15 TooLong")]
     TooLong,
-    /// The bytes are no file, or a growth was refused.
+    /// The bytes are no file, or an allocation was refused.
     #[error("{0}")]
     File(FileFault),
 }

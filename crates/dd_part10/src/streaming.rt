@@ -4,9 +4,9 @@ ghost use Rattle.std.specs.Prelude.{◌≡◌, ◌<◌, ◌^◌, [], None};
 ghost use Rattle.dd_part10.specs.Streaming.{IsFileAnswer};
 ghost use Rattle.dd_stream.specs.Reads.{ReadsUpTo};
 
+use crate::feed_file::take_file;
 use crate::scanned::Scanned;
 use crate::stream_fault::StreamFault;
-use crate::taking::take_file;
 use dd_elem::{Read, Tag};
 use dd_stream::{End, Stream, finish};
 use std::alloc::Global;

@@ -1,4 +1,5 @@
 mod Agreeing
+pub mod FirstPlaces
 mod FoundValues
 mod GoingOn
 mod HexDigits

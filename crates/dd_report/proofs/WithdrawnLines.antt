@@ -14,28 +14,16 @@ use Rattle.std.proofs.lemmas.Option.{same_Some}
 use Rattle.dd_dir.specs.Withdrawn.{pieces_in, pieces_of}
 use Rattle.dd_report.specs.Listing.{withdrawn_line, withdrawn_lines}
 use Rattle.dd_report.specs.Telling.{Fails, GoesOn, Tells, Way}
+use Rattle.dd_report.proofs.FirstPlaces.{first_within, none_within}
 use Rattle.dd_report.proofs.GoingOn.{fails_behind, fails_front, goes_none, goes_then, tells_err}
 
 -- ---- the first piece
-
--- where the first separator stands
-abbrev at_first : List ℕ → ℕ
-at_first value = position_or_len (λ byte. byte == 92) value
-
-found_is : (value : List ℕ) (at : ℕ) → Some at ≡ position (λ byte. byte == 92) value
-    → (at_first value < length value) × (at_first value ≡ at)
-found_is value at is = go (nat_lt (at_first value) (length value)) refl is
-  where
-    go : (t : Bool) → nat_lt (at_first value) (length value) ≡ t → Some at ≡ cond t (Some (at_first value)) None
-        → (at_first value < length value) × (at_first value ≡ at)
-    go true t is = (search (arith, nat_tests, t), same_Some (at_first value) at (sym is))
-    go false t is = absurd (cc)
 
 -- there is a separator, and behind it the other pieces
 pub some_behind : (value : List ℕ) (at : ℕ) → Some at ≡ position (λ byte. byte == 92) value
     → pieces_of value ≡ take at value ∷ pieces_of (take (length value - (at + 1)) (drop (at + 1) value))
 some_behind value at is =
-    let found = found_is value at is in
+    let found = first_within (λ byte. byte == 92) value at is in
     let rest = take_all (length value - (at + 1)) (drop (at + 1) value) (omega (arith, length-drop (at + 1) value)) in
     slice_split_first (λ byte. byte == 92) value 0 found.0
     ∙ ap (λ (n : ℕ). take n value ∷ pieces_of (drop (n + 1) value)) found.1
@@ -43,15 +31,10 @@ some_behind value at is =
 
 -- where the value has no separator, it is one piece
 pub none_behind : (value : List ℕ) → None ≡ position (λ byte. byte == 92) value → pieces_of value ≡ value ∷ []
-none_behind value is = go (nat_lt (at_first value) (length value)) refl is
-  where
-    go : (t : Bool) → nat_lt (at_first value) (length value) ≡ t → None ≡ cond t (Some (at_first value)) None
-        → pieces_of value ≡ value ∷ []
-    go true t is = absurd (cc)
-    go false t is =
-        let past : length value ≤ at_first value = search (arith, nat_tests, t) in
-        slice_split_none (λ byte. byte == 92) value
-        (λ k d within. fails_before_first (λ byte. byte == 92) value k d (omega (arith, within, past)))
+none_behind value is =
+    let past = none_within (λ byte. byte == 92) value is in
+    slice_split_none (λ byte. byte == 92) value
+    (λ k d within. fails_before_first (λ byte. byte == 92) value k d (omega (arith, within, past)))
 
 -- ---- the pieces so far
 

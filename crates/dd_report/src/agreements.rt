@@ -25,7 +25,7 @@ use dd_elem::{Key, Memory, Read, Tag, Uid, tags};
 use dd_keys::{Digested, read_digested};
 use dd_layout::table::{CLASS, INSTANCE, TRANSFER};
 use dd_part10::{self, FileFault, Scanned, StreamFault};
-use dd_scan::{Found, FoundValue};
+use dd_scan::{Found, FoundValue, find_in};
 use std::alloc::Global;
 
 /// The tags of a file's data set that are compared, rising.
@@ -160,13 +160,6 @@ impl<'a> Shown<'a> {
     }
 }
 
-/// Finds the first of these elements with this tag.
-fn find_in(found: &[Found], tag: Tag) -> Option<&Found>
-    ensures { option_copied result ≡ find (λ found. same_tag found.tag tag) found.now }
-{
-    found.iter().find(|found| found.tag == tag)
-}
-
 /// A tag of a file, and whether the value there agrees with what the records say.
 type Agreement = (Tag, bool);
 
@@ -242,7 +235,7 @@ fn first_wrong(all: &[Agreement]) -> Option<Finding>
         .map(|(tag, _)| Finding::Mislabelled(*tag))
 }
 
-/// Judges an IMAGE record whose file is no DICOM file, by the fault of reading it. Memory where a growth was
+/// Judges an IMAGE record whose file is no DICOM file, by the fault of reading it. Memory where an allocation was
 /// refused.
 fn finding_of_fault(tree: &Tree<'_>, fault: FileFault) -> Result<Option<Finding>, Memory>
     ensures found { IfOk result (λ finding. (above : List Node)
@@ -261,7 +254,7 @@ fn finding_of_fault(tree: &Tree<'_>, fault: FileFault) -> Result<Option<Finding>
 /// Judges an IMAGE record and its file, by reading the file once. `inherited` is what the record and those
 /// above it say.
 ///
-/// Memory where a growth is refused while the file is read. It is read to its end nonetheless, and its digest
+/// Memory where an allocation is refused while the file is read. It is read to its end nonetheless, and its digest
 /// does not differ.
 pub(crate) fn finding_by_keys<R: Read>(
     alloc: Global,

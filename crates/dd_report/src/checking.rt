@@ -28,7 +28,7 @@ use std::fmt;
 /// Says why a check ended early.
 #[derive(Clone, Copy, Debug, PartialEq, Eq)]
 pub enum CheckFault {
-    /// A growth was refused.
+    /// An allocation was refused.
     Memory,
     /// The output failed.
     Unsent,
@@ -58,7 +58,7 @@ pub struct Check<'a> {
 
 /// Checks the files in the folder that the records of a directory name. Prints what is
 /// found, depth first and once for each record. Meanwhile `files` shows how many records are checked.
-/// Answers whether anything is found. Memory where a growth is refused; Unsent where the output fails. The
+/// Answers whether anything is found. Memory where an allocation is refused; Unsent where the output fails. The
 /// findings of the records before that are sent.
 pub fn check_records<F: Files, W: Write>(
     check: Check<'_>,
@@ -256,7 +256,7 @@ fn check_record<F: Files, W: Write>(
 }
 
 /// Judges the file that the record names in the folder. It is opened only where its name is a File ID, and
-/// read once. Memory where a growth is refused. `inherited` is what the record and those above
+/// read once. Memory where an allocation is refused. `inherited` is what the record and those above
 /// say.
 fn finding_in<F: Files>(
     check: Check<'_>,

@@ -5,7 +5,7 @@ use Rattle.dd_grammar.specs.declared.fault.SetFault.{SetFault}
 use Rattle.dd_grammar.specs.declared.fault.SetFault.TheVariants.{Memory}
 use Rattle.dd_grammar.specs.AnswersAs.{FailsAs}
 use Rattle.dd_grammar.specs.Faults.{is_memory}
-use Rattle.dd_scan.specs.declared.taking.HeaderStart.{HeaderStart}
+use Rattle.dd_scan.specs.declared.feed_headers.HeaderStart.{HeaderStart}
 use Rattle.dd_grammar.specs.Reading.{Reads}
 
 -- a value, seen by `view`, is the one that reading gives

@@ -8,8 +8,8 @@ ghost use Rattle.dd_grammar.specs.Reading.{take_at};
 ghost use Rattle.dd_scan.specs.Scan.{found_summary, summary_of};
 ghost use Rattle.dd_scan.specs.Skips.{GivesSummary};
 
+use crate::feed_headers::take;
 use crate::found::FoundValue;
-use crate::taking::take;
 use dd_elem::{Key, clean};
 use dd_grammar::{SetFault, leaves_fewer, less};
 use dd_stream::{Feed, fill};

@@ -1,5 +1,9 @@
 //! What a scan finds.
 
+ghost use Rattle.std.specs.Prelude.{◌≡◌, find};
+ghost use Rattle.std.specs.Option.{option_copied};
+ghost use Rattle.dd_grammar.specs.Lists.{same_tag};
+
 use dd_elem::Tag;
 
 /// What was found in a data set.
@@ -44,4 +48,11 @@ pub enum FoundValue {
         /// How many they are.
         length: u64,
     },
+}
+
+/// Finds the first of these elements with this tag.
+pub fn find_in(found: &[Found], tag: Tag) -> Option<&Found>
+    ensures { option_copied result ≡ find (λ found. same_tag found.tag tag) found.now }
+{
+    found.iter().find(|found| found.tag == tag)
 }

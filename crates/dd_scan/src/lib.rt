@@ -7,14 +7,14 @@
 #![tactic(auto)]
 
 mod cleaning;
+mod feed_headers;
 mod found;
 mod scan_fault;
 mod scanning;
 mod skipping;
-mod taking;
 mod top_set;
 
-pub use found::{Found, FoundValue, Scan};
+pub use found::{Found, FoundValue, Scan, find_in};
 pub use scan_fault::ScanFault;
 pub use scanning::scan;
 pub use top_set::take_set;

@@ -12,7 +12,7 @@ pub enum ScanFault {
     /// The reader gave more bytes than the limit.
     #[error("15 TooLong")]
     TooLong,
-    /// The bytes are no data set, or a growth was refused.
+    /// The bytes are no data set, or an allocation was refused.
     #[error("{0}")]
     Set(SetFault),
 }

@@ -9,7 +9,7 @@ ghost use Rattle.dd_grammar.specs.Reading.{item_reader, sequence_with, set_with,
 ghost use Rattle.dd_grammar.specs.Reading.{fragments_here};
 ghost use Rattle.dd_scan.specs.Skips.{Skips, SkipsSome};
 
-use crate::taking::{front, item_front, pass};
+use crate::feed_headers::{front, item_front, pass};
 use dd_encoding::{Length, Syntax};
 use dd_grammar::{
     Header, Reach, SetFault, Sort, fragment_length, less, low_behind, reach_of, sort_of,

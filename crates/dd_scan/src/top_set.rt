@@ -11,9 +11,9 @@ ghost use Rattle.dd_scan.specs.Scan.{summary_of_sort};
 ghost use Rattle.dd_scan.specs.Skips.{GivesSummary};
 
 use crate::cleaning::take_cleaned;
+use crate::feed_headers::front;
 use crate::found::{Found, FoundValue, Scan};
 use crate::skipping::skip_content;
-use crate::taking::front;
 use dd_elem::Tag;
 use dd_encoding::{Length, Syntax};
 use dd_grammar::{Header, MAX_LEVELS, SetFault, Sort, low_behind, sort_of};

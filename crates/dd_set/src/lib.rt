@@ -4,18 +4,18 @@
 //!
 //! Its one promise: what is read is the one set that the bytes spell, what is refused spells none and
 //! is refused by the first check that it fails, and what is written is the spelling. Only where a
-//! growth is refused, behind the first item or element, is the answer want of memory instead. The checks
+//! allocation is refused, behind the first item or element, is the answer want of memory instead. The checks
 //! are those of `dd_grammar`, which `dd_scan` makes on the bytes of a reader.
 #![tactic(auto)]
 
 mod cursor;
 mod finding;
 mod fragments;
+pub mod laws;
 mod parsing;
-mod sending;
 mod set;
+mod set_headers;
 mod sizes;
-pub mod spelling;
 mod starts;
 mod writing;
 mod written_headers;

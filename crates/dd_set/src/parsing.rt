@@ -223,7 +223,7 @@ fn whole<'a>(alloc: Global, syntax: Syntax, bytes: &'a [u8]) -> Result<DataSet<'
 }
 
 /// The data set that the bytes spell, all of them, in this syntax (PS3.5 section 7). Its values are
-/// slices of the bytes. Refused by the first check that the bytes fail, or by Memory where a growth
+/// slices of the bytes. Refused by the first check that the bytes fail, or by Memory where an allocation
 /// was refused, behind the first item or element that was read whole.
 pub fn parse<'a>(alloc: Global, syntax: Syntax, bytes: &'a [u8]) -> Result<DataSet<'a>, SetFault>
     // What is answered is spelled so, each byte of it.

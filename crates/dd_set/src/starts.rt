@@ -21,7 +21,7 @@ impl DataSet<'_> {
 
     /// The places of the Item tags of the items of the element with this tag, in bytes from the
     /// first byte that spells the set (PS3.5 section 7.5). None where nothing spells the set, where
-    /// no element has the tag and where its value is no sequence. Memory where a growth is refused,
+    /// no element has the tag and where its value is no sequence. Memory where an allocation is refused,
     /// and so only where there is an item.
     pub fn item_starts(
         &self,

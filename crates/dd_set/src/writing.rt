@@ -10,8 +10,8 @@ ghost use Rattle.dd_encoding.specs.Spelling.{length_of, length_limit, AreElement
 ghost use Rattle.dd_encoding.specs.Spelling.{AreFragments, fragment_text, fragments_text, undefined_length};
 ghost use Rattle.dd_set.specs.Views.{set_view, element_view, value_view, items_view, item_view, pieces};
 
-use crate::sending::send_front;
 use crate::set::{DataSet, Element, Item, Value};
+use crate::set_headers::send_front;
 use crate::sizes::{items_size, set_size};
 use dd_elem::{Tag, Vr, Write};
 use dd_encoding::{ITEM_END, Length, SEQUENCE_END, Syntax, item_header, plain_header};

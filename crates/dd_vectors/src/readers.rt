@@ -1,8 +1,9 @@
 //! Readers and tags as a question names them.
 
+use crate::byte_source::ByteSource;
 use crate::cases::failing;
 use crate::texts::tag_of;
-use dd_elem::{ByteSource, Tag};
+use dd_elem::Tag;
 use std::alloc::Global;
 use std::test::Fail;
 

@@ -126,6 +126,19 @@ fn changed<'a>(row: &'a str, changes: &'a str) -> Result<(&'a str, &'a str), Fai
     Ok((tag, usual))
 }
 
+/// Gives the value representation and the value of the element with this tag in V1 with these changes.
+pub(crate) fn element<'a>(tag: &str, changes: &'a str) -> Result<&'a str, Fail> {
+    for rows in SOURCE_ROWS {
+        for row in rows.split('\n') {
+            let (_place, row) = row.split_once(' ').ok_or("a row without words")?;
+            if row.starts_with(tag) {
+                return Ok(changed(row, changes)?.1);
+            }
+        }
+    }
+    Err("V1 has no element with this tag".into())
+}
+
 /// Puts an element with this tag, value representation and value behind the bytes.
 fn push_element(
     alloc: Global,

@@ -6,12 +6,14 @@
 #![tactic(auto)]
 
 mod classes;
+mod filing;
 mod keys;
 mod parts;
 mod syntaxes;
 mod version;
 
 pub use classes::is_image_class;
+pub use filing::is_filed_as;
 pub use keys::{PatientKeys, SeriesKeys, StudyKeys};
 pub use parts::Parts;
 pub use syntaxes::{EXPLICIT, IMPLICIT, TRANSFER, is_encapsulated, is_known_syntax};

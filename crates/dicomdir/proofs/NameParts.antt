@@ -9,6 +9,7 @@ use Rattle.std.proofs.lemmas.List.{take_all, get_or-take, get_or_at, get_or_appe
 use Rattle.std.proofs.lemmas.List.Elements.{All-cons, All-contains, All-head, All-nil, All-push, All-tail, All-weaker}
 use Rattle.std.proofs.lemmas.List.Sums.{fails_before_first, passes_at_first, split_at_first}
 use Rattle.std.proofs.lemmas.Option.{same_Some}
+use Rattle.dd_report.proofs.FirstPlaces.{first_within, none_within}
 use Rattle.dicomdir.specs.ListedNames.{AreNames, FailsAt, IsListOf, IsName, parts}
 
 -- ---- the first part
@@ -46,20 +47,11 @@ no_zero_before list n before within = λ k d below.
     subst (λ (byte : ℕ). (byte == 0) ≡ false) (sym (get_or-take n list k d inside))
     (fails_before_first (λ byte. byte == 0) list k d (omega (arith, inside, before)))
 
-found_is : (list : List ℕ) (at : ℕ) → Some at ≡ position (λ byte. byte == 0) list
-    → (at_first list < length list) × (at_first list ≡ at)
-found_is list at is = go (nat_lt (at_first list) (length list)) refl is
-  where
-    go : (t : Bool) → nat_lt (at_first list) (length list) ≡ t → Some at ≡ cond t (Some (at_first list)) None
-        → (at_first list < length list) × (at_first list ≡ at)
-    go true t is = (search (arith, nat_tests, t), same_Some (at_first list) at (sym is))
-    go false t is = absurd (cc)
-
 -- there is a zero byte, and behind it the other parts
 pub some_behind : (list : List ℕ) (at : ℕ) → Some at ≡ position (λ byte. byte == 0) list
     → parts list ≡ take at list ∷ parts (take (length list - (at + 1)) (drop (at + 1) list))
 some_behind list at is =
-    let found = found_is list at is in
+    let found = first_within (λ byte. byte == 0) list at is in
     let rest = take_all (length list - (at + 1)) (drop (at + 1) list) (omega (arith, length-drop (at + 1) list)) in
     ap parts (split_at_first (λ byte. byte == 0) list 0 found.0)
     ∙ part_then (take (at_first list) list) _ (drop (at_first list + 1) list)
@@ -71,15 +63,10 @@ some_behind list at is =
 -- a list with no zero byte is one part
 pub none_behind : (list : List ℕ) → None ≡ position (λ byte. byte == 0) list → list ≢ [] → parts list ≡ list ∷ []
 none_behind [] is some = absurd (some refl)
-none_behind (byte ∷ list) is some = go (nat_lt (at_first (byte ∷ list)) (length (byte ∷ list))) refl is
-  where
-    go : (t : Bool) → nat_lt (at_first (byte ∷ list)) (length (byte ∷ list)) ≡ t
-        → None ≡ cond t (Some (at_first (byte ∷ list))) None → parts (byte ∷ list) ≡ (byte ∷ list) ∷ []
-    go true t is = absurd (cc)
-    go false t is =
-        let past : length (byte ∷ list) ≤ at_first (byte ∷ list) = search (arith, nat_tests, t) in
-        one_part byte list
-        (λ k d within. fails_before_first (λ byte. byte == 0) (byte ∷ list) k d (omega (arith, within, past)))
+none_behind (byte ∷ list) is some =
+    let past = none_within (λ byte. byte == 0) (byte ∷ list) is in
+    one_part byte list
+    (λ k d within. fails_before_first (λ byte. byte == 0) (byte ∷ list) k d (omega (arith, within, past)))
 
 -- ---- the names so far
 

@@ -14,7 +14,7 @@ use crate::file_set::write_file_set;
 use crate::file_supply::FileSupply;
 use crate::making::{Ending, Making, tell_counts, tell_plan_of_images};
 use crate::notes::{
-    has_notes, refuse_noted, tell_clash, tell_names, tell_skipped, tell_sources_left_out,
+    has_notes, refuse_noted, tell_conflict, tell_names, tell_skipped, tell_sources_left_out,
 };
 use crate::origins::SourceFiles;
 use crate::refusal::{ProgramFault, Refusal, Subject};
@@ -130,7 +130,7 @@ fn index_files<F: Files>(
     ensures answers { NotesSupply choice.now limits most_of_source
         (contents_by (F.held files.old) (words_of sources.now)) (length sources.now) result }
     ensures named { IfErr result (λ noted. IsNamed (length sources.now) noted.fault) }
-    ensures clash { IfErr result (λ noted. IsBelow (λ at. at) (length sources.now) noted.clash) }
+    ensures conflict { IfErr result (λ noted. IsBelow (λ at. at) (length sources.now) noted.conflict) }
     ensures within { IfOk result (λ noted. IsWithin (length sources.now) noted.indexed) }
     ensures below { IfOk result (λ noted.
         AreBelow (λ at. at) (length sources.now) noted.notes.left_out.items) }
@@ -151,21 +151,21 @@ fn counts_of(alloc: Global, sources: usize) -> Result<Vec<SourceCounts>, Memory>
     Ok(counts)
 }
 
-/// Prints which sources have the two instances that clash, if the plan is refused for two, and gives the refusal.
+/// Prints which sources have the two instances that conflict, if the plan is refused for two, and gives the refusal.
 fn refused<O: Write>(
     sources: &[String],
     noted: &NotedFault<EngineFault, usize>,
     out: &mut O,
 ) -> Refusal
     requires named { IsNamed (length sources.now) noted.now.fault }
-    requires clash { IsBelow (λ at. at) (length sources.now) noted.now.clash }
+    requires conflict { IsBelow (λ at. at) (length sources.now) noted.now.conflict }
     ensures { IsOfWork (length sources.now) result }
 {
     if let EngineFault::Plan(PlanFault::Conflict(one, other)) = &noted.fault {
-        if let Some(clash) = &noted.clash {
-            let file = ShownPath::of_source(sources, clash.one);
-            let other_file = ShownPath::of_source(sources, clash.other);
-            tell_clash((file, one), (other_file, other), out);
+        if let Some(conflict) = &noted.conflict {
+            let file = ShownPath::of_source(sources, conflict.one);
+            let other_file = ShownPath::of_source(sources, conflict.other);
+            tell_conflict((file, one), (other_file, other), out);
         }
     }
     refusal_of(noted.fault)

@@ -29,15 +29,15 @@ mod source_counts;
 mod sources;
 
 pub use dd_engine::{
-    Choice, Clash, EngineFault, Indexed, LeftOut, MergeFault, Merged, NotedFault, NotedIndex,
-    NotedMerge, Notes, PatientNames, Pick, SetNotes, Supply, Unreached, WithdrawnImage,
+    Choice, ConflictingFiles, EngineFault, Indexed, LeftOut, MergeFault, Merged, NotedFault,
+    NotedIndex, NotedMerge, Notes, PatientNames, Pick, SetNotes, Supply, Unreached, WithdrawnImage,
     first_saying, index_engine, index_with_notes, merge_engine, merge_with_notes, withdraw_engine,
     withdraw_with_notes,
 };
 pub use dd_files::{
     CopyFault, DIRECTORY, Files, LinkFault, NotDone, NotThere, Step, copy_image, digest_text,
 };
-pub use dd_filing::{Filed, FilingFault, copy_version, file_image, is_filed_as};
+pub use dd_filing::{Filed, FilingFault, copy_version, file_image};
 pub use dd_line::{Asked, LineFault, Verb, read_words};
 pub use dd_mem_files::{MemFiles, MemReader};
 pub use dd_report::{Comparison, Finding, finding_of, print_line, send_text};

@@ -14,7 +14,7 @@ ghost use Rattle.dicomdir.specs.Refusal.{IsOfWork, IsStrict};
 use crate::file_set::write_file_set;
 use crate::making::{Ending, Making, tell_counts};
 use crate::names::Names;
-use crate::notes::{has_notes, refuse_noted, tell_clash, tell_names, tell_picks_left_out};
+use crate::notes::{has_notes, refuse_noted, tell_conflict, tell_names, tell_picks_left_out};
 use crate::origins::SetFiles;
 use crate::refusal::{ProgramFault, Refusal, Subject};
 use crate::set_directory::read_directories;
@@ -244,21 +244,21 @@ pub(crate) fn slices<'a>(alloc: Global, all: &'a [Vec<u8>]) -> Result<Vec<&'a [u
     Ok(slices)
 }
 
-/// Prints which files have the two instances that clash, if the plan is refused for two, and gives the refusal.
+/// Prints which files have the two instances that conflict, if the plan is refused for two, and gives the refusal.
 fn refused<O: Write>(
     folders: &[String],
     noted: &NotedFault<MergeFault, Pick<'_>>,
     out: &mut O,
 ) -> Refusal
     requires named { IsNamedSet (length folders.now) noted.now.fault }
-    requires clash { IsBelow (λ pick. pick.set) (length folders.now) noted.now.clash }
+    requires conflict { IsBelow (λ pick. pick.set) (length folders.now) noted.now.conflict }
     ensures { IsOfWork (length folders.now) result }
 {
     if let MergeFault::Plan(PlanFault::Conflict(one, other)) = &noted.fault {
-        if let Some(clash) = &noted.clash {
-            let file = ShownPath::of_pick(folders, &clash.one);
-            let other_file = ShownPath::of_pick(folders, &clash.other);
-            tell_clash((file, one), (other_file, other), out);
+        if let Some(conflict) = &noted.conflict {
+            let file = ShownPath::of_pick(folders, &conflict.one);
+            let other_file = ShownPath::of_pick(folders, &conflict.other);
+            tell_conflict((file, one), (other_file, other), out);
         }
     }
     refusal_of(noted.fault)

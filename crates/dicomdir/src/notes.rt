@@ -210,8 +210,8 @@ fn mark_behind(names: &[Key]) -> &[u8] {
     if names.len() > 10 { b", .." } else { b"" }
 }
 
-/// Prints which files have the two instances that clash. Where the output fails, nothing more is printed.
-pub(crate) fn tell_clash<O: Write>(
+/// Prints which files have the two instances that conflict. Where the output fails, nothing more is printed.
+pub(crate) fn tell_conflict<O: Write>(
     (one, uid): (ShownPath<'_>, &Uid),
     (other, other_uid): (ShownPath<'_>, &Uid),
     out: &mut O,

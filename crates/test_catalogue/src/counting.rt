@@ -2,8 +2,7 @@
 
 use dd_catalogue::Catalogue;
 use dd_elem::Uid;
-use dd_samples::{fitting, image, parts_of, taken};
-use dd_vectors::ask_all;
+use dd_vectors::{ask_all, fitting, image, parts_of, taken};
 use dd_version::Version;
 use std::alloc::Global;
 use std::test::Fail;

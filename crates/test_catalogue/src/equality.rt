@@ -1,7 +1,6 @@
 //! Which versions and which catalogues are equal, and which catalogues are empty.
 
-use dd_samples::{image, taken};
-use dd_vectors::ask_all;
+use dd_vectors::{ask_all, image, taken};
 use std::alloc::Global;
 use std::test::Fail;
 

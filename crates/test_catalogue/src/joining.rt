@@ -4,8 +4,7 @@ use dd_catalogue::{
     Catalogue, History, best_is_best, best_is_one, best_of_bests, build, build_order_is_free,
     equal_is_same, gather, gather_order_is_free, join_is_lawful, join_order_is_free,
 };
-use dd_samples::{images, taken};
-use dd_vectors::{ask_all, claim_all, text_of};
+use dd_vectors::{ask_all, claim_all, images, taken, text_of};
 use dd_version::Version;
 use std::alloc::Global;
 use std::test::Fail;

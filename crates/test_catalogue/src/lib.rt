@@ -2,11 +2,11 @@
 #![tactic(auto)]
 
 #[cfg(test)]
+mod allocations;
+#[cfg(test)]
 mod counting;
 #[cfg(test)]
 mod equality;
-#[cfg(test)]
-mod growths;
 #[cfg(test)]
 mod joining;
 #[cfg(test)]

@@ -1,8 +1,7 @@
 //! Conflicts between the versions of a catalogue, and the keys on which they agree in harmony.
 
 use dd_catalogue::Catalogue;
-use dd_samples::taken;
-use dd_vectors::{ask_all, text_of};
+use dd_vectors::{ask_all, taken, text_of};
 use dd_version::Parts;
 use std::alloc::Global;
 use std::test::Fail;

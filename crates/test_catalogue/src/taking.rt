@@ -2,8 +2,7 @@
 
 use dd_catalogue::{Catalogue, Refused, Took};
 use dd_elem::Uid;
-use dd_samples::{image, in_words, taken};
-use dd_vectors::ask_all;
+use dd_vectors::{ask_all, image, in_words, taken};
 use dd_version::Version;
 use std::alloc::Global;
 use std::test::Fail;

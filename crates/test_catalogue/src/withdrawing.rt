@@ -5,8 +5,7 @@ use dd_catalogue::{
     kept_of_all, kept_of_kept, kept_order_is_free, withdrawn_decides,
 };
 use dd_elem::Uid;
-use dd_samples::{image, images, in_words, taken};
-use dd_vectors::text_of;
+use dd_vectors::{image, images, in_words, taken, text_of};
 use std::alloc::Global;
 use std::test::Fail;
 

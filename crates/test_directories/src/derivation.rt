@@ -6,8 +6,7 @@ use dd_catalogue::Catalogue;
 use dd_dir::{derived_uid, lay_out_derived};
 use dd_elem::SetId;
 use dd_layout::Limits;
-use dd_samples::taken;
-use dd_vectors::ask_all;
+use dd_vectors::{ask_all, taken};
 use std::alloc::Global;
 use std::test::Fail;
 

@@ -2,10 +2,8 @@
 
 use crate::publishing::published;
 use dd_dir::{Forest, Tree, catalogue_of, read_directory};
-use dd_elem::Sink;
-use dd_samples::taken;
 use dd_set::{Syntax, write_set};
-use dd_vectors::{bytes_of, claim_all};
+use dd_vectors::{Sink, bytes_of, claim_all, taken};
 use std::alloc::Global;
 use std::test::Fail;
 

@@ -2,13 +2,13 @@
 #![tactic(auto)]
 
 #[cfg(test)]
+mod allocations;
+#[cfg(test)]
 mod cuts;
 #[cfg(test)]
 mod derivation;
 #[cfg(test)]
 mod fields;
-#[cfg(test)]
-mod growths;
 #[cfg(test)]
 mod own;
 #[cfg(test)]

@@ -4,8 +4,7 @@ use crate::walks::changed;
 use dd_catalogue::Catalogue;
 use dd_dir::{Own, Place, catalogue_of, own_of, places_of, read_directory};
 use dd_elem::Uid;
-use dd_samples::in_words;
-use dd_vectors::ask_all;
+use dd_vectors::{ask_all, in_words};
 use std::alloc::{AllocError, Global};
 use std::test::Fail;
 

@@ -5,8 +5,7 @@ use dd_catalogue::History;
 use dd_dir::{assemble, publish};
 use dd_elem::{FileId, SetId, Uid};
 use dd_layout::{Label, Limits};
-use dd_samples::{catalogue_of, images, taken};
-use dd_vectors::{ask_all, bytes_of, claim_all, first_directory, v2};
+use dd_vectors::{ask_all, bytes_of, catalogue_of, claim_all, first_directory, images, taken, v2};
 use std::alloc::Global;
 use std::test::Fail;
 

@@ -3,11 +3,9 @@
 use crate::publishing::{label_of, limits_of, published};
 use dd_catalogue::Catalogue;
 use dd_dir::write_directory;
-use dd_elem::Sink;
 use dd_layout::{Plan, lay_out};
-use dd_samples::{taken, v1_version};
 use dd_set::WriteFault;
-use dd_vectors::{ask_all, first_directory};
+use dd_vectors::{Sink, ask_all, first_directory, taken, v1_version};
 use std::alloc::Global;
 use std::test::Fail;
 

@@ -6,8 +6,7 @@ use dd_catalogue::History;
 use dd_dir::{assemble, publish};
 use dd_elem::Uid;
 use dd_layout::lay_out;
-use dd_samples::{catalogue_of, images};
-use dd_vectors::{ask_all, bytes_of, claim_all};
+use dd_vectors::{ask_all, bytes_of, catalogue_of, claim_all, images};
 use std::alloc::Global;
 use std::test::Fail;
 

@@ -1,9 +1,8 @@
 //! Heads of files, which are what stands before their data sets.
 
 use crate::vectors::{file_named, meta_of};
-use dd_elem::Sink;
 use dd_part10::{Meta, head_size, write_head};
-use dd_vectors::ask_all;
+use dd_vectors::{Sink, ask_all};
 use std::alloc::Global;
 use std::test::Fail;
 

@@ -1,10 +1,9 @@
 //! Bytes that are no file, each with the first check that they fail.
 
 use crate::vectors::{v1_changed, v1_with_private};
-use dd_elem::ByteSource;
 use dd_part10::{FileFault, StreamFault, parse_file, read_file};
 use dd_set::SetFault;
-use dd_vectors::{ask_all, v1, v1_with};
+use dd_vectors::{ByteSource, ask_all, v1, v1_with};
 use std::alloc::Global;
 use std::test::Fail;
 

@@ -1,10 +1,10 @@
 //! Files read from a reader.
 
 use crate::vectors::{file_named, meta_of, v1_changed, v1_with_private};
-use dd_elem::{ByteSource, Tag};
+use dd_elem::Tag;
 use dd_part10::{Meta, Scanned, StreamFault, parse_file, read_file};
 use dd_scan::{Found, FoundValue};
-use dd_vectors::{ask_all, reader_of, tag_of, tags_of, text_of, v1};
+use dd_vectors::{ByteSource, ask_all, reader_of, tag_of, tags_of, text_of, v1};
 use std::alloc::Global;
 use std::test::Fail;
 

@@ -2,10 +2,8 @@
 
 use crate::directories::{directories, label, slices, widest};
 use dd_dir::write_directory;
-use dd_elem::Sink;
 use dd_layout::{Label, lay_out};
-use dd_samples::{catalogue_of, in_words};
-use dd_vectors::ask_all;
+use dd_vectors::{Sink, ask_all, catalogue_of, in_words};
 use dd_version::Version;
 use dicomdir::{Choice, merge_engine};
 use std::alloc::Global;

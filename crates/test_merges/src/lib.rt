@@ -2,9 +2,9 @@
 #![tactic(auto)]
 
 #[cfg(test)]
-mod directories;
+mod allocations;
 #[cfg(test)]
-mod growths;
+mod directories;
 #[cfg(test)]
 mod keys;
 #[cfg(test)]

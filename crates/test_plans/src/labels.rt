@@ -1,6 +1,6 @@
 //! Plans of one catalogue under another label.
 
-use crate::growths::{require_plan, widest};
+use crate::allocations::{require_plan, widest};
 use crate::plans::{label_of, planned};
 use dd_layout::Limits;
 use dd_vectors::ask_all;

@@ -2,7 +2,7 @@
 #![tactic(auto)]
 
 #[cfg(test)]
-mod growths;
+mod allocations;
 #[cfg(test)]
 mod labels;
 #[cfg(test)]

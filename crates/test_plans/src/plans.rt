@@ -2,7 +2,7 @@
 
 use dd_elem::{FileId, SetId, Uid};
 use dd_layout::{Label, Limits, Plan, PlanFault, lay_out};
-use dd_samples::taken;
+use dd_vectors::taken;
 use std::alloc::Global;
 use std::test::Fail;
 

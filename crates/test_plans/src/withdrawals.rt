@@ -3,8 +3,7 @@
 use crate::plans::label_of;
 use dd_elem::FileId;
 use dd_layout::{Limits, Plan, PlanFault, lay_out};
-use dd_samples::catalogue_of;
-use dd_vectors::ask_all;
+use dd_vectors::{ask_all, catalogue_of};
 use std::alloc::Global;
 use std::test::Fail;
 

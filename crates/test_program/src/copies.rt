@@ -1,7 +1,6 @@
 //! Images that are copied from one device to another.
 
-use dd_elem::{ByteSource, Sink};
-use dd_vectors::{ask_all, bytes_of, failing, v1};
+use dd_vectors::{ByteSource, Sink, ask_all, bytes_of, failing, v1};
 use dicomdir::copy_image;
 use std::alloc::Global;
 use std::test::Fail;

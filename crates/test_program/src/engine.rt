@@ -1,9 +1,9 @@
 //! Two sources in memory, which are indexed.
 ghost use Rattle.std.specs.Prelude.{None, slice_index, slice_index_or};
 
-use dd_elem::{ByteSource, Counts, FileId, Read, SetId, Uid};
+use dd_elem::{Counts, FileId, Read, SetId, Uid};
 use dd_layout::Limits;
-use dd_vectors::{ask_all, refuse_growth, require, v1, v1_with, was_refused};
+use dd_vectors::{ByteSource, ask_all, refuse_allocation, require, v1, v1_with, was_refused};
 use dicomdir::{Choice, EngineFault, Indexed, NotThere, Supply, index_engine};
 use std::alloc::Global;
 use std::io;
@@ -146,8 +146,8 @@ fn sources_are_skipped_or_picked(rt: HostRuntime) -> Result<(), Fail> {
     ask_all(rt.alloc(), INDEXES, indexed)
 }
 
-/// Indexes both with the chosen growth refused, and answers whether one was. Where it was the index wants memory, and
-/// made again it answers.
+/// Indexes both with the chosen allocation refused, and answers whether one was. Where it was the index wants memory,
+/// and made again it answers.
 pub(crate) fn index_refused(alloc: Global, chosen: u32) -> Result<bool, Fail> {
     let (image, other) = (v1(alloc)?, v1_with(alloc, OTHER)?);
     let (counts, none) = ([Counts::new(); 2], [0; 2]);
@@ -159,7 +159,7 @@ pub(crate) fn index_refused(alloc: Global, chosen: u32) -> Result<bool, Fail> {
     };
     let (id, uid) = (SetId::new(b"")?, Some(Uid::new(b"2.25.0")?));
     let limits = Limits::new(u32::MAX, FileId::MAX_RANK).ok_or("no limits")?;
-    refuse_growth(alloc, chosen)?;
+    refuse_allocation(alloc, chosen)?;
     let answer = index_engine(alloc, &mut pair, &Choice { id, uid }, limits, 1000);
     let refused = was_refused(alloc, matches!(answer, Err(EngineFault::Memory)))?;
     let indexed = match answer {

@@ -1,10 +1,11 @@
 //! Images that are copied as files of planned versions.
 
 use crate::copies::sent_of;
-use dd_elem::{ByteSource, SetId, Sink};
+use dd_elem::SetId;
 use dd_layout::Limits;
 use dd_vectors::{
-    ask_all, failing, first_directory, put_words, refuse_growth, require, v1, was_refused,
+    ByteSource, Sink, ask_all, failing, first_directory, put_words, refuse_allocation, require, v1,
+    was_refused,
 };
 use dicomdir::{Choice, Filed, file_image, merge_engine};
 use std::alloc::Global;
@@ -83,8 +84,8 @@ fn images_are_filed_or_refused(rt: HostRuntime) -> Result<(), Fail> {
     ask_all(rt.alloc(), FILINGS, filed)
 }
 
-/// Files V1 by a writer without room. A growth that is refused is a write that fails, or want of memory once V1 was
-/// sent. What is filed again comes behind it.
+/// Files V1 by a writer without room. An allocation that is refused is a write that fails, or want of memory once V1
+/// was sent. What is filed again comes behind it.
 pub(crate) fn filing_refused(alloc: Global, chosen: u32) -> Result<bool, Fail> {
     let directory = first_directory(alloc)?;
     let sets = [directory.as_slice()];
@@ -93,7 +94,7 @@ pub(crate) fn filing_refused(alloc: Global, chosen: u32) -> Result<bool, Fail> {
     let image = v1(alloc)?;
     let mut source = ByteSource::new(&image, 100, None);
     let mut sink = Sink::new(alloc, None);
-    refuse_growth(alloc, chosen)?;
+    refuse_allocation(alloc, chosen)?;
     let answer = file_image(alloc, &mut source, &mut sink, planned, 454);
     let refused = was_refused(alloc, answer.is_err())?;
     require(image.starts_with(sink.bytes()), "the writer holds a front")?;

@@ -1,9 +1,8 @@
 //! What is found of the files that records name.
 
 use dd_dir::Tree;
-use dd_elem::ByteSource;
 use dd_set::{Syntax, parse};
-use dd_vectors::{ask_all, bytes_of, failing, v1};
+use dd_vectors::{ByteSource, ask_all, bytes_of, failing, v1};
 use dicomdir::{Finding, finding_of};
 use std::alloc::Global;
 use std::test::Fail;

@@ -2,6 +2,8 @@
 #![tactic(auto)]
 
 #[cfg(test)]
+mod allocations;
+#[cfg(test)]
 mod copies;
 #[cfg(test)]
 mod digests;
@@ -13,8 +15,6 @@ mod faults;
 mod filings;
 #[cfg(test)]
 mod findings;
-#[cfg(test)]
-mod growths;
 #[cfg(test)]
 mod lines;
 #[cfg(test)]

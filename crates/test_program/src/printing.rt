@@ -1,7 +1,6 @@
 //! What is printed to a device.
 
-use dd_elem::Sink;
-use dd_vectors::{ask_all, push_lines};
+use dd_vectors::{Sink, ask_all, push_lines};
 use dicomdir::{print_line, send_text};
 use std::alloc::{AllocError, Global};
 use std::test::Fail;

@@ -2,13 +2,13 @@
 #![tactic(auto)]
 
 #[cfg(test)]
+mod allocations;
+#[cfg(test)]
 mod checks;
 #[cfg(test)]
 mod devices;
 #[cfg(test)]
 mod disc;
-#[cfg(test)]
-mod growths;
 #[cfg(test)]
 mod lists;
 #[cfg(test)]

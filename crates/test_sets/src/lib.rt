@@ -3,7 +3,7 @@
 #![tactic(auto)]
 
 #[cfg(test)]
-mod growths;
+mod allocations;
 #[cfg(test)]
 mod outlines;
 #[cfg(test)]

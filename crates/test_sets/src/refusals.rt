@@ -1,10 +1,9 @@
 //! Bytes that spell no data set, each with the first check that they fail.
 
 use crate::spellings::{PIXEL_DATA, nested, set_of, spelled};
-use dd_elem::ByteSource;
 use dd_scan::{ScanFault, scan};
 use dd_set::{SetFault, Syntax};
-use dd_vectors::ask_all;
+use dd_vectors::{ByteSource, ask_all};
 use std::alloc::Global;
 use std::test::Fail;
 

@@ -1,10 +1,10 @@
 //! Data sets scanned from a reader.
 
 use crate::spellings::{IMAGES, PATIENT_ID, PIXEL_DATA, spelled};
-use dd_elem::{ByteSource, Tag};
+use dd_elem::Tag;
 use dd_scan::{FoundValue, Scan, ScanFault, scan};
 use dd_set::{SetFault, Syntax};
-use dd_vectors::{ask_all, bytes_of, reader_of, tags_of, text_of, v1};
+use dd_vectors::{ByteSource, ask_all, bytes_of, reader_of, tags_of, text_of, v1};
 use std::alloc::Global;
 use std::test::Fail;
 

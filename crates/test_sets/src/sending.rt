@@ -1,9 +1,9 @@
 //! Data sets, headers and pieces sent to a writer.
 
 use crate::spellings::{PATIENT_ID, nested, set_of, spelled};
-use dd_elem::{Sink, Tag, Vr};
+use dd_elem::{Tag, Vr};
 use dd_set::{DataSet, Element, Syntax, Value, WriteFault, send, send_header, write_set};
-use dd_vectors::{ask_all, bytes_of, tag_of};
+use dd_vectors::{Sink, ask_all, bytes_of, tag_of};
 use std::alloc::Global;
 use std::test::Fail;
 

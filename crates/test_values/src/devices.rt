@@ -1,7 +1,7 @@
 //! Readers and writers over memory.
 
-use dd_elem::{ByteSource, Read, Sink, Write};
-use dd_vectors::{ask_all, failing};
+use dd_elem::{Read, Write};
+use dd_vectors::{ByteSource, Sink, ask_all, failing};
 use std::alloc::Global;
 use std::test::Fail;
 

@@ -4,11 +4,11 @@
 #![tactic(auto)]
 
 #[cfg(test)]
+mod allocations;
+#[cfg(test)]
 mod answers;
 #[cfg(test)]
 mod devices;
-#[cfg(test)]
-mod growths;
 #[cfg(test)]
 mod identifiers;
 #[cfg(test)]

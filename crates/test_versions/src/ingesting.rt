@@ -2,9 +2,9 @@
 
 use crate::reading::text_of_keys;
 use crate::refusals::with_patient_id;
-use dd_elem::{ByteSource, Ordered};
+use dd_elem::Ordered;
 use dd_keys::{Version, ingest, version_of};
-use dd_vectors::{ask_all, push_bytes, v1, v1_encapsulated, v1_with};
+use dd_vectors::{ByteSource, ask_all, push_bytes, v1, v1_encapsulated, v1_with};
 use std::alloc::Global;
 use std::test::Fail;
 

@@ -3,9 +3,9 @@
 #![tactic(auto)]
 
 #[cfg(test)]
-mod classes;
+mod allocations;
 #[cfg(test)]
-mod growths;
+mod classes;
 #[cfg(test)]
 mod ingesting;
 #[cfg(test)]

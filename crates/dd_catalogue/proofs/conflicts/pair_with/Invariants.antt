@@ -1,5 +1,5 @@
 use Rattle.std.proofs.Common.{◌≡◌, drop, find}
-use Rattle.dd_catalogue.specs.Clash.{conflicts}
+use Rattle.dd_catalogue.specs.Conflicts.{conflicts}
 use Rattle.dd_catalogue.proofs.conflicts.pair_with.Given as goal
 
 abbrev pub invariant-loop-other : goal.invariant-loop-other

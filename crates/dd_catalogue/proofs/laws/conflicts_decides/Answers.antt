@@ -1,4 +1,4 @@
-use Rattle.dd_catalogue.proofs.Clashes.{conflicts_decides}
+use Rattle.dd_catalogue.proofs.FirstConflicts.{conflicts_decides}
 use Rattle.dd_catalogue.proofs.laws.conflicts_decides.Goals as goal
 
 pub returns : goal.returns

@@ -2,7 +2,6 @@ use Rattle.std.proofs.Common.{◌≡◌, ◌+◌, ◌++◌, ℕ, List, [], lengt
 use Rattle.dd_catalogue.specs.Best.{IsRising}
 use Rattle.dd_catalogue.specs.Harmony.{harmonised}
 use Rattle.dd_elem.specs.Ordered.{bytes_cmp}
-use Rattle.dd_elem.specs.Sink.{Store}
 use Rattle.dd_layout.specs.Layouts.{Layout}
 use Rattle.dd_dir.specs.Directories.{IsDirectory, OffsetsWithin, directory_of}
 use Rattle.dd_dir.specs.SaysItself.{SaysItself}
@@ -11,11 +10,9 @@ use Rattle.dd_dir.proofs.publishing.publish.Goals as goal
 
 pub returns-in-Ok-clause-bytes : goal.returns-in-Ok-clause-bytes
 returns-in-Ok-clause-bytes c =
-    let empty : c.reserve.new.self.bytes ≡ [] =
-    ap (λ (s : Store). s.bytes) c.reserve.ensures.same ∙ ap (λ (s : Store). s.bytes) c.new-sink.ensures in
-    c.into_bytes.ensures ∙ c.in-Ok.ensures.sends.ok.1.holds
+    ap (λ (v : Vec ℕ). v.items) c.into_bytes.ensures ∙ c.in-Ok.ensures.sends.ok.1.holds
     ∙ ap (λ (bs : List ℕ). bs ++ directory_of c.in_ok-plan.plan.label c.in_ok-plan.plan.versions
-    c.in_ok-plan.plan.withdrawn) empty
+    c.in_ok-plan.plan.withdrawn) c.in_ok-buffer.ensures
     ∙ ap (λ (plan : Layout). directory_of plan.label plan.versions plan.withdrawn) c.in_ok-plan.ensures.planned
 
 pub returns-in-Ok-clause-file : goal.returns-in-Ok-clause-file

@@ -13,7 +13,7 @@ loop-at-init c = record {
   many = refl;
   own = tt;
   held = subst (λ (uids : List Withdrawal). Gathers [] uids [] c.in_ok-gathered.gathered)
-      (sym (append-nil (map (λ uid. (None, uid)) c.args.given.now))) c.in_ok-gathered.ensures;
+      (sym (append-nil (map (λ uid. (None, uid)) c.args.given.now))) c.in_ok-gathered.ensures.all;
 }
 
 pub loop-at-preserved : goal.loop-at-preserved

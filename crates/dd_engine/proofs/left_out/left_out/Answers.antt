@@ -8,8 +8,8 @@ use Rattle.dd_engine.specs.Picking.{files_of}
 use Rattle.dd_engine.proofs.FilesLeftOut.{first_in, marks_held, named, none_left, note_more, says}
 use Rattle.dd_engine.proofs.left_out.left_out.Goals as goal
 
-pub returns-then-are_kept : goal.returns-then-are_kept
-returns-then-are_kept g c =
+pub returns-then-are_kept-clause-all : goal.returns-then-are_kept-clause-all
+returns-then-are_kept-clause-all g c =
     ap (map (λ note. says note)) c.new.ensures.items
     ∙ none_left (files_of (zip c.args.places.now c.args.versions.now)) c.args.catalogue.now.versions c.args.places.now
     c.args.versions.now (sym c.are_kept.ensures ∙ c.if-are_kept.true)
@@ -42,8 +42,8 @@ loop-at-preserved-in_ok-push g c =
     ∙ ap (named files m)
     (sym (map-append (λ p. (p.0.now, p.1.now)) c.loop-at.yielded ((c.in-Some.at, c.in-Some.version) ∷ [])))
 
-pub returns : goal.returns
-returns g c =
+pub returns-clause-all : goal.returns-clause-all
+returns-clause-all g c =
     c.loop-at.invariant
     ∙ ap (named (files_of (zip c.args.places.now c.args.versions.now)) c.args.catalogue.now.versions)
     (YieldsList-end (YieldsList-from_zip (YieldsList-from_slice c.args.places.now cc)

@@ -1,7 +1,7 @@
 use Rattle.std.proofs.Common.{rules, ◌≡◌, ◌∙◌, ap, sym, subst, true, false}
 use Rattle.std.proofs.lemmas.List.Sorted.{IsPartitionPoint-from_clause}
 use Rattle.std.specs.Ordering.{is_eq, is_lt}
-use Rattle.dd_catalogue.specs.Clash.{same}
+use Rattle.dd_catalogue.specs.Conflicts.{same}
 use Rattle.dd_elem.specs.Ordered.{bytes_cmp}
 use Rattle.dd_engine.specs.declared.mentions.Mention.{Mention}
 use Rattle.dd_engine.proofs.FirstMentions.{first_there, none_there, other_there, parted}

@@ -1,7 +1,7 @@
 use Rattle.std.proofs.Common.{IfErr, IfOk, subst, ℕ}
 use Rattle.dd_engine.specs.Indexed.{IsWithin}
 use Rattle.dd_engine.specs.Noting.{AreBelow, IsBelow}
-use Rattle.dd_engine.proofs.SourcesNoted.{clash_below, indexed_within, notes_below, sources_found}
+use Rattle.dd_engine.proofs.SourcesNoted.{conflict_below, indexed_within, notes_below, sources_found}
 use Rattle.dd_engine.proofs.noted_index.index_with_notes.Goals as goal
 
 pub returns-clause-within : goal.returns-clause-within
@@ -16,11 +16,11 @@ returns-clause-below g c =
     subst (λ (n : ℕ). IfOk c.noted.result (λ noted. AreBelow (λ at. at) n noted.notes.left_out.items)) read.1
     (notes_below c.args.choice.now c.args.limits read.0 c.noted.result (c.noted.ensures read.0 read.3))
 
-pub returns-clause-clash : goal.returns-clause-clash
-returns-clause-clash g c =
+pub returns-clause-conflict : goal.returns-clause-conflict
+returns-clause-conflict g c =
     let read = c.in_ok-sources.ensures.read in
-    subst (λ (n : ℕ). IfErr c.noted.result (λ noted. IsBelow (λ at. at) n noted.clash)) read.1
-    (clash_below c.args.choice.now c.args.limits read.0 c.noted.result (c.noted.ensures read.0 read.3))
+    subst (λ (n : ℕ). IfErr c.noted.result (λ noted. IsBelow (λ at. at) n noted.conflict)) read.1
+    (conflict_below c.args.choice.now c.args.limits read.0 c.noted.result (c.noted.ensures read.0 read.3))
 
 pub returns-clause-found : goal.returns-clause-found
 returns-clause-found g c =

@@ -41,7 +41,7 @@ returns-clause-planned c = λ answers held best.
       picks = planned_picks sources _ choice c.args.catalogue.now.versions c.args.catalogue.now.withdrawn c.in-Ok.plan
           c.in_ok-picks.picks.items best.0 best.1 picked c.in-Ok.ensures.planned c.in_ok-picks.ensures.all;
       left = leaves_out answers _ c.args.catalogue.now.versions c.in_ok-left_out.left_out.items best.0 left
-          c.in_ok-left_out.ensures;
+          c.in_ok-left_out.ensures.all;
       names = subst (λ versions. AreNamed versions c.in_ok-names.names.items)
           (ap₂ (λ (m l : List Parts). with_kept_digest m l) best.0 (c.deref-5.ensures.value ∙ held.versions))
           c.in_ok-names.ensures.named;

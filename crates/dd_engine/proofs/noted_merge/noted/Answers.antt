@@ -30,7 +30,7 @@ returns-in-Ok c = λ listings all.
     ≡ held_of (record { versions = gathered.versions.items; withdrawn = gathered.withdrawn.items }) = search rules in
     let is = c.in-Ok.ensures given listings (placed_is given listings gathered _ _ versions picks all)
     (held ∙ held_is given listings gathered all) in
-    (is.0, is.1, is.2, c.in_ok-sets.ensures listings all)
+    (is.0, is.1, is.2, c.in_ok-sets.ensures.all listings all)
 
 pub returns : goal.returns
 returns c = λ listings all.

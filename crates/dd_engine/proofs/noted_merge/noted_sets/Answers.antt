@@ -2,7 +2,7 @@ use Rattle.std.proofs.Common.{◌<◌, All, IfErr, IfOk, map, rules, subst, ℕ}
 use Rattle.std.proofs.lemmas.List.{length-map}
 use Rattle.dd_engine.specs.Noting.{AreBelow, IsBelow}
 use Rattle.dd_engine.specs.SetNotes.{NameSetsBelow}
-use Rattle.dd_engine.proofs.RecordsNoted.{clash_below, files_found, merged_within, notes_below}
+use Rattle.dd_engine.proofs.RecordsNoted.{conflict_below, files_found, merged_within, notes_below}
 use Rattle.dd_engine.proofs.SetsNamed.{sets_below}
 use Rattle.dd_engine.proofs.noted_merge.noted_sets.Goals as goal
 
@@ -27,12 +27,12 @@ returns-clause-sets c =
     (length-map c.args.sets.now (λ set. set.now))
     (sets_below c.args.choice.now c.args.limits c.args.given.now sets c.noted.result (search rules))
 
-pub returns-clause-clash : goal.returns-clause-clash
-returns-clause-clash c =
+pub returns-clause-conflict : goal.returns-clause-conflict
+returns-clause-conflict c =
     let sets = map (λ set. set.now) c.args.sets.now in
-    subst (λ (n : ℕ). IfErr c.noted.result (λ noted. IsBelow (λ pick. pick.set) n noted.clash))
+    subst (λ (n : ℕ). IfErr c.noted.result (λ noted. IsBelow (λ pick. pick.set) n noted.conflict))
     (length-map c.args.sets.now (λ set. set.now))
-    (clash_below c.args.choice.now c.args.limits c.args.given.now sets c.noted.result (search rules))
+    (conflict_below c.args.choice.now c.args.limits c.args.given.now sets c.noted.result (search rules))
 
 pub returns-clause-found : goal.returns-clause-found
 returns-clause-found c =

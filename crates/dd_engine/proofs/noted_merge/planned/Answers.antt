@@ -40,10 +40,10 @@ returns c = λ given listings placed is.
             ∙ c.in-Ok.ensures.allowed refl;
         picks = picked_of (stands_in listings) choice (held_in given listings) c.args.catalogue.now c.in-Ok.plan
             c.in_ok-picks.picks.items is c.in-Ok.ensures.planned
-            (c.in_ok-picks.ensures (numbered 0 listings) placed);
+            (c.in_ok-picks.ensures.all (numbered 0 listings) placed);
       },
       leaves_out given listings c.args.versions.now c.args.places.now c.args.catalogue.now.versions
-          c.in_ok-left_out.left_out.items placed (ap (λ (d : Contents). d.versions) is) c.in_ok-left_out.ensures,
+          c.in_ok-left_out.left_out.items placed (ap (λ (d : Contents). d.versions) is) c.in_ok-left_out.ensures.all,
       subst (λ l. AreNamed l c.in_ok-names.names.items)
           (ap₂ (λ (m l : List Parts). with_kept_digest m l) (ap (λ (d : Contents). d.versions) is) placed.versions)
           c.in_ok-names.ensures.named,

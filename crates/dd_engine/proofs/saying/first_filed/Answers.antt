@@ -1,6 +1,6 @@
 -- A version that is not filed so extends those before it, of which none is filed so.
 use Rattle.std.proofs.Common.{◌∙◌, arith, below_more, subst, sym}
-use Rattle.dd_filing.specs.Filing.{FiledAs}
+use Rattle.dd_version.specs.Filing.{FiledAs}
 use Rattle.dd_version.specs.declared.parts.Parts.{Parts}
 use Rattle.dd_engine.proofs.saying.first_filed.Goals as goal
 

@@ -1,5 +1,0 @@
-use Rattle.dd_catalogue.proofs.Images.{harmony_keeps_clash}
-use Rattle.dd_catalogue.proofs.harmony_laws.harmony_keeps_clash.Goals as goal
-
-pub returns : goal.returns
-returns c = λ m. harmony_keeps_clash m

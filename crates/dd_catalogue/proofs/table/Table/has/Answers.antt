@@ -1,8 +1,0 @@
-use Rattle.std.proofs.Common.{◌∙◌}
-use Rattle.dd_catalogue.proofs.TakenOut.{placed}
-use Rattle.dd_catalogue.proofs.table.Table.has.Goals as goal
-
-pub returns : goal.returns
-returns g c =
-    c.is_ok.ensures.value ∙ placed g.T.Keyed.key_of c.args.key.now c.args.self.now c.place.result c.place.ensures.rising
-    c.place.ensures.place

@@ -1,0 +1,38 @@
+//! What the tables of a catalogue hold: versions by their SOP Instance UIDs, and UIDs by themselves.
+
+use crate::best::Copied;
+use crate::lent::Keyed;
+use dd_elem::{Memory, Uid};
+use dd_version::Version;
+
+/// A version has its SOP Instance UID as key.
+impl Keyed for Version {
+    ghost use Rattle.dd_catalogue.specs.Versions.{instance_of};
+
+    ghost key_of = { instance_of };
+
+    fn key(&self) -> &[u8] {
+        self.parts().instance.as_bytes()
+    }
+}
+
+impl Copied for Version {
+    fn copied(&self) -> Result<Version, Memory> {
+        self.copy()
+    }
+}
+
+/// A UID has itself as key.
+impl Keyed for Uid {
+    ghost key_of = { λ uid. uid };
+
+    fn key(&self) -> &[u8] {
+        self.as_bytes()
+    }
+}
+
+impl Copied for Uid {
+    fn copied(&self) -> Result<Uid, Memory> {
+        Ok(*self)
+    }
+}

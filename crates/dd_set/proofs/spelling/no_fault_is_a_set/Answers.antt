@@ -1,5 +1,0 @@
-use Rattle.dd_grammar.proofs.Laws.{no_fault}
-use Rattle.dd_set.proofs.spelling.no_fault_is_a_set.Goals as goal
-
-pub returns : goal.returns
-returns c = no_fault

@@ -1,0 +1,35 @@
+-- The bytes that a read gives are the next ones.
+use Rattle.std.proofs.Common.{◌≡◌, refl, sym, ap, ◌∙◌, ◌+◌, ◌++◌, length, drop, arith}
+use Rattle.dd_vectors.specs.ByteSource.{Source}
+use Rattle.dd_vectors.proofs.Source.{drop-split, next_len-end}
+use Rattle.std.proofs.lemmas.Grind.{common_steps}
+use Rattle.std.proofs.Math.Seq.{take-add}
+use Rattle.dd_vectors.proofs.byte_source.ByteSourceRead.read.Goals as goal
+
+pub returns-in-Some-clause-left : goal.returns-in-Some-clause-left
+returns-in-Some-clause-left c =
+    let split = drop-split c.self.inside.bytes.now c.self.inside.at c.in-Some.n in
+    let next = c.in-Some.ensures in
+    let piece_is = ap (λ (s : Source). s.piece) c.self.view_is in
+    let left_is = ap (λ (s : Source). s.left) c.self.view_is in
+    let room_is : length (c.copy_from_slice.new.self ++ drop c.in-Some.n c.args.buf.now) ≡ length c.args.buf.now =
+    grind (arith, common_steps) in
+    let some = c.self.invariant.1 in
+    let here : c.in-Some.n ≡ 0 → c.self.inside.at + c.in-Some.n ≡ c.self.inside.at = λ none. omega arith in
+    rw (← c.self.view_is) (
+      grind (arith, common_steps),
+      λ none room. let same = here none in rw same
+          (left_is ∙ next_len-end c.args.self.now (length c.args.buf.now) (omega arith) (next.readable.0 refl)
+          (sym next.len ∙ none) (omega arith)),
+    )
+
+pub returns-in-Some-clause-gives : goal.returns-in-Some-clause-gives
+returns-in-Some-clause-gives c =
+    let more = take-add c.self.inside.at c.in-Some.n c.self.inside.bytes.now in
+    rw (← c.self.view_is) (record { then = λ _ before h. grind (arith, common_steps) })
+
+pub returns-in-Some-clause-after : goal.returns-in-Some-clause-after
+returns-in-Some-clause-after c =
+    let more = take-add c.self.inside.at c.in-Some.n c.self.inside.bytes.now in
+    let split = drop-split c.self.inside.bytes.now c.self.inside.at c.in-Some.n in
+    rw (← c.self.view_is) (grind (arith, common_steps))

@@ -1,0 +1,2 @@
+pub mod ByteSource
+pub mod Sink

@@ -1,0 +1,149 @@
+//! Each allocation of a merge refused in turn: it wants memory, nothing has changed, and made again it answers.
+
+use crate::directories::{directories, label, slices, widest};
+use crate::picks::in_words;
+use crate::withdrawals::uids_of;
+use dd_elem::{SetId, Uid};
+use dd_vectors::{allocation_numbers, refuse_allocation, require, was_refused};
+use dicomdir::{Choice, MergeFault, Merged, Pick, first_saying, merge_engine, withdraw_engine};
+use std::alloc::Global;
+use std::test::Fail;
+
+/// The calls that can want memory.
+#[derive(Clone, Copy)]
+enum Call {
+    Derived,
+    First,
+    Named,
+    Withdraw,
+}
+
+/// Makes the call with the chosen allocation refused, and answers whether one was.
+fn is_refused(alloc: Global, call: Call, chosen: u32) -> Result<bool, Fail> {
+    match call {
+        Call::Derived => merge_refused(alloc, None, chosen),
+        Call::First => first_refused(alloc, chosen),
+        Call::Named => merge_refused(alloc, Some(label()?.uid), chosen),
+        Call::Withdraw => withdraw_refused(alloc, chosen),
+    }
+}
+
+/// Makes the call with each of its allocations refused in turn.
+fn refuse_each(alloc: Global, call: Call) -> Result<(), Fail> {
+    for chosen in allocation_numbers() {
+        if !is_refused(alloc, call, chosen)? {
+            return Ok(());
+        }
+    }
+    Err("the call has more allocations than are refused".into())
+}
+
+/// The directories that are merged: another withdraws one of the first's images.
+const SETS: &str = "12 34 1234/1.2.3.4.6";
+
+/// For each image that is kept the number of its set, and its File ID there.
+const PICKED: &str = " \
+0 PT000001\\ST000001\\SE000001\\IM000001 \
+1 PT000001\\ST000001\\SE000001\\IM000001 1 PT000002\\ST000001\\SE000001\\IM000001";
+
+/// Fails where other files are picked.
+fn require_picked(alloc: Global, merged: &Merged<'_>, picked: &str) -> Result<(), Fail> {
+    require(
+        in_words(alloc, merged)?.as_str().ends_with(picked),
+        "these files are picked",
+    )
+}
+
+/// Fails where a merge of these sets does not pick these files.
+fn require_merged(alloc: Global, uid: Option<Uid>, sets: &[&[u8]]) -> Result<(), Fail> {
+    let id = SetId::new(b"")?;
+    let merged = merge_engine(alloc, sets, &Choice { id, uid }, widest()?)?;
+    require_picked(alloc, &merged, PICKED)
+}
+
+/// Merges the sets under this UID, or a derived one.
+fn merge_refused(alloc: Global, uid: Option<Uid>, chosen: u32) -> Result<bool, Fail> {
+    let sets = directories(alloc, SETS)?;
+    let sets = slices(alloc, &sets)?;
+    let (id, limits) = (SetId::new(b"")?, widest()?);
+    refuse_allocation(alloc, chosen)?;
+    let answer = merge_engine(alloc, &sets, &Choice { id, uid }, limits);
+    let refused = was_refused(alloc, matches!(&answer, Err(MergeFault::Memory)))?;
+    match &answer {
+        Ok(merged) => require_picked(alloc, merged, PICKED)?,
+        Err(_) => require_merged(alloc, uid, &sets)?,
+    }
+    Ok(refused)
+}
+
+#[test]
+fn allocations_of_merge_engine(rt: HostRuntime) -> Result<(), Fail> {
+    refuse_each(rt.alloc(), Call::Named)
+}
+
+#[test]
+fn allocations_of_merge_engine_with_a_derived_uid(rt: HostRuntime) -> Result<(), Fail> {
+    refuse_each(rt.alloc(), Call::Derived)
+}
+
+/// The size of the directory of one image of two, of which the other is withdrawn, and the File ID that the image
+/// had.
+const LEFT: &str = "928 0 PT000001\\ST000001\\SE000001\\IM000002";
+
+/// Fails where the image that is left is not picked once these are withdrawn.
+fn require_left(alloc: Global, set: &[u8], uids: &[Uid]) -> Result<(), Fail> {
+    let (id, uid) = (SetId::new(b"")?, Some(label()?.uid));
+    let merged = withdraw_engine(alloc, set, uids, &Choice { id, uid }, widest()?)?;
+    require_picked(alloc, &merged, LEFT)
+}
+
+/// Withdraws an image and an instance that is not there.
+fn withdraw_refused(alloc: Global, chosen: u32) -> Result<bool, Fail> {
+    let sets = directories(alloc, "12")?;
+    let set = sets.first().ok_or("no directory")?;
+    let uids = uids_of(alloc, "1.2.3.4.7 1.2.3.4.5")?;
+    let (id, uid, limits) = (SetId::new(b"")?, Some(label()?.uid), widest()?);
+    refuse_allocation(alloc, chosen)?;
+    let answer = withdraw_engine(alloc, set, &uids, &Choice { id, uid }, limits);
+    let refused = was_refused(alloc, matches!(&answer, Err(MergeFault::Memory)))?;
+    match &answer {
+        Ok(merged) => require_picked(alloc, merged, LEFT)?,
+        Err(_) => require_left(alloc, set, &uids)?,
+    }
+    Ok(refused)
+}
+
+#[test]
+fn allocations_of_withdraw_engine(rt: HostRuntime) -> Result<(), Fail> {
+    refuse_each(rt.alloc(), Call::Withdraw)
+}
+
+/// Fails where it is no file of the third set.
+fn require_third(found: Option<Pick<'_>>) -> Result<(), Fail> {
+    require(
+        found.is_some_and(|pick| pick.set == 2),
+        "the third set says it first",
+    )
+}
+
+/// Seeks the version of an image that the third of three sets lists.
+fn first_refused(alloc: Global, chosen: u32) -> Result<bool, Fail> {
+    let sets = directories(alloc, "empty 34 12")?;
+    let sets = slices(alloc, &sets)?;
+    let (id, uid) = (SetId::new(b"")?, Some(label()?.uid));
+    let merged = merge_engine(alloc, &sets, &Choice { id, uid }, widest()?)?;
+    let planned = merged.plan.versions().first().ok_or("no version")?;
+    refuse_allocation(alloc, chosen)?;
+    let answer = first_saying(alloc, &sets, planned);
+    let refused = was_refused(alloc, matches!(&answer, Err(MergeFault::Memory)))?;
+    match answer {
+        Ok(found) => require_third(found)?,
+        Err(_) => require_third(first_saying(alloc, &sets, planned)?)?,
+    }
+    Ok(refused)
+}
+
+#[test]
+fn allocations_of_first_saying(rt: HostRuntime) -> Result<(), Fail> {
+    refuse_each(rt.alloc(), Call::First)
+}
