@@ -60,11 +60,11 @@ fn read_forest<'a>(alloc: Global, bytes: &'a [u8]) -> Result<Forest<'a>, DirFaul
         return Err(DirFault::NotDirectory);
     }
     let directory = directory_of(alloc, file.meta.instance, file.set, file.set_at)?;
-    walked(alloc, directory)
+    trees_of(alloc, directory)
 }
 
 /// The trees of these records.
-fn walked<'a>(alloc: Global, directory: Contents<'a>) -> Result<Forest<'a>, DirFault>
+fn trees_of<'a>(alloc: Global, directory: Contents<'a>) -> Result<Forest<'a>, DirFault>
     requires rise { Rises 0 directory.starts.items }
     requires each { length directory.starts.items ≡ length directory.items.items }
     ensures walk { IfOk result

@@ -55,7 +55,7 @@ fn level_in(above: Above<'_, '_>) -> Option<Level>
 }
 
 /// What is above the records below a record that stands there.
-fn below<'f, 'a>(above: Above<'f, 'a>, set: &'f DataSet<'a>) -> Above<'f, 'a>
+fn above_children<'f, 'a>(above: Above<'f, 'a>, set: &'f DataSet<'a>) -> Above<'f, 'a>
     ensures { above_view result ≡ below (above_view above.entry) (set_view set.now) }
 {
     match above {
@@ -115,5 +115,5 @@ fn list_one<'f, 'a>(
     if let Some(image) = listed_at(above, &tree.set) {
         images.push(image)?;
     }
-    list(&tree.below, below(above, &tree.set), images)
+    list(&tree.below, above_children(above, &tree.set), images)
 }

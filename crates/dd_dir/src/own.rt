@@ -12,7 +12,7 @@ use crate::forest::Forest;
 use crate::listed_images::{Above, Listed, list};
 use crate::own_fault::OwnFault;
 use crate::own_keys::{digest, uid, version_of};
-use crate::record_keys::held;
+use crate::record_keys::row_value;
 use crate::withdrawn::{check_withdrawn, withdrawn_uids};
 use dd_catalogue::Catalogue;
 use dd_elem::{Memory, Uid};
@@ -62,8 +62,8 @@ pub fn own_of<'a>(alloc: Global, forest: &Forest<'a>) -> Result<Own<'a>, OwnFaul
 {
     let named = forest.withdrawn;
     check_withdrawn(named)?;
-    let images = listed(alloc, forest)?;
-    Ok(told(alloc, named, &images)?)
+    let images = images_of(alloc, forest)?;
+    Ok(own_of_images(alloc, named, &images)?)
 }
 
 /// Makes the catalogue of a directory that this crate wrote: the best of the versions of the images that it
@@ -80,7 +80,7 @@ pub fn catalogue_of(alloc: Global, forest: &Forest<'_>) -> Result<Catalogue, Own
         })) result }
 {
     check_withdrawn(forest.withdrawn)?;
-    let images = listed(alloc, forest)?;
+    let images = images_of(alloc, forest)?;
     let versions = versions(alloc, &images)?;
     let withdrawn = withdrawn_uids(alloc, forest.withdrawn)?;
     Ok(Catalogue::from_parts(alloc, &versions, withdrawn)?)
@@ -93,12 +93,12 @@ pub fn places_of<'a>(alloc: Global, forest: &Forest<'a>) -> Result<Vec<Place<'a>
         (λ images places. map place_view places.items ≡ map place_of images) result }
 {
     check_withdrawn(forest.withdrawn)?;
-    let images = listed(alloc, forest)?;
+    let images = images_of(alloc, forest)?;
     Ok(places(alloc, &images)?)
 }
 
 /// The images of a directory, depth first.
-fn listed<'f, 'a>(alloc: Global, forest: &'f Forest<'a>) -> Result<Vec<Listed<'f, 'a>>, OwnFault>
+fn images_of<'f, 'a>(alloc: Global, forest: &'f Forest<'a>) -> Result<Vec<Listed<'f, 'a>>, OwnFault>
     ensures { AnswersRecords (walk_view forest.now) (λ images found. map listed_view found.items
         ≡ images) result }
 {
@@ -108,7 +108,7 @@ fn listed<'f, 'a>(alloc: Global, forest: &'f Forest<'a>) -> Result<Vec<Listed<'f
 }
 
 /// What is said of these images, and the UIDs that this value names.
-fn told<'a>(
+fn own_of_images<'a>(
     alloc: Global,
     named: Option<&'a [u8]>,
     images: &[Listed<'_, 'a>],
@@ -167,8 +167,8 @@ fn place_of<'a>(image: &Listed<'_, 'a>) -> Place<'a>
     ensures { place_view result ≡ place_of (listed_view image.now) }
 {
     Place {
-        uid: uid(held(&INSTANCE, image.own)),
+        uid: uid(row_value(&INSTANCE, image.own)),
         digest: digest(image.own),
-        file: held(&FILE, image.own),
+        file: row_value(&FILE, image.own),
     }
 }

@@ -13,7 +13,7 @@ ghost use Rattle.dd_dir.specs.OwnViews.{IsListed, Passes, listed_view};
 ghost use Rattle.dd_dir.specs.Saying.{digest_in};
 
 use crate::listed_images::Listed;
-use crate::record_keys::{PatientRecord, SeriesRecord, StudyRecord, held};
+use crate::record_keys::{PatientRecord, SeriesRecord, StudyRecord, row_value};
 use crate::values::digest_in;
 use dd_elem::{Key, KeyRefused, Memory, Uid};
 use dd_layout::table::{CLASS, INSTANCE, NUMBER, TRANSFER};
@@ -124,12 +124,12 @@ fn parts_of(alloc: Global, image: &Listed<'_, '_>, like: Option<&Parts>) -> Resu
         series: series_in(alloc, &image.series, like.map(|parts| &parts.series))?,
         number: key(
             alloc,
-            held(&NUMBER, image.own),
+            row_value(&NUMBER, image.own),
             like.map(|parts| &parts.number),
         )?,
-        class: uid(held(&CLASS, image.own)),
-        transfer: uid(held(&TRANSFER, image.own)),
-        instance: uid(held(&INSTANCE, image.own)),
+        class: uid(row_value(&CLASS, image.own)),
+        transfer: uid(row_value(&TRANSFER, image.own)),
+        instance: uid(row_value(&INSTANCE, image.own)),
     })
 }
 

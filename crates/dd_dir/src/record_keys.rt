@@ -83,9 +83,9 @@ impl<'f, 'a> PatientRecord<'f, 'a> {
     {
         PatientRecord {
             set,
-            id: held(&PATIENT_ID, set),
-            name: held(&PATIENT_NAME, set),
-            charset: held(&CHARSET, set),
+            id: row_value(&PATIENT_ID, set),
+            name: row_value(&PATIENT_NAME, set),
+            charset: row_value(&CHARSET, set),
         }
     }
 }
@@ -97,13 +97,13 @@ impl<'f, 'a> StudyRecord<'f, 'a> {
     {
         StudyRecord {
             set,
-            uid: held(&STUDY_UID, set),
-            date: held(&STUDY_DATE, set),
-            time: held(&STUDY_TIME, set),
-            accession: held(&ACCESSION, set),
-            description: held(&DESCRIPTION, set),
-            id: held(&STUDY_ID, set),
-            charset: held(&CHARSET, set),
+            uid: row_value(&STUDY_UID, set),
+            date: row_value(&STUDY_DATE, set),
+            time: row_value(&STUDY_TIME, set),
+            accession: row_value(&ACCESSION, set),
+            description: row_value(&DESCRIPTION, set),
+            id: row_value(&STUDY_ID, set),
+            charset: row_value(&CHARSET, set),
         }
     }
 }
@@ -115,15 +115,15 @@ impl<'f, 'a> SeriesRecord<'f, 'a> {
     {
         SeriesRecord {
             set,
-            uid: held(&SERIES_UID, set),
-            modality: held(&MODALITY, set),
-            number: held(&SERIES_NUMBER, set),
+            uid: row_value(&SERIES_UID, set),
+            modality: row_value(&MODALITY, set),
+            number: row_value(&SERIES_NUMBER, set),
         }
     }
 }
 
 /// The value of the element of a row without its padding, and nothing where there is none.
-pub(crate) fn held<'a>(row: &Row, set: &DataSet<'a>) -> &'a [u8]
+pub(crate) fn row_value<'a>(row: &Row, set: &DataSet<'a>) -> &'a [u8]
     ensures { result.now ≡ key_of row.now.tag (set_view set.now) }
 {
     value_at(set, row.tag).unwrap_or(&[])

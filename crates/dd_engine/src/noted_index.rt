@@ -81,11 +81,11 @@ pub fn index_with_notes<S: Supply>(
         × (S.rest supply.new ≡ S.rest supply.old) }
 {
     let sources = read_sources(alloc, supply, file_limit)?;
-    noted(alloc, sources, choice, limits)
+    noted_plan(alloc, sources, choice, limits)
 }
 
 /// Plans the directory of the sources that were read, with notes.
-fn noted(
+fn noted_plan(
     alloc: Global,
     sources: Sources,
     choice: &Choice,
@@ -96,7 +96,7 @@ fn noted(
         → NotesIndex choice.now limits answers result }
 {
     let catalogue = Catalogue::from_versions(alloc, &sources.versions)?;
-    let (plan, picks, notes) = planned(alloc, &sources, &catalogue, choice, limits)?;
+    let (plan, picks, notes) = plan_and_picks(alloc, &sources, &catalogue, choice, limits)?;
     let (_versions, _numbers, skipped) = sources.into_parts();
     Ok(NotedIndex {
         indexed: Indexed {
@@ -109,7 +109,7 @@ fn noted(
 }
 
 /// Makes the plan of the catalogue of what was read, and gives the source of each of its images and the notes.
-fn planned(
+fn plan_and_picks(
     alloc: Global,
     sources: &Sources,
     catalogue: &Catalogue,
@@ -128,7 +128,7 @@ fn planned(
 {
     let plan = match plan_for(alloc, catalogue, choice, limits) {
         Ok(plan) => plan,
-        Err(fault) => return Err(refused(sources, catalogue, fault)),
+        Err(fault) => return Err(refusal_of(sources, catalogue, fault)),
     };
     let picks = source_picks(alloc, &plan, &sources.versions, &sources.numbers)?;
     let left_out = left_out(alloc, catalogue, &sources.versions, &sources.numbers)?;
@@ -137,7 +137,7 @@ fn planned(
 }
 
 /// Makes the refusal of the plan, with the first source of each of the two versions that it names, if it names two.
-fn refused(
+fn refusal_of(
     sources: &Sources,
     catalogue: &Catalogue,
     fault: PlanFault,

@@ -114,12 +114,12 @@ pub(crate) fn noted_sets<'a>(
     ensures found { IfErr result (λ noted. FindsBoth noted.fault noted.conflict) }
 {
     let gathered = gather_sets(alloc, sets, given)?;
-    noted(alloc, gathered, given, choice, limits)
+    noted_plan(alloc, gathered, given, choice, limits)
 }
 
 /// Plans the directory of what was gathered of all sets, with notes. The catalogue keeps the list of withdrawn UIDs,
 /// and the plan shares it.
-fn noted<'a>(
+fn noted_plan<'a>(
     alloc: Global,
     gathered: Gathered<'a>,
     given: &[Uid],
@@ -133,7 +133,7 @@ fn noted<'a>(
     let sets = set_notes(alloc, &gathered, given)?;
     let (versions, places, withdrawn) = gathered.into_parts();
     let catalogue = Catalogue::from_parts(alloc, &versions, withdrawn)?;
-    match planned(alloc, &versions, &places, &catalogue, choice, limits) {
+    match plan_and_picks(alloc, &versions, &places, &catalogue, choice, limits) {
         Ok((merged, notes)) => Ok(NotedMerge {
             merged,
             notes,
@@ -144,7 +144,7 @@ fn noted<'a>(
 }
 
 /// Plans the directory of the catalogue of what was gathered, with notes.
-fn planned<'a>(
+fn plan_and_picks<'a>(
     alloc: Global,
     versions: &[Version],
     places: &[Pick<'a>],
@@ -162,7 +162,7 @@ fn planned<'a>(
 {
     let plan = match plan_for(alloc, catalogue, choice, limits) {
         Ok(plan) => plan,
-        Err(fault) => return Err(refused(versions, places, catalogue, fault)),
+        Err(fault) => return Err(refusal_of(versions, places, catalogue, fault)),
     };
     let picks = place_picks(alloc, &plan, versions, places)?;
     let left_out = left_out(alloc, catalogue, versions, places)?;
@@ -171,7 +171,7 @@ fn planned<'a>(
 }
 
 /// Makes the refusal of the plan, with the first file of each of the two versions that it names, if it names two.
-fn refused<'a>(
+fn refusal_of<'a>(
     versions: &[Version],
     places: &[Pick<'a>],
     catalogue: &Catalogue,

@@ -8,7 +8,7 @@ ghost use Rattle.dd_layout.specs.Directory.{first_offset, front_elements};
 ghost use Rattle.dd_layout.specs.Sizes.{elements_size};
 
 use crate::cell::{Cell, CellValue, header_size, long_value};
-use crate::directory_meta::directory_meta;
+use crate::file_meta::directory_meta;
 use crate::label::Label;
 use dd_elem::{Tag, Vr};
 use dd_encoding::head_size;

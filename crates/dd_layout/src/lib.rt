@@ -8,9 +8,9 @@
 
 mod cell;
 mod directories;
-mod directory_meta;
 mod fault;
 mod field;
+mod file_meta;
 mod front;
 mod label;
 mod laws;
@@ -31,9 +31,9 @@ mod withdrawal_elements;
 
 pub use cell::{Cell, CellValue};
 pub use directories::{directory_is_a_data_set, directory_is_as_long_as_its_records};
-pub use directory_meta::{DIRECTORY_CLASS, DIRECTORY_SYNTAX, directory_meta};
 pub use fault::PlanFault;
 pub use field::{FLAG_IN_USE, Field, PRIVATE_CREATOR};
+pub use file_meta::{DIRECTORY_CLASS, DIRECTORY_SYNTAX, directory_meta};
 pub use front::{FIRST_ROOT, LAST_ROOT, RECORDS, SET_ID, first_offset, front_cells};
 pub use label::Label;
 pub use laws::{

@@ -81,8 +81,8 @@ returns-in_err-directory-clause-records c = λ memory.
     told_wanted file f.meta (set_view f.set) f.set_at fault is_file class told
     (same_fault _ _ _ is memory)
 
-pub walked-requires-clause-rise : goal.walked-requires-clause-rise
-walked-requires-clause-rise c =
+pub trees_of-requires-clause-rise : goal.trees_of-requires-clause-rise
+trees_of-requires-clause-rise c =
     let f = c.in_ok-file.file in
     let file = c.args.bytes.now in
     let is_file : IsFile file f.meta (set_view f.set) f.set_at = search rules in
@@ -92,8 +92,8 @@ walked-requires-clause-rise c =
     c.in_ok-directory.ensures (take f.set_at file) (front_length file f.meta (set_view f.set) f.set_at is_file).1 in
     starts_rise file contents (is_directory file f.meta (set_view f.set) f.set_at contents is_file class told)
 
-pub walked-requires-clause-each : goal.walked-requires-clause-each
-walked-requires-clause-each c =
+pub trees_of-requires-clause-each : goal.trees_of-requires-clause-each
+trees_of-requires-clause-each c =
     let f = c.in_ok-file.file in
     let file = c.args.bytes.now in
     let is_file : IsFile file f.meta (set_view f.set) f.set_at = search rules in
@@ -113,9 +113,9 @@ returns-clause-walk c =
     let contents = contents_view c.in_ok-directory.directory in
     let told : contents_in f.meta.instance (take f.set_at file) (set_view f.set) ≡ Some contents =
     c.in_ok-directory.ensures (take f.set_at file) (front_length file f.meta (set_view f.set) f.set_at is_file).1 in
-    walk_in file contents c.walked.result
+    walk_in file contents c.trees_of.result
     (is_directory file f.meta (set_view f.set) f.set_at contents is_file class told)
-    c.walked.ensures.walk
+    c.trees_of.ensures.walk
 
 pub returns-clause-refused : goal.returns-clause-refused
 returns-clause-refused c =
@@ -126,9 +126,9 @@ returns-clause-refused c =
     let contents = contents_view c.in_ok-directory.directory in
     let told : contents_in f.meta.instance (take f.set_at file) (set_view f.set) ≡ Some contents =
     c.in_ok-directory.ensures (take f.set_at file) (front_length file f.meta (set_view f.set) f.set_at is_file).1 in
-    refused_in file contents c.walked.result
+    refused_in file contents c.trees_of.result
     (is_directory file f.meta (set_view f.set) f.set_at contents is_file class told)
-    c.walked.ensures.refused
+    c.trees_of.ensures.refused
 
 pub returns-clause-records : goal.returns-clause-records
 returns-clause-records c = λ memory.
@@ -142,7 +142,7 @@ returns-clause-records c = λ memory.
       contents,
       is_directory file f.meta
           (set_view f.set) f.set_at contents is_file class told,
-      c.walked.ensures.memory memory,
+      c.trees_of.ensures.memory memory,
     )
 
 pub returns-in_err-file-clause-set : goal.returns-in_err-file-clause-set

@@ -42,8 +42,8 @@ list_one-returns t c =
       | list_one-in-Some-listed_at+in_ok-push w ↦ grind (arith, common_steps, map-append)
       | list_one-in_default-listed_at w ↦ grind (arith, common_steps, append-nil)
     ] in
-    one_listed (above_view c.args.above) (above_view c.below.result) c.args.tree.now c.deref.result.now
+    one_listed (above_view c.args.above) (above_view c.above_children.result) c.args.tree.now c.deref.result.now
     c.level_in.result c.fault_at.result listed (map listed_view old) (map listed_view mid)
     (map listed_view c.list.new.images.items)
-    c.list.result c.level_in.ensures c.fault_at.ensures c.in_default.is c.listed_at.ensures added c.below.ensures
+    c.list.result c.level_in.ensures c.fault_at.ensures c.in_default.is c.listed_at.ensures added c.above_children.ensures
     c.deref.ensures.value c.list.ensures

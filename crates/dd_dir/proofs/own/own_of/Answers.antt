@@ -27,25 +27,25 @@ returns-in_err-images c =
     rw (p.1, p.2) (answers_fault walk (NamesSome walk) (Tells (withdrawn_of walk)) c.in_err-images.field-0.0
     c.in_ok-check_withdrawn.ensures.ok (λ some. inl some) c.in_err-images.ensures)
 
-pub told-requires-clause-listed : goal.told-requires-clause-listed
-told-requires-clause-listed c =
+pub own_of_images-requires-clause-listed : goal.own_of_images-requires-clause-listed
+own_of_images-requires-clause-listed c =
     let e = c.in_ok-images.ensures in
     let seen : map listed_view c.deref.result.now ≡ e.0 = ap (λ s. map listed_view s) c.deref.ensures.value ∙ e.2 in
     each_listed c.deref.result.now
     (subst (λ (s : List Listed). All IsListed s) (sym seen) (listed_sound (walk_view c.args.forest.now).trees e.0 e.1))
 
-pub told-requires-clause-named : goal.told-requires-clause-named
-told-requires-clause-named c = c.in_ok-check_withdrawn.ensures.ok
+pub own_of_images-requires-clause-named : goal.own_of_images-requires-clause-named
+own_of_images-requires-clause-named c = c.in_ok-check_withdrawn.ensures.ok
 
-pub returns-in_err-told : goal.returns-in_err-told
-returns-in_err-told c =
+pub returns-in_err-own_of_images : goal.returns-in_err-own_of_images
+returns-in_err-own_of_images c =
     let walk = walk_view c.args.forest.now in
     let e = c.in_ok-images.ensures in
     let seen : map listed_view c.deref.result.now ≡ e.0 = ap (λ s. map listed_view s) c.deref.ensures.value ∙ e.2 in
-    let p = err_from_is_err_and c.from_residual-in_err-told.result c.from_residual-in_err-told.ensures.1 in
+    let p = err_from_is_err_and c.from_residual-in_err-own_of_images.result c.from_residual-in_err-own_of_images.ensures.1 in
     rw (p.1, p.2) (
       c.in_ok-check_withdrawn.ensures.ok,
-      elim c.in_err-told.ensures.some [
+      elim c.in_err-own_of_images.ensures.some [
         | inl listed ↦ inl (walk_lists walk e.0 c.deref.result.now e.1 seen listed)
         | inr named ↦ inr named
       ],

@@ -5,4 +5,4 @@ use Rattle.dd_dir.proofs.own.place_of.Goals as goal
 pub uid-requires : goal.uid-requires
 uid-requires c =
     let image = listed_view c.args.image.now in
-    rw c.held.ensures (image_held image.own c.requires.own).instance.suits
+    rw c.row_value.ensures (image_held image.own c.requires.own).instance.suits

@@ -9,7 +9,7 @@ use Rattle.dd_engine.specs.PatientNames.{AreNamed, with_kept_digest}
 use Rattle.dd_engine.proofs.MergePlans.{picked_of, planned_of}
 use Rattle.dd_engine.proofs.PlacePicks.{places_kept, side_by_side}
 use Rattle.dd_engine.proofs.RecordsNoted.{leaves_out}
-use Rattle.dd_engine.proofs.noted_merge.planned.Goals as goal
+use Rattle.dd_engine.proofs.noted_merge.plan_and_picks.Goals as goal
 
 pub place_picks-requires : goal.place_picks-requires
 place_picks-requires c =

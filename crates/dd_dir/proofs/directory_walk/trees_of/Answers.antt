@@ -10,7 +10,7 @@ use Rattle.dd_dir.specs.ReadAnswers.{Fails, Follows, contents_view}
 use Rattle.dd_dir.specs.Slots.{count_left, slots_view}
 use Rattle.dd_dir.specs.Trees.{last_offset_or}
 use Rattle.dd_dir.proofs.Ending.{full_left, slots_many, fails_as, ends_elsewhere, walk_of}
-use Rattle.dd_dir.proofs.directory_walk.walked.Goals as goal
+use Rattle.dd_dir.proofs.directory_walk.trees_of.Goals as goal
 
 pub chain-requires-clause-each : goal.chain-requires-clause-each
 chain-requires-clause-each c =

@@ -6,7 +6,7 @@ use Rattle.dd_engine.specs.Indexing.{accepted}
 use Rattle.dd_engine.specs.PatientNames.{AreNamed, with_kept_digest}
 use Rattle.dd_engine.proofs.NotedPlans.{leaves_out, sources_kept}
 use Rattle.dd_engine.proofs.Planning.{planned_picks, planned_versions, zip_is}
-use Rattle.dd_engine.proofs.noted_index.planned.Goals as goal
+use Rattle.dd_engine.proofs.noted_index.plan_and_picks.Goals as goal
 
 pub source_picks-requires : goal.source_picks-requires
 source_picks-requires c =

@@ -2,7 +2,7 @@ use Rattle.std.proofs.Common.{ap, subst, sym}
 use Rattle.dd_catalogue.specs.Contents.{Contents}
 use Rattle.dd_engine.specs.MergeNotes.{ConflictsIn}
 use Rattle.dd_engine.proofs.RecordsNoted.{conflicts}
-use Rattle.dd_engine.proofs.noted_merge.refused.Goals as goal
+use Rattle.dd_engine.proofs.noted_merge.refusal_of.Goals as goal
 
 pub returns-clause-conflict : goal.returns-clause-conflict
 returns-clause-conflict c = λ given listings placed is.

@@ -3,7 +3,7 @@ use Rattle.dd_engine.specs.IndexNotes.{ConflictsIn}
 use Rattle.dd_engine.specs.Indexing.{accepted}
 use Rattle.dd_engine.proofs.NotedPlans.{conflicts}
 use Rattle.dd_engine.proofs.Planning.{zip_is}
-use Rattle.dd_engine.proofs.noted_index.refused.Goals as goal
+use Rattle.dd_engine.proofs.noted_index.refusal_of.Goals as goal
 
 pub returns-clause-conflict : goal.returns-clause-conflict
 returns-clause-conflict c = λ answers held best.

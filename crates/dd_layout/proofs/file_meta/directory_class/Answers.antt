@@ -1,6 +1,6 @@
 use Rattle.std.proofs.Common.{refl}
 use Rattle.dd_elem.specs.Uid.{is_uid}
-use Rattle.dd_layout.proofs.directory_meta.directory_syntax.Goals as goal
+use Rattle.dd_layout.proofs.file_meta.directory_class.Goals as goal
 
 -- the literal is a UID, as the test computes
 pub unwrap-requires : goal.unwrap-requires

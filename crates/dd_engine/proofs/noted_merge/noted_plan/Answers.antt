@@ -4,10 +4,10 @@ use Rattle.dd_version.specs.declared.parts.Parts.{Parts}
 use Rattle.dd_engine.specs.Merging.{held_in, numbered, pick_view}
 use Rattle.dd_engine.specs.MergeSteps.{ArePlaced}
 use Rattle.dd_engine.proofs.SetsGathered.{held_is, placed_is}
-use Rattle.dd_engine.proofs.noted_merge.noted.Goals as goal
+use Rattle.dd_engine.proofs.noted_merge.noted_plan.Goals as goal
 
-pub planned-requires : goal.planned-requires
-planned-requires c =
+pub plan_and_picks-requires : goal.plan_and_picks-requires
+plan_and_picks-requires c =
     let given = c.args.given.now in
     let gathered = c.args.gathered in
     let versions : c.deref-2.result.now ≡ gathered.versions.items = search rules in
