@@ -26,7 +26,7 @@ impl Buffer {
 
     /// Gives the bytes that it took.
     pub(crate) fn into_bytes(self) -> Vec<u8>
-        ensures { result ≡ self.bytes }
+        ensures { result.items ≡ self.bytes.items }
     {
         self.bytes
     }

@@ -57,7 +57,7 @@ derivation_conflict : (uid : Option (List ℕ)) (id : List ℕ) (limits : Limits
 derivation_conflict None id limits m w a b is = refusal_conflict (unnamed_label id) limits m w a b is
 derivation_conflict (Some uid) id limits m w a b is = absurd (none-some (Conflict a b) is)
 
-one_of : {G : Type 0} (d e : Option PlanFault) (fault : PlanFault) → (d ≡ Some fault → G) → (e ≡ Some fault → G)
+pub one_of : {G : Type 0} (d e : Option PlanFault) (fault : PlanFault) → (d ≡ Some fault → G) → (e ≡ Some fault → G)
     → either d e ≡ Some fault → G
 one_of None e fault first second is = second is
 one_of (Some d) e fault first second is = first is

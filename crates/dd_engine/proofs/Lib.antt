@@ -18,6 +18,7 @@ mod OneOfVersions
 mod PicksWithin
 mod PlacePicks
 mod Planning
+mod PlansRefused
 mod RecordsNoted
 mod SamePlans
 mod SameSets

@@ -1,7 +1,7 @@
 -- What is gathered of one set more, and which set is the first that fails.
-use Rattle.std.specs.Prelude.{◌≡◌, ◌≢◌, ◌⊎◌, ◌<◌, ◌+◌, ℕ, suc, List, [], ◌∷◌, ◌++◌, length, map, take, get_or, Option, None, Some}
+use Rattle.std.specs.Prelude.{◌≡◌, ◌≢◌, ◌<◌, ◌+◌, ℕ, suc, List, [], ◌∷◌, ◌++◌, length, map, take, get_or, Option, None, Some}
 use Rattle.std.specs.Prelude.{Ok, Err}
-use Rattle.std.proofs.Common.{refl, sym, ◌∙◌, ap, ap₂, inl, inr, subst, arith, append_assoc}
+use Rattle.std.proofs.Common.{refl, sym, ◌∙◌, ap, ap₂, inr, subst, arith, append_assoc}
 use Rattle.std.proofs.lemmas.List.{append-nil, map-append, take_more}
 use Rattle.dd_catalogue.specs.Contents.{held_of}
 use Rattle.dd_dir.specs.declared.own.Place.{Place as PlaceValue}
@@ -15,7 +15,7 @@ use Rattle.dd_engine.specs.declared.gathering.Gathered.{Gathered}
 use Rattle.dd_engine.specs.declared.merge.Pick.{Pick}
 use Rattle.dd_engine.specs.declared.merge_fault.MergeFault.{MergeFault}
 use Rattle.dd_engine.specs.declared.merge_fault.MergeFault.TheVariants.{Dir, Own, Plan, Memory}
-use Rattle.dd_engine.specs.Merging.{AreOwn, IsFirst, IsForeign, IsGiven, IsOwn, SetListing, numbered, place_pick, places_in}
+use Rattle.dd_engine.specs.Merging.{AreOwn, IsFirst, IsForeign, IsOwn, SetListing, numbered, place_pick, places_in}
 use Rattle.dd_engine.specs.Merging.{held_in, pick_view, versions_in, withdrawn_in}
 use Rattle.dd_engine.specs.MergeSteps.{ArePlaced, FailsAt, Gathers, GathersAll, GathersOf, Withdrawal, withdrawals_from}
 use Rattle.dd_engine.specs.MergeSteps.{withdrawals_in}
@@ -190,17 +190,6 @@ own_listing set walk images is rising lists =
 not_nil : {A : Type 0} {at : ℕ} (items : List A) → at < length items → items ≢ []
 not_nil [] below = absurd (omega (arith, below))
 not_nil (item ∷ items) below = λ is. cc
-
--- something was gathered, so a UID or a set is given
-pub is_given : (given : List (List ℕ)) (listings : List SetListing) (gathered : Gathered)
-    → GathersOf given listings gathered
-    → (gathered.versions.items ≢ []) ⊎ (gathered.withdrawn.items ≢ []) ⊎ (gathered.unreached.items ≢ [])
-    → IsGiven given listings
-is_given [] [] gathered held (inl some) = absurd (some held.versions)
-is_given [] [] gathered held (inr (inl some)) = absurd (some held.withdrawn)
-is_given [] [] gathered held (inr (inr some)) = absurd (some held.unreached)
-is_given (uid ∷ given) listings gathered held some = inl (λ is. cc)
-is_given [] (listing ∷ listings) gathered held some = inr (λ is. cc)
 
 -- ---- faults
 

@@ -10,7 +10,7 @@ use Rattle.dd_dir.proofs.publishing.publish.Goals as goal
 
 pub returns-in-Ok-clause-bytes : goal.returns-in-Ok-clause-bytes
 returns-in-Ok-clause-bytes c =
-    ap (λ (v : Vec ℕ). v.items) c.into_bytes.ensures ∙ c.in-Ok.ensures.sends.ok.1.holds
+    c.into_bytes.ensures ∙ c.in-Ok.ensures.sends.ok.1.holds
     ∙ ap (λ (bs : List ℕ). bs ++ directory_of c.in_ok-plan.plan.label c.in_ok-plan.plan.versions
     c.in_ok-plan.plan.withdrawn) c.in_ok-buffer.ensures
     ∙ ap (λ (plan : Layout). directory_of plan.label plan.versions plan.withdrawn) c.in_ok-plan.ensures.planned

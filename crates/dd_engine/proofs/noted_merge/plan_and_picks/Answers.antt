@@ -1,13 +1,15 @@
 -- The catalogue of what was gathered is planned, and its picks are those of the plan's images.
-use Rattle.std.proofs.Common.{List, ap, ap₂, refl, subst, sym, ◌∙◌, ◌++◌}
+use Rattle.std.proofs.Common.{List, Err, ap, ap₂, refl, subst, sym, ◌∙◌, ◌++◌}
 use Rattle.dd_catalogue.specs.Contents.{Contents}
 use Rattle.dd_version.specs.declared.parts.Parts.{Parts}
 use Rattle.dd_layout.specs.Layouts.{layout_of}
 use Rattle.dd_engine.specs.Choosing.{label_for, refusal_for}
 use Rattle.dd_engine.specs.Merging.{held_in, numbered, stands_in, withdrawn_in}
+use Rattle.dd_engine.specs.MergeSteps.{MergesAs}
 use Rattle.dd_engine.specs.PatientNames.{AreNamed, with_kept_digest}
 use Rattle.dd_engine.proofs.MergePlans.{picked_of, planned_of}
 use Rattle.dd_engine.proofs.PlacePicks.{places_kept, side_by_side}
+use Rattle.dd_engine.proofs.PlansRefused.{plan_refused}
 use Rattle.dd_engine.proofs.RecordsNoted.{leaves_out}
 use Rattle.dd_engine.proofs.noted_merge.plan_and_picks.Goals as goal
 
@@ -29,6 +31,14 @@ left_out-requires c =
     places_kept (numbered 0 listings) _ (given ++ withdrawn_in listings) c.args.catalogue.now.versions
     (ap (λ (d : Contents). d.versions) c.requires.3)
     (side_by_side (numbered 0 listings) _ _ c.requires.2.versions c.requires.2.picks)
+
+pub returns-in-Err : goal.returns-in-Err
+returns-in-Err c = λ given listings placed is. (
+  subst (λ f. MergesAs c.args.choice.now c.args.limits given listings (Err f)) (sym c.refusal_of.ensures.fault)
+      (plan_refused c.args.choice.now c.args.limits given listings c.args.catalogue.now c.in-Err.fault is
+      c.in-Err.ensures.refused),
+  c.refusal_of.ensures.conflict given listings placed is,
+)
 
 pub returns : goal.returns
 returns c = λ given listings placed is.
