@@ -1,14 +1,13 @@
 pub mod LineLemmas
+mod LineCommands
 mod LineEach
 mod LineFlag
 mod LineHelp
 mod LineLimit
 mod LineNames
 mod LinePaths
-mod LineReading
+mod LineRequests
 mod LineRows
 mod LineServes
-mod LineWalk
-mod LineWriting
-mod LineSources
 mod LineVerbs
+mod LineWalk

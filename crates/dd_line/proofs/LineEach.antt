@@ -1,10 +1,12 @@
 -- Lists of which all members have a property, and the rows and rules under one id.
-use Rattle.std.proofs.Common.{◌≡◌, Bool, true, false, List, [], ◌∷◌, ◌++◌, refl, ap, ◌||◌, true≢false}
+use Rattle.std.proofs.Common.{◌≡◌, Bool, true, false, List, [], ◌∷◌, ◌++◌, refl, ap, ◌||◌, sym, subst, true≢false}
 use Rattle.std.specs.List.{find}
 use Rattle.std.specs.Prelude.{IfSome, if◌then◌else◌}
 use Rattle.std.specs.Str.{bytes_eq}
 use Rattle.clap.specs.Kinds.{Kinds, or_else}
 use Rattle.clap.specs.Walk.{Row, Rule, Text, at_row, has_row}
+use Rattle.dd_line.specs.Requests.{is_among}
+use Rattle.std.proofs.lemmas.Slice.Eq.{bytes_eq-Decides}
 
 -- ---- faults that do not come
 
@@ -78,3 +80,24 @@ at_row_absent id change missing (r ∷ rows) none =
         → at_row id change missing (r ∷ rows) ≡ (r ∷ rows) ++ missing
     go true t none rest = let some = rw t at none in absurd (true≢false some)
     go false t none rest = rw t (ap (λ (x : List Row). r ∷ x) (rest (rw t at none)))
+
+-- the rules of one name have what all rules have
+pub named_each : (P : Rule → Type 0) (name : Text) (rules : List Rule) → Each P rules → Each P (named_in name rules)
+named_each P name [] all = tt
+named_each P name (a ∷ rest) all = go (bytes_eq a.id name) (named_each P name rest all.1)
+  where
+    go : (t : Bool) → Each P (named_in name rest)
+        → Each P (if t then a ∷ named_in name rest else named_in name rest)
+    go true later = (all.0, later)
+    go false later = later
+
+-- P holds of each text that is among those of which it holds
+pub among_each : (P : Text → Type 0) (names : List Text) → Each P names → (name : Text)
+    → is_among names name ≡ true → P name
+among_each P [] all name is = absurd (true≢false (sym is))
+among_each P (n ∷ names) all name is = go (bytes_eq n name) refl is (among_each P names all.1 name)
+  where
+    go : (t : Bool) → bytes_eq n name ≡ t → (t || is_among names name) ≡ true
+        → (is_among names name ≡ true → P name) → P name
+    go true t is rest = subst P ((bytes_eq-Decides n name).0 t) all.0
+    go false t is rest = rest is

@@ -1,7 +1,7 @@
 -- The text that the rows hold for a flag: `true` where the words set it, `false` where it is unset, and none where it
 -- is absent, as the command has no such flag.
 use Rattle.std.proofs.Common.{◌≡◌, ◌⊎◌, ◌==◌, ◌∷◌, ℕ, Bool, true, false, List, [], Option, Some, None}
-use Rattle.std.proofs.Common.{codes, eqb-true, inl, inr, length, refl, sym}
+use Rattle.std.proofs.Common.{codes, eqb-true, inl, inr, length, map, refl, sym}
 use Rattle.std.specs.List.{find}
 use Rattle.std.specs.Option.{option_map, option_map_or}
 use Rattle.std.specs.Prelude.{IfSome, if◌then◌else◌, option_and_then, slice_get}
@@ -18,9 +18,11 @@ use Rattle.clap.specs.declared.builder.value_parser.Reading.TheVariants.{AsWritt
 use Rattle.clap.specs.declared.error.kind.ErrorKind.TheVariants.{WrongNumberOfValues}
 use Rattle.clap.specs.declared.parser.matches.ValueSource.{ValueSource}
 use Rattle.clap.specs.declared.parser.matches.ValueSource.TheVariants.{CommandLine, DefaultValue}
-use Rattle.dd_line.specs.Line.{HasFlag, IsFlagText, flag}
-use Rattle.dd_line.proofs.LineEach.{Each, each_found, first_none, named_in}
-use Rattle.dd_line.proofs.LinePaths.{FitsValues, IsAbsent, level_absent}
+use Rattle.dd_line.specs.Line.{flag}
+use Rattle.dd_line.specs.Requests.{HasFlag, HasFlags, IsFlagText, flag_names, flags, has}
+use Rattle.dd_line.specs.declared.line.Verb.{Verb}
+use Rattle.dd_line.proofs.LineEach.{Each, among_each, each_found, first_none, named_in}
+use Rattle.dd_line.proofs.LinePaths.{AreNone, level_absent}
 use Rattle.dd_line.proofs.LineRows.{Fine, Fits, all_fit}
 use Rattle.dd_line.proofs.LineWalk.{level_fine}
 
@@ -66,45 +68,32 @@ flag_text (Some CommandLine) values is = rw is refl
 flag_text (Some DefaultValue) values is = rw is (inr refl)
 flag_text None values is = absurd is
 
--- ---- a flag that a command has, or lacks
+-- ---- the flags that a command has, or lacks
 
--- the rows say whether the words set the flag, which they do not where the command lacks it
-abbrev pub SaysFlag : Text → Type 0 → List Row → Type 0
-SaysFlag name Lacks rows = HasFlag name rows × (Lacks → is_given name rows ≡ false)
+-- the rule of a flag where the command has it, and else none
+abbrev pub flag_rules : Verb → Text × List Verb → List Rule
+flag_rules verb (name, verbs) = if has verbs verb then with_index 0 (filled (flag name)) ∷ [] else []
 
--- no rule of the command is the flag's, or one is, and the command does not lack it
-abbrev pub TakesFlag : Text → Type 0 → List Rule → Type 0
-TakesFlag name Lacks rules = Each (FitsValues name IsAbsent) rules ⊎ (Each (FitsFlag name) rules × (Lacks → ⊥))
-
-pub lacks_flag : (name : Text) (Lacks : Type 0) (rules : List Rule) → named_in name rules ≡ []
-    → TakesFlag name Lacks rules
-lacks_flag name Lacks rules none = inl (all_fit name AsWritten (λ _. IsAbsent) rules (rw none tt))
-
-pub has_flag : (name : Text) (Lacks : Type 0) (rules : List Rule)
-    → named_in name rules ≡ with_index 0 (filled (flag name)) ∷ [] → (Lacks → ⊥) → TakesFlag name Lacks rules
-has_flag name Lacks rules one has = inr (
-  all_fit name AsWritten IsFlag rules (rw one (flag_fits name _ refl refl refl refl refl refl, tt)),
-  has,
-)
-
-module _ (name : Text) (Lacks : Type 0) (s : Shape) (words : List Text) (once : s.args_override_self ≡ false)
+module _ (verb : Verb) (s : Shape) (words : List Text) (once : s.args_override_self ≡ false)
     (none : level_fault s [] nothing_held words false [] ≡ []) where
   abbrev rows : List Row
   rows = rows_after s.rules [] words
 
-  -- where a level has no fault and no such flag, the flag is absent
-  level_no_flag : Each (FitsValues name IsAbsent) s.rules → SaysFlag name Lacks (rows_after s.rules [] words)
-  level_no_flag fits =
-      let absent = level_absent name IsAbsent s words fits once none (λ values never. never) in
-      rw absent (inl refl, λ _. refl)
+  -- a level with no fault that lacks the flag holds no text for it
+  lacked_flag : (name : Text) → named_in name s.rules ≡ [] → HasFlag name (rows_after s.rules [] words)
+  lacked_flag name lacks =
+      let absent = level_absent name AreNone s words (all_fit name AsWritten (λ _. AreNone) s.rules (rw lacks tt)) once
+      none (λ values never. never) in
+      rw absent (inl refl)
 
-  -- where a level has no fault and its rules fit, the text says whether the flag is set
-  level_flag : Each (FitsFlag name) s.rules → (Lacks → ⊥) → SaysFlag name Lacks (rows_after s.rules [] words)
-  level_flag fits has = (
-    go (find (λ r. bytes_eq r.id name) rows) (each_found _ (λ r. bytes_eq r.id name) rows fine),
-    λ lacks. absurd (has lacks),
-  )
+  -- one that has it says by its text whether it is set
+  level_flag : (name : Text) → named_in name s.rules ≡ with_index 0 (filled (flag name)) ∷ []
+      → HasFlag name (rows_after s.rules [] words)
+  level_flag name one = go (find (λ r. bytes_eq r.id name) rows) (each_found _ (λ r. bytes_eq r.id name) rows fine)
     where
+      fits : Each (FitsFlag name) s.rules
+      fits = all_fit name AsWritten IsFlag s.rules (rw one (flag_fits name _ refl refl refl refl refl refl, tt))
+
       fine : Each (Fine name AsWritten IsFlag) rows
       fine = level_fine name AsWritten IsFlag s fits once [] words false [] none
 
@@ -115,9 +104,23 @@ module _ (name : Text) (Lacks : Type 0) (s : Shape) (words : List Text) (once : 
           let row = h.0 h.1 in
           rw row.reading (flag_text r.source r.values row.values)
 
-  pub flag_said : TakesFlag name Lacks s.rules → SaysFlag name Lacks (rows_after s.rules [] words)
-  flag_said (inl lacks) = level_no_flag lacks
-  flag_said (inr has) = level_flag has.0 has.1
+  flags_each : (fs : List (Text × List Verb)) → map (λ f. named_in f.0 s.rules) fs ≡ map (flag_rules verb) fs
+      → Each (λ name. HasFlag name (rows_after s.rules [] words)) (map (λ f. f.0) fs)
+  flags_each [] same = tt
+  flags_each ((name, verbs) ∷ fs) same =
+      let here : named_in name s.rules ≡ flag_rules verb (name, verbs) = cc in
+      let later : map (λ f. named_in f.0 s.rules) fs ≡ map (flag_rules verb) fs = cc in
+      (go (has verbs verb) here, flags_each fs later)
+    where
+      go : (t : Bool) → named_in name s.rules ≡ (if t then with_index 0 (filled (flag name)) ∷ [] else [])
+          → HasFlag name (rows_after s.rules [] words)
+      go true one = level_flag name one
+      go false lacks = lacked_flag name lacks
+
+  -- a level with no fault, whose rules are those of the table of flags, says of each whether it is set
+  pub level_flags : map (λ f. named_in f.0 s.rules) flags ≡ map (flag_rules verb) flags
+      → HasFlags (rows_after s.rules [] words)
+  level_flags same = among_each _ flag_names (flags_each flags same)
 
 -- the text is read as set exactly where the words set the flag
 pub flag_read : (given : Bool) (text : Option Text) (read : Bool) → IsFlagText given text

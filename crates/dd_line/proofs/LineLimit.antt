@@ -26,7 +26,8 @@ use Rattle.clap.specs.declared.builder.action.ArgAction.TheVariants.{Set}
 use Rattle.clap.specs.declared.builder.value_parser.Reading.TheVariants.{WithoutMinus}
 use Rattle.clap.specs.declared.builder.value_parser.ValueParser.{ValueParser}
 use Rattle.clap.specs.declared.builder.value_parser.ValueParser.TheVariants.{Signed}
-use Rattle.dd_line.specs.Line.{HasLimit, IsLimit}
+use Rattle.dd_line.specs.Line.{IsLimit}
+use Rattle.dd_line.specs.Requests.{HasLimit}
 use Rattle.dd_line.proofs.LineEach.{Each, each_found, first_none, second_none}
 use Rattle.dd_line.proofs.LineRows.{Fine, Fits}
 use Rattle.dd_line.proofs.LineWalk.{level_fine}

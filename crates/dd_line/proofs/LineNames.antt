@@ -3,12 +3,12 @@ use Rattle.std.proofs.Common.{◌≡◌, List, [], is_some, refl}
 use Rattle.clap.specs.Faults.{fault_of, entered_fault, walk_fault}
 use Rattle.clap.specs.Simple.{argument_words, built, entered, names_of, subcommand_of}
 use Rattle.clap.specs.Walk.{Text, nothing_held, stop_after, walk_from}
-use Rattle.dd_line.specs.Line.{NamesCommand, dicomdir_app}
+use Rattle.dd_line.specs.Line.{dicomdir_app}
+use Rattle.dd_line.specs.Requests.{NamesCommand}
 use Rattle.dd_line.proofs.LineEach.{Each, first_none, second_none}
 use Rattle.dd_line.proofs.LineHelp.{NotHelp, level_needs, walk_not_help}
-use Rattle.dd_line.proofs.LineReading.{check_serves, list_serves}
+use Rattle.dd_line.proofs.LineCommands.{check_serves, index_serves, list_serves, merge_serves, withdraw_serves}
 use Rattle.dd_line.proofs.LineServes.{Serves, entered_serves, help_serves}
-use Rattle.dd_line.proofs.LineWriting.{index_serves, merge_serves, withdraw_serves}
 
 -- words with no fault name a command
 pub names_command : (words : List Text) → fault_of dicomdir_app words ≡ []

@@ -25,19 +25,19 @@ use Rattle.dd_line.proofs.LineWalk.{level_fine}
 -- ---- how many values
 
 -- there is a value
-abbrev pub HasOne : List Text → Type 0
-HasOne values = 1 ≤ length values
+abbrev pub AreSome : List Text → Type 0
+AreSome values = 1 ≤ length values
 
-pub joined : (source : Option ValueSource) (xs ys : List Text) → HasOne xs → HasOne ys → HasOne (xs ++ ys)
+pub joined : (source : Option ValueSource) (xs ys : List Text) → AreSome xs → AreSome ys → AreSome (xs ++ ys)
 joined source xs ys first second = omega (arith, length-append xs ys)
 
 -- there is one value alone
-abbrev pub HasOneAlone : List Text → Type 0
-HasOneAlone values = length values ≡ 1
+abbrev pub AreOne : List Text → Type 0
+AreOne values = length values ≡ 1
 
 -- there is no row
-abbrev pub IsAbsent : List Text → Type 0
-IsAbsent values = ⊥
+abbrev pub AreNone : List Text → Type 0
+AreNone values = ⊥
 
 at_least_one : (most n : ℕ) → range_kinds 1 most n ≡ [] → 1 ≤ n
 at_least_one most zero none = cc
@@ -71,33 +71,33 @@ path_fits name ok a stores read right empty = record {
 
 some_right : (a : Rule) → (unwrap_or_range a.range).start_inclusive ≡ 1 → (values : List Text)
     → range_kinds (unwrap_or_range a.range).start_inclusive (most_values a) (length values) ≡ []
-    → HasOne (values_or_missing a values)
+    → AreSome (values_or_missing a values)
 some_right a least values range = kept values (at_least_one (most_values a) (length values) (rw least at range))
   where
-    kept : (values : List Text) → 1 ≤ length values → HasOne (values_or_missing a values)
+    kept : (values : List Text) → 1 ≤ length values → AreSome (values_or_missing a values)
     kept [] one = absurd (omega (arith, one))
     kept (v ∷ vs) one = one
 
 one_right : (a : Rule) → (unwrap_or_range a.range).start_inclusive ≡ 1 → most_values a ≡ 1 → (values : List Text)
     → range_kinds (unwrap_or_range a.range).start_inclusive (most_values a) (length values) ≡ []
-    → HasOneAlone (values_or_missing a values)
+    → AreOne (values_or_missing a values)
 one_right a least most values range = kept values (just_one (length values) (rw (least, most) at range))
   where
-    kept : (values : List Text) → length values ≡ 1 → HasOneAlone (values_or_missing a values)
+    kept : (values : List Text) → length values ≡ 1 → AreOne (values_or_missing a values)
     kept [] one = absurd (omega (arith, one))
     kept (v ∷ vs) one = one
 
 -- paths, at least one
-pub some_fits : (name : Text) (a : Rule) → Stores (λ _. HasOne) (action_of a) → reading_by a ≡ AsWritten
-    → (unwrap_or_range a.range).start_inclusive ≡ 1 → a.defaults ≡ [] → FitsValues name HasOne a
-some_fits name a stores read least empty = path_fits name HasOne a stores read (some_right a least) empty
+pub some_fits : (name : Text) (a : Rule) → Stores (λ _. AreSome) (action_of a) → reading_by a ≡ AsWritten
+    → (unwrap_or_range a.range).start_inclusive ≡ 1 → a.defaults ≡ [] → FitsValues name AreSome a
+some_fits name a stores read least empty = path_fits name AreSome a stores read (some_right a least) empty
 
 -- a path alone
-pub one_fits : (name : Text) (a : Rule) → Stores (λ _. HasOneAlone) (action_of a) → reading_by a ≡ AsWritten
+pub one_fits : (name : Text) (a : Rule) → Stores (λ _. AreOne) (action_of a) → reading_by a ≡ AsWritten
     → (unwrap_or_range a.range).start_inclusive ≡ 1 → most_values a ≡ 1 → a.defaults ≡ []
-    → FitsValues name HasOneAlone a
+    → FitsValues name AreOne a
 one_fits name a stores read least most empty =
-    path_fits name HasOneAlone a stores read (one_right a least most) empty
+    path_fits name AreOne a stores read (one_right a least most) empty
 
 -- ---- a level with no fault
 

@@ -1,25 +1,26 @@
 -- Commands that are given what they need where their words have no fault.
-use Rattle.std.proofs.Common.{◌≡◌, ◌≢◌, ◌≤◌, Bool, true, false, List, [], Option, Some, None, is_some, codes, refl}
-use Rattle.std.proofs.Common.{length, sym, ◌∙◌, true≢false}
+use Rattle.std.proofs.Common.{◌≡◌, ◌≤◌, ◌&&◌, ℕ, Bool, true, false, not, List, [], ◌∷◌, Option, Some, None, is_some}
+use Rattle.std.proofs.Common.{codes, length, map, refl, sym, ◌∙◌, true≢false}
 use Rattle.std.specs.List.{find}
 use Rattle.std.specs.Option.{option_map, option_map_or}
 use Rattle.std.specs.Prelude.{IfSome}
 use Rattle.std.specs.Str.{bytes_eq}
 use Rattle.std.proofs.lemmas.Slice.Eq.{bytes_eq-Decides}
 use Rattle.clap.specs.Faults.{entered_fault, level_fault}
-use Rattle.clap.specs.Simple.{App, Shape, entered, label_of, rows_at}
-use Rattle.clap.specs.Walk.{Row, Rule, Text, answers_to, first_of, nothing_held, rows_after}
-use Rattle.dd_line.specs.Line.{GivesInstances, GivesOneSet, NamesCommand, OnlyReads, TakesSources, given_for}
-use Rattle.dd_line.specs.Line.{given_paths, least_paths, verb_name}
+use Rattle.clap.specs.Simple.{App, Shape, entered, filled, label_of, rows_at, with_index}
+use Rattle.clap.specs.Takes.{is_given}
+use Rattle.clap.specs.Walk.{Rule, Text, answers_to, nothing_held, rows_after}
+use Rattle.clap.specs.declared.builder.value_parser.Reading.TheVariants.{AsWritten, WithoutMinus}
+use Rattle.dd_line.specs.Line.{given_for, number_option, one_path, some_paths, verb_name}
+use Rattle.dd_line.specs.Requests.{GivesPaths, HasLimit, HasOne, IsAbsent, NamesCommand, flags, lacked}
 use Rattle.dd_line.specs.declared.line.Verb.{Verb}
-use Rattle.dd_line.specs.declared.line.Verb.TheVariants.{Merge, Withdraw, Check, List as ListSet}
-use Rattle.dd_line.proofs.LineEach.{Each, each_found, named_in}
-use Rattle.dd_line.proofs.LineFlag.{TakesFlag, flag_said}
+use Rattle.dd_line.proofs.LineEach.{Each, among_each, each_found, named_each, named_in}
+use Rattle.dd_line.proofs.LineFlag.{flag_rules, level_flags}
 use Rattle.dd_line.proofs.LineHelp.{NotHelp}
-use Rattle.dd_line.proofs.LineLimit.{FitsLimit, level_limit}
-use Rattle.clap.specs.declared.builder.value_parser.Reading.TheVariants.{AsWritten}
-use Rattle.dd_line.proofs.LinePaths.{FitsValues, HasOne, HasOneAlone, IsAbsent, level_absent}
+use Rattle.dd_line.proofs.LineLimit.{ArePassed, level_limit, limit_fits}
+use Rattle.dd_line.proofs.LinePaths.{AreNone, AreOne, AreSome, joined, level_absent, level_values, one_fits, some_fits}
 use Rattle.dd_line.proofs.LineRows.{all_fit}
+use Rattle.dd_line.proofs.LineWalk.{level_given}
 
 -- ---- the command that is entered
 
@@ -59,97 +60,71 @@ help_serves s named none name met other words fault = go (bytes_eq s.name name) 
 
 -- ---- a command of the program
 
--- such a command has each flag, or is one that lacks it
-pub record TakesFlags (verb : Verb) (rules : List Rule) : Type 0 where
-  pub keys : TakesFlag (codes "keys") (verb ≢ Check) rules
-  pub strict : TakesFlag (codes "strict") (verb ≡ ListSet) rules
-  pub dry_run : TakesFlag (codes "dry-run") (OnlyReads verb) rules
-  pub quiet : TakesFlag (codes "quiet") (verb ≡ ListSet) rules
-  pub long : TakesFlag (codes "long") (verb ≢ ListSet) rules
-  pub link : TakesFlag (codes "link") (verb ≢ Merge) rules
+-- the command takes each argument once, and wants those that have to be given
+pub record IsPlain (s : Shape) : Type 0 where
+  pub once : s.args_override_self ≡ false
+  pub wants : s.subcommand_negates_reqs ≡ false
 
--- it is given the paths that it needs, and images only where it withdraws them
-pub record GivesWords (verb : Verb) (given : List Row) : Type 0 where
-  pub paths : least_paths verb ≤ length (given_paths given)
-  pub set : OnlyReads verb → GivesOneSet given
-  pub withdraw : verb ≡ Withdraw → GivesInstances given
-  pub uids : verb ≢ Withdraw → given_for (codes "instance") given ≡ []
-  pub files0_from : ¬ TakesSources verb → first_of (codes "files0-from") given ≡ None
-  pub out : TakesSources verb → length (given_for (codes "out") given) ≡ 1
-
+-- it has the flags of the table, and nothing that it lacks, and its words give it the paths that it needs
 pub record IsCommand (verb : Verb) (s : Shape) : Type 0 where
   pub named : s.name ≡ verb_name verb
-  pub once : s.args_override_self ≡ false
-  pub limits : Each FitsLimit s.rules
-  pub flags : TakesFlags verb s.rules
-  pub words : (words : List Text) → IsFaultless s words → GivesWords verb (rows_after s.rules [] words)
+  pub plain : IsPlain s
+  pub flags : map (λ f. named_in f.0 s.rules) flags ≡ map (flag_rules verb) flags
+  pub others : map (λ name. named_in name s.rules) (lacked verb) ≡ map (λ name. []) (lacked verb)
+  pub paths : (words : List Text) → IsFaultless s words → GivesPaths verb (rows_after s.rules [] words)
 
-pub verb_serves : (verb : Verb) (s : Shape) → IsCommand verb s → Serves s
-verb_serves verb s is name met other words none =
-    let given = is.words words none in
-    let flags = is.flags in
-    let keys = flag_said _ _ s words is.once none flags.keys in
-    let strict = flag_said _ _ s words is.once none flags.strict in
-    let dry_run = flag_said _ _ s words is.once none flags.dry_run in
-    let quiet = flag_said _ _ s words is.once none flags.quiet in
-    let long = flag_said _ _ s words is.once none flags.long in
-    let link = flag_said _ _ s words is.once none flags.link in
+module _ (s : Shape) (words : List Text) (plain : IsPlain s) (none : IsFaultless s words) where
+  -- no row has a name that no rule has
+  absent_each : (names : List Text) → map (λ name. named_in name s.rules) names ≡ map (λ name. []) names
+      → Each (λ name. IsAbsent name (rows_after s.rules [] words)) names
+  absent_each [] same = tt
+  absent_each (name ∷ names) same =
+      let here : named_in name s.rules ≡ [] = cc in
+      let later : map (λ name. named_in name s.rules) names ≡ map (λ name. []) names = cc in (
+        level_absent name AreNone s words (all_fit name AsWritten (λ _. AreNone) s.rules (rw here tt)) plain.once none
+            (λ values never. never),
+        absent_each names later,
+      )
+
+  -- an argument is given that has to be
+  given_named : (name : Text) (a : Rule) → named_in name s.rules ≡ a ∷ []
+      → (a.required && not (is_given a.id (rows_after s.rules [] words))) ≡ false
+  given_named name a one =
+      let all = named_each _ name s.rules (level_given s [] words [] none plain.wants) in
+      let own = rw one at all in
+      own.0
+
+  -- a path alone
+  pub one_given : (name : Text) (i : ℕ) → named_in name s.rules ≡ with_index i (filled (one_path name)) ∷ []
+      → HasOne name (rows_after s.rules [] words)
+  one_given name i one = level_values name AreOne s words
+      (all_fit name AsWritten (λ _. AreOne) s.rules (rw one (one_fits _ _ tt refl refl refl refl, tt)))
+      plain.once none (given_named name _ one)
+
+  -- one path at least
+  pub some_given : (name : Text) (i : ℕ) → named_in name s.rules ≡ with_index i (filled (some_paths name)) ∷ []
+      → 1 ≤ length (given_for name (rows_after s.rules [] words))
+  some_given name i some = level_values name AreSome s words
+      (all_fit name AsWritten (λ _. AreSome) s.rules (rw some (some_fits _ _ joined refl refl refl, tt)))
+      plain.once none (given_named name _ some)
+
+  -- a limit
+  pub limit_given : named_in (codes "max-bytes") s.rules
+      ≡ with_index 0 (filled (number_option (codes "max-bytes"))) ∷ []
+      → HasLimit (rows_after s.rules [] words)
+  limit_given one = level_limit s words (all_fit (codes "max-bytes") WithoutMinus (λ _. ArePassed) s.rules
+      (rw one (limit_fits _ refl refl refl refl refl, tt))) plain.once none
+
+pub command_serves : (verb : Verb) (s : Shape) → IsCommand verb s → Serves s
+command_serves verb s is name met other words none =
+    let plain = is.plain in
     let named = is.named in (
       verb,
       rows_after s.rules [] words,
       rw named refl,
-      level_limit s words is.limits is.once none,
       record {
-        keys = keys.0;
-        strict = strict.0;
-        dry_run = dry_run.0;
-        quiet = quiet.0;
-        long = long.0;
-        link = link.0;
-      },
-      record {
-        paths = given.paths;
-        set = given.set;
-        withdraw = given.withdraw;
-        uids = given.uids;
-        files0_from = given.files0_from;
-        out = given.out;
-        keys = keys.1;
-        strict = strict.1;
-        dry_run = dry_run.1;
-        quiet = quiet.1;
-        long = long.1;
-        link = link.1;
+        paths = is.paths words none;
+        flags = level_flags verb s words plain.once none is.flags;
+        others = among_each _ (lacked verb) (absent_each s words plain none (lacked verb) is.others);
       },
     )
-
--- ---- which values a rule gives an argument
-
--- the rule gives this argument a path
-abbrev pub FitsPath : Text → Rule → Type 0
-FitsPath name = FitsValues name HasOne
-
--- the rule gives this argument a path alone
-abbrev pub FitsOne : Text → Rule → Type 0
-FitsOne name = FitsValues name HasOneAlone
-
--- the rule gives this argument nothing
-abbrev pub FitsNone : Text → Rule → Type 0
-FitsNone name = FitsValues name IsAbsent
-
--- no rule has this name, so none gives it anything
-pub none_named : (name : Text) (rules : List Rule) → named_in name rules ≡ [] → Each (FitsNone name) rules
-none_named name rules none = all_fit name AsWritten (λ _. IsAbsent) rules (rw none tt)
-
-pub none_found : (name : Text) (s : Shape) (words : List Text) → s.args_override_self ≡ false → IsFaultless s words
-    → named_in name s.rules ≡ [] → find (λ r. bytes_eq r.id name) (rows_after s.rules [] words) ≡ None
-none_found name s words once none lacks =
-    level_absent name IsAbsent s words (none_named name s.rules lacks) once none (λ values never. never)
-
-pub none_given : (name : Text) (s : Shape) (words : List Text) → s.args_override_self ≡ false → IsFaultless s words
-    → named_in name s.rules ≡ [] → given_for name (rows_after s.rules [] words) ≡ []
-none_given name s words once none lacks = rw (none_found name s words once none lacks) refl
-
-pub no_first : (name : Text) (s : Shape) (words : List Text) → s.args_override_self ≡ false → IsFaultless s words
-    → named_in name s.rules ≡ [] → first_of name (rows_after s.rules [] words) ≡ None
-no_first name s words once none lacks = rw (none_found name s words once none lacks) refl

@@ -1,5 +1,6 @@
 -- The subcommand that a parse entered, by the command that it names.
-use Rattle.std.proofs.Common.{◌≡◌, ◌∙◌, List, Option, Some, None, ap, refl, subst, sym}
+use Rattle.std.proofs.Common.{◌≡◌, ◌⊎◌, ◌↔◌, ◌∙◌, false, List, Option, Some, None, ap, ap₂, inl, inr, refl, subst, sym, true≢false}
+use Rattle.std.proofs.lemmas.Slice.Eq.{bytes_eq-Decides}
 use Rattle.std.proofs.lemmas.Option.{same_Some}
 use Rattle.std.specs.Box.{box_value}
 use Rattle.std.specs.Option.{option_map}
@@ -9,7 +10,10 @@ use Rattle.clap.specs.Simple.{subcommand_rows}
 use Rattle.clap.specs.Walk.{Row, Text}
 use Rattle.clap.specs.declared.parser.matches.ArgMatches.TheViews.{out-SubCommand}
 use Rattle.clap.specs.declared.parser.matches.SubCommand.{SubCommand}
-use Rattle.dd_line.specs.Line.{IsEnoughFor, NamesCommand, verb_name}
+use Rattle.dd_line.specs.Line.{Asks, IsAsked, IsReading, OnlyReads, verb_name}
+use Rattle.dd_line.specs.Requests.{IsRequested, IsServed, NamesCommand, Requests}
+use Rattle.dd_line.specs.declared.line.Asked.{Asked}
+use Rattle.dd_line.specs.declared.request.Request.{Request}
 use Rattle.dd_line.specs.declared.line.Verb.{Verb}
 use Rattle.dd_line.specs.declared.line.Verb.TheVariants.{Index, Merge, Withdraw, Check, List as ListSet}
 
@@ -31,20 +35,60 @@ verb_of-name ListSet = refl
 same_verb : (a b : Verb) → verb_name a ≡ verb_name b → a ≡ b
 same_verb a b named = sym (verb_of-name a) ∙ ap verb_of named ∙ verb_of-name b
 
--- what was given is enough for the command that was named
-named_enough : (verb : Verb) (command : Text) (rows given : List Row) → NamesCommand (Some (command, rows))
-    → command ≡ verb_name verb → given ≡ rows → IsEnoughFor verb given
-named_enough verb command rows given (named, had, is, limit, flags, enough) name same =
+-- the command that was named was given what it needs
+named_served : (verb : Verb) (command : Text) (rows given : List Row) → NamesCommand (Some (command, rows))
+    → command ≡ verb_name verb → given ≡ rows → IsServed verb given
+named_served verb command rows given (named, had, is, served) name same =
     let pair = same_Some (command, rows) (verb_name named, had) is in
     let verbs = same_verb named verb (sym (ap (λ (p : Text × List Row). p.0) pair) ∙ name) in
     let lists = sym (ap (λ (p : Text × List Row). p.1) pair) ∙ sym same in
-    subst (λ (v : Verb). IsEnoughFor v given) verbs
-    (subst (λ (xs : List Row). IsEnoughFor named xs) lists enough)
+    subst (λ (v : Verb). IsServed v given) verbs
+    (subst (λ (xs : List Row). IsServed named xs) lists served)
 
-pub entered_enough : {Z : Type 0} (verb : Verb) (entered : Option (Box SubCommand Z)) (name : Text) (given : List Row)
-    → NamesCommand (subcommand_rows entered)
-    → Some name ≡ option_map (λ b. (out-SubCommand (box_value b)).name.now) entered
-    → Some given ≡ option_map (λ p. p.1) (subcommand_rows entered) → name ≡ verb_name verb → IsEnoughFor verb given
-entered_enough verb None name given names called has is = cc
-entered_enough verb (Some b) name given names called has is =
-    named_enough verb _ _ given names (sym (same_Some _ _ called) ∙ is) (same_Some _ _ has)
+module _ {Z : Type 0} (entered : Option (Box SubCommand Z)) (name : Text) (given : List Row)
+    (called : Some name ≡ option_map (λ b. (out-SubCommand (box_value b)).name.now) entered)
+    (has : Some given ≡ option_map (λ p. p.1) (subcommand_rows entered)) where
+  -- the subcommand that was entered, by its name and its rows
+  pub entered_rows : subcommand_rows entered ≡ Some (name, given)
+  entered_rows = go entered called has
+    where
+      go : (o : Option (Box SubCommand Z)) → Some name ≡ option_map (λ b. (out-SubCommand (box_value b)).name.now) o
+          → Some given ≡ option_map (λ p. p.1) (subcommand_rows o) → subcommand_rows o ≡ Some (name, given)
+      go None called has = cc
+      go (Some b) called has =
+          let names = same_Some _ _ called in
+          let rows = same_Some _ _ has in
+          ap Some (ap₂ (λ (n : Text) (g : List Row). (n, g)) (sym names) (sym rows))
+
+  pub entered_served : (verb : Verb) → NamesCommand (subcommand_rows entered) → name ≡ verb_name verb
+      → IsServed verb given
+  entered_served verb names is = named_served verb name given given (subst NamesCommand entered_rows names) is refl
+
+-- ---- a request as a line
+
+pub requested_asks : (r : Request) (a : Asked) (found : Option (Text × List Row)) → IsRequested r found
+    → ((command : Text) → (given : List Row) → Requests r command given → Asks a command given) → IsAsked a found
+requested_asks r a None requested asks = absurd requested
+requested_asks r a (Some (command, given)) requested asks = asks command given requested
+
+-- the command has the name of one that only reads
+abbrev IsReader : Text → Type 0
+IsReader command = (command ≡ codes "check") ⊎ (command ≡ codes "list")
+
+no_reader : (command : Text) → bytes_eq command (codes "check") ≡ false → bytes_eq command (codes "list") ≡ false
+    → IsReader command → ⊥
+no_reader command check list (inl is) = true≢false (sym ((bytes_eq-Decides command (codes "check")).1 is) ∙ check)
+no_reader command check list (inr is) = true≢false (sym ((bytes_eq-Decides command (codes "list")).1 is) ∙ list)
+
+reader : (verb : Verb) → OnlyReads verb ↔ IsReader (verb_name verb)
+reader Index = (λ reads. absurd reads, no_reader (codes "index") refl refl)
+reader Merge = (λ reads. absurd reads, no_reader (codes "merge") refl refl)
+reader Withdraw = (λ reads. absurd reads, no_reader (codes "withdraw") refl refl)
+reader Check = (λ _. inl refl, λ _. tt)
+reader ListSet = (λ _. inr refl, λ _. tt)
+
+-- a line only reads where its words name such a command
+pub asked_reads : (a : Asked) (found : Option (Text × List Row)) → IsAsked a found → OnlyReads a.verb ↔ IsReading found
+asked_reads a None asked = absurd asked
+asked_reads a (Some (command, given)) asked =
+    subst (λ (c : Text). OnlyReads a.verb ↔ IsReader c) asked.verb (reader a.verb)

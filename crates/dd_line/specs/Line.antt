@@ -257,74 +257,25 @@ pub record AsksToWithdraw (a : Asked) : Type 0 where
   pub paths : length a.paths.items ≡ 2
   pub uids : 1 ≤ length a.uids.items
 
--- the command takes sources, and the line gives none: only the folder that is written to, and no file of names
-pub record AsksNoSource (a : Asked) : Type 0 where
-  pub takes : TakesSources a.verb
-  pub paths : length a.paths.items ≤ 1
-  pub files0_from : a.files0_from ≡ None
+-- the line has the paths that its command needs, and nothing that its command lacks
+pub record FitsCommand (a : Asked) : Type 0 where
+  pub paths : least_paths a.verb ≤ length a.paths.items
+  pub set : OnlyReads a.verb → AsksForOneSet a
+  pub withdraw : a.verb ≡ Withdraw → AsksToWithdraw a
+  pub uids : a.verb ≢ Withdraw → a.uids.items ≡ []
+  pub keys : a.verb ≢ Check → a.keys ≡ false
+  pub strict : a.verb ≡ ListSet → a.strict ≡ false
+  pub dry_run : OnlyReads a.verb → a.dry_run ≡ false
+  pub quiet : a.verb ≡ ListSet → a.quiet ≡ false
+  pub long : a.verb ≢ ListSet → a.long ≡ false
+  pub link : a.verb ≢ Merge → a.link ≡ false
+  pub files0_from : ¬ TakesSources a.verb → a.files0_from ≡ None
+  pub sources : TakesSources a.verb → a.files0_from ≡ None → 2 ≤ length a.paths.items
 
 -- the command and the values are those of the command that the words name
 abbrev pub IsAsked : Asked → Option (Text × List Row) → Type 0
 IsAsked a None = ⊥
 IsAsked a (Some (command, given)) = Asks a command given
-
--- the text that `--max-bytes` was given, if any, is a number of 32 bits
-abbrev pub HasLimit : List Row → Type 0
-HasLimit given = (text : Text) → first_of max_bytes_name given ≡ Some text
-    → (one_of max_bytes_name given ≡ Some (without_minus text))
-    × IsSignedIn (pos 0) (pos most_bytes) text
-
--- the text of a flag is `true` where the flag is set. Where it is not set the text is `false`, or there is no text,
--- since the command has no such flag
-abbrev pub IsFlagText : Bool → Option Text → Type 0
-IsFlagText true text = text ≡ Some (codes "true")
-IsFlagText false text = (text ≡ None) ⊎ (text ≡ Some (codes "false"))
-
--- the text of the flag of this name says whether the words set it
-abbrev pub HasFlag : Text → List Row → Type 0
-HasFlag name given = IsFlagText (is_given name given) (one_of name given)
-
--- the text of each flag says whether the words set it
-pub record HasFlags (given : List Row) : Type 0 where
-  pub keys : HasFlag keys_name given
-  pub strict : HasFlag strict_name given
-  pub dry_run : HasFlag dry_run_name given
-  pub quiet : HasFlag quiet_name given
-  pub long : HasFlag long_name given
-  pub link : HasFlag link_name given
-
--- the path of one file-set was given, and no option with a value
-pub record GivesOneSet (given : List Row) : Type 0 where
-  pub id : first_of id_name given ≡ None
-  pub uid : first_of uid_name given ≡ None
-  pub max_bytes : first_of max_bytes_name given ≡ None
-  pub paths : length (given_paths given) ≡ 1
-
--- the folder that is written to was given, one file-set, and at least one image
-pub record GivesInstances (given : List Row) : Type 0 where
-  pub paths : length (given_paths given) ≡ 2
-  pub instances : 1 ≤ length (given_for instance_name given)
-
--- a command of this kind was given what it needs, and nothing that it lacks. Images go to `withdraw` alone, and a flag
--- to a command that has it. A file of names goes to one that takes sources, which has one folder to write to
-pub record IsEnoughFor (verb : Verb) (given : List Row) : Type 0 where
-  pub paths : least_paths verb ≤ length (given_paths given)
-  pub set : OnlyReads verb → GivesOneSet given
-  pub withdraw : verb ≡ Withdraw → GivesInstances given
-  pub uids : verb ≢ Withdraw → given_for instance_name given ≡ []
-  pub keys : verb ≢ Check → is_given keys_name given ≡ false
-  pub strict : verb ≡ ListSet → is_given strict_name given ≡ false
-  pub dry_run : OnlyReads verb → is_given dry_run_name given ≡ false
-  pub quiet : verb ≡ ListSet → is_given quiet_name given ≡ false
-  pub long : verb ≢ ListSet → is_given long_name given ≡ false
-  pub link : verb ≢ Merge → is_given link_name given ≡ false
-  pub files0_from : ¬ TakesSources verb → first_of files0_from_name given ≡ None
-  pub out : TakesSources verb → length (given_for out_name given) ≡ 1
-
--- the words name a command, and give it what it needs
-abbrev pub NamesCommand : Option (Text × List Row) → Type 0
-NamesCommand found = (verb : Verb) × (given : List Row) × (found ≡ Some (verb_name verb, given)) × HasLimit given
-    × HasFlags given × IsEnoughFor verb given
 
 -- the command that they name is `check`
 abbrev pub IsCheck : Option (Text × List Row) → Type 0
@@ -365,7 +316,7 @@ AsksBadName a = ((id : Text) × (option_map string_bytes a.id ≡ Some id) × ¬
     ⊎ (((uid : Text) × (option_map string_bytes a.uid ≡ Some uid) × ¬ IsUid uid)
     ⊎ ((uid : Text) × Contains (words_of a.uids.items) uid × ¬ IsUid uid))
 
--- a refusal is for want of memory, or of one of these kinds
+-- a refusal is for lack of memory, or of one of these kinds
 abbrev pub IsRefusedFor : Kinds → LineFault → Type 0
 IsRefusedFor kinds (Refused e) = (kind_of e ≢ OutOfMemory) × IsAmong (kind_of e) kinds
 IsRefusedFor kinds Memory = Unit {0}

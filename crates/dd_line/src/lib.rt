@@ -1,11 +1,19 @@
 //! The command line of `dicomdir`.
 //!
-//! Its promise stands at `read_words`: what a line asks for is exactly what the parser's definitions find in its
-//! words.
+//! Its promise stands at `read_request`: what a line asks for is exactly what the parser's definitions find in its
+//! words. `read_words` says the same of all commands in one form.
 #![tactic(auto)]
 
 mod commands;
 mod endings;
+mod from_words;
+mod given;
 mod line;
+mod request;
 
+pub use from_words::read_request;
 pub use line::{Asked, LineFault, Verb, read_words};
+pub use request::{
+    CheckRequest, IndexRequest, ListRequest, MergeRequest, NewSet, Request, Sources,
+    WithdrawRequest,
+};

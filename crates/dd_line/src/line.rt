@@ -1,20 +1,13 @@
-//! The command line: which command its words name, with its values.
-ghost use Rattle.std.specs.Prelude.{◌≡◌, ◌≢◌, ◌++◌, ◌↔◌, ◌⊎◌, [], None, false, string_bytes, true};
-ghost use Rattle.std.specs.Prelude.{IfErr, IfOk, IsOk, MatchResult, length, option_map, ◌≤◌};
-ghost use Rattle.clap.specs.Takes.{is_given};
-ghost use Rattle.clap.specs.Words.{fault_of, first_of, found_of, rows_of, takes};
-ghost use Rattle.clap.specs.Words.{subcommand_of, subcommand_rows_of};
-ghost use Rattle.dd_line.specs.Line.{Asks, AsksForOneSet, AsksNoSource, AsksToWithdraw, HasFlag, HasFlags};
-ghost use Rattle.dd_line.specs.Line.{HasLimit, IsAsked, IsEnoughFor, IsLimit, IsMissingArgument, IsReading};
-ghost use Rattle.dd_line.specs.Line.{IsRefusedFor, LacksSources, NamesCommand, OnlyReads, TakesSources};
-ghost use Rattle.dd_line.specs.Line.{dicomdir_app, given_for, given_paths, instance_name, least_paths};
-ghost use Rattle.dd_line.specs.Line.{max_bytes_name, verb_name, words_of};
+//! The command line in one form for all commands.
+ghost use Rattle.std.specs.Prelude.{◌≡◌, List, ◌∷◌, ◌↔◌, ◌⊎◌, [], None, false, string_bytes, true};
+ghost use Rattle.std.specs.Prelude.{IfErr, IfOk, MatchResult};
+ghost use Rattle.clap.specs.Words.{Row, Text, fault_of, subcommand_of, takes};
+ghost use Rattle.dd_line.specs.Line.{Asks, FitsCommand, IsAsked, IsMissingArgument, IsReading};
+ghost use Rattle.dd_line.specs.Line.{IsRefusedFor, LacksSources, OnlyReads, dicomdir_app, words_of};
+ghost use Rattle.dd_line.specs.Requests.{AsksToMake, AsksToRead, Requests};
 
-use crate::commands::{
-    DRY_RUN, FILES0_FROM, ID, INSTANCE, KEYS, LINK, LONG, MAX_BYTES, OUT, QUIET, SET, SOURCE,
-    STRICT, UID, no_source, program,
-};
-use clap::ArgMatches;
+use crate::from_words::read_request;
+use crate::request::{NewSet, Request, Sources};
 use clap::error::ErrorKind;
 use std::alloc::{AllocError, Global};
 use thiserror::Error;
@@ -109,188 +102,121 @@ impl From<clap::Error> for LineFault {
     }
 }
 
-/// Copies the value of an option. `None` where it is not given.
-fn value_of(alloc: Global, given: &ArgMatches<'_>, name: &str) -> Result<Option<String>, AllocError>
-    ensures { IfOk result (λ value.
-        option_map string_bytes value ≡ first_of name.now (rows_of (found_of given.now))) }
-{
-    match given.get_str(name) {
-        Some(value) => Ok(Some(String::from_str(alloc, value)?)),
-        None => Ok(None),
-    }
-}
-
-/// Reads the number of `--max-bytes`, which is 4294967295 where it is not given.
-fn limit_of(given: &ArgMatches<'_>) -> u32
-    requires { HasLimit (rows_of (found_of given.now)) }
-    ensures { IsLimit (first_of max_bytes_name (rows_of (found_of given.now))) result }
-{
-    given.get_one::<u32>(MAX_BYTES).unwrap_or(u32::MAX)
-}
-
-/// Says whether a flag is set.
-fn flag_of(given: &ArgMatches<'_>, name: &str) -> bool
-    requires { HasFlag name.now (rows_of (found_of given.now)) }
-    ensures { result ≡ is_given name.now (rows_of (found_of given.now)) }
-{
-    given.get_flag(name)
-}
-
-/// Appends the values of an argument.
-fn append_values(
+/// Makes a line that asks for a new file-set, and puts its folder before these paths.
+fn making_line(
     alloc: Global,
-    given: &ArgMatches<'_>,
-    name: &str,
-    words: &mut Vec<String>,
-) -> Result<(), AllocError>
-    ensures { IsOk result → words_of words.new.items
-        ≡ words_of words.old.items ++ given_for name.now (rows_of (found_of given.now)) }
+    verb: Verb,
+    new_set: NewSet,
+    mut paths: Vec<String>,
+) -> Result<Asked, AllocError>
+    ensures verb { IfOk result (λ asked. asked.verb ≡ verb) }
+    ensures set { IfOk result (AsksToMake new_set (words_of paths.items)) }
+    ensures uids { IfOk result (λ asked. asked.uids.items ≡ []) }
+    ensures link { IfOk result (λ asked. asked.link ≡ false) }
+    ensures files { IfOk result (λ asked. asked.files0_from ≡ None) }
 {
-    let values = given.get_strs(name).unwrap_or(&[]);
-    for value in values {
-        words.push(String::from_str(alloc, value)?)?;
-    }
-    Ok(())
-}
-
-/// Lists the paths: the folder that is written to, if any, and then the paths that are read.
-fn paths_of(alloc: Global, given: &ArgMatches<'_>) -> Result<Vec<String>, AllocError>
-    ensures { IfOk result (λ paths. words_of paths.items
-        ≡ given_paths (rows_of (found_of given.now))) }
-{
-    let mut paths = Vec::new(alloc);
-    append_values(alloc, given, OUT, &mut paths)?;
-    append_values(alloc, given, SOURCE, &mut paths)?;
-    append_values(alloc, given, SET, &mut paths)?;
-    Ok(paths)
-}
-
-/// Lists the SOP Instance UIDs of the images.
-fn uids_of(alloc: Global, given: &ArgMatches<'_>) -> Result<Vec<String>, AllocError>
-    ensures { IfOk result (λ uids. words_of uids.items
-        ≡ given_for instance_name (rows_of (found_of given.now))) }
-{
-    let mut uids = Vec::new(alloc);
-    append_values(alloc, given, INSTANCE, &mut uids)?;
-    Ok(uids)
-}
-
-/// Reads what the command asks for with its values.
-fn asked_by(alloc: Global, verb: Verb, given: &ArgMatches<'_>) -> Result<Asked, AllocError>
-    requires limit { HasLimit (rows_of (found_of given.now)) }
-    requires flags { HasFlags (rows_of (found_of given.now)) }
-    requires enough { IsEnoughFor verb (rows_of (found_of given.now)) }
-    ensures values { IfOk result
-        (λ asked. Asks asked (verb_name verb) (rows_of (found_of given.now))) }
-    ensures paths { IfOk result (λ asked. least_paths asked.verb ≤ length asked.paths.items) }
-    ensures set { IfOk result (λ asked. OnlyReads asked.verb → AsksForOneSet asked) }
-    ensures withdraw { IfOk result (λ asked. asked.verb ≡ Verb.Withdraw → AsksToWithdraw asked) }
-    ensures uids { IfOk result (λ asked. asked.verb ≢ Verb.Withdraw → asked.uids.items ≡ []) }
-    ensures keys { IfOk result (λ asked. asked.verb ≢ Verb.Check → asked.keys ≡ false) }
-    ensures strict { IfOk result (λ asked. asked.verb ≡ Verb.List → asked.strict ≡ false) }
-    ensures dry { IfOk result (λ asked. OnlyReads asked.verb → asked.dry_run ≡ false) }
-    ensures quiet { IfOk result (λ asked. asked.verb ≡ Verb.List → asked.quiet ≡ false) }
-    ensures long { IfOk result (λ asked. asked.verb ≢ Verb.List → asked.long ≡ false) }
-    ensures link { IfOk result (λ asked. asked.verb ≢ Verb.Merge → asked.link ≡ false) }
-    ensures files { IfOk result (λ asked. ¬ TakesSources asked.verb → asked.files0_from ≡ None) }
-{
+    paths.insert(0, new_set.out)?;
     Ok(Asked {
         verb,
-        id: value_of(alloc, given, ID)?,
-        uid: value_of(alloc, given, UID)?,
-        max_bytes: limit_of(given),
-        paths: paths_of(alloc, given)?,
-        uids: uids_of(alloc, given)?,
-        keys: flag_of(given, KEYS),
-        strict: flag_of(given, STRICT),
-        dry_run: flag_of(given, DRY_RUN),
-        quiet: flag_of(given, QUIET),
-        long: flag_of(given, LONG),
-        link: flag_of(given, LINK),
-        files0_from: value_of(alloc, given, FILES0_FROM)?,
+        id: new_set.id,
+        uid: new_set.uid,
+        max_bytes: new_set.max_bytes,
+        paths,
+        uids: Vec::new(alloc),
+        keys: false,
+        strict: new_set.strict,
+        dry_run: new_set.dry_run,
+        quiet: new_set.quiet,
+        long: false,
+        link: false,
+        files0_from: None,
     })
 }
 
-/// Reads what the named command asks for.
-fn asked_of(alloc: Global, found: &ArgMatches<'_>) -> Result<Asked, AllocError>
-    requires { NamesCommand (subcommand_rows_of found.now) }
-    ensures values { IfOk result (λ asked. IsAsked asked (subcommand_rows_of found.now)) }
-    ensures paths { IfOk result (λ asked. least_paths asked.verb ≤ length asked.paths.items) }
-    ensures set { IfOk result (λ asked. OnlyReads asked.verb → AsksForOneSet asked) }
-    ensures withdraw { IfOk result (λ asked. asked.verb ≡ Verb.Withdraw → AsksToWithdraw asked) }
-    ensures uids { IfOk result (λ asked. asked.verb ≢ Verb.Withdraw → asked.uids.items ≡ []) }
-    ensures keys { IfOk result (λ asked. asked.verb ≢ Verb.Check → asked.keys ≡ false) }
-    ensures strict { IfOk result (λ asked. asked.verb ≡ Verb.List → asked.strict ≡ false) }
-    ensures dry { IfOk result (λ asked. OnlyReads asked.verb → asked.dry_run ≡ false) }
-    ensures quiet { IfOk result (λ asked. asked.verb ≡ Verb.List → asked.quiet ≡ false) }
-    ensures long { IfOk result (λ asked. asked.verb ≢ Verb.List → asked.long ≡ false) }
-    ensures link { IfOk result (λ asked. asked.verb ≢ Verb.Merge → asked.link ≡ false) }
-    ensures files { IfOk result (λ asked. ¬ TakesSources asked.verb → asked.files0_from ≡ None) }
+/// Makes a line of a command that takes sources.
+fn sources_line(
+    alloc: Global,
+    verb: Verb,
+    new_set: NewSet,
+    sources: Sources,
+) -> Result<Asked, AllocError>
+    ensures verb { IfOk result (λ asked. asked.verb ≡ verb) }
+    ensures set { IfOk result (AsksToMake new_set (words_of sources.words.items)) }
+    ensures uids { IfOk result (λ asked. asked.uids.items ≡ []) }
+    ensures link { IfOk result (λ asked. asked.link ≡ false) }
+    ensures files { IfOk result (λ asked. asked.files0_from ≡ sources.files0_from) }
 {
-    match found.subcommand() {
-        Some(("index", given)) => asked_by(alloc, Verb::Index, given),
-        Some(("merge", given)) => asked_by(alloc, Verb::Merge, given),
-        Some(("withdraw", given)) => asked_by(alloc, Verb::Withdraw, given),
-        Some(("check", given)) => asked_by(alloc, Verb::Check, given),
-        Some(("list", given)) => asked_by(alloc, Verb::List, given),
-        _ => unreachable!(),
+    let mut asked = making_line(alloc, verb, new_set, sources.words)?;
+    asked.files0_from = sources.files0_from;
+    Ok(asked)
+}
+
+/// Makes a line that asks to read a file-set.
+fn reading_line(alloc: Global, verb: Verb, set: String) -> Result<Asked, AllocError>
+    ensures verb { IfOk result (λ asked. asked.verb ≡ verb) }
+    ensures set { IfOk result (AsksToRead (string_bytes set)) }
+    ensures flags { IfOk result (λ asked. (asked.keys ≡ false) × (asked.strict ≡ false)
+        × (asked.quiet ≡ false) × (asked.long ≡ false)) }
+{
+    let mut paths = Vec::new(alloc);
+    paths.push(set)?;
+    Ok(Asked {
+        verb,
+        id: None,
+        uid: None,
+        max_bytes: u32::MAX,
+        paths,
+        uids: Vec::new(alloc),
+        keys: false,
+        strict: false,
+        dry_run: false,
+        quiet: false,
+        long: false,
+        link: false,
+        files0_from: None,
+    })
+}
+
+/// Says what a request asks for, in one form for all commands.
+fn line_of(alloc: Global, request: Request) -> Result<Asked, AllocError>
+    ensures asked { IfOk result (λ asked. (command : Text) → (given : List Row)
+        → Requests request command given → Asks asked command given) }
+    ensures fits { IfOk result FitsCommand }
+{
+    match request {
+        Request::Index(index) => sources_line(alloc, Verb::Index, index.new_set, index.sources),
+        Request::Merge(merge) => {
+            let mut asked = sources_line(alloc, Verb::Merge, merge.new_set, merge.sets)?;
+            asked.link = merge.link;
+            Ok(asked)
+        }
+        Request::Withdraw(withdraw) => {
+            let mut paths = Vec::new(alloc);
+            paths.push(withdraw.set)?;
+            let mut asked = making_line(alloc, Verb::Withdraw, withdraw.new_set, paths)?;
+            asked.uids = withdraw.instances;
+            Ok(asked)
+        }
+        Request::Check(check) => {
+            let mut asked = reading_line(alloc, Verb::Check, check.set)?;
+            asked.keys = check.keys;
+            asked.strict = check.strict;
+            asked.quiet = check.quiet;
+            Ok(asked)
+        }
+        Request::List(list) => {
+            let mut asked = reading_line(alloc, Verb::List, list.set)?;
+            asked.long = list.long;
+            Ok(asked)
+        }
     }
 }
 
-/// Parses the words.
-fn parsed<'a>(alloc: Global, words: &'a [String]) -> Result<ArgMatches<'a>, LineFault>
-    ensures found { IfOk result (λ found.
-        subcommand_rows_of found ≡ subcommand_of dicomdir_app (words_of words.entry.now)) }
-    ensures passes { IfErr result (λ fault.
-        takes dicomdir_app (words_of words.entry.now) ≡ true
-        → fault ≡ LineFault.Memory) }
-    ensures kinds { MatchResult result
-        (λ _. fault_of dicomdir_app (words_of words.entry.now) ≡ [])
-        (IsRefusedFor (fault_of dicomdir_app (words_of words.entry.now))) }
-{
-    Ok(program(alloc)?.try_get_matches_from(words)?)
-}
-
-/// Says whether a line names no source for a command that takes sources.
-fn lacks_sources(asked: &Asked) -> bool
-    ensures { result ≡ true ↔ AsksNoSource asked.now }
-{
-    matches!(asked.verb, Verb::Index | Verb::Merge)
-        && asked.paths.len() <= 1
-        && asked.files0_from.is_none()
-}
-
-/// Refuses a line that names no source for a command that takes sources.
-fn refuse_no_source(alloc: Global, asked: &Asked) -> Result<(), LineFault>
-    ensures { MatchResult result (λ _. ¬ AsksNoSource asked.now)
-        (λ fault. (fault ≡ LineFault.Memory) ⊎ (AsksNoSource asked.now × IsMissingArgument fault)) }
-{
-    if lacks_sources(asked) {
-        return Err(LineFault::Refused(no_source(alloc, asked.verb)?));
-    }
-    Ok(())
-}
-
-/// Reads what the words of a command line ask for. The first word is the program's name.
-///
-/// A line that the program does not take, or that asks for help, is `Refused`. So is one that names no source for
-/// `index` or `merge`, by a `SRC` or `SET` or by `--files0-from`.
+/// Reads what the words of a command line ask for, as `read_request` does, in one form for all commands.
 pub fn read_words(alloc: Global, words: &[String]) -> Result<Asked, LineFault>
     ensures asked { IfOk result (λ asked.
         IsAsked asked (subcommand_of dicomdir_app (words_of words.now))) }
-    ensures paths { IfOk result (λ asked. least_paths asked.verb ≤ length asked.paths.items) }
-    ensures set { IfOk result (λ asked. OnlyReads asked.verb → AsksForOneSet asked) }
-    ensures withdraw { IfOk result (λ asked. asked.verb ≡ Verb.Withdraw → AsksToWithdraw asked) }
-    ensures uids { IfOk result (λ asked. asked.verb ≢ Verb.Withdraw → asked.uids.items ≡ []) }
-    ensures keys { IfOk result (λ asked. asked.verb ≢ Verb.Check → asked.keys ≡ false) }
-    ensures strict { IfOk result (λ asked. asked.verb ≡ Verb.List → asked.strict ≡ false) }
-    ensures dry { IfOk result (λ asked. OnlyReads asked.verb → asked.dry_run ≡ false) }
-    ensures quiet { IfOk result (λ asked. asked.verb ≡ Verb.List → asked.quiet ≡ false) }
-    ensures long { IfOk result (λ asked. asked.verb ≢ Verb.List → asked.long ≡ false) }
-    ensures link { IfOk result (λ asked. asked.verb ≢ Verb.Merge → asked.link ≡ false) }
-    ensures files { IfOk result (λ asked. ¬ TakesSources asked.verb → asked.files0_from ≡ None) }
-    ensures sources { IfOk result (λ asked.
-        TakesSources asked.verb → asked.files0_from ≡ None → 2 ≤ length asked.paths.items) }
+    ensures fits { IfOk result FitsCommand }
     ensures reading { IfOk result (λ asked.
         OnlyReads asked.verb ↔ IsReading (subcommand_of dicomdir_app (words_of words.now))) }
     ensures passes { IfErr result (λ fault.
@@ -306,8 +232,6 @@ pub fn read_words(alloc: Global, words: &[String]) -> Result<Asked, LineFault>
         × LacksSources (subcommand_of dicomdir_app (words_of words.now))
         × IsMissingArgument fault)) }
 {
-    let found = parsed(alloc, words)?;
-    let asked = asked_of(alloc, &found)?;
-    refuse_no_source(alloc, &asked)?;
-    Ok(asked)
+    let request = read_request(alloc, words)?;
+    Ok(line_of(alloc, request)?)
 }

@@ -4,7 +4,7 @@ use Rattle.std.specs.Str.Parse.{ParsesUnsigned, ExplainsUnsignedError, HasUnsign
 use Rattle.clap.specs.Words.{found_of, rows_of}
 use Rattle.clap.proofs.WalkLemmas.{one_text-rows}
 use Rattle.dd_line.proofs.LineLimit.{limit_read}
-use Rattle.dd_line.proofs.line.limit_of.Goals as goal
+use Rattle.dd_line.proofs.given.limit_of.Goals as goal
 
 pub returns : goal.returns
 returns c =

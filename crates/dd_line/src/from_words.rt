@@ -1,0 +1,189 @@
+//! The words of a command line, read as a request.
+ghost use Rattle.std.specs.Prelude.{◌≡◌, ◌⊎◌, [], Some, IfErr, IfOk, MatchResult, true};
+ghost use Rattle.clap.specs.Words.{fault_of, found_of, rows_of, subcommand_of, subcommand_rows_of, takes};
+ghost use Rattle.dd_line.specs.Line.{IsMissingArgument, IsRefusedFor, LacksSources, dicomdir_app};
+ghost use Rattle.dd_line.specs.Line.{verb_name, words_of};
+ghost use Rattle.dd_line.specs.Requests.{GivesNewSet, GivesNoSource, HasFlags, HasSources, IsRequested, IsServed};
+ghost use Rattle.dd_line.specs.Requests.{MakesAsGiven, NamesCommand, Requests};
+
+use crate::commands::{self, no_source, program};
+use crate::given::{flag_of, limit_of, path_of, value_of, values_of};
+use crate::line::{LineFault, Verb};
+use crate::request::{
+    CheckRequest, IndexRequest, ListRequest, MergeRequest, NewSet, Request, Sources,
+    WithdrawRequest,
+};
+use clap::ArgMatches;
+use std::alloc::{AllocError, Global};
+
+/// Reads how a new file-set is made.
+fn new_set_of(alloc: Global, given: &ArgMatches<'_>) -> Result<NewSet, AllocError>
+    requires paths { GivesNewSet (rows_of (found_of given.now)) }
+    requires flags { HasFlags (rows_of (found_of given.now)) }
+    ensures { IfOk result (λ set. MakesAsGiven set (rows_of (found_of given.now))) }
+{
+    Ok(NewSet {
+        out: path_of(alloc, given, commands::OUT)?,
+        id: value_of(alloc, given, commands::ID)?,
+        uid: value_of(alloc, given, commands::UID)?,
+        max_bytes: limit_of(given),
+        strict: flag_of(given, commands::STRICT),
+        dry_run: flag_of(given, commands::DRY_RUN),
+        quiet: flag_of(given, commands::QUIET),
+    })
+}
+
+/// Lists the sources of a command, whose paths have this name. Refused where there are none.
+fn sources_of(
+    alloc: Global,
+    verb: Verb,
+    given: &ArgMatches<'_>,
+    name: &str,
+) -> Result<Sources, LineFault>
+    ensures sources { IfOk result (HasSources name.now (rows_of (found_of given.now))) }
+    ensures some { MatchResult result
+        (λ _. ¬ GivesNoSource name.now (rows_of (found_of given.now)))
+        (λ fault. (fault ≡ LineFault.Memory)
+        ⊎ (GivesNoSource name.now (rows_of (found_of given.now)) × IsMissingArgument fault)) }
+{
+    let words = values_of(alloc, given, name)?;
+    let files0_from = value_of(alloc, given, commands::FILES0_FROM)?;
+    if words.is_empty() && files0_from.is_none() {
+        return Err(LineFault::Refused(no_source(alloc, verb)?));
+    }
+    Ok(Sources { words, files0_from })
+}
+
+/// Reads a line of `index`.
+fn index_request(alloc: Global, given: &ArgMatches<'_>) -> Result<Request, LineFault>
+    requires { IsServed Verb.Index (rows_of (found_of given.now)) }
+    ensures request { IfOk result (λ request.
+        Requests request (verb_name Verb.Index) (rows_of (found_of given.now))) }
+    ensures some { MatchResult result
+        (λ _. ¬ LacksSources (Some (verb_name Verb.Index, rows_of (found_of given.now))))
+        (λ fault. (fault ≡ LineFault.Memory)
+        ⊎ (LacksSources (Some (verb_name Verb.Index, rows_of (found_of given.now)))
+        × IsMissingArgument fault)) }
+{
+    let new_set = new_set_of(alloc, given)?;
+    let sources = sources_of(alloc, Verb::Index, given, commands::SOURCE)?;
+    Ok(Request::Index(IndexRequest { new_set, sources }))
+}
+
+/// Reads a line of `merge`.
+fn merge_request(alloc: Global, given: &ArgMatches<'_>) -> Result<Request, LineFault>
+    requires { IsServed Verb.Merge (rows_of (found_of given.now)) }
+    ensures request { IfOk result (λ request.
+        Requests request (verb_name Verb.Merge) (rows_of (found_of given.now))) }
+    ensures some { MatchResult result
+        (λ _. ¬ LacksSources (Some (verb_name Verb.Merge, rows_of (found_of given.now))))
+        (λ fault. (fault ≡ LineFault.Memory)
+        ⊎ (LacksSources (Some (verb_name Verb.Merge, rows_of (found_of given.now)))
+        × IsMissingArgument fault)) }
+{
+    let new_set = new_set_of(alloc, given)?;
+    let sets = sources_of(alloc, Verb::Merge, given, commands::SET)?;
+    let link = flag_of(given, commands::LINK);
+    Ok(Request::Merge(MergeRequest {
+        new_set,
+        sets,
+        link,
+    }))
+}
+
+/// Reads a line of `withdraw`.
+fn withdraw_request(alloc: Global, given: &ArgMatches<'_>) -> Result<Request, AllocError>
+    requires { IsServed Verb.Withdraw (rows_of (found_of given.now)) }
+    ensures { IfOk result (λ request.
+        Requests request (verb_name Verb.Withdraw) (rows_of (found_of given.now))) }
+{
+    Ok(Request::Withdraw(WithdrawRequest {
+        new_set: new_set_of(alloc, given)?,
+        set: path_of(alloc, given, commands::SET)?,
+        instances: values_of(alloc, given, commands::INSTANCE)?,
+    }))
+}
+
+/// Reads a line of `check`.
+fn check_request(alloc: Global, given: &ArgMatches<'_>) -> Result<Request, AllocError>
+    requires { IsServed Verb.Check (rows_of (found_of given.now)) }
+    ensures { IfOk result (λ request.
+        Requests request (verb_name Verb.Check) (rows_of (found_of given.now))) }
+{
+    Ok(Request::Check(CheckRequest {
+        set: path_of(alloc, given, commands::SET)?,
+        keys: flag_of(given, commands::KEYS),
+        strict: flag_of(given, commands::STRICT),
+        quiet: flag_of(given, commands::QUIET),
+    }))
+}
+
+/// Reads a line of `list`.
+fn list_request(alloc: Global, given: &ArgMatches<'_>) -> Result<Request, AllocError>
+    requires { IsServed Verb.List (rows_of (found_of given.now)) }
+    ensures { IfOk result (λ request.
+        Requests request (verb_name Verb.List) (rows_of (found_of given.now))) }
+{
+    Ok(Request::List(ListRequest {
+        set: path_of(alloc, given, commands::SET)?,
+        long: flag_of(given, commands::LONG),
+    }))
+}
+
+/// Reads what the named command asks for.
+fn request_of(alloc: Global, found: &ArgMatches<'_>) -> Result<Request, LineFault>
+    requires { NamesCommand (subcommand_rows_of found.now) }
+    ensures request { IfOk result (λ request.
+        IsRequested request (subcommand_rows_of found.now)) }
+    ensures some { MatchResult result
+        (λ _. ¬ LacksSources (subcommand_rows_of found.now))
+        (λ fault. (fault ≡ LineFault.Memory)
+        ⊎ (LacksSources (subcommand_rows_of found.now) × IsMissingArgument fault)) }
+{
+    match found.subcommand() {
+        Some(("index", given)) => index_request(alloc, given),
+        Some(("merge", given)) => merge_request(alloc, given),
+        Some(("withdraw", given)) => Ok(withdraw_request(alloc, given)?),
+        Some(("check", given)) => Ok(check_request(alloc, given)?),
+        Some(("list", given)) => Ok(list_request(alloc, given)?),
+        _ => unreachable!(),
+    }
+}
+
+/// Parses the words.
+fn parsed<'a>(alloc: Global, words: &'a [String]) -> Result<ArgMatches<'a>, LineFault>
+    ensures found { IfOk result (λ found.
+        subcommand_rows_of found ≡ subcommand_of dicomdir_app (words_of words.entry.now)) }
+    ensures passes { IfErr result (λ fault.
+        takes dicomdir_app (words_of words.entry.now) ≡ true
+        → fault ≡ LineFault.Memory) }
+    ensures kinds { MatchResult result
+        (λ _. fault_of dicomdir_app (words_of words.entry.now) ≡ [])
+        (IsRefusedFor (fault_of dicomdir_app (words_of words.entry.now))) }
+{
+    Ok(program(alloc)?.try_get_matches_from(words)?)
+}
+
+/// Reads what the words of a command line ask for. The first word is the program's name.
+///
+/// A line that the program does not take, or that asks for help, is `Refused`. So is one that names no source for
+/// `index` or `merge`, by a `SRC` or `SET` or by `--files0-from`.
+pub fn read_request(alloc: Global, words: &[String]) -> Result<Request, LineFault>
+    ensures request { IfOk result (λ request.
+        IsRequested request (subcommand_of dicomdir_app (words_of words.now))) }
+    ensures passes { IfErr result (λ fault.
+        takes dicomdir_app (words_of words.now) ≡ true
+        → (fault ≡ LineFault.Memory)
+        ⊎ (LacksSources (subcommand_of dicomdir_app (words_of words.now))
+        × IsMissingArgument fault)) }
+    ensures kinds { MatchResult result
+        (λ _. (fault_of dicomdir_app (words_of words.now) ≡ [])
+        × ¬ LacksSources (subcommand_of dicomdir_app (words_of words.now)))
+        (λ fault. IsRefusedFor (fault_of dicomdir_app (words_of words.now)) fault
+        ⊎ ((fault_of dicomdir_app (words_of words.now) ≡ [])
+        × LacksSources (subcommand_of dicomdir_app (words_of words.now))
+        × IsMissingArgument fault)) }
+{
+    let found = parsed(alloc, words)?;
+    request_of(alloc, &found)
+}

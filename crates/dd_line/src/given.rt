@@ -1,0 +1,76 @@
+//! The values that the parser found for an argument.
+ghost use Rattle.std.specs.Prelude.{◌≡◌, true};
+ghost use Rattle.std.specs.Prelude.{[], ◌∷◌, ◌++◌, IfOk, IsOk, option_map, string_bytes};
+ghost use Rattle.clap.specs.Takes.{is_given};
+ghost use Rattle.clap.specs.Words.{first_of, found_of, rows_of};
+ghost use Rattle.dd_line.specs.Line.{IsLimit, given_for, max_bytes_name, words_of};
+ghost use Rattle.dd_line.specs.Requests.{HasFlags, HasLimit, HasOne, IsOnly, flag_names, is_among};
+
+use crate::commands::MAX_BYTES;
+use clap::ArgMatches;
+use std::alloc::{AllocError, Global};
+
+/// Copies the value of an option. `None` where it is not given.
+pub(crate) fn value_of(
+    alloc: Global,
+    given: &ArgMatches<'_>,
+    name: &str,
+) -> Result<Option<String>, AllocError>
+    ensures { IfOk result (λ value.
+        option_map string_bytes value ≡ first_of name.now (rows_of (found_of given.now))) }
+{
+    match given.get_str(name) {
+        Some(value) => Ok(Some(String::from_str(alloc, value)?)),
+        None => Ok(None),
+    }
+}
+
+/// Copies the path of an argument that has one.
+pub(crate) fn path_of(
+    alloc: Global,
+    given: &ArgMatches<'_>,
+    name: &str,
+) -> Result<String, AllocError>
+    requires { HasOne name.now (rows_of (found_of given.now)) }
+    ensures { IfOk result (λ path.
+        IsOnly name.now (rows_of (found_of given.now)) (string_bytes path)) }
+{
+    match given.get_str(name) {
+        Some(path) => String::from_str(alloc, path),
+        None => unreachable!(),
+    }
+}
+
+/// Copies the values of an argument, in their order.
+pub(crate) fn values_of(
+    alloc: Global,
+    given: &ArgMatches<'_>,
+    name: &str,
+) -> Result<Vec<String>, AllocError>
+    ensures { IfOk result (λ words. words_of words.items
+        ≡ given_for name.now (rows_of (found_of given.now))) }
+{
+    let values = given.get_strs(name).unwrap_or(&[]);
+    let mut words = Vec::new(alloc);
+    for value in values {
+        words.push(String::from_str(alloc, value)?)?;
+    }
+    Ok(words)
+}
+
+/// Reads the number of `--max-bytes`, which is 4294967295 where it is not given.
+pub(crate) fn limit_of(given: &ArgMatches<'_>) -> u32
+    requires { HasLimit (rows_of (found_of given.now)) }
+    ensures { IsLimit (first_of max_bytes_name (rows_of (found_of given.now))) result }
+{
+    given.get_one::<u32>(MAX_BYTES).unwrap_or(u32::MAX)
+}
+
+/// Says whether a flag is set.
+pub(crate) fn flag_of(given: &ArgMatches<'_>, name: &str) -> bool
+    requires known { is_among flag_names name.now ≡ true }
+    requires flags { HasFlags (rows_of (found_of given.now)) }
+    ensures { result ≡ is_given name.now (rows_of (found_of given.now)) }
+{
+    given.get_flag(name)
+}
