@@ -5,7 +5,7 @@ use Rattle.std.specs.Prelude.{IfSome, if◌then◌else◌}
 use Rattle.std.specs.Str.{bytes_eq}
 use Rattle.clap.specs.Kinds.{Kinds, or_else}
 use Rattle.clap.specs.Walk.{Row, Rule, Text, at_row, has_row}
-use Rattle.dd_line.specs.Requests.{is_among}
+use Rattle.dd_line.specs.Line.{is_among}
 use Rattle.std.proofs.lemmas.Slice.Eq.{bytes_eq-Decides}
 
 -- ---- faults that do not come

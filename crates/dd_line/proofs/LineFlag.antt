@@ -18,8 +18,8 @@ use Rattle.clap.specs.declared.builder.value_parser.Reading.TheVariants.{AsWritt
 use Rattle.clap.specs.declared.error.kind.ErrorKind.TheVariants.{WrongNumberOfValues}
 use Rattle.clap.specs.declared.parser.matches.ValueSource.{ValueSource}
 use Rattle.clap.specs.declared.parser.matches.ValueSource.TheVariants.{CommandLine, DefaultValue}
-use Rattle.dd_line.specs.Line.{flag}
-use Rattle.dd_line.specs.Requests.{HasFlag, HasFlags, IsFlagText, flag_names, flags, has}
+use Rattle.dd_line.specs.Line.{flag, flag_names, flags, has}
+use Rattle.dd_line.specs.Requests.{HasFlag, HasFlags, IsFlagText}
 use Rattle.dd_line.specs.declared.line.Verb.{Verb}
 use Rattle.dd_line.proofs.LineEach.{Each, among_each, each_found, first_none, named_in}
 use Rattle.dd_line.proofs.LinePaths.{AreNone, level_absent}

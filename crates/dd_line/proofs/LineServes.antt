@@ -11,8 +11,8 @@ use Rattle.clap.specs.Simple.{App, Shape, entered, filled, label_of, rows_at, wi
 use Rattle.clap.specs.Takes.{is_given}
 use Rattle.clap.specs.Walk.{Rule, Text, answers_to, nothing_held, rows_after}
 use Rattle.clap.specs.declared.builder.value_parser.Reading.TheVariants.{AsWritten, WithoutMinus}
-use Rattle.dd_line.specs.Line.{given_for, number_option, one_path, some_paths, verb_name}
-use Rattle.dd_line.specs.Requests.{GivesPaths, HasLimit, HasOne, IsAbsent, NamesCommand, flags, lacked}
+use Rattle.dd_line.specs.Line.{flags, given_for, lacked, number_option, one_path, some_paths, verb_name}
+use Rattle.dd_line.specs.Requests.{GivesPaths, HasLimit, HasOne, IsAbsent, NamesCommand}
 use Rattle.dd_line.specs.declared.line.Verb.{Verb}
 use Rattle.dd_line.proofs.LineEach.{Each, among_each, each_found, named_each, named_in}
 use Rattle.dd_line.proofs.LineFlag.{flag_rules, level_flags}

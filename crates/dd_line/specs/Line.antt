@@ -22,7 +22,9 @@ use Rattle.clap.specs.declared.builder.command.Command.TheViews.{out-Command as 
 use Rattle.clap.specs.declared.builder.value_parser.ValueParser.TheVariants.{Signed}
 use Rattle.clap.specs.declared.error.Error.{Error}
 use Rattle.clap.specs.declared.error.kind.ErrorKind.TheVariants.{MissingRequiredArgument, OutOfMemory}
-use Rattle.std.specs.Prelude.{◌⊎◌}
+use Rattle.std.specs.Prelude.{◌⊎◌, ◌∷◌, if◌then◌else◌}
+use Rattle.std.specs.List.{list_any}
+use Rattle.std.specs.Str.{bytes_eq}
 use Rattle.dd_elem.specs.SetId.{IsSetId}
 use Rattle.dd_elem.specs.Uid.{IsUid}
 use Rattle.dd_line.specs.declared.line.Asked.{Asked}
@@ -181,6 +183,55 @@ dicomdir_app = with_subcommand (with_subcommand (with_subcommand (with_subcomman
     withdraw_app.top)
     check_app.top)
     list_app.top
+
+-- ---- which command has which argument
+
+-- the commands that make a file-set
+abbrev pub makers : List Verb
+makers = Index ∷ Merge ∷ Withdraw ∷ []
+
+-- the flags, each with the commands that have it
+abbrev pub flags : List (Text × List Verb)
+flags = (keys_name, Check ∷ [])
+    ∷ (strict_name, Check ∷ makers)
+    ∷ (dry_run_name, makers)
+    ∷ (quiet_name, Check ∷ makers)
+    ∷ (long_name, ListSet ∷ [])
+    ∷ (link_name, Merge ∷ [])
+    ∷ []
+
+-- the options with a value and the paths, likewise
+abbrev pub options : List (Text × List Verb)
+options = (id_name, makers)
+    ∷ (uid_name, makers)
+    ∷ (max_bytes_name, makers)
+    ∷ (files0_from_name, Index ∷ Merge ∷ [])
+    ∷ (out_name, makers)
+    ∷ (source_name, Index ∷ [])
+    ∷ (set_name, Merge ∷ Withdraw ∷ Check ∷ ListSet ∷ [])
+    ∷ (instance_name, Withdraw ∷ [])
+    ∷ []
+
+-- the text is one of these
+abbrev pub is_among : List Text → Text → Bool
+is_among names name = list_any (λ n. bytes_eq n name) names
+
+-- the command is one of these
+abbrev pub has : List Verb → Verb → Bool
+has verbs verb = is_among (map verb_name verbs) (verb_name verb)
+
+-- the names of the flags
+abbrev pub flag_names : List Text
+flag_names = map (λ f. f.0) flags
+
+-- the names of those arguments that the command lacks
+abbrev pub lacked_of : List (Text × List Verb) → Verb → List Text
+lacked_of [] verb = []
+lacked_of ((name, verbs) ∷ rest) verb =
+    if has verbs verb then lacked_of rest verb else name ∷ lacked_of rest verb
+
+abbrev pub lacked : Verb → List Text
+lacked verb = lacked_of flags verb ++ lacked_of options verb
 
 -- ---- what a line asks for
 

@@ -5,9 +5,8 @@ use Rattle.std.specs.List.{find, list_any}
 use Rattle.std.specs.Str.{bytes_eq}
 use Rattle.clap.specs.Takes.{is_given}
 use Rattle.clap.specs.Words.{IsSignedIn, Row, Text, first_of, one_of, without_minus}
-use Rattle.dd_line.specs.Line.{IsLimit, dry_run_name, files0_from_name, given_for, id_name, instance_name, keys_name}
-use Rattle.dd_line.specs.Line.{link_name, long_name, max_bytes_name, most_bytes, out_name, quiet_name, set_name}
-use Rattle.dd_line.specs.Line.{source_name, strict_name, uid_name, verb_name, words_of}
+use Rattle.dd_line.specs.Line as line
+use Rattle.dd_line.specs.Line.{IsLimit, flag_names, given_for, is_among, lacked, most_bytes, verb_name, words_of}
 use Rattle.dd_line.specs.declared.line.Asked.{Asked}
 use Rattle.dd_line.specs.declared.line.Verb.{Verb}
 use Rattle.dd_line.specs.declared.line.Verb.TheVariants.{Index, Merge, Withdraw, Check, List as ListSet}
@@ -22,55 +21,6 @@ use Rattle.dd_line.specs.declared.request.Request.TheVariants.{Check as ToCheck,
 use Rattle.dd_line.specs.declared.request.Sources.{Sources}
 use Rattle.dd_line.specs.declared.request.WithdrawRequest.{WithdrawRequest}
 
--- ---- which command has which argument
-
--- the commands that make a file-set
-abbrev pub makers : List Verb
-makers = Index ∷ Merge ∷ Withdraw ∷ []
-
--- the flags, each with the commands that have it
-abbrev pub flags : List (Text × List Verb)
-flags = (keys_name, Check ∷ [])
-    ∷ (strict_name, Check ∷ makers)
-    ∷ (dry_run_name, makers)
-    ∷ (quiet_name, Check ∷ makers)
-    ∷ (long_name, ListSet ∷ [])
-    ∷ (link_name, Merge ∷ [])
-    ∷ []
-
--- the options with a value and the paths, likewise
-abbrev pub options : List (Text × List Verb)
-options = (id_name, makers)
-    ∷ (uid_name, makers)
-    ∷ (max_bytes_name, makers)
-    ∷ (files0_from_name, Index ∷ Merge ∷ [])
-    ∷ (out_name, makers)
-    ∷ (source_name, Index ∷ [])
-    ∷ (set_name, Merge ∷ Withdraw ∷ Check ∷ ListSet ∷ [])
-    ∷ (instance_name, Withdraw ∷ [])
-    ∷ []
-
--- the text is one of these
-abbrev pub is_among : List Text → Text → Bool
-is_among names name = list_any (λ n. bytes_eq n name) names
-
--- the command is one of these
-abbrev pub has : List Verb → Verb → Bool
-has verbs verb = is_among (map verb_name verbs) (verb_name verb)
-
--- the names of the flags
-abbrev pub flag_names : List Text
-flag_names = map (λ f. f.0) flags
-
--- the names of those arguments that the command lacks
-abbrev pub lacked_of : List (Text × List Verb) → Verb → List Text
-lacked_of [] verb = []
-lacked_of ((name, verbs) ∷ rest) verb =
-    if has verbs verb then lacked_of rest verb else name ∷ lacked_of rest verb
-
-abbrev pub lacked : Verb → List Text
-lacked verb = lacked_of flags verb ++ lacked_of options verb
-
 -- ---- what a command is given
 
 -- the words say nothing under this name
@@ -83,8 +33,8 @@ LacksOthers verb given = (name : Text) → is_among (lacked verb) name ≡ true 
 
 -- the text that `--max-bytes` was given, if any, is a number of 32 bits
 abbrev pub HasLimit : List Row → Type 0
-HasLimit given = (text : Text) → first_of max_bytes_name given ≡ Some text
-    → (one_of max_bytes_name given ≡ Some (without_minus text))
+HasLimit given = (text : Text) → first_of line.max_bytes_name given ≡ Some text
+    → (one_of line.max_bytes_name given ≡ Some (without_minus text))
     × IsSignedIn (pos 0) (pos most_bytes) text
 
 -- the text of a flag is `true` where the flag is set. Where it is not set the text is `false`, or there is no text,
@@ -108,21 +58,21 @@ HasOne name given = length (given_for name given) ≡ 1
 -- the folder of a new file-set was given, and a limit for its directory
 pub record GivesNewSet (given : List Row) : Type 0 where
   pub limit : HasLimit given
-  pub out : HasOne out_name given
+  pub out : HasOne line.out_name given
 
 -- and the folder of an old one, with at least one image
 pub record GivesInstances (given : List Row) : Type 0 where
   pub new_set : GivesNewSet given
-  pub set : HasOne set_name given
-  pub instances : 1 ≤ length (given_for instance_name given)
+  pub set : HasOne line.set_name given
+  pub instances : 1 ≤ length (given_for line.instance_name given)
 
 -- a command of this kind was given the paths that it needs, with their options
 abbrev pub GivesPaths : Verb → List Row → Type 0
 GivesPaths Index given = GivesNewSet given
 GivesPaths Merge given = GivesNewSet given
 GivesPaths Withdraw given = GivesInstances given
-GivesPaths Check given = HasOne set_name given
-GivesPaths ListSet given = HasOne set_name given
+GivesPaths Check given = HasOne line.set_name given
+GivesPaths ListSet given = HasOne line.set_name given
 
 -- it was given what it needs, and nothing that it lacks
 pub record IsServed (verb : Verb) (given : List Row) : Type 0 where
@@ -142,47 +92,47 @@ IsOnly name given value = given_for name given ≡ value ∷ []
 
 -- a new file-set is made as the words say
 pub record MakesAsGiven (n : NewSet) (given : List Row) : Type 0 where
-  pub out : IsOnly out_name given (string_bytes n.out)
-  pub id : option_map string_bytes n.id ≡ first_of id_name given
-  pub uid : option_map string_bytes n.uid ≡ first_of uid_name given
-  pub max_bytes : IsLimit (first_of max_bytes_name given) n.max_bytes
-  pub strict : n.strict ≡ is_given strict_name given
-  pub dry_run : n.dry_run ≡ is_given dry_run_name given
-  pub quiet : n.quiet ≡ is_given quiet_name given
+  pub out : IsOnly line.out_name given (string_bytes n.out)
+  pub id : option_map string_bytes n.id ≡ first_of line.id_name given
+  pub uid : option_map string_bytes n.uid ≡ first_of line.uid_name given
+  pub max_bytes : IsLimit (first_of line.max_bytes_name given) n.max_bytes
+  pub strict : n.strict ≡ is_given line.strict_name given
+  pub dry_run : n.dry_run ≡ is_given line.dry_run_name given
+  pub quiet : n.quiet ≡ is_given line.quiet_name given
 
 -- the sources are those that the words give, under this name and in a file of names
 pub record HasSources (name : Text) (given : List Row) (s : Sources) : Type 0 where
   pub words : words_of s.words.items ≡ given_for name given
-  pub files0_from : option_map string_bytes s.files0_from ≡ first_of files0_from_name given
+  pub files0_from : option_map string_bytes s.files0_from ≡ first_of line.files0_from_name given
 
 -- the words give no source
 pub record GivesNoSource (name : Text) (given : List Row) : Type 0 where
   pub words : given_for name given ≡ []
-  pub files0_from : first_of files0_from_name given ≡ None
+  pub files0_from : first_of line.files0_from_name given ≡ None
 
 pub record IndexesAsGiven (x : IndexRequest) (given : List Row) : Type 0 where
   pub new_set : MakesAsGiven x.new_set given
-  pub sources : HasSources source_name given x.sources
+  pub sources : HasSources line.source_name given x.sources
 
 pub record MergesAsGiven (x : MergeRequest) (given : List Row) : Type 0 where
   pub new_set : MakesAsGiven x.new_set given
-  pub sets : HasSources set_name given x.sets
-  pub link : x.link ≡ is_given link_name given
+  pub sets : HasSources line.set_name given x.sets
+  pub link : x.link ≡ is_given line.link_name given
 
 pub record WithdrawsAsGiven (x : WithdrawRequest) (given : List Row) : Type 0 where
   pub new_set : MakesAsGiven x.new_set given
-  pub set : IsOnly set_name given (string_bytes x.set)
-  pub instances : words_of x.instances.items ≡ given_for instance_name given
+  pub set : IsOnly line.set_name given (string_bytes x.set)
+  pub instances : words_of x.instances.items ≡ given_for line.instance_name given
 
 pub record ChecksAsGiven (x : CheckRequest) (given : List Row) : Type 0 where
-  pub set : IsOnly set_name given (string_bytes x.set)
-  pub keys : x.keys ≡ is_given keys_name given
-  pub strict : x.strict ≡ is_given strict_name given
-  pub quiet : x.quiet ≡ is_given quiet_name given
+  pub set : IsOnly line.set_name given (string_bytes x.set)
+  pub keys : x.keys ≡ is_given line.keys_name given
+  pub strict : x.strict ≡ is_given line.strict_name given
+  pub quiet : x.quiet ≡ is_given line.quiet_name given
 
 pub record ListsAsGiven (x : ListRequest) (given : List Row) : Type 0 where
-  pub set : IsOnly set_name given (string_bytes x.set)
-  pub long : x.long ≡ is_given long_name given
+  pub set : IsOnly line.set_name given (string_bytes x.set)
+  pub long : x.long ≡ is_given line.long_name given
 
 -- the command of a request
 abbrev pub verb_of : Request → Verb

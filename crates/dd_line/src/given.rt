@@ -3,8 +3,8 @@ ghost use Rattle.std.specs.Prelude.{◌≡◌, true};
 ghost use Rattle.std.specs.Prelude.{[], ◌∷◌, ◌++◌, IfOk, IsOk, option_map, string_bytes};
 ghost use Rattle.clap.specs.Takes.{is_given};
 ghost use Rattle.clap.specs.Words.{first_of, found_of, rows_of};
-ghost use Rattle.dd_line.specs.Line.{IsLimit, given_for, max_bytes_name, words_of};
-ghost use Rattle.dd_line.specs.Requests.{HasFlags, HasLimit, HasOne, IsOnly, flag_names, is_among};
+ghost use Rattle.dd_line.specs.Line.{IsLimit, flag_names, given_for, is_among, max_bytes_name, words_of};
+ghost use Rattle.dd_line.specs.Requests.{HasFlags, HasLimit, HasOne, IsOnly};
 
 use crate::commands::MAX_BYTES;
 use clap::ArgMatches;
