@@ -1,7 +1,10 @@
 -- What files hold, and what the calls of `Files` change there.
-use Rattle.std.specs.Prelude.{ℕ, List, [], ◌++◌, Option, None, Some, bytes_eq}
+use Rattle.std.specs.Prelude.{◌≡◌, ℕ, List, [], ◌++◌, Option, None, Some, Result, IfSome, IsErr, IsOk, IsSome, bytes_eq}
 use Rattle.std.specs.Map.{update}
 use Rattle.std.specs.Option.{option_map, option_and_then}
+use Rattle.dd_elem.specs.Device.{HasWorked, counted}
+use Rattle.dd_elem.specs.declared.device.Read.{Ghosts as ReadOf}
+use Rattle.dd_elem.specs.declared.device.Write.{Ghosts as WriteOf}
 
 -- files whose bytes are all known
 pub record Held : Type 0 where
@@ -44,3 +47,21 @@ ended held = record held { current = None }
 -- a new file at the path with these bytes, and none is being written any more
 abbrev pub published : List ℕ → List ℕ → Held → Held
 published path bytes held = record { bytes_at = with_file path (Some bytes) held.bytes_at; current = None }
+
+-- What each call of files does beside its work: a refusal counts, and changes neither what the files hold nor the bytes
+-- that are being written. No call is a write.
+pub record IsCall {F A E : Type 0} (writer : WriteOf F) (refusals : F → ℕ) (held : F → Option Held) (result : Result A E)
+    (old new : F) : Type 0 where
+  pub worked : IsOk result → HasWorked (refusals old) (refusals new)
+  pub refused : IsErr result → refusals new ≡ counted (refusals old)
+  pub kept : IsErr result → held new ≡ held old
+  pub bytes : IsErr result → writer.contents new ≡ writer.contents old
+  pub calls : writer.calls new ≡ writer.calls old
+  pub failures : writer.failures new ≡ writer.failures old
+
+-- a new reader of the file at a path: what it has left are the bytes of that file, where it is known what files hold
+pub record IsUnread {R : Type 0} (reader : ReadOf R) (held : Option Held) (path : List ℕ) (opened : R) : Type 0 where
+  pub calls : reader.calls opened ≡ 0
+  pub failures : reader.failures opened ≡ 0
+  pub given : (past : reader.Past) → reader.has_given opened past []
+  pub left : IfSome held (λ files. IsSome (files.bytes_at path) × (reader.remaining opened ≡ files.bytes_at path))

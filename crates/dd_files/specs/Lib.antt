@@ -2,4 +2,5 @@ pub mod Copying
 pub mod Files
 pub mod Paths
 pub mod Pieces
+pub mod Progress
 pub mod ReadToEnd

@@ -1,8 +1,7 @@
 //! Files: what is read from them and written to them.
-ghost use Rattle.std.specs.Prelude.{◌≡◌, ℕ, List, [], Option, None, IsSome, IfSome, IsOk, IsErr, IfOk, option_map};
+ghost use Rattle.std.specs.Prelude.{◌≡◌, ℕ, List, [], Option, None, IsSome, IfSome, IsOk, IfOk, option_map};
 ghost use Rattle.std.specs.Io.KnownBytes.{Appends};
-ghost use Rattle.dd_elem.specs.Device.{counted, HasWorked};
-ghost use Rattle.dd_files.specs.Files.{Held, ended, grown, linked, started, written};
+ghost use Rattle.dd_files.specs.Files.{Held, IsCall, IsUnread, ended, grown, linked, started, written};
 
 use dd_elem::{Read, Write};
 use thiserror::Error;
@@ -20,7 +19,7 @@ pub struct NotThere;
 #[error("not done")]
 pub struct NotDone;
 
-/// Says why a file was not given a second name.
+/// Says why a file was not given a hard link.
 #[derive(Clone, Copy, Debug, PartialEq, Eq, Error)]
 pub enum LinkFault {
     /// The file is not there, or it is no plain file.
@@ -29,18 +28,9 @@ pub enum LinkFault {
     /// The new name is taken.
     #[error("taken")]
     Taken,
-    /// The system does not give this second name.
-    #[error("no second name")]
+    /// The system does not give this hard link.
+    #[error("no hard link")]
     Refused,
-}
-
-/// What a run is doing, as its progress shows it.
-#[derive(Clone, Copy, Debug, PartialEq, Eq)]
-pub enum Step {
-    /// It reads files.
-    Reading,
-    /// It copies files.
-    Copying,
 }
 
 /// Files that are read one by one, and one at a time that is written. Each refusal counts, up to
@@ -57,111 +47,54 @@ pub trait Files: Write {
 
     /// Opens a file for reading.
     fn source(&mut self, path: &str) -> Result<Self::In, NotThere>
-        ensures worked { IsOk result → HasWorked (refusals self.old) (refusals self.new) }
-        ensures refused { IsErr result → refusals self.new ≡ counted (refusals self.old) }
-
-        // The reader is as new, and what it has left are the bytes of the file.
-        ensures fresh { IfOk result (λ reader. (Self.In.calls reader ≡ 0)
-            × (Self.In.failures reader ≡ 0)
-            × ((past : Self.In.Past) → Self.In.has_given reader past [])) }
-        ensures left { IfOk result (λ reader. IfSome (held self.old) (λ files.
-            IsSome (files.bytes_at path.now)
-            × (Self.In.remaining reader ≡ files.bytes_at path.now))) }
-
-        // What stays.
-        ensures counts { (Self.calls self.new ≡ Self.calls self.old)
-            × (Self.failures self.new ≡ Self.failures self.old) }
-        ensures kept { held self.new ≡ held self.old }
-        ensures bytes { IsErr result → Self.contents self.new ≡ Self.contents self.old };
+        ensures call { IsCall Self.Write refusals held result self.old self.new }
+        ensures opened { IfOk result (IsUnread Self.In.Read (held self.old) path.now) }
+        ensures kept { held self.new ≡ held self.old };
 
     /// Opens a file of a file-set for reading: the one at this path, which stands below the folder `set` as the
     /// directory of the file-set records it. A system may show the names below `set` otherwise.
     fn member(&mut self, set: &str, path: &str) -> Result<Self::In, NotThere>
-        ensures worked { IsOk result → HasWorked (refusals self.old) (refusals self.new) }
-        ensures refused { IsErr result → refusals self.new ≡ counted (refusals self.old) }
-
-        // The reader is as new, and what it has left are the bytes of the file.
-        ensures fresh { IfOk result (λ reader. (Self.In.calls reader ≡ 0)
-            × (Self.In.failures reader ≡ 0)
-            × ((past : Self.In.Past) → Self.In.has_given reader past [])) }
-        ensures left { IfOk result (λ reader. IfSome (held self.old) (λ files.
-            IsSome (files.bytes_at path.now)
-            × (Self.In.remaining reader ≡ files.bytes_at path.now))) }
-
-        // What stays.
-        ensures counts { (Self.calls self.new ≡ Self.calls self.old)
-            × (Self.failures self.new ≡ Self.failures self.old) }
-        ensures kept { held self.new ≡ held self.old }
-        ensures bytes { IsErr result → Self.contents self.new ≡ Self.contents self.old };
+        ensures call { IsCall Self.Write refusals held result self.old self.new }
+        ensures opened { IfOk result (IsUnread Self.In.Read (held self.old) path.now) }
+        ensures kept { held self.new ≡ held self.old };
 
     /// Opens a list of names for reading: the file at this path, of any size. The path `-` may stand for the
     /// standard input.
     fn names(&mut self, path: &str) -> Result<Self::In, NotThere>
-        ensures worked { IsOk result → HasWorked (refusals self.old) (refusals self.new) }
-        ensures refused { IsErr result → refusals self.new ≡ counted (refusals self.old) }
-
-        // The reader is as new, and what it has left are the bytes of the file.
-        ensures fresh { IfOk result (λ reader. (Self.In.calls reader ≡ 0)
-            × (Self.In.failures reader ≡ 0)
-            × ((past : Self.In.Past) → Self.In.has_given reader past [])) }
-        ensures left { IfOk result (λ reader. IfSome (held self.old) (λ files.
-            IsSome (files.bytes_at path.now)
-            × (Self.In.remaining reader ≡ files.bytes_at path.now))) }
-
-        // What stays.
-        ensures counts { (Self.calls self.new ≡ Self.calls self.old)
-            × (Self.failures self.new ≡ Self.failures self.old) }
-        ensures kept { held self.new ≡ held self.old }
-        ensures bytes { IsErr result → Self.contents self.new ≡ Self.contents self.old };
+        ensures call { IsCall Self.Write refusals held result self.old self.new }
+        ensures opened { IfOk result (IsUnread Self.In.Read (held self.old) path.now) }
+        ensures kept { held self.new ≡ held self.old };
 
     /// Makes a folder with its parents. Succeeds where it is there already.
     fn folder(&mut self, path: &str) -> Result<(), NotDone>
-        ensures worked { IsOk result → HasWorked (refusals self.old) (refusals self.new) }
-        ensures refused { IsErr result → refusals self.new ≡ counted (refusals self.old) }
-
-        // What stays.
-        ensures counts { (Self.calls self.new ≡ Self.calls self.old)
-            × (Self.failures self.new ≡ Self.failures self.old) }
+        ensures call { IsCall Self.Write refusals held result self.old self.new }
         ensures kept { held self.new ≡ held self.old }
         ensures bytes { Self.contents self.new ≡ Self.contents self.old };
 
     /// Makes a folder below the folder `out`, with its parents. Succeeds where it is there already. Refuses a
     /// symbolic link as a name below `out`, and makes nothing behind such a link.
     fn folder_in(&mut self, out: &str, path: &str) -> Result<(), NotDone>
-        ensures worked { IsOk result → HasWorked (refusals self.old) (refusals self.new) }
-        ensures refused { IsErr result → refusals self.new ≡ counted (refusals self.old) }
-
-        // What stays.
-        ensures counts { (Self.calls self.new ≡ Self.calls self.old)
-            × (Self.failures self.new ≡ Self.failures self.old) }
+        ensures call { IsCall Self.Write refusals held result self.old self.new }
         ensures kept { held self.new ≡ held self.old }
         ensures bytes { Self.contents self.new ≡ Self.contents self.old };
 
     /// Starts a new file, to which later writes go. It is refused where the name is taken.
     fn create(&mut self, path: &str) -> Result<(), NotDone>
-        ensures worked { IsOk result → HasWorked (refusals self.old) (refusals self.new) }
-        ensures refused { IsErr result → refusals self.new ≡ counted (refusals self.old) }
+        ensures call { IsCall Self.Write refusals held result self.old self.new }
 
         // The file was not there, and holds nothing yet.
         ensures free { IsOk result
             → IfSome (held self.old) (λ files. files.bytes_at path.now ≡ None) }
         ensures empty { IsOk result → IfSome (Self.contents self.new) (λ bytes. bytes ≡ []) }
         ensures started { IsOk result → held self.new
-            ≡ option_map (started path.now) (held self.old) }
+            ≡ option_map (started path.now) (held self.old) };
 
-        // What stays.
-        ensures counts { (Self.calls self.new ≡ Self.calls self.old)
-            × (Self.failures self.new ≡ Self.failures self.old) }
-        ensures kept { IsErr result → held self.new ≡ held self.old }
-        ensures bytes { IsErr result → Self.contents self.new ≡ Self.contents self.old };
-
-    /// Gives a file of a file-set a second name, `path`: the file at `from`, which is found below the folder `set` as
+    /// Gives a file of a file-set a hard link, `path`: the file at `from`, which is found below the folder `set` as
     /// `member` finds it. Its bytes are not read. Absent where it is not there, is no plain file or is a symbolic
     /// link, Taken where the new name is there, and Refused where the system gives no such name, as between two file
     /// systems.
     fn link(&mut self, set: &str, from: &str, path: &str) -> Result<(), LinkFault>
-        ensures worked { IsOk result → HasWorked (refusals self.old) (refusals self.new) }
-        ensures refused { IsErr result → refusals self.new ≡ counted (refusals self.old) }
+        ensures call { IsCall Self.Write refusals held result self.old self.new }
 
         // The file was there, the new name was not, and it has the bytes of the file.
         ensures there { IsOk result → IfSome (held self.old)
@@ -169,78 +102,31 @@ pub trait Files: Write {
         ensures free { IsOk result
             → IfSome (held self.old) (λ files. files.bytes_at path.now ≡ None) }
         ensures linked { IsOk result → held self.new
-            ≡ option_map (linked from.now path.now) (held self.old) }
-
-        // What stays.
-        ensures counts { (Self.calls self.new ≡ Self.calls self.old)
-            × (Self.failures self.new ≡ Self.failures self.old) }
-        ensures kept { IsErr result → held self.new ≡ held self.old }
-        ensures bytes { IsErr result → Self.contents self.new ≡ Self.contents self.old };
+            ≡ option_map (linked from.now path.now) (held self.old) };
 
     /// Ends the file that is being written.
     fn finish(&mut self) -> Result<(), NotDone>
-        ensures worked { IsOk result → HasWorked (refusals self.old) (refusals self.new) }
-        ensures refused { IsErr result → refusals self.new ≡ counted (refusals self.old) }
-        ensures ended { IsOk result → held self.new ≡ option_map ended (held self.old) }
+        ensures call { IsCall Self.Write refusals held result self.old self.new }
+        ensures ended { IsOk result → held self.new ≡ option_map ended (held self.old) };
 
-        // What stays.
-        ensures counts { (Self.calls self.new ≡ Self.calls self.old)
-            × (Self.failures self.new ≡ Self.failures self.old) }
-        ensures kept { IsErr result → held self.new ≡ held self.old }
-        ensures bytes { IsErr result → Self.contents self.new ≡ Self.contents self.old };
+    /// Stores the bytes of the files that have ended, where enough of them wait to be stored together. Else it may put
+    /// that off, to a later call of this kind or to `store`.
+    fn store_batch(&mut self) -> Result<(), NotDone>
+        ensures call { IsCall Self.Write refusals held result self.old self.new }
+        ensures kept { held self.new ≡ held self.old }
+        ensures bytes { Self.contents self.new ≡ Self.contents self.old }
+        ensures rest { IsOk result → Self.rest self.new ≡ Self.rest self.old };
 
-    /// Stores what was made: the bytes of the files that have ended, and the name of each new file and folder.
-    /// Behind the end of a file that is no directory, a call may put this off to the next call.
+    /// Stores all that was made: the bytes of the files that have ended, and the name of each new file and folder.
     fn store(&mut self) -> Result<(), NotDone>
-        ensures worked { IsOk result → HasWorked (refusals self.old) (refusals self.new) }
-        ensures refused { IsErr result → refusals self.new ≡ counted (refusals self.old) }
-
-        // What stays.
+        ensures call { IsCall Self.Write refusals held result self.old self.new }
+        ensures kept { held self.new ≡ held self.old }
         ensures bytes { Self.contents self.new ≡ Self.contents self.old }
-        ensures rest { IsOk result → Self.rest self.new ≡ Self.rest self.old }
-        ensures counts { (Self.calls self.new ≡ Self.calls self.old)
-            × (Self.failures self.new ≡ Self.failures self.old) }
-        ensures kept { held self.new ≡ held self.old };
+        ensures rest { IsOk result → Self.rest self.new ≡ Self.rest self.old };
 
-    /// Names what a refused `store` could not store: a file that has ended, or a folder in which something was
-    /// made. The current folder is `.`.
+    /// Names what a refused `store` or `store_batch` could not store: a file that has ended, or a folder in which
+    /// something was made. The current folder is `.`.
     fn unstored(&self) -> &str;
-
-    /// Starts to count what is done of `of` in this step, of which nothing is done yet.
-    fn begin_progress(&mut self, step: Step, of: u64)
-        ensures kept { held self.new ≡ held self.old }
-        ensures bytes { Self.contents self.new ≡ Self.contents self.old }
-        ensures rest { Self.rest self.new ≡ Self.rest self.old }
-        ensures counts { (Self.calls self.new ≡ Self.calls self.old)
-            × (Self.failures self.new ≡ Self.failures self.old) }
-        ensures refusals { refusals self.new ≡ refusals self.old };
-
-    /// Counts one more as done, and may show that.
-    fn advance(&mut self)
-        ensures kept { held self.new ≡ held self.old }
-        ensures bytes { Self.contents self.new ≡ Self.contents self.old }
-        ensures rest { Self.rest self.new ≡ Self.rest self.old }
-        ensures counts { (Self.calls self.new ≡ Self.calls self.old)
-            × (Self.failures self.new ≡ Self.failures self.old) }
-        ensures refusals { refusals self.new ≡ refusals self.old };
-
-    /// Erases the line of progress where one is shown. A later call may show one again.
-    fn hide_progress(&mut self)
-        ensures kept { held self.new ≡ held self.old }
-        ensures bytes { Self.contents self.new ≡ Self.contents self.old }
-        ensures rest { Self.rest self.new ≡ Self.rest self.old }
-        ensures counts { (Self.calls self.new ≡ Self.calls self.old)
-            × (Self.failures self.new ≡ Self.failures self.old) }
-        ensures refusals { refusals self.new ≡ refusals self.old };
-
-    /// Shows no progress from now on.
-    fn be_quiet(&mut self)
-        ensures kept { held self.new ≡ held self.old }
-        ensures bytes { Self.contents self.new ≡ Self.contents self.old }
-        ensures rest { Self.rest self.new ≡ Self.rest self.old }
-        ensures counts { (Self.calls self.new ≡ Self.calls self.old)
-            × (Self.failures self.new ≡ Self.failures self.old) }
-        ensures refusals { refusals self.new ≡ refusals self.old };
 
     // No write counts as a refusal.
     ghost same_refusals: { (old new : Self) → Self.rest new ≡ Self.rest old

@@ -9,7 +9,7 @@ use std::alloc::Global;
 pub const DIRECTORY: &str = "DICOMDIR";
 
 /// Gives the path of a name in a folder. One `/` stands between them: none is added where the folder's text
-/// ends in `/`, and behind an empty folder the path is the bare name. Memory where a growth is refused.
+/// ends in `/`, and behind an empty folder the path is the bare name. Memory where an allocation is refused.
 pub fn path_in(alloc: Global, folder: &str, name: &str) -> Result<String, Memory>
     ensures bare { IfOk result (λ path. folder.now ≡ [] → string_bytes path ≡ name.now) }
     ensures ended { IfOk result (λ path. EndsInSlash folder.now
@@ -40,7 +40,7 @@ fn ends_in_slash(text: &str) -> bool
 }
 
 /// Gives the path of the file with this File ID in the folder of its file-set: `/` stands between the
-/// components of the File ID (PS3.10 section 8.2). Memory where a growth is refused.
+/// components of the File ID (PS3.10 section 8.2). Memory where an allocation is refused.
 pub fn file_path(alloc: Global, folder: &str, file: &[u8]) -> Result<String, Memory>
     ensures { IfOk result (λ path. All (λ byte. byte < 128) file.now
         → IsPathIn folder.now (id_path file.now) (string_bytes path)) }

@@ -13,14 +13,14 @@ pub enum ReadFault {
     Read,
     /// It has more bytes than the limit.
     TooLong,
-    /// A growth was refused.
+    /// An allocation was refused.
     Memory,
 }
 
 /// Reads to the end, and gives the bytes, at most `limit`.
 ///
 /// Refuses with Read where the reader fails, with TooLong where it gives more than `limit` bytes, and with
-/// Memory where a growth is refused. Makes at most `limit` + 1 reads.
+/// Memory where an allocation is refused. Makes at most `limit` + 1 reads.
 pub fn read_whole<R: Read>(alloc: Global, reader: &mut R, limit: u64) -> Result<Vec<u8>, ReadFault>
     ensures { ReadsUpTo R.Read limit reader.old reader.new (IsWholeAnswer result limit) }
 {

@@ -1,5 +1,6 @@
 -- Files in memory, as their callers see them, and what changes them.
 use Rattle.std.specs.Prelude.{◌≡◌, ◌≢◌, ◌<◌, ℕ, List, [], ◌++◌, ◌&&◌, map, Option, Some, None, String, Vec}
+use Rattle.std.specs.Prelude.{Result, Ok, Err}
 use Rattle.std.specs.Prelude.{string_bytes, if◌then◌else◌, Bool, true, bytes_eq, option_map}
 use Rattle.std.specs.BTreeMap.{BTreeMap}
 use Rattle.std.specs.Map.{lookup}
@@ -8,7 +9,7 @@ use Rattle.dd_elem.specs.Device.{counted, last_count}
 use Rattle.dd_elem.specs.declared.counts.Counts.{Counts}
 use Rattle.dd_mem_files.specs.declared.later.Later.{Later}
 use Rattle.dd_mem_files.specs.MemReader.{Opened}
-use Rattle.dd_mem_files.specs.PlannedFaults.{FailingReader, Planned, after_call, after_opening}
+use Rattle.dd_mem_files.specs.PlannedFaults.{FailingReader, Planned, after_call, after_opening, fails_at}
 use Rattle.dd_files.specs.Files.{Held, with_written, written}
 
 -- the path and the bytes of each file
@@ -102,6 +103,14 @@ pub record Opens (old new : Stored) (path : List ℕ) : Type 0 where
 -- a new reader of these bytes, which fails after the first `n` of them where `fails` is `Some n`
 abbrev pub unread : List ℕ → Option ℕ → Opened
 unread bytes fails = record { given = []; left = bytes; fails = fails; counts = record { calls = 0; failures = 0 } }
+
+-- An opening of the file at the path, which gives a new reader of its bytes; or a refusal, which counts and changes
+-- nothing else.
+abbrev pub OpensOrRefuses : {E : Type 0} → Stored → Stored → List ℕ → Result Opened E → Type 0
+OpensOrRefuses old new path (Ok reader) =
+    (old.refusals < last_count) × Opens old new path × (bytes_at new.files path ≡ Some reader.left)
+    × (reader ≡ unread reader.left (fails_at old.planned.reader path))
+OpensOrRefuses old new path (Err e) = new ≡ record old { refusals = counted old.refusals }
 
 -- what they hold
 abbrev pub held_of : Stored → Held

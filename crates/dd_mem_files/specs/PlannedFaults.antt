@@ -23,7 +23,7 @@ pub record Planned : Type 0 where
   pub call : ℕ
   -- the reader that is to fail
   pub reader : Option FailingReader
-  -- whether no file gets a second name
+  -- whether no file gets a hard link
   pub no_links : Bool
 
 -- nothing is to fail

@@ -1,15 +1,14 @@
 //! Files in memory as the files of a program.
-ghost use Rattle.std.specs.Prelude.{◌≡◌, ◌↔◌, ◌<◌, [], Err, None, Some, IfOk, IsErr, IsOk, IsSome, OnErr, OnOk};
+ghost use Rattle.std.specs.Prelude.{◌≡◌, ◌↔◌, ◌<◌, [], Err, None, Some, IsErr, IsOk, IsSome, OnErr, OnOk};
 ghost use Rattle.std.specs.Prelude.{codes, false};
 ghost use Rattle.dd_elem.specs.Device.{HasWorked, counted, last_count};
-ghost use Rattle.dd_mem_files.specs.MemFiles.{LinksFile, MayCall, Opens, SetsFile, bytes_at, called, refused};
-ghost use Rattle.dd_mem_files.specs.MemFiles.{told_of, unread};
+ghost use Rattle.dd_mem_files.specs.MemFiles.{LinksFile, MayCall, OpensOrRefuses, SetsFile, bytes_at, called, refused};
+ghost use Rattle.dd_mem_files.specs.MemFiles.{told_of};
 ghost use Rattle.dd_mem_files.specs.MemLaws.{held_grows, refusals_stay, told_contents};
-ghost use Rattle.dd_mem_files.specs.PlannedFaults.{fails_at};
 
 use crate::mem_files::MemFiles;
 use crate::mem_reader::MemReader;
-use dd_files::{Files, LinkFault, NotDone, NotThere, Step};
+use dd_files::{Files, LinkFault, NotDone, NotThere, Progress, Step};
 
 impl Files for MemFiles {
     type In = MemReader;
@@ -19,20 +18,13 @@ impl Files for MemFiles {
     ghost held = { told_of };
 
     /// Opens a copy of the file's bytes for reading. A file that is to change has its new bytes from its second
-    /// opening on. NotThere where the call is to be refused, there is no such file, a growth is refused or the
+    /// opening on. NotThere where the call is to be refused, there is no such file, an allocation is refused or the
     /// refusals are at their last value. The files are then as they were, and it is no opening.
     fn source(&mut self, path: &str) -> Result<MemReader, NotThere>
-        ensures worked { IsOk result → HasWorked self.old.refusals self.new.refusals }
-        ensures refused { IsErr result → self.new.refusals ≡ counted self.old.refusals }
         ensures may { IsOk result → MayCall self.old }
-        ensures gives { IfOk result (λ reader. bytes_at self.new.files path.now
-            ≡ Some reader.left) }
-        ensures new { IfOk result (λ reader. reader
-            ≡ unread reader.left (fails_at self.old.planned.reader path.now)) }
-        ensures opens { OnOk result (Opens (called self.old) self.new path.now) }
-        ensures err { OnErr result (self.new ≡ refused self.old) }
+        ensures opens { OpensOrRefuses (called self.old) self.new path.now result }
     {
-        if self.begin() {
+        if self.count_call() {
             if let Some(reader) = self.open(path) {
                 return Ok(reader);
             }
@@ -41,52 +33,19 @@ impl Files for MemFiles {
         Err(NotThere)
     }
 
-    /// Opens the file at the path like `source`; its names are spelled as they are recorded. NotThere where
-    /// there is no such file, a growth is refused or the refusals are at their last value. The files are then as
-    /// they were, and it is no opening. `fail_call` does not count this call.
+    /// Opens the file at the path like `source`; its names are spelled as they are recorded. `fail_call` does not count
+    /// this call.
     fn member(&mut self, _set: &str, path: &str) -> Result<MemReader, NotThere>
-        ensures worked { IsOk result → HasWorked self.old.refusals self.new.refusals }
-        ensures refused { IsErr result → self.new.refusals ≡ counted self.old.refusals }
-        ensures may { IsOk result → self.old.refusals < last_count }
-        ensures gives { IfOk result (λ reader. bytes_at self.new.files path.now
-            ≡ Some reader.left) }
-        ensures new { IfOk result (λ reader. reader
-            ≡ unread reader.left (fails_at self.old.planned.reader path.now)) }
-        ensures opens { OnOk result (Opens self.old self.new path.now) }
-        ensures err { OnErr result (self.new
-            ≡ record self.old { refusals = counted self.old.refusals }) }
+        ensures { OpensOrRefuses self.old self.new path.now result }
     {
-        if self.refusals < u64::MAX {
-            if let Some(reader) = self.open(path) {
-                return Ok(reader);
-            }
-        }
-        self.refuse();
-        Err(NotThere)
+        self.open_or_refuse(path)
     }
 
-    /// Opens the file at the path like `member`, also the one at the path `-`. NotThere where there is no such file,
-    /// a growth is refused or the refusals are at their last value. The files are then as they were, and it is no
-    /// opening. `fail_call` does not count this call.
+    /// Opens the file at the path like `member`, also the one at the path `-`. `fail_call` does not count this call.
     fn names(&mut self, path: &str) -> Result<MemReader, NotThere>
-        ensures worked { IsOk result → HasWorked self.old.refusals self.new.refusals }
-        ensures refused { IsErr result → self.new.refusals ≡ counted self.old.refusals }
-        ensures may { IsOk result → self.old.refusals < last_count }
-        ensures gives { IfOk result (λ reader. bytes_at self.new.files path.now
-            ≡ Some reader.left) }
-        ensures new { IfOk result (λ reader. reader
-            ≡ unread reader.left (fails_at self.old.planned.reader path.now)) }
-        ensures opens { OnOk result (Opens self.old self.new path.now) }
-        ensures err { OnErr result (self.new
-            ≡ record self.old { refusals = counted self.old.refusals }) }
+        ensures { OpensOrRefuses self.old self.new path.now result }
     {
-        if self.refusals < u64::MAX {
-            if let Some(reader) = self.open(path) {
-                return Ok(reader);
-            }
-        }
-        self.refuse();
-        Err(NotThere)
+        self.open_or_refuse(path)
     }
 
     /// Succeeds, since every folder is there. NotDone only where the call is to be refused or the refusals are at
@@ -98,7 +57,7 @@ impl Files for MemFiles {
         ensures ok { OnOk result (self.new ≡ called self.old) }
         ensures err { OnErr result (self.new ≡ refused self.old) }
     {
-        if self.begin() {
+        if self.count_call() {
             return Ok(());
         }
         self.refuse();
@@ -116,7 +75,7 @@ impl Files for MemFiles {
         self.folder(path)
     }
 
-    /// Starts an empty file at the path. NotDone where the call is to be refused, the path is there, a growth is
+    /// Starts an empty file at the path. NotDone where the call is to be refused, the path is there, an allocation is
     /// refused or the refusals are at their last value. The files are then as they were.
     fn create(&mut self, path: &str) -> Result<(), NotDone>
         ensures worked { IsOk result → HasWorked self.old.refusals self.new.refusals }
@@ -129,7 +88,7 @@ impl Files for MemFiles {
         ensures same { OnOk result (self.new
             ≡ record (called self.old) { files = self.new.files; current = self.new.current }) }
     {
-        if self.begin() && self.bytes(path).is_none() && self.start(path).is_ok() {
+        if self.count_call() && self.bytes(path).is_none() && self.start(path).is_ok() {
             return Ok(());
         }
         self.refuse();
@@ -138,7 +97,7 @@ impl Files for MemFiles {
 
     /// Gives the path a copy of the bytes of the file at `from`; its names are spelled as they are recorded. Absent
     /// where there is no such file, a copy is refused or the refusals are at their last value. Taken where the path is
-    /// there. Refused where second names or a growth are refused. The files are then as they were.
+    /// there. Refused where hard links are to be refused, or an allocation is. The files are then as they were.
     /// `fail_call` does not count this call.
     fn link(&mut self, _set: &str, from: &str, path: &str) -> Result<(), LinkFault>
         ensures worked { IsOk result → HasWorked self.old.refusals self.new.refusals }
@@ -170,12 +129,22 @@ impl Files for MemFiles {
         ensures ok { OnOk result (self.new ≡ record (called self.old) { current = None }) }
         ensures err { OnErr result (self.new ≡ refused self.old) }
     {
-        if !self.begin() {
+        if !self.count_call() {
             self.refuse();
             return Err(NotDone);
         }
         self.current = None;
         Ok(())
+    }
+
+    /// Does nothing, since all is stored when it is made. NotDone only where the refusals are at their last value.
+    fn store_batch(&mut self) -> Result<(), NotDone>
+        ensures worked { IsOk result → HasWorked self.old.refusals self.new.refusals }
+        ensures refused { IsErr result → self.new.refusals ≡ counted self.old.refusals }
+        ensures done { IsOk result ↔ (self.old.refusals < last_count) }
+        ensures same { self.new ≡ self.old }
+    {
+        self.store()
     }
 
     /// Does nothing, since all is stored when it is made. NotDone only where the refusals are at their last value.
@@ -199,8 +168,16 @@ impl Files for MemFiles {
         "."
     }
 
+    ghost same_refusals = { refusals_stay };
+
+    ghost same_contents = { told_contents };
+
+    ghost written_grows = { held_grows };
+}
+
+impl Progress for MemFiles {
     /// Does nothing, since no progress is shown.
-    fn begin_progress(&mut self, _step: Step, _of: u64)
+    fn begin_step(&mut self, _step: Step, _of: u64)
         ensures { self.new ≡ self.old }
     {}
 
@@ -210,18 +187,12 @@ impl Files for MemFiles {
     {}
 
     /// Does nothing.
-    fn hide_progress(&mut self)
+    fn hide_line(&mut self)
         ensures { self.new ≡ self.old }
     {}
 
     /// Does nothing.
-    fn be_quiet(&mut self)
+    fn silence(&mut self)
         ensures { self.new ≡ self.old }
     {}
-
-    ghost same_refusals = { refusals_stay };
-
-    ghost same_contents = { told_contents };
-
-    ghost written_grows = { held_grows };
 }

@@ -7,7 +7,7 @@ use dd_files::NotDone;
 use std::alloc::Global;
 use std::collections::BTreeMap;
 
-/// Gives the path these bytes. Memory where a growth is refused, and then nothing has changed.
+/// Gives the path these bytes. Memory where an allocation is refused, and then nothing has changed.
 pub(crate) fn set(
     alloc: Global,
     files: &mut BTreeMap<String, Vec<u8>>,
@@ -23,7 +23,7 @@ pub(crate) fn set(
     Ok(())
 }
 
-/// Adds the bytes to the end of the file at the path. NotDone where no file is at the path or its growth
+/// Adds the bytes to the end of the file at the path. NotDone where no file is at the path or its allocation
 /// is refused. The files are then as they were.
 pub(crate) fn append(
     files: &mut BTreeMap<String, Vec<u8>>,

@@ -7,7 +7,7 @@ ghost use Rattle.dd_elem.specs.Counts.{counts_after};
 ghost use Rattle.dd_elem.specs.Device.{counted, IsBeforeFail, IsLive, passing};
 ghost use Rattle.dd_mem_files.specs.MemFiles.{Stored, Unwritten, listed, bytes_at, change_of, unread, unwritten};
 ghost use Rattle.dd_mem_files.specs.MemFiles.{written_of, SetsFile, GrowsWritten, MayCall, called};
-ghost use Rattle.dd_mem_files.specs.MemFiles.{KeepsFiles, Gets, LinksFile, Opens, due};
+ghost use Rattle.dd_mem_files.specs.MemFiles.{KeepsFiles, Gets, LinksFile, Opens, OpensOrRefuses, due};
 ghost use Rattle.dd_mem_files.specs.PlannedFaults.{after_write, fails_at, nothing_planned};
 
 use crate::contents::{append, set};
@@ -15,7 +15,7 @@ use crate::later::{Later, count_opening, due_bytes};
 use crate::mem_reader::MemReader;
 use crate::planned_faults::PlannedFaults;
 use dd_elem::{Counts, Memory, Write};
-use dd_files::{LinkFault, NotDone};
+use dd_files::{LinkFault, NotDone, NotThere};
 use std::alloc::Global;
 use std::collections::BTreeMap;
 use std::io;
@@ -85,7 +85,7 @@ impl MemFiles {
         }
     }
 
-    /// Gives the path these bytes, whether it had some or not. Memory where a growth is refused, and
+    /// Gives the path these bytes, whether it had some or not. Memory where an allocation is refused, and
     /// then nothing has changed.
     pub fn put(&mut self, path: &str, bytes: &[u8]) -> Result<(), Memory>
         ensures ok { OnOk result (SetsFile self.old.files self.new.files path.now bytes.now) }
@@ -96,7 +96,7 @@ impl MemFiles {
     }
 
     /// Gives the path these bytes from its second opening on, counted from now. The files' contract then no longer
-    /// says what they hold. Memory where a growth is refused, and then nothing has changed.
+    /// says what they hold. Memory where an allocation is refused, and then nothing has changed.
     pub fn put_later(&mut self, path: &str, bytes: &[u8]) -> Result<(), Memory>
         ensures ok { OnOk result (self.new ≡ record self.old {
           later = Some (record { path = path.now; bytes = bytes.now; is_opened = false });
@@ -130,8 +130,8 @@ impl MemFiles {
     }
 
     /// Makes the reader of a later opening of the path fail after `after` bytes. The next opening is number 1; with
-    /// 0 no reader fails. A later `fail_read` replaces this one. Memory where a growth is refused, and then nothing
-    /// has changed.
+    /// 0 no reader fails. A later `fail_read` replaces this one. Memory where an allocation is refused, and then
+    /// nothing has changed.
     pub fn fail_read(&mut self, path: &str, opening: u32, after: u64) -> Result<(), Memory>
         ensures ok { OnOk result (self.new ≡ record self.old {
           planned = record self.old.planned {
@@ -145,7 +145,7 @@ impl MemFiles {
         Ok(())
     }
 
-    /// Makes the files refuse each second name from now on.
+    /// Makes the files refuse each hard link from now on.
     pub fn refuse_links(&mut self)
         ensures { self.new ≡ record self.old { planned = record self.old.planned { no_links = true } } }
     {
@@ -170,7 +170,7 @@ impl MemFiles {
     }
 
     // Gives the path the bytes that it is to have at this opening, and answers a copy of them; or else this copy
-    // of its bytes. None where a growth is refused, and then nothing has changed.
+    // of its bytes. None where an allocation is refused, and then nothing has changed.
     fn reopen(&mut self, path: &str, copy: Vec<u8>) -> Option<Vec<u8>>
         requires { bytes_at self.old.files path.now ≡ Some copy.items }
         ensures gives { IfSome result (λ copy. bytes_at self.new.files path.now ≡ Some copy.items) }
@@ -191,7 +191,7 @@ impl MemFiles {
         }
     }
 
-    /// Opens the file at the path. None where there is no such file or a growth is refused, and then nothing has
+    /// Opens the file at the path. None where there is no such file or an allocation is refused, and then nothing has
     /// changed.
     pub(crate) fn open(&mut self, path: &str) -> Option<MemReader>
         ensures gives { IfSome result (λ reader. bytes_at self.new.files path.now
@@ -205,6 +205,20 @@ impl MemFiles {
         let copy = self.reopen(path, copy)?;
         count_opening(&mut self.later, path);
         Some(MemReader::new(copy, self.planned.open(path)))
+    }
+
+    /// Opens the file at the path, or counts a refusal: where there is no such file, an allocation is refused or the
+    /// refusals are at their last value. The files are then as they were, and it is no opening.
+    pub(crate) fn open_or_refuse(&mut self, path: &str) -> Result<MemReader, NotThere>
+        ensures { OpensOrRefuses self.old self.new path.now result }
+    {
+        if self.refusals < u64::MAX {
+            if let Some(reader) = self.open(path) {
+                return Ok(reader);
+            }
+        }
+        self.refuse();
+        Err(NotThere)
     }
 
     /// Starts an empty file at the path, to which later writes go.
@@ -222,8 +236,8 @@ impl MemFiles {
     }
 
     /// Gives the path, which must be free, the bytes of the file at `from`. Absent where no file is at `from` or a copy
-    /// of its bytes is refused. Taken where the path is there. Refused where second names or a growth are refused.
-    /// The files are then as they were.
+    /// of its bytes is refused. Taken where the path is there. Refused where hard links are to be refused, or an
+    /// allocation is. The files are then as they were.
     pub(crate) fn copy_to(&mut self, from: &str, path: &str) -> Result<(), LinkFault>
         ensures ok { OnOk result (LinksFile self.old.files self.new.files from.now path.now) }
         ensures may { IsOk result → self.old.planned.no_links ≡ false }
@@ -248,7 +262,7 @@ impl MemFiles {
 
     /// Counts a call, and says whether it may be done: not where it is to be refused, or the refusals are at their
     /// last value.
-    pub(crate) fn begin(&mut self) -> bool
+    pub(crate) fn count_call(&mut self) -> bool
         ensures may { IsTrue result ↔ MayCall self.old }
         ensures same { self.new ≡ called self.old }
     {
@@ -264,7 +278,7 @@ impl MemFiles {
     }
 
     // Adds what a write takes of the bytes to the end of the file that is being written, and answers how many
-    // these are. NotDone where there is no such file, its growth is refused or writes are to fail. The files are
+    // these are. NotDone where there is no such file, its allocation is refused or writes are to fail. The files are
     // then as they were.
     fn append(&mut self, bytes: &[u8]) -> Result<usize, NotDone>
         ensures room { IsOk result → IsBeforeFail self.old.planned.room 0 }
@@ -301,7 +315,7 @@ impl Write for MemFiles {
 
     /// Adds the whole piece, or what fits before writes are to fail, to the end of the file that is being
     /// written. Fails where writes are to fail, where there is no such file, where a count is at its last value
-    /// and where a growth is refused. It then adds nothing.
+    /// and where an allocation is refused. It then adds nothing.
     fn write(&mut self, bytes: &[u8]) -> io::Result<usize>
         ensures bound { WritesAtMost result bytes.now }
         ensures appends { WriteAppends (written_of self.old)

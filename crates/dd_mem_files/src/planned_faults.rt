@@ -14,7 +14,7 @@ struct ReaderFault {
     after: u64,
 }
 
-/// What is to fail: writes after a number of bytes, one of the next calls, one reader, and second names.
+/// What is to fail: writes after a number of bytes, one of the next calls, one reader, and hard links.
 #[derive(Debug, Drop)]
 pub(crate) struct PlannedFaults {
     room: Option<u64>,
@@ -74,14 +74,14 @@ impl PlannedFaults {
         });
     }
 
-    /// Refuses every second name from now on.
+    /// Refuses every hard link from now on.
     pub(crate) fn refuse_links(&mut self)
         ensures { self.new ≡ record self.old { no_links = true } }
     {
         self.no_links = true;
     }
 
-    /// Says whether second names are refused.
+    /// Says whether hard links are refused.
     pub(crate) fn refuses_links(&self) -> bool
         ensures { result ≡ self.now.no_links }
     {
