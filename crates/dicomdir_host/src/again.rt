@@ -1,4 +1,4 @@
-//! Looks at files, makes folders and gives second names, again where a signal interrupts the call (EINTR).
+//! Looks at files, makes folders and gives hard links, again where a signal interrupts the call (EINTR).
 
 use crate::counted::TRIES;
 use std::fs::{self, Metadata, OpenFile};
@@ -47,7 +47,7 @@ pub(crate) fn is_folder<R: fs::Files>(rt: &R, path: &str, links: Links) -> bool 
     }
 }
 
-/// Gives the file at a path a second name. A name that stands there after an interrupted call counts as given.
+/// Gives the file at a path a hard link. A name that stands there after an interrupted call counts as given.
 pub(crate) fn link_file<R: fs::Files>(rt: &R, original: &str, name: &str) -> io::Result<()> {
     let mut is_interrupted = false;
     for _ in 0..TRIES {

@@ -6,7 +6,7 @@ use crate::host_files::HostFiles;
 use crate::opening::Input;
 use crate::system::System;
 use dd_elem::Write;
-use dd_files::{Files, LinkFault, NotDone, NotThere, Step};
+use dd_files::{Files, LinkFault, NotDone, NotThere, Progress, Step};
 use std::io;
 
 impl<R: System> Write for HostFiles<'_, R> {
@@ -101,8 +101,14 @@ impl<R: System> Files for HostFiles<'_, R> {
         self.answer(is_done)
     }
 
+    fn store_batch(&mut self) -> Result<(), NotDone> {
+        let is_stored = self.store_waiting().is_ok();
+        let is_done = self.refusals < u64::MAX && is_stored;
+        self.answer(is_done)
+    }
+
     fn store(&mut self) -> Result<(), NotDone> {
-        let is_stored = self.store_due().is_ok();
+        let is_stored = self.store_all().is_ok();
         let is_done = self.refusals < u64::MAX && is_stored;
         self.answer(is_done)
     }
@@ -111,7 +117,15 @@ impl<R: System> Files for HostFiles<'_, R> {
         self.unstored.lost()
     }
 
-    fn begin_progress(&mut self, step: Step, of: u64) {
+    ghost same_refusals = { λ _ _ same. same };
+
+    ghost same_contents = { λ _. tt };
+
+    ghost written_grows = { λ _ _ _ _ _. refl };
+}
+
+impl<R: System> Progress for HostFiles<'_, R> {
+    fn begin_step(&mut self, step: Step, of: u64) {
         self.progress.begin(self.rt, step, of);
     }
 
@@ -119,17 +133,11 @@ impl<R: System> Files for HostFiles<'_, R> {
         self.progress.advance(self.rt);
     }
 
-    fn hide_progress(&mut self) {
+    fn hide_line(&mut self) {
         self.progress.hide();
     }
 
-    fn be_quiet(&mut self) {
+    fn silence(&mut self) {
         self.progress.end();
     }
-
-    ghost same_refusals = { λ _ _ same. same };
-
-    ghost same_contents = { λ _. tt };
-
-    ghost written_grows = { λ _ _ _ _ _. refl };
 }

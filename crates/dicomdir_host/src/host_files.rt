@@ -11,7 +11,7 @@ use crate::members::Members;
 use crate::opening::{Input, open_any, open_seen};
 use crate::output::{self, Output};
 use crate::paths::{before_slash, folder_of};
-use crate::progress::Progress;
+use crate::progress_line::ProgressLine;
 use crate::storing::Unstored;
 use crate::system::System;
 use dd_files::{DIRECTORY, NotDone};
@@ -27,11 +27,10 @@ const NO_MORE: [i32; 2] = [24, 23];
 /// The files of the system. What is written is gathered in a buffer. A new file never takes the place
 /// of one that is there, and takes nothing more once a write to it has failed.
 ///
-/// A file that has ended stays open until it is stored. The call of `store` behind the end of a file puts
-/// that off while fewer than 100 wait, and stores these files where they don't; any other call stores all:
-/// these files, and the names of all files and folders that were made. Before a directory is started, which
-/// is a file named DICOMDIR, all is stored, too. What was not stored stays lost: each later `store` is
-/// refused, and each start of a directory.
+/// A file that has ended stays open until it is stored. `store_batch` stores these files where 100 wait, and else
+/// puts that off. `store` stores all: these files, and the names of all files and folders that were made. Before a
+/// directory is started, which is a file named DICOMDIR, all is stored, too. What was not stored stays lost: each
+/// later `store` and `store_batch` is refused, and each start of a directory.
 ///
 /// Where the system gives no more descriptors, the files that wait are stored and closed, and the call is
 /// made again.
@@ -44,10 +43,10 @@ const NO_MORE: [i32; 2] = [24, 23];
 /// A file of a file-set is a source that is looked up in each spelling in which systems show a disc. No link
 /// is followed below the folder of a file-set, nor below the folder that is written to.
 ///
-/// A second name is a hard link to a plain file of a file-set, which is looked up as any file of one. A folder and
-/// a symbolic link get no second name. The new name is opened and compared with the file that was found. Where it
-/// is another file, the call is refused as for an absent file, and the name stays. Else it counts as a file that has
-/// ended: it stays open until it is stored, and its name is stored as each new name is.
+/// A hard link is given to a plain file of a file-set, which is looked up as any file of one. A folder and a symbolic
+/// link get none. The new name is opened and compared with the file that was found. Where it is another file, the
+/// call is refused as for an absent file, and the name stays. Else it counts as a file that has ended: it stays open
+/// until it is stored, and its name is stored as each new name is.
 ///
 /// A list of names may be a pipe or a device, too, and `-` stands for the standard input. A call that opens or
 /// reads it may wait.
@@ -62,13 +61,11 @@ pub struct HostFiles<'a, R: System> {
     // The path of the file that is being written.
     path: Option<String>,
     pub(crate) unstored: Unstored<R::File>,
-    // Is all to be stored at the next call?
-    pub(crate) is_due: bool,
     // The folder that was made last, and how much of its path may lead over links.
     folder: String,
     out_len: usize,
     pub(crate) members: Members,
-    pub(crate) progress: Progress<R::Terminal>,
+    pub(crate) progress: ProgressLine<R::Terminal>,
     pub(crate) refusals: u64,
 }
 
@@ -81,7 +78,6 @@ impl<R: System> Drop for HostFiles<'_, R> {
             output: _output,
             path: _path,
             unstored: _unstored,
-            is_due: _,
             folder: _folder,
             out_len: _,
             members: _members,
@@ -91,8 +87,8 @@ impl<R: System> Drop for HostFiles<'_, R> {
     }
 }
 
-/// Is it the path of a directory: does its last name say DICOMDIR (PS3.10 section 8.6)?
-pub(crate) fn is_directory(path: &str) -> bool
+// Is it the path of a directory: does its last name say DICOMDIR (PS3.10 section 8.6)?
+fn is_directory(path: &str) -> bool
     ensures { IsTrue result ↔ IsDirectoryPath path.now }
 {
     match path.as_bytes().strip_suffix(DIRECTORY.as_bytes()) {
@@ -120,11 +116,10 @@ impl<'a, R: System> HostFiles<'a, R> {
             output: Counted::new(Output::new()),
             path: None,
             unstored: Unstored::new(alloc),
-            is_due: true,
             folder: String::new(alloc),
             out_len: 0,
             members: Members::new(),
-            progress: Progress::new(rt.terminal()),
+            progress: ProgressLine::new(rt.terminal()),
             refusals: 0,
         }
     }
@@ -312,8 +307,6 @@ impl<'a, R: System> HostFiles<'a, R> {
         ensures remembered { IsOk result → IfSome self.old.path (λ path.
             map (λ ended. ended.path) self.new.unstored.files.items
             ≡ map (λ ended. ended.path) self.old.unstored.files.items ++ path ∷ []) }
-        ensures due { IsOk result → IfSome self.old.path (λ path.
-            IsTrue self.new.is_due ↔ IsDirectoryPath (string_bytes path)) }
         ensures counts { self.new.output.counts ≡ self.old.output.counts }
         ensures refusals { self.new.refusals ≡ self.old.refusals }
     {
@@ -321,28 +314,28 @@ impl<'a, R: System> HostFiles<'a, R> {
             return Err(io::Error::other("no file is being written"));
         };
         let file = self.output.device.take()?;
-        self.is_due = is_directory(path.as_str());
         self.unstored.keep(path, file)?;
         Ok(())
     }
 
-    /// Stores all, or puts that off to the next call.
-    pub(crate) fn store_due(&mut self) -> io::Result<()>
-        ensures stored { IsOk result → IsTrue self.old.is_due
+    /// Stores all.
+    pub(crate) fn store_all(&mut self) -> io::Result<()>
+        ensures stored { IsOk result
             → IsStored self.new.unstored.files.items self.new.unstored.folders.items self.new.unstored.lost }
+        ensures lost { IsErr result ↔ IsSome self.new.unstored.lost }
+        ensures same { self.new
+            ≡ record self.old { unstored = self.new.unstored; progress = self.new.progress } }
+    {
+        self.unstored.store(self.rt, &mut self.progress)
+    }
+
+    /// Stores the files that wait, where they are a batch.
+    pub(crate) fn store_waiting(&mut self) -> io::Result<()>
         ensures batch { IsOk result → length self.new.unstored.files.items < BATCH }
         ensures lost { IsErr result ↔ IsSome self.new.unstored.lost }
-        ensures next { IsTrue self.new.is_due }
-        ensures same { self.new ≡ record self.old {
-          unstored = self.new.unstored;
-          is_due = self.new.is_due;
-          progress = self.new.progress;
-        } }
+        ensures same { self.new
+            ≡ record self.old { unstored = self.new.unstored; progress = self.new.progress } }
     {
-        if self.is_due {
-            return self.unstored.store(self.rt, &mut self.progress);
-        }
-        self.is_due = true;
         if self.unstored.files_len() >= BATCH {
             return self.unstored.store_files(self.rt, &mut self.progress);
         }

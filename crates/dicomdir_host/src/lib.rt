@@ -14,7 +14,7 @@ mod opening;
 mod output;
 mod path_buffer;
 mod paths;
-mod progress;
+mod progress_line;
 mod spelling;
 mod storing;
 mod system;

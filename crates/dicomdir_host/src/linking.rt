@@ -1,13 +1,12 @@
-//! Second names of the files of file-sets.
-ghost use Rattle.std.specs.Prelude.{◌≡◌, ◌↔◌, ◌⊎◌, ◌++◌, ◌∷◌, [], map, string_bytes};
-ghost use Rattle.std.specs.Prelude.{IfOk, IsOk, IsSome, IsTrue};
+//! Hard links to the files of file-sets.
+ghost use Rattle.std.specs.Prelude.{◌≡◌, ◌⊎◌, ◌++◌, ◌∷◌, [], map, string_bytes};
+ghost use Rattle.std.specs.Prelude.{IfOk, IsOk, IsSome};
 ghost use Rattle.std.specs.Fs.{IsFile, file_type};
-ghost use Rattle.dicomdir_host.specs.Directory.{IsDirectoryPath};
 ghost use Rattle.dicomdir_host.specs.Folders.{IsFolderOf};
 ghost use Rattle.dicomdir_host.specs.Storing.{Names, Waits};
 
 use crate::again::link_file;
-use crate::host_files::{HostFiles, is_directory};
+use crate::host_files::HostFiles;
 use crate::opening::{open_same, require_same};
 use crate::paths::folder_of;
 use crate::system::System;
@@ -68,24 +67,21 @@ impl<'a, R: System> HostFiles<'a, R> {
         ensures waits { IsOk result → Waits (string_bytes path)
             (map (λ ended. string_bytes ended.path) self.old.unstored.files.items)
             (map (λ ended. string_bytes ended.path) self.new.unstored.files.items) }
-        ensures due { IsOk result → IsTrue self.new.is_due ↔ IsDirectoryPath (string_bytes path) }
         ensures lost { IsSome self.old.unstored.lost
             → self.new.unstored.lost ≡ self.old.unstored.lost }
         ensures same { self.new ≡ record self.old {
           unstored = self.new.unstored;
-          is_due = self.new.is_due;
           progress = self.new.progress;
         } }
     {
         self.unstored.name(folder)?;
         let (file, _opened) = self.open_linked(path.as_str(), seen)?;
-        self.is_due = is_directory(path.as_str());
         self.unstored.keep(path, file)?;
         Ok(())
     }
 
-    /// Gives the plain file at `from` below the folder `set` a second name, which is to be stored. Absent where there
-    /// is no such file, or the new name can't be opened as that file. Taken where something stands at the path, and
+    /// Gives the plain file at `from` below the folder `set` a hard link, which is to be stored. Absent where there is
+    /// no such file, or the new name can't be opened as that file. Taken where something stands at the path, and
     /// Refused where memory or the name is refused.
     pub(crate) fn add_link(&mut self, set: &str, from: &str, path: &str) -> Result<(), LinkFault>
         ensures named { IsOk result
@@ -93,12 +89,10 @@ impl<'a, R: System> HostFiles<'a, R> {
         ensures waits { IsOk result → Waits path.now
             (map (λ ended. string_bytes ended.path) self.old.unstored.files.items)
             (map (λ ended. string_bytes ended.path) self.new.unstored.files.items) }
-        ensures due { IsOk result → IsTrue self.new.is_due ↔ IsDirectoryPath path.now }
         ensures lost { IsSome self.old.unstored.lost
             → self.new.unstored.lost ≡ self.old.unstored.lost }
         ensures same { self.new ≡ record self.old {
           unstored = self.new.unstored;
-          is_due = self.new.is_due;
           members = self.new.members;
           progress = self.new.progress;
         } }

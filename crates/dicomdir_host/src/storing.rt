@@ -4,7 +4,7 @@ ghost use Rattle.std.specs.Prelude.{IfOk, IfSome, IsErr, IsOk, IsSome};
 ghost use Rattle.dicomdir_host.specs.Storing.{IsStored};
 
 use crate::again::{Links, look};
-use crate::progress::Progress;
+use crate::progress_line::ProgressLine;
 use std::alloc::{AllocError, Global};
 use std::fs::{self, File, OpenFile};
 use std::io::{self, ErrorKind};
@@ -129,7 +129,7 @@ impl<F: OpenFile + Drop> Unstored<F> {
     pub(crate) fn store_files<C: Clock, W: io::Write + Drop>(
         &mut self,
         clock: &C,
-        progress: &mut Progress<W>,
+        progress: &mut ProgressLine<W>,
     ) -> io::Result<()>
         ensures closed { self.new.files.items ≡ [] }
         ensures done { IsOk result ↔ (self.new.lost ≡ None) }
@@ -172,7 +172,7 @@ impl<F: OpenFile + Drop> Unstored<F> {
     pub(crate) fn store<R: fs::Files + Clock, W: io::Write + Drop>(
         &mut self,
         rt: &R,
-        progress: &mut Progress<W>,
+        progress: &mut ProgressLine<W>,
     ) -> io::Result<()>
         ensures stored { IsOk result
             → IsStored self.new.files.items self.new.folders.items self.new.lost }

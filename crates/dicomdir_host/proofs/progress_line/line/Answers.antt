@@ -2,7 +2,7 @@
 use Rattle.std.proofs.Common.{◌≤◌, [], ℕ, List, arith, ap, codes, decimal, length, refl}
 use Rattle.std.specs.Fmt.InlineText.{inline_text}
 use Rattle.dicomdir_host.proofs.ProgressLines.{IsShort, adds}
-use Rattle.dicomdir_host.proofs.progress.line.Goals as goal
+use Rattle.dicomdir_host.proofs.progress_line.line.Goals as goal
 
 itself : (text : List ℕ) (most : ℕ) → length text ≤ most → IsShort text text most
 itself text most short = record { same = refl; short = short }

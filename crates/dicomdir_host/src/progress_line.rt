@@ -1,7 +1,7 @@
-//! Progress, which the error output shows where that is a terminal.
+//! The line of progress, which the error output shows where that is a terminal.
 ghost use Rattle.std.specs.Prelude.{◌≡◌, ◌≤◌, ◌<◌, ◌+◌, ◌++◌, length};
 ghost use Rattle.std.specs.Fmt.InlineText.{inline_text};
-ghost use Rattle.dicomdir_host.specs.Progress.{progress_line};
+ghost use Rattle.dicomdir_host.specs.ProgressLine.{progress_line};
 
 use crate::counted::write_again;
 use dd_files::Step;
@@ -23,7 +23,7 @@ const ERASE: &str = "\r\x1b[K";
 const LINE: usize = 64;
 
 /// Counts what is done of a step, and shows that in one line of a terminal, at most ten times a second.
-pub(crate) struct Progress<W: io::Write + Drop> {
+pub(crate) struct ProgressLine<W: io::Write + Drop> {
     /// None where nothing is shown.
     terminal: Option<W>,
     step: Step,
@@ -35,9 +35,9 @@ pub(crate) struct Progress<W: io::Write + Drop> {
 }
 
 // By hand, so that dropping it is one call.
-impl<W: io::Write + Drop> Drop for Progress<W> {
+impl<W: io::Write + Drop> Drop for ProgressLine<W> {
     fn drop(self) {
-        let Progress {
+        let ProgressLine {
             terminal: _terminal,
             step: _,
             done: _,
@@ -48,10 +48,10 @@ impl<W: io::Write + Drop> Drop for Progress<W> {
     }
 }
 
-impl<W: io::Write + Drop> Progress<W> {
+impl<W: io::Write + Drop> ProgressLine<W> {
     /// Makes the progress of a run that has begun no step yet, to be shown on this terminal, if there is one.
     pub(crate) fn new(terminal: Option<W>) -> Self {
-        Progress {
+        ProgressLine {
             terminal,
             step: Step::Reading,
             done: 0,

@@ -1,7 +1,7 @@
 use Rattle.std.proofs.Common.{ℕ, List, ◌++◌, ◌∙◌, ap, arith, length}
 use Rattle.std.specs.Fmt.InlineText.{inline_text}
 use Rattle.dicomdir_host.proofs.ProgressLines.{cut_to_fits}
-use Rattle.dicomdir_host.proofs.progress.with.Goals as goal
+use Rattle.dicomdir_host.proofs.progress_line.with.Goals as goal
 
 pub returns : goal.returns
 returns c = λ room. c.and_str.ensures.within room
