@@ -3,7 +3,7 @@
 use crate::disc::{Call, Disc, DiscFiles};
 use crate::power_cut::Kind;
 use dd_elem::{Read, Write};
-use dd_files::{Files, LinkFault, Step};
+use dd_files::{Files, LinkFault, Progress, Step};
 use dicomdir_host::HostFiles;
 use std::alloc::Global;
 use std::cell::RefCell;
@@ -109,6 +109,7 @@ fn is_done(files: &mut HostFiles<'_, DiscFiles<'_>>, verb: &str, what: &str) -> 
             files.folder_in(out, path).is_ok()
         }
         "write" => write_all(files, what.as_bytes()),
+        "batch" => files.store_batch().is_ok(),
         "store" => files.store().is_ok(),
         // More than the buffer takes.
         "fill" => write_all(files, &[b'x'; 70_000]),
@@ -184,11 +185,11 @@ fn counts(files: &mut HostFiles<'_, DiscFiles<'_>>, verb: &str, what: &str) -> R
             } else {
                 Step::Copying
             };
-            files.begin_progress(step, what.parse()?);
+            files.begin_step(step, what.parse()?);
         }
         "advance" => files.advance(),
-        "hide" => files.hide_progress(),
-        "quiet" => files.be_quiet(),
+        "hide" => files.hide_line(),
+        "quiet" => files.silence(),
         _ => return Ok(false),
     }
     Ok(true)

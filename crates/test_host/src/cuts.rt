@@ -14,14 +14,14 @@ folder o, store, create o/DICOMDIR, write xyz, finish, store
 dir o, folder o, store, create o/DICOMDIR, write xyz, finish, store
 store, create DICOMDIR, write xyz, finish, store
 folder a/b/o, store, create a/b/o/DICOMDIR, write xyz, finish, store
-dir o, folder o/p/s, create o/p/s/i, write abc, finish, store, folder o, store, create o/DICOMDIR, write xyz, \
+dir o, folder o/p/s, create o/p/s/i, write abc, finish, batch, folder o, store, create o/DICOMDIR, write xyz, \
 finish, store
-folder o/p/s, create o/p/s/i, write abc, finish, store, create o/p/s/j, write abc, finish, store, \
-folder o/p/t, create o/p/t/i, write abc, finish, store, folder o, store, create o/DICOMDIR, write xyz, finish, store
-file d/A, folder o/p/s, second d: d/A at o/p/s/A, store, folder o, store, create o/DICOMDIR, write xyz, finish, store
+folder o/p/s, create o/p/s/i, write abc, finish, batch, create o/p/s/j, write abc, finish, batch, \
+folder o/p/t, create o/p/t/i, write abc, finish, batch, folder o, store, create o/DICOMDIR, write xyz, finish, store
+file d/A, folder o/p/s, second d: d/A at o/p/s/A, batch, folder o, store, create o/DICOMDIR, write xyz, finish, store
 folder o/p/s, create o/p/s/i, write abc, finish, folder o, create o/DICOMDIR, write xyz, finish, store
-limit 1, folder o/p/s, create o/p/s/i, write abc, finish, store, folder o/q/s, create o/q/s/i, write abc, finish, \
-store, folder o, store, create o/DICOMDIR, write xyz, finish, store";
+limit 1, folder o/p/s, create o/p/s/i, write abc, finish, batch, folder o/q/s, create o/q/s/i, write abc, finish, \
+batch, folder o, store, create o/DICOMDIR, write xyz, finish, store";
 
 // Did no state break, and does all last at the end?
 fn is_safe(alloc: Global, calls: &str) -> Result<bool, Fail> {
@@ -56,7 +56,7 @@ fn calls_of(alloc: Global, kind: [&str; 3], images: u32, open: u32) -> Result<St
     let [before, make, end] = kind;
     let mut calls = format!(in alloc; "{before}limit {open}, folder o/s")?;
     for image in 0..images {
-        let more = format!(in alloc; ", {make} o/s/{image}{end}, store")?;
+        let more = format!(in alloc; ", {make} o/s/{image}{end}, batch")?;
         calls.push_str(more.as_str())?;
     }
     calls.push_str(", folder o, store, create o/DICOMDIR, write xyz, finish, store")?;
@@ -87,7 +87,7 @@ fn is_lost(alloc: Global, calls: &str) -> Result<bool, Fail> {
 
 #[test]
 fn a_loss_is_seen(rt: HostRuntime) -> Result<(), Fail> {
-    let calls = "create i, write abc, finish, store, spill DICOMDIR";
+    let calls = "create i, write abc, finish, batch, spill DICOMDIR";
     claim_all(rt.alloc(), calls, '\n', is_lost)
 }
 
@@ -110,7 +110,7 @@ a/../b > a/..";
 fn is_named_there(alloc: Global, case: &str) -> Result<bool, Fail> {
     let (path, folder) = case.split_once(" > ").ok_or("no folder")?;
     let disc = RefCell::new(Disc::new(alloc)?);
-    let calls = format!(in alloc; "dir {folder}, create {path}, finish, store, store")?;
+    let calls = format!(in alloc; "dir {folder}, create {path}, finish, batch, store")?;
     in_words(alloc, &disc, calls.as_str())?;
     let disc = disc.into_inner();
     let wanted = format!(in alloc; "make {path}, store {path}, store {folder}")?;

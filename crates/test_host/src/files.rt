@@ -34,9 +34,9 @@ dir a, names a > . ! >
 names -, names b > word - > none
 file a, fail open, names a, names a > . . - old > old
 create a, write xyz, pause write, finish, pause read, read a > + + . + . xyz > xyz
-create a, write xyz, fail store, finish, store, store, unstored > + + . + + - a > xyz
-create a, write xyz, fail store, finish, store, store, store, create b > + + . + + - - + > xyz
-create a, write xyz, fail store, finish, store, store, create DICOMDIR, unstored > + + . + + - - a > xyz
+create a, write xyz, fail store, finish, batch, store, unstored > + + . + + - a > xyz
+create a, write xyz, fail store, finish, batch, store, store, create b > + + . + + - - + > xyz
+create a, write xyz, fail store, finish, batch, store, create DICOMDIR, unstored > + + . + + - - a > xyz
 create DICOMDIR, write xyz, fail store, finish, store, unstored, read DICOMDIR > + + . + - DICOMDIR xyz > none
 folder d, fail store, store, unstored, finish > + . - . - > none
 folder d/e, fail open, store, unstored > + . - . > none
@@ -50,9 +50,11 @@ const ORDERS: &str = "\
 create a, finish, create b, finish > + + + + > make a, make b
 create DICOMDIR, finish > + + > make DICOMDIR
 create DICOMDIR, finish, store > + + + > make DICOMDIR, store DICOMDIR, store .
-create a, finish, store > + + + > make a
-create a, finish, store, store, store > + + + + + > make a, store a, store .
-create a, finish, store, create b, finish, store, store > + + + + + + + > make a, make b, store a, store b, store .
+create DICOMDIR, finish, batch > + + + > make DICOMDIR
+create a, finish, batch > + + + > make a
+create a, finish, store > + + + > make a, store a, store .
+create a, finish, batch, store, store > + + + + + > make a, store a, store .
+create a, finish, batch, create b, finish, batch, store > + + + + + + + > make a, make b, store a, store b, store .
 folder d, create a, finish, create d/b, finish, create d/DICOMDIR, finish, store > + + + + + + + + \
 > folder d, make a, make d/b, store a, store d/b, store ., store d, make d/DICOMDIR, store d/DICOMDIR, store d
 create a, finish, create DICOMDIR, finish, store, create b, finish, create DICOMDIR/DICOMDIR > + + + + + + + + \
@@ -64,10 +66,10 @@ create a, fail write, fill, finish, create DICOMDIR > + . - - + > make a, store 
 create a, finish, fail store, create DICOMDIR, finish, create DICOMDIR > + + . - - - > make a
 create a, finish, fail open, create DICOMDIR > + + . - > make a, store a
 file DICOMDIR, create a, finish, create DICOMDIR > . + + - > make a, store a, store .
-dir o, file d/A, second d: d/A at o/A, second d: d/A at o/B, store, create o/DICOMDIR, finish, store > \
+dir o, file d/A, second d: d/A at o/A, second d: d/A at o/B, batch, create o/DICOMDIR, finish, store > \
 . . + + + + + + > link o/A, link o/B, store o/A, store o/B, store o, make o/DICOMDIR, store o/DICOMDIR, store o
 file d/A, second d: d/A at DICOMDIR, store > . + + > link DICOMDIR, store DICOMDIR, store .
-file d/A, fail open, second d: d/A at a, create b, finish, store, store > . . -absent + + + + > \
+file d/A, fail open, second d: d/A at a, create b, finish, batch, store > . . -absent + + + + > \
 link a, make b, store b, store .
 folder d, folder d, folder e, folder d, folder d > + + + + + > folder d, folder e, folder d
 folder d/e, folder d/f, store > + + + > folder d, folder d/e, folder d, folder d/f, store ., store d

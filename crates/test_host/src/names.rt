@@ -69,7 +69,7 @@ dir o, file d/A, pause made, second d: d/A at o/A, second d: d/A at o/A > . . . 
 dir o, file d/A, dir o/A, pause link, second d: d/A at o/A > . . . . -absent
 dir o, file d/A, fail stay, second d: d/A at o/A > . . . -absent
 dir o, file d/A, fail seen, second d: d/A at o/A, read o/A > . . . -absent old
-dir o, file d/A, fail store, second d: d/A at o/A, store, store, unstored > . . . + + - o/A
+dir o, file d/A, fail store, second d: d/A at o/A, batch, store, unstored > . . . + + - o/A
 dir o, file d/A, limit 1, second d: d/A at o/A, second d: d/A at o/B, second d: d/A at o/C > . . . + + +
 dir o, file d/A, create a, write x, second d: d/A at o/A, finish, read a > . . + + + + x";
 

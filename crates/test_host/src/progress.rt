@@ -23,10 +23,10 @@ quiet, reading 3, pass 600, advance >
 reading 3, pass 600, fail show, advance, pass 100, advance > <reading 2 of 3^[K
 reading 3, pass 600, pause show, advance > <reading 1 of 3^[K
 reading 3, pass 600, fail clock, advance, advance > <reading 2 of 3^[K
-copying 9, create a, finish, create b, finish, pass 600, store, store > <storing 0 of 2^[K
-copying 9, create a, finish, create b, finish, pass 600, slow 100, store, store > \
+copying 9, create a, finish, create b, finish, pass 600, batch, store > <storing 0 of 2^[K
+copying 9, create a, finish, create b, finish, pass 600, slow 100, batch, store > \
 <storing 0 of 2^[K<storing 1 of 2^[K
-copying 9, create a, finish, slow 600, store, store, advance > <copying 1 of 9^[K";
+copying 9, create a, finish, slow 600, batch, store, advance > <copying 1 of 9^[K";
 
 fn is_right(alloc: Global, case: &str) -> Result<bool, Fail> {
     let (calls, shown) = case.split_once(" >").ok_or("no text")?;
