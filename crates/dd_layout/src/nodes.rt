@@ -9,7 +9,7 @@ ghost use Rattle.dd_layout.specs.WalkedRecords.{front_of, least_run, path_before
 ghost use Rattle.dd_layout.specs.WalkedRecords.{shared, standing};
 
 use crate::level::Level;
-use crate::order::{Placed, in_path_order, shared};
+use crate::order::{Placed, in_path_order, shared_length};
 use crate::record::PlanRecord;
 use dd_elem::Memory;
 use dd_version::Version;
@@ -29,11 +29,11 @@ pub(crate) fn nodes(alloc: Global, versions: &[Version]) -> Result<Vec<PlanRecor
         return Ok(Vec::new(alloc));
     }
     let placed = in_path_order(alloc, versions)?;
-    walked(alloc, &placed)
+    records_along(alloc, &placed)
 }
 
 /// The records of versions in the order of their paths, by one walk along them.
-fn walked(alloc: Global, placed: &[Placed]) -> Result<Vec<PlanRecord>, Memory>
+fn records_along(alloc: Global, placed: &[Placed]) -> Result<Vec<PlanRecord>, Memory>
     ensures { IfOk result (λ records. records.items ≡ records_from [] (map standing placed.now)) }
 {
     let mut records = Vec::with_capacity(alloc, record_count(placed))?;
@@ -70,7 +70,7 @@ fn shared_with(before: Option<&Version>, version: &Version) -> usize
     ensures few { result ≤ 4 }
 {
     match before {
-        Some(before) => shared(before, version),
+        Some(before) => shared_length(before, version),
         None => 0,
     }
 }
@@ -123,11 +123,11 @@ fn least_below(level: Level, first: &Placed, later: &[Placed]) -> usize
 fn leads(level: Level, first: &Version, other: &Version) -> bool
     ensures { result ≡ leads_to (front_of level first.now) (path_of other.now) }
 {
-    above(level) < shared(first, other)
+    depth_of(level) < shared_length(first, other)
 }
 
 /// How many records stand above one of this level.
-fn above(level: Level) -> usize
+fn depth_of(level: Level) -> usize
     ensures { result ≡ above level }
 {
     match level {

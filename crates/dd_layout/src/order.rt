@@ -52,7 +52,7 @@ fn compare_paths(one: &Placed, other: &Placed) -> Ordering
 }
 
 /// How many parts the paths of these versions share in front.
-pub(crate) fn shared(one: &Version, other: &Version) -> usize
+pub(crate) fn shared_length(one: &Version, other: &Version) -> usize
     ensures exact { result ≡ shared (path_of one.now) (path_of other.now) }
     ensures few { result ≤ 4 }
 {

@@ -31,11 +31,11 @@ pub fn record_size(level: Level, parts: &Parts) -> u64
         → AreElements Explicit levels 0
         (elements_of (record_elements level next lower file parts.now)) }
 {
-    ITEM_HEADER + cells_size(rows(level), &unlinked(level), parts)
+    ITEM_HEADER + cells_size(rows(level), &bare_record(level), parts)
 }
 
 /// A record with no link, of the first image where it is of an image.
-fn unlinked(level: Level) -> PlanRecord
+fn bare_record(level: Level) -> PlanRecord
     ensures level { result.level ≡ level }
     ensures file { IsFileOf level result.file }
 {

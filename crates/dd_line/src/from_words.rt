@@ -151,7 +151,7 @@ fn request_of(alloc: Global, found: &ArgMatches<'_>) -> Result<Request, LineFaul
 }
 
 /// Parses the words.
-fn parsed<'a>(alloc: Global, words: &'a [String]) -> Result<ArgMatches<'a>, LineFault>
+fn matches_of<'a>(alloc: Global, words: &'a [String]) -> Result<ArgMatches<'a>, LineFault>
     ensures found { IfOk result (λ found.
         subcommand_rows_of found ≡ subcommand_of dicomdir_app (words_of words.entry.now)) }
     ensures passes { IfErr result (λ fault.
@@ -184,6 +184,6 @@ pub fn read_request(alloc: Global, words: &[String]) -> Result<Request, LineFaul
         × LacksSources (subcommand_of dicomdir_app (words_of words.now))
         × IsMissingArgument fault)) }
 {
-    let found = parsed(alloc, words)?;
+    let found = matches_of(alloc, words)?;
     request_of(alloc, &found)
 }

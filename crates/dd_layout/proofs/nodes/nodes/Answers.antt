@@ -13,6 +13,6 @@ returns-clause-records c =
     let same = c.in_ok-placed.ensures.all in
     let order = c.in_ok-placed.ensures.order in
     let walk = walk_is_tree versions (map standing c.in_ok-placed.placed.items) same order in
-    IfOk-weaker c.walked.result (λ records. records.items ≡ records_from [] (map standing c.deref.result.now))
+    IfOk-weaker c.records_along.result (λ records. records.items ≡ records_from [] (map standing c.deref.result.now))
     (λ records. records.items ≡ map (bare_at versions) (tree versions))
-    (λ records is. is ∙ ap (λ l. records_from [] (map standing l)) value ∙ walk) c.walked.ensures
+    (λ records is. is ∙ ap (λ l. records_from [] (map standing l)) value ∙ walk) c.records_along.ensures

@@ -3,10 +3,10 @@ use Rattle.dd_layout.proofs.record_sizes.record_size.Goals as goal
 
 pub returns-clause-exact : goal.returns-clause-exact
 returns-clause-exact c =
-    size_from_one c.args.level c.rows.result.now c.unlinked.result c.args.parts.now c.cells_size.result
-    c.rows.ensures.exact c.unlinked.ensures.level c.unlinked.ensures.file c.cells_size.ensures.exact
+    size_from_one c.args.level c.rows.result.now c.bare_record.result c.args.parts.now c.cells_size.result
+    c.rows.ensures.exact c.bare_record.ensures.level c.bare_record.ensures.file c.cells_size.ensures.exact
 
 pub returns-clause-valid : goal.returns-clause-valid
 returns-clause-valid c =
-    valid_from_one c.args.level c.rows.result.now c.unlinked.result c.args.parts.now c.rows.ensures.exact
-    c.unlinked.ensures.level c.unlinked.ensures.file c.cells_size.ensures.short
+    valid_from_one c.args.level c.rows.result.now c.bare_record.result c.args.parts.now c.rows.ensures.exact
+    c.bare_record.ensures.level c.bare_record.ensures.file c.cells_size.ensures.short

@@ -5,7 +5,7 @@ use Rattle.clap.specs.Words.{App, HasKind, HasMatchesOf, fault_of, is_simple_and
 use Rattle.clap.specs.declared.error.kind.ErrorKind.TheVariants.{OutOfMemory}
 use Rattle.dd_line.specs.Line.{words_of}
 use Rattle.dd_line.proofs.LineLemmas.{app_is_free, app_is_simple, memory_alone, refused_for}
-use Rattle.dd_line.proofs.from_words.parsed.Goals as goal
+use Rattle.dd_line.proofs.from_words.matches_of.Goals as goal
 
 pub returns-in_err-try_get_matches_from-clause-passes :
     goal.returns-in_err-try_get_matches_from-clause-passes

@@ -1,7 +1,7 @@
 use Rattle.std.proofs.Common.{◌≡◌, [], ◌++◌, length, map}
 use Rattle.std.specs.Prelude.{option_copied}
 use Rattle.dd_layout.specs.WalkedRecords.{path_before, records_from, standing}
-use Rattle.dd_layout.proofs.nodes.walked.Given as goal
+use Rattle.dd_layout.proofs.nodes.records_along.Given as goal
 
 -- with the records of what is left there are those of all
 abbrev pub invariant-loop-rest : goal.invariant-loop-rest

@@ -2,7 +2,7 @@ use Rattle.std.proofs.Common.{◌≡◌, ◌∙◌, sym, ap, Bool, true, false, 
 use Rattle.std.specs.Prelude.{not}
 use Rattle.std.proofs.lemmas.Bool.{cond-true, cond-false}
 use Rattle.dd_elem.proofs.Sameness.{same_bytes, same_uid}
-use Rattle.dd_layout.proofs.order.shared.Goals as goal
+use Rattle.dd_layout.proofs.order.shared_length.Goals as goal
 
 -- what `!=` answers where the two compare equal, and where they don't
 equal : (differ same equals : Bool) → same ≡ equals → differ ≡ not equals → differ ≡ false → same ≡ true
