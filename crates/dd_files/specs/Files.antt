@@ -50,8 +50,8 @@ published path bytes held = record { bytes_at = with_file path (Some bytes) held
 
 -- What each call of files does beside its work: a refusal counts, and changes neither what the files hold nor the bytes
 -- that are being written. No call is a write.
-pub record IsCall {F A E : Type 0} (writer : WriteOf F) (refusals : F → ℕ) (held : F → Option Held) (result : Result A E)
-    (old new : F) : Type 0 where
+pub record IsCall {F A E : Type 0} (writer : WriteOf F) (refusals : F → ℕ) (held : F → Option Held)
+    (result : Result A E) (old new : F) : Type 0 where
   pub worked : IsOk result → HasWorked (refusals old) (refusals new)
   pub refused : IsErr result → refusals new ≡ counted (refusals old)
   pub kept : IsErr result → held new ≡ held old

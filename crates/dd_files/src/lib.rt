@@ -1,5 +1,5 @@
-//! Files: the trait that a program reads and writes them by, where they stand in a folder, and what
-//! reading one to its end gives.
+//! Files: the trait that a program reads and writes them by, the one by which they show its progress, where files
+//! stand in a folder, and what reading one to its end gives.
 //!
 //! Its promise: `copy_image`, `digest_of` and `read_whole` answer only of all that a reader gave; the first
 //! and the last say else whether the reader failed or gave more than the limit, the first also whether the

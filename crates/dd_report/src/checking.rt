@@ -19,7 +19,7 @@ use crate::listing::record_count;
 use crate::words::{tell_fault, tell_tag};
 use dd_dir::{Forest, Tree};
 use dd_elem::{Memory, Read, Write};
-use dd_files::{Files, SOURCE_LIMIT, Step, digest_text, file_path};
+use dd_files::{Files, Progress, SOURCE_LIMIT, Step, digest_text, file_path};
 use dd_layout::Level;
 use itoa::Buffer;
 use std::alloc::Global;
@@ -60,7 +60,7 @@ pub struct Check<'a> {
 /// found, depth first and once for each record. Meanwhile `files` shows how many records are checked.
 /// Answers whether anything is found. Memory where an allocation is refused; Unsent where the output fails. The
 /// findings of the records before that are sent.
-pub fn check_records<F: Files, W: Write>(
+pub fn check_records<F: Files + Progress, W: Write>(
     check: Check<'_>,
     forest: &Forest<'_>,
     files: &mut F,
@@ -107,7 +107,7 @@ fn is_unsent(checked: &Result<bool, CheckFault>) -> bool
 }
 
 /// Checks all records, and then prints the line about all of them.
-fn check_forest<F: Files, W: Write>(
+fn check_forest<F: Files + Progress, W: Write>(
     check: Check<'_>,
     forest: &Forest<'_>,
     files: &mut F,
@@ -129,7 +129,7 @@ fn check_forest<F: Files, W: Write>(
 
 /// Checks the files of the root records and of those below them, and shows meanwhile how many records are
 /// checked.
-fn check_counted<F: Files, W: Write>(
+fn check_counted<F: Files + Progress, W: Write>(
     check: Check<'_>,
     trees: &[Tree<'_>],
     files: &mut F,
@@ -143,9 +143,9 @@ fn check_counted<F: Files, W: Write>(
         (way_of W.Write lines.old to.old) (way_of W.Write lines.new to.new) }
     ensures kept { F.held files.new ≡ F.held files.old }
 {
-    files.begin_progress(Step::Reading, record_count(trees));
+    files.begin_step(Step::Reading, record_count(trees));
     let checked = check_trees(check, trees, Inherited::at_root(), files, lines, to);
-    files.hide_progress();
+    files.hide_line();
     checked
 }
 
@@ -175,7 +175,7 @@ fn tell_end<W: Write>(
 
 /// Checks the files of these records and of those below them. `inherited` is what the records above say.
 #[cycle(findings)]
-fn check_trees<'t, F: Files, W: Write>(
+fn check_trees<'t, F: Files + Progress, W: Write>(
     check: Check<'_>,
     trees: &[Tree<'t>],
     inherited: Inherited<'t>,
@@ -201,7 +201,7 @@ fn check_trees<'t, F: Files, W: Write>(
 /// Checks the file of this record, and those of the records below it. `inherited` is what the records above
 /// say.
 #[cycle(findings)]
-fn check_tree<'t, F: Files, W: Write>(
+fn check_tree<'t, F: Files + Progress, W: Write>(
     check: Check<'_>,
     tree: &Tree<'t>,
     inherited: Inherited<'t>,
@@ -224,7 +224,7 @@ fn check_tree<'t, F: Files, W: Write>(
 }
 
 /// Checks the file of this record, and prints what is found. `inherited` is what it and the records above say.
-fn check_record<F: Files, W: Write>(
+fn check_record<F: Files + Progress, W: Write>(
     check: Check<'_>,
     tree: &Tree<'_>,
     inherited: Inherited<'_>,
@@ -248,7 +248,7 @@ fn check_record<F: Files, W: Write>(
     let Some(finding) = finding else {
         return Ok(false);
     };
-    files.hide_progress();
+    files.hide_line();
     match tell_finding(tree, &finding, lines, to) {
         Ok(()) => Ok(true),
         Err(_) => Err(CheckFault::Unsent),

@@ -23,7 +23,7 @@ pub asked_work : (a : Asked) (found : Option (Text × List Row)) → IsAsked a f
 asked_work a None h none = absurd h
 asked_work a (Some (command, given)) h none = not_true a.dry_run (λ dry. none (sym h.dry_run ∙ dry))
 
--- second names
+-- hard links
 pub given_link : (a : Asked) (found : Option (Text × List Row)) → IsAsked a found → a.link ≡ true → HasLink found
 given_link a None h link = absurd h
 given_link a (Some (command, given)) h link = sym h.link ∙ link

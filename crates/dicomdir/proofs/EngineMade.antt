@@ -36,13 +36,13 @@ done_indexes (Ok status) choice bytes sources folder old new noted count same h 
 done_indexes (Err refusal) choice bytes sources folder old new noted count same h made = tt
 
 pub done_merges : {E : Type 0} (r : Result ℕ E) (choice : Choice) (bytes : ℕ) (given folders sets : List (List ℕ))
-    (GivesNames : Type 0) (folder : List ℕ) (old new : Option Held) (noted : NotedMerge)
+    (GivesLinks : Type 0) (folder : List ℕ) (old new : Option Held) (noted : NotedMerge)
     → AreDirectories folders sets old → NotesSets choice (limits_of bytes) given sets (Ok noted)
     → IfOk r (λ status. status ≡ 0
-    → MakesFileSet (MayLink GivesNames (IsMemberPath folders)) folder noted.merged.plan noted.merged.picks.items old
+    → MakesFileSet (MayLink GivesLinks (IsMemberPath folders)) folder noted.merged.plan noted.merged.picks.items old
     new)
-    → DoneMerges r choice bytes given folders GivesNames folder old new
-done_merges (Ok status) choice bytes given folders sets GivesNames folder old new noted are h made = λ done. record {
+    → DoneMerges r choice bytes given folders GivesLinks folder old new
+done_merges (Ok status) choice bytes given folders sets GivesLinks folder old new noted are h made = λ done. record {
   sets = sets;
   are = are;
   listings = h.0;
@@ -51,7 +51,7 @@ done_merges (Ok status) choice bytes given folders sets GivesNames folder old ne
   is = h.2.0;
   made = made done;
 }
-done_merges (Err refusal) choice bytes given folders sets GivesNames folder old new noted are h made = tt
+done_merges (Err refusal) choice bytes given folders sets GivesLinks folder old new noted are h made = tt
 
 -- ---- the directories that were read
 

@@ -69,7 +69,7 @@ module _ {P Q : Type 0} (From : P → List ℕ → Type 0) (To : Q → List ℕ 
     directory = made.directory;
   }
 
--- where no second names are asked for, images get none
+-- where no hard links are asked for, images get none
 unlinked : {P : Type 0} (StandsAt : P → List ℕ → Type 0) (folder : List ℕ) (plan : Layout) (picks : List P)
     (old new : Option Held) → MakesFileSet (MayLink (false ≡ true) StandsAt) folder plan picks old new
     → MakesFileSet (MayLink ⊥ StandsAt) folder plan picks old new
@@ -87,26 +87,26 @@ unlinked_done (Ok status) StandsAt folder plan picks old new made =
 unlinked_done (Err refusal) StandsAt folder plan picks old new made = tt
 
 -- the file-set of these picks is some file-set
-some_made : {P : Type 0} (GivesNames : Type 0) (StandsAt : P → List ℕ → Type 0) (folder : List ℕ) (plan : Layout)
+some_made : {P : Type 0} (GivesLinks : Type 0) (StandsAt : P → List ℕ → Type 0) (folder : List ℕ) (plan : Layout)
     (picks : List P) (old new : Option Held)
-    → IsWhole plan picks → MakesFileSet (MayLink GivesNames StandsAt) folder plan picks old new
-    → MakesSome GivesNames folder old new
-some_made GivesNames StandsAt folder plan picks old new all made = record {
+    → IsWhole plan picks → MakesFileSet (MayLink GivesLinks StandsAt) folder plan picks old new
+    → MakesSome GivesLinks folder old new
+some_made GivesLinks StandsAt folder plan picks old new all made = record {
   plan = plan;
   picks = map (λ _. tt) picks;
   all = length-map picks (λ _. tt) ∙ all;
-  made = set_by (MayLink GivesNames StandsAt) (λ _ _. GivesNames) (λ _. tt) (λ pick path may. may.0) folder plan picks
+  made = set_by (MayLink GivesLinks StandsAt) (λ _ _. GivesLinks) (λ _. tt) (λ pick path may. may.0) folder plan picks
       old new made;
 }
 
--- where images get second names for one reason, they get them for what follows from it
-some_by : (GivesNames Asked : Type 0) (folder : List ℕ) (old new : Option Held) → (GivesNames → Asked)
-    → MakesSome GivesNames folder old new → MakesSome Asked folder old new
-some_by GivesNames Asked folder old new follows some = record {
+-- where images get hard links for one reason, they get them for what follows from it
+some_by : (GivesLinks Asked : Type 0) (folder : List ℕ) (old new : Option Held) → (GivesLinks → Asked)
+    → MakesSome GivesLinks folder old new → MakesSome Asked folder old new
+some_by GivesLinks Asked folder old new follows some = record {
   plan = some.plan;
   picks = map (λ pick. pick) some.picks;
   all = length-map some.picks (λ pick. pick) ∙ some.all;
-  made = set_by (λ _ _. GivesNames) (λ _ _. Asked) (λ pick. pick) (λ pick path may. follows may) folder some.plan
+  made = set_by (λ _ _. GivesLinks) (λ _ _. Asked) (λ pick. pick) (λ pick path may. follows may) folder some.plan
       some.picks old new some.made;
 }
 
@@ -121,19 +121,19 @@ index_makes (Ok status) choice bytes sources folder old new indexes = λ done.
 index_makes (Err refusal) choice bytes sources folder old new indexes = tt
 
 pub merge_makes : {E : Type 0} (r : Result ℕ E) (choice : Choice) (bytes : ℕ) (given folders : List (List ℕ))
-    (GivesNames : Type 0) (folder : List ℕ) (old new : Option Held)
-    → DoneMerges r choice bytes given folders GivesNames folder old new → DoneMakes r GivesNames folder old new
-merge_makes (Ok status) choice bytes given folders GivesNames folder old new merges = λ done.
+    (GivesLinks : Type 0) (folder : List ℕ) (old new : Option Held)
+    → DoneMerges r choice bytes given folders GivesLinks folder old new → DoneMakes r GivesLinks folder old new
+merge_makes (Ok status) choice bytes given folders GivesLinks folder old new merges = λ done.
     let h = merges done in
-    some_made GivesNames (IsMemberPath folders) folder h.merged.plan h.merged.picks.items old new
+    some_made GivesLinks (IsMemberPath folders) folder h.merged.plan h.merged.picks.items old new
     (merge_is_whole choice (limits_of bytes) given h.listings h.merged h.is) h.made
-merge_makes (Err refusal) choice bytes given folders GivesNames folder old new merges = tt
+merge_makes (Err refusal) choice bytes given folders GivesLinks folder old new merges = tt
 
-pub done_by : {E : Type 0} (r : Result ℕ E) (GivesNames Asked : Type 0) (folder : List ℕ) (old new : Option Held)
-    → (GivesNames → Asked) → DoneMakes r GivesNames folder old new → DoneMakes r Asked folder old new
-done_by (Ok status) GivesNames Asked folder old new follows makes =
-    λ done. some_by GivesNames Asked folder old new follows (makes done)
-done_by (Err refusal) GivesNames Asked folder old new follows makes = tt
+pub done_by : {E : Type 0} (r : Result ℕ E) (GivesLinks Asked : Type 0) (folder : List ℕ) (old new : Option Held)
+    → (GivesLinks → Asked) → DoneMakes r GivesLinks folder old new → DoneMakes r Asked folder old new
+done_by (Ok status) GivesLinks Asked folder old new follows makes =
+    λ done. some_by GivesLinks Asked folder old new follows (makes done)
+done_by (Err refusal) GivesLinks Asked folder old new follows makes = tt
 
 -- the same of what the words of a line say
 pub asked_makes : (a : Asked) (found : Option (Text × List Row)) (old new : Option Held) → IsAsked a found

@@ -30,11 +30,9 @@ pub use Rattle.dd_engine.specs.Supply
 pub use Rattle.dd_files.specs.Copying
 pub use Rattle.dd_files.specs.Files
 pub use Rattle.dd_files.specs.Paths
+pub use Rattle.dd_files.specs.Progress
 pub use Rattle.dd_files.specs.ReadToEnd
 pub use Rattle.dd_line.specs.Line
-pub use Rattle.dd_mem_files.specs.MemFiles
-pub use Rattle.dd_mem_files.specs.MemLaws
-pub use Rattle.dd_mem_files.specs.MemReader
 pub use Rattle.dd_report.specs.Checking
 pub use Rattle.dd_report.specs.Finding
 pub use Rattle.dd_report.specs.Listing

@@ -32,7 +32,7 @@ pub record CopiesImage (folder : List ℕ) (file : Ranks) (planned : Parts) (old
   pub is : IsFileAs planned AsPlanned bytes
   pub made : new ≡ option_map (published path bytes) old
 
--- a file at one of these paths has a second name there, and all other files are as they were
+-- a file at one of these paths has a hard link there, and all other files are as they were
 pub record LinksImage (From : List ℕ → Type 0) (folder : List ℕ) (file : Ranks) (old new : Option Held) : Type 0 where
   pub path : List ℕ
   pub from : List ℕ
@@ -40,7 +40,7 @@ pub record LinksImage (From : List ℕ → Type 0) (folder : List ℕ) (file : R
   pub picked : From from
   pub made : new ≡ option_map (linked from path) old
 
--- the image was made: as a copy, or as a second name of a file at one of these paths
+-- the image was made: as a copy, or as a hard link to a file at one of these paths
 abbrev pub MakesImage : (List ℕ → Type 0) → List ℕ → Ranks → Parts → Option Held → Option Held → Type 0
 MakesImage From folder file planned old new =
     CopiesImage folder file planned old new ⊎ LinksImage From folder file old new
@@ -79,9 +79,9 @@ abbrev pub Copies : {P : Type 0} → (P → List ℕ → Type 0) → List ℕ �
     → Option Held → Option Held → Type 0
 Copies From folder versions row picks later old new = CopiesTo From folder versions row row.file picks later old new
 
--- where images get second names, a file may get one that stands at a path that its pick gives
+-- where images get hard links, a file may get one that stands at a path that its pick gives
 abbrev pub MayLink : {P : Type 0} → Type 0 → (P → List ℕ → Type 0) → P → List ℕ → Type 0
-MayLink GivesNames StandsAt pick from = GivesNames × StandsAt pick from
+MayLink GivesLinks StandsAt pick from = GivesLinks × StandsAt pick from
 
 -- the path of this number
 abbrev pub IsPathAt : List (List ℕ) → ℕ → List ℕ → Type 0
@@ -107,13 +107,13 @@ abbrev pub IsWhole : {P : Type 0} → Layout → List P → Type 0
 IsWhole plan picks = length picks ≡ length (filter (λ row. is_some row.file) (records_of plan.label plan.versions))
 
 -- All images of some plan were made in the folder, in the order of its records, and then its directory. Each is a copy;
--- only where images get second names may it be a file under a second name.
-pub record MakesSome (GivesNames : Type 0) (folder : List ℕ) (old new : Option Held) : Type 0 where
+-- only where images get hard links may it be a hard link.
+pub record MakesSome (GivesLinks : Type 0) (folder : List ℕ) (old new : Option Held) : Type 0 where
   pub plan : Layout
   pub picks : List (Unit {0})
   pub all : IsWhole plan picks
-  pub made : MakesFileSet (λ _ _. GivesNames) folder plan picks old new
+  pub made : MakesFileSet (λ _ _. GivesLinks) folder plan picks old new
 
 -- a command that is done has made some file-set in the folder
 abbrev pub DoneMakes : {E : Type 0} → Result ℕ E → Type 0 → List ℕ → Option Held → Option Held → Type 0
-DoneMakes r GivesNames folder old new = IfOk r (λ status. status ≡ 0 → MakesSome GivesNames folder old new)
+DoneMakes r GivesLinks folder old new = IfOk r (λ status. status ≡ 0 → MakesSome GivesLinks folder old new)

@@ -24,7 +24,7 @@ AreDirectories (folder ∷ folders) (bytes ∷ sets) files =
 
 -- Of what the directories in these folders list, without what they withdraw and the given UIDs, the best is laid out under
 -- the label that is asked for. The file-set of this layout was made in the folder, an image for each pick.
-pub record MakesMerge (choice : Choice) (bytes : ℕ) (given folders : List (List ℕ)) (GivesNames : Type 0)
+pub record MakesMerge (choice : Choice) (bytes : ℕ) (given folders : List (List ℕ)) (GivesLinks : Type 0)
     (folder : List ℕ) (old new : Option Held) : Type 0 where
   pub sets : List (List ℕ)
   pub are : AreDirectories folders sets old
@@ -32,10 +32,10 @@ pub record MakesMerge (choice : Choice) (bytes : ℕ) (given folders : List (Lis
   pub own : AreOwn sets listings
   pub merged : Merged
   pub is : IsMerged choice (limits_of bytes) given listings merged
-  pub made : MakesFileSet (MayLink GivesNames (IsMemberPath folders)) folder merged.plan merged.picks.items old new
+  pub made : MakesFileSet (MayLink GivesLinks (IsMemberPath folders)) folder merged.plan merged.picks.items old new
 
 -- a merge that is done has made this
 abbrev pub DoneMerges : {E : Type 0} → Result ℕ E → Choice → ℕ → List (List ℕ) → List (List ℕ) → Type 0 → List ℕ
     → Option Held → Option Held → Type 0
-DoneMerges r choice bytes given folders GivesNames folder old new =
-    IfOk r (λ status. status ≡ 0 → MakesMerge choice bytes given folders GivesNames folder old new)
+DoneMerges r choice bytes given folders GivesLinks folder old new =
+    IfOk r (λ status. status ≡ 0 → MakesMerge choice bytes given folders GivesLinks folder old new)

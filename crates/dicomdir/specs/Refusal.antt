@@ -12,7 +12,7 @@ use Rattle.dicomdir.specs.declared.refusal.ProgramFault.TheVariants.{Memory, Set
 abbrev pub IsBadLine : ProgramFault → Type 0
 IsBadLine fault = ((bad : BadUid) × (fault ≡ Uid bad)) ⊎ ((bad : BadSetId) × (fault ≡ SetId bad))
 
--- a growth was refused, which concerns no file
+-- an allocation was refused, which concerns no file
 abbrev pub IsMemory : Refusal → Type 0
 IsMemory refusal = refusal ≡ record { subject = subject.General; fault = Memory }
 

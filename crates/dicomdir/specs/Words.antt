@@ -24,7 +24,7 @@ folder_of a = slice_index_or (words_of a.paths.items) 0 []
 abbrev pub IsStatusOf : Verb → ℕ → Type 0
 IsStatusOf verb status = (status ≤ 1) ⊎ ((status ≡ 3) × (verb ≡ Check))
 
--- unless the command only reads or only plans, some file-set was made in that folder, with second names only where the
+-- unless the command only reads or only plans, some file-set was made in that folder, with hard links only where the
 -- line asks for them
 abbrev pub MakesAsked : Asked → Option Held → Option Held → Type 0
 MakesAsked a old new =

@@ -1,4 +1,4 @@
-//! The images of a file-set, in its folder: copies of files, or their files under second names.
+//! The images of a file-set, in its folder: copies of files, or hard links to them.
 ghost use Rattle.std.specs.Prelude.{◌≡◌, ◌<◌, ℕ, All, IfErr, IfOk, IsErr, IsOk, IsSome, false, length, option_map};
 ghost use Rattle.std.specs.Prelude.{true};
 ghost use Rattle.dd_elem.specs.Device.{counted};
@@ -12,15 +12,15 @@ use crate::image_path::{ImageFolder, ImagePathText};
 use crate::origins::Origins;
 use crate::refusal::{ProgramFault, Refusal, Subject};
 use dd_elem::FileId;
-use dd_files::{Files, LinkFault, SOURCE_LIMIT, Step, file_path, path_in};
+use dd_files::{Files, LinkFault, Progress, SOURCE_LIMIT, Step, file_path, path_in};
 use dd_filing::{Filed, FilingFault, file_image};
 use dd_layout::{Plan, PlanRecord};
 use dd_version::Version;
 use std::alloc::Global;
 
-/// Makes each image at its File ID in the folder, in the order of the plan: a copy of its file, or that file under a
-/// second name. Each copy must be a file of the version that is planned there.
-pub(crate) fn copy_images<F: Files, O: Origins>(
+/// Makes each image at its File ID in the folder, in the order of the plan: a copy of its file, or a hard link to it.
+/// Each copy must be a file of the version that is planned there.
+pub(crate) fn copy_images<F: Files + Progress, O: Origins>(
     alloc: Global,
     folder: &str,
     plan: &Plan,
@@ -34,13 +34,13 @@ pub(crate) fn copy_images<F: Files, O: Origins>(
     // Where the files tell what they hold, an image was made for each pick, as a file of its planned version, or it is
     // the file of the pick. All other files are as they were.
     ensures made { IsOk result
-        → MakesImages (MayLink (O.gives_names origins.now) (O.stands_at origins.now))
+        → MakesImages (MayLink (O.gives_links origins.now) (O.stands_at origins.now))
         folder.now plan.now.versions (records_of plan.now.label plan.now.versions) picks.now
         (F.held files.old) (F.held files.new) }
 {
     let versions = plan.versions();
     let mut picks = picks;
-    files.begin_progress(Step::Copying, picks.len() as u64);
+    files.begin_step(Step::Copying, picks.len() as u64);
     for record in plan.records() {
         picks = copy_record(alloc, folder, versions, record, origins, picks, files)?;
     }
@@ -48,7 +48,7 @@ pub(crate) fn copy_images<F: Files, O: Origins>(
 }
 
 /// Makes the image of a record, where it has one, from the first of these picks, and answers the others.
-fn copy_record<'p, F: Files, O: Origins>(
+fn copy_record<'p, F: Files + Progress, O: Origins>(
     alloc: Global,
     folder: &str,
     versions: &[Version],
@@ -62,7 +62,7 @@ fn copy_record<'p, F: Files, O: Origins>(
     ensures refusal { IfErr result (IsOfWork (O.paths origins.now)) }
     ensures has { IfOk result (λ later. All (O.has origins.now) later.now) }
     ensures copied { IfOk result (λ later.
-        Copies (MayLink (O.gives_names origins.now) (O.stands_at origins.now))
+        Copies (MayLink (O.gives_links origins.now) (O.stands_at origins.now))
         folder.now versions.now record.now picks.now later.now
         (F.held files.old) (F.held files.new)) }
 {
@@ -76,9 +76,9 @@ fn copy_record<'p, F: Files, O: Origins>(
     }
 }
 
-/// Makes an image at this File ID in the folder: a copy of its file, or that file under a second name, where the
-/// system gives one.
-fn make_image<F: Files, O: Origins>(
+/// Makes an image at this File ID in the folder: a copy of its file, or a hard link to it, where the system gives
+/// one.
+fn make_image<F: Files + Progress, O: Origins>(
     alloc: Global,
     folder: &str,
     file: FileId,
@@ -90,7 +90,7 @@ fn make_image<F: Files, O: Origins>(
     requires { O.has origins.now pick }
     ensures refusal { IfErr result (IsOfWork (O.paths origins.now)) }
     ensures made { IsOk result
-        → MakesImage (MayLink (O.gives_names origins.now) (O.stands_at origins.now) pick)
+        → MakesImage (MayLink (O.gives_links origins.now) (O.stands_at origins.now) pick)
         folder.now file planned.now (F.held files.old) (F.held files.new) }
 {
     if link_image(alloc, folder, file, origins, pick, files)? {
@@ -100,7 +100,7 @@ fn make_image<F: Files, O: Origins>(
 }
 
 /// Copies an image to this File ID in the folder, as a file of its version in the plan.
-fn copy_image<F: Files, O: Origins>(
+fn copy_image<F: Files + Progress, O: Origins>(
     alloc: Global,
     folder: &str,
     file: FileId,
@@ -122,22 +122,22 @@ fn copy_image<F: Files, O: Origins>(
     }
 }
 
-/// Gives the folder of the file-set that has the file, where it may get a second name.
+/// Gives the folder of the file-set that has the file, where it may get a hard link.
 fn linked_set<O: Origins>(origins: &O, pick: O::Pick) -> Option<&str>
     requires { O.has origins.now pick }
-    ensures { IsSome result → O.gives_names origins.now }
+    ensures { IsSome result → O.gives_links origins.now }
 {
-    if origins.gives_names() {
+    if origins.gives_links() {
         origins.set(pick)
     } else {
         None
     }
 }
 
-/// Gives the file of an image a second name, its File ID in the folder, and has it stored with others. Answers false
-/// where it may get none, and where the system gives none. The file is opened first, so that it is refused where a
-/// copy is.
-fn link_image<F: Files, O: Origins>(
+/// Gives the file of an image a hard link at its File ID in the folder, and has that stored with others. Answers
+/// false where it may get none, and where the system gives none. The file is opened first, so that it is refused
+/// where a copy is.
+fn link_image<F: Files + Progress, O: Origins>(
     alloc: Global,
     folder: &str,
     file: FileId,
@@ -148,7 +148,7 @@ fn link_image<F: Files, O: Origins>(
     requires { O.has origins.now pick }
     ensures refusal { IfErr result (IsOfWork (O.paths origins.now)) }
     ensures linked { IfOk result (λ is_linked. is_linked ≡ true
-        → LinksImage (MayLink (O.gives_names origins.now) (O.stands_at origins.now) pick)
+        → LinksImage (MayLink (O.gives_links origins.now) (O.stands_at origins.now) pick)
         folder.now file (F.held files.old) (F.held files.new)) }
     ensures kept { IfOk result (λ is_linked.
         is_linked ≡ false → F.held files.new ≡ F.held files.old) }
@@ -171,7 +171,7 @@ fn link_image<F: Files, O: Origins>(
         }
     }
     files.advance();
-    store(files)?;
+    store_batch(files)?;
     Ok(true)
 }
 
@@ -235,7 +235,7 @@ fn start_copy<F: Files>(
 }
 
 /// Ends the copy of an image, which must be a file of its planned version, and has it stored with others.
-fn end_copy<F: Files, O: Origins>(
+fn end_copy<F: Files + Progress, O: Origins>(
     alloc: Global,
     file: FileId,
     planned: &Version,
@@ -254,7 +254,7 @@ fn end_copy<F: Files, O: Origins>(
     }
     accept(alloc, planned, filed, origins, pick)?;
     files.advance();
-    store(files)
+    store_batch(files)
 }
 
 /// Refuses a copy that is not a file of the planned version. Where it is of a version with another digest, the
@@ -299,14 +299,14 @@ fn refusal_of(fault: FilingFault, file: FileId, origin: Subject) -> Refusal
     }
 }
 
-/// Has stored what was made, or puts that off behind an image.
-pub(crate) fn store<F: Files>(files: &mut F) -> Result<(), Refusal>
+/// Has the images stored that wait, where they are a batch.
+fn store_batch<F: Files>(files: &mut F) -> Result<(), Refusal>
     ensures refused { IsErr result → F.refusals files.new ≡ counted (F.refusals files.old) }
     ensures fault { IfErr result (λ refusal.
         refusal ≡ record { subject = Subject.Unstored; fault = ProgramFault.Unsent }) }
     ensures kept { F.held files.new ≡ F.held files.old }
 {
-    match files.store() {
+    match files.store_batch() {
         Ok(()) => Ok(()),
         Err(_) => Err(Refusal::of(Subject::Unstored, ProgramFault::Unsent)),
     }

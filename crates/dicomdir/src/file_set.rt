@@ -6,11 +6,11 @@ ghost use Rattle.dd_files.specs.Files.{ended, grown, published, started};
 ghost use Rattle.dicomdir.specs.Made.{MakesFileSet, MayLink};
 ghost use Rattle.dicomdir.specs.Refusal.{IsBadLine, IsOfWork};
 
-use crate::copies::{copy_images, store};
+use crate::copies::copy_images;
 use crate::origins::Origins;
 use crate::refusal::{ProgramFault, Refusal, Subject};
 use dd_dir::write_directory;
-use dd_files::{DIRECTORY, Files, path_in};
+use dd_files::{DIRECTORY, Files, Progress, path_in};
 use dd_layout::Plan;
 use std::alloc::Global;
 
@@ -34,7 +34,7 @@ pub(crate) fn refuse_taken<F: Files>(
 /// Makes each image of the plan in the folder, of the file that is picked, and then writes the directory
 /// there. All that was made is stored before the directory is made, and the directory once it has ended. Progress
 /// is shown until all is stored.
-pub(crate) fn write_file_set<F: Files, O: Origins>(
+pub(crate) fn write_file_set<F: Files + Progress, O: Origins>(
     alloc: Global,
     folder: &str,
     plan: &Plan,
@@ -47,7 +47,7 @@ pub(crate) fn write_file_set<F: Files, O: Origins>(
 
     // Where the files tell what they hold, an image was made for each pick, and then the directory.
     ensures made { IsOk result
-        → MakesFileSet (MayLink (O.gives_names origins.now) (O.stands_at origins.now))
+        → MakesFileSet (MayLink (O.gives_links origins.now) (O.stands_at origins.now))
         folder.now plan.now picks.now (F.held files.old) (F.held files.new) }
 {
     copy_images(alloc, folder, plan, origins, picks, files)?;
@@ -61,8 +61,21 @@ pub(crate) fn write_file_set<F: Files, O: Origins>(
         Err(fault) => return Err(Refusal::of(Subject::Directory, fault)),
     }
     store(files)?;
-    files.hide_progress();
+    files.hide_line();
     Ok(())
+}
+
+/// Has all stored that was made.
+fn store<F: Files>(files: &mut F) -> Result<(), Refusal>
+    ensures refused { IsErr result → F.refusals files.new ≡ counted (F.refusals files.old) }
+    ensures fault { IfErr result (λ refusal.
+        refusal ≡ record { subject = Subject.Unstored; fault = ProgramFault.Unsent }) }
+    ensures kept { F.held files.new ≡ F.held files.old }
+{
+    match files.store() {
+        Ok(()) => Ok(()),
+        Err(_) => Err(Refusal::of(Subject::Unstored, ProgramFault::Unsent)),
+    }
 }
 
 /// Starts the directory at this path, writes it and ends it. Create where it could not be started, Unsent

@@ -7,7 +7,7 @@ ghost use Rattle.dicomdir.specs.FileSupply.{contents_by, counts_at};
 use crate::counted_reader::CountedReader;
 use crate::source_counts::SourceCounts;
 use dd_engine::Supply;
-use dd_files::{Files, NotThere};
+use dd_files::{Files, NotThere, Progress};
 
 /// Files that are read as sources, by their paths.
 pub(crate) struct FileSupply<'a, F: Files> {
@@ -51,7 +51,7 @@ impl<'a, F: Files> FileSupply<'a, F> {
     }
 }
 
-impl<F: Files> Supply for FileSupply<'_, F> {
+impl<F: Files + Progress> Supply for FileSupply<'_, F> {
     type In = CountedReader<F::In>;
 
     ghost sources = { λ s. length s.counts.now };

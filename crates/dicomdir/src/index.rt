@@ -22,14 +22,14 @@ use crate::shown_path::ShownPath;
 use crate::source_counts::SourceCounts;
 use dd_elem::{Memory, Write};
 use dd_engine::{Choice, EngineFault, Indexed, NotedFault, NotedIndex, index_with_notes};
-use dd_files::{Files, SOURCE_LIMIT, Step};
+use dd_files::{Files, Progress, SOURCE_LIMIT, Step};
 use dd_layout::{Limits, PlanFault};
 use std::alloc::Global;
 use std::fmt;
 
 /// Runs `index`: reads all sources, prints what is skipped and what is noted, and makes the file-set of the
 /// others, or prints what would be made.
-pub(crate) fn run_index<F: Files, O: Write>(
+pub(crate) fn run_index<F: Files + Progress, O: Write>(
     alloc: Global,
     making: Making<'_>,
     sources: &[String],
@@ -46,9 +46,9 @@ pub(crate) fn run_index<F: Files, O: Write>(
 {
     let mut counts = counts_of(alloc, sources.len())?;
     let limits = Limits::of_bytes(making.max_bytes);
-    files.begin_progress(Step::Reading, sources.len() as u64);
+    files.begin_step(Step::Reading, sources.len() as u64);
     let answer = index_files(alloc, sources, &mut counts, choice, limits, files);
-    files.hide_progress();
+    files.hide_line();
     let noted = match answer {
         Ok(noted) => noted,
         Err(fault) => return Err(refused(sources, &fault, out)),
@@ -80,7 +80,7 @@ fn tell_noted<O: Write>(noted: &NotedIndex, sources: &[String], out: &mut O) -> 
 }
 
 /// Makes the file-set of what was indexed of these sources, prints that, and answers the status.
-fn write_indexed<F: Files, O: Write>(
+fn write_indexed<F: Files + Progress, O: Write>(
     alloc: Global,
     folder: &str,
     sources: &[String],
@@ -118,7 +118,7 @@ fn bytes_of(picks: &[usize], counts: &[SourceCounts]) -> u64 {
 }
 
 /// Reads these files as sources, each with its counts, and plans the directory of their versions.
-fn index_files<F: Files>(
+fn index_files<F: Files + Progress>(
     alloc: Global,
     sources: &[String],
     counts: &mut [SourceCounts],

@@ -7,7 +7,7 @@ use crate::refusal::{Refusal, Words};
 use crate::set_directory::{directory_bytes, refusal_of};
 use dd_dir::{DirFault, read_directory};
 use dd_elem::Write;
-use dd_files::Files;
+use dd_files::{Files, Progress};
 use dd_line::Asked;
 use dd_report::{
     Check, CheckFault, Comparison, check_records, list_long, list_records, print_line,
@@ -27,7 +27,7 @@ pub(crate) fn comparison_of(asked: &Asked) -> Comparison
 }
 
 /// Runs `check` on the file-set in this folder.
-pub(crate) fn run_check<F: Files, O: Write>(
+pub(crate) fn run_check<F: Files + Progress, O: Write>(
     alloc: Global,
     folder: &str,
     comparison: Comparison,

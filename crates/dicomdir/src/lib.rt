@@ -35,11 +35,11 @@ pub use dd_engine::{
     withdraw_with_notes,
 };
 pub use dd_files::{
-    CopyFault, DIRECTORY, Files, LinkFault, NotDone, NotThere, Step, copy_image, digest_text,
+    CopyFault, DIRECTORY, Files, LinkFault, NotDone, NotThere, Progress, Step, copy_image,
+    digest_text,
 };
 pub use dd_filing::{Filed, FilingFault, copy_version, file_image};
 pub use dd_line::{Asked, LineFault, Verb, read_words};
-pub use dd_mem_files::{MemFiles, MemReader};
 pub use dd_report::{Comparison, Finding, finding_of, print_line, send_text};
 pub use program::run;
 pub use refusal::ProgramFault;

@@ -39,7 +39,7 @@ pub(crate) fn refuse_line<O: Write, E: Write>(
 }
 
 /// Prints the parser's text for these words with `?` in place of each control character, and answers the
-/// status: 1 where a growth was refused. `mistake` says whether the words themselves have a mistake.
+/// status: 1 where an allocation was refused. `mistake` says whether the words themselves have a mistake.
 fn refuse_masked<O: Write, E: Write>(
     alloc: Global,
     words: &[String],

@@ -11,7 +11,7 @@ use std::str;
 /// Why a list gives no names.
 #[derive(Debug, Drop)]
 pub(crate) enum NamesFault {
-    /// A growth was refused.
+    /// An allocation was refused.
     Memory,
     /// The name of this number, counted from 1, is empty or not UTF-8.
     BadName(usize),
@@ -26,7 +26,7 @@ impl From<Memory> for NamesFault {
 }
 
 /// Reads the names of a list. A zero byte ends each name, but the last one may end with the list. BadName has the
-/// number of the first name that is empty or not UTF-8, and number 1 where there is no name. Memory where a growth
+/// number of the first name that is empty or not UTF-8, and number 1 where there is no name. Memory where an allocation
 /// was refused. Each name is copied once.
 pub(crate) fn names_in(alloc: Global, list: &[u8]) -> Result<Vec<String>, NamesFault>
     ensures names { IfOk result (λ names.

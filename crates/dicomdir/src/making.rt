@@ -22,7 +22,7 @@ pub(crate) struct Making<'a> {
     pub(crate) strict: bool,
     /// Whether nothing is made, and the last line says what would be made.
     pub(crate) dry_run: bool,
-    /// Whether images get second names in place of copies.
+    /// Whether images get hard links in place of copies.
     pub(crate) link: bool,
 }
 

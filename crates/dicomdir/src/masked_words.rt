@@ -21,7 +21,7 @@ fn has_control(text: &str) -> bool
     text.chars().any(char::is_control)
 }
 
-/// Copies the words, with `?` for each control character. Memory where a growth is refused.
+/// Copies the words, with `?` for each control character. Memory where an allocation is refused.
 pub(crate) fn mask_words(alloc: Global, words: &[String]) -> Result<Vec<String>, Memory>
     ensures masked { IfOk result (λ shown. map (λ word. string_bytes word) shown.items
         ≡ map (λ word. masked (string_bytes word)) words.now) }
@@ -37,7 +37,7 @@ pub(crate) fn mask_words(alloc: Global, words: &[String]) -> Result<Vec<String>,
     Ok(shown)
 }
 
-/// Copies a text, with `?` for each control character. Memory where a growth is refused.
+/// Copies a text, with `?` for each control character. Memory where an allocation is refused.
 fn mask(alloc: Global, text: &str) -> Result<String, Memory>
     ensures masked { IfOk result (λ shown. string_bytes shown ≡ masked text.now) }
     ensures clear { IfOk result (λ shown. has_control (string_bytes shown) ≡ false) }

@@ -24,14 +24,14 @@ use dd_elem::{Memory, Write};
 use dd_engine::{
     Choice, MergeFault, Merged, NotedFault, NotedMerge, Pick, merge_with_notes, withdraw_with_notes,
 };
-use dd_files::Files;
+use dd_files::{Files, Progress};
 use dd_layout::{Limits, PlanFault};
 use std::alloc::Global;
 use std::fmt;
 
 /// Runs `merge`: reads the directories of all these file-sets, prints what is noted, and makes a file-set of their
 /// images, or prints what would be made.
-pub(crate) fn run_merge<F: Files, O: Write>(
+pub(crate) fn run_merge<F: Files + Progress, O: Write>(
     alloc: Global,
     making: Making<'_>,
     sets: &[String],
@@ -63,7 +63,7 @@ pub(crate) fn run_merge<F: Files, O: Write>(
 
 /// Runs `withdraw` on the first of these file-sets: makes a file-set of all its images but the ones that the line
 /// withdraws, or prints what would be made.
-pub(crate) fn run_withdraw<F: Files, O: Write>(
+pub(crate) fn run_withdraw<F: Files + Progress, O: Write>(
     alloc: Global,
     making: Making<'_>,
     sets: &[String],
@@ -87,7 +87,7 @@ pub(crate) fn run_withdraw<F: Files, O: Write>(
 }
 
 /// Runs `withdraw` on this one file-set.
-fn withdraw_of<F: Files, O: Write>(
+fn withdraw_of<F: Files + Progress, O: Write>(
     alloc: Global,
     making: Making<'_>,
     sets: &[String],
@@ -127,7 +127,7 @@ fn withdraw_of<F: Files, O: Write>(
 
 /// Prints what is noted of these file-sets, and then makes what was planned of them, or prints what would be made.
 /// Answers the status.
-fn write_noted<'a, F: Files, O: Write>(
+fn write_noted<'a, F: Files + Progress, O: Write>(
     alloc: Global,
     making: Making<'_>,
     sets: &SetFiles<'_, 'a>,
@@ -198,7 +198,7 @@ fn tell_noted<O: Write>(
 }
 
 /// Makes what a merge of these file-sets planned, or prints what would be made, and answers the status.
-fn write_merged<'a, F: Files, O: Write>(
+fn write_merged<'a, F: Files + Progress, O: Write>(
     alloc: Global,
     making: Making<'_>,
     sets: &SetFiles<'_, 'a>,

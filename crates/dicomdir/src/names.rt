@@ -21,7 +21,7 @@ pub(crate) struct Names {
 }
 
 /// Reads the names that the line spells: the ID, then the UID, then the UIDs to withdraw, in their order.
-/// Refused by the first name of the wrong form, or as Memory where a growth was refused.
+/// Refused by the first name of the wrong form, or as Memory where an allocation was refused.
 pub(crate) fn names_of(alloc: Global, asked: &Asked) -> Result<Names, ProgramFault>
     ensures bad { IfErr result (λ fault. IsBadLine fault → AsksBadName asked.now) }
     ensures good { IsOk result → ¬ AsksBadName asked.now }
@@ -82,7 +82,7 @@ fn own_uid_of(asked: &Asked) -> Result<Option<Uid>, ProgramFault>
     }
 }
 
-/// Reads these UIDs. Refused by the first text that is not a UID, or as Memory where a growth was refused.
+/// Reads these UIDs. Refused by the first text that is not a UID, or as Memory where an allocation was refused.
 fn uids_of(alloc: Global, mut texts: &[String]) -> Result<Vec<Uid>, ProgramFault>
     ensures bad { IfErr result (λ fault. IsBadLine fault → HasBadUid texts.entry.now) }
     ensures good { IsOk result → ¬ HasBadUid texts.entry.now }

@@ -32,8 +32,8 @@ pub(crate) trait Origins {
     // It is a file of the file-set in this folder.
     ghost is_in: { Self → Self.Pick → List ℕ → Type 0 };
 
-    // Images may get second names in place of copies.
-    ghost gives_names: { Self → Type 0 };
+    // Images may get hard links in place of copies.
+    ghost gives_links: { Self → Type 0 };
 
     // A refusal names this where the file can't be opened or read, or has changed.
     ghost is_subject: { Self → Self.Pick → Subject → Type 0 };
@@ -41,7 +41,7 @@ pub(crate) trait Origins {
     // A refusal names this where the file is not what the plan says of it.
     ghost is_claimant: { Self → Self.Pick → Parts → Subject → Type 0 };
 
-    /// Makes the path of the file. Memory where a growth is refused.
+    /// Makes the path of the file. Memory where an allocation is refused.
     fn path(&self, alloc: Global, pick: Self::Pick) -> Result<String, Memory>
         requires { has self.now pick }
         ensures { IfOk result (λ path. stands_at self.now pick (string_bytes path)) };
@@ -51,13 +51,13 @@ pub(crate) trait Origins {
         requires { has self.now pick }
         ensures { IfSome result (λ set. is_in self.now pick set.now) };
 
-    /// Says whether files of file-sets get second names in place of copies.
-    fn gives_names(&self) -> bool
-        ensures { result ≡ true → gives_names self.now };
+    /// Says whether files of file-sets get hard links in place of copies.
+    fn gives_links(&self) -> bool
+        ensures { result ≡ true → gives_links self.now };
 
     /// Finds what a refusal names where the file is not what the plan says of it: the file of the first record
     /// that says what the plan says, or the picked file where no record does or a set can't be read again. Memory
-    /// where a growth is refused.
+    /// where an allocation is refused.
     fn claimant(
         &self,
         alloc: Global,
@@ -92,7 +92,7 @@ impl Origins for SourceFiles<'_> {
 
     ghost is_in = { λ _ _ _. ⊥ };
 
-    ghost gives_names = { λ _. ⊥ };
+    ghost gives_links = { λ _. ⊥ };
 
     ghost is_subject = { λ _ at subject. IsSource at subject };
 
@@ -108,7 +108,7 @@ impl Origins for SourceFiles<'_> {
         None
     }
 
-    fn gives_names(&self) -> bool {
+    fn gives_links(&self) -> bool {
         false
     }
 
@@ -128,7 +128,7 @@ pub(crate) struct SetFiles<'s, 'a> {
     pub(crate) folders: &'s [String],
     /// The bytes of their directories.
     pub(crate) directories: &'s [&'a [u8]],
-    /// Whether images get second names in place of copies.
+    /// Whether images get hard links in place of copies.
     pub(crate) link: bool,
 }
 
@@ -144,7 +144,7 @@ impl<'a> Origins for SetFiles<'_, 'a> {
     ghost is_in = { λ s pick set.
         IsPathAt (map (λ folder. string_bytes folder) s.folders.now) pick.set set };
 
-    ghost gives_names = { λ s. s.link ≡ true };
+    ghost gives_links = { λ s. s.link ≡ true };
 
     ghost is_subject = { λ _ pick subject. IsSetFile pick.set subject };
 
@@ -161,7 +161,7 @@ impl<'a> Origins for SetFiles<'_, 'a> {
         Some(self.folders[pick.set].as_str())
     }
 
-    fn gives_names(&self) -> bool {
+    fn gives_links(&self) -> bool {
         self.link
     }
 

@@ -17,7 +17,7 @@ use crate::names::{Names, names_of};
 use crate::refusal::{Paths, Refusal, tell};
 use crate::sources::all_sources;
 use dd_elem::Write;
-use dd_files::Files;
+use dd_files::{Files, Progress};
 use dd_line::{Asked, Verb, read_words};
 use std::alloc::Global;
 
@@ -71,7 +71,7 @@ struct LinePaths<'a> {
 /// SET` prints the records of a file-set and the instances that it withdraws.
 ///
 /// The files show the progress of all but `list`, unless the line has `--quiet`.
-pub fn run<F: Files, O: Write, E: Write>(
+pub fn run<F: Files + Progress, O: Write, E: Write>(
     alloc: Global,
     words: Vec<String>,
     files: &mut F,
@@ -106,7 +106,7 @@ pub fn run<F: Files, O: Write, E: Write>(
 
     // Where they tell that, each other command that is done has made some file-set in the first of its paths. That is
     // all images of a plan, in the order of its records, and then its directory. Each image is a copy, a file of the
-    // version that is planned there. Only where the words set `--link` may it be a file under a second name.
+    // version that is planned there. Only where the words set `--link` may it be a hard link to a file.
     ensures made { result ≡ 0 → IsTaken words.items
         → ¬ IsReading (line_of words.items) → ¬ HasDryRun (line_of words.items)
         → MakesSome (HasLink (line_of words.items)) (first_path (line_of words.items))
@@ -122,7 +122,7 @@ pub fn run<F: Files, O: Write, E: Write>(
 }
 
 /// Runs the command, prints a refusal if there is one, and answers the status.
-fn run_asked<F: Files, O: Write, E: Write>(
+fn run_asked<F: Files + Progress, O: Write, E: Write>(
     alloc: Global,
     asked: &Asked,
     files: &mut F,
@@ -159,7 +159,7 @@ fn run_asked<F: Files, O: Write, E: Write>(
 }
 
 /// Runs the command, whose paths have passed. Prints a refusal if there is one, and answers the status.
-fn run_named<F: Files, O: Write, E: Write>(
+fn run_named<F: Files + Progress, O: Write, E: Write>(
     alloc: Global,
     work: Work<'_>,
     files: &mut F,
@@ -176,7 +176,7 @@ fn run_named<F: Files, O: Write, E: Write>(
 {
     let asked = work.asked;
     if asked.quiet {
-        files.be_quiet();
+        files.silence();
     }
     let given = paths_of(asked);
     let listed = match all_sources(alloc, asked, given.folder, given.sources, files) {
@@ -198,7 +198,7 @@ fn run_named<F: Files, O: Write, E: Write>(
 }
 
 /// Erases the line of progress, prints why the work was refused, and answers the status.
-fn tell_refusal<F: Files, E: Write>(
+fn tell_refusal<F: Files + Progress, E: Write>(
     refusal: &Refusal,
     asked: &Asked,
     paths: LinePaths<'_>,
@@ -209,7 +209,7 @@ fn tell_refusal<F: Files, E: Write>(
     ensures status { result ≡ 1 }
     ensures kept { F.held files.new ≡ F.held files.old }
 {
-    files.hide_progress();
+    files.hide_line();
     let paths = Paths {
         folder: paths.folder,
         sources: paths.sources,
@@ -267,7 +267,7 @@ fn list_of(asked: &Asked) -> &str {
 }
 
 /// Runs the command on these paths.
-fn run_verb<F: Files, O: Write>(
+fn run_verb<F: Files + Progress, O: Write>(
     alloc: Global,
     work: Work<'_>,
     paths: LinePaths<'_>,
@@ -283,7 +283,7 @@ fn run_verb<F: Files, O: Write>(
     ensures kept { OnlyReads work.entry.asked.now.verb → F.held files.new ≡ F.held files.old }
     ensures dry { work.entry.asked.now.dry_run ≡ true → F.held files.new ≡ F.held files.old }
 
-    // A command that writes and is done has made a file-set in the folder, with second names only where it is asked for
+    // A command that writes and is done has made a file-set in the folder, with hard links only where it is asked for
     // them.
     ensures made { ¬ OnlyReads work.entry.asked.now.verb → work.entry.asked.now.dry_run ≡ false
         → DoneMakes result (work.entry.asked.now.link ≡ true) paths.entry.folder.now

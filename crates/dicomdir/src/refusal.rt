@@ -35,7 +35,7 @@ pub enum ProgramFault {
     /// The directory has a record that is not as those that are written here.
     #[error(transparent)]
     Own(OwnFault),
-    /// A growth was refused.
+    /// An allocation was refused.
     #[error("91 Memory")]
     Memory,
     /// The file could not be opened for reading.
@@ -149,7 +149,7 @@ impl Refusal {
         Refusal { subject, fault }
     }
 
-    /// A growth was refused, which concerns no file.
+    /// An allocation was refused, which concerns no file.
     pub(crate) fn memory() -> Refusal
         ensures { result ≡ record { subject = Subject.General; fault = ProgramFault.Memory } }
     {

@@ -6,11 +6,11 @@ ghost use Rattle.dicomdir.specs.Refusal.{IsOfWork};
 
 use crate::refusal::{ProgramFault, Refusal, Subject};
 use dd_dir::DirFault;
-use dd_files::{DIRECTORY, Files, ReadFault, SOURCE_LIMIT, Step, path_in, read_whole};
+use dd_files::{DIRECTORY, Files, Progress, ReadFault, SOURCE_LIMIT, Step, path_in, read_whole};
 use std::alloc::Global;
 
 /// Reads the directories of all these file-sets whole, in their order.
-pub(crate) fn read_directories<F: Files>(
+pub(crate) fn read_directories<F: Files + Progress>(
     alloc: Global,
     folders: &[String],
     files: &mut F,
@@ -21,7 +21,7 @@ pub(crate) fn read_directories<F: Files>(
         (map (λ bytes. bytes.items) all.items) (F.held files.old)) }
     ensures kept { F.held files.new ≡ F.held files.old }
 {
-    files.begin_progress(Step::Reading, folders.len() as u64);
+    files.begin_step(Step::Reading, folders.len() as u64);
     let mut all = Vec::new(alloc);
     for (at, folder) in folders.iter().enumerate() {
         let bytes = directory_bytes(alloc, at, folder.as_str(), files)?;
@@ -30,7 +30,7 @@ pub(crate) fn read_directories<F: Files>(
             Err(_) => return Err(Refusal::memory()),
         }
     }
-    files.hide_progress();
+    files.hide_line();
     Ok(all)
 }
 

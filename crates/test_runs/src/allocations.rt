@@ -3,11 +3,12 @@
 use crate::devices::{Front, held};
 use crate::disc::{FIRST_IMAGE, are_equal, disc, disc_with};
 use dd_elem::{Read, Write};
+use dd_mem_files::{MemFiles, MemReader};
 use dd_vectors::{
     Sink, allocation_numbers, ends_refused, first_directory, refuse_allocation, require, v1,
     was_refused, words_of,
 };
-use dicomdir::{Files, MemFiles, MemReader, NotThere, run};
+use dicomdir::{Files, NotThere, run};
 use std::alloc::Global;
 use std::test::Fail;
 
@@ -247,8 +248,8 @@ fn folder_finish_store_refused(alloc: Global, chosen: u32) -> Result<bool, Fail>
     files.create("new.txt")?;
     refuse_allocation(alloc, chosen)?;
     let are_folders = files.folder("new").is_ok() && files.folder_in("new", "new/a").is_ok();
-    let are_done = are_folders && files.finish().is_ok() && files.store().is_ok();
-    was_refused(alloc, !are_done)
+    let are_stored = files.finish().is_ok() && files.store_batch().is_ok() && files.store().is_ok();
+    was_refused(alloc, !are_folders || !are_stored)
 }
 
 #[test]

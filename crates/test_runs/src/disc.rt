@@ -1,7 +1,7 @@
 //! Files in memory, as runs find them.
 
+use dd_mem_files::MemFiles;
 use dd_vectors::{deep, first_directory, put_words, v1, v1_encapsulated, v1_with, v2, v3};
-use dicomdir::MemFiles;
 use std::alloc::Global;
 use std::test::Fail;
 

@@ -2,7 +2,7 @@
 
 use crate::disc::{are_equal, disc, put_files};
 use crate::runs::end_of;
-use dicomdir::MemFiles;
+use dd_mem_files::MemFiles;
 use std::alloc::Global;
 use std::test::Fail;
 

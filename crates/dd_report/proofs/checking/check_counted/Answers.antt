@@ -4,5 +4,5 @@ use Rattle.dd_report.proofs.checking.check_counted.Goals as goal
 
 pub returns-clause-checks : goal.returns-clause-checks
 returns-clause-checks g c =
-    rw (c.hide_progress.ensures.refusals, ← c.begin_progress.ensures.kept, ← c.begin_progress.ensures.refusals)
+    rw (c.hide_line.ensures.refusals, ← c.begin_step.ensures.kept, ← c.begin_step.ensures.refusals)
     (c.check_trees-checked.ensures.checks [] c.at_root.ensures)

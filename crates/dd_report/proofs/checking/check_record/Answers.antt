@@ -27,7 +27,7 @@ returns-in_default-finding-clause-checks g c = λ above said.
 
 pub returns-in-Ok-tell_finding-clause-checks : goal.returns-in-Ok-tell_finding-clause-checks
 returns-in-Ok-tell_finding-clause-checks g c = λ above said.
-    rw (c.hide_progress.ensures.refusals ∙ c.advance.ensures.refusals)
+    rw (c.hide_line.ensures.refusals ∙ c.advance.ensures.refusals)
     (record_told g.F.In.Read
     (g.F.Files.held c.args.files.now) c.args.check.folder.now c.args.check.comparison
     (standing_below above (tree_view c.args.tree.now).node) (g.F.Files.refusals c.args.files.now)
@@ -38,7 +38,7 @@ returns-in-Ok-tell_finding-clause-checks g c = λ above said.
 
 pub returns-in-Err-clause-checks : goal.returns-in-Err-clause-checks
 returns-in-Err-clause-checks g c = λ above said.
-    rw (c.hide_progress.ensures.refusals ∙ c.advance.ensures.refusals)
+    rw (c.hide_line.ensures.refusals ∙ c.advance.ensures.refusals)
     (record_unsent g.F.In.Read
     (g.F.Files.held c.args.files.now) c.args.check.folder.now c.args.check.comparison
     (standing_below above (tree_view c.args.tree.now).node) (g.F.Files.refusals c.args.files.now)

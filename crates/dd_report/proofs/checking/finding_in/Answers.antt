@@ -6,10 +6,10 @@ use Rattle.dd_report.proofs.checking.finding_in.Goals as goal
 
 pub returns-in-Ok-clause-found : goal.returns-in-Ok-clause-found
 returns-in-Ok-clause-found g c =
-    let opened = c.in-Ok.ensures in
+    let opened = c.in-Ok.ensures.opened in
     let id = c.in-Some.ensures.some in
     file_found g.F.In.Read
     (g.F.Files.held c.args.files.now) c.args.check.folder.now c.args.check.comparison c.finding_of_file.result
     c.args.inherited _ _ c.in-Some.file.now (tree_view c.args.tree.now).node _ _ (g.F.Files.refusals c.args.files.now)
     (g.F.Files.refusals c.member.new.self) id.1 id.0.0 id.0.1 c.as_str.ensures.value c.in_ok-path.ensures opened.left
-    opened.fresh.2 opened.fresh.0 opened.fresh.1 (opened.worked refl) c.finding_of_file.ensures.found
+    opened.given opened.calls opened.failures (c.in-Ok.ensures.call.worked refl) c.finding_of_file.ensures.found

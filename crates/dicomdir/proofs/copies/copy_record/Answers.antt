@@ -7,7 +7,7 @@ use Rattle.dicomdir.proofs.copies.copy_record.Goals as goal
 
 pub returns-in_ok-make_image-in-Some-len1-up-clause-copied : goal.returns-in_ok-make_image-in-Some-len1-up-clause-copied
 returns-in_ok-make_image-in-Some-len1-up-clause-copied g c =
-    copies_one (MayLink (g.O.Origins.gives_names c.args.origins.now) (g.O.Origins.stands_at c.args.origins.now))
+    copies_one (MayLink (g.O.Origins.gives_links c.args.origins.now) (g.O.Origins.stands_at c.args.origins.now))
     c.args.folder.now c.args.versions.now c.args.record.now c.args.picks.now c.pick-item.result _ _
     c.in-Some-len1-up.len_at_least (record {
       file = c.in-Some-len1-up.file;

@@ -1,4 +1,4 @@
--- The image was copied, where its file was given no second name, which changed nothing.
+-- The image was copied, where its file was given no hard link, which changed nothing.
 use Rattle.std.proofs.Common.{inl}
 use Rattle.dicomdir.proofs.copies.make_image.Goals as goal
 

@@ -10,6 +10,6 @@ pub returns-clause-made : goal.returns-clause-made
 returns-clause-made g c = λ makes.
     done_indexes c.write_indexed.result c.args.choice.now c.args.making.max_bytes (words_of c.args.sources.now)
     c.args.making.folder.now _ _ c.in-Ok.noted _ (sym (length-map c.args.sources.now (λ word. string_bytes word)))
-    (rw (c.begin_progress.ensures.kept, c.of_bytes-limits.ensures) at c.in-Ok.ensures.answers)
-    (λ done. rw (c.hide_progress.ensures.kept, c.index_files-answer.ensures.kept, c.begin_progress.ensures.kept) at
+    (rw (c.begin_step.ensures.kept, c.of_bytes-limits.ensures) at c.in-Ok.ensures.answers)
+    (λ done. rw (c.hide_line.ensures.kept, c.index_files-answer.ensures.kept, c.begin_step.ensures.kept) at
     c.write_indexed.ensures.made done)

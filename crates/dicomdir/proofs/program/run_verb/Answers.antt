@@ -1,4 +1,4 @@
--- What a command made of its sources or sets is some file-set. `index` and `withdraw` give no second names.
+-- What a command made of its sources or sets is some file-set. `index` and `withdraw` give no hard links.
 use Rattle.std.proofs.Common.{◌≡◌, ◌∙◌, true}
 use Rattle.dicomdir.specs.declared.refusal.Refusal.{Refusal}
 use Rattle.dicomdir.proofs.SomeMade.{done_by, index_makes, merge_makes}
