@@ -44,7 +44,7 @@ const DIGEST: &str = "900e75e1c153f87b21e09f9db68aef627f2dd320eb3afb1f2574594e6c
 /// Gives the version of V1 itself.
 pub fn v1_version(alloc: Global) -> Result<Version, Fail> {
     let mut parts = parts_with(alloc, "")?;
-    parts.digest.copy_from_slice(&bytes_of(alloc, DIGEST)?);
+    parts.digest = bytes_of(alloc, DIGEST)?.as_slice().try_into()?;
     fitting(parts)
 }
 

@@ -1,7 +1,7 @@
 //! The program `dicomdir`: its words, over the files and the outputs of the system.
 #![tactic(auto)]
 
-mod words;
+mod word_text;
 
 ghost use Rattle.std.specs.Prelude.{◌≡◌, ◌≢◌};
 
@@ -13,7 +13,7 @@ use std::fs::{self, File};
 use std::io::{self, ErrorKind, Read};
 use std::os::fd::{AsRawFd, IntoRawFd};
 use std::process::ExitCode;
-use words::{Number, bad_word};
+use word_text::{Number, bad_word};
 
 // How many standard descriptors there are: input, output and error output.
 const STANDARD: i32 = 3;
