@@ -1,6 +1,6 @@
 -- The text that the rows hold for a flag: `true` where the words set it, `false` where it is unset, and none where it
 -- is absent, as the command has no such flag.
-use Rattle.std.proofs.Common.{◌≡◌, ◌⊎◌, ◌==◌, ◌∷◌, ℕ, Bool, true, false, List, [], Option, Some, None}
+use Rattle.std.proofs.Common.{◌≡◌, ◌==◌, ◌∷◌, ℕ, Bool, true, false, List, [], Option, Some, None}
 use Rattle.std.proofs.Common.{codes, eqb-true, inl, inr, length, map, refl, sym}
 use Rattle.std.specs.List.{find}
 use Rattle.std.specs.Option.{option_map, option_map_or}
@@ -10,7 +10,6 @@ use Rattle.clap.specs.Facts.{explicit_source, unwrap_or_range}
 use Rattle.clap.specs.Faults.{level_fault}
 use Rattle.clap.specs.Kinds.{range_kinds}
 use Rattle.clap.specs.Simple.{Shape, filled, with_index}
-use Rattle.clap.specs.Takes.{is_given}
 use Rattle.clap.specs.Walk.{Row, Rule, Text, action_of, most_values, nothing_held, reading_by, row_text, rows_after}
 use Rattle.clap.specs.Walk.{values_or_missing}
 use Rattle.clap.specs.declared.builder.action.ArgAction.TheVariants.{SetTrue}

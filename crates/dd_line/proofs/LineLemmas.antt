@@ -14,12 +14,12 @@ use Rattle.dd_line.specs.declared.line.LineFault.{LineFault}
 use Rattle.dd_line.specs.declared.line.Verb.TheVariants.{Check}
 use Rattle.dd_line.specs.declared.line.LineFault.TheVariants.{Refused, Memory}
 
--- the parser's want of memory is the fault Memory
+-- the parser's lack of memory is the fault Memory
 memory_of_kind : (e : Error) (fault : LineFault) → IsFaultOf e fault → kind_of e ≡ OutOfMemory → fault ≡ Memory
 memory_of_kind e (Refused x) h memory = absurd (h.0 memory)
 memory_of_kind e Memory h memory = cc
 
--- where an error of the parser can only be want of memory, so can the fault that it becomes
+-- where an error of the parser can only be lack of memory, so can the fault that it becomes
 pub memory_alone : {T : Type 0} (r : Result T LineFault) (e : Error) (Taken : Type 0) → IsErrAnd r (IsFaultOf e)
     → (Taken → kind_of e ≡ OutOfMemory) → IfErr r (λ fault. Taken → fault ≡ Memory)
 memory_alone (Ok x) e Taken is memory = tt

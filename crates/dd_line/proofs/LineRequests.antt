@@ -1,19 +1,13 @@
 -- The one value of an argument, and what becomes of a refusal.
-use Rattle.std.proofs.Common.{◌≡◌, ◌⊎◌, ◌∙◌, false, List, [], Option, Some, None, inl, inr, refl, sym, ap}
-use Rattle.std.proofs.Common.{Err, Ok, Result, codes, length, subst, true≢false}
-use Rattle.std.proofs.lemmas.Option.{same_Some}
-use Rattle.std.proofs.lemmas.Slice.Eq.{bytes_eq-Decides}
+use Rattle.std.proofs.Common.{◌≡◌, List, [], Option, Some, None, sym}
+use Rattle.std.proofs.Common.{Err, Ok, Result, length, subst}
 use Rattle.std.specs.List.{find}
 use Rattle.std.specs.Option.{option_map, unwrap_or}
-use Rattle.std.specs.Prelude.{◌∷◌, IfErr, IsErrAnd, MatchResult, option_and_then, slice_get}
+use Rattle.std.specs.Prelude.{◌∷◌, IfErr, IsErrAnd, option_and_then, slice_get}
 use Rattle.std.specs.Str.{bytes_eq}
-use Rattle.clap.specs.Words.{Kinds, Row, Text, first_of}
-use Rattle.dd_line.specs.Line.{IsMissingArgument, IsRefusedFor, LacksSources, given_for, verb_name}
-use Rattle.dd_line.specs.Requests.{GivesNoSource, HasOne, IsAbsent, IsOnly, LacksOthers}
+use Rattle.clap.specs.Words.{Row, Text, first_of}
+use Rattle.dd_line.specs.Requests.{HasOne, IsOnly}
 use Rattle.dd_line.specs.declared.line.LineFault.{LineFault}
-use Rattle.dd_line.specs.declared.line.LineFault.TheVariants.{Memory}
-use Rattle.dd_line.specs.declared.line.Verb.{Verb}
-use Rattle.dd_line.specs.declared.line.Verb.TheVariants.{Index, Merge, Withdraw, Check, List as ListSet}
 
 -- ---- the one value of an argument
 

@@ -12,8 +12,8 @@ use Rattle.std.specs.Prelude.{◌≡◌, ◌≢◌, ◌++◌, [], ℕ, List, Opt
 use Rattle.std.specs.Prelude.{Bool, Contains, codes, length, option_map, pos, ◌≤◌, true, false, unwrap_or}
 use Rattle.std.specs.Str.Parse.{IsNumeral, signed_digits_value, without_leading_sign}
 use Rattle.clap.specs.Takes.{is_given}
-use Rattle.clap.specs.Words.{App, IsSignedIn, Row, Rule, Text, all_of, app_of, first_of, kind_of}
-use Rattle.clap.specs.Words.{new_app, new_rule, one_of, rule_of, with_rule, without_minus}
+use Rattle.clap.specs.Words.{App, Row, Rule, Text, all_of, app_of, first_of, kind_of}
+use Rattle.clap.specs.Words.{new_app, new_rule, rule_of, with_rule}
 use Rattle.clap.specs.Words.{IsAmong, Kinds, with_subcommand}
 use Rattle.clap.specs.declared.builder.action.ArgAction.TheVariants.{SetTrue}
 use Rattle.clap.specs.declared.builder.arg.Arg.{Arg}

@@ -1,7 +1,7 @@
 -- What the words give each command, and the request that is made of it.
-use Rattle.std.specs.Prelude.{◌≡◌, ◌≤◌, [], ◌∷◌, ◌++◌, List, Option, Some, None, Bool, true, false, codes, length, map}
-use Rattle.std.specs.Prelude.{option_map, pos, string_bytes, ◌⊎◌, if◌then◌else◌}
-use Rattle.std.specs.List.{find, list_any}
+use Rattle.std.specs.Prelude.{◌≡◌, ◌≤◌, [], ◌∷◌, List, Option, Some, None, Bool, true, false, codes, length}
+use Rattle.std.specs.Prelude.{option_map, pos, string_bytes, ◌⊎◌}
+use Rattle.std.specs.List.{find}
 use Rattle.std.specs.Str.{bytes_eq}
 use Rattle.clap.specs.Takes.{is_given}
 use Rattle.clap.specs.Words.{IsSignedIn, Row, Text, first_of, one_of, without_minus}
@@ -110,6 +110,7 @@ pub record GivesNoSource (name : Text) (given : List Row) : Type 0 where
   pub words : given_for name given ≡ []
   pub files0_from : first_of line.files0_from_name given ≡ None
 
+-- each field of a request, by its command, is what the words give
 pub record IndexesAsGiven (x : IndexRequest) (given : List Row) : Type 0 where
   pub new_set : MakesAsGiven x.new_set given
   pub sources : HasSources line.source_name given x.sources

@@ -1,5 +1,5 @@
 -- What the parser says of the program that it was given, it says of the one that the specs define: words that the
--- program takes are refused only for want of memory, and each refusal has one of the kinds that are due.
+-- program takes are refused only for lack of memory, and each refusal has one of the kinds that are due.
 use Rattle.std.proofs.Common.{◌≡◌, [], true, subst}
 use Rattle.clap.specs.Words.{App, HasKind, HasMatchesOf, fault_of, is_simple_and_free, kind_of, takes}
 use Rattle.clap.specs.declared.error.kind.ErrorKind.TheVariants.{OutOfMemory}
