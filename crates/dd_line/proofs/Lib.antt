@@ -1,4 +1,5 @@
 pub mod LineLemmas
+pub mod RequestLemmas
 mod LineCommands
 mod LineEach
 mod LineFlag

@@ -72,7 +72,7 @@ requested_asks r a None requested asks = absurd requested
 requested_asks r a (Some (command, given)) requested asks = asks command given requested
 
 -- the command has the name of one that only reads
-abbrev IsReader : Text → Type 0
+abbrev pub IsReader : Text → Type 0
 IsReader command = (command ≡ codes "check") ⊎ (command ≡ codes "list")
 
 no_reader : (command : Text) → bytes_eq command (codes "check") ≡ false → bytes_eq command (codes "list") ≡ false
@@ -80,7 +80,8 @@ no_reader : (command : Text) → bytes_eq command (codes "check") ≡ false → 
 no_reader command check list (inl is) = true≢false (sym ((bytes_eq-Decides command (codes "check")).1 is) ∙ check)
 no_reader command check list (inr is) = true≢false (sym ((bytes_eq-Decides command (codes "list")).1 is) ∙ list)
 
-reader : (verb : Verb) → OnlyReads verb ↔ IsReader (verb_name verb)
+-- such a command is one of them
+pub reader : (verb : Verb) → OnlyReads verb ↔ IsReader (verb_name verb)
 reader Index = (λ reads. absurd reads, no_reader (codes "index") refl refl)
 reader Merge = (λ reads. absurd reads, no_reader (codes "merge") refl refl)
 reader Withdraw = (λ reads. absurd reads, no_reader (codes "withdraw") refl refl)

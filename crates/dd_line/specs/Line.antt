@@ -361,12 +361,6 @@ HasBadName found = ((id : Text) × GivesOption id_name found id × ¬ IsSetId id
     ⊎ (((uid : Text) × GivesOption uid_name found uid × ¬ IsUid uid)
     ⊎ ((uid : Text) × GivesInstance found uid × ¬ IsUid uid))
 
--- what a line asks for has an ID or a UID of the wrong form, likewise
-abbrev pub AsksBadName : Asked → Type 0
-AsksBadName a = ((id : Text) × (option_map string_bytes a.id ≡ Some id) × ¬ IsSetId id)
-    ⊎ (((uid : Text) × (option_map string_bytes a.uid ≡ Some uid) × ¬ IsUid uid)
-    ⊎ ((uid : Text) × Contains (words_of a.uids.items) uid × ¬ IsUid uid))
-
 -- a refusal is for lack of memory, or of one of these kinds
 abbrev pub IsRefusedFor : Kinds → LineFault → Type 0
 IsRefusedFor kinds (Refused e) = (kind_of e ≢ OutOfMemory) × IsAmong (kind_of e) kinds

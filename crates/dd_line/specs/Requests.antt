@@ -1,12 +1,16 @@
 -- What the words give each command, and the request that is made of it.
 use Rattle.std.specs.Prelude.{◌≡◌, ◌≤◌, [], ◌∷◌, List, Option, Some, None, Bool, true, false, codes, length}
-use Rattle.std.specs.Prelude.{option_map, pos, string_bytes, ◌⊎◌}
+use Rattle.std.specs.Prelude.{Contains, String, option_and_then, option_map, pos, string_bytes, ◌⊎◌}
+use Rattle.std.specs.Option.{option_map_or}
+use Rattle.std.specs.declared.alloc.Global.{Global}
 use Rattle.std.specs.List.{find}
 use Rattle.std.specs.Str.{bytes_eq}
 use Rattle.clap.specs.Takes.{is_given}
 use Rattle.clap.specs.Words.{IsSignedIn, Row, Text, first_of, one_of, without_minus}
+use Rattle.dd_elem.specs.SetId.{IsSetId}
+use Rattle.dd_elem.specs.Uid.{IsUid}
 use Rattle.dd_line.specs.Line as line
-use Rattle.dd_line.specs.Line.{IsLimit, flag_names, given_for, is_among, lacked, most_bytes, verb_name, words_of}
+use Rattle.dd_line.specs.Line.{IsLimit, flag_names, given_for, given_paths, is_among, lacked, most_bytes, verb_name, words_of}
 use Rattle.dd_line.specs.declared.line.Asked.{Asked}
 use Rattle.dd_line.specs.declared.line.Verb.{Verb}
 use Rattle.dd_line.specs.declared.line.Verb.TheVariants.{Index, Merge, Withdraw, Check, List as ListSet}
@@ -186,3 +190,72 @@ pub record AsksToRead (set : Text) (a : Asked) : Type 0 where
   pub dry_run : a.dry_run ≡ false
   pub link : a.link ≡ false
   pub files0_from : a.files0_from ≡ None
+
+-- ---- the parts of a request
+
+-- the file-set that it makes, if it makes one
+abbrev pub new_set_of : Request → Option NewSet
+new_set_of (ToIndex x) = Some x.new_set
+new_set_of (ToMerge x) = Some x.new_set
+new_set_of (ToWithdraw x) = Some x.new_set
+new_set_of (ToCheck x) = None
+new_set_of (ToList x) = None
+
+-- the paths of the line that it reads
+abbrev pub read_of : Request → List (String Global)
+read_of (ToIndex x) = x.sources.words.items
+read_of (ToMerge x) = x.sets.words.items
+read_of (ToWithdraw x) = x.set ∷ []
+read_of (ToCheck x) = x.set ∷ []
+read_of (ToList x) = x.set ∷ []
+
+-- the SOP Instance UIDs that it withdraws
+abbrev pub instances_of : Request → List (String Global)
+instances_of (ToIndex x) = []
+instances_of (ToMerge x) = []
+instances_of (ToWithdraw x) = x.instances.items
+instances_of (ToCheck x) = []
+instances_of (ToList x) = []
+
+-- whether images get hard links in place of copies
+abbrev pub links : Request → Bool
+links (ToIndex x) = false
+links (ToMerge x) = x.link
+links (ToWithdraw x) = false
+links (ToCheck x) = false
+links (ToList x) = false
+
+-- the ID and the UID of the file-set that it makes
+abbrev pub id_of : Request → Option Text
+id_of r = option_and_then (λ n. option_map string_bytes n.id) (new_set_of r)
+
+abbrev pub uid_of : Request → Option Text
+uid_of r = option_and_then (λ n. option_map string_bytes n.uid) (new_set_of r)
+
+-- the folder of that file-set
+abbrev pub folder_of : Request → Text
+folder_of r = option_map_or (λ n. string_bytes n.out) (new_set_of r) []
+
+-- whether it is planned alone
+abbrev pub is_dry : Request → Bool
+is_dry r = option_map_or (λ n. n.dry_run) (new_set_of r) false
+
+-- all paths of the line, that of the new file-set first
+abbrev pub paths_of : Request → List (String Global)
+paths_of r = option_map_or (λ n. n.out ∷ read_of r) (new_set_of r) (read_of r)
+
+-- the request has an ID or a UID of the wrong form, or withdraws such a UID
+abbrev pub RequestsBadName : Request → Type 0
+RequestsBadName r = ((id : Text) × (id_of r ≡ Some id) × ¬ IsSetId id)
+    ⊎ (((uid : Text) × (uid_of r ≡ Some uid) × ¬ IsUid uid)
+    ⊎ ((uid : Text) × Contains (words_of (instances_of r)) uid × ¬ IsUid uid))
+
+-- these parts are what the words give
+pub record SaysParts (r : Request) (command : Text) (given : List Row) : Type 0 where
+  pub verb : verb_name (verb_of r) ≡ command
+  pub id : id_of r ≡ first_of line.id_name given
+  pub uid : uid_of r ≡ first_of line.uid_name given
+  pub paths : words_of (paths_of r) ≡ given_paths given
+  pub instances : words_of (instances_of r) ≡ given_for line.instance_name given
+  pub dry_run : is_dry r ≡ is_given line.dry_run_name given
+  pub link : links r ≡ is_given line.link_name given

@@ -16,6 +16,47 @@ pub enum Request {
     List(ListRequest),
 }
 
+impl Request {
+    ghost use Rattle.std.specs.Prelude.{option_map, string_bytes};
+    ghost use Rattle.dd_line.specs.Requests.{id_of, new_set_of, uid_of};
+
+    /// Gives the file-set that it makes, if it makes one.
+    pub fn new_set(&self) -> Option<&NewSet>
+        ensures { new_set_of self.now ≡ option_map (λ set. set.now) result }
+    {
+        match self {
+            Request::Index(index) => Some(&index.new_set),
+            Request::Merge(merge) => Some(&merge.new_set),
+            Request::Withdraw(withdraw) => Some(&withdraw.new_set),
+            Request::Check(_) | Request::List(_) => None,
+        }
+    }
+
+    /// Gives the ID of that file-set, as the line spells it, where it has one.
+    pub fn id(&self) -> Option<&String>
+        ensures { id_of self.now ≡ option_map (λ id. string_bytes id.now) result }
+    {
+        match self {
+            Request::Index(index) => index.new_set.id.as_ref(),
+            Request::Merge(merge) => merge.new_set.id.as_ref(),
+            Request::Withdraw(withdraw) => withdraw.new_set.id.as_ref(),
+            Request::Check(_) | Request::List(_) => None,
+        }
+    }
+
+    /// Gives its UID likewise.
+    pub fn uid(&self) -> Option<&String>
+        ensures { uid_of self.now ≡ option_map (λ uid. string_bytes uid.now) result }
+    {
+        match self {
+            Request::Index(index) => index.new_set.uid.as_ref(),
+            Request::Merge(merge) => merge.new_set.uid.as_ref(),
+            Request::Withdraw(withdraw) => withdraw.new_set.uid.as_ref(),
+            Request::Check(_) | Request::List(_) => None,
+        }
+    }
+}
+
 /// Says how a new file-set is made.
 #[derive(Debug, Drop)]
 pub struct NewSet {

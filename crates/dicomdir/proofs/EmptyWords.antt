@@ -1,13 +1,18 @@
--- An empty path that the words give is one that the line asks for.
-use Rattle.std.proofs.Common.{◌<◌, ◌∙◌, ℕ, List, [], Option, Some, None, String, length, map, string_bytes}
+-- An empty path that the words give is one of the request.
+use Rattle.std.proofs.Common.{◌≡◌, ◌<◌, ◌∙◌, ◌⊎◌, ℕ, zero, suc, List, [], ◌∷◌, Option, Some, None, String, length, map}
+use Rattle.std.proofs.Common.{arith, inl, inr, string_bytes}
+use Rattle.std.specs.Borrow.{Bor}
+use Rattle.std.specs.Option.{option_map, option_map_or}
+use Rattle.dd_line.specs.Requests.{IsRequested, new_set_of, paths_of, read_of}
+use Rattle.dd_line.specs.declared.request.NewSet.{NewSet}
+use Rattle.dd_line.specs.declared.request.Request.{Request}
+use Rattle.dd_line.proofs.RequestLemmas.{says_parts}
 use Rattle.std.proofs.Common.{subst, sym}
-use Rattle.std.specs.Prelude.{Contains}
+use Rattle.std.specs.Prelude.{Contains, IfSome}
 use Rattle.std.specs.declared.alloc.Global.{Global}
 use Rattle.std.proofs.lemmas.List.{get_or-map, length-map}
 use Rattle.clap.specs.Words.{Row, Text}
-use Rattle.dd_line.specs.Line.{IsAsked}
-use Rattle.dd_line.specs.declared.line.Asked.{Asked}
-use Rattle.dicomdir.specs.EmptyPaths.{AsksEmptyPath, HasEmptyPath, IsEmptyAt}
+use Rattle.dicomdir.specs.EmptyPaths.{RequestsEmptyPath, HasEmptyPath, IsEmptyAt}
 
 contains_empty : (paths : List (String Global)) → Contains (map (λ path. string_bytes path) paths) []
     → (at : ℕ) × IsEmptyAt paths at
@@ -21,8 +26,35 @@ contains_empty paths (at, within, is) =
       },
     )
 
-pub asked_empty : (a : Asked) (found : Option (Text × List Row)) → IsAsked a found → HasEmptyPath found
-    → AsksEmptyPath a
-asked_empty a None h has = absurd h
-asked_empty a (Some (command, given)) h has =
-    contains_empty a.paths.items (subst (λ (paths : List Text). Contains paths []) (sym h.paths) has)
+pub requested_empty : (r : Request) (found : Option (Text × List Row)) → IsRequested r found → HasEmptyPath found
+    → RequestsEmptyPath r
+requested_empty r None h has = absurd h
+requested_empty r (Some (command, given)) h has = contains_empty (paths_of r)
+    (subst (λ (paths : List Text). Contains paths []) (sym (says_parts r command given h).paths) has)
+
+-- a path that is empty is the first, or one behind it
+empty_behind : (first : String Global) (paths : List (String Global)) (at : ℕ) → IsEmptyAt (first ∷ paths) at
+    → (string_bytes first ≡ []) ⊎ ((behind : ℕ) × IsEmptyAt paths behind)
+empty_behind first paths zero is = inl (is.empty first)
+empty_behind first paths (suc at) is =
+    let within = is.within in
+    inr (at, record { within = omega arith; empty = is.empty })
+
+-- the folder that was looked at is that of the request
+pub folder_seen : (r : Request) (seen : Option (Bor NewSet)) → new_set_of r ≡ option_map (λ s. s.now) seen
+    → IfSome seen (λ s. ¬ (string_bytes s.now.out ≡ [])) → IfSome (new_set_of r) (λ n. ¬ (string_bytes n.out ≡ []))
+folder_seen r None is folder = rw is tt
+folder_seen r (Some s) is folder = rw is folder
+
+-- a request has no empty path where its new file-set has none, and none of those that it reads is empty
+pub none_empty : (r : Request) → IfSome (new_set_of r) (λ n. ¬ (string_bytes n.out ≡ []))
+    → ((at : ℕ) → ¬ IsEmptyAt (read_of r) at) → RequestsEmptyPath r → ⊥
+none_empty r folder sources (at, is) = go (new_set_of r) folder is
+  where
+    go : (n : Option NewSet) → IfSome n (λ n. ¬ (string_bytes n.out ≡ []))
+        → IsEmptyAt (option_map_or (λ n. n.out ∷ read_of r) n (read_of r)) at → ⊥
+    go None folder is = sources at is
+    go (Some n) folder is = elim (empty_behind n.out (read_of r) at is) [
+      | inl out ↦ folder out
+      | inr later ↦ sources later.0 later.1
+    ]

@@ -8,8 +8,9 @@ use Rattle.dd_elem.specs.FileId.{Ranks}
 use Rattle.dd_engine.specs.declared.choice.Choice.{Choice}
 use Rattle.dd_files.specs.Files.{Held}
 use Rattle.dd_version.specs.declared.parts.Parts.{Parts}
-use Rattle.dd_line.specs.Line.{IsAsked}
-use Rattle.dd_line.specs.declared.line.Asked.{Asked}
+use Rattle.dd_line.specs.Line.{OnlyReads}
+use Rattle.dd_line.specs.Requests.{IsRequested, folder_of, links, verb_of}
+use Rattle.dd_line.specs.declared.request.Request.{Request}
 use Rattle.dd_layout.specs.declared.record.PlanRecord.{PlanRecord}
 use Rattle.dd_layout.specs.Layouts.{Layout}
 use Rattle.dicomdir.specs.DryRun.{HasLink, first_path}
@@ -17,7 +18,6 @@ use Rattle.dicomdir.specs.Indexes.{DoneIndexes, limits_of}
 use Rattle.dicomdir.specs.Made.{DoneMakes, IsMemberPath, IsPathAt, IsWhole, MakesFileSet, MakesImage, MakesRow}
 use Rattle.dicomdir.specs.Made.{MakesRows, MakesSome, MayLink}
 use Rattle.dicomdir.specs.Merges.{DoneMerges}
-use Rattle.dicomdir.specs.Words.{folder_of}
 use Rattle.dicomdir.proofs.DryRuns.{given_folder, given_link}
 use Rattle.dicomdir.proofs.WholeSets.{index_is_whole, merge_is_whole}
 
@@ -136,9 +136,9 @@ done_by (Ok status) GivesLinks Asked folder old new follows makes =
 done_by (Err refusal) GivesLinks Asked folder old new follows makes = tt
 
 -- the same of what the words of a line say
-pub asked_makes : (a : Asked) (found : Option (Text × List Row)) (old new : Option Held) → IsAsked a found
-    → MakesSome (a.link ≡ true) (folder_of a) old new
+pub requested_makes : (r : Request) (found : Option (Text × List Row)) (old new : Option Held) → IsRequested r found
+    → ¬ OnlyReads (verb_of r) → MakesSome (links r ≡ true) (folder_of r) old new
     → MakesSome (HasLink found) (first_path found) old new
-asked_makes a found old new h some =
-    subst (λ (folder : List ℕ). MakesSome (HasLink found) folder old new) (given_folder a found h)
-    (some_by (a.link ≡ true) (HasLink found) _ old new (given_link a found h) some)
+requested_makes r found old new h writes some =
+    subst (λ (folder : List ℕ). MakesSome (HasLink found) folder old new) (given_folder r found h writes)
+    (some_by (links r ≡ true) (HasLink found) _ old new (given_link r found h) some)

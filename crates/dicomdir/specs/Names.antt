@@ -1,23 +1,24 @@
 -- The names of a command line: which have the wrong form (File-set IDs, PS3.3 section F.3.2.1, and UIDs, PS3.5 section
 -- 9.1), and which label they ask for.
-use Rattle.std.specs.Prelude.{◌≡◌, ◌⊎◌, List, [], Option, Some, String, Contains, option_map, string_bytes, unwrap_or}
+use Rattle.std.specs.Prelude.{◌≡◌, ◌⊎◌, List, [], Option, Some, String, Contains, unwrap_or}
 use Rattle.std.specs.declared.alloc.Global.{Global}
 use Rattle.clap.specs.Words.{Text}
 use Rattle.dd_elem.specs.SetId.{IsSetId}
 use Rattle.dd_engine.specs.declared.choice.Choice.{Choice}
 use Rattle.dd_elem.specs.Uid.{IsUid}
 use Rattle.dd_line.specs.Line.{words_of}
-use Rattle.dd_line.specs.declared.line.Asked.{Asked}
+use Rattle.dd_line.specs.Requests.{id_of, uid_of}
+use Rattle.dd_line.specs.declared.request.Request.{Request}
 
 -- the ID of the file-set, or its UID
-abbrev pub HasBadId : Asked → Type 0
-HasBadId a = (id : Text) × (option_map string_bytes a.id ≡ Some id) × ¬ IsSetId id
+abbrev pub HasBadId : Request → Type 0
+HasBadId r = (id : Text) × (id_of r ≡ Some id) × ¬ IsSetId id
 
-abbrev pub HasBadOwnUid : Asked → Type 0
-HasBadOwnUid a = (uid : Text) × (option_map string_bytes a.uid ≡ Some uid) × ¬ IsUid uid
+abbrev pub HasBadOwnUid : Request → Type 0
+HasBadOwnUid r = (uid : Text) × (uid_of r ≡ Some uid) × ¬ IsUid uid
 
-abbrev pub HasBadLabel : Asked → Type 0
-HasBadLabel a = HasBadId a ⊎ HasBadOwnUid a
+abbrev pub HasBadLabel : Request → Type 0
+HasBadLabel r = HasBadId r ⊎ HasBadOwnUid r
 
 -- the label that these texts ask for: the ID is empty where there is none
 abbrev pub choice_by : Option Text → Option Text → Choice

@@ -3,7 +3,8 @@ use Rattle.std.specs.Prelude.{◌≡◌, ◌≤◌, ◌⊎◌, ℕ, List, [], Op
 use Rattle.clap.specs.Words.{Row, Text, subcommand_of, takes}
 use Rattle.dd_files.specs.Files.{Held}
 use Rattle.dd_line.specs.Line.{OnlyReads, dicomdir_app, words_of}
-use Rattle.dd_line.specs.declared.line.Asked.{Asked}
+use Rattle.dd_line.specs.Requests.{folder_of, is_dry, links, verb_of}
+use Rattle.dd_line.specs.declared.request.Request.{Request}
 use Rattle.dd_line.specs.declared.line.Verb.{Verb}
 use Rattle.dd_line.specs.declared.line.Verb.TheVariants.{Check}
 use Rattle.dicomdir.specs.Made.{MakesSome}
@@ -16,16 +17,12 @@ IsTaken words = takes dicomdir_app (words_of words) ≡ true
 abbrev pub line_of : {Z : Type 0} → List (String Z) → Option (Text × List Row)
 line_of words = subcommand_of dicomdir_app (words_of words)
 
--- the folder that a command that writes is to make: the first path of the line
-abbrev pub folder_of : Asked → Text
-folder_of a = slice_index_or (words_of a.paths.items) 0 []
-
 -- a status that a command of this kind may end with, once its line is read
 abbrev pub IsStatusOf : Verb → ℕ → Type 0
 IsStatusOf verb status = (status ≤ 1) ⊎ ((status ≡ 3) × (verb ≡ Check))
 
--- unless the command only reads or only plans, some file-set was made in that folder, with hard links only where the
--- line asks for them
-abbrev pub MakesAsked : Asked → Option Held → Option Held → Type 0
-MakesAsked a old new =
-    ¬ OnlyReads a.verb → a.dry_run ≡ false → MakesSome (a.link ≡ true) (folder_of a) old new
+-- unless the command only reads or only plans, some file-set was made in the folder of the request, with hard links only
+-- where it asks for them
+abbrev pub MakesRequested : Request → Option Held → Option Held → Type 0
+MakesRequested r old new =
+    ¬ OnlyReads (verb_of r) → is_dry r ≡ false → MakesSome (links r ≡ true) (folder_of r) old new

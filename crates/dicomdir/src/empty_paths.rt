@@ -1,11 +1,10 @@
 //! Paths of the command line that are empty.
-ghost use Rattle.std.specs.Prelude.{◌≡◌, ◌<◌, ◌≤◌, ◌-◌, ℕ, None, IfSome};
-ghost use Rattle.dd_line.specs.Line.{OnlyReads};
-ghost use Rattle.dicomdir.specs.EmptyPaths.{IsEmptyAt};
+ghost use Rattle.std.specs.Prelude.{◌≡◌, ◌<◌, ℕ, [], None, Some, IfSome, length, string_bytes};
+ghost use Rattle.dicomdir.specs.EmptyPaths.{IsEmptyAt, IsFirstEmpty};
 ghost use Rattle.dicomdir.specs.Refusal.{IsOfWork};
 
 use crate::refusal::{ProgramFault, Refusal, Subject};
-use dd_line::Verb;
+use dd_line::NewSet;
 
 /// The number of the first path that is empty.
 pub(crate) fn first_empty(paths: &[String]) -> Option<usize>
@@ -22,26 +21,27 @@ pub(crate) fn first_empty(paths: &[String]) -> Option<usize>
     None
 }
 
-/// Why a command is refused whose path of this number is empty: the first is the folder that it writes to,
-/// if it does, and the others it reads.
-pub(crate) fn empty_path(verb: Verb, at: usize) -> Refusal
-    ensures folder { ¬ OnlyReads verb → at ≡ 0
-        → result ≡ record { subject = Subject.Folder; fault = ProgramFault.Folder } }
-    ensures source { ¬ OnlyReads verb → 0 < at
-        → result ≡ record { subject = Subject.Source (at - 1); fault = ProgramFault.Absent } }
-    ensures set { OnlyReads verb
-        → result ≡ record { subject = Subject.Source at; fault = ProgramFault.Absent } }
-    ensures work { (sources : ℕ) → (¬ OnlyReads verb → at ≤ sources)
-        → (OnlyReads verb → at < sources)
-        → IsOfWork sources result }
+/// Says why a request is refused that has an empty path: the folder of the new file-set, or else the first of
+/// these paths, which it reads.
+pub(crate) fn empty_path(new_set: Option<&NewSet>, sources: &[String]) -> Option<Refusal>
+    ensures folder { IfSome new_set.entry (λ set. string_bytes set.now.out ≡ []
+        → result ≡ Some (record { subject = Subject.Folder; fault = ProgramFault.Folder })) }
+    ensures source { IfSome new_set.entry (λ set. ¬ (string_bytes set.now.out ≡ []))
+        → (at : ℕ) → IsFirstEmpty sources.now at
+        → result ≡ Some (record { subject = Subject.Source at; fault = ProgramFault.Absent }) }
+    ensures none { IfSome new_set.entry (λ set. ¬ (string_bytes set.now.out ≡ []))
+        → ((at : ℕ) → ¬ IsEmptyAt sources.now at) → result ≡ None }
+    ensures work { IfSome result (λ refusal. IsOfWork (length sources.now) refusal) }
+    ensures folders { result ≡ None → IfSome new_set.entry (λ set. ¬ (string_bytes set.now.out ≡ [])) }
+    ensures sources { result ≡ None → (at : ℕ) → ¬ IsEmptyAt sources.now at }
 {
-    match verb {
-        Verb::Index | Verb::Merge | Verb::Withdraw if at == 0 => {
-            Refusal::of(Subject::Folder, ProgramFault::Folder)
-        }
-        Verb::Index | Verb::Merge | Verb::Withdraw => {
-            Refusal::of(Subject::Source(at - 1), ProgramFault::Absent)
-        }
-        Verb::Check | Verb::List => Refusal::of(Subject::Source(at), ProgramFault::Absent),
+    if let Some(set) = new_set
+        && set.out.is_empty()
+    {
+        return Some(Refusal::of(Subject::Folder, ProgramFault::Folder));
+    }
+    match first_empty(sources) {
+        Some(at) => Some(Refusal::of(Subject::Source(at), ProgramFault::Absent)),
+        None => None,
     }
 }

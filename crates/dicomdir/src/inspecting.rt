@@ -8,7 +8,7 @@ use crate::set_directory::{directory_bytes, refusal_of};
 use dd_dir::{DirFault, read_directory};
 use dd_elem::Write;
 use dd_files::{Files, Progress};
-use dd_line::Asked;
+use dd_line::CheckRequest;
 use dd_report::{
     Check, CheckFault, Comparison, check_records, list_long, list_records, print_line,
 };
@@ -16,13 +16,13 @@ use std::alloc::Global;
 
 /// Gives the comparison that `check` makes: of keys, too, where the line has `--keys`, and one that finds records
 /// without a digest where it has `--strict`.
-pub(crate) fn comparison_of(asked: &Asked) -> Comparison
-    ensures keys { result.keys ≡ asked.now.keys }
-    ensures strict { result.strict ≡ asked.now.strict }
+pub(crate) fn comparison_of(check: &CheckRequest) -> Comparison
+    ensures keys { result.keys ≡ check.now.keys }
+    ensures strict { result.strict ≡ check.now.strict }
 {
     Comparison {
-        keys: asked.keys,
-        strict: asked.strict,
+        keys: check.keys,
+        strict: check.strict,
     }
 }
 

@@ -1,5 +1,5 @@
 //! How a command makes its file-set, and the last line that it prints.
-ghost use Rattle.std.specs.Prelude.{◌≡◌, ◌⊎◌, length};
+ghost use Rattle.std.specs.Prelude.{◌≡◌, ◌⊎◌, length, string_bytes};
 ghost use Rattle.dd_elem.specs.Device.{HasFailed};
 ghost use Rattle.dd_layout.specs.Plans.{size};
 ghost use Rattle.dd_report.specs.Text.{TakesText};
@@ -7,7 +7,7 @@ ghost use Rattle.dicomdir.specs.Done.{ending_text, images_text, word_of};
 
 use dd_elem::Write;
 use dd_layout::Plan;
-use dd_line::Asked;
+use dd_line::NewSet;
 use dd_report::print_line;
 use itoa::Buffer;
 
@@ -27,20 +27,20 @@ pub(crate) struct Making<'a> {
 }
 
 impl<'a> Making<'a> {
-    /// Takes over what the line asks for, in this folder.
-    pub(crate) fn asked(asked: &Asked, folder: &'a str) -> Making<'a>
-        ensures folder { result.folder.now ≡ folder.now }
-        ensures limit { result.max_bytes ≡ asked.now.max_bytes }
-        ensures strict { result.strict ≡ asked.now.strict }
-        ensures dry { result.dry_run ≡ asked.now.dry_run }
-        ensures link { result.link ≡ asked.now.link }
+    /// Says how this file-set is made, with hard links or without.
+    pub(crate) fn of(new_set: &'a NewSet, link: bool) -> Making<'a>
+        ensures folder { result.folder.now ≡ string_bytes new_set.now.out }
+        ensures limit { result.max_bytes ≡ new_set.now.max_bytes }
+        ensures strict { result.strict ≡ new_set.now.strict }
+        ensures dry { result.dry_run ≡ new_set.now.dry_run }
+        ensures link { result.link ≡ link }
     {
         Making {
-            folder,
-            max_bytes: asked.max_bytes,
-            strict: asked.strict,
-            dry_run: asked.dry_run,
-            link: asked.link,
+            folder: new_set.out.as_str(),
+            max_bytes: new_set.max_bytes,
+            strict: new_set.strict,
+            dry_run: new_set.dry_run,
+            link,
         }
     }
 }

@@ -1,6 +1,6 @@
 //! The commands `merge` and `withdraw`: make a file-set of others.
 ghost use Rattle.std.specs.Prelude.{◌≡◌, ◌↔◌, ◌<◌, ◌≤◌, ℕ, [], All, IfErr, IfOk, IsErr, IsOk, IsTrue};
-ghost use Rattle.std.specs.Prelude.{false, length, map, take, true};
+ghost use Rattle.std.specs.Prelude.{◌∷◌, false, length, map, string_bytes, true};
 ghost use Rattle.dd_elem.specs.Device.{HasFailed};
 ghost use Rattle.dd_engine.specs.Merging.{IsNamedSet};
 ghost use Rattle.dd_engine.specs.Noting.{AreBelow, IsBelow};
@@ -27,7 +27,7 @@ use dd_engine::{
 use dd_files::{Files, Progress};
 use dd_layout::{Limits, PlanFault};
 use std::alloc::Global;
-use std::fmt;
+use std::{fmt, slice};
 
 /// Runs `merge`: reads the directories of all these file-sets, prints what is noted, and makes a file-set of their
 /// images, or prints what would be made.
@@ -61,26 +61,25 @@ pub(crate) fn run_merge<F: Files + Progress, O: Write>(
     write_noted(alloc, making, &origins, &noted, files, out)
 }
 
-/// Runs `withdraw` on the first of these file-sets: makes a file-set of all its images but the ones that the line
-/// withdraws, or prints what would be made.
+/// Runs `withdraw` on this file-set: makes a file-set of all its images but the ones that the line withdraws, or
+/// prints what would be made.
 pub(crate) fn run_withdraw<F: Files + Progress, O: Write>(
     alloc: Global,
     making: Making<'_>,
-    sets: &[String],
+    set: &String,
     names: &Names,
     files: &mut F,
     out: &mut O,
 ) -> Result<u8, Refusal>
-    requires { 0 < length sets.now }
-    ensures refusal { IfErr result (IsOfWork (length sets.now)) }
+    ensures refusal { (paths : ℕ) → 0 < paths → IfErr result (IsOfWork paths) }
     ensures status { IfOk result (λ status. status ≤ 1) }
     ensures dry { making.entry.dry_run ≡ true → F.held files.new ≡ F.held files.old }
     ensures made { making.entry.dry_run ≡ false
         → DoneMerges result names.now.choice making.entry.max_bytes names.now.withdrawn.items
-        (words_of (take 1 sets.now)) ⊥ making.entry.folder.now
+        (string_bytes set.now ∷ []) ⊥ making.entry.folder.now
         (F.held files.old) (F.held files.new) }
 {
-    match withdraw_of(alloc, making, &sets[..1], names, files, out) {
+    match withdraw_of(alloc, making, slice::from_ref(set), names, files, out) {
         Ok(status) => Ok(status),
         Err(refusal) => Err(refusal),
     }

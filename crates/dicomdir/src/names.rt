@@ -1,14 +1,15 @@
 //! The names that a command line gives.
-ghost use Rattle.std.specs.Prelude.{◌≡◌, [], IfErr, IfOk, IsErr, IsOk, option_map, string_bytes, unwrap_or};
+ghost use Rattle.std.specs.Prelude.{◌≡◌, [], IfErr, IfOk, IsErr, IsOk, string_bytes, unwrap_or};
 ghost use Rattle.dd_elem.specs.Uid.{IsUid};
-ghost use Rattle.dd_line.specs.Line.{AsksBadName, words_of};
+ghost use Rattle.dd_line.specs.Line.{words_of};
+ghost use Rattle.dd_line.specs.Requests.{RequestsBadName, id_of, instances_of, uid_of};
 ghost use Rattle.dicomdir.specs.Names.{HasBadId, HasBadLabel, HasBadOwnUid, HasBadUid, choice_by};
 ghost use Rattle.dicomdir.specs.Refusal.{IsBadLine};
 
 use crate::refusal::ProgramFault;
 use dd_elem::{SetId, Uid};
 use dd_engine::Choice;
-use dd_line::Asked;
+use dd_line::Request;
 use std::alloc::Global;
 
 /// The names of a command line.
@@ -20,45 +21,55 @@ pub(crate) struct Names {
     pub(crate) withdrawn: Vec<Uid>,
 }
 
-/// Reads the names that the line spells: the ID, then the UID, then the UIDs to withdraw, in their order.
+/// Reads the names that a request spells: the ID, then the UID, then the UIDs to withdraw, in their order.
 /// Refused by the first name of the wrong form, or as Memory where an allocation was refused.
-pub(crate) fn names_of(alloc: Global, asked: &Asked) -> Result<Names, ProgramFault>
-    ensures bad { IfErr result (λ fault. IsBadLine fault → AsksBadName asked.now) }
-    ensures good { IsOk result → ¬ AsksBadName asked.now }
+pub(crate) fn names_of(alloc: Global, request: &Request) -> Result<Names, ProgramFault>
+    ensures bad { IfErr result (λ fault. IsBadLine fault → RequestsBadName request.now) }
+    ensures good { IsOk result → ¬ RequestsBadName request.now }
     ensures chooses { IfOk result (λ names. names.choice
-        ≡ choice_by (option_map string_bytes asked.now.id) (option_map string_bytes asked.now.uid)) }
+        ≡ choice_by (id_of request.now) (uid_of request.now)) }
     ensures withdraws { IfOk result (λ names.
-        names.withdrawn.items ≡ words_of asked.now.uids.items) }
+        names.withdrawn.items ≡ words_of (instances_of request.now)) }
 {
-    let choice = choice_of(asked)?;
-    let withdrawn = uids_of(alloc, asked.uids.as_slice())?;
+    let choice = choice_of(request)?;
+    let withdrawn = uids_of(alloc, instances_in(request))?;
     Ok(Names { choice, withdrawn })
 }
 
-/// Reads the label that the line asks for: the ID, then the UID.
-fn choice_of(asked: &Asked) -> Result<Choice, ProgramFault>
-    ensures bad { IsErr result → HasBadLabel asked.now }
-    ensures good { IsOk result → ¬ HasBadLabel asked.now }
-    ensures chooses { IfOk result (λ choice. choice
-        ≡ choice_by (option_map string_bytes asked.now.id) (option_map string_bytes asked.now.uid)) }
+/// Gives the UIDs that a request withdraws.
+fn instances_in(request: &Request) -> &[String]
+    ensures { result.now ≡ instances_of request.now }
 {
-    let id = match id_of(asked) {
+    match request {
+        Request::Withdraw(withdraw) => withdraw.instances.as_slice(),
+        Request::Index(_) | Request::Merge(_) | Request::Check(_) | Request::List(_) => &[],
+    }
+}
+
+/// Reads the label that a request asks for: the ID, then the UID.
+fn choice_of(request: &Request) -> Result<Choice, ProgramFault>
+    ensures bad { IsErr result → HasBadLabel request.now }
+    ensures good { IsOk result → ¬ HasBadLabel request.now }
+    ensures chooses { IfOk result (λ choice. choice
+        ≡ choice_by (id_of request.now) (uid_of request.now)) }
+{
+    let id = match set_id_of(request) {
         Ok(id) => id,
         Err(fault) => return Err(fault),
     };
-    match own_uid_of(asked) {
+    match own_uid_of(request) {
         Ok(uid) => Ok(Choice { id, uid }),
         Err(fault) => Err(fault),
     }
 }
 
-/// Reads the ID that the line asks for. It is empty where the line has none.
-fn id_of(asked: &Asked) -> Result<SetId, ProgramFault>
-    ensures bad { IsErr result → HasBadId asked.now }
-    ensures good { IsOk result → ¬ HasBadId asked.now }
-    ensures id { IfOk result (λ id. id ≡ unwrap_or (option_map string_bytes asked.now.id) []) }
+/// Reads the ID of the file-set that a request asks for. It is empty where there is none.
+fn set_id_of(request: &Request) -> Result<SetId, ProgramFault>
+    ensures bad { IsErr result → HasBadId request.now }
+    ensures good { IsOk result → ¬ HasBadId request.now }
+    ensures id { IfOk result (λ id. id ≡ unwrap_or (id_of request.now) []) }
 {
-    match &asked.id {
+    match request.id() {
         None => Ok(SetId::new(b"").unwrap()),
         Some(id) => match SetId::new(id.as_bytes()) {
             Ok(id) => Ok(id),
@@ -67,15 +78,15 @@ fn id_of(asked: &Asked) -> Result<SetId, ProgramFault>
     }
 }
 
-/// Reads the UID of the file-set that the line asks for, where it has one.
-fn own_uid_of(asked: &Asked) -> Result<Option<Uid>, ProgramFault>
-    ensures bad { IsErr result → HasBadOwnUid asked.now }
-    ensures good { IsOk result → ¬ HasBadOwnUid asked.now }
-    ensures uid { IfOk result (λ uid. uid ≡ option_map string_bytes asked.now.uid) }
+/// Reads the UID of the file-set that a request asks for, where it has one.
+fn own_uid_of(request: &Request) -> Result<Option<Uid>, ProgramFault>
+    ensures bad { IsErr result → HasBadOwnUid request.now }
+    ensures good { IsOk result → ¬ HasBadOwnUid request.now }
+    ensures uid { IfOk result (λ uid. uid ≡ uid_of request.now) }
 {
-    match &asked.uid {
+    match request.uid() {
         None => Ok(None),
-        Some(uid) => match uid_of(uid) {
+        Some(uid) => match uid_from(uid) {
             Ok(uid) => Ok(Some(uid)),
             Err(fault) => Err(fault),
         },
@@ -90,7 +101,7 @@ fn uids_of(alloc: Global, mut texts: &[String]) -> Result<Vec<Uid>, ProgramFault
 {
     let mut uids = Vec::with_capacity(alloc, texts.len())?;
     while let [text, rest @ ..] = texts {
-        let uid = uid_of(text)?;
+        let uid = uid_from(text)?;
         match uids.push(uid) {
             Ok(()) => texts = rest,
             Err(_) => return Err(ProgramFault::Memory),
@@ -100,7 +111,7 @@ fn uids_of(alloc: Global, mut texts: &[String]) -> Result<Vec<Uid>, ProgramFault
 }
 
 /// Reads a UID.
-fn uid_of(text: &String) -> Result<Uid, ProgramFault>
+fn uid_from(text: &String) -> Result<Uid, ProgramFault>
     ensures bad { IsErr result → ¬ IsUid (string_bytes text.now) }
     ensures good { IsOk result → IsUid (string_bytes text.now) }
     ensures value { IfOk result (λ uid. uid ≡ string_bytes text.now) }

@@ -1,13 +1,14 @@
 //! The program's run.
-ghost use Rattle.std.specs.Prelude.{◌≡◌, ◌≤◌, ◌<◌, ◌+◌, ◌⊎◌, IfErr, IfOk, length, true, false};
-ghost use Rattle.dd_line.specs.Line.{AsksBadName, HasBadName, IsCheck, IsReading, LacksSources, OnlyReads, least_paths};
+ghost use Rattle.std.specs.Prelude.{◌≡◌, ◌≤◌, ◌<◌, ◌⊎◌, IfErr, IfOk, length, true, false};
+ghost use Rattle.dd_line.specs.Line.{HasBadName, IsCheck, IsReading, LacksSources, OnlyReads};
+ghost use Rattle.dd_line.specs.Requests.{RequestsBadName, folder_of, is_dry, links, read_of, verb_of};
 ghost use Rattle.dicomdir.specs.DryRun.{HasDryRun, HasLink, first_path};
-ghost use Rattle.dicomdir.specs.EmptyPaths.{AsksEmptyPath, HasEmptyPath, least_sources};
+ghost use Rattle.dicomdir.specs.EmptyPaths.{HasEmptyPath, RequestsEmptyPath};
 ghost use Rattle.dicomdir.specs.Made.{DoneMakes, MakesSome};
 ghost use Rattle.dicomdir.specs.Refusal.{IsOfWork};
-ghost use Rattle.dicomdir.specs.Words.{IsStatusOf, IsTaken, MakesAsked, folder_of, line_of};
+ghost use Rattle.dicomdir.specs.Words.{IsStatusOf, IsTaken, MakesRequested, line_of};
 
-use crate::empty_paths::{empty_path, first_empty};
+use crate::empty_paths::empty_path;
 use crate::index::run_index;
 use crate::inspecting::{comparison_of, run_check, run_list};
 use crate::line_refusal::refuse_line;
@@ -18,14 +19,15 @@ use crate::refusal::{Paths, Refusal, tell};
 use crate::sources::all_sources;
 use dd_elem::Write;
 use dd_files::{Files, Progress};
-use dd_line::{Asked, Verb, read_words};
+use dd_line::{Request, Verb, read_request};
 use std::alloc::Global;
+use std::slice;
 
-/// What a line asks for, and the names that it spells.
+/// A request, and the names that it spells.
 #[derive(Clone, Copy)]
 struct Work<'a> {
-    /// What it asks for.
-    asked: &'a Asked,
+    /// What the line asks for.
+    request: &'a Request,
     /// The names, read.
     names: &'a Names,
 }
@@ -115,42 +117,43 @@ pub fn run<F: Files + Progress, O: Write, E: Write>(
     // Where the work is done nothing goes to the error output.
     ensures done { result ≡ 0 → err.new ≡ err.old }
 {
-    match read_words(alloc, words.as_slice()) {
-        Ok(asked) => run_asked(alloc, &asked, files, out, err),
+    match read_request(alloc, words.as_slice()) {
+        Ok(request) => run_request(alloc, &request, files, out, err),
         Err(fault) => refuse_line(alloc, words.as_slice(), &fault, out, err),
     }
 }
 
-/// Runs the command, prints a refusal if there is one, and answers the status.
-fn run_asked<F: Files + Progress, O: Write, E: Write>(
+/// Runs the command of a request, prints a refusal if there is one, and answers the status.
+fn run_request<F: Files + Progress, O: Write, E: Write>(
     alloc: Global,
-    asked: &Asked,
+    request: &Request,
     files: &mut F,
     out: &mut O,
     err: &mut E,
 ) -> u8
-    requires { least_paths asked.now.verb ≤ length asked.now.paths.items }
     ensures status { result ≤ 3 }
-    ensures findings { result ≡ 3 → asked.now.verb ≡ Verb.Check }
+    ensures findings { result ≡ 3 → verb_of request.now ≡ Verb.Check }
     ensures line { result ≡ 2 → (files.new ≡ files.old) × (out.new ≡ out.old) }
-    ensures bad { result ≡ 2 → AsksBadName asked.now }
-    ensures good { result ≡ 0 → ¬ AsksBadName asked.now }
-    ensures empty { AsksEmptyPath asked.now
+    ensures bad { result ≡ 2 → RequestsBadName request.now }
+    ensures good { result ≡ 0 → ¬ RequestsBadName request.now }
+    ensures empty { RequestsEmptyPath request.now
         → (1 ≤ result) × (files.new ≡ files.old) × (out.new ≡ out.old) }
     ensures done { result ≡ 0 → err.new ≡ err.old }
-    ensures kept { OnlyReads asked.now.verb → F.held files.new ≡ F.held files.old }
-    ensures dry { asked.now.dry_run ≡ true → F.held files.new ≡ F.held files.old }
-    ensures made { result ≡ 0 → MakesAsked asked.now (F.held files.old) (F.held files.new) }
+    ensures kept { OnlyReads (verb_of request.now) → F.held files.new ≡ F.held files.old }
+    ensures dry { is_dry request.now ≡ true → F.held files.new ≡ F.held files.old }
+    ensures made { result ≡ 0
+        → MakesRequested request.now (F.held files.old) (F.held files.new) }
 {
-    let names = match names_of(alloc, asked) {
+    let names = match names_of(alloc, request) {
         Ok(names) => names,
         Err(fault) => return tell(&Refusal::general(fault), Paths::none(), err),
     };
-    match first_empty(asked.paths.as_slice()) {
-        Some(at) => tell_empty(asked, at, err),
+    let paths = paths_of(request);
+    match empty_path(request.new_set(), paths.sources) {
+        Some(refusal) => tell_empty(&refusal, paths, err),
         None => {
             let work = Work {
-                asked,
+                request,
                 names: &names,
             };
             run_named(alloc, work, files, out, err)
@@ -166,22 +169,22 @@ fn run_named<F: Files + Progress, O: Write, E: Write>(
     out: &mut O,
     err: &mut E,
 ) -> u8
-    requires { least_paths work.asked.now.verb ≤ length work.asked.now.paths.items }
-    ensures status { IsStatusOf work.entry.asked.now.verb result }
+    ensures status { IsStatusOf (verb_of work.entry.request.now) result }
     ensures done { result ≡ 0 → err.new ≡ err.old }
-    ensures kept { OnlyReads work.entry.asked.now.verb → F.held files.new ≡ F.held files.old }
-    ensures dry { work.entry.asked.now.dry_run ≡ true → F.held files.new ≡ F.held files.old }
+    ensures kept { OnlyReads (verb_of work.entry.request.now)
+        → F.held files.new ≡ F.held files.old }
+    ensures dry { is_dry work.entry.request.now ≡ true → F.held files.new ≡ F.held files.old }
     ensures made { result ≡ 0
-        → MakesAsked work.entry.asked.now (F.held files.old) (F.held files.new) }
+        → MakesRequested work.entry.request.now (F.held files.old) (F.held files.new) }
 {
-    let asked = work.asked;
-    if asked.quiet {
+    let request = work.request;
+    if is_quiet(request) {
         files.silence();
     }
-    let given = paths_of(asked);
-    let listed = match all_sources(alloc, asked, given.folder, given.sources, files) {
+    let given = paths_of(request);
+    let listed = match all_sources(alloc, request, files) {
         Ok(listed) => listed,
-        Err(refusal) => return tell_refusal(&refusal, asked, given, files, err),
+        Err(refusal) => return tell_refusal(&refusal, request, given, files, err),
     };
     let sources = match &listed {
         Some(all) => all.as_slice(),
@@ -191,16 +194,27 @@ fn run_named<F: Files + Progress, O: Write, E: Write>(
         folder: given.folder,
         sources,
     };
-    match run_verb(alloc, work, paths, files, out) {
+    match run_verb(alloc, work, sources, files, out) {
         Ok(status) => status,
-        Err(refusal) => tell_refusal(&refusal, asked, paths, files, err),
+        Err(refusal) => tell_refusal(&refusal, request, paths, files, err),
+    }
+}
+
+/// Says whether no progress is shown.
+fn is_quiet(request: &Request) -> bool {
+    match request {
+        Request::Index(index) => index.new_set.quiet,
+        Request::Merge(merge) => merge.new_set.quiet,
+        Request::Withdraw(withdraw) => withdraw.new_set.quiet,
+        Request::Check(check) => check.quiet,
+        Request::List(_) => false,
     }
 }
 
 /// Erases the line of progress, prints why the work was refused, and answers the status.
 fn tell_refusal<F: Files + Progress, E: Write>(
     refusal: &Refusal,
-    asked: &Asked,
+    request: &Request,
     paths: LinePaths<'_>,
     files: &mut F,
     err: &mut E,
@@ -213,90 +227,117 @@ fn tell_refusal<F: Files + Progress, E: Write>(
     let paths = Paths {
         folder: paths.folder,
         sources: paths.sources,
-        list: list_of(asked),
+        list: list_of(request),
         unstored: files.unstored(),
     };
     tell(refusal, paths, err)
 }
 
-/// Prints that the path of this number is empty, and answers the status.
-fn tell_empty<E: Write>(asked: &Asked, at: usize, err: &mut E) -> u8
-    requires paths { least_paths asked.now.verb ≤ length asked.now.paths.items }
-    requires within { at < length asked.now.paths.items }
+/// Prints that one of these paths is empty, and answers the status.
+fn tell_empty<E: Write>(refusal: &Refusal, paths: LinePaths<'_>, err: &mut E) -> u8
+    requires { IsOfWork (length paths.sources.now) refusal.now }
     ensures { result ≡ 1 }
 {
-    let LinePaths { folder, sources } = paths_of(asked);
     let paths = Paths {
-        folder,
-        sources,
+        folder: paths.folder,
+        sources: paths.sources,
         list: "",
         unstored: "",
     };
-    tell(&empty_path(asked.verb, at), paths, err)
+    tell(refusal, paths, err)
 }
 
 /// Gives the paths that the line has itself.
-fn paths_of(asked: &Asked) -> LinePaths<'_>
-    requires { least_paths asked.now.verb ≤ length asked.now.paths.items }
-    ensures least { least_sources asked.now.verb ≤ length result.sources.now }
-    ensures folder { ¬ OnlyReads asked.now.verb → result.folder.now ≡ folder_of asked.now }
-    ensures writes { ¬ OnlyReads asked.now.verb
-        → length asked.now.paths.items ≡ length result.sources.now + 1 }
-    ensures reads { OnlyReads asked.now.verb
-        → length asked.now.paths.items ≡ length result.sources.now }
+fn paths_of(request: &Request) -> LinePaths<'_>
+    ensures folder { result.folder.now ≡ folder_of request.now }
+    ensures sources { result.sources.now ≡ read_of request.now }
 {
-    let paths = asked.paths.as_slice();
-    match asked.verb {
-        Verb::Index | Verb::Merge | Verb::Withdraw => LinePaths {
-            folder: paths[0].as_str(),
-            sources: &paths[1..],
-        },
-        Verb::Check | Verb::List => LinePaths {
-            folder: "",
-            sources: paths,
-        },
+    LinePaths {
+        folder: folder_in(request),
+        sources: sources_in(request),
     }
 }
 
-/// The path of the list of names that the line gives, empty where it gives none.
-fn list_of(asked: &Asked) -> &str {
-    match &asked.files0_from {
+/// Gives the folder of the new file-set, empty where none is made.
+fn folder_in(request: &Request) -> &str
+    ensures { result.now ≡ folder_of request.now }
+{
+    match request {
+        Request::Index(index) => index.new_set.out.as_str(),
+        Request::Merge(merge) => merge.new_set.out.as_str(),
+        Request::Withdraw(withdraw) => withdraw.new_set.out.as_str(),
+        Request::Check(_) | Request::List(_) => "",
+    }
+}
+
+/// Gives the paths of the line that the command reads.
+fn sources_in(request: &Request) -> &[String]
+    ensures { result.now ≡ read_of request.now }
+{
+    match request {
+        Request::Index(index) => index.sources.words.as_slice(),
+        Request::Merge(merge) => merge.sets.words.as_slice(),
+        Request::Withdraw(withdraw) => slice::from_ref(&withdraw.set),
+        Request::Check(check) => slice::from_ref(&check.set),
+        Request::List(list) => slice::from_ref(&list.set),
+    }
+}
+
+/// Gives the path of the list of names that the line gives, empty where it gives none.
+fn list_of(request: &Request) -> &str {
+    let sources = match request {
+        Request::Index(index) => &index.sources,
+        Request::Merge(merge) => &merge.sets,
+        Request::Withdraw(_) | Request::Check(_) | Request::List(_) => return "",
+    };
+    match &sources.files0_from {
         Some(list) => list.as_str(),
         None => "",
     }
 }
 
-/// Runs the command on these paths.
+/// Runs the command on these sources, of which the line itself gives the first.
 fn run_verb<F: Files + Progress, O: Write>(
     alloc: Global,
     work: Work<'_>,
-    paths: LinePaths<'_>,
+    sources: &[String],
     files: &mut F,
     out: &mut O,
 ) -> Result<u8, Refusal>
-    requires { least_sources work.asked.now.verb ≤ length paths.sources.now }
-    ensures refusal { IfErr result (IsOfWork (length paths.entry.sources.now)) }
-    ensures status { IfOk result (λ status. IsStatusOf work.entry.asked.now.verb status) }
+    requires { length (read_of work.request.now) ≤ length sources.now }
+    ensures refusal { IfErr result (IsOfWork (length sources.now)) }
+    ensures status { IfOk result (λ status. IsStatusOf (verb_of work.entry.request.now) status) }
 
     // Where the files tell what they hold, a command that only reads leaves them as they were, and so does one that
     // only plans.
-    ensures kept { OnlyReads work.entry.asked.now.verb → F.held files.new ≡ F.held files.old }
-    ensures dry { work.entry.asked.now.dry_run ≡ true → F.held files.new ≡ F.held files.old }
+    ensures kept { OnlyReads (verb_of work.entry.request.now)
+        → F.held files.new ≡ F.held files.old }
+    ensures dry { is_dry work.entry.request.now ≡ true → F.held files.new ≡ F.held files.old }
 
     // A command that writes and is done has made a file-set in the folder, with hard links only where it is asked for
     // them.
-    ensures made { ¬ OnlyReads work.entry.asked.now.verb → work.entry.asked.now.dry_run ≡ false
-        → DoneMakes result (work.entry.asked.now.link ≡ true) paths.entry.folder.now
-        (F.held files.old) (F.held files.new) }
+    ensures made { ¬ OnlyReads (verb_of work.entry.request.now)
+        → is_dry work.entry.request.now ≡ false
+        → DoneMakes result (links work.entry.request.now ≡ true)
+        (folder_of work.entry.request.now) (F.held files.old) (F.held files.new) }
 {
-    let Work { asked, names } = work;
-    let LinePaths { folder, sources } = paths;
-    let making = Making::asked(asked, folder);
-    match asked.verb {
-        Verb::Index => run_index(alloc, making, sources, &names.choice, files, out),
-        Verb::Merge => run_merge(alloc, making, sources, &names.choice, files, out),
-        Verb::Withdraw => run_withdraw(alloc, making, sources, names, files, out),
-        Verb::Check => run_check(alloc, sources[0].as_str(), comparison_of(asked), files, out),
-        Verb::List => run_list(alloc, sources[0].as_str(), asked.long, files, out),
+    let Work { request, names } = work;
+    match request {
+        Request::Index(index) => {
+            let making = Making::of(&index.new_set, false);
+            run_index(alloc, making, sources, &names.choice, files, out)
+        }
+        Request::Merge(merge) => {
+            let making = Making::of(&merge.new_set, merge.link);
+            run_merge(alloc, making, sources, &names.choice, files, out)
+        }
+        Request::Withdraw(withdraw) => {
+            let making = Making::of(&withdraw.new_set, false);
+            run_withdraw(alloc, making, &withdraw.set, names, files, out)
+        }
+        Request::Check(check) => {
+            run_check(alloc, check.set.as_str(), comparison_of(check), files, out)
+        }
+        Request::List(list) => run_list(alloc, list.set.as_str(), list.long, files, out),
     }
 }

@@ -1,6 +1,7 @@
 //! The paths that a command reads: those of its line, and behind them those of its list of names.
 ghost use Rattle.std.specs.Prelude.{◌≡◌, ◌≤◌, ◌++◌, ℕ, None, IfErr, IfOk, IfSome, length};
 ghost use Rattle.dd_line.specs.Line.{words_of};
+ghost use Rattle.dd_line.specs.Requests.{read_of};
 ghost use Rattle.dicomdir.specs.ListedNames.{AreWithListed, parts};
 ghost use Rattle.dicomdir.specs.Refusal.{IsOfWork};
 
@@ -9,36 +10,53 @@ use crate::listed_names::{NamesFault, names_in};
 use crate::refusal::{ProgramFault, Refusal, Subject};
 use dd_elem::Memory;
 use dd_files::{Files, ReadFault, SOURCE_LIMIT, read_whole};
-use dd_line::{Asked, Verb};
+use dd_line::{Request, Sources};
 use std::alloc::Global;
 
-/// Lists the paths that a command with a list of names reads: those of its line, and behind them the names. `None`
+/// Lists the paths that a request with a list of names reads: those of its line, and then the names. `None`
 /// where it has no list. Refused where the folder of the new file-set already has a directory. After that, refused
 /// where the list can't be opened or read, or has a bad name.
 pub(crate) fn all_sources<F: Files>(
     alloc: Global,
-    asked: &Asked,
-    folder: &str,
-    given: &[String],
+    request: &Request,
     files: &mut F,
 ) -> Result<Option<Vec<String>>, Refusal>
     ensures refusal { (paths : ℕ) → IfErr result (IsOfWork paths) }
-    ensures none { asked.now.files0_from ≡ None → IfOk result (λ listed. listed ≡ None) }
-    ensures all { IfOk result (λ listed. IfSome listed (λ all. AreWithListed given.now all.items)) }
+    ensures all { IfOk result (λ listed.
+        IfSome listed (λ all. AreWithListed (read_of request.now) all.items)) }
     ensures least { IfOk result (λ listed.
-        IfSome listed (λ all. length given.now ≤ length all.items)) }
+        IfSome listed (λ all. length (read_of request.now) ≤ length all.items)) }
     ensures kept { F.held files.new ≡ F.held files.old }
 {
-    match asked.verb {
-        Verb::Check | Verb::List => return Ok(None),
-        Verb::Index | Verb::Merge | Verb::Withdraw => {}
+    if let Some(set) = request.new_set() {
+        refuse_taken(alloc, set.out.as_str(), files)?;
     }
-    refuse_taken(alloc, folder, files)?;
-    match &asked.files0_from {
+    match request {
+        Request::Index(index) => listed_sources(alloc, &index.sources, files),
+        Request::Merge(merge) => listed_sources(alloc, &merge.sets, files),
+        Request::Withdraw(_) | Request::Check(_) | Request::List(_) => Ok(None),
+    }
+}
+
+/// Lists these sources, and then the names of their list. `None` where they have no list.
+fn listed_sources<F: Files>(
+    alloc: Global,
+    sources: &Sources,
+    files: &mut F,
+) -> Result<Option<Vec<String>>, Refusal>
+    ensures refusal { (paths : ℕ) → IfErr result (IsOfWork paths) }
+    ensures none { sources.now.files0_from ≡ None → IfOk result (λ listed. listed ≡ None) }
+    ensures all { IfOk result (λ listed.
+        IfSome listed (λ all. AreWithListed sources.now.words.items all.items)) }
+    ensures least { IfOk result (λ listed.
+        IfSome listed (λ all. length sources.now.words.items ≤ length all.items)) }
+    ensures kept { F.held files.new ≡ F.held files.old }
+{
+    match &sources.files0_from {
         None => Ok(None),
         Some(list) => {
             let bytes = list_bytes(alloc, list.as_str(), files)?;
-            Ok(Some(with_listed(alloc, given, &bytes)?))
+            Ok(Some(with_listed(alloc, sources.words.as_slice(), &bytes)?))
         }
     }
 }

@@ -1,15 +1,16 @@
 use Rattle.std.proofs.Common.{arith, inl, subst, sym}
 use Rattle.std.specs.Prelude.{◌⊎◌}
-use Rattle.dd_line.specs.Line.{HasBadName, IsCheck, IsReading, LacksSources}
-use Rattle.dd_line.proofs.LineLemmas.{asked_bad, asked_check, given_bad}
+use Rattle.dd_line.specs.Line.{HasBadName, IsCheck, IsReading, LacksSources, OnlyReads}
+use Rattle.dd_line.specs.Requests.{verb_of}
+use Rattle.dd_line.proofs.RequestLemmas.{given_bad, requested_bad, requested_check, requested_reads}
 use Rattle.dicomdir.specs.DryRun.{HasDryRun, HasLink, first_path}
 use Rattle.dicomdir.specs.EmptyPaths.{HasEmptyPath}
 use Rattle.dicomdir.specs.Made.{MakesSome}
 use Rattle.dicomdir.specs.Words.{IsTaken, line_of}
-use Rattle.dicomdir.proofs.DryRuns.{asked_dry, asked_work}
-use Rattle.dicomdir.proofs.EmptyWords.{asked_empty}
+use Rattle.dicomdir.proofs.DryRuns.{requested_dry, requested_work}
+use Rattle.dicomdir.proofs.EmptyWords.{requested_empty}
 use Rattle.dicomdir.proofs.LinesRefused.{taken_lacks, taken_mistake}
-use Rattle.dicomdir.proofs.SomeMade.{asked_makes}
+use Rattle.dicomdir.proofs.SomeMade.{requested_makes}
 use Rattle.dicomdir.proofs.program.run.Goals as goal
 
 -- ---- a line that is read
@@ -17,16 +18,16 @@ use Rattle.dicomdir.proofs.program.run.Goals as goal
 pub returns-in-Ok-clause-findings : goal.returns-in-Ok-clause-findings
 returns-in-Ok-clause-findings g c = λ is.
     subst (λ words. IsCheck (line_of words)) c.as_slice.ensures.value
-    (asked_check c.in-Ok.asked _ c.in-Ok.ensures.asked (c.run_asked.ensures.findings is))
+    (requested_check c.in-Ok.request _ c.in-Ok.ensures.request (c.run_request.ensures.findings is))
 
 pub returns-in-Ok-clause-words : goal.returns-in-Ok-clause-words
 returns-in-Ok-clause-words g c = λ is _.
     inl (subst (λ words. HasBadName (line_of words)) c.as_slice.ensures.value
-    (asked_bad c.in-Ok.asked _ c.in-Ok.ensures.asked (c.run_asked.ensures.bad is)))
+    (requested_bad c.in-Ok.request _ c.in-Ok.ensures.request (c.run_request.ensures.bad is)))
 
 pub returns-in-Ok-clause-names : goal.returns-in-Ok-clause-names
 returns-in-Ok-clause-names g c = λ is _ bad.
-    c.run_asked.ensures.good is (given_bad c.in-Ok.asked _ c.in-Ok.ensures.asked
+    c.run_request.ensures.good is (given_bad c.in-Ok.request _ c.in-Ok.ensures.request
     (subst (λ words. HasBadName (line_of words)) (sym c.as_slice.ensures.value) bad))
 
 pub returns-in-Ok-clause-sources : goal.returns-in-Ok-clause-sources
@@ -36,30 +37,31 @@ returns-in-Ok-clause-sources g c = λ _ lacks.
 
 pub returns-in-Ok-clause-empty : goal.returns-in-Ok-clause-empty
 returns-in-Ok-clause-empty g c = λ _ has.
-    c.run_asked.ensures.empty (asked_empty c.in-Ok.asked _ c.in-Ok.ensures.asked
+    c.run_request.ensures.empty (requested_empty c.in-Ok.request _ c.in-Ok.ensures.request
     (subst (λ words. HasEmptyPath (line_of words)) (sym c.as_slice.ensures.value) has))
 
 pub returns-in-Ok-clause-reading : goal.returns-in-Ok-clause-reading
 returns-in-Ok-clause-reading g c = λ _ reads.
-    c.run_asked.ensures.kept (c.in-Ok.ensures.reading.1
+    c.run_request.ensures.kept ((requested_reads c.in-Ok.request _ c.in-Ok.ensures.request).1
     (subst (λ words. IsReading (line_of words)) (sym c.as_slice.ensures.value) reads))
 
 pub returns-in-Ok-clause-dry : goal.returns-in-Ok-clause-dry
 returns-in-Ok-clause-dry g c = λ _ has.
-    c.run_asked.ensures.dry (asked_dry c.in-Ok.asked _ c.in-Ok.ensures.asked
+    c.run_request.ensures.dry (requested_dry c.in-Ok.request _ c.in-Ok.ensures.request
     (subst (λ words. HasDryRun (line_of words)) (sym c.as_slice.ensures.value) has))
 
 pub returns-in-Ok-clause-made : goal.returns-in-Ok-clause-made
 returns-in-Ok-clause-made g c = λ is _ writes works.
     let found = line_of c.as_slice.result.now in
+    let read = c.in-Ok.ensures.request in
+    let makes : ¬ OnlyReads (verb_of c.in-Ok.request) =
+    λ reads. writes (subst (λ words. IsReading (line_of words)) c.as_slice.ensures.value
+    ((requested_reads c.in-Ok.request found read).0 reads)) in
     subst (λ words. MakesSome (HasLink (line_of words)) (first_path (line_of words))
-    (g.F.Files.held c.args.files.now) (g.F.Files.held c.run_asked.new.files)) c.as_slice.ensures.value
-    (asked_makes c.in-Ok.asked found _ _ c.in-Ok.ensures.asked (c.run_asked.ensures.made is
-    (λ reads. writes (subst (λ words. IsReading (line_of words)) c.as_slice.ensures.value
-    (c.in-Ok.ensures.reading.0 reads)))
-    (asked_work c.in-Ok.asked found c.in-Ok.ensures.asked
-    (λ dry. works (subst (λ words. HasDryRun (line_of words)) c.as_slice.ensures.value
-    dry)))))
+    (g.F.Files.held c.args.files.now) (g.F.Files.held c.run_request.new.files)) c.as_slice.ensures.value
+    (requested_makes c.in-Ok.request found _ _ read makes (c.run_request.ensures.made is makes
+    (requested_work c.in-Ok.request found read
+    (λ dry. works (subst (λ words. HasDryRun (line_of words)) c.as_slice.ensures.value dry)))))
 
 -- ---- a line that is refused
 
