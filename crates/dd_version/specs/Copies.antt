@@ -24,3 +24,10 @@ SeriesIsLong keys = HasLong (keys.modality ∷ keys.number ∷ [])
 abbrev pub PartsAreLong : Parts → Type 0
 PartsAreLong parts = PatientIsLong parts.patient ⊎ StudyIsLong parts.study ⊎ SeriesIsLong parts.series
     ⊎ HasLong (parts.number ∷ [])
+
+-- ---- copies with keys of others
+
+-- these parts, with the keys of others' patient, study and series
+abbrev pub with_keys_of : Parts → Parts → Parts → Parts → Parts
+with_keys_of parts patient study series =
+    record parts { patient = patient.patient; study = study.study; series = series.series }

@@ -1,7 +1,7 @@
 //! Versions of image instances.
 
 ghost use Rattle.std.specs.Prelude.{◌≡◌, ◌↔◌, IsOk, IsErr, IfOk, IfErr};
-ghost use Rattle.dd_version.specs.Copies.{PartsAreLong};
+ghost use Rattle.dd_version.specs.Copies.{PartsAreLong, with_keys_of};
 ghost use Rattle.dd_version.specs.Fitting.{Fits, IsLeastMisfit, is_empty, least_misfit};
 
 use crate::classes::is_image_class;
@@ -81,6 +81,33 @@ impl Version {
     {
         let parts = self.parts.copy()?;
         Ok(Version { parts })
+    }
+
+    /// Copies the version, with the keys of these versions' patient, study and series in place of its own. Memory
+    /// where no more copies can share a key of more than 22 bytes.
+    pub fn with_keys_of(
+        &self,
+        patient: &Version,
+        study: &Version,
+        series: &Version,
+    ) -> Result<Version, Memory>
+        ensures value { IfOk result (λ version. version
+            ≡ with_keys_of self.now patient.now study.now series.now) }
+        ensures memory { IsErr result → PartsAreLong
+            (with_keys_of self.now patient.now study.now series.now) }
+    {
+        Ok(Version {
+            parts: Parts {
+                digest: self.parts.digest,
+                patient: patient.parts.patient.copy()?,
+                study: study.parts.study.copy()?,
+                series: series.parts.series.copy()?,
+                number: self.parts.number.copy()?,
+                class: self.parts.class,
+                transfer: self.parts.transfer,
+                instance: self.parts.instance,
+            },
+        })
     }
 }
 
