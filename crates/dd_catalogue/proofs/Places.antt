@@ -17,7 +17,7 @@ use Rattle.dd_catalogue.specs.Best.{IsRising, at, greater, put}
 use Rattle.dd_catalogue.specs.Rising.{Orders, less_turned, greater_turned}
 use Rattle.dd_catalogue.proofs.Members.{member_of, Member}
 use Rattle.dd_catalogue.proofs.BestMembers.{at-member, above_member}
-use Rattle.dd_catalogue.specs.Table.{IsPlace, taken_by}
+use Rattle.dd_catalogue.specs.Table.{IsIndex, taken_by}
 use Rattle.dd_catalogue.specs.declared.best.Taken.TheVariants.{Displaced, Returned}
 use Rattle.std.proofs.lemmas.List.{get_or_default, set-get_or}
 use Rattle.std.proofs.lemmas.Option.{same_Some, slice_get_within, get_or_from_slice_get}
@@ -40,7 +40,7 @@ sorted_rising key (v ∷ w ∷ m) up (suc k) d low high =
 
 pub searched : {V : Type 0} (key : V → List ℕ) (m : List V) → IsRising key bytes_cmp m → (k : List ℕ) (r : Result ℕ ℕ)
     → IsSearchInRange r (length m)
-    → IsBinarySearchResult (λ w. bytes_cmp (key w) k) m r → IsPlace key k m r
+    → IsBinarySearchResult (λ w. bytes_cmp (key w) k) m r → IsIndex key k m r
 searched key m up k (Ok i) bound is = (bound, is)
 searched key m up k (Err i) bound is =
     let split = is (searchable_from_sorted nat_list_cmp_total key m k (sorted_rising key m up)) in
@@ -171,7 +171,7 @@ all_less key k x (v ∷ w ∷ m) (suc i) up long is less =
 
 pub place_past : {V : Type 0} (key : V → List ℕ) (k : List ℕ) (x : V) (m : List V) → IsRising key bytes_cmp m
     → slice_get m (length m - 1) ≡ Some x
-    → bytes_cmp (key x) k ≡ Less → IsPlace key k m (Err (length m))
+    → bytes_cmp (key x) k ≡ Less → IsIndex key k m (Err (length m))
 place_past key k x m up is less =
     let below = slice_get_within m (length m - 1) x is in
     let all = All-from_recursion (λ w. bytes_cmp (key w) k ≡ Less) m

@@ -12,7 +12,7 @@ use Rattle.std.proofs.Math.ListN as seq
 use Rattle.dd_elem.specs.Ordered.{bytes_cmp}
 use Rattle.dd_catalogue.specs.Best.{IsAbove, IsRising, put}
 use Rattle.dd_catalogue.specs.Rising.{by_test}
-use Rattle.dd_catalogue.specs.Table.{IsPlace}
+use Rattle.dd_catalogue.specs.Table.{IsIndex}
 use Rattle.dd_catalogue.proofs.Places.{put_replaces, put_between}
 
 above_under : {B V : Type 0} (now : B → V) (key : V → List ℕ) (k : List ℕ) (m : List B)
@@ -31,7 +31,7 @@ some_item (x ∷ m) i below = x
 
 -- a place among references is one among the values
 pub place_under : {B V : Type 0} (now : B → V) (key : V → List ℕ) (k : List ℕ) (m : List B) (r : Result ℕ ℕ)
-    → IsPlace (λ x. key (now x)) k m r → IsPlace key k (map now m) r
+    → IsIndex (λ x. key (now x)) k m r → IsIndex key k (map now m) r
 place_under now key k m (Ok i) is = (
   subst (λ n. i < n) (sym (length-map m now)) is.0,
   (λ e. let d = some_item m i is.0 in subst (λ x. bytes_cmp (key x) k ≡ Equal) (sym

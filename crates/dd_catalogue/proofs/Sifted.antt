@@ -13,7 +13,7 @@ use Rattle.dd_catalogue.specs.Best.{IsAbove, IsRising}
 use Rattle.dd_catalogue.specs.CatalogueJoin.{uids_ordered}
 use Rattle.dd_catalogue.specs.Compared.{compared_keys}
 use Rattle.dd_catalogue.specs.Rising.{by_test, greater_turned, less_turned}
-use Rattle.dd_catalogue.specs.Table.{IsPlace, found_place, met_by, passed_by}
+use Rattle.dd_catalogue.specs.Table.{IsIndex, found_index, met_by, passed_by}
 use Rattle.dd_catalogue.proofs.TakenOut.{AreBelow, below_rest, from_here, rising-drop}
 use Rattle.dd_catalogue.proofs.Woven.{compared_at_end, step_end_mine, step_equal, step_greater, step_less}
 
@@ -73,8 +73,8 @@ stopped k m (u ∷ w) (suc p) up up' within high =
     omega (arith, rest)
 
 sought : (k : List ℕ) (m w : List (List ℕ)) (r : Result ℕ ℕ) → IsRising (λ u. u) bytes_cmp (k ∷ m)
-    → IsRising (λ u. u) bytes_cmp w → IsPlace (λ u. u) k w r
-    → AllWithin (λ u. bytes_cmp u k ≡ Less) w 0 (found_place r)
+    → IsRising (λ u. u) bytes_cmp w → IsIndex (λ u. u) k w r
+    → AllWithin (λ u. bytes_cmp u k ≡ Less) w 0 (found_index r)
     → compared_keys bytes_cmp (k ∷ m) w
     ≡ passed_by r + met_by (length w) r + compared_keys bytes_cmp m (drop (passed_by r) w)
 sought k m w (Ok p) up up' is low =
@@ -88,7 +88,7 @@ sought k m w (Err p) up up' is low =
 
 -- ---- one walk along both
 
-pub passed_within : (k : List ℕ) (w : List (List ℕ)) (r : Result ℕ ℕ) → IsPlace (λ u. u) k w r
+pub passed_within : (k : List ℕ) (w : List (List ℕ)) (r : Result ℕ ℕ) → IsIndex (λ u. u) k w r
     → passed_by r ≤ length w
 passed_within k w (Ok i) is = omega (arith, is.0)
 passed_within k w (Err i) is = is.0
@@ -99,8 +99,8 @@ met_at_most n (Err i) = omega arith
 
 -- the keys that were passed are below all values that are left
 pub below_passed : {V : Type 0} (key : V → List ℕ) (w : List (List ℕ)) (r : Result ℕ ℕ) (m : List V) (i : ℕ) (x : V)
-    → IsRising key bytes_cmp m → i < length m → x ≡ get_or m i x → IsPlace (λ u. u) (key x) w r
-    → AllWithin (λ u. bytes_cmp u (key x) ≡ Less) w 0 (found_place r)
+    → IsRising key bytes_cmp m → i < length m → x ≡ get_or m i x → IsIndex (λ u. u) (key x) w r
+    → AllWithin (λ u. bytes_cmp u (key x) ≡ Less) w 0 (found_index r)
     → AreBelow key w (passed_by r) (drop (i + 1) m)
 below_passed key w (Err p) m i x up below read is low = below_rest key w p m i x up below read low
 below_passed key w (Ok p) m i x up below read is low = λ j d a b. at_or_before j d b
@@ -119,8 +119,8 @@ below_passed key w (Ok p) m i x up below read is low = λ j d a b. at_or_before 
 pub counted_more : {V : Type 0} (key : V → List ℕ) (m : List V) (i : ℕ) (x : V) (w : List (List ℕ))
     (passed met total : ℕ) (r : Result ℕ ℕ)
     → IsRising key bytes_cmp m → IsRising (λ u. u) bytes_cmp w → i < length m → x ≡ get_or m i x → passed ≤ length w
-    → AllWithin (λ u. bytes_cmp u (key x) ≡ Less) w 0 passed → IsPlace (λ u. u) (key x) w r
-    → AllWithin (λ u. bytes_cmp u (key x) ≡ Less) w 0 (found_place r)
+    → AllWithin (λ u. bytes_cmp u (key x) ≡ Less) w 0 passed → IsIndex (λ u. u) (key x) w r
+    → AllWithin (λ u. bytes_cmp u (key x) ≡ Less) w 0 (found_index r)
     → passed + met + compared_keys bytes_cmp (map key (drop i m)) (drop passed w) ≡ total
     → passed_by r + (met + met_by (length w) r)
     + compared_keys bytes_cmp (map key (drop (i + 1) m)) (drop (passed_by r) w) ≡ total

@@ -12,7 +12,7 @@ use Rattle.dd_elem.specs.Ordered.{bytes_cmp}
 use Rattle.dd_catalogue.specs.Best.{IsAbove, IsRising, at}
 use Rattle.dd_catalogue.specs.Free.{is_free, free}
 use Rattle.dd_catalogue.specs.Rising.{by_test, above_trans, greater_turned, less_turned}
-use Rattle.dd_catalogue.specs.Table.{IsPlace}
+use Rattle.dd_catalogue.specs.Table.{IsIndex}
 use Rattle.dd_catalogue.proofs.BestMembers.{above_member}
 use Rattle.dd_catalogue.proofs.Members.{member_of}
 use Rattle.dd_catalogue.proofs.Places.{at_here, at_between}
@@ -21,7 +21,7 @@ use Rattle.std.proofs.lemmas.List.Elements.{Contains-get_or}
 -- ---- what a place says
 
 pub placed : {V : Type 0} (key : V → List ℕ) (k : List ℕ) (m : List V) (r : Result ℕ ℕ) → IsRising key bytes_cmp m
-    → IsPlace key k m r → is_ok r ≡ is_some (at key bytes_cmp m k)
+    → IsIndex key k m r → is_ok r ≡ is_some (at key bytes_cmp m k)
 placed key k [] (Ok i) up is = absurd (omega (arith, is.0))
 placed key k (v ∷ m) (Ok i) up is = sym (ap is_some (at_here key k (v ∷ m) i v up is.0 (is.1 v)))
 placed key k m (Err i) up is = sym (ap is_some (at_between key k m i is.1 is.2))
@@ -45,11 +45,11 @@ withdrawn_there w k =
     not_not (list_any (λ u. is_eq (bytes_cmp u k)) w) ∙ any_find (λ u. is_eq (bytes_cmp u k)) w
 
 pub free_placed : (w : List (List ℕ)) (k : List ℕ) (r : Result ℕ ℕ) → IsRising (λ u. u) bytes_cmp w
-    → IsPlace (λ u. u) k w r → is_free bytes_cmp w k ≡ not (is_ok r)
+    → IsIndex (λ u. u) k w r → is_free bytes_cmp w k ≡ not (is_ok r)
 free_placed w k r up is = free_there w k ∙ ap not (sym (placed (λ u. u) k w r up is))
 
 pub free_err : (w : List (List ℕ)) (k j : List ℕ) (r : Result ℕ ℕ) → IsRising (λ u. u) bytes_cmp w
-    → IsPlace (λ u. u) k w r → k ≡ j → is_err r ≡ is_free bytes_cmp w j
+    → IsIndex (λ u. u) k w r → k ≡ j → is_err r ≡ is_free bytes_cmp w j
 free_err w k j r up is e = not_ok r ∙ sym (free_placed w k r up is) ∙ ap (λ x. is_free bytes_cmp w x) e
   where
     not_ok : (r : Result ℕ ℕ) → is_err r ≡ not (is_ok r)

@@ -1,7 +1,7 @@
-pub mod Agreeing
 pub mod Agreement
 pub mod Best
 pub mod BestLaws
+pub mod Carriers
 pub mod CatalogueJoin
 pub mod Conflicts
 pub mod Compared
@@ -10,6 +10,7 @@ pub mod Equal
 pub mod Free
 pub mod FreeLaws
 pub mod Harmony
+pub mod HarmonyFound
 pub mod Histories
 pub mod Joins
 pub mod Owners

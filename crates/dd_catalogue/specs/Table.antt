@@ -9,10 +9,10 @@ use Rattle.dd_elem.specs.Ordered.{bytes_cmp}
 use Rattle.dd_catalogue.specs.declared.best.Taken.{Taken}
 use Rattle.dd_catalogue.specs.declared.best.Taken.TheVariants.{Fresh, Displaced, Returned}
 
--- a place of the value with this key, or the place between the smaller and the greater keys
-abbrev pub IsPlace : {V : Type 0} → (V → List ℕ) → List ℕ → List V → Result ℕ ℕ → Type 0
-IsPlace key k m (Ok i) = (i < length m) × HoldsAt (λ w. bytes_cmp (key w) k ≡ Equal) m i
-IsPlace key k m (Err i) = (i ≤ length m) × AllWithin (λ w. bytes_cmp (key w) k ≡ Less) m 0 i
+-- the index of a value with this key, or the one between the smaller and the greater keys
+abbrev pub IsIndex : {V : Type 0} → (V → List ℕ) → List ℕ → List V → Result ℕ ℕ → Type 0
+IsIndex key k m (Ok i) = (i < length m) × HoldsAt (λ w. bytes_cmp (key w) k ≡ Equal) m i
+IsIndex key k m (Err i) = (i ≤ length m) × AllWithin (λ w. bytes_cmp (key w) k ≡ Less) m 0 i
     × AllWithin (λ w. bytes_cmp (key w) k ≡ Greater) m i (length m)
 
 -- what becomes of a value where this one is held
@@ -21,9 +21,9 @@ taken_by values v None = Fresh
 taken_by values v (Some w) = if is_lt (values w v) then Displaced w else Returned v
 
 -- how many keys are smaller than the key that was looked for
-abbrev pub found_place : Result ℕ ℕ → ℕ
-found_place (Ok i) = i
-found_place (Err i) = i
+abbrev pub found_index : Result ℕ ℕ → ℕ
+found_index (Ok i) = i
+found_index (Err i) = i
 
 -- how many are at most that key
 abbrev pub passed_by : Result ℕ ℕ → ℕ

@@ -10,9 +10,9 @@ ghost use Rattle.dd_elem.specs.Ordered.{bytes_cmp};
 ghost use Rattle.dd_catalogue.specs.Best.{IsRising, at, best, put};
 ghost use Rattle.dd_catalogue.specs.Compared.{compared, compared_keys};
 ghost use Rattle.dd_catalogue.specs.Free.{free};
-ghost use Rattle.dd_catalogue.specs.Table.{IsPlace, taken_by};
+ghost use Rattle.dd_catalogue.specs.Table.{IsIndex, taken_by};
 
-use crate::lent::{Greatest, Keyed};
+use crate::greatest::{Greatest, Keyed};
 use crate::sifting::sift;
 use crate::weaving::weave;
 use dd_elem::{Memory, Uid};
@@ -22,9 +22,9 @@ use std::marker::Model;
 use std::mem;
 
 /// A value that can be copied where memory is found.
-pub(crate) trait Copied {
+pub(crate) trait TryClone {
     /// An equal value.
-    fn copied(&self) -> Result<Self, Memory>
+    fn try_clone(&self) -> Result<Self, Memory>
         ensures { IfOk result (λ value. value ≡ self.now) };
 }
 
@@ -41,11 +41,11 @@ pub(crate) enum Taken<V> {
 
 /// The greatest value of each key, rising by key.
 #[derive(Debug, Drop)]
-pub(crate) struct Table<T: Keyed + Copied + Drop> {
+pub(crate) struct Table<T: Keyed + TryClone + Drop> {
     held: Vec<T>,
 }
 
-impl<T: Keyed + Copied + Drop> Model for Table<T> {
+impl<T: Keyed + TryClone + Drop> Model for Table<T> {
     ghost use Rattle.std.specs.Prelude.{List};
     ghost use Rattle.dd_elem.specs.Ordered.{bytes_cmp};
     ghost use Rattle.dd_catalogue.specs.Best.{IsRising};
@@ -57,7 +57,7 @@ impl<T: Keyed + Copied + Drop> Model for Table<T> {
     ghost invariant = { λ table. IsRising T.key_of bytes_cmp table.held.items };
 }
 
-impl<T: Keyed + Copied + Drop> Table<T> {
+impl<T: Keyed + TryClone + Drop> Table<T> {
     /// The empty table.
     pub(crate) fn new(alloc: Global) -> Table<T>
         ensures { result ≡ [] }
@@ -68,7 +68,7 @@ impl<T: Keyed + Copied + Drop> Table<T> {
     }
 
     /// The table of these values, which rise by key.
-    pub(crate) fn rising(held: Vec<T>) -> Table<T>
+    pub(crate) fn from_rising(held: Vec<T>) -> Table<T>
         requires { IsRising T.key_of bytes_cmp held.items }
         ensures { result ≡ held.items }
     {
@@ -87,8 +87,8 @@ impl<T: Keyed + Copied + Drop> Table<T> {
     pub(crate) fn get(&self, key: &[u8]) -> Option<&T>
         ensures { option_copied result ≡ at T.key_of bytes_cmp self.now key.now }
     {
-        match self.place(key) {
-            Ok(place) => Some(&self.held[place]),
+        match self.index_of(key) {
+            Ok(index) => Some(&self.held[index]),
             Err(_) => None,
         }
     }
@@ -97,7 +97,7 @@ impl<T: Keyed + Copied + Drop> Table<T> {
     pub(crate) fn has(&self, key: &[u8]) -> bool
         ensures { result ≡ is_some (at T.key_of bytes_cmp self.now key.now) }
     {
-        self.place(key).is_ok()
+        self.index_of(key).is_ok()
     }
 
     /// Takes out the value with this key.
@@ -105,8 +105,8 @@ impl<T: Keyed + Copied + Drop> Table<T> {
         ensures after { self.new ≡ free T.key_of bytes_cmp (key.now ∷ []) self.old }
         ensures value { result ≡ at T.key_of bytes_cmp self.old key.now }
     {
-        match self.place(key) {
-            Ok(place) => Some(self.held.remove(place)),
+        match self.index_of(key) {
+            Ok(index) => Some(self.held.remove(index)),
             Err(_) => None,
         }
     }
@@ -144,7 +144,7 @@ impl<T: Keyed + Copied + Drop> Table<T> {
     {
         let greatest = Greatest::of(alloc, values)?;
         Ok(Table {
-            held: copies_of_lent(alloc, greatest.values())?,
+            held: copies_of_references(alloc, greatest.values())?,
         })
     }
 
@@ -186,49 +186,49 @@ impl<T: Keyed + Copied + Drop> Table<T> {
         ensures back { IfErr result (λ back. back ≡ value) }
         ensures there { IsSome (at T.key_of bytes_cmp self.old (T.key_of value)) → IsOk result }
     {
-        match self.place(value.key()) {
-            Ok(place) => Ok(self.challenge(place, value)),
-            Err(place) => self.admit(place, value),
+        match self.index_of(value.key()) {
+            Ok(index) => Ok(self.challenge(index, value)),
+            Err(index) => self.admit(index, value),
         }
     }
 
-    /// Puts the value at this place, which lies between the smaller and the greater keys.
-    fn admit(&mut self, place: usize, value: T) -> Result<Taken<T>, T>
-        requires within { place ≤ length self.old }
+    /// Puts the value at this index, which lies between the smaller and the greater keys.
+    fn admit(&mut self, index: usize, value: T) -> Result<Taken<T>, T>
+        requires within { index ≤ length self.old }
         requires smaller { AllWithin (λ w. bytes_cmp (T.key_of w) (T.key_of value) ≡ Less)
-            self.old 0 place }
+            self.old 0 index }
         requires greater { AllWithin (λ w. bytes_cmp (T.key_of w) (T.key_of value) ≡ Greater)
-            self.old place (length self.old) }
+            self.old index (length self.old) }
         ensures ok { OnOk result (self.new ≡ put T.key_of bytes_cmp T.order value self.old) }
         ensures new { IfOk result (λ took. took ≡ Taken.Fresh) }
         ensures err { OnErr result (self.new ≡ self.old) }
         ensures back { IfErr result (λ back. back ≡ value) }
     {
-        if let Err(failed) = self.held.insert(place, value) {
+        if let Err(failed) = self.held.insert(index, value) {
             return Err(failed.value);
         }
         Ok(Taken::Fresh)
     }
 
-    /// Keeps the greater of the value and the one at this place, which has its key.
-    fn challenge(&mut self, place: usize, value: T) -> Taken<T>
-        requires within { place < length self.old }
+    /// Keeps the greater of the value and the one at this index, which has its key.
+    fn challenge(&mut self, index: usize, value: T) -> Taken<T>
+        requires within { index < length self.old }
         requires same { HoldsAt (λ w. bytes_cmp (T.key_of w) (T.key_of value) ≡ Equal)
-            self.old place }
+            self.old index }
         ensures after { self.new ≡ put T.key_of bytes_cmp T.order value self.old }
         ensures took { result ≡ taken_by T.order value
             (at T.key_of bytes_cmp self.old (T.key_of value)) }
     {
-        if self.held[place].compare(&value).is_lt() {
-            Taken::Displaced(mem::replace(&mut self.held[place], value))
+        if self.held[index].compare(&value).is_lt() {
+            Taken::Displaced(mem::replace(&mut self.held[index], value))
         } else {
             Taken::Returned(value)
         }
     }
 
-    /// Where the value with this key is, or would stand. The end is looked at first.
-    fn place(&self, key: &[u8]) -> Result<usize, usize>
-        ensures place { IsPlace T.key_of key.now self.now result }
+    /// The index of the value with this key, or the one at which it would stand. The end is looked at first.
+    fn index_of(&self, key: &[u8]) -> Result<usize, usize>
+        ensures index { IsIndex T.key_of key.now self.now result }
         ensures rising { IsRising T.key_of bytes_cmp self.now }
     {
         let Some(last) = self.held.last() else {
@@ -241,9 +241,9 @@ impl<T: Keyed + Copied + Drop> Table<T> {
         }
     }
 
-    /// Where the value with this key is, or would stand.
+    /// The index of the value with this key, or the one at which it would stand.
     fn search(&self, key: &[u8]) -> Result<usize, usize>
-        ensures { IsPlace T.key_of key.now self.now result }
+        ensures { IsIndex T.key_of key.now self.now result }
     {
         self.held.binary_search_by(
             |value: &T| -> Ordering
@@ -254,7 +254,7 @@ impl<T: Keyed + Copied + Drop> Table<T> {
 }
 
 /// Copies these values. Memory where an allocation was refused, and never where the list is empty.
-fn copies<T: Copied + Drop>(alloc: Global, values: &[T]) -> Result<Vec<T>, Memory>
+fn copies<T: TryClone + Drop>(alloc: Global, values: &[T]) -> Result<Vec<T>, Memory>
     ensures equal { IfOk result (λ copies. copies.items ≡ values.now) }
     ensures some { OnErr result (values.now ≢ []) }
 {
@@ -263,18 +263,18 @@ fn copies<T: Copied + Drop>(alloc: Global, values: &[T]) -> Result<Vec<T>, Memor
     }
     let mut copies = Vec::with_capacity(alloc, values.len())?;
     for value in values {
-        copies.push(value.copied()?)?;
+        copies.push(value.try_clone()?)?;
     }
     Ok(copies)
 }
 
 /// Copies of the values that these references lend.
-fn copies_of_lent<T: Copied + Drop>(alloc: Global, values: &[&T]) -> Result<Vec<T>, Memory>
+fn copies_of_references<T: TryClone + Drop>(alloc: Global, values: &[&T]) -> Result<Vec<T>, Memory>
     ensures { IfOk result (λ copies. copies.items ≡ map (λ value. value.now) values.now) }
 {
     let mut copies = Vec::with_capacity(alloc, values.len())?;
     for value in values {
-        copies.push(value.copied()?)?;
+        copies.push(value.try_clone()?)?;
     }
     Ok(copies)
 }

@@ -4,6 +4,7 @@ ghost use Rattle.std.specs.Prelude.{◌≡◌, ◌≢◌, ◌==◌, ◌≤◌, �
 ghost use Rattle.std.specs.Prelude.{IsOk, IfOk, IfErr, OnOk, OnErr, IsSome, IsTrue};
 ghost use Rattle.dd_catalogue.specs.Conflicts.{IsConflict, first_conflict};
 ghost use Rattle.dd_catalogue.specs.Harmony.{IsHarmonised, harmonised};
+ghost use Rattle.dd_catalogue.specs.HarmonyFound.{IsHarmonyOf};
 ghost use Rattle.dd_catalogue.specs.Versions.{IsCatalogue, best_of, compared_of, kept};
 ghost use Rattle.dd_catalogue.specs.Best.{IsRising};
 ghost use Rattle.dd_catalogue.specs.Contents.{IsHeld, all_of, and_version, and_withdrawn, compared_in_merge};
@@ -15,12 +16,12 @@ ghost use Rattle.dd_elem.specs.Ordered.{bytes_cmp};
 
 use crate::best::Table;
 use crate::conflicts::first_conflict;
-use crate::harmony::in_harmony;
+use crate::greatest::references_to;
+use crate::harmony::{harmony_of, harmony_or_conflict};
 use crate::join::Join;
-use crate::lent::lent;
-use crate::outcomes::{Refused, Took, Withdrew, told};
-use crate::sifting::sift_lent;
-use crate::withdrawals::{Withdrawals, distinct};
+use crate::outcomes::{Harmony, Refused, Took, Withdrew, to_took};
+use crate::sifting::sift_references;
+use crate::withdrawals::{Withdrawals, uid_table};
 use dd_elem::{Memory, Uid};
 use dd_version::Version;
 use std::alloc::Global;
@@ -94,9 +95,9 @@ impl Catalogue {
           withdrawn = withdrawn;
         }) }
     {
-        sift_lent(&mut versions, &withdrawn);
+        sift_references(&mut versions, &withdrawn);
         let table = Table::of(alloc, versions)?;
-        let withdrawn = Withdrawals::shared(alloc, withdrawn)?;
+        let withdrawn = Withdrawals::for_sharing(alloc, withdrawn)?;
         Ok(Catalogue { table, withdrawn })
     }
 
@@ -112,7 +113,7 @@ impl Catalogue {
             return Ok(Catalogue::new(alloc));
         }
         Ok(Catalogue {
-            table: Table::of(alloc, lent(alloc, versions)?)?,
+            table: Table::of(alloc, references_to(alloc, versions)?)?,
             withdrawn: Withdrawals::new(alloc),
         })
     }
@@ -135,7 +136,7 @@ impl Catalogue {
         if versions.is_empty() && withdrawn.is_empty() {
             return Ok(Catalogue::new(alloc));
         }
-        Catalogue::without(alloc, lent(alloc, versions)?, distinct(withdrawn))
+        Catalogue::without(alloc, references_to(alloc, versions)?, uid_table(withdrawn))
     }
 
     /// How many instances it holds.
@@ -214,7 +215,7 @@ impl Catalogue {
             Ok(taken) => taken,
             Err(back) => return Err(Refused { back }),
         };
-        Ok(told(taken))
+        Ok(to_took(taken))
     }
 
     /// Withdraws an instance: no version of it is kept from now on, whatever is taken or merged. Withdrawn
@@ -275,7 +276,7 @@ impl Catalogue {
         let sets = withdrawn.merge(other.withdrawn.table())?;
         let maps = self.table.merge(&other.table)?;
         let sifted = self.table.sift(withdrawn.values());
-        self.withdrawn = Withdrawals::own(withdrawn);
+        self.withdrawn = Withdrawals::from_table(withdrawn);
         Ok(sets.saturating_add(maps).saturating_add(sifted))
     }
 
@@ -325,9 +326,26 @@ impl Catalogue {
         ensures some { OnErr result (self.now ≢ nothing) }
     {
         let alloc = self.table.allocator();
-        let table = in_harmony(alloc, self.versions())?;
+        let table = harmony_of(alloc, self.versions())?;
         let withdrawn = self.withdrawn.copy()?;
         Ok(Catalogue { table, withdrawn })
+    }
+
+    /// Answers what `harmonise` does, where no two versions conflict, and else what `conflict` does; but the versions
+    /// are sorted once for both. Memory where an allocation was refused, and never where the catalogue has no version
+    /// and has withdrawn nothing.
+    pub fn harmonise_or_conflict(&self) -> Result<Harmony, Memory>
+        ensures harmony { IfOk result (λ harmony. IsHarmonyOf self.now harmony) }
+        ensures some { OnErr result (self.now ≢ nothing) }
+    {
+        let alloc = self.table.allocator();
+        match harmony_or_conflict(alloc, self.versions())? {
+            Ok(table) => Ok(Harmony::Found(Catalogue {
+                table,
+                withdrawn: self.withdrawn.copy()?,
+            })),
+            Err((one, other)) => Ok(Harmony::Conflict(one, other)),
+        }
     }
 
     /// An equal catalogue. It shares the withdrawn UIDs of a catalogue that was made with them, and has a copy

@@ -4,10 +4,11 @@ ghost use Rattle.std.specs.Prelude.{◌≡◌, ◌≢◌, ◌||◌, [], None, fi
 ghost use Rattle.dd_elem.specs.Ordered.{bytes_cmp};
 ghost use Rattle.dd_catalogue.specs.Best.{at};
 ghost use Rattle.dd_catalogue.specs.Conflicts.{first_conflict, conflicts, pair_or};
-ghost use Rattle.dd_catalogue.specs.Owners.{uid_of, series_filing, study_filing};
+ghost use Rattle.dd_catalogue.specs.Owners.{HasThoseOfTwoOwners, patient_id, series_uid, study_uid};
 
-use crate::lent::Greatest;
-use crate::owners::{Filed, of_two_owners, owners};
+use crate::carriers::{Carrier, carriers_of};
+use crate::greatest::Greatest;
+use crate::owners::of_two_owners;
 use dd_elem::{Memory, Uid};
 use dd_version::{PatientKeys, SeriesKeys, StudyKeys, Version};
 use std::alloc::Global;
@@ -24,45 +25,60 @@ pub(crate) fn first_conflict(
     if versions.is_empty() {
         return Ok(None);
     }
-    let studies = owners::<StudyKeys, PatientKeys>(alloc, versions)?;
-    let series = owners::<SeriesKeys, StudyKeys>(alloc, versions)?;
+    let studies = carriers_of::<StudyKeys>(alloc, versions)?;
+    let series = carriers_of::<SeriesKeys>(alloc, versions)?;
     conflict_by(alloc, versions, &studies, &series)
 }
 
-/// The same, where these are the owners of the versions' studies and series. A version is compared with
-/// the later ones only if its study or its series is filed under two owners.
+/// The same, where these are the versions as carriers of the keys of studies and of series.
 fn conflict_by<'b, 'a>(
     alloc: Global,
     versions: &[Version],
-    filed_studies: &'b [Filed<'a>],
-    filed_series: &'b [Filed<'a>],
+    studies: &'b [Carrier<'a, StudyKeys>],
+    series: &'b [Carrier<'a, SeriesKeys>],
 ) -> Result<Option<(Uid, Uid)>, Memory>
-    requires studies { filed_studies.now ≡ map study_filing versions.now }
-    requires series { filed_series.now ≡ map series_filing versions.now }
+    requires studies { studies.now ≡ versions.now }
+    requires series { series.now ≡ versions.now }
     ensures { IfOk result (λ pair. pair ≡ first_conflict versions.now) }
 {
-    let studies = of_two_owners(alloc, filed_studies)?;
-    let series = of_two_owners(alloc, filed_series)?;
+    let all_studies = Greatest::among(alloc, studies)?;
+    let all_series = Greatest::among(alloc, series)?;
+    let split_studies = of_two_owners::<StudyKeys, PatientKeys>(alloc, studies, &all_studies)?;
+    let split_series = of_two_owners::<SeriesKeys, StudyKeys>(alloc, series, &all_series)?;
+    Ok(conflict_among(versions, &split_studies, &split_series))
+}
+
+/// The same, where these are the studies of two patients and the series of two studies. Only a version of
+/// one of them is compared with the later ones.
+pub(crate) fn conflict_among<'b, 'a>(
+    versions: &[Version],
+    studies: &Greatest<'b, Carrier<'a, StudyKeys>>,
+    series: &Greatest<'b, Carrier<'a, SeriesKeys>>,
+) -> Option<(Uid, Uid)>
+    requires studies { HasThoseOfTwoOwners study_uid patient_id versions.now studies.now }
+    requires series { HasThoseOfTwoOwners series_uid study_uid versions.now series.now }
+    ensures { result ≡ first_conflict versions.now }
+{
     let mut later = versions;
     while let [version, rest @ ..] = later {
-        if is_of_two_owners(version, &studies, &series) {
+        if is_of_two_owners(version, studies, series) {
             if let Some(pair) = pair_with(version, rest) {
-                return Ok(Some(pair));
+                return Some(pair);
             }
         }
         later = rest;
     }
-    Ok(None)
+    None
 }
 
 /// Has the version a study of two patients, or a series of two studies?
 fn is_of_two_owners<'b, 'a>(
     version: &Version,
-    studies: &Greatest<'b, Filed<'a>>,
-    series: &Greatest<'b, Filed<'a>>,
+    studies: &Greatest<'b, Carrier<'a, StudyKeys>>,
+    series: &Greatest<'b, Carrier<'a, SeriesKeys>>,
 ) -> bool
-    ensures { result ≡ (is_some (at uid_of bytes_cmp studies.now version.now.study.uid)
-        || is_some (at uid_of bytes_cmp series.now version.now.series.uid)) }
+    ensures { result ≡ (is_some (at study_uid bytes_cmp studies.now version.now.study.uid)
+        || is_some (at series_uid bytes_cmp series.now version.now.series.uid)) }
 {
     let parts = version.parts();
     studies.get(parts.study.uid.as_bytes()).is_some()

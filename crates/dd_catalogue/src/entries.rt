@@ -1,7 +1,7 @@
 //! What the tables of a catalogue hold: versions by their SOP Instance UIDs, and UIDs by themselves.
 
-use crate::best::Copied;
-use crate::lent::Keyed;
+use crate::best::TryClone;
+use crate::greatest::Keyed;
 use dd_elem::{Memory, Uid};
 use dd_version::Version;
 
@@ -16,8 +16,8 @@ impl Keyed for Version {
     }
 }
 
-impl Copied for Version {
-    fn copied(&self) -> Result<Version, Memory> {
+impl TryClone for Version {
+    fn try_clone(&self) -> Result<Version, Memory> {
         self.copy()
     }
 }
@@ -31,8 +31,8 @@ impl Keyed for Uid {
     }
 }
 
-impl Copied for Uid {
-    fn copied(&self) -> Result<Uid, Memory> {
+impl TryClone for Uid {
+    fn try_clone(&self) -> Result<Uid, Memory> {
         Ok(*self)
     }
 }

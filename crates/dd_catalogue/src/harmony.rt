@@ -1,20 +1,28 @@
 //! Harmony among the versions of one patient, study or series.
 
-ghost use Rattle.std.specs.Prelude.{◌≡◌, ◌≢◌, [], IfOk, OnErr};
-ghost use Rattle.dd_catalogue.specs.Agreeing.{agreed_by};
-ghost use Rattle.dd_catalogue.specs.Harmony.{harmonised};
+ghost use Rattle.std.specs.Prelude.{◌≡◌, ◌≢◌, [], None, Some, IfOk, OnOk, IfErr, OnErr};
+ghost use Rattle.dd_elem.specs.Ordered.{bytes_cmp};
+ghost use Rattle.dd_version.specs.Orders.{patient_cmp, study_cmp, series_cmp};
+ghost use Rattle.dd_catalogue.specs.Best.{best};
+ghost use Rattle.dd_catalogue.specs.Carriers.{carrier_cmp, version_like};
+ghost use Rattle.dd_catalogue.specs.Conflicts.{first_conflict};
+ghost use Rattle.dd_catalogue.specs.Harmony.{harmonised, patient_of, study_of, series_of};
+ghost use Rattle.dd_catalogue.specs.Owners.{patient_id, series_uid, study_uid};
 ghost use Rattle.dd_catalogue.specs.Versions.{IsCatalogue};
 
 use crate::best::Table;
-use crate::lent::Greatest;
-use crate::tuples::greatest;
-use dd_elem::Memory;
-use dd_version::{Parts, PatientKeys, SeriesKeys, StudyKeys, Version};
+use crate::carriers::{Carrier, carriers_of};
+use crate::conflicts::conflict_among;
+use crate::greatest::Greatest;
+use crate::owners::of_two_owners;
+use crate::tuples::Tuple;
+use dd_elem::{Memory, Uid};
+use dd_version::{PatientKeys, SeriesKeys, StudyKeys, Version};
 use std::alloc::Global;
 
-/// The versions with the greatest keys of each patient, study and series among them. Memory where a
+/// The versions with the greatest keys of each patient, study and series among them. Memory where an
 /// allocation was refused: never where there are no versions.
-pub(crate) fn in_harmony(alloc: Global, versions: &[Version]) -> Result<Table<Version>, Memory>
+pub(crate) fn harmony_of(alloc: Global, versions: &[Version]) -> Result<Table<Version>, Memory>
     requires { IsCatalogue versions.now }
     ensures table { IfOk result (λ table. table ≡ harmonised versions.now) }
     ensures some { OnErr result (versions.now ≢ []) }
@@ -22,35 +30,121 @@ pub(crate) fn in_harmony(alloc: Global, versions: &[Version]) -> Result<Table<Ve
     if versions.is_empty() {
         return Ok(Table::new(alloc));
     }
-    let patients = greatest::<PatientKeys>(alloc, versions)?;
-    let studies = greatest::<StudyKeys>(alloc, versions)?;
-    let series = greatest::<SeriesKeys>(alloc, versions)?;
-    let mut held = Vec::with_capacity(alloc, versions.len())?;
-    for version in versions {
-        let parts = agreed(version.parts(), &patients, &studies, &series)?;
-        held.push(Version::of(parts).unwrap())?;
-    }
-    Ok(Table::rising(held))
+    let patients = carriers_of::<PatientKeys>(alloc, versions)?;
+    let studies = carriers_of::<StudyKeys>(alloc, versions)?;
+    let series = carriers_of::<SeriesKeys>(alloc, versions)?;
+    harmony_among(alloc, versions, &patients, &studies, &series)
 }
 
-/// The parts with the keys that the tables have for their patient, study and series.
-fn agreed<'a>(
-    parts: &'a Parts,
-    patients: &Greatest<'a, PatientKeys>,
-    studies: &Greatest<'a, StudyKeys>,
-    series: &Greatest<'a, SeriesKeys>,
-) -> Result<Parts, Memory>
-    ensures { IfOk result (λ agreed.
-        agreed ≡ agreed_by patients.now studies.now series.now parts.now) }
+/// The same, where these are the versions as carriers of the keys of patients, of studies and of series.
+fn harmony_among<'b, 'a>(
+    alloc: Global,
+    versions: &'a [Version],
+    patients: &'b [Carrier<'a, PatientKeys>],
+    studies: &'b [Carrier<'a, StudyKeys>],
+    series: &'b [Carrier<'a, SeriesKeys>],
+) -> Result<Table<Version>, Memory>
+    requires rising { IsCatalogue versions.now }
+    requires patients { patients.now ≡ versions.now }
+    requires studies { studies.now ≡ versions.now }
+    requires series { series.now ≡ versions.now }
+    ensures { IfOk result (λ table. table ≡ harmonised versions.now) }
 {
-    Ok(Parts {
-        digest: parts.digest,
-        patient: patients.like(&parts.patient).copy()?,
-        study: studies.like(&parts.study).copy()?,
-        series: series.like(&parts.series).copy()?,
-        number: parts.number.copy()?,
-        class: parts.class,
-        transfer: parts.transfer,
-        instance: parts.instance,
-    })
+    let patients = Greatest::among(alloc, patients)?;
+    let studies = Greatest::among(alloc, studies)?;
+    let series = Greatest::among(alloc, series)?;
+    harmony_by(alloc, versions, &patients, &studies, &series)
+}
+
+/// The same, where no two versions conflict; else the first conflict. The order of the versions by study and
+/// that by series serve both answers.
+pub(crate) fn harmony_or_conflict(
+    alloc: Global,
+    versions: &[Version],
+) -> Result<Result<Table<Version>, (Uid, Uid)>, Memory>
+    requires { IsCatalogue versions.now }
+    ensures table { IfOk result (λ answer. IfOk answer (λ table. table ≡ harmonised versions.now)) }
+    ensures none { IfOk result (λ answer. OnOk answer (first_conflict versions.now ≡ None)) }
+    ensures pair { IfOk result (λ answer.
+        IfErr answer (λ pair. first_conflict versions.now ≡ Some pair)) }
+    ensures some { OnErr result (versions.now ≢ []) }
+{
+    if versions.is_empty() {
+        return Ok(Ok(Table::new(alloc)));
+    }
+    let patients = carriers_of::<PatientKeys>(alloc, versions)?;
+    let studies = carriers_of::<StudyKeys>(alloc, versions)?;
+    let series = carriers_of::<SeriesKeys>(alloc, versions)?;
+    harmony_or_conflict_among(alloc, versions, &patients, &studies, &series)
+}
+
+/// The same, where these are the versions as carriers of the keys of patients, of studies and of series.
+fn harmony_or_conflict_among<'b, 'a>(
+    alloc: Global,
+    versions: &'a [Version],
+    patients: &'b [Carrier<'a, PatientKeys>],
+    studies: &'b [Carrier<'a, StudyKeys>],
+    series: &'b [Carrier<'a, SeriesKeys>],
+) -> Result<Result<Table<Version>, (Uid, Uid)>, Memory>
+    requires rising { IsCatalogue versions.now }
+    requires patients { patients.now ≡ versions.now }
+    requires studies { studies.now ≡ versions.now }
+    requires series { series.now ≡ versions.now }
+    ensures table { IfOk result (λ answer. IfOk answer (λ table. table ≡ harmonised versions.now)) }
+    ensures none { IfOk result (λ answer. OnOk answer (first_conflict versions.now ≡ None)) }
+    ensures pair { IfOk result (λ answer.
+        IfErr answer (λ pair. first_conflict versions.now ≡ Some pair)) }
+{
+    let all_studies = Greatest::among(alloc, studies)?;
+    let all_series = Greatest::among(alloc, series)?;
+    let split_studies = of_two_owners::<StudyKeys, PatientKeys>(alloc, studies, &all_studies)?;
+    let split_series = of_two_owners::<SeriesKeys, StudyKeys>(alloc, series, &all_series)?;
+    if let Some(pair) = conflict_among(versions, &split_studies, &split_series) {
+        return Ok(Err(pair));
+    }
+    let all_patients = Greatest::among(alloc, patients)?;
+    let table = harmony_by(alloc, versions, &all_patients, &all_studies, &all_series)?;
+    Ok(Ok(table))
+}
+
+/// The versions with the keys that these carriers of the greatest ones have of their patients, studies and
+/// series.
+fn harmony_by<'b, 'a>(
+    alloc: Global,
+    versions: &'a [Version],
+    patients: &Greatest<'b, Carrier<'a, PatientKeys>>,
+    studies: &Greatest<'b, Carrier<'a, StudyKeys>>,
+    series: &Greatest<'b, Carrier<'a, SeriesKeys>>,
+) -> Result<Table<Version>, Memory>
+    requires rising { IsCatalogue versions.now }
+    requires patients { patients.now
+        ≡ best patient_id bytes_cmp (carrier_cmp patient_of patient_cmp) versions.now }
+    requires studies { studies.now
+        ≡ best study_uid bytes_cmp (carrier_cmp study_of study_cmp) versions.now }
+    requires series { series.now
+        ≡ best series_uid bytes_cmp (carrier_cmp series_of series_cmp) versions.now }
+    ensures { IfOk result (λ table. table ≡ harmonised versions.now) }
+{
+    let mut held = Vec::with_capacity(alloc, versions.len())?;
+    for version in versions {
+        held.push(version.with_keys_of(
+            version_like(patients, version),
+            version_like(studies, version),
+            version_like(series, version),
+        )?)?;
+    }
+    Ok(Table::from_rising(held))
+}
+
+/// The version in the table that is of the same patient, study or series, or else this version.
+fn version_like<'b, 'a, T: Tuple>(
+    table: &Greatest<'b, Carrier<'a, T>>,
+    version: &'a Version,
+) -> &'a Version
+    ensures { result.now ≡ version_like (λ v. T.key_of (T.tuple_of v)) table.now version.now }
+{
+    match table.get(T::of(version).key()) {
+        Some(carrier) => carrier.version(),
+        None => version,
+    }
 }

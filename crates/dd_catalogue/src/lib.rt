@@ -7,15 +7,16 @@
 #![tactic(auto)]
 
 mod best;
+mod carriers;
 mod catalogue;
 mod conflicts;
 mod entries;
+mod greatest;
 mod harmony;
 mod harmony_laws;
 mod history;
 mod join;
 mod laws;
-mod lent;
 mod outcomes;
 mod owners;
 mod sifting;
@@ -36,4 +37,4 @@ pub use laws::{
     held_is_apart, held_of_held, kept_is_best_of_left, kept_of_all, kept_of_kept,
     kept_order_is_free, withdrawn_decides,
 };
-pub use outcomes::{Refused, Took, Withdrew};
+pub use outcomes::{Harmony, Refused, Took, Withdrew};

@@ -1,9 +1,11 @@
-//! What becomes of a version that a catalogue takes, and of an instance that it withdraws.
+//! What becomes of a version that a catalogue takes, of an instance that it withdraws, and of its harmony.
 
 ghost use Rattle.std.specs.Prelude.{◌≡◌};
 ghost use Rattle.dd_catalogue.specs.Taking.{as_took};
 
 use crate::best::Taken;
+use crate::catalogue::Catalogue;
+use dd_elem::Uid;
 use dd_version::Version;
 use thiserror::Error;
 
@@ -29,6 +31,15 @@ pub enum Withdrew {
     Already,
 }
 
+/// What was found of the harmony of a catalogue.
+#[derive(Debug, Drop)]
+pub enum Harmony {
+    /// The catalogue in harmony: no two of its versions conflict.
+    Found(Catalogue),
+    /// The first two instances whose versions conflict.
+    Conflict(Uid, Uid),
+}
+
 /// Want of memory: an allocation was refused.
 #[derive(Debug, Drop, Error)]
 #[error("91 Memory")]
@@ -38,7 +49,7 @@ pub struct Refused {
 }
 
 /// Says what became of the version, in the words of a catalogue.
-pub(crate) fn told(taken: Taken<Version>) -> Took
+pub(crate) fn to_took(taken: Taken<Version>) -> Took
     ensures { result ≡ as_took taken }
 {
     match taken {

@@ -1,101 +1,53 @@
-//! What studies and series are filed under.
+//! Studies and series that are filed under two owners: a study is owned by its patient, a series by its study.
 
 ghost use Rattle.std.specs.Prelude.{◌≡◌, map, filter, IfOk};
-ghost use Rattle.dd_catalogue.specs.Owners.{HasThoseOfTwoOwners, filing_by, is_of_another_owner};
+ghost use Rattle.dd_elem.specs.Ordered.{bytes_cmp};
+ghost use Rattle.dd_catalogue.specs.Best.{best};
+ghost use Rattle.dd_catalogue.specs.Carriers.{carrier_cmp};
+ghost use Rattle.dd_catalogue.specs.Owners.{HasThoseOfTwoOwners, is_of_another_owner};
 
-use crate::lent::{Greatest, Keyed, lent};
+use crate::carriers::Carrier;
+use crate::greatest::Greatest;
 use crate::tuples::Tuple;
-use dd_elem::{Memory, Ordered};
-use dd_version::Version;
+use dd_elem::Memory;
 use std::alloc::Global;
-use std::cmp::Ordering;
-use std::marker::Model;
 
-/// A study and the patient that it is filed under, or a series and its study.
-#[derive(Drop)]
-pub(crate) struct Filed<'a> {
-    /// Study or Series Instance UID.
-    uid: &'a [u8],
-    /// Patient ID, or Study Instance UID.
-    owner: &'a [u8],
-}
-
-impl<'a> Model for Filed<'a> {
-    ghost use Rattle.dd_catalogue.specs.Owners.{Filing};
-
-    ghost Value = { Filing };
-
-    ghost view = { λ filed. record { uid = filed.uid.now; owner = filed.owner.now } };
-}
-
-/// By the UID, then by the owner.
-impl<'a> Ordered for Filed<'a> {
-    ghost use Rattle.dd_catalogue.specs.Owners.{filing_cmp, filing_total, filing_apart};
-
-    ghost order = { filing_cmp };
-
-    ghost total = { filing_total };
-
-    ghost apart = { filing_apart };
-
-    fn compare(&self, other: &Self) -> Ordering {
-        self.uid.cmp(other.uid).then(self.owner.cmp(other.owner))
-    }
-}
-
-impl<'a> Keyed for Filed<'a> {
-    ghost use Rattle.dd_catalogue.specs.Owners.{uid_of};
-
-    ghost key_of = { uid_of };
-
-    fn key(&self) -> &[u8] {
-        self.uid
-    }
-}
-
-/// The studies of these versions, each with its patient, or the series, each with its study.
-pub(crate) fn owners<'a, T: Tuple + 'a, O: Tuple + 'a>(
+/// A table with each study or series that is filed under two owners. The given one has of each study or series
+/// the carrier of the greatest keys.
+pub(crate) fn of_two_owners<'b, 'a, T: Tuple, O: Tuple + 'a>(
     alloc: Global,
-    versions: &'a [Version],
-) -> Result<Vec<Filed<'a>>, Memory>
-    ensures { IfOk result (λ filed. filed.items
-        ≡ map (filing_by (λ v. T.key_of (T.tuple_of v)) (λ v. O.key_of (O.tuple_of v)))
-        versions.now) }
+    carriers: &'b [Carrier<'a, T>],
+    table: &Greatest<'b, Carrier<'a, T>>,
+) -> Result<Greatest<'b, Carrier<'a, T>>, Memory>
+    requires { table.now ≡ best (λ v. T.key_of (T.tuple_of v)) bytes_cmp
+        (carrier_cmp T.tuple_of T.order) carriers.now }
+    ensures { IfOk result (λ owned. HasThoseOfTwoOwners (λ v. T.key_of (T.tuple_of v))
+        (λ v. O.key_of (O.tuple_of v)) carriers.now owned) }
 {
-    let mut filed = Vec::with_capacity(alloc, versions.len())?;
-    for version in versions {
-        filed.push(Filed {
-            uid: T::of(version).key(),
-            owner: O::of(version).key(),
-        })?;
-    }
-    Ok(filed)
-}
-
-/// A table with each study or series that is filed under two owners.
-pub(crate) fn of_two_owners<'b, 'a>(
-    alloc: Global,
-    filed: &'b [Filed<'a>],
-) -> Result<Greatest<'b, Filed<'a>>, Memory>
-    ensures { IfOk result (λ table. HasThoseOfTwoOwners filed.now table) }
-{
-    let greatest = Greatest::of(alloc, lent(alloc, filed)?)?;
-    let others = of_another_owner(alloc, filed, &greatest)?;
+    let others = of_another_owner::<T, O>(alloc, carriers, table)?;
     Greatest::of(alloc, others)
 }
 
+/// The key of the patient or the study that owns the study or the series of a carrier.
+fn owner_of<'a, T: Tuple, O: Tuple + 'a>(carrier: &Carrier<'a, T>) -> &'a [u8]
+    ensures { result.now ≡ O.key_of (O.tuple_of carrier.now) }
+{
+    O::of(carrier.version()).key()
+}
+
 /// Those that are filed under another owner than the table says.
-fn of_another_owner<'b, 'a>(
+fn of_another_owner<'b, 'a, T: Tuple, O: Tuple + 'a>(
     alloc: Global,
-    filed: &'b [Filed<'a>],
-    table: &Greatest<'b, Filed<'a>>,
-) -> Result<Vec<&'b Filed<'a>>, Memory>
+    carriers: &'b [Carrier<'a, T>],
+    table: &Greatest<'b, Carrier<'a, T>>,
+) -> Result<Vec<&'b Carrier<'a, T>>, Memory>
     ensures { IfOk result (λ others. map (λ one. one.now) others.items
-        ≡ filter (is_of_another_owner table.now) filed.now) }
+        ≡ filter (is_of_another_owner (λ v. T.key_of (T.tuple_of v))
+        (λ v. O.key_of (O.tuple_of v)) table.now) carriers.now) }
 {
     let mut others = Vec::new(alloc);
-    for one in filed {
-        if table.like(one).owner != one.owner {
+    for one in carriers {
+        if owner_of::<T, O>(table.like(one)) != owner_of::<T, O>(one) {
             others.push(one)?;
         }
     }

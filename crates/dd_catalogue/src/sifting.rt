@@ -8,10 +8,10 @@ ghost use Rattle.dd_elem.specs.Device.{last_count};
 ghost use Rattle.dd_catalogue.specs.Best.{IsRising};
 ghost use Rattle.dd_catalogue.specs.Compared.{compared_keys};
 ghost use Rattle.dd_catalogue.specs.Free.{free};
-ghost use Rattle.dd_catalogue.specs.Table.{IsPlace, found_place, met_by, passed_by};
+ghost use Rattle.dd_catalogue.specs.Table.{IsIndex, found_index, met_by, passed_by};
 
 use crate::best::Table;
-use crate::lent::Keyed;
+use crate::greatest::Keyed;
 use dd_elem::Uid;
 use std::cmp::Ordering;
 
@@ -31,12 +31,12 @@ pub(crate) fn sift<T: Keyed + Drop>(held: &mut Vec<T>, keys: &[Uid]) -> u64
     let mut passed = 0;
     let mut met: u64 = 0;
     let mut kept = 0;
-    for place in 0..held.len() {
-        let found = seek(keys, passed, held[place].key());
+    for index in 0..held.len() {
+        let found = seek(keys, passed, held[index].key());
         met = met.saturating_add(count_met(&found, keys.len()));
         passed = count_passed(&found);
         if found.is_err() {
-            held.swap(kept, place);
+            held.swap(kept, index);
             kept += 1;
         }
     }
@@ -44,24 +44,24 @@ pub(crate) fn sift<T: Keyed + Drop>(held: &mut Vec<T>, keys: &[Uid]) -> u64
     met.saturating_add(passed as u64)
 }
 
-/// Where the key is, or would stand, looked for from this place on.
+/// The index of the key, or the one at which it would stand, looked for from this one on.
 fn seek(keys: &[Uid], from: usize, key: &[u8]) -> Result<usize, usize>
     requires rising { IsRising (λ uid. uid) bytes_cmp keys.now }
     requires within { from ≤ length keys.now }
     requires smaller { AllWithin (λ uid. bytes_cmp uid key.now ≡ Less) keys.now 0 from }
-    ensures place { IsPlace (λ uid. uid) key.now keys.now result }
+    ensures index { IsIndex (λ uid. uid) key.now keys.now result }
     ensures smaller { AllWithin (λ uid. bytes_cmp uid key.now ≡ Less)
-        keys.now 0 (found_place result) }
+        keys.now 0 (found_index result) }
 {
-    let mut place = from;
-    while place < keys.len() {
-        match keys[place].as_bytes().cmp(key) {
-            Ordering::Less => place += 1,
-            Ordering::Equal => return Ok(place),
-            Ordering::Greater => return Err(place),
+    let mut index = from;
+    while index < keys.len() {
+        match keys[index].as_bytes().cmp(key) {
+            Ordering::Less => index += 1,
+            Ordering::Equal => return Ok(index),
+            Ordering::Greater => return Err(index),
         }
     }
-    Err(place)
+    Err(index)
 }
 
 /// How many keys the search passed.
@@ -70,8 +70,8 @@ fn count_passed(found: &Result<usize, usize>) -> usize
     ensures { result ≡ passed_by found.now }
 {
     match found {
-        Ok(place) => *place + 1,
-        Err(place) => *place,
+        Ok(index) => *index + 1,
+        Err(index) => *index,
     }
 }
 
@@ -80,20 +80,20 @@ fn count_met(found: &Result<usize, usize>, keys: usize) -> u64
     ensures { result ≡ met_by keys found.now }
 {
     match found {
-        Err(place) if *place < keys => 1,
+        Err(index) if *index < keys => 1,
         _ => 0,
     }
 }
 
 /// Takes the references to values with these keys out of the list, whose order is free.
-pub(crate) fn sift_lent<T: Keyed>(lent: &mut Vec<&T>, keys: &Table<Uid>)
+pub(crate) fn sift_references<T: Keyed>(lent: &mut Vec<&T>, keys: &Table<Uid>)
     ensures { map (λ value. value.now) lent.new.items
         ≡ free T.key_of bytes_cmp keys.now (map (λ value. value.now) lent.old.items) }
 {
     let mut kept = 0;
-    for place in 0..lent.len() {
-        if !keys.has(lent[place].key()) {
-            lent.swap(kept, place);
+    for index in 0..lent.len() {
+        if !keys.has(lent[index].key()) {
+            lent.swap(kept, index);
             kept += 1;
         }
     }

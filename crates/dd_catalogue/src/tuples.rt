@@ -1,16 +1,11 @@
-//! Tables of the keys of patients, studies and series.
+//! The keys that a version has of its patient, its study and its series.
 
-ghost use Rattle.std.specs.Prelude.{◌≡◌, map, IfOk, OnOk, All};
-ghost use Rattle.dd_elem.specs.Ordered.{bytes_cmp};
-ghost use Rattle.dd_version.specs.Fitting.{Fits};
+ghost use Rattle.std.specs.Prelude.{◌≡◌};
 ghost use Rattle.dd_version.specs.declared.parts.Parts.{Parts};
-ghost use Rattle.dd_catalogue.specs.Best.{best};
 ghost use Rattle.dd_catalogue.specs.Harmony.{patient_of, patient_key, study_of, study_key, series_of, series_key};
 
-use crate::lent::{Greatest, Keyed};
-use dd_elem::Memory;
+use crate::greatest::Keyed;
 use dd_version::{PatientKeys, SeriesKeys, StudyKeys, Version};
-use std::alloc::Global;
 
 /// The keys that a version has of its patient, its study or its series.
 pub(crate) trait Tuple: Keyed {
@@ -19,8 +14,7 @@ pub(crate) trait Tuple: Keyed {
 
     /// Those of this version.
     fn of(version: &Version) -> &Self
-        ensures tuple { result.now ≡ tuple_of version.now }
-        ensures fit { Fits version.now };
+        ensures { result.now ≡ tuple_of version.now };
 }
 
 /// A patient has its Patient ID as key.
@@ -72,20 +66,4 @@ impl Tuple for SeriesKeys {
     fn of(version: &Version) -> &SeriesKeys {
         &version.parts().series
     }
-}
-
-/// Of each patient, study or series the greatest keys that these versions have.
-pub(crate) fn greatest<'a, T: Tuple>(
-    alloc: Global,
-    versions: &'a [Version],
-) -> Result<Greatest<'a, T>, Memory>
-    ensures table { IfOk result (λ table.
-        table ≡ best T.key_of bytes_cmp T.order (map T.tuple_of versions.now)) }
-    ensures fit { OnOk result (All Fits versions.now) }
-{
-    let mut lent = Vec::with_capacity(alloc, versions.len())?;
-    for version in versions {
-        lent.push(T::of(version))?;
-    }
-    Greatest::of(alloc, lent)
 }

@@ -6,7 +6,7 @@ ghost use Rattle.dd_catalogue.specs.Best.{IsRising, best};
 ghost use Rattle.dd_catalogue.specs.Compared.{compared};
 ghost use Rattle.dd_catalogue.specs.Weaving.{IsStep};
 
-use crate::lent::Keyed;
+use crate::greatest::Keyed;
 use std::cmp::Ordering;
 use std::collections::VecDeque;
 

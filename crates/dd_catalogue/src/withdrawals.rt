@@ -44,11 +44,11 @@ impl Withdrawals {
     pub(crate) fn new(alloc: Global) -> Withdrawals
         ensures { result ≡ [] }
     {
-        Withdrawals::own(Table::new(alloc))
+        Withdrawals::from_table(Table::new(alloc))
     }
 
     /// The list of these UIDs, which no copy shares.
-    pub(crate) fn own(uids: Table<Uid>) -> Withdrawals
+    pub(crate) fn from_table(uids: Table<Uid>) -> Withdrawals
         ensures { result ≡ uids }
     {
         Withdrawals {
@@ -58,12 +58,12 @@ impl Withdrawals {
 
     /// The list of these UIDs, which copies can share. Memory where an allocation was refused: never where there
     /// are no UIDs.
-    pub(crate) fn shared(alloc: Global, uids: Table<Uid>) -> Result<Withdrawals, Memory>
+    pub(crate) fn for_sharing(alloc: Global, uids: Table<Uid>) -> Result<Withdrawals, Memory>
         ensures equal { IfOk result (λ withdrawals. withdrawals ≡ uids) }
         ensures some { OnErr result (uids ≢ []) }
     {
         if uids.values().is_empty() {
-            return Ok(Withdrawals::own(uids));
+            return Ok(Withdrawals::from_table(uids));
         }
         Ok(Withdrawals {
             held: Holding::Shared(Arc::new(alloc, uids)?),
@@ -102,7 +102,7 @@ impl Withdrawals {
         ensures some { OnErr result (self.now ≢ []) }
     {
         match &self.held {
-            Holding::Own(uids) => Ok(Withdrawals::own(uids.copy()?)),
+            Holding::Own(uids) => Ok(Withdrawals::from_table(uids.copy()?)),
             Holding::Shared(uids) => Ok(Withdrawals {
                 held: Holding::Shared(uids.clone()?),
             }),
@@ -139,7 +139,7 @@ fn add(uids: &mut Table<Uid>, uid: Uid) -> Result<(), Memory>
 }
 
 /// The table of these UIDs, each once. The list is sorted in place, which takes no memory.
-pub(crate) fn distinct(mut uids: Vec<Uid>) -> Table<Uid>
+pub(crate) fn uid_table(mut uids: Vec<Uid>) -> Table<Uid>
     ensures { result ≡ uids_of uids.items }
 {
     uids.sort_unstable_by(
@@ -148,5 +148,5 @@ pub(crate) fn distinct(mut uids: Vec<Uid>) -> Table<Uid>
         { one.as_bytes().cmp(other.as_bytes()) },
     );
     uids.dedup();
-    Table::rising(uids)
+    Table::from_rising(uids)
 }

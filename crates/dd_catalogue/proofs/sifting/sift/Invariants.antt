@@ -6,16 +6,16 @@ use Rattle.dd_catalogue.specs.Free.{is_free}
 use Rattle.dd_catalogue.proofs.TakenOut.{AreBelow}
 use Rattle.dd_catalogue.proofs.sifting.sift.Given as goal
 
-abbrev pub invariant-loop-place : goal.invariant-loop-place
-invariant-loop-place g l = record {
+abbrev pub invariant-loop-index : goal.invariant-loop-index
+invariant-loop-index g l = record {
   filters : FiltersInPlace (λ v. is_free bytes_cmp l.keys (g.T.Keyed.key_of v)) l.initial.held.items l.held.items
-      l.kept l.place;
-  behind : l.kept ≤ l.place;
-  rest : (j : ℕ) (d : g.row.T.Denot) → l.place ≤ j → get_or l.held.items j d ≡ get_or l.initial.held.items j d;
+      l.kept l.index;
+  behind : l.kept ≤ l.index;
+  rest : (j : ℕ) (d : g.row.T.Denot) → l.index ≤ j → get_or l.held.items j d ≡ get_or l.initial.held.items j d;
   passed : l.passed ≤ length l.keys;
-  smaller : AreBelow g.T.Keyed.key_of l.keys l.passed (drop l.place l.initial.held.items);
-  met : l.met ≤ l.place;
+  smaller : AreBelow g.T.Keyed.key_of l.keys l.passed (drop l.index l.initial.held.items);
+  met : l.met ≤ l.index;
   count : l.passed + l.met
-      + compared_keys bytes_cmp (map g.T.Keyed.key_of (drop l.place l.initial.held.items)) (drop l.passed l.keys)
+      + compared_keys bytes_cmp (map g.T.Keyed.key_of (drop l.index l.initial.held.items)) (drop l.passed l.keys)
       ≡ compared_keys bytes_cmp (map g.T.Keyed.key_of l.initial.held.items) l.keys;
 }

@@ -8,7 +8,7 @@ invariant_of-self g c = rw c.in-Err.ensures.items c.self.invariant
 
 pub invariant_of-self-2 : goal.invariant_of-self-2
 invariant_of-self-2 g c =
-    let is = put_between g.T.Keyed.key_of g.T.Ordered.order c.args.value c.self.inside.held.items c.args.place
+    let is = put_between g.T.Keyed.key_of g.T.Ordered.order c.args.value c.self.inside.held.items c.args.index
     (rw (← c.self.view_is) at c.requires.within) (rw (← c.self.view_is) at c.requires.smaller)
     (rw (← c.self.view_is) at c.requires.greater) in
     rw (c.in_default.ensures.items, ← is) (rising-put
@@ -18,6 +18,6 @@ invariant_of-self-2 g c =
 pub returns-clause-ok : goal.returns-clause-ok
 returns-clause-ok g c =
     rw (c.in_default.ensures.items, ← c.self.view_is)
-    (sym (put_between g.T.Keyed.key_of g.T.Ordered.order c.args.value c.self.inside.held.items c.args.place
+    (sym (put_between g.T.Keyed.key_of g.T.Ordered.order c.args.value c.self.inside.held.items c.args.index
     (rw (← c.self.view_is) at c.requires.within) (rw (← c.self.view_is) at c.requires.smaller)
     (rw (← c.self.view_is) at c.requires.greater)))

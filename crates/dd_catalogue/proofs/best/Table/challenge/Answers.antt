@@ -7,7 +7,7 @@ pub invariant_of-self : goal.invariant_of-self
 invariant_of-self g c =
     let lt : is_lt (g.T.Ordered.order c.index.result.now c.args.value)
     ≡ true = sym (c.is_lt.ensures ∙ ap is_lt c.compare.ensures) ∙ c.if-is_lt.true in
-    let is = put_replaces g.T.Keyed.key_of g.T.Ordered.order c.args.value c.self.inside.held.items c.args.place
+    let is = put_replaces g.T.Keyed.key_of g.T.Ordered.order c.args.value c.self.inside.held.items c.args.index
     c.index.result.now c.self.invariant
     (rw (← c.self.view_is) at c.requires.within) (rw (← c.self.view_is) at c.requires.same) c.index.ensures lt in
     rw (c.replace.ensures.after, is) (rising-put
@@ -19,7 +19,7 @@ returns-then-is_lt-clause-after g c =
     let lt : is_lt (g.T.Ordered.order c.index.result.now c.args.value)
     ≡ true = sym (c.is_lt.ensures ∙ ap is_lt c.compare.ensures) ∙ c.if-is_lt.true in
     rw (c.replace.ensures.after, ← c.self.view_is)
-    (put_replaces g.T.Keyed.key_of g.T.Ordered.order c.args.value c.self.inside.held.items c.args.place
+    (put_replaces g.T.Keyed.key_of g.T.Ordered.order c.args.value c.self.inside.held.items c.args.index
     c.index.result.now c.self.invariant
     (rw (← c.self.view_is) at c.requires.within) (rw (← c.self.view_is) at c.requires.same) c.index.ensures lt)
 
@@ -28,7 +28,7 @@ returns-then-is_lt-clause-took g c =
     let lt : is_lt (g.T.Ordered.order c.index.result.now c.args.value)
     ≡ true = sym (c.is_lt.ensures ∙ ap is_lt c.compare.ensures) ∙ c.if-is_lt.true in
     rw (c.replace.ensures.value, ← c.self.view_is)
-    (took_replaced g.T.Keyed.key_of g.T.Ordered.order c.args.value c.self.inside.held.items c.args.place
+    (took_replaced g.T.Keyed.key_of g.T.Ordered.order c.args.value c.self.inside.held.items c.args.index
     c.index.result.now c.index_mut.result.now
     c.self.invariant (rw (← c.self.view_is) at c.requires.within)
     (rw (← c.self.view_is) at c.requires.same) c.index.ensures c.index_mut.ensures.value lt)
@@ -38,7 +38,7 @@ returns-else-is_lt-clause-after g c =
     let lt : is_lt (g.T.Ordered.order c.index.result.now c.args.value)
     ≡ false = sym (c.is_lt.ensures ∙ ap is_lt c.compare.ensures) ∙ c.if-is_lt.false in
     rw (← c.self.view_is) (put_keeps g.T.Keyed.key_of g.T.Ordered.order c.args.value c.self.inside.held.items
-    c.args.place c.index.result.now c.self.invariant
+    c.args.index c.index.result.now c.self.invariant
     (rw (← c.self.view_is) at c.requires.within) (rw (← c.self.view_is) at c.requires.same) c.index.ensures lt)
 
 pub returns-else-is_lt-clause-took : goal.returns-else-is_lt-clause-took
@@ -46,5 +46,5 @@ returns-else-is_lt-clause-took g c =
     let lt : is_lt (g.T.Ordered.order c.index.result.now c.args.value)
     ≡ false = sym (c.is_lt.ensures ∙ ap is_lt c.compare.ensures) ∙ c.if-is_lt.false in
     rw (← c.self.view_is) (took_kept g.T.Keyed.key_of g.T.Ordered.order c.args.value c.self.inside.held.items
-    c.args.place c.index.result.now c.self.invariant
+    c.args.index c.index.result.now c.self.invariant
     (rw (← c.self.view_is) at c.requires.within) (rw (← c.self.view_is) at c.requires.same) c.index.ensures lt)

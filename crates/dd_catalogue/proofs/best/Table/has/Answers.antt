@@ -4,5 +4,5 @@ use Rattle.dd_catalogue.proofs.best.Table.has.Goals as goal
 
 pub returns : goal.returns
 returns g c =
-    c.is_ok.ensures.value ∙ placed g.T.Keyed.key_of c.args.key.now c.args.self.now c.place.result c.place.ensures.rising
-    c.place.ensures.place
+    c.is_ok.ensures.value ∙ placed g.T.Keyed.key_of c.args.key.now c.args.self.now c.index_of.result c.index_of.ensures.rising
+    c.index_of.ensures.index

@@ -11,5 +11,5 @@ returns-clause-held c =
     let w = c.args.withdrawn.items in
     IfOk-weaker c.without.result _ (λ catalogue. catalogue ≡ held_of (record { versions = s; withdrawn = w }))
     (λ catalogue is. is
-    ∙ same_contents _ _ (rw (c.in_ok-lent.ensures, c.distinct.ensures) (kept_by_set s w)) c.distinct.ensures)
+    ∙ same_contents _ _ (rw (c.in_ok-references_to.ensures, c.uid_table.ensures) (kept_by_set s w)) c.uid_table.ensures)
     c.without.ensures

@@ -11,7 +11,7 @@ use Rattle.dd_catalogue.proofs.catalogue.Catalogue.merge_counted.Goals as goal
 
 pub invariant_of-self-2 : goal.invariant_of-self-2
 invariant_of-self-2 c =
-    rw (c.sift-sifted.ensures.after, c.values-2.ensures.all, c.own.ensures)
+    rw (c.sift-sifted.ensures.after, c.values-2.ensures.all, c.from_table.ensures)
     (left_twice c.merge-2.new.self c.merge.new.self)
 
 pub returns-clause-ok : goal.returns-clause-ok
@@ -26,7 +26,7 @@ returns-clause-ok c =
     (uids_of (c.self.inside.withdrawn ++ c.other.inside.withdrawn)) = c.sift-sifted.ensures.after
     ∙ ap (λ w. left_of c.merge-2.new.self w) (c.values-2.ensures.all ∙ sets)
     ∙ ap (λ m. left_of m (uids_of (c.self.inside.withdrawn ++ c.other.inside.withdrawn))) c.in_ok-maps.ensures.ok in
-    rw (← c.self.view_is, ← c.other.view_is) (same_contents _ _ table (c.own.ensures ∙ sets) ∙ held_of_both old other)
+    rw (← c.self.view_is, ← c.other.view_is) (same_contents _ _ table (c.from_table.ensures ∙ sets) ∙ held_of_both old other)
 
 pub returns-clause-count : goal.returns-clause-count
 returns-clause-count c =

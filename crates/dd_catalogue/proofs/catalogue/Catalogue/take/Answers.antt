@@ -40,5 +40,5 @@ returns-clause-took c =
     ∙ sym c.has_withdrawn.ensures.withdrawn ∙ c.if-has_withdrawn.false in
     let there' : is_withdrawn c.self.inside.withdrawn c.args.version.instance ≡ false =
     subst (λ (x : Contents). is_withdrawn x.withdrawn c.args.version.instance ≡ false) (sym c.self.view_is) there in
-    rw (← c.self.view_is) (took_where_free old c.args.version c.told.result there' (c.told.ensures
+    rw (← c.self.view_is) (took_where_free old c.args.version c.to_took.result there' (c.to_took.ensures
     ∙ retold c.args.version (kept c.self.inside.table c.args.version.instance) c.in-Ok.taken c.in-Ok.ensures.took))

@@ -1,0 +1,13 @@
+use Rattle.std.proofs.Common.{◌≡◌, length}
+use Rattle.dd_catalogue.specs.Conflicts.{first_conflict}
+use Rattle.dd_catalogue.proofs.Members.{Member}
+use Rattle.dd_catalogue.proofs.conflicts.conflict_among.Given as goal
+
+abbrev pub invariant-loop-later : goal.invariant-loop-later
+invariant-loop-later l = record {
+  same : first_conflict l.later ≡ first_conflict l.versions;
+  within : (v : _) → Member v l.later → Member v l.versions;
+}
+
+abbrev pub decreases-loop-later : goal.decreases-loop-later
+decreases-loop-later l = length l.later

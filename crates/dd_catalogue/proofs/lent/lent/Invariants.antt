@@ -1,5 +1,0 @@
-use Rattle.std.proofs.Common.{◌≡◌, take, map}
-use Rattle.dd_catalogue.proofs.lent.lent.Given as goal
-
-abbrev pub invariant-loop-value : goal.invariant-loop-value
-invariant-loop-value g l = map (λ value. value.now) l.lent.items ≡ take l.value-index l.values
