@@ -23,7 +23,7 @@ keep_padding byte e = cond-true _ _ _ e
 keep_other : (byte : ℕ) → is_padding byte ≡ false → keep byte [] ≡ byte ∷ []
 keep_other byte e = cond-false _ _ _ e
 
--- one byte and what is kept behind it begin the bytes
+-- one byte and what is kept after it begin the bytes
 keep_begins : (byte : ℕ) (kept rest : List ℕ) → (more : List ℕ) × (byte ∷ (kept ++ rest) ≡ keep byte kept ++ more)
 keep_begins byte (next ∷ kept) rest = (rest, refl)
 keep_begins byte [] rest =
@@ -64,7 +64,7 @@ pub clean_of_ends : (bytes : List ℕ) → EndsUnpadded (clean_of bytes)
 clean_of_ends [] = λ front last is. absurd (ends_in_none front last is)
 clean_of_ends (byte ∷ bytes) = keep_ends byte (clean_of bytes) (clean_of_ends bytes)
 
--- what ends in no padding stays as it is behind another byte
+-- what ends in no padding stays as it is after another byte
 tail_ends : (byte : ℕ) (bytes : List ℕ) → EndsUnpadded (byte ∷ bytes) → EndsUnpadded bytes
 tail_ends byte bytes ends front last is = ends (byte ∷ front) last (ap (λ (b : List ℕ). byte ∷ b) is)
 
@@ -122,7 +122,7 @@ clean_of_push_nul bytes = clean_of_push_padding bytes 0 refl
 pub clean_of_push_space : (bytes : List ℕ) → clean_of (bytes ++ 32 ∷ []) ≡ clean_of bytes
 clean_of_push_space bytes = clean_of_push_padding bytes 32 refl
 
--- bytes behind which stands one that is no padding are kept
+-- bytes after which stands one that is no padding are kept
 pub clean_of_push_other : (bytes : List ℕ) (byte : ℕ) → is_padding byte ≡ false → clean_of (bytes ++ byte ∷ []) ≡ bytes
     ++ byte ∷ []
 clean_of_push_other [] byte e = keep_other byte e

@@ -97,10 +97,10 @@ number_uid n room short =
 
 -- ---- the text in its array
 
--- digits that are written behind `2.25.`
-pub number_behind : (number written start : List ℕ) (count : ℕ) → start ≡ filled 64 (codes "2.25.") → written ≡ number
+-- digits that are written after `2.25.`
+pub number_after : (number written start : List ℕ) (count : ℕ) → start ≡ filled 64 (codes "2.25.") → written ≡ number
     → count ≡ length number → put_mid 5 count start written ≡ filled 64 (codes "2.25." ++ number)
-number_behind number written start count starts writes counts =
+number_after number written start count starts writes counts =
     let zeros : 59 - count ≡ 59 - length number = ap (λ (n : ℕ). 59 - n) counts in
     let same : 59 - length number ≡ 64 - length (codes "2.25." ++ number) = omega arith in
     ap (λ (l : List ℕ). put_mid 5 count l written) starts
@@ -108,7 +108,7 @@ number_behind number written start count starts writes counts =
     ∙ ap (λ (l : List ℕ). codes "2.25." ++ (number ++ l))
     (drop-replicate count 59 0 ∙ ap (λ (n : ℕ). replicate n 0) (zeros ∙ same))
 
--- the array with the text of a number behind `2.25.` holds a UID
+-- the array with the text of a number after `2.25.` holds a UID
 pub numbered_valid : (n : ℕ) (text number array : List ℕ) → n < 2 ^ 128 → text ≡ decimal n → length text ≤ 39
     → number ≡ text → array ≡ filled 64 (codes "2.25." ++ number)
     → IsFilled 64 array (5 + length number) × IsUid (take (5 + length number) array)

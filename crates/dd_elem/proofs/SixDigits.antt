@@ -58,13 +58,13 @@ six_digits_written front back old new rank end start h is ends =
     let head : take start new ≡ front ++ replicate (6 - length (decimal rank)) 48 =
     h.before ∙ ap (take start) is ∙ ap (λ (n : ℕ). take n (front ++ (replicate 6 48 ++ back))) place
     ∙ digits_front front back (6 - length (decimal rank)) (omega arith) in
-    let behind : drop end old ≡ back =
+    let after : drop end old ≡ back =
     ap (drop end) is ∙ ap (λ (n : ℕ). drop n (front ++ (replicate 6 48 ++ back))) (sym ends)
     ∙ drop-append-add front (replicate 6 48 ++ back) 6 in
     sym (take-append-drop start new)
     ∙ ap (λ (b : List ℕ). b ++ drop start new) head
     ∙ ap (λ (b : List ℕ). (front ++ replicate (6 - length (decimal rank)) 48) ++ b)
-    (h.written ∙ ap (λ (b : List ℕ). decimal rank ++ b) behind)
+    (h.written ∙ ap (λ (b : List ℕ). decimal rank ++ b) after)
     ∙ append_assoc front (replicate (6 - length (decimal rank)) 48) (decimal rank ++ back)
     ∙ ap (λ (b : List ℕ). front ++ b) (sym (append_assoc (replicate (6 - length (decimal rank)) 48) (decimal rank)
     back))

@@ -1,10 +1,10 @@
-//! Want of memory.
+//! Lack of memory.
 ghost use Rattle.std.specs.Prelude.{◌≡◌};
 
 use std::alloc::{AllocError, AllocFailed};
 use thiserror::Error;
 
-/// Want of memory: an allocation was refused. Fault 91.
+/// Lack of memory: an allocation was refused. Fault 91.
 #[derive(Clone, Copy, Debug, PartialEq, Eq, Error)]
 #[error("91 Memory")]
 pub struct Memory;

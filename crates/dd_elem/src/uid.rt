@@ -76,7 +76,7 @@ impl Uid {
         let mut digits = Buffer::new();
         let number = digits.format(uuid_of(digest)).as_bytes();
         Uid {
-            bytes: numbered(number),
+            bytes: uid_bytes(number),
             len: (PREFIX.len() + number.len()) as u8,
         }
     }
@@ -109,8 +109,8 @@ fn uuid_octets(digest: &[u8; 32]) -> [u8; 16]
     octets
 }
 
-/// `2.25.` and a number, and zeros after them.
-fn numbered(number: &[u8]) -> [u8; MAX_LENGTH]
+/// The bytes that hold `2.25.` and a number, and zeros after them.
+fn uid_bytes(number: &[u8]) -> [u8; MAX_LENGTH]
     requires { length number.now ≤ 59 }
     ensures { result ≡ filled max_uid_length (codes "2.25." ++ number.now) }
 {

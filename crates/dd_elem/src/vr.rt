@@ -129,7 +129,7 @@ impl Vr {
         }
     }
 
-    /// Whether its header in Explicit VR has a length of 32 bits behind two reserved bytes
+    /// Whether its header in Explicit VR has a length of 32 bits after two reserved bytes
     /// (PS3.5 section 7.1.2).
     pub fn is_long(self) -> bool
         ensures { result ≡ is_long_of self }

@@ -17,7 +17,7 @@ use Rattle.dd_encoding.specs.Spelling.{shape_text, header_text, item_end_text, s
 use Rattle.dd_encoding.specs.Spelling.{elements_text, content_text, items_text, item_syntax, AreElements, IsContent}
 use Rattle.dd_encoding.specs.Spelling.{AreItems, AreFragments, undefined_length, fragment_text, fragments_text}
 
--- how long what a header has behind its tag is
+-- how long what a header has after its tag is
 abbrev pub shape_length : Option Vr → ℕ
 shape_length None = 4
 shape_length (Some vr) = if is_long_of vr then 8 else 4
@@ -56,7 +56,7 @@ shape_least (Some vr) = go (is_long_of vr)
     go true = omega arith
     go false = omega arith
 
--- a mark behind it leaves a length even
+-- a mark after it leaves a length even
 pub closed_even : (form : Length) (mark text : List ℕ) → length mark % 2 ≡ 0 → length text % 2 ≡ 0
     → length (closed form mark text) % 2 ≡ 0
 closed_even Defined mark text h k = k
@@ -105,7 +105,7 @@ pub length-item : (form : Length) (set : Elements) (rest : Items)
 length-item form set rest = let e = length-append (closed form item_end_text (elements_text set)) (items_text rest) in
     omega arith
 
--- a value behind its tag has four bytes at least
+-- a value after its tag has four bytes at least
 pub content_least : (vr : Option Vr) (c : Content) → 4 ≤ length (content_text vr c)
 content_least vr (bytes v) = let e = length-bytes vr v in let h = shape_least vr in omega arith
 content_least vr (fragments fs) = let e = length-fragments vr fs in let h = shape_least vr in omega arith
@@ -141,7 +141,7 @@ mutual
       let e = length-element tag vr content rest in
       omega arith
 
-  -- of a value behind its tag
+  -- of a value after its tag
   pub even_content : (syntax : Syntax) (levels : ℕ) (vr : Option Vr) (content : Content)
       → IsContent syntax levels vr content → length (content_text vr content) % 2 ≡ 0
   even_content syntax levels vr (bytes v) h =

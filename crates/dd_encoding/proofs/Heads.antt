@@ -29,7 +29,7 @@ length_one_if : (n : ℕ) (b : Bool) → (n % 2 == 1) ≡ b → length (one_if b
 length_one_if n true e = sym (eqb-true (n % 2) 1 e)
 length_one_if n false e = let other : n % 2 ≢ 1 = eqb-false (n % 2) 1 e in omega (arith, other)
 
--- so is the padding of so many characters
+-- so is the padding of any number of characters
 length_padding : (n : ℕ) → length (padding_of n) ≡ n % 2
 length_padding n = length_one_if n (n % 2 == 1) refl
 

@@ -29,13 +29,13 @@ found_among uid [] = refl
 found_among uid (known ∷ uids) =
     rw (nat_list_eq_equiv.symm uid known) (found_step (bytes_eq known uid) _ known _ (found_among uid uids))
 
--- behind the tests for the two others
-pub behind_both : (uid : List ℕ) (listed : Bool) → bytes_eq uid (codes "1.2.840.10008.1.2") ≡ false
+-- after the tests for the two others
+pub after_both : (uid : List ℕ) (listed : Bool) → bytes_eq uid (codes "1.2.840.10008.1.2") ≡ false
     → bytes_eq uid (codes "1.2.840.10008.1.2.1") ≡ false
     → list_any (bytes_eq uid) encapsulated_syntaxes ≡ listed
     → (if listed then Some Encapsulated else None) ≡ syntax_of uid
 unfolding syntax_of
-behind_both uid listed implicit explicit is =
+after_both uid listed implicit explicit is =
     let no_implicit = nat_list_eq_equiv.symm (codes "1.2.840.10008.1.2") uid ∙ implicit in
     let no_explicit = nat_list_eq_equiv.symm (codes "1.2.840.10008.1.2.1") uid ∙ explicit in
     rw (no_implicit, no_explicit) (rw is at (sym (found_among uid encapsulated_syntaxes)))

@@ -8,14 +8,14 @@ use Rattle.dd_encoding.specs.Spelling.{elements_text, tag_text, content_text}
 use Rattle.dd_encoding.specs.declared.meta.Meta.{Meta}
 use Rattle.dd_encoding.specs.Meta.{meta_group, group_length_tag, class_tag, instance_tag, transfer_tag}
 
--- the preamble's length, and the prefix behind it
+-- the preamble's length, and the prefix after it
 abbrev pub preamble_length : ℕ
 preamble_length = 128
 
 abbrev pub prefix : List ℕ
 prefix = codes "DICM"
 
--- the group length: the element (0002,0000), which says how many bytes of its group stand behind it
+-- the group length: the element (0002,0000), which says how many bytes of its group stand after it
 abbrev pub group_length_text : ℕ → List ℕ
 group_length_text n = elements_text (element group_length_tag (Some UL) (bytes (little_bytes 4 n)) no_elements)
 
@@ -30,7 +30,7 @@ implementation_tag = record { group = meta_group; element = 0x0012 }
 abbrev pub implementation_uid : List ℕ
 implementation_uid = codes "2.25.604472133179352588043346"
 
--- what is put behind n characters of a UID, so that its length is even (PS3.5 section 9.1)
+-- what is put after n characters of a UID, so that its length is even (PS3.5 section 9.1)
 abbrev pub padding_of : ℕ → List ℕ
 padding_of n = if n % 2 == 1 then 0 ∷ [] else []
 
@@ -42,7 +42,7 @@ padded uid = uid ++ padding_of (length uid)
 abbrev pub uid_element : Tag → List ℕ → Elements → Elements
 uid_element tag uid rest = element tag (Some UI) (bytes (padded uid)) rest
 
--- group 0002 behind the group length
+-- group 0002 after the group length
 abbrev pub group_of : Meta → Elements
 group_of meta =
     element version_tag (Some OB) (bytes (0x00 ∷ 0x01 ∷ []))
@@ -66,7 +66,7 @@ head_text meta =
 abbrev pub uid_text : Tag → List ℕ → List ℕ
 uid_text tag uid = tag_text tag ++ content_text (Some UI) (bytes (padded uid))
 
--- the UIDs behind the version
+-- the UIDs after the version
 unfoldable pub uids_text : Meta → List ℕ
 uids_text meta = uid_text class_tag meta.class
     ++ (uid_text instance_tag meta.instance ++ (uid_text transfer_tag meta.transfer

@@ -29,8 +29,8 @@ delimiter_group = 0xfffe
 abbrev pub tag_text : Tag → List ℕ
 tag_text t = little_bytes 2 t.group ++ little_bytes 2 t.element
 
--- what a header has behind the tag. Implicit: a length of 32 bits. Explicit: two letters and a length, of 16 bits, or
--- behind two reserved bytes of 32.
+-- what a header has after the tag. Implicit: a length of 32 bits. Explicit: two letters and a length, of 16 bits, or
+-- after two reserved bytes of 32.
 abbrev pub shape_text : Option Vr → ℕ → List ℕ
 shape_text None n = little_bytes 4 n
 shape_text (Some vr) n = letters_of vr ++ (if is_long_of vr then 0 ∷ 0 ∷ little_bytes 4 n else little_bytes 2 n)
@@ -95,7 +95,7 @@ abbrev mutual
   elements_text no_elements = []
   elements_text (element tag vr content rest) = tag_text tag ++ (content_text vr content ++ elements_text rest)
 
-  -- the header behind its tag, and the value
+  -- the header after its tag, and the value
   pub content_text : Option Vr → Content → List ℕ
   content_text vr (bytes v) = shape_text vr (length v) ++ v
   content_text vr (items form parts) = shape_text vr (length_of form (items_text parts))

@@ -58,7 +58,7 @@ pub fn write_head<W: Write>(meta: &Meta, writer: &mut W) -> Result<u64, WriteFau
     send_group(meta, writer, sent)
 }
 
-/// How many bytes of group 0002 stand behind the group length.
+/// How many bytes of group 0002 stand after the group length.
 #[tactic(auto, using(crate::proofs::Heads::length_group))]
 fn group_size(meta: &Meta) -> u32
     ensures exact { result ≡ length (group_text meta.now) }
@@ -82,7 +82,7 @@ fn uid_size(uid: &[u8]) -> u32
     size as u32
 }
 
-/// Sends what stands behind the group length.
+/// Sends what stands after the group length.
 fn send_group<W: Write>(meta: &Meta, writer: &mut W, sent: u64) -> Result<u64, WriteFault>
     requires { sent ≤ 2 ^ 8 }
     ensures { SendsTo W.Write (group_text meta.now) sent result writer.old writer.new }
@@ -134,7 +134,7 @@ fn send_uid<W: Write>(tag: Tag, uid: &[u8], writer: &mut W, sent: u64) -> Result
     send(padding, writer, sent)
 }
 
-/// What is put behind a UID, so that its length is even (PS3.5 section 9.1).
+/// What is put after a UID, so that its length is even (PS3.5 section 9.1).
 fn padding_for(uid: &[u8]) -> &'static [u8]
     ensures exact { result.now ≡ padding_of (length uid.now) }
     ensures few { length result.now ≤ 1 }

@@ -8,7 +8,7 @@ use crate::headers::{long_header, short_header};
 use dd_elem::{Tag, Vr, Write};
 use dd_stream::{WriteFault, send};
 
-/// Sends the header of an element in Explicit VR behind `sent` bytes, as `send` does (PS3.5 section
+/// Sends the header of an element in Explicit VR after `sent` bytes, as `send` does (PS3.5 section
 /// 7.1.2). 13 NotWritable where the length wants more than the 16 bits that the value
 /// representation has for it; nothing is sent then.
 pub fn send_header<W: Write>(

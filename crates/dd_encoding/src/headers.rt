@@ -17,10 +17,10 @@ pub const TAG_SIZE: usize = 4;
 /// How many bytes each header begins with. All but the long ones have no more.
 pub const HEADER_SIZE: usize = 8;
 
-/// How many bytes of length a long header has behind these.
+/// How many bytes of length a long header has after these.
 pub const LONG_LENGTH_SIZE: usize = 4;
 
-/// How many bytes a long header has: one with a length of 32 bits behind a value representation.
+/// How many bytes a long header has: one with a length of 32 bits after a value representation.
 pub const LONG_HEADER_SIZE: usize = HEADER_SIZE + LONG_LENGTH_SIZE;
 
 /// The tag that an item begins with (PS3.5 section 7.5).

@@ -1,4 +1,4 @@
--- Where reading stands before a text and behind it, and the steps between.
+-- Where reading stands before a text and after it, and the steps between.
 use Rattle.std.proofs.Common.{◌≡◌, ℕ, ◌+◌, ◌-◌, ◌^◌, ◌<◌, Bool, true, false, nat_lt, if◌then◌else◌, List, [], ◌∷◌, ◌++◌}
 use Rattle.std.proofs.Common.{length, take, drop, Option, Some, None, Result, Ok, refl, sym, ap, ap₂, subst, ◌∙◌}
 use Rattle.std.proofs.Common.{append_assoc, arith}
@@ -14,12 +14,12 @@ use Rattle.dd_grammar.specs.declared.fault.SetFault.{SetFault}
 use Rattle.dd_encoding.specs.declared.syntax.Length.{Length}
 use Rattle.dd_encoding.specs.declared.syntax.Length.TheVariants.{Defined, Undefined}
 use Rattle.dd_encoding.specs.Spelling.{tag_text, shape_text}
-use Rattle.dd_grammar.specs.Reading.{◌>>=◌, At, Reads, leaves_fewer, less, take_at, tag_of, short_of, no_byte_left}
+use Rattle.dd_grammar.specs.Reading.{◌>>=◌, At, Reads, leaves_fewer, left_after, take_at, tag_of, short_of, no_byte_left}
 use Rattle.dd_grammar.specs.Reading.{is_over, Shape, long_length_at, long_at, explicit_at, shape_where, within}
 use Rattle.dd_grammar.proofs.Steps.{done, short_again, long_again}
 use Rattle.dd_grammar.proofs.HeaderLaws.{HasFormWhere, width_limit, long_shape, short_shape, long_width, short_width}
 
--- what the enclosing length leaves before n bytes, where this is left behind them
+-- what the enclosing length leaves before n bytes, where this is left after them
 abbrev pub more : Option ℕ → ℕ → Option ℕ
 more None n = None
 more (Some left) n = Some (n + left)
@@ -27,8 +27,8 @@ more (Some left) n = Some (n + left)
 abbrev pub before : Option ℕ → List ℕ → List ℕ → At
 before left text rest = record { left = more left (length text); bytes = text ++ rest }
 
-abbrev pub behind : Option ℕ → List ℕ → At
-behind left rest = record { left = left; bytes = rest }
+abbrev pub after : Option ℕ → List ℕ → At
+after left rest = record { left = left; bytes = rest }
 
 -- a place by its parts
 abbrev here : Option ℕ → List ℕ → At
@@ -51,7 +51,7 @@ before-append left a b rest = ap₂ here (more-then left (length a) (length b) (
     (append_assoc a b rest)
 
 -- before no text
-pub before-none : (left : Option ℕ) (rest : List ℕ) → before left [] rest ≡ behind left rest
+pub before-none : (left : Option ℕ) (rest : List ℕ) → before left [] rest ≡ after left rest
 before-none left rest = ap (λ (l : Option ℕ). here l rest) (more-none left)
 
 -- no fewer are left before n bytes than n
@@ -59,10 +59,10 @@ pub fewer_not : (left : Option ℕ) (n : ℕ) → leaves_fewer (more left n) n �
 fewer_not None n = refl
 fewer_not (Some left) n = le-ltb (n + left) n (omega arith)
 
--- what is left behind them
-pub less-more : (left : Option ℕ) (n : ℕ) → less (more left n) n ≡ left
-less-more None n = refl
-less-more (Some left) n = let same : (n + left) - n ≡ left = omega arith in ap (λ (l : ℕ). Some l) same
+-- what is left after them
+pub left_after-more : (left : Option ℕ) (n : ℕ) → left_after (more left n) n ≡ left
+left_after-more None n = refl
+left_after-more (Some left) n = let same : (n + left) - n ≡ left = omega arith in ap (λ (l : ℕ). Some l) same
 
 -- a test that does not choose the first, as one that does not refuse
 pub past : {A : Type 0} (b : Bool) (x y : A) → b ≡ false → (if b then x else y) ≡ y
@@ -78,19 +78,19 @@ onward {A = A} r x f e = ap (λ (q : Result A SetFault). q >>= f) e
 
 -- a text is taken from in front of the rest
 pub take_again : (n : ℕ) (left : Option ℕ) (text rest : List ℕ) → length text ≡ n
-    → take_at n (before left text rest) ≡ Ok (text, behind left rest)
+    → take_at n (before left text rest) ≡ Ok (text, after left rest)
 unfolding take_at
 take_again n left text rest len =
     let room : leaves_fewer (more left (length text)) n ≡ false =
     subst (λ (k : ℕ). leaves_fewer (more left (length text)) k ≡ false) len (fewer_not left (length text)) in
     let long : nat_lt (length (text ++ rest)) n ≡ false = le-ltb _ _ (omega (arith, length-append text rest)) in
-    let left_is : less (more left (length text)) n ≡ left = subst (λ (k : ℕ). less (more left (length text)) k ≡ left)
-    len (less-more left (length text)) in
-    let at_is : here (less (more left (length text)) n) (drop n (text ++ rest)) ≡ here left rest =
+    let left_is : left_after (more left (length text)) n ≡ left = subst (λ (k : ℕ). left_after (more left (length text)) k ≡ left)
+    len (left_after-more left (length text)) in
+    let at_is : here (left_after (more left (length text)) n) (drop n (text ++ rest)) ≡ here left rest =
     ap₂ here left_is (drop_front text rest n len) in
     let pair : ◌≡◌ {A = List ℕ × At} (
       take n (text ++ rest),
-      here (less (more left (length text)) n)
+      here (left_after (more left (length text)) n)
           (drop n (text ++ rest)),
     ) (text, here left rest) = ap₂ (λ (x : List ℕ) (a : At). (x, a))
     (take_front text rest n len) at_is in
@@ -99,18 +99,18 @@ take_again n left text rest len =
 
 -- what n bytes alone hold
 pub within_again : {X : Type 0} (left : Option ℕ) (text rest : List ℕ) (read : At → Reads X) (x : X)
-    → read (before (Some 0) text rest) ≡ Ok (x, behind (Some 0) rest)
-    → within (length text) (before left text rest) read ≡ Ok (x, behind left rest)
+    → read (before (Some 0) text rest) ≡ Ok (x, after (Some 0) rest)
+    → within (length text) (before left text rest) read ≡ Ok (x, after left rest)
 within_again {X} left text rest read x h =
     let whole : length text ≡ length text + 0 = omega arith in
     let there : here (Some (length text)) (text ++ rest) ≡ before (Some 0) text rest =
     ap (λ (n : ℕ). here (Some n) (text ++ rest)) whole in
-    let made : read (here (Some (length text)) (text ++ rest)) ≡ Ok (x, behind (Some 0) rest) = ap read there ∙ h in
-    onward (read (here (Some (length text)) (text ++ rest))) (x, behind (Some 0) rest)
-    (λ y. Ok (y.0, here (less (more left (length text)) (length text)) y.1.bytes)) made
-    ∙ ap (λ (l : Option ℕ). done (x, here l rest)) (less-more left (length text))
+    let made : read (here (Some (length text)) (text ++ rest)) ≡ Ok (x, after (Some 0) rest) = ap read there ∙ h in
+    onward (read (here (Some (length text)) (text ++ rest))) (x, after (Some 0) rest)
+    (λ y. Ok (y.0, here (left_after (more left (length text)) (length text)) y.1.bytes)) made
+    ∙ ap (λ (l : Option ℕ). done (x, here l rest)) (left_after-more left (length text))
 
--- what a length tells ends behind here
+-- what a length tells ends after here
 abbrev pub Closes : Length → Option ℕ → List ℕ → Type 0
 Closes Defined left rest = no_byte_left left rest ≡ true
 Closes Undefined left rest = Unit {0}
@@ -133,14 +133,14 @@ tag_again t rest g n = ap₂ tagged (short_again t.group (little_bytes 2 t.eleme
     tagged : ℕ → ℕ → Tag
     tagged x y = record { group = x; element = y }
 
--- the first four bytes behind a tag, what stands behind those, and that they are read again
+-- the first four bytes after a tag, what stands after those, and that they are read again
 pub record ShapeAgain (named : Bool) (tag : Tag) (vr : Option Vr) (n : ℕ) : Type 0 where
   pub first : List ℕ
   pub second : List ℕ
   pub whole : shape_text vr n ≡ first ++ second
   pub four : length first ≡ 4
   pub again : (left : Option ℕ) (rest : List ℕ) → shape_where named (tag_text tag ++ first) (before left second rest)
-      ≡ Ok (record { vr = vr; length = n }, behind left rest)
+      ≡ Ok (record { vr = vr; length = n }, after left rest)
 
 -- two letters name their value representation
 named : (vr : Vr) (a b : ℕ) → letters_of vr ≡ a ∷ b ∷ [] → vr_of (a ∷ b ∷ []) ≡ Some vr
@@ -178,10 +178,10 @@ long_shape_again tag vr n a b letters long lt = record {
       (before left (little_bytes 4 n) rest)) (named vr a b letters)
       ∙ into (is_long_of vr) _ (shaped (Some vr) (short_of (tag_text tag ++ (a ∷ b ∷ 0 ∷ 0 ∷ [])))
       (before left (little_bytes 4 n) rest)) long ∙ onward (long_length_at (before left (little_bytes 4 n) rest))
-      (from_le_bytes w32 (little_bytes 4 n), behind left rest) (λ y. shaped (Some vr) y.0 y.1)
-      (onward (take_at 4 (before left (little_bytes 4 n) rest)) (little_bytes 4 n, behind left rest)
+      (from_le_bytes w32 (little_bytes 4 n), after left rest) (λ y. shaped (Some vr) y.0 y.1)
+      (onward (take_at 4 (before left (little_bytes 4 n) rest)) (little_bytes 4 n, after left rest)
       (λ y. Ok (from_le_bytes w32 y.0, y.1)) (take_again 4 left (little_bytes 4 n) rest refl))
-      ∙ ap (λ (k : ℕ). shaped (Some vr) k (behind left rest)) (long_again n [] lt);
+      ∙ ap (λ (k : ℕ). shaped (Some vr) k (after left rest)) (long_again n [] lt);
 }
 
 -- a header without a value representation

@@ -1,4 +1,4 @@
--- Facts of a fault that is not want of memory, and of a step that fails.
+-- Facts of a fault that is not lack of memory, and of a step that fails.
 use Rattle.std.proofs.Common.{◌≡◌, Bool, true, false, Result, Err, refl}
 use Rattle.std.specs.Prelude.{MatchBool, ⊤}
 use Rattle.dd_grammar.specs.declared.fault.SetFault.{SetFault}

@@ -15,13 +15,13 @@ use Rattle.dd_grammar.specs.Faults.{is_memory}
 use Rattle.dd_encoding.specs.Spelling.{undefined_length, header_text, item_tag, item_tag_text, sequence_end_tag}
 use Rattle.dd_encoding.specs.Spelling.{sequence_end_text, fragment_text, fragments_text, AreFragments}
 use Rattle.dd_grammar.specs.Reading.{At, Reads, ◌>>=◌, there, take_at, eight_at, head_at, long_of, is_item}
-use Rattle.dd_grammar.specs.Reading.{is_sequence_end, item_opening, behind_item_head, item_front_at, fragment_length}
-use Rattle.dd_grammar.specs.Reading.{fragment_behind, fragment_at, next_fragments, fragments_at, fragments_here}
+use Rattle.dd_grammar.specs.Reading.{is_sequence_end, item_opening, after_item_head, item_front_at, fragment_length}
+use Rattle.dd_grammar.specs.Reading.{fragment_after, fragment_at, next_fragments, fragments_at, fragments_here}
 use Rattle.dd_grammar.proofs.Steps.{done, bind_ok, passes, allowed, chosen, ok_is, long_below, long_again}
 use Rattle.dd_grammar.proofs.Steps.{AreBytes-drop}
 use Rattle.dd_grammar.proofs.Taken.{Takes, Takes-then, taken}
 use Rattle.dd_grammar.proofs.HeaderLaws.{head_is}
-use Rattle.dd_grammar.proofs.Before.{more, before, behind, before-append, past, onward, take_again}
+use Rattle.dd_grammar.proofs.Before.{more, before, after, before-append, past, onward, take_again}
 use Rattle.dd_grammar.proofs.Loops.{fails_along}
 
 -- ---- what is read is spelled so
@@ -55,13 +55,13 @@ front_takes : (at : At) (x : Option ℕ × At) → AreBytes at.bytes → item_fr
     → FrontTaken at x.0 x.1
 unfolding item_front_at head_at
 front_takes at x fits e =
-    let b = bind_ok (eight_at at) (behind_item_head Undefined) x e in
+    let b = bind_ok (eight_at at) (after_item_head Undefined) x e in
     let h = bind_ok (take_at 8 at) there b.0 b.1 in
     let head : List ℕ = h.0.0 in
     let end : At = h.0.1 in
     let t = taken 8 at h.0 fits h.1 in
-    let opened : behind_item_head Undefined (Some head, end) ≡ Ok x =
-    ap (λ (y : Option (List ℕ) × At). behind_item_head Undefined y) (ok_is (Some head, end) b.0 h.2) ∙ b.2 in
+    let opened : after_item_head Undefined (Some head, end) ≡ Ok x =
+    ap (λ (y : Option (List ℕ) × At). after_item_head Undefined y) (ok_is (Some head, end) b.0 h.2) ∙ b.2 in
     let i = bind_ok (item_opening Undefined head) (λ length. Ok (length, end)) x opened in
     subst (λ (y : Option ℕ × At). FrontTaken at y.0 y.1) (ok_is (i.0, end) x i.2)
     (opening_takes at head end i.0 t.0 t.1 t.2 i.1)
@@ -82,11 +82,11 @@ length_is n k lt e =
     let even : n % 2 ≢ 1 = eqb-false _ _ b.0 in
     (same, omega arith, omega arith)
 
-behind_takes : (at : At) (o : Option ℕ) (mid : At) (x : Option (List ℕ) × At) → AreBytes mid.bytes
-    → FrontTaken at o mid → fragment_behind (o, mid) ≡ Ok x → FragmentTaken at x.0 x.1
-behind_takes at None mid x fits took e = subst (λ (y : Option (List ℕ) × At). FragmentTaken at y.0 y.1)
+after_takes : (at : At) (o : Option ℕ) (mid : At) (x : Option (List ℕ) × At) → AreBytes mid.bytes
+    → FrontTaken at o mid → fragment_after (o, mid) ≡ Ok x → FragmentTaken at x.0 x.1
+after_takes at None mid x fits took e = subst (λ (y : Option (List ℕ) × At). FragmentTaken at y.0 y.1)
     (ok_is (None, mid) x e) took
-behind_takes at (Some n) mid x fits took e =
+after_takes at (Some n) mid x fits took e =
     let l = bind_ok (fragment_length n) (λ k. take_at k mid >>= there) x e in
     let is = length_is n l.0 took.1 l.1 in
     let t = bind_ok (take_at l.0 mid) there x l.2 in
@@ -109,9 +109,9 @@ fragment_takes : (at : At) (x : Option (List ℕ) × At) → AreBytes at.bytes �
     → FragmentTaken at x.0 x.1
 unfolding fragment_at
 fragment_takes at x fits e =
-    let b = bind_ok (item_front_at Undefined at) fragment_behind x e in
+    let b = bind_ok (item_front_at Undefined at) fragment_after x e in
     let t = front_takes at b.0 fits b.1 in
-    behind_takes at b.0.0 b.0.1 x (front_fits at b.0.0 b.0.1 t) t b.2
+    after_takes at b.0.0 b.0.1 x (front_fits at b.0.0 b.0.1 t) t b.2
 
 -- fragments that were read, to the end of their list
 abbrev pub FragmentsTaken : At → List (List ℕ) → At → Type 0
@@ -150,22 +150,22 @@ fragments_take (suc most) at x fits e =
 -- ---- what is spelled so is read again
 
 front_again : (n : ℕ) (left : Option ℕ) (rest : List ℕ) → n < 2 ^ 32
-    → item_front_at Undefined (before left (item_tag_text ++ little_bytes 4 n) rest) ≡ Ok (Some n, behind left rest)
+    → item_front_at Undefined (before left (item_tag_text ++ little_bytes 4 n) rest) ≡ Ok (Some n, after left rest)
 unfolding item_front_at head_at item_opening
 front_again n left rest lt =
     let head : List ℕ = item_tag_text ++ little_bytes 4 n in
     let start : At = before left head rest in
-    onward (eight_at start) (Some head, behind left rest) (behind_item_head Undefined)
-    (onward (take_at 8 start) (head, behind left rest) there (take_again 8 left head rest refl))
-    ∙ ap (λ (k : ℕ). done (Some k, behind left rest)) (long_again n [] lt)
+    onward (eight_at start) (Some head, after left rest) (after_item_head Undefined)
+    (onward (take_at 8 start) (head, after left rest) there (take_again 8 left head rest refl))
+    ∙ ap (λ (k : ℕ). done (Some k, after left rest)) (long_again n [] lt)
 
 list_end_again : (left : Option ℕ) (rest : List ℕ)
-    → item_front_at Undefined (before left sequence_end_text rest) ≡ Ok (None, behind left rest)
+    → item_front_at Undefined (before left sequence_end_text rest) ≡ Ok (None, after left rest)
 unfolding item_front_at head_at item_opening
 list_end_again left rest =
     let start : At = before left sequence_end_text rest in
-    onward (eight_at start) (Some sequence_end_text, behind left rest) (behind_item_head Undefined)
-    (onward (take_at 8 start) (sequence_end_text, behind left rest) there
+    onward (eight_at start) (Some sequence_end_text, after left rest) (after_item_head Undefined)
+    (onward (take_at 8 start) (sequence_end_text, after left rest) there
     (take_again 8 left sequence_end_text rest refl))
 
 length_again : (n : ℕ) → n % 2 ≡ 0 → n < undefined_length → fragment_length n ≡ Ok n
@@ -175,33 +175,33 @@ length_again n even low =
     ∙ past (n % 2 == 1) _ _ (ne_eqb (n % 2) 1 (λ e. omega arith))
 
 fragment_again : (f : List ℕ) (left : Option ℕ) (rest : List ℕ) → length f % 2 ≡ 0 → length f < undefined_length
-    → fragment_at (before left (fragment_text f) rest) ≡ Ok (Some f, behind left rest)
+    → fragment_at (before left (fragment_text f) rest) ≡ Ok (Some f, after left rest)
 unfolding fragment_at
 fragment_again f left rest even low =
     let head : List ℕ = item_tag_text ++ little_bytes 4 (length f) in
     let middle : At = before left f rest in
     let split : before left (fragment_text f) rest ≡ before (more left (length f)) head (f ++ rest) =
     before-append left head f rest in
-    ap (λ (at : At). item_front_at Undefined at >>= fragment_behind) split
+    ap (λ (at : At). item_front_at Undefined at >>= fragment_after) split
     ∙ onward (item_front_at Undefined (before (more left (length f)) head (f ++ rest))) (Some (length f), middle)
-    fragment_behind (front_again (length f) (more left (length f)) (f ++ rest) (omega arith))
+    fragment_after (front_again (length f) (more left (length f)) (f ++ rest) (omega arith))
     ∙ onward (fragment_length (length f)) (length f) (λ k. take_at k middle >>= there)
     (length_again (length f) even low)
-    ∙ onward (take_at (length f) middle) (f, behind left rest) there (take_again (length f) left f rest refl)
+    ∙ onward (take_at (length f) middle) (f, after left rest) there (take_again (length f) left f rest refl)
 
 list_over_again : (left : Option ℕ) (rest : List ℕ)
-    → fragment_at (before left sequence_end_text rest) ≡ Ok (None, behind left rest)
+    → fragment_at (before left sequence_end_text rest) ≡ Ok (None, after left rest)
 unfolding fragment_at
 list_over_again left rest = onward (item_front_at Undefined (before left sequence_end_text rest))
-    (None, behind left rest) fragment_behind (list_end_again left rest)
+    (None, after left rest) fragment_after (list_end_again left rest)
 
 pub fragments_again : (fs : List (List ℕ)) (most : ℕ) (left : Option ℕ) (rest : List ℕ) → AreFragments fs
     → length (fragments_text fs) < most
-    → fragments_at most (before left (fragments_text fs ++ sequence_end_text) rest) ≡ Ok (fs, behind left rest)
+    → fragments_at most (before left (fragments_text fs ++ sequence_end_text) rest) ≡ Ok (fs, after left rest)
 unfolding fragments_at
 fragments_again fs zero left rest h lt = absurd (omega arith)
 fragments_again [] (suc most) left rest h lt =
-    onward (fragment_at (before left sequence_end_text rest)) (None, behind left rest)
+    onward (fragment_at (before left sequence_end_text rest)) (None, after left rest)
     (next_fragments (fragments_at most)) (list_over_again left rest)
 fragments_again (f ∷ fs) (suc most) left rest h lt =
     let tail : List ℕ = fragments_text fs ++ sequence_end_text in
@@ -215,12 +215,12 @@ fragments_again (f ∷ fs) (suc most) left rest h lt =
     ∙ onward (fragment_at (before (more left (length tail)) (fragment_text f) (tail ++ rest)))
     (Some f, before left tail rest) (next_fragments (fragments_at most))
     (fragment_again f (more left (length tail)) (tail ++ rest) h.0 h.1)
-    ∙ onward (fragments_at most (before left tail rest)) (fs, behind left rest) (λ x. done (f ∷ x.0, x.1))
+    ∙ onward (fragments_at most (before left tail rest)) (fs, after left rest) (λ x. done (f ∷ x.0, x.1))
     (fragments_again fs most left rest h.2 fewer)
 
 -- a whole list
 pub list_again : (fs : List (List ℕ)) (left : Option ℕ) (rest : List ℕ) → AreFragments fs
-    → fragments_here (before left (fragments_text fs ++ sequence_end_text) rest) ≡ Ok (fs, behind left rest)
+    → fragments_here (before left (fragments_text fs ++ sequence_end_text) rest) ≡ Ok (fs, after left rest)
 list_again fs left rest h =
     let text : List ℕ = fragments_text fs ++ sequence_end_text in
     let a = length-append text rest in

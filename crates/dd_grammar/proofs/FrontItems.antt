@@ -96,7 +96,7 @@ part_extends set law c q syntax n at h =
     (within_extends c q n at (set syntax Defined) h (law true q syntax Defined
     (record { left = Some n; bytes = at.bytes }) refl refl)))))
 
--- an item in which so many levels may nest, itself included
+-- an item in which a number of levels may nest, itself included
 reader_extends : (d : ℕ) → PartExtends (item_reader d)
 reader_extends zero c q syntax n at h = λ ne. refl
 reader_extends (suc d) c q syntax n at h = part_extends (set_with (item_reader d))

@@ -15,10 +15,10 @@ use Rattle.dd_encoding.specs.declared.syntax.Length.TheVariants.{Defined, Undefi
 use Rattle.dd_encoding.specs.declared.syntax.Syntax.{Syntax}
 use Rattle.dd_encoding.specs.Elements.{Elements, element, Content, bytes, items, fragments, Element}
 use Rattle.dd_encoding.specs.Spelling.{undefined_length, delimiter_group, names_vr, item_syntax}
-use Rattle.dd_grammar.specs.Reading.{◌>>=◌, At, Reads, leaves_fewer, less, take_at, tag_of, long_of, short_of}
+use Rattle.dd_grammar.specs.Reading.{◌>>=◌, At, Reads, leaves_fewer, left_after, take_at, tag_of, long_of, short_of}
 use Rattle.dd_grammar.specs.Reading.{no_byte_left, is_over, Shape, long_length_at, long_at, explicit_at, shape_at}
 use Rattle.dd_grammar.specs.Reading.{shape_where, SequenceReader, Header, eight_at, head_at, item_opening}
-use Rattle.dd_grammar.specs.Reading.{behind_item_head, item_front_at, there, fragment_length, fragment_behind}
+use Rattle.dd_grammar.specs.Reading.{after_item_head, item_front_at, there, fragment_length, fragment_after}
 use Rattle.dd_grammar.specs.Reading.{fragment_at, next_fragments, fragments_at, fragments_here, opens_fragments}
 use Rattle.dd_grammar.specs.Reading.{open_at, SetReader, ItemReader, within, undefined_at, defined_at, content_at}
 use Rattle.dd_grammar.specs.Reading.{ends_set, element_at, next_elements, elements_at}
@@ -89,9 +89,9 @@ extends_map c q r s f h = extends_then c q r s (λ x. Ok (f x.0, x.1)) (λ x. Ok
 -- ---- steps
 
 -- a length encloses what is left, or none does
-has_less : (left : Option ℕ) (n : ℕ) → has (less left n) ≡ has left
-has_less None n = refl
-has_less (Some left) n = refl
+has_left_after : (left : Option ℕ) (n : ℕ) → has (left_after left n) ≡ has left
+has_left_after None n = refl
+has_left_after (Some left) n = refl
 
 -- bytes that are taken
 pub take_extends : (c : Bool) (n : ℕ) (at : At) (q : List ℕ) → has at.left ≡ c
@@ -105,17 +105,17 @@ take_extends c n at q has_it =
 
     go : (b : Bool) → nat_lt (length at.bytes) n ≡ b → Extends c q
         (if b then Err Truncated else taken (take n at.bytes)
-        (record { left = less at.left n; bytes = drop n at.bytes }))
+        (record { left = left_after at.left n; bytes = drop n at.bytes }))
         (if nat_lt (length (at.bytes ++ q)) n then Err Truncated else taken (take n (at.bytes ++ q))
-        (record { left = less at.left n; bytes = drop n (at.bytes ++ q) }))
+        (record { left = left_after at.left n; bytes = drop n (at.bytes ++ q) }))
     go true short = λ ne. absurd (ne refl)
     go false long =
         let enough : n ≤ length at.bytes = ltb-false _ _ long in
         let far : nat_lt (length (at.bytes ++ q)) n ≡ false = le-ltb _ _ (omega (arith, length-append at.bytes q)) in (
           past (nat_lt (length (at.bytes ++ q)) n) (Err Truncated) _ far
-              ∙ ap₂ (λ (x y : List ℕ). taken x (record { left = less at.left n; bytes = y }))
+              ∙ ap₂ (λ (x y : List ℕ). taken x (record { left = left_after at.left n; bytes = y }))
               (take-append-le n at.bytes q enough) (drop-append-le n at.bytes q enough),
-          has_less at.left n ∙ has_it,
+          has_left_after at.left n ∙ has_it,
         )
 
 -- what the next n bytes alone hold
@@ -127,10 +127,10 @@ within_extends {X} c q n at read has_it h = go (read (record { left = Some n; by
     (read (record { left = Some n; bytes = at.bytes ++ q })) h
   where
     after : X × At → Reads X
-    after x = Ok (x.0, record { left = less at.left n; bytes = x.1.bytes })
+    after x = Ok (x.0, record { left = left_after at.left n; bytes = x.1.bytes })
 
     go : (r s : Reads X) → Extends true q r s → Extends c q (r >>= after) (s >>= after)
-    go (Ok x) s h = (onward s (x.0, longer x.1 q) after h.0, has_less at.left n ∙ has_it)
+    go (Ok x) s h = (onward s (x.0, longer x.1 q) after h.0, has_left_after at.left n ∙ has_it)
     go (Err e) s h = λ ne. ap (λ t. t >>= after) (h ne)
 
 -- the end of what a length encloses stays where it is
@@ -163,7 +163,7 @@ explicit_extends c q None head at h = λ ne. refl
 explicit_extends c q (Some vr) head at h = extends_if c q (is_long_of vr) _ _ _ _
     (λ long. long_extends c q vr head at h) (λ short. (refl, h))
 
--- a header behind its tag
+-- a header after its tag
 shape_extends : (c : Bool) (q : List ℕ) (syntax : Syntax) (head : List ℕ) (at : At) → has at.left ≡ c
     → Extends c q (shape_at syntax head at) (shape_at syntax head (longer at q))
 unfolding shape_at
@@ -176,25 +176,25 @@ shape_extends c q syntax head at h = go (names_vr syntax)
 -- ---- fragments
 
 -- the header of a fragment, or the end of the list
-behind_front_extends : (c : Bool) (q : List ℕ) (r : Result (Option ℕ) SetFault) (a : At) → has a.left ≡ c
+after_front_extends : (c : Bool) (q : List ℕ) (r : Result (Option ℕ) SetFault) (a : At) → has a.left ≡ c
     → Extends c q (r >>= λ length. Ok (length, a)) (r >>= λ length. Ok (length, longer a q))
-behind_front_extends c q (Ok n) a h = (refl, h)
-behind_front_extends c q (Err e) a h = λ ne. refl
+after_front_extends c q (Ok n) a h = (refl, h)
+after_front_extends c q (Err e) a h = λ ne. refl
 
 front_goes : (c : Bool) (q : List ℕ) (o : Option (List ℕ)) (a : At) → has a.left ≡ c
-    → Extends c q (behind_item_head Undefined (o, a)) (behind_item_head Undefined (o, longer a q))
+    → Extends c q (after_item_head Undefined (o, a)) (after_item_head Undefined (o, longer a q))
 front_goes c q None a h = (refl, h)
-front_goes c q (Some head) a h = behind_front_extends c q (item_opening Undefined head) a h
+front_goes c q (Some head) a h = after_front_extends c q (item_opening Undefined head) a h
 
 front_extends : (c : Bool) (q : List ℕ) (at : At) → has at.left ≡ c
     → Extends c q (item_front_at Undefined at) (item_front_at Undefined (longer at q))
 unfolding item_front_at head_at
 front_extends c q at h =
-    extends_then c q (eight_at at) (eight_at (longer at q)) (behind_item_head Undefined) (behind_item_head Undefined)
+    extends_then c q (eight_at at) (eight_at (longer at q)) (after_item_head Undefined) (after_item_head Undefined)
     (extends_map c q (take_at 8 at) (take_at 8 (longer at q)) (λ x. Some x) (take_extends c 8 at q h))
     (λ x k. front_goes c q x.0 x.1 k)
 
--- what stands behind it
+-- what stands after it
 piece_extends : (c : Bool) (q : List ℕ) (r : Result ℕ SetFault) (a : At) → has a.left ≡ c
     → Extends c q (r >>= λ k. take_at k a >>= there) (r >>= λ k. take_at k (longer a q) >>= there)
 piece_extends c q (Ok k) a h = extends_map c q (take_at k a) (take_at k (longer a q)) (λ x. Some x)
@@ -202,7 +202,7 @@ piece_extends c q (Ok k) a h = extends_map c q (take_at k a) (take_at k (longer 
 piece_extends c q (Err e) a h = λ ne. refl
 
 fragment_goes : (c : Bool) (q : List ℕ) (o : Option ℕ) (a : At) → has a.left ≡ c
-    → Extends c q (fragment_behind (o, a)) (fragment_behind (o, longer a q))
+    → Extends c q (fragment_after (o, a)) (fragment_after (o, longer a q))
 fragment_goes c q None a h = (refl, h)
 fragment_goes c q (Some n) a h = piece_extends c q (fragment_length n) a h
 
@@ -210,8 +210,8 @@ fragment_extends : (c : Bool) (q : List ℕ) (at : At) → has at.left ≡ c
     → Extends c q (fragment_at at) (fragment_at (longer at q))
 unfolding fragment_at
 fragment_extends c q at h =
-    extends_then c q (item_front_at Undefined at) (item_front_at Undefined (longer at q)) fragment_behind
-    fragment_behind (front_extends c q at h) (λ x k. fragment_goes c q x.0 x.1 k)
+    extends_then c q (item_front_at Undefined at) (item_front_at Undefined (longer at q)) fragment_after
+    fragment_after (front_extends c q at h) (λ x k. fragment_goes c q x.0 x.1 k)
 
 -- fragments up to the end of their list
 fragments_extend : (n m : ℕ) (c : Bool) (q : List ℕ) (at : At) → n ≤ m → has at.left ≡ c
@@ -279,7 +279,7 @@ module _ (sequence : SequenceReader) (law : SequenceExtends sequence) where
       (within_extends c q n at (sequence inner Defined) h (law true q inner Defined
       (record { left = Some n; bytes = at.bytes }) refl refl))
 
-  -- a value behind its header
+  -- a value after its header
   content_extends : (c : Bool) (q : List ℕ) (syntax : Syntax) (header : Header) (at : At) → has at.left ≡ c
       → Extends c q (content_at sequence syntax header at) (content_at sequence syntax header (longer at q))
   unfolding content_at
@@ -290,7 +290,7 @@ module _ (sequence : SequenceReader) (law : SequenceExtends sequence) where
       (λ even. extends_if c q (leaves_fewer at.left header.shape.length) _ _ _ _ (λ few. λ ne. refl)
       (λ room. defined_extends c q (item_syntax syntax header.shape.vr Defined) header.shape.length at h)))
 
-  -- an element behind its first eight bytes
+  -- an element after its first eight bytes
   body_extends : (c : Bool) (q : List ℕ) (syntax : Syntax) (low : ℕ) (head : List ℕ) (at : At) → has at.left ≡ c
       → Extends c q (body_at sequence syntax low head at) (body_at sequence syntax low head (longer at q))
   unfolding body_at

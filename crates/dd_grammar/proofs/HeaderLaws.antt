@@ -1,4 +1,4 @@
--- What the eight bytes of a header say, and the header that stands behind a tag.
+-- What the eight bytes of a header say, and the header that stands after a tag.
 use Rattle.std.proofs.Common.{◌≡◌, ℕ, ◌^◌, ◌<◌, ◌≤◌, Bool, true, false, ◌==◌, if◌then◌else◌, List, [], ◌∷◌, ◌++◌}
 use Rattle.std.proofs.Common.{length, take, drop, Option, Some, None, Ok, refl, sym, ap, ap₂, subst, ◌∙◌, append_assoc}
 use Rattle.std.proofs.Common.{append-nil, arith, inl, inr}
@@ -118,7 +118,7 @@ pub vr_letters : (letters : List ℕ) (vr : Vr) → vr_of letters ≡ Some vr �
 vr_letters letters vr e = (bytes_eq-Decides (letters_of vr) letters).0
     (found_passes (λ v. bytes_eq (letters_of v) letters) all_vrs vr e)
 
--- behind the tag stand this value representation and this length
+-- after the tag stand this value representation and this length
 pub record Shaped (named : Bool) (head : List ℕ) (at : At) (shape : Shape) (next : At) : Type 0 where
   pub text : List ℕ
   pub takes : Takes at text next

@@ -6,9 +6,9 @@ use Rattle.dd_encoding.specs.declared.syntax.Syntax.{Syntax}
 use Rattle.dd_encoding.specs.Elements.{Content, Item}
 use Rattle.dd_grammar.specs.AnswersAs.{FailsAs}
 use Rattle.dd_grammar.specs.Faults.{is_memory}
-use Rattle.dd_grammar.specs.Reading.{Header, front_at, element_behind, item_front_at, item_behind, At, Reads, ◌>>=◌}
+use Rattle.dd_grammar.specs.Reading.{Header, front_at, element_after, item_front_at, item_after, At, Reads, ◌>>=◌}
 use Rattle.dd_grammar.specs.Reading.{SequenceReader, ItemReader, content_at, element_at, item_at, set_with, within}
-use Rattle.dd_grammar.specs.Reading.{less, part_at, item_reader}
+use Rattle.dd_grammar.specs.Reading.{left_after, part_at, item_reader}
 use Rattle.dd_grammar.proofs.Failing.{bind_fails}
 use Rattle.dd_grammar.proofs.Loops.{fails_along}
 
@@ -37,7 +37,7 @@ module _ (sequence : SequenceReader) (syntax : Syntax) (form : Length) (low : �
   pub front_refused : (e : SetFault) → front_at syntax form low at ≡ Err e
       → element_at sequence syntax form low at ≡ Err e
   unfolding element_at
-  front_refused e h = bind_fails _ (element_behind sequence syntax) e h
+  front_refused e h = bind_fails _ (element_after sequence syntax) e h
 
   pub front_stops : (e : SetFault) → FailsAs is_memory e (front_at syntax form low at)
       → FailsAs is_memory e (element_at sequence syntax form low at)
@@ -67,7 +67,7 @@ module _ (part : ItemReader) (syntax : Syntax) (form : Length) (at : At) where
 
   pub item_front_refused : (e : SetFault) → item_front_at form at ≡ Err e → item_at part syntax form at ≡ Err e
   unfolding item_at
-  item_front_refused e h = bind_fails _ (item_behind part syntax) e h
+  item_front_refused e h = bind_fails _ (item_after part syntax) e h
 
   pub item_front_stops : (e : SetFault) → FailsAs is_memory e (item_front_at form at)
       → FailsAs is_memory e (item_at part syntax form at)
@@ -87,7 +87,7 @@ module _ (part : ItemReader) (syntax : Syntax) (form : Length) (at : At) where
 -- what a length encloses
 pub within_found : {X Y : Type 0} (n : ℕ) (at : At) (read : At → Reads X) (f : X × At → Reads Y) (x : X) (end : At)
     → read (record { left = Some n; bytes = at.bytes }) ≡ Ok (x, end)
-    → (within n at read >>= f) ≡ f (x, record { left = less at.left n; bytes = end.bytes })
+    → (within n at read >>= f) ≡ f (x, record { left = left_after at.left n; bytes = end.bytes })
 within_found n at read f x end h = rw h refl
 
 pub within_fails : {X Y : Type 0} (n : ℕ) (at : At) (read : At → Reads X) (f : X × At → Reads Y) (e : SetFault)

@@ -34,7 +34,7 @@ use Rattle.dd_grammar.proofs.FragmentLaws.{fragments_take}
 
 -- ---- the parts of a spelling
 
--- a value behind its header, and the length that the header gives
+-- a value after its header, and the length that the header gives
 abbrev pub content_body : Content → List ℕ
 content_body (bytes v) = v
 content_body (fragments fs) = fragments_text fs ++ sequence_end_text
@@ -61,7 +61,7 @@ abbrev pub IsElement : Syntax → ℕ → ℕ → Element → Type 0
 IsElement syntax d low e = (low ≤ number_of e.tag) × (e.tag.group < 2 ^ 16) × (e.tag.element < 2 ^ 16)
     × (e.tag.group ≢ delimiter_group) × IsContent syntax d e.vr e.content × MayHave e.tag e.content
 
--- an item by itself: behind its header, the length that its header gives, and all of it
+-- an item by itself: after its header, the length that its header gives, and all of it
 abbrev pub item_body : Item → List ℕ
 item_body p = closed p.length item_end_text (elements_text p.set)
 
@@ -71,7 +71,7 @@ part_length p = length_of p.length (elements_text p.set)
 abbrev pub item_text : Item → List ℕ
 item_text p = item_tag_text ++ (little_bytes 4 (part_length p) ++ item_body p)
 
--- an item that a sequence may have, where so many levels may nest, itself included
+-- an item that a sequence may have, where a number of levels may nest, itself included
 abbrev pub IsItem : Syntax → ℕ → Item → Type 0
 IsItem syntax zero p = ⊥
 IsItem syntax (suc d) p = AreElements syntax d 0 p.set × FitsLong p.length (elements_text p.set)
@@ -102,7 +102,7 @@ abbrev pub SetLaw : ℕ → SetReader → Type 0
 SetLaw d read = (syntax : Syntax) (form : Length) (at : At) (x : Elements × At) → AreBytes at.bytes
     → read syntax form at ≡ Ok x → SetTaken syntax d form 0 at x.0 x.1
 
--- an item that was read behind a header with this length
+-- an item that was read after a header with this length
 abbrev pub PartTaken : Syntax → ℕ → ℕ → At → Item → At → Type 0
 PartTaken syntax d n at p next = Takes at (item_body p) next × (n ≡ part_length p) × IsItem syntax d p
 
@@ -156,7 +156,7 @@ holds_bytes : (syntax : Syntax) (vr : Option Vr) → HasForm syntax vr → item_
     → HoldsBytes syntax vr
 holds_bytes syntax vr h e = bytes_where (names_vr syntax) syntax vr h e
 
--- a header in two parts, and the value behind it
+-- a header in two parts, and the value after it
 regroup : (h t r x b s : List ℕ) → h ≡ t ++ r → r ++ x ≡ s → h ++ (x ++ b) ≡ t ++ (s ++ b)
 regroup h t r x b s p q =
     ap (λ (y : List ℕ). y ++ (x ++ b)) p ∙ append_assoc t r (x ++ b)
@@ -227,7 +227,7 @@ module _ (d : ℕ) (sequence : SequenceReader) (law : SequenceLaw d sequence) wh
       subst (λ (y : Content × At). ContentTaken d syntax tag vr undefined_length at y.0 y.1) (ok_is made x a.2)
       (t.0, refl, (so.0, t.1), so.1)
 
-  -- a value behind its header
+  -- a value after its header
   pub content_takes : (syntax : Syntax) (tag : Tag) (shape : Shape) (at : At) (x : Content × At) → AreBytes at.bytes
       → HasForm syntax shape.vr → shape.length < width_limit shape.vr
       → content_at sequence syntax (record { tag = tag; shape = shape }) at ≡ Ok x
@@ -252,7 +252,7 @@ module _ (d : ℕ) (sequence : SequenceReader) (law : SequenceLaw d sequence) wh
             (even_from shape.length odd.0) low (within_limit shape.vr shape.length below ne) room.0 room.1
       ]
 
-  -- an element behind its first eight bytes
+  -- an element after its first eight bytes
   pub body_takes : (syntax : Syntax) (low : ℕ) (head : List ℕ) (at : At) (x : Element × At) → length head ≡ 8
       → AreBytes head → AreBytes at.bytes → body_at sequence syntax low head at ≡ Ok x → (text : List ℕ)
       × Takes at text x.1 × (head ++ text ≡ element_text x.0) × IsElement syntax d low x.0
@@ -314,21 +314,21 @@ module _ (d : ℕ) (sequence : SequenceReader) (law : SequenceLaw d sequence) wh
             then (if long_of head.0 == 0 then Ok (None, head.1) else Err BadDelimiter)
             else (body_at sequence syntax low head.0 head.1 >>= λ y. Ok (Some y.0, y.1))) x on.1 in
             let head : List ℕ = h.0.0 in
-            let behind : At = h.0.1 in
+            let after : At = h.0.1 in
             let t = taken 8 at h.0 fits h.1 in
-            elim (chosen (ends_set form head) (if long_of head == 0 then Ok (None, behind) else Err BadDelimiter)
-            (body_at sequence syntax low head behind >>= λ y. Ok (Some y.0, y.1)) (Ok x) h.2) [
+            elim (chosen (ends_set form head) (if long_of head == 0 then Ok (None, after) else Err BadDelimiter)
+            (body_at sequence syntax low head after >>= λ y. Ok (Some y.0, y.1)) (Ok x) h.2) [
               | inl ends ↦
-                  let none = allowed (long_of head == 0) BadDelimiter (Ok (None, behind)) x ends.1 in
+                  let none = allowed (long_of head == 0) BadDelimiter (Ok (None, after)) x ends.1 in
                   let mark = set_mark form head t.1 t.2 ends.0 none.0 in
-                  let took : Takes at (closed form item_end_text []) behind =
-                  subst (λ (y : List ℕ). Takes at y behind) mark.0 t.0 in
+                  let took : Takes at (closed form item_end_text []) after =
+                  subst (λ (y : List ℕ). Takes at y after) mark.0 t.0 in
                   subst (λ (y : Option Element × At). ElementTaken d syntax form low at y.0 y.1)
-                  (ok_is (None, behind) x none.1) (took, ends_undefined form behind mark.1)
+                  (ok_is (None, after) x none.1) (took, ends_undefined form after mark.1)
               | inr more ↦
-                  let b = bind_ok (body_at sequence syntax low head behind) (λ y. Ok (Some y.0, y.1)) x more.1 in
-                  let body = body_takes d sequence law syntax low head behind b.0 t.1 t.2 t.0.fits b.1 in
-                  let both : Takes at (head ++ body.0) b.0.1 = Takes-then at behind b.0.1 head body.0 t.0 body.1 in
+                  let b = bind_ok (body_at sequence syntax low head after) (λ y. Ok (Some y.0, y.1)) x more.1 in
+                  let body = body_takes d sequence law syntax low head after b.0 t.1 t.2 t.0.fits b.1 in
+                  let both : Takes at (head ++ body.0) b.0.1 = Takes-then at after b.0.1 head body.0 t.0 body.1 in
                   let took : Takes at (element_text b.0.0) b.0.1 =
                   subst (λ (y : List ℕ). Takes at y b.0.1) body.2 both in
                   subst (λ (y : Option Element × At). ElementTaken d syntax form low at y.0 y.1)
@@ -342,7 +342,7 @@ module _ (d : ℕ) (sequence : SequenceReader) (law : SequenceLaw d sequence) wh
   set_text_more form mark t c r = append_assoc t c (closed form mark r)
       ∙ ap (λ (y : List ℕ). t ++ y) (sym (closed-append form mark c r)) ∙ sym (closed-append form mark t (c ++ r))
 
-  -- the elements behind one, or none
+  -- the elements after one, or none
   next_takes : (syntax : Syntax) (form : Length) (low : ℕ) (at : At) (others : ℕ → At → Reads Elements)
       → ((l : ℕ) (a : At) (y : Elements × At) → AreBytes a.bytes → others l a ≡ Ok y
       → SetTaken syntax d form l a y.0 y.1)

@@ -46,29 +46,29 @@ module _ (d : ℕ) (part : ItemReader) (law : PartLaw d part) where
             else (if is_item head.0 then (part syntax (long_of head.0) head.1 >>= λ y. Ok (Some y.0, y.1)) else Err
             UnexpectedTag)) x on.1 in
             let head : List ℕ = h.0.0 in
-            let behind : At = h.0.1 in
+            let after : At = h.0.1 in
             let t = taken 8 at h.0 fits h.1 in
-            elim (chosen (ends_sequence form head) (if long_of head == 0 then Ok (None, behind) else Err BadDelimiter)
-            (if is_item head then (part syntax (long_of head) behind >>= λ y. Ok (Some y.0, y.1)) else Err
+            elim (chosen (ends_sequence form head) (if long_of head == 0 then Ok (None, after) else Err BadDelimiter)
+            (if is_item head then (part syntax (long_of head) after >>= λ y. Ok (Some y.0, y.1)) else Err
             UnexpectedTag) (Ok x) h.2) [
               | inl ends ↦
-                  let none = allowed (long_of head == 0) BadDelimiter (Ok (None, behind)) x ends.1 in
+                  let none = allowed (long_of head == 0) BadDelimiter (Ok (None, after)) x ends.1 in
                   let mark = sequence_mark form head t.1 t.2 ends.0 none.0 in
-                  let took : Takes at (closed form sequence_end_text []) behind =
-                  subst (λ (y : List ℕ). Takes at y behind) mark.0 t.0 in
-                  subst (λ (y : Option Item × At). ItemTaken d syntax form at y.0 y.1) (ok_is (None, behind) x none.1)
-                  (took, ends_undefined form behind mark.1)
+                  let took : Takes at (closed form sequence_end_text []) after =
+                  subst (λ (y : List ℕ). Takes at y after) mark.0 t.0 in
+                  subst (λ (y : Option Item × At). ItemTaken d syntax form at y.0 y.1) (ok_is (None, after) x none.1)
+                  (took, ends_undefined form after mark.1)
               | inr more ↦
                   let is = allowed (is_item head) UnexpectedTag
-                  (part syntax (long_of head) behind >>= λ y. Ok (Some y.0, y.1)) x more.1 in
-                  let b = bind_ok (part syntax (long_of head) behind) (λ y. Ok (Some y.0, y.1)) x is.1 in
+                  (part syntax (long_of head) after >>= λ y. Ok (Some y.0, y.1)) x more.1 in
+                  let b = bind_ok (part syntax (long_of head) after) (λ y. Ok (Some y.0, y.1)) x is.1 in
                   let p : Item = b.0.0 in
-                  let l = law syntax (long_of head) behind b.0 t.0.fits
+                  let l = law syntax (long_of head) after b.0 t.0.fits
                   (long_below (drop 4 head) (AreBytes-drop 4 head t.2)) b.1 in
                   let front : head ≡ item_tag_text ++ little_bytes 4 (part_length p) =
                   head_is head item_tag t.1 t.2 is.0 ∙ ap (λ (n : ℕ). header_text item_tag None n) l.1 in
                   let both : Takes at (head ++ item_body p) b.0.1 =
-                  Takes-then at behind b.0.1 head (item_body p) t.0 l.0 in
+                  Takes-then at after b.0.1 head (item_body p) t.0 l.0 in
                   let whole : head ++ item_body p ≡ item_text p = ap (λ (y : List ℕ). y ++ item_body p) front
                   ∙ append_assoc item_tag_text (little_bytes 4 (part_length p)) (item_body p) in
                   let took : Takes at (item_text p) b.0.1 = subst (λ (y : List ℕ). Takes at y b.0.1) whole both in
@@ -84,7 +84,7 @@ module _ (d : ℕ) (part : ItemReader) (law : PartLaw d part) where
       sym (closed-append form mark (t ++ (n ++ b)) r) ∙ ap (λ (y : List ℕ). closed form mark y)
       (append_assoc t (n ++ b) r ∙ ap (λ (y : List ℕ). t ++ y) (append_assoc n b r))
 
-  -- the items behind one, or none
+  -- the items after one, or none
   next_item_takes : (syntax : Syntax) (form : Length) (at : At) (others : At → Reads Items)
       → ((a : At) (y : Items × At) → AreBytes a.bytes → others a ≡ Ok y → SequenceTaken syntax d form a y.0 y.1)
       → (o : Option Item) (next : At) (x : Items × At) → AreBytes next.bytes → ItemTaken d syntax form at o next
@@ -158,7 +158,7 @@ part_takes d set law syntax n at x fits below e =
 
 -- ---- levels
 
--- an item in which so many levels may nest, itself included
+-- an item in which a number of levels may nest, itself included
 pub reader_takes : (d : ℕ) → PartLaw d (item_reader d)
 reader_takes zero syntax n at x fits below e = absurd cc
 reader_takes (suc d) syntax n at x fits below e = part_takes d (set_with (item_reader d))

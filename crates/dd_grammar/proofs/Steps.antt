@@ -87,7 +87,7 @@ short_below bs fits = omega (arith, fits 0, fits 1)
 pub long_below : (bs : List ℕ) → AreBytes bs → from_le_bytes w32 bs < 2 ^ 32
 long_below bs fits = omega (arith, fits 0, fits 1, fits 2, fits 3)
 
--- what is written is read again, whatever stands behind it
+-- what is written is read again, whatever stands after it
 pub short_again : (n : ℕ) (ys : List ℕ) → n < 2 ^ 16 → from_le_bytes w16 (little_bytes 2 n ++ ys) ≡ n
 short_again n ys lt = from_le_bytes-to_le_bytes_2 n lt
 

@@ -1,4 +1,4 @@
--- What a step of reading took from the front of the bytes, and what the enclosing length leaves behind it.
+-- What a step of reading took from the front of the bytes, and what the enclosing length leaves after it.
 use Rattle.std.proofs.Common.{◌≡◌, ℕ, ◌+◌, ◌≤◌, true, false, nat_lt, List, [], ◌++◌, length, take, drop, Option, Some}
 use Rattle.std.proofs.Common.{None, Ok, refl, sym, ap, subst, ◌∙◌, append_assoc, arith}
 use Rattle.std.proofs.lemmas.Bool.{ltb-false, eqb-true}
@@ -8,7 +8,7 @@ use Rattle.dd_encoding.specs.declared.syntax.Length.{Length}
 use Rattle.dd_encoding.specs.declared.syntax.Length.TheVariants.{Defined, Undefined}
 use Rattle.dd_stream.specs.Bytes.{AreBytes}
 use Rattle.dd_encoding.specs.Spelling.{closed}
-use Rattle.dd_grammar.specs.Reading.{At, Reads, leaves_fewer, less, take_at, no_byte_left, within}
+use Rattle.dd_grammar.specs.Reading.{At, Reads, leaves_fewer, left_after, take_at, no_byte_left, within}
 use Rattle.dd_grammar.proofs.Steps.{bind_ok, passes, ok_is, AreBytes-drop, AreBytes-take}
 
 -- n bytes of what one length leaves are taken, and the other is left
@@ -33,9 +33,9 @@ Leaves-then None None (Some c) n m p q = absurd q
 Leaves-then (Some a) (Some b) None n m p q = absurd q
 
 -- where no fewer are left
-pub Leaves-less : (left : Option ℕ) (n : ℕ) → leaves_fewer left n ≡ false → Leaves left n (less left n)
-Leaves-less None n h = tt
-Leaves-less (Some left) n h = let enough : n ≤ left = ltb-false _ _ h in omega arith
+pub Leaves-left_after : (left : Option ℕ) (n : ℕ) → leaves_fewer left n ≡ false → Leaves left n (left_after left n)
+Leaves-left_after None n h = tt
+Leaves-left_after (Some left) n h = let enough : n ≤ left = ltb-false _ _ h in omega arith
 
 -- reading took this text
 pub record Takes (at : At) (text : List ℕ) (next : At) : Type 0 where
@@ -65,9 +65,9 @@ taken n at x fits e =
     let b = passes (nat_lt (length at.bytes) n) Truncated _ x a.1 in
     let long : n ≤ length at.bytes = ltb-false _ _ b.0 in
     let len : length (take n at.bytes) ≡ n = length-take-le n at.bytes long in
-    let next : At = record { left = less at.left n; bytes = drop n at.bytes } in
+    let next : At = record { left = left_after at.left n; bytes = drop n at.bytes } in
     let left : Leaves at.left (length (take n at.bytes)) next.left =
-    subst (λ (k : ℕ). Leaves at.left k next.left) (sym len) (Leaves-less at.left n a.0) in
+    subst (λ (k : ℕ). Leaves at.left k next.left) (sym len) (Leaves-left_after at.left n a.0) in
     let all : Takes at (take n at.bytes) next = record {
       parts = sym (take-append-drop n at.bytes);
       left = left;
@@ -82,7 +82,7 @@ abbrev pub Ends : Length → At → Type 0
 Ends Defined at = no_byte_left at.left at.bytes ≡ true
 Ends Undefined at = Unit {0}
 
--- the mark of an end stands behind all
+-- the mark of an end stands after all
 pub closed-append : (form : Length) (mark x y : List ℕ) → closed form mark (x ++ y) ≡ x ++ closed form mark y
 closed-append Defined mark x y = refl
 closed-append Undefined mark x y = append_assoc x y mark
@@ -103,14 +103,14 @@ module _ {X : Type 0} (n : ℕ) (at : At) (read : At → Reads X) (text : X → 
       × (n ≡ length (text x.0)) × Valid x.0
   within_takes x enough e =
       let inner : At = record { left = Some n; bytes = at.bytes } in
-      let a = bind_ok (read inner) (λ (y : X × At). Ok (y.0, record { left = less at.left n; bytes = y.1.bytes })) x e
+      let a = bind_ok (read inner) (λ (y : X × At). Ok (y.0, record { left = left_after at.left n; bytes = y.1.bytes })) x e
       in
       let y : X × At = a.0 in
       let l = law y a.1 in
       let len : n ≡ length (text y.0) = ended_length n (length (text y.0)) y.1 l.0.left l.2 in
-      let next : At = record { left = less at.left n; bytes = y.1.bytes } in
+      let next : At = record { left = left_after at.left n; bytes = y.1.bytes } in
       let left : Leaves at.left (length (text y.0)) next.left =
-      subst (λ (k : ℕ). Leaves at.left k next.left) len (Leaves-less at.left n enough) in
+      subst (λ (k : ℕ). Leaves at.left k next.left) len (Leaves-left_after at.left n enough) in
       let all : Takes at (text y.0) next = record { parts = l.0.parts; left = left; fits = l.0.fits } in
       subst (λ (z : X × At). Takes at (text z.0) z.1 × (n ≡ length (text z.0)) × Valid z.0) (ok_is (y.0, next) x a.2)
       (all, len, l.1)

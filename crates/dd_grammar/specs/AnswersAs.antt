@@ -1,8 +1,8 @@
--- What a function that reads returned, against the definition of reading: it is the same, and only want of memory says
--- nothing of the bytes. `is_memory` says which faults are want of memory.
+-- What a function that reads returned, against the definition of reading: it is the same, and only lack of memory says
+-- nothing of the bytes. `is_memory` says which faults are lack of memory.
 use Rattle.std.specs.Prelude.{◌≡◌, Bool, Result, Ok, Err, MatchBool, ⊤}
 
--- a returned fault is the one that reading gives, unless it is want of memory
+-- a returned fault is the one that reading gives, unless it is lack of memory
 abbrev pub FailsAs : {Y E : Type 0} → (E → Bool) → E → Result Y E → Type 0
 FailsAs is_memory e read = MatchBool (is_memory e) ⊤ (read ≡ Err e)
 

@@ -23,7 +23,7 @@ shape_view s = record { vr = s.vr; length = s.length }
 abbrev pub header_view : Said → Header
 header_view h = record { tag = h.tag; shape = shape_view h.shape }
 
--- the length of a long header stands behind its first eight bytes
+-- the length of a long header stands after its first eight bytes
 abbrev pub long_header_at : Tag → Vr → At → Reads (Option Header)
 long_header_at tag vr at =
     long_length_at at >>= λ n. Ok (Some (record { tag = tag; shape = record { vr = Some vr; length = n.0 } }), n.1)

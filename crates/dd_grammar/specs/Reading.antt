@@ -41,17 +41,17 @@ abbrev pub leaves_fewer : Option ℕ → ℕ → Bool
 leaves_fewer None n = false
 leaves_fewer (Some left) n = nat_lt left n
 
--- what it leaves behind n bytes
-abbrev pub less : Option ℕ → ℕ → Option ℕ
-less None n = None
-less (Some left) n = Some (left - n)
+-- what it leaves after n bytes
+abbrev pub left_after : Option ℕ → ℕ → Option ℕ
+left_after None n = None
+left_after (Some left) n = Some (left - n)
 
 -- takes n bytes
 unfoldable pub take_at : ℕ → At → Reads (List ℕ)
 take_at n at =
     if leaves_fewer at.left n then Err Overrun
     else (if nat_lt (length at.bytes) n then Err Truncated
-    else Ok (take n at.bytes, record { left = less at.left n; bytes = drop n at.bytes }))
+    else Ok (take n at.bytes, record { left = left_after at.left n; bytes = drop n at.bytes }))
 
 -- the tag that eight bytes begin with, and the number in the last four or two of them
 abbrev pub tag_of : List ℕ → Tag
@@ -100,7 +100,7 @@ head_at form at = if is_over form at then Ok (None, at) else eight_at at
 
 -- ---- the header of an element
 
--- the length in the four bytes behind the first eight of a long header
+-- the length in the four bytes after the first eight of a long header
 unfoldable pub long_length_at : At → Reads ℕ
 long_length_at at = take_at 4 at >>= λ n. Ok (from_le_bytes w32 n.0, n.1)
 
@@ -158,13 +158,13 @@ opening_at syntax form low head at =
     if ends_set form head then (if long_of head == 0 then Ok (None, at) else Err BadDelimiter)
     else (header_at syntax low head at >>= there)
 
-abbrev pub behind_head : Syntax → Length → ℕ → Option (List ℕ) × At → Reads (Option Header)
-behind_head syntax form low (None, at) = Ok (None, at)
-behind_head syntax form low (Some head, at) = opening_at syntax form low head at
+abbrev pub after_head : Syntax → Length → ℕ → Option (List ℕ) × At → Reads (Option Header)
+after_head syntax form low (None, at) = Ok (None, at)
+after_head syntax form low (Some head, at) = opening_at syntax form low head at
 
 -- the next header of a set, or the end of the set
 unfoldable pub front_at : Syntax → Length → ℕ → At → Reads (Option Header)
-front_at syntax form low at = head_at form at >>= behind_head syntax form low
+front_at syntax form low at = head_at form at >>= after_head syntax form low
 
 -- ---- the header of an item
 
@@ -179,13 +179,13 @@ item_opening form head =
     if ends_sequence form head then (if long_of head == 0 then Ok None else Err BadDelimiter)
     else (if is_item head then Ok (Some (long_of head)) else Err UnexpectedTag)
 
-abbrev pub behind_item_head : Length → Option (List ℕ) × At → Reads (Option ℕ)
-behind_item_head form (None, at) = Ok (None, at)
-behind_item_head form (Some head, at) = item_opening form head >>= λ length. Ok (length, at)
+abbrev pub after_item_head : Length → Option (List ℕ) × At → Reads (Option ℕ)
+after_item_head form (None, at) = Ok (None, at)
+after_item_head form (Some head, at) = item_opening form head >>= λ length. Ok (length, at)
 
 -- the length of the next item, or the end of the sequence
 unfoldable pub item_front_at : Length → At → Reads (Option ℕ)
-item_front_at form at = head_at form at >>= behind_item_head form
+item_front_at form at = head_at form at >>= after_item_head form
 
 -- ---- fragments
 
@@ -196,13 +196,13 @@ fragment_length n =
     else (if n % 2 == 1 then Err OddLength
     else Ok n)
 
-abbrev pub fragment_behind : Option ℕ × At → Reads (Option (List ℕ))
-fragment_behind (None, at) = Ok (None, at)
-fragment_behind (Some n, at) = fragment_length n >>= λ k. take_at k at >>= there
+abbrev pub fragment_after : Option ℕ × At → Reads (Option (List ℕ))
+fragment_after (None, at) = Ok (None, at)
+fragment_after (Some n, at) = fragment_length n >>= λ k. take_at k at >>= there
 
 -- the next fragment, or the end of the list; what stands before it is the header of an item
 unfoldable pub fragment_at : At → Reads (Option (List ℕ))
-fragment_at at = item_front_at Undefined at >>= fragment_behind
+fragment_at at = item_front_at Undefined at >>= fragment_after
 
 abbrev pub next_fragments : (At → Reads (List (List ℕ))) → Option (List ℕ) × At → Reads (List (List ℕ))
 next_fragments others (None, at) = Ok ([], at)
@@ -231,7 +231,7 @@ ItemReader = Syntax → ℕ → At → Reads Item
 -- what the next n bytes alone hold
 abbrev pub within : {X : Type 0} → ℕ → At → (At → Reads X) → Reads X
 within n at read = read (record { left = Some n; bytes = at.bytes })
-    >>= λ x. Ok (x.0, record { left = less at.left n; bytes = x.1.bytes })
+    >>= λ x. Ok (x.0, record { left = left_after at.left n; bytes = x.1.bytes })
 
 abbrev pub undefined_at : SequenceReader → Option Syntax → At → Reads Content
 undefined_at sequence None at = Err UndefinedLength
@@ -249,7 +249,7 @@ abbrev pub open_at : SequenceReader → Bool → Option Syntax → At → Reads 
 open_at sequence true inner at = fragments_here at >>= λ x. Ok (fragments x.0, x.1)
 open_at sequence false inner at = undefined_at sequence inner at
 
--- the value behind a header
+-- the value after a header
 unfoldable pub content_at : SequenceReader → Syntax → Header → At → Reads Content
 content_at sequence syntax header at =
     if header.shape.length == undefined_length
@@ -258,16 +258,16 @@ content_at sequence syntax header at =
     else (if leaves_fewer at.left header.shape.length then Err Overrun
     else defined_at sequence (item_syntax syntax header.shape.vr Defined) header.shape.length at))
 
--- the element behind its header
-abbrev pub element_behind : SequenceReader → Syntax → Option Header × At → Reads (Option Element)
-element_behind sequence syntax (None, at) = Ok (None, at)
-element_behind sequence syntax (Some header, at) =
+-- the element after its header
+abbrev pub element_after : SequenceReader → Syntax → Option Header × At → Reads (Option Element)
+element_after sequence syntax (None, at) = Ok (None, at)
+element_after sequence syntax (Some header, at) =
     content_at sequence syntax header at
     >>= λ x. Ok (Some (record { tag = header.tag; vr = header.shape.vr; content = x.0 }), x.1)
 
 -- the next element, or the end of the set
 unfoldable pub element_at : SequenceReader → Syntax → Length → ℕ → At → Reads (Option Element)
-element_at sequence syntax form low at = front_at syntax form low at >>= element_behind sequence syntax
+element_at sequence syntax form low at = front_at syntax form low at >>= element_after sequence syntax
 
 -- ---- a set
 
@@ -283,14 +283,14 @@ elements_at sequence syntax form (suc most) low at =
 
 -- ---- a sequence
 
--- the item behind its header
-abbrev pub item_behind : ItemReader → Syntax → Option ℕ × At → Reads (Option Item)
-item_behind part syntax (None, at) = Ok (None, at)
-item_behind part syntax (Some n, at) = part syntax n at >>= there
+-- the item after its header
+abbrev pub item_after : ItemReader → Syntax → Option ℕ × At → Reads (Option Item)
+item_after part syntax (None, at) = Ok (None, at)
+item_after part syntax (Some n, at) = part syntax n at >>= there
 
 -- the next item, or the end of the sequence
 unfoldable pub item_at : ItemReader → Syntax → Length → At → Reads (Option Item)
-item_at part syntax form at = item_front_at form at >>= item_behind part syntax
+item_at part syntax form at = item_front_at form at >>= item_after part syntax
 
 abbrev pub next_items : (At → Reads Items) → Option Item × At → Reads Items
 next_items others (None, at) = Ok (no_items, at)
@@ -300,7 +300,7 @@ unfoldable pub items_at : ItemReader → Syntax → Length → ℕ → At → Re
 items_at part syntax form zero at = Err Truncated
 items_at part syntax form (suc most) at = item_at part syntax form at >>= next_items (items_at part syntax form most)
 
--- an item behind its tag, with the length that its header gives
+-- an item after its tag, with the length that its header gives
 unfoldable pub part_at : SetReader → Syntax → ℕ → At → Reads Item
 part_at set syntax n at =
     if n == undefined_length then (set syntax Undefined at >>= λ x. Ok (record { length = Undefined; set = x.0 }, x.1))

@@ -4,7 +4,7 @@ ghost use Rattle.std.specs.Prelude.{◌≡◌, ◌≢◌, ◌==◌, ℕ, List, l
 ghost use Rattle.dd_grammar.specs.declared.fault.SetFault.TheVariants.{Memory};
 ghost use Rattle.dd_grammar.specs.Checks.{header_view, opened, sorted, reached};
 ghost use Rattle.dd_grammar.specs.Reading.{opening_at, tagged_at, item_opening, At, SequenceReader, SetReader};
-ghost use Rattle.dd_grammar.specs.Reading.{leaves_fewer, less, is_over, content_at, part_at, fragment_length};
+ghost use Rattle.dd_grammar.specs.Reading.{leaves_fewer, left_after, is_over, content_at, part_at, fragment_length};
 
 use crate::fault::SetFault;
 use crate::header_bytes::{
@@ -43,7 +43,7 @@ pub enum Opening {
     Long(Tag, Vr),
 }
 
-/// What stands behind a header.
+/// What stands after a header.
 #[derive(Clone, Copy)]
 pub enum Sort {
     /// A value of this length in bytes.
@@ -76,10 +76,10 @@ pub fn leaves_fewer(left: Option<u64>, n: u64) -> bool
     }
 }
 
-/// Gives what the nearest enclosing length, which leaves `left` bytes, leaves behind n of them: 0 where
+/// Gives what the nearest enclosing length, which leaves `left` bytes, leaves after n of them: 0 where
 /// it leaves fewer than n, and None where no length encloses.
-pub fn less(left: Option<u64>, n: u64) -> Option<u64>
-    ensures { result ≡ less left n }
+pub fn left_after(left: Option<u64>, n: u64) -> Option<u64>
+    ensures { result ≡ left_after left n }
 {
     match left {
         None => None,
@@ -179,7 +179,7 @@ pub fn item_opening(form: Length, head: &[u8; HEADER_SIZE]) -> Result<Option<u32
     Ok(Some(long_in(head)))
 }
 
-/// Checks the length of a value, and tells what stands behind its header, where the nearest enclosing
+/// Checks the length of a value, and tells what stands after its header, where the nearest enclosing
 /// length leaves `left` bytes (PS3.5 sections 6.2.2 and 7.5, annex A.4). 6 UndefinedLength where neither
 /// a sequence nor fragments may have an undefined one, 5 OddLength where it is odd, and 9 Overrun where
 /// it passes what is left.

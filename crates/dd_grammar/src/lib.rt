@@ -13,9 +13,9 @@ mod syntax_rules;
 
 pub use checks::{
     Header, Opening, Reach, Shape, Sort, element_opening, ends_here, fragment_length, item_opening,
-    leaves_fewer, less, reach_of, sort_of,
+    leaves_fewer, left_after, reach_of, sort_of,
 };
 pub use fault::SetFault;
 pub use syntax_rules::{
-    MAX_LEVELS, UNDEFINED_LENGTH, encapsulates, is_pixel_data, item_syntax, low_behind, names_vr,
+    MAX_LEVELS, UNDEFINED_LENGTH, encapsulates, is_pixel_data, item_syntax, low_after, names_vr,
 };

@@ -19,8 +19,8 @@ pub const PIXEL_DATA: Tag = Tag {
     element: 0x0010,
 };
 
-/// Gives the least number that a tag may have behind this one (PS3.5 section 7.1).
-pub fn low_behind(tag: Tag) -> u64
+/// Gives the least number that a tag may have after this one (PS3.5 section 7.1).
+pub fn low_after(tag: Tag) -> u64
     ensures { result ≡ number_of tag + 1 }
 {
     u64::from(tag.number()) + 1

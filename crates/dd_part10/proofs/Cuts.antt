@@ -1,4 +1,4 @@
--- Where a file is cut: a check of its first bytes says nothing of those behind them.
+-- Where a file is cut: a check of its first bytes says nothing of those after them.
 use Rattle.std.proofs.Common.{◌≡◌, ◌≤◌, ◌<◌, ◌==◌, ℕ, Bool, true, false, if◌then◌else◌, nat_lt, List, [], ◌∷◌, ◌++◌}
 use Rattle.std.proofs.Common.{length, take, drop, Option, Some, None, option_map, Result, Ok, Err, refl, ap, ◌∙◌}
 use Rattle.std.proofs.Common.{arith, length-append}
@@ -17,9 +17,9 @@ use Rattle.dd_grammar.specs.AnswersAs.{FailsAs}
 use Rattle.dd_part10.specs.Faults.{is_memory}
 use Rattle.dd_encoding.specs.Meta.{group_length_tag}
 use Rattle.dd_grammar.specs.Reading.{◌>>=◌}
-use Rattle.dd_part10.specs.Reading.{behind, behind_prefix, count_in, split_at, behind_length}
+use Rattle.dd_part10.specs.Reading.{rest_after, rest_after_prefix, count_in, split_at, after_length}
 use Rattle.dd_part10.proofs.Faults.{fails_along, bind_fails}
-use Rattle.dd_part10.proofs.Fronts.{behind-is}
+use Rattle.dd_part10.proofs.Fronts.{rest_after-is}
 use Rattle.dd_part10.proofs.Steps.{bind_ok, onward, there, passes}
 
 if_map : (b : Bool) (o p : Option (List ℕ)) (g : List ℕ → List ℕ) → p ≡ option_map g o
@@ -27,14 +27,14 @@ if_map : (b : Bool) (o p : Option (List ℕ)) (g : List ℕ → List ℕ) → p 
 if_map true o p g h = h
 if_map false o p g h = refl
 
--- what stands behind a front, of bytes that have others behind them
-behind-more : (front bs more : List ℕ) → length front ≤ length bs
-    → behind front (bs ++ more) ≡ option_map (λ rest. rest ++ more) (behind front bs)
-behind-more [] bs more long = refl
-behind-more (first ∷ front) [] more long = absurd (omega (arith, long))
-behind-more (first ∷ front) (byte ∷ bs) more long =
-    if_map (first == byte) (behind front bs) (behind front (bs ++ more)) (λ rest. rest ++ more)
-    (behind-more front bs more (omega (arith, long)))
+-- what stands after a front, of bytes that have others after them
+rest_after-more : (front bs more : List ℕ) → length front ≤ length bs
+    → rest_after front (bs ++ more) ≡ option_map (λ rest. rest ++ more) (rest_after front bs)
+rest_after-more [] bs more long = refl
+rest_after-more (first ∷ front) [] more long = absurd (omega (arith, long))
+rest_after-more (first ∷ front) (byte ∷ bs) more long =
+    if_map (first == byte) (rest_after front bs) (rest_after front (bs ++ more)) (λ rest. rest ++ more)
+    (rest_after-more front bs more (omega (arith, long)))
 
 -- ---- the preamble and the prefix
 
@@ -43,30 +43,30 @@ prefix_and : (o : Option (List ℕ)) (more : List ℕ) → ((rest : List ℕ) �
 prefix_and None more none = refl
 prefix_and (Some rest) more none = rw (none rest refl) refl
 
--- they are found in the first 132 bytes, and behind them stand the others
+-- they are found in the first 132 bytes, and after them stand the others
 pub prefix_cut : (front more : List ℕ) → length front ≡ 132
-    → behind_prefix (front ++ more) ≡ (behind_prefix front >>= λ _. Ok more)
-unfolding behind_prefix
+    → rest_after_prefix (front ++ more) ≡ (rest_after_prefix front >>= λ _. Ok more)
+unfolding rest_after_prefix
 prefix_cut front more size =
     let back : length (drop 128 front) ≡ 4 = omega (arith, length-drop 128 front) in
-    ap (λ (bs : List ℕ). ok_or (behind prefix bs) NotPart10) (drop-append-le 128 front more (omega arith))
-    ∙ ap (λ (o : Option (List ℕ)). ok_or o NotPart10) (behind-more prefix (drop 128 front) more (omega arith))
-    ∙ prefix_and (behind prefix (drop 128 front)) more (λ rest found.
+    ap (λ (bs : List ℕ). ok_or (rest_after prefix bs) NotPart10) (drop-append-le 128 front more (omega arith))
+    ∙ ap (λ (o : Option (List ℕ)). ok_or o NotPart10) (rest_after-more prefix (drop 128 front) more (omega arith))
+    ∙ prefix_and (rest_after prefix (drop 128 front)) more (λ rest found.
     nil_from_length rest (omega (
       arith,
       back,
-      ap length (behind-is prefix (drop 128 front) rest found),
+      ap length (rest_after-is prefix (drop 128 front) rest found),
       length-append prefix rest,
     )))
 
 -- ---- the group length
 
--- it is a number, and so many bytes behind it
-pub length_is : (bs : List ℕ) → behind_length bs ≡ (count_in bs >>= λ n. split_at n (drop 12 bs))
-unfolding behind_length
+-- it is a number, and that number of bytes after it
+pub length_is : (bs : List ℕ) → after_length bs ≡ (count_in bs >>= λ n. split_at n (drop 12 bs))
+unfolding after_length
 length_is bs = refl
 
--- the number in what stands behind its header
+-- the number in what stands after its header
 abbrev number_of_rest : List ℕ → Result ℕ FileFault
 number_of_rest rest = if nat_lt (length rest) 4 then Err GroupLength
     else (if nat_lt max_group_length (from_le_bytes w32 rest) then Err GroupLength else Ok (from_le_bytes w32 rest))
@@ -90,16 +90,16 @@ pub count_cut : (front more : List ℕ) → length front ≡ 12 → count_in (fr
 unfolding count_in
 count_cut front more size =
     let header = header_text group_length_tag (Some UL) 4 in
-    ap (λ (o : Option (List ℕ)). ok_or o GroupLength >>= number_of_rest) (behind-more header front more (omega arith))
-    ∙ number_and (behind header front) more (λ rest found. omega
-    (arith, ap length (behind-is header front rest found), length-append header rest))
+    ap (λ (o : Option (List ℕ)). ok_or o GroupLength >>= number_of_rest) (rest_after-more header front more (omega arith))
+    ∙ number_and (rest_after header front) more (λ rest found. omega
+    (arith, ap length (rest_after-is header front rest found), length-append header rest))
 
--- behind its header stand four bytes
-pub header_long : (front rest : List ℕ) → behind (header_text group_length_tag (Some UL) 4) front ≡ Some rest
+-- after its header stand four bytes
+pub header_long : (front rest : List ℕ) → rest_after (header_text group_length_tag (Some UL) 4) front ≡ Some rest
     → 4 ≤ length rest → 12 ≤ length front
 header_long front rest found size =
     let header = header_text group_length_tag (Some UL) 4 in
-    omega (arith, size, ap length (behind-is header front rest found), length-append header rest)
+    omega (arith, size, ap length (rest_after-is header front rest found), length-append header rest)
 
 -- where it was found there are 12 bytes
 pub count_long : (front : List ℕ) (n : ℕ) → count_in front ≡ Ok n → 12 ≤ length front
@@ -109,28 +109,28 @@ count_long front n h =
     let next : List ℕ → Result ℕ FileFault = λ rest. if nat_lt (length rest) 4 then Err GroupLength
     else (if nat_lt max_group_length (from_le_bytes w32 rest) then Err GroupLength else Ok (from_le_bytes w32 rest))
     in
-    let a = bind_ok (ok_or (behind header front) GroupLength) next n h in
-    let is = behind-is header front a.0 (there (behind header front) GroupLength a.0 a.1) in
+    let a = bind_ok (ok_or (rest_after header front) GroupLength) next n h in
+    let is = rest_after-is header front a.0 (there (rest_after header front) GroupLength a.0 a.1) in
     let b = passes (nat_lt (length a.0) 4) GroupLength
     (if nat_lt max_group_length (from_le_bytes w32 a.0) then Err GroupLength else Ok (from_le_bytes w32 a.0)) n a.2 in
     omega (arith, ap length is, length-append header a.0, ltb-false (length a.0) 4 b.0)
 
 -- a group length that is none
 pub length_fails : (e : FileFault) (bs : List ℕ) → FailsAs is_memory e (count_in bs)
-    → FailsAs is_memory e (behind_length bs)
+    → FailsAs is_memory e (after_length bs)
 length_fails e bs h =
-    fails_along e (count_in bs) (behind_length bs) h
+    fails_along e (count_in bs) (after_length bs) h
     (λ f k. length_is bs ∙ bind_fails (count_in bs) (λ n. split_at n (drop 12 bs)) f k)
 
 -- fewer bytes than it counts, and as many
 pub split_fails : (bs : List ℕ) (n : ℕ) → count_in bs ≡ Ok n → length (drop 12 bs) < n
-    → behind_length bs ≡ Err GroupLength
+    → after_length bs ≡ Err GroupLength
 split_fails bs n count few =
     let short : split_at n (drop 12 bs) ≡ Err GroupLength = rw (lt-ltb (length (drop 12 bs)) n few) refl in
     length_is bs ∙ onward (count_in bs) n (λ k. split_at k (drop 12 bs)) count ∙ short
 
 pub split_gives : (bs group set : List ℕ) (n : ℕ) → count_in bs ≡ Ok n → n ≤ length (drop 12 bs)
-    → group ≡ take n (drop 12 bs) → set ≡ drop n (drop 12 bs) → behind_length bs ≡ Ok (group, set)
+    → group ≡ take n (drop 12 bs) → set ≡ drop n (drop 12 bs) → after_length bs ≡ Ok (group, set)
 split_gives bs group set n count enough front back =
     let whole : split_at n (drop 12 bs) ≡ Ok
     (group, set) = rw (le-ltb (length (drop 12 bs)) n enough, front, back) refl in

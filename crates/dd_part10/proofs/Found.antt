@@ -34,11 +34,11 @@ use Rattle.dd_part10.specs.File.{max_group_length, StartsAbove, IsFile}
 use Rattle.dd_encoding.specs.Meta.{group_length_tag, class_tag, instance_tag, transfer_tag}
 use Rattle.dd_part10.specs.Meta.{HasMetaUid, IsMeta}
 use Rattle.dd_grammar.specs.Reading.{◌>>=◌}
-use Rattle.dd_part10.specs.Reading.{with_fault, FileParts, behind, behind_prefix, count_in, split_at}
-use Rattle.dd_part10.specs.Reading.{behind_length}
+use Rattle.dd_part10.specs.Reading.{with_fault, FileParts, rest_after, rest_after_prefix, count_in, split_at}
+use Rattle.dd_part10.specs.Reading.{after_length}
 use Rattle.dd_part10.specs.Reading.{is_alone, uid_of, uid_at, uids_in, meta_in, starts_above, set_in, file_in}
 use Rattle.dd_encoding.specs.Syntaxes.{syntax_of}
-use Rattle.dd_part10.proofs.Fronts.{behind-is}
+use Rattle.dd_part10.proofs.Fronts.{rest_after-is}
 use Rattle.dd_part10.proofs.Steps.{bind_ok, passes, allowed, there, was_read, ok_is}
 use Rattle.dd_part10.proofs.Tags.{found_there, same_tag-is, alone_from}
 
@@ -51,12 +51,12 @@ record Prefixed (file rest : List ℕ) : Type 0 where
   free : length preamble ≡ preamble_length
   fits : AreBytes rest
 
--- what was read behind the prefix
-prefix_takes : (file rest : List ℕ) → AreBytes file → behind_prefix file ≡ Ok rest → Prefixed file rest
-unfolding behind_prefix
+-- what was read after the prefix
+prefix_takes : (file rest : List ℕ) → AreBytes file → rest_after_prefix file ≡ Ok rest → Prefixed file rest
+unfolding rest_after_prefix
 prefix_takes file rest fits e =
-    let is : drop 128 file ≡ prefix ++ rest = behind-is prefix (drop 128 file) rest
-    (there (behind prefix (drop 128 file)) NotPart10 rest e) in
+    let is : drop 128 file ≡ prefix ++ rest = rest_after-is prefix (drop 128 file) rest
+    (there (rest_after prefix (drop 128 file)) NotPart10 rest e) in
     let len : length (drop 128 file) ≡ 4 + length rest = ap length is ∙ length-append prefix rest in
     record {
       preamble = take 128 file;
@@ -85,7 +85,7 @@ split_takes n bs x e =
     let a = passes (nat_lt (length bs) n) GroupLength (Ok (take n bs, drop n bs)) x e in
     (ltb-false _ _ a.0, sym (ok_is (take n bs, drop n bs) x a.1))
 
--- the number behind a header
+-- the number after a header
 record Numbered (bs : List ℕ) (n : ℕ) : Type 0 where
   rest : List ℕ
   is : bs ≡ header_text group_length_tag (Some UL) 4 ++ rest
@@ -97,7 +97,7 @@ count_takes : (bs : List ℕ) (n : ℕ) → count_in bs ≡ Ok n → Numbered bs
 unfolding count_in
 count_takes bs n e =
     let header : List ℕ = header_text group_length_tag (Some UL) 4 in
-    let a = bind_ok (ok_or (behind header bs) GroupLength)
+    let a = bind_ok (ok_or (rest_after header bs) GroupLength)
     (λ (rest : List ℕ). if nat_lt (length rest) 4 then Err GroupLength
     else (if nat_lt max_group_length (from_le_bytes w32 rest) then Err GroupLength else Ok (from_le_bytes w32 rest))) n
     e in
@@ -108,13 +108,13 @@ count_takes bs n e =
     let same : number ≡ n = ok_is number n c.1 in
     record {
       rest = a.0;
-      is = behind-is header bs a.0 (there (behind header bs) GroupLength a.0 a.1);
+      is = rest_after-is header bs a.0 (there (rest_after header bs) GroupLength a.0 a.1);
       long = ltb-false (length a.0) 4 b.0;
       number = sym same;
       short = subst (λ (k : ℕ). k ≤ max_group_length) same (ltb-false max_group_length number c.0);
     }
 
--- the number behind a header, spelled again
+-- the number after a header, spelled again
 counted : (header rest bs : List ℕ) (n : ℕ) → bs ≡ header ++ rest → n ≡ from_le_bytes w32 rest → 4 ≤ length rest
     → AreBytes rest → n ≤ length (drop 4 rest)
     → bs ≡ (header ++ little_bytes 4 (length (take n (drop 4 rest)))) ++ (take n (drop 4 rest) ++ drop n (drop 4 rest))
@@ -136,9 +136,9 @@ counted header rest bs n is count long fits within =
     ∙ sym (append_assoc header (little_bytes 4 (length (take n (drop 4 rest))))
     (take n (drop 4 rest) ++ drop n (drop 4 rest)))
 
--- what was read behind the group length
-length_takes : (bs : List ℕ) (x : List ℕ × List ℕ) → AreBytes bs → behind_length bs ≡ Ok x → Counted bs x.0 x.1
-unfolding behind_length
+-- what was read after the group length
+length_takes : (bs : List ℕ) (x : List ℕ × List ℕ) → AreBytes bs → after_length bs ≡ Ok x → Counted bs x.0 x.1
+unfolding after_length
 length_takes bs x fits e =
     let a = bind_ok (count_in bs) (λ k. split_at k (drop 12 bs)) x e in
     let n : ℕ = a.0 in
@@ -147,12 +147,12 @@ length_takes bs x fits e =
     let back : drop 12 bs ≡ drop 4 rest = ap (λ (s : List ℕ). drop 12 s) c.is in
     let s = split_takes n (drop 4 rest) x (subst (λ (t : List ℕ). split_at n t ≡ Ok x) back a.2) in
     let bytes_rest : AreBytes rest = subst (λ (t : List ℕ). AreBytes (drop 8 t)) c.is (AreBytes-drop 8 bs fits) in
-    let bytes_behind : AreBytes (drop 4 rest) = AreBytes-drop 4 rest bytes_rest in
+    let bytes_after : AreBytes (drop 4 rest) = AreBytes-drop 4 rest bytes_rest in
     let len : length (take n (drop 4 rest)) ≡ n = omega (arith, length-take n (drop 4 rest), s.0) in
     let made : Counted bs (take n (drop 4 rest)) (drop n (drop 4 rest)) = record {
       parts = counted (header_text group_length_tag (Some UL) 4) rest bs n c.is c.number c.long bytes_rest s.0;
       short = omega (arith, len, c.short);
-      fits = (AreBytes-take n (drop 4 rest) bytes_behind, AreBytes-drop n (drop 4 rest) bytes_behind);
+      fits = (AreBytes-take n (drop 4 rest) bytes_after, AreBytes-drop n (drop 4 rest) bytes_after);
     } in
     subst (λ (y : List ℕ × List ℕ). Counted bs y.0 y.1) (sym s.1) made
 
@@ -255,7 +255,7 @@ set_takes syntax text set fits room e =
 
 -- ---- the whole
 
--- parts of a whole of so many bytes are no longer
+-- parts of a whole are no longer than it
 whole_length : (file preamble rest group set : List ℕ) (n : ℕ) → file ≡ preamble ++ (prefix ++ rest)
     → rest ≡ group_length_text n ++ (group ++ set) → length file < 2 ^ 64
     → (length group < 2 ^ 64) × (length set < 2 ^ 64)
@@ -268,7 +268,7 @@ whole_length file preamble rest group set n one two room =
     let d : length (group ++ set) ≡ length group + length set = length-append group set in
     (omega (arith, a, b, c, d, room), omega (arith, a, b, c, d, room))
 
--- what is read of a file behind its data set, its syntax, its meta information, its parts and its prefix
+-- what is read of a file after its data set, its syntax, its meta information, its parts and its prefix
 abbrev pub with_set : Meta → ℕ → Elements → Result FileParts FileFault
 with_set meta n set = Ok (record { meta = meta; set = set; set_at = 144 + n })
 
@@ -282,15 +282,15 @@ abbrev pub with_parts : List ℕ × List ℕ → Result FileParts FileFault
 with_parts parts = meta_in parts.0 >>= with_meta parts
 
 abbrev pub with_rest : List ℕ → Result FileParts FileFault
-with_rest rest = behind_length rest >>= with_parts
+with_rest rest = after_length rest >>= with_parts
 
 -- what is read as a file is one
 pub file_found : (file : List ℕ) (x : FileParts) → file_in file ≡ Ok x → AreBytes file → length file < 2 ^ 64
     → IsFile file x.meta x.set x.set_at
 unfolding file_in
 file_found file x e fits room =
-    let a = bind_ok (behind_prefix file) with_rest x e in
-    let b = bind_ok (behind_length a.0) with_parts x a.2 in
+    let a = bind_ok (rest_after_prefix file) with_rest x e in
+    let b = bind_ok (after_length a.0) with_parts x a.2 in
     let c = bind_ok (meta_in b.0.0) (with_meta b.0) x b.2 in
     let d = bind_ok (ok_or (syntax_of c.0.transfer) (OtherSyntax c.0.transfer)) (with_syntax b.0 c.0) x c.2 in
     let s = bind_ok (set_in d.0 b.0.1) (with_set c.0 (length b.0.0)) x d.2 in

@@ -1,4 +1,4 @@
--- A head with a data set behind it is a file.
+-- A head with a data set after it is a file.
 use Rattle.std.proofs.Common.{◌≡◌, ◌≢◌, ℕ, ◌+◌, ◌*◌, ◌%◌, ◌<◌, ◌≤◌, ◌^◌, ◌==◌, true, false, if◌then◌else◌, List, []}
 use Rattle.std.proofs.Common.{◌∷◌, ◌++◌, length, replicate, All, Contains, Some, refl, sym, ap, subst, ◌∙◌, arith}
 use Rattle.std.proofs.Common.{append_assoc, lit<, lit≤}
@@ -178,7 +178,7 @@ group_short meta class instance transfer =
       transfer.short,
     )
 
--- a head with a data set behind it is a file
+-- a head with a data set after it is a file
 pub head_is_file : (meta : Meta) (syntax : Syntax) (set : Elements) (text : List ℕ) → IsUid meta.class
     → IsUid meta.instance → IsUid meta.transfer
     → syntax_of meta.transfer ≡ Some syntax → Spells syntax set text → StartsAbove set

@@ -32,25 +32,25 @@ use Rattle.dd_part10.specs.File.{max_group_length, StartsAbove, IsFile}
 use Rattle.dd_encoding.specs.Meta.{group_length_tag, class_tag, instance_tag, transfer_tag}
 use Rattle.dd_part10.specs.Meta.{HasMetaUid, IsMeta}
 use Rattle.dd_grammar.specs.Reading.{◌>>=◌}
-use Rattle.dd_part10.specs.Reading.{with_fault, behind, behind_prefix, count_in, split_at, behind_length}
+use Rattle.dd_part10.specs.Reading.{with_fault, rest_after, rest_after_prefix, count_in, split_at, after_length}
 use Rattle.dd_part10.specs.Reading.{is_alone}
 use Rattle.dd_part10.specs.Reading.{uid_of, uid_at, uids_in, meta_in, starts_above, set_in, file_in}
 use Rattle.dd_encoding.specs.Syntaxes.{syntax_of}
 use Rattle.dd_part10.proofs.Found.{length_parts, with_set, with_syntax, with_meta, with_parts, with_rest}
-use Rattle.dd_part10.proofs.Fronts.{behind-front}
+use Rattle.dd_part10.proofs.Fronts.{rest_after-front}
 use Rattle.dd_part10.proofs.Steps.{onward, into}
 use Rattle.dd_part10.proofs.Tags.{found_in, alone_to}
 
 -- ---- the preamble, the prefix and the group length
 
--- behind the prefix
+-- after the prefix
 prefix_again : (preamble rest : List ℕ) → length preamble ≡ preamble_length
-    → behind_prefix (preamble ++ (prefix ++ rest)) ≡ Ok rest
-unfolding behind_prefix
+    → rest_after_prefix (preamble ++ (prefix ++ rest)) ≡ Ok rest
+unfolding rest_after_prefix
 prefix_again preamble rest len =
     let at : drop 128 (preamble ++ (prefix ++ rest)) ≡ prefix ++ rest = drop_at preamble (prefix ++ rest) 128 len in
-    ap (λ (s : List ℕ). ok_or (behind prefix s) NotPart10) at
-    ∙ ap (λ (o : Option (List ℕ)). ok_or o NotPart10) (behind-front prefix rest)
+    ap (λ (s : List ℕ). ok_or (rest_after prefix s) NotPart10) at
+    ∙ ap (λ (o : Option (List ℕ)). ok_or o NotPart10) (rest_after-front prefix rest)
 
 -- the bytes that the length counts
 split_again : (group set : List ℕ) → split_at (length group) (group ++ set) ≡ Ok (group, set)
@@ -59,7 +59,7 @@ split_again group set =
     ≡ false = le-ltb _ _ (omega (arith, length-append group set)) in
     rw (enough, take_at group set (length group) refl, drop_at group set (length group) refl) refl
 
--- a number, whatever stands behind it
+-- a number, whatever stands after it
 number_again : (n : ℕ) (bs : List ℕ) → n ≤ max_group_length
     → (if nat_lt (length (little_bytes 4 n ++ bs)) 4 then Err GroupLength
     else (if nat_lt max_group_length (from_le_bytes w32 (little_bytes 4 n ++ bs)) then Err GroupLength
@@ -80,15 +80,15 @@ count_again n bs short =
     else (if nat_lt max_group_length (from_le_bytes w32 r) then Err GroupLength else Ok (from_le_bytes w32 r)) in
     let parts : group_length_text n ++ bs ≡ header ++ rest =
     ap (λ (s : List ℕ). s ++ bs) (length_parts n) ∙ append_assoc header (little_bytes 4 n) bs in
-    let there : ok_or (behind header (header ++ rest)) GroupLength
-    ≡ Ok rest = ap (λ (o : Option (List ℕ)). ok_or o GroupLength) (behind-front header rest) in
-    ap (λ (s : List ℕ). ok_or (behind header s) GroupLength >>= next) parts
-    ∙ onward (ok_or (behind header (header ++ rest)) GroupLength) rest next there ∙ number_again n bs short
+    let there : ok_or (rest_after header (header ++ rest)) GroupLength
+    ≡ Ok rest = ap (λ (o : Option (List ℕ)). ok_or o GroupLength) (rest_after-front header rest) in
+    ap (λ (s : List ℕ). ok_or (rest_after header s) GroupLength >>= next) parts
+    ∙ onward (ok_or (rest_after header (header ++ rest)) GroupLength) rest next there ∙ number_again n bs short
 
--- behind the group length
+-- after the group length
 length_again : (group set : List ℕ) → length group ≤ max_group_length
-    → behind_length (group_length_text (length group) ++ (group ++ set)) ≡ Ok (group, set)
-unfolding behind_length
+    → after_length (group_length_text (length group) ++ (group ++ set)) ≡ Ok (group, set)
+unfolding after_length
 length_again group set short =
     let n : ℕ = length group in
     let bs : List ℕ = group_length_text n ++ (group ++ set) in
@@ -176,9 +176,9 @@ file_only file meta set set_at h =
     let rest : List ℕ = group_length_text (length h.group_text) ++ (h.group_text ++ h.set_text) in
     let known : ok_or (syntax_of meta.transfer) (OtherSyntax meta.transfer)
     ≡ Ok h.syntax = ap (λ (o : Option Syntax). ok_or o (OtherSyntax meta.transfer)) h.known in
-    ap (λ (s : List ℕ). behind_prefix s >>= with_rest) h.parts
-    ∙ onward (behind_prefix (h.preamble ++ (prefix ++ rest))) rest with_rest (prefix_again h.preamble rest h.free)
-    ∙ onward (behind_length rest) parts with_parts (length_again h.group_text h.set_text h.short)
+    ap (λ (s : List ℕ). rest_after_prefix s >>= with_rest) h.parts
+    ∙ onward (rest_after_prefix (h.preamble ++ (prefix ++ rest))) rest with_rest (prefix_again h.preamble rest h.free)
+    ∙ onward (after_length rest) parts with_parts (length_again h.group_text h.set_text h.short)
     ∙ onward (meta_in h.group_text) meta (with_meta parts) (meta_again h.group_text h.group meta h.spelled h.holds)
     ∙ onward (ok_or (syntax_of meta.transfer) (OtherSyntax meta.transfer)) h.syntax (with_syntax parts meta) known
     ∙ onward (set_in h.syntax h.set_text) set (with_set meta (length h.group_text))

@@ -27,40 +27,40 @@ use Rattle.dd_grammar.specs.AnswersAs.{FailsAs, AnswersAs}
 use Rattle.dd_part10.specs.Faults.{is_memory}
 use Rattle.dd_part10.specs.Memory.{WantsNone}
 use Rattle.dd_grammar.specs.Reading.{◌>>=◌}
-use Rattle.dd_part10.specs.Reading.{behind, behind_prefix, behind_length, meta_in, starts_above, set_in}
+use Rattle.dd_part10.specs.Reading.{rest_after, rest_after_prefix, after_length, meta_in, starts_above, set_in}
 use Rattle.dd_part10.specs.Reading.{file_in}
 use Rattle.dd_part10.specs.Reading.{count_in, split_at, syntax_in, may_follow}
 use Rattle.dd_part10.specs.Taking.{whole_with, CountTaken, MetaTaken, HeadTaken, SetTaken, FileTaken}
 use Rattle.dd_part10.proofs.Cuts.{prefix_cut, length_is, count_cut, count_long}
 use Rattle.dd_part10.proofs.Faults.{fails_along, refused, set_fails, bind_fails}
 use Rattle.dd_part10.proofs.Found.{with_syntax, with_meta, with_parts, with_rest}
-use Rattle.dd_part10.proofs.Fronts.{behind-is}
+use Rattle.dd_part10.proofs.Fronts.{rest_after-is}
 use Rattle.dd_part10.proofs.Steps.{onward, there}
 use Rattle.dd_part10.proofs.Wanting.{group_wants, has_head}
 
 -- ---- the preamble and the prefix
 
 -- where they were found there are 132 bytes
-prefix_long : (front rest : List ℕ) → behind_prefix front ≡ Ok rest → 132 ≤ length front
-unfolding behind_prefix
+prefix_long : (front rest : List ℕ) → rest_after_prefix front ≡ Ok rest → 132 ≤ length front
+unfolding rest_after_prefix
 prefix_long front rest h =
-    let is = behind-is prefix (drop 128 front) rest (there (behind prefix (drop 128 front)) NotPart10 rest h) in
+    let is = rest_after-is prefix (drop 128 front) rest (there (rest_after prefix (drop 128 front)) NotPart10 rest h) in
     omega (arith, ap length is, length-append prefix rest, length-drop 128 front)
 
-pub prefix_taken : (front behind rest : List ℕ) → length front ≤ 132 → behind_prefix front ≡ Ok behind
-    → behind_prefix (front ++ rest) ≡ Ok rest
-prefix_taken front behind rest few h = prefix_cut front rest (omega (arith, few, prefix_long front behind h))
-    ∙ onward (behind_prefix front) behind (λ _. Ok rest) h
+pub prefix_taken : (front found rest : List ℕ) → length front ≤ 132 → rest_after_prefix front ≡ Ok found
+    → rest_after_prefix (front ++ rest) ≡ Ok rest
+prefix_taken front found rest few h = prefix_cut front rest (omega (arith, few, prefix_long front found h))
+    ∙ onward (rest_after_prefix front) found (λ _. Ok rest) h
 
 -- they were not found, in 132 bytes or in all that there are
 pub prefix_fails : (e : FileFault) (front rest : List ℕ) → length front ≤ 132 → (length front < 132 → rest ≡ [])
-    → FailsAs is_memory e (behind_prefix front) → FailsAs is_memory e (behind_prefix (front ++ rest))
+    → FailsAs is_memory e (rest_after_prefix front) → FailsAs is_memory e (rest_after_prefix (front ++ rest))
 prefix_fails e front rest few over h =
-    fails_along e (behind_prefix front) (behind_prefix (front ++ rest)) h (λ f k.
+    fails_along e (rest_after_prefix front) (rest_after_prefix (front ++ rest)) h (λ f k.
     elim (cases_lt (length front) 132) [
-      | inl less ↦ ap behind_prefix (ap (λ (s : List ℕ). front ++ s) (over less) ∙ append-nil front) ∙ k
+      | inl less ↦ ap rest_after_prefix (ap (λ (s : List ℕ). front ++ s) (over less) ∙ append-nil front) ∙ k
       | inr more ↦ prefix_cut front rest (omega (arith, few, more))
-          ∙ bind_fails (behind_prefix front) (λ _. Ok rest) f k
+          ∙ bind_fails (rest_after_prefix front) (λ _. Ok rest) f k
     ])
 
 -- ---- the group length
@@ -85,7 +85,7 @@ count_taken (Ok n) front rest few over h =
     (count_stays front rest few over ∙ h)
     ∙ ap (λ (s : List ℕ). split_at n s) (drop_front 12 front rest (omega (arith, few, count_long front n h)))
 count_taken (Err e) front rest few over h =
-    fails_along e (count_in front) (behind_length (front ++ rest)) h (λ f k.
+    fails_along e (count_in front) (after_length (front ++ rest)) h (λ f k.
     length_is (front ++ rest) ∙ bind_fails (count_in (front ++ rest)) (λ n. split_at n (drop 12 (front ++ rest))) f
     (count_stays front rest few over ∙ k))
 
@@ -95,17 +95,17 @@ count_taken (Err e) front rest few over h =
 pub meta_without_count : {X : Type 0} (e : FileFault) (bytes rest : List ℕ) → WantsNone {X = X} (Err e)
     → CountTaken (Err e) bytes rest → MetaTaken (Err e) bytes rest
 meta_without_count e bytes rest none h = (
-  fails_along e (behind_length bytes) (behind_length bytes >>= λ parts. meta_in parts.0) h
-      (λ f k. bind_fails (behind_length bytes) (λ parts. meta_in parts.0) f k),
+  fails_along e (after_length bytes) (after_length bytes >>= λ parts. meta_in parts.0) h
+      (λ f k. bind_fails (after_length bytes) (λ parts. meta_in parts.0) f k),
   λ is. absurd (none.0 (ap (λ f. Err f) is)),
 )
 
 -- fewer bytes than it counts
-pub split_short : (bytes mid rest : List ℕ) (n : ℕ) → behind_length bytes ≡ split_at n mid → length mid < n
+pub split_short : (bytes mid rest : List ℕ) (n : ℕ) → after_length bytes ≡ split_at n mid → length mid < n
     → MetaTaken (Err GroupLength) bytes rest
 split_short bytes mid rest n h few =
     let short : split_at n mid ≡ Err GroupLength = rw (lt-ltb (length mid) n few) refl in
-    (bind_fails (behind_length bytes) (λ parts. meta_in parts.0) GroupLength (h ∙ short), λ is. absurd cc)
+    (bind_fails (after_length bytes) (λ parts. meta_in parts.0) GroupLength (h ∙ short), λ is. absurd cc)
 
 -- the bytes that it counts
 split_whole : (group rest : List ℕ) (n : ℕ) → length group ≡ n → split_at n (group ++ rest) ≡ Ok (group, rest)
@@ -117,25 +117,25 @@ split_whole group rest n size =
     rw (enough, front, drop_front n group rest size) refl
 
 pub meta_taken : (r : Result Meta FileFault) (bytes group rest : List ℕ) (n : ℕ)
-    → behind_length bytes ≡ split_at n (group ++ rest) → length group ≡ n
+    → after_length bytes ≡ split_at n (group ++ rest) → length group ≡ n
     → AnswersAs is_memory (λ meta. meta) r (meta_in group)
     → (r ≡ Err (faults.Meta Memory) → WantsMemory Explicit group) → MetaTaken r bytes rest
 meta_taken (Ok meta) bytes group rest n h size given wants = (group, h ∙ split_whole group rest n size, given)
 meta_taken (Err e) bytes group rest n h size given wants =
-    let parts : behind_length bytes ≡ Ok (group, rest) = h ∙ split_whole group rest n size in (
-      fails_along e (meta_in group) (behind_length bytes >>= λ parts. meta_in parts.0) given
-          (λ f k. onward (behind_length bytes) (group, rest) (λ parts. meta_in parts.0) parts ∙ k),
+    let parts : after_length bytes ≡ Ok (group, rest) = h ∙ split_whole group rest n size in (
+      fails_along e (meta_in group) (after_length bytes >>= λ parts. meta_in parts.0) given
+          (λ f k. onward (after_length bytes) (group, rest) (λ parts. meta_in parts.0) parts ∙ k),
       λ is. record { group = group; set = rest; parts = parts; wants = wants (ap (λ f. Err f) is) },
     )
 
 -- ---- all before the data set
 
 pub head_without_prefix : {X : Type 0} (e : FileFault) (bytes rest : List ℕ) → WantsNone {X = X} (Err e)
-    → FailsAs is_memory e (behind_prefix bytes) → HeadTaken (Err e) bytes rest
+    → FailsAs is_memory e (rest_after_prefix bytes) → HeadTaken (Err e) bytes rest
 unfolding file_in
 head_without_prefix e bytes rest none h = (
-  fails_along e (behind_prefix bytes) (behind_prefix bytes >>= with_rest) h
-      (λ f k. bind_fails (behind_prefix bytes) with_rest f k),
+  fails_along e (rest_after_prefix bytes) (rest_after_prefix bytes >>= with_rest) h
+      (λ f k. bind_fails (rest_after_prefix bytes) with_rest f k),
   λ is. absurd (none.0 (ap (λ f. Err f) is)),
 )
 
@@ -144,39 +144,39 @@ parts_fail : (r : Result (List ℕ × List ℕ) FileFault) (f : FileFault) → (
 parts_fail (Ok parts) f h = bind_fails (meta_in parts.0) (with_meta parts) f h
 parts_fail (Err e) f h = cc
 
-pub head_without_meta : (e : FileFault) (bytes mid rest : List ℕ) → behind_prefix bytes ≡ Ok mid
+pub head_without_meta : (e : FileFault) (bytes mid rest : List ℕ) → rest_after_prefix bytes ≡ Ok mid
     → MetaTaken (Err e) mid rest → HeadTaken (Err e) bytes rest
 unfolding file_in
 head_without_meta e bytes mid rest front h = (
-  fails_along e (behind_length mid >>= λ parts. meta_in parts.0) (behind_prefix bytes >>= with_rest) h.0
-      (λ f k. onward (behind_prefix bytes) mid with_rest front ∙ parts_fail (behind_length mid) f k),
+  fails_along e (after_length mid >>= λ parts. meta_in parts.0) (rest_after_prefix bytes >>= with_rest) h.0
+      (λ f k. onward (rest_after_prefix bytes) mid with_rest front ∙ parts_fail (after_length mid) f k),
   λ is. let w = h.1 is in group_wants bytes mid w.group w.set front w.parts w.wants,
 )
 
-behind_meta : (bytes mid group rest : List ℕ) (meta : Meta) → behind_prefix bytes ≡ Ok mid
-    → behind_length mid ≡ Ok (group, rest) → meta_in group ≡ Ok meta → file_in bytes ≡ with_meta (group, rest) meta
+after_meta : (bytes mid group rest : List ℕ) (meta : Meta) → rest_after_prefix bytes ≡ Ok mid
+    → after_length mid ≡ Ok (group, rest) → meta_in group ≡ Ok meta → file_in bytes ≡ with_meta (group, rest) meta
 unfolding file_in
-behind_meta bytes mid group rest meta front parts holds =
-    onward (behind_prefix bytes) mid with_rest front
-    ∙ onward (behind_length mid) (group, rest) with_parts parts
+after_meta bytes mid group rest meta front parts holds =
+    onward (rest_after_prefix bytes) mid with_rest front
+    ∙ onward (after_length mid) (group, rest) with_parts parts
     ∙ onward (meta_in group) meta (with_meta (group, rest)) holds
 
 pub head_without_syntax : {X : Type 0} (e : FileFault) (bytes mid rest : List ℕ) (meta : Meta)
-    → WantsNone {X = X} (Err e) → behind_prefix bytes ≡ Ok mid → MetaTaken (Ok meta) mid rest
+    → WantsNone {X = X} (Err e) → rest_after_prefix bytes ≡ Ok mid → MetaTaken (Ok meta) mid rest
     → FailsAs is_memory e (syntax_in meta)
     → HeadTaken (Err e) bytes rest
 head_without_syntax e bytes mid rest meta none front taken h = (
-  fails_along e (syntax_in meta) (file_in bytes) h (λ f k. behind_meta bytes mid taken.0 rest meta front taken.1 taken.2
+  fails_along e (syntax_in meta) (file_in bytes) h (λ f k. after_meta bytes mid taken.0 rest meta front taken.1 taken.2
       ∙ bind_fails (syntax_in meta) (with_syntax (taken.0, rest) meta) f k),
   λ is. absurd (none.0 (ap (λ f. Err f) is)),
 )
 
-pub head_taken : (bytes mid rest : List ℕ) (meta : Meta) (syntax : Syntax) → behind_prefix bytes ≡ Ok mid
+pub head_taken : (bytes mid rest : List ℕ) (meta : Meta) (syntax : Syntax) → rest_after_prefix bytes ≡ Ok mid
     → MetaTaken (Ok meta) mid rest → syntax_in meta ≡ Ok syntax → HeadTaken (Ok (meta, syntax)) bytes rest
 unfolding has_head
 head_taken bytes mid rest meta syntax front taken known = (
   144 + length taken.0,
-  behind_meta bytes mid taken.0 rest meta front taken.1 taken.2
+  after_meta bytes mid taken.0 rest meta front taken.1 taken.2
       ∙ onward (syntax_in meta) syntax (with_syntax (taken.0, rest) meta) known,
   has_head bytes mid taken.0 rest meta syntax front taken.1 taken.2 known,
   refl,

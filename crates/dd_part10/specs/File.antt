@@ -11,15 +11,15 @@ use Rattle.dd_encoding.specs.declared.meta.Meta.{Meta}
 use Rattle.dd_part10.specs.Meta.{IsMeta}
 use Rattle.dd_encoding.specs.Syntaxes.{syntax_of}
 
--- group 0002 has at most this number of bytes behind its group length
+-- group 0002 has at most this number of bytes after its group length
 abbrev pub max_group_length : ℕ
 max_group_length = 65536
 
--- the element (0002,0000), which says how many bytes of its group stand behind it: 12 bytes
+-- the element (0002,0000), which says how many bytes of its group stand after it: 12 bytes
 abbrev pub group_length_size : ℕ
 group_length_size = 12
 
--- the place of the first byte behind the group length: 128 bytes of preamble, the prefix of 4 and the group length of
+-- the place of the first byte after the group length: 128 bytes of preamble, the prefix of 4 and the group length of
 -- 12 stand before it
 abbrev pub group_at : ℕ
 group_at = 144

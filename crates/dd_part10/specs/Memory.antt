@@ -11,14 +11,14 @@ use Rattle.dd_part10.specs.declared.fault.FileFault.{FileFault}
 use Rattle.dd_part10.specs.declared.fault.FileFault.TheVariants as faults
 use Rattle.dd_encoding.specs.declared.meta.Meta.{Meta}
 use Rattle.dd_grammar.specs.Reading.{◌>>=◌}
-use Rattle.dd_part10.specs.Reading.{behind_prefix, behind_length, meta_in, file_in}
+use Rattle.dd_part10.specs.Reading.{rest_after_prefix, after_length, meta_in, file_in}
 use Rattle.dd_encoding.specs.Syntaxes.{syntax_of}
 
 -- the preamble, the prefix and the group length are there, and reading the bytes that it counts wants memory
 pub record GroupWants (file : List ℕ) : Type 0 where
   pub group : List ℕ
   pub set : List ℕ
-  pub parts : (behind_prefix file >>= behind_length) ≡ Ok (group, set)
+  pub parts : (rest_after_prefix file >>= after_length) ≡ Ok (group, set)
   pub wants : WantsMemory Explicit group
 
 -- all before the data set is right
@@ -27,7 +27,7 @@ pub record HasHead (file : List ℕ) : Type 0 where
   pub set : List ℕ
   pub meta : Meta
   pub syntax : Syntax
-  pub parts : (behind_prefix file >>= behind_length) ≡ Ok (group, set)
+  pub parts : (rest_after_prefix file >>= after_length) ≡ Ok (group, set)
   pub holds : meta_in group ≡ Ok meta
   pub known : syntax_of meta.transfer ≡ Some syntax
 
@@ -41,7 +41,7 @@ pub record ScanWants (wanted : List Tag) (file : List ℕ) : Type 0 where
   pub head : HasHead file
   pub wants : HasWanted head.syntax wanted head.set
 
--- Why a file is refused of which only wanted elements are kept: by the first check that it fails; or by want of memory,
+-- Why a file is refused of which only wanted elements are kept: by the first check that it fails; or by lack of memory,
 -- for group 0002 where reading it wants some, and for the data set where a wanted element is there.
 abbrev pub IsRefused : List Tag → FileFault → List ℕ → Type 0
 IsRefused wanted (faults.Meta Memory) file = GroupWants file

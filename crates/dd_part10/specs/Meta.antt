@@ -17,7 +17,7 @@ pub record HasMetaUid (group : Elements) (tag : Tag) (uid : List ℕ) : Type 0 w
   pub is : IsCleanOf value uid
   pub valid : IsUid uid
 
--- the elements behind the group length are of group 0002 alone, none is the group length again, and they hold the meta
+-- the elements after the group length are of group 0002 alone, none is the group length again, and they hold the meta
 -- information
 pub record IsMeta (group : Elements) (meta : Meta) : Type 0 where
   pub alone : All (λ e. (e.tag.group ≡ meta_group) × (e.tag.element ≢ 0x0000)) (element_list group)

@@ -38,33 +38,33 @@ abbrev pub with_fault : {A : Type 0} → (SetFault → FileFault) → Result A S
 with_fault fault (Ok x) = Ok x
 with_fault fault (Err e) = Err (fault e)
 
--- what stands behind a front that the bytes begin with
-abbrev pub behind : List ℕ → List ℕ → Option (List ℕ)
-behind [] bs = Some bs
-behind (first ∷ front) [] = None
-behind (first ∷ front) (byte ∷ bs) = if first == byte then behind front bs else None
+-- what stands after a front that the bytes begin with
+abbrev pub rest_after : List ℕ → List ℕ → Option (List ℕ)
+rest_after [] bs = Some bs
+rest_after (first ∷ front) [] = None
+rest_after (first ∷ front) (byte ∷ bs) = if first == byte then rest_after front bs else None
 
 -- ---- the preamble and the prefix
 
--- what stands behind them
-unfoldable pub behind_prefix : List ℕ → Result (List ℕ) FileFault
-behind_prefix bs = ok_or (behind prefix (drop preamble_length bs)) NotPart10
+-- what stands after them
+unfoldable pub rest_after_prefix : List ℕ → Result (List ℕ) FileFault
+rest_after_prefix bs = ok_or (rest_after prefix (drop preamble_length bs)) NotPart10
 
 -- ---- the group length
 
 -- the number that it holds
 unfoldable pub count_in : List ℕ → Result ℕ FileFault
-count_in bs = ok_or (behind (header_text group_length_tag (Some UL) 4) bs) GroupLength
+count_in bs = ok_or (rest_after (header_text group_length_tag (Some UL) 4) bs) GroupLength
     >>= λ rest. if nat_lt (length rest) 4 then Err GroupLength
     else (if nat_lt max_group_length (from_le_bytes w32 rest) then Err GroupLength else Ok (from_le_bytes w32 rest))
 
--- a number of bytes, and the others behind them
+-- a number of bytes, and the others after them
 abbrev pub split_at : ℕ → List ℕ → Result (List ℕ × List ℕ) FileFault
 split_at n bs = if nat_lt (length bs) n then Err GroupLength else Ok (take n bs, drop n bs)
 
--- the bytes behind it that it counts, and the others behind them
-unfoldable pub behind_length : List ℕ → Result (List ℕ × List ℕ) FileFault
-behind_length bs = count_in bs >>= λ n. split_at n (drop group_length_size bs)
+-- the bytes after it that it counts, and the others after them
+unfoldable pub after_length : List ℕ → Result (List ℕ × List ℕ) FileFault
+after_length bs = count_in bs >>= λ n. split_at n (drop group_length_size bs)
 
 -- ---- the meta information
 
@@ -94,7 +94,7 @@ uids_in group = uid_at class_tag group >>= λ class. uid_at instance_tag group >
 abbrev pub syntax_in : Meta → Result Syntax FileFault
 syntax_in meta = ok_or (syntax_of meta.transfer) (OtherSyntax meta.transfer)
 
--- the meta information in the bytes behind the group length
+-- the meta information in the bytes after the group length
 unfoldable pub meta_in : List ℕ → Result Meta FileFault
 meta_in text = with_fault faults.Meta (read_all Explicit text) >>= λ group. if is_alone group then uids_in group
     else Err GroupLength
@@ -109,7 +109,7 @@ may_follow (Some tag) = nat_lt meta_group tag.group
 abbrev pub starts_above : Elements → Bool
 starts_above set = may_follow (first_of set)
 
--- the data set in the bytes behind group 0002
+-- the data set in the bytes after group 0002
 unfoldable pub set_in : Syntax → List ℕ → Result Elements FileFault
 set_in syntax text =
     with_fault faults.Set (read_all syntax text) >>= λ set. if starts_above set then Ok set else Err GroupLength
@@ -118,6 +118,6 @@ set_in syntax text =
 
 -- a file
 unfoldable pub file_in : List ℕ → Result FileParts FileFault
-file_in file = behind_prefix file >>= λ rest. behind_length rest >>= λ parts. meta_in parts.0
+file_in file = rest_after_prefix file >>= λ rest. after_length rest >>= λ parts. meta_in parts.0
     >>= λ meta. syntax_in meta >>= λ syntax. set_in syntax parts.1
     >>= λ set. Ok (record { meta = meta; set = set; set_at = group_at + length parts.0 })

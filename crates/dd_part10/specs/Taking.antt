@@ -17,38 +17,38 @@ use Rattle.dd_grammar.specs.AnswersAs.{FailsAs}
 use Rattle.dd_part10.specs.Faults.{is_memory}
 use Rattle.dd_part10.specs.Memory.{GroupWants, HasHead, IsRefused}
 use Rattle.dd_grammar.specs.Reading.{◌>>=◌}
-use Rattle.dd_part10.specs.Reading.{FileParts, behind_prefix, split_at, behind_length, meta_in, set_in, file_in}
+use Rattle.dd_part10.specs.Reading.{FileParts, rest_after_prefix, split_at, after_length, meta_in, set_in, file_in}
 
 -- ---- what was taken
 
 -- the preamble and the prefix
 abbrev pub PrefixTaken : {X : Type 0} → Result X FileFault → List ℕ → List ℕ → Type 0
-PrefixTaken (Ok x) bytes rest = behind_prefix bytes ≡ Ok rest
-PrefixTaken (Err e) bytes rest = FailsAs is_memory e (behind_prefix bytes)
+PrefixTaken (Ok x) bytes rest = rest_after_prefix bytes ≡ Ok rest
+PrefixTaken (Err e) bytes rest = FailsAs is_memory e (rest_after_prefix bytes)
 
 -- the group length
 abbrev pub CountTaken : Result ℕ FileFault → List ℕ → List ℕ → Type 0
-CountTaken (Ok n) bytes rest = behind_length bytes ≡ split_at n rest
-CountTaken (Err e) bytes rest = FailsAs is_memory e (behind_length bytes)
+CountTaken (Ok n) bytes rest = after_length bytes ≡ split_at n rest
+CountTaken (Err e) bytes rest = FailsAs is_memory e (after_length bytes)
 
 -- the group length is there, and reading the bytes that it counts wants memory
 pub record MetaWants (bytes : List ℕ) : Type 0 where
   pub group : List ℕ
   pub set : List ℕ
-  pub parts : behind_length bytes ≡ Ok (group, set)
+  pub parts : after_length bytes ≡ Ok (group, set)
   pub wants : WantsMemory Explicit group
 
 -- the group length, and the meta information in the bytes that it counts
 abbrev pub MetaTaken : Result Meta FileFault → List ℕ → List ℕ → Type 0
-MetaTaken (Ok meta) bytes rest = (group : List ℕ) × (behind_length bytes ≡ Ok (group, rest)) × (meta_in group ≡ Ok meta)
-MetaTaken (Err e) bytes rest = FailsAs is_memory e (behind_length bytes >>= λ parts. meta_in parts.0)
+MetaTaken (Ok meta) bytes rest = (group : List ℕ) × (after_length bytes ≡ Ok (group, rest)) × (meta_in group ≡ Ok meta)
+MetaTaken (Err e) bytes rest = FailsAs is_memory e (after_length bytes >>= λ parts. meta_in parts.0)
     × (e ≡ faults.Meta Memory → MetaWants bytes)
 
 -- a number of bytes, of a file whose group length counts them
 abbrev pub GroupTaken : ℕ → Result Meta FileFault → List ℕ → List ℕ → Type 0
-GroupTaken n result mid rest = (bytes : List ℕ) → behind_length bytes ≡ split_at n mid → MetaTaken result bytes rest
+GroupTaken n result mid rest = (bytes : List ℕ) → after_length bytes ≡ split_at n mid → MetaTaken result bytes rest
 
--- a file with this head has the data set in the bytes behind it
+-- a file with this head has the data set in the bytes after it
 abbrev pub whole_with : Meta → ℕ → Result Elements FileFault → Result FileParts FileFault
 whole_with meta set_at set = set >>= λ s. Ok (record { meta = meta; set = s; set_at = set_at })
 
@@ -59,7 +59,7 @@ HeadTaken (Ok (meta, syntax)) bytes rest =
     × (head : HasHead bytes) × (head.syntax ≡ syntax) × (head.set ≡ rest)
 HeadTaken (Err e) bytes rest = FailsAs is_memory e (file_in bytes) × (e ≡ faults.Meta Memory → GroupWants bytes)
 
--- the data set that reading gives, or want of memory where a wanted element is there
+-- the data set that reading gives, or lack of memory where a wanted element is there
 abbrev pub SetTaken : Syntax → List Tag → Result Scan FileFault → List ℕ → Type 0
 SetTaken syntax wanted (Ok scan) bytes = (set : Elements) × (set_in syntax bytes ≡ Ok set) × IsScan wanted scan set
 SetTaken syntax wanted (Err e) bytes = FailsAs is_memory e (set_in syntax bytes)

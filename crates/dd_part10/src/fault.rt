@@ -7,7 +7,7 @@ use dd_set::SetFault;
 use thiserror::Error;
 
 /// The first check that bytes fail as a DICOM file (PS3.10 section 7), in the order of these
-/// variants except where one says otherwise; or want of memory, which is a `Meta` or a `Set` with
+/// variants except where one says otherwise; or lack of memory, which is a `Meta` or a `Set` with
 /// `SetFault::Memory` and comes where that check does.
 #[derive(Clone, Copy, Debug, PartialEq, Eq, Error)]
 pub enum FileFault {
@@ -16,7 +16,7 @@ pub enum FileFault {
     NotPart10,
     /// Behind `DICM` stands no group length (0002,0000), or it is above 65,536 or counts more bytes
     /// than there are; or these bytes, once they are a data set, hold an element of another group or
-    /// (0002,0000) again; or, last of all checks, the data set behind them begins with group 0002 or a
+    /// (0002,0000) again; or, last of all checks, the data set after them begins with group 0002 or a
     /// lower one.
     #[error("22 GroupLength")]
     GroupLength,
@@ -33,7 +33,7 @@ pub enum FileFault {
     /// they hold, and is `Memory` where an allocation was refused.
     #[error("26 Meta {0}")]
     Meta(SetFault),
-    /// The bytes behind group 0002 are no data set, or an allocation was refused while they were read.
+    /// The bytes after group 0002 are no data set, or an allocation was refused while they were read.
     #[error("27 Set {0}")]
     Set(SetFault),
 }

@@ -11,7 +11,7 @@ ghost use Rattle.dd_part10.specs.Taking.{FileTaken};
 
 use crate::fault::FileFault;
 use crate::group::{MAX_GROUP_LENGTH, named_syntax, read_count, read_meta};
-use crate::reading::{behind_prefix, may_follow};
+use crate::reading::{may_follow, rest_after_prefix};
 use crate::scanned::Scanned;
 use dd_elem::Tag;
 use dd_encoding::{COUNT_LENGTH, Meta, PREFIX_END, Syntax};
@@ -59,7 +59,7 @@ fn take_prefix<F: Feed>(feed: &mut F) -> Result<(), FileFault>
 {
     let mut front = [0; PREFIX_END];
     let n = fill(feed, &mut front);
-    behind_prefix(&front[..n])?;
+    rest_after_prefix(&front[..n])?;
     Ok(())
 }
 
@@ -103,7 +103,7 @@ fn take_group<F: Feed>(alloc: Global, feed: &mut F, group: &mut [u8]) -> Result<
     read_meta(alloc, group)
 }
 
-/// Takes the data set behind group 0002, to the end of the feed.
+/// Takes the data set after group 0002, to the end of the feed.
 fn take_data_set<F: Feed>(
     alloc: Global,
     feed: &mut F,

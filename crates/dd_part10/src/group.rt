@@ -10,7 +10,7 @@ ghost use Rattle.dd_part10.specs.File.{max_group_length};
 ghost use Rattle.dd_grammar.specs.AnswersAs.{AnswersAs};
 ghost use Rattle.dd_part10.specs.Faults.{is_memory};
 ghost use Rattle.dd_part10.specs.Memory.{WantsNone};
-ghost use Rattle.dd_part10.specs.Reading.{behind, count_in, behind_length, is_meta_tag, is_alone, uid_at, uids_in};
+ghost use Rattle.dd_part10.specs.Reading.{rest_after, count_in, after_length, is_meta_tag, is_alone, uid_at, uids_in};
 ghost use Rattle.dd_part10.specs.Reading.{meta_in, syntax_in};
 
 use crate::fault::FileFault;
@@ -22,12 +22,12 @@ use dd_set::{DataSet, Value, parse};
 use dd_version::TRANSFER;
 use std::alloc::Global;
 
-/// The most bytes that group 0002 may have behind its group length.
+/// The most bytes that group 0002 may have after its group length.
 pub const MAX_GROUP_LENGTH: u32 = 65_536;
 
-/// What stands behind `front`, where the bytes begin with it.
-pub fn behind<'a>(front: &[u8], bytes: &'a [u8]) -> Option<&'a [u8]>
-    ensures { option_map (λ rest. rest.now) result ≡ behind front.now bytes.now }
+/// What stands after `front`, where the bytes begin with it.
+pub fn rest_after<'a>(front: &[u8], bytes: &'a [u8]) -> Option<&'a [u8]>
+    ensures { option_map (λ rest. rest.now) result ≡ rest_after front.now bytes.now }
 {
     bytes.strip_prefix(front)
 }
@@ -41,7 +41,7 @@ pub fn read_count(front: &[u8]) -> Result<u32, FileFault>
     ensures whole { IfOk result (λ n. 12 ≤ length front.now) }
     ensures memory { WantsNone result }
 {
-    let Some(rest) = behind(COUNT_HEADER, front) else {
+    let Some(rest) = rest_after(COUNT_HEADER, front) else {
         return Err(FileFault::GroupLength);
     };
     if rest.len() < COUNT_SIZE {
@@ -54,10 +54,10 @@ pub fn read_count(front: &[u8]) -> Result<u32, FileFault>
     Ok(count)
 }
 
-/// The bytes that the group length at the front counts, and the others behind them. GroupLength where
+/// The bytes that the group length at the front counts, and the others after them. GroupLength where
 /// `read_count` says so, or there are fewer bytes.
 pub fn split_group(bytes: &[u8]) -> Result<(&[u8], &[u8]), FileFault>
-    ensures exact { AnswersAs is_memory (λ x. (x.0.now, x.1.now)) result (behind_length bytes.now) }
+    ensures exact { AnswersAs is_memory (λ x. (x.0.now, x.1.now)) result (after_length bytes.now) }
     ensures memory { WantsNone result }
 {
     let count = read_count(bytes)? as usize;

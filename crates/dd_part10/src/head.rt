@@ -10,7 +10,7 @@ ghost use Rattle.dd_encoding.specs.declared.meta.Meta.{Meta};
 ghost use Rattle.dd_encoding.specs.declared.syntax.Syntax.{Syntax};
 ghost use Rattle.dd_part10.specs.File.{StartsAbove, IsFile};
 
-/// A head with a data set behind it is a file with its meta information and that data set. This
+/// A head with a data set after it is a file with its meta information and that data set. This
 /// states a law, and does nothing.
 pub fn head_makes_file()
     ensures { (meta : Meta) (syntax : Syntax) (set : Elements) (text : List ℕ)

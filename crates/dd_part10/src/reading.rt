@@ -13,12 +13,12 @@ ghost use Rattle.dd_grammar.specs.AnswersAs.{AnswersAs};
 ghost use Rattle.dd_part10.specs.Faults.{is_memory};
 ghost use Rattle.dd_part10.specs.Views.{file_view};
 ghost use Rattle.dd_part10.specs.Memory.{GroupWants, SetWants, WantsNone};
-ghost use Rattle.dd_part10.specs.Reading.{behind_prefix, set_in, file_in};
+ghost use Rattle.dd_part10.specs.Reading.{rest_after_prefix, set_in, file_in};
 ghost use Rattle.dd_part10.specs.Reading.{may_follow};
 
 use crate::fault::FileFault;
 use crate::file::DicomFile;
-use crate::group::{behind, named_syntax, read_meta, split_group};
+use crate::group::{named_syntax, read_meta, rest_after, split_group};
 use dd_elem::Tag;
 use dd_encoding::{GROUP_AT, META_GROUP, PREAMBLE_LENGTH, PREFIX, Syntax};
 use dd_set::{DataSet, parse};
@@ -28,7 +28,7 @@ use std::alloc::Global;
 /// length (0002,0000) with at most 65,536, group 0002 in Explicit VR with the UIDs of `Meta`, and a
 /// data set above group 0002 in the transfer syntax that they name. Otherwise the first check that the
 /// bytes fail, which `FileFault` names; or, where an allocation was refused, `Meta` or `Set` with
-/// `SetFault::Memory`, behind all checks that come before that one.
+/// `SetFault::Memory`, after all checks that come before that one.
 pub fn parse_file<'a>(alloc: Global, bytes: &'a [u8]) -> Result<DicomFile<'a>, FileFault>
     // What is answered is a file.
     ensures found { IfOk result (λ f. IsFile bytes.now f.meta (set_view f.set) f.set_at) }
@@ -38,7 +38,7 @@ pub fn parse_file<'a>(alloc: Global, bytes: &'a [u8]) -> Result<DicomFile<'a>, F
         (Ok (record { meta = meta; set = set; set_at = set_at })) }
     // A refusal for other than memory is the first check that fails.
     ensures fault { AnswersAs is_memory file_view result (file_in bytes.now) }
-    // Memory runs out only where it is wanted, behind all checks that come before.
+    // Memory runs out only where it is wanted, after all checks that come before.
     ensures group { result ≡ Err (faults.Meta Memory) → GroupWants bytes.now }
     ensures set { result ≡ Err (faults.Set Memory) → SetWants bytes.now }
 {
@@ -53,7 +53,7 @@ fn checked_file<'a>(alloc: Global, bytes: &'a [u8]) -> Result<DicomFile<'a>, Fil
     ensures group { result ≡ Err (faults.Meta Memory) → GroupWants bytes.now }
     ensures set { result ≡ Err (faults.Set Memory) → SetWants bytes.now }
 {
-    let rest = behind_prefix(bytes)?;
+    let rest = rest_after_prefix(bytes)?;
     let (group, rest) = split_group(rest)?;
     let meta = read_meta(alloc, group)?;
     let syntax = named_syntax(&meta)?;
@@ -65,17 +65,17 @@ fn checked_file<'a>(alloc: Global, bytes: &'a [u8]) -> Result<DicomFile<'a>, Fil
     })
 }
 
-/// What stands behind the preamble and the prefix. NotPart10 where they are not there.
-#[tactic(auto, unfolding(crate::specs::Reading::behind_prefix))]
-pub fn behind_prefix(bytes: &[u8]) -> Result<&[u8], FileFault>
-    ensures exact { AnswersAs is_memory (λ rest. rest.now) result (behind_prefix bytes.now) }
+/// What stands after the preamble and the prefix. NotPart10 where they are not there.
+#[tactic(auto, unfolding(crate::specs::Reading::rest_after_prefix))]
+pub fn rest_after_prefix(bytes: &[u8]) -> Result<&[u8], FileFault>
+    ensures exact { AnswersAs is_memory (λ rest. rest.now) result (rest_after_prefix bytes.now) }
     ensures room { length bytes.now < 2 ^ 64 }
     ensures memory { WantsNone result }
 {
     if bytes.len() < PREAMBLE_LENGTH {
         return Err(FileFault::NotPart10);
     }
-    match behind(PREFIX, &bytes[PREAMBLE_LENGTH..]) {
+    match rest_after(PREFIX, &bytes[PREAMBLE_LENGTH..]) {
         Some(rest) => Ok(rest),
         None => Err(FileFault::NotPart10),
     }

@@ -17,7 +17,7 @@ use std::alloc::Global;
 /// nothing else.
 ///
 /// 14 Read exactly where the reader fails, and 15 TooLong exactly where it gives `limit` bytes and one
-/// more. Else the refusals are those of `parse_file` on what the reader gave, or want of memory: for
+/// more. Else the refusals are those of `parse_file` on what the reader gave, or lack of memory: for
 /// group 0002 where `parse_file` may want some, and for the data set where all before it is right and a
 /// wanted element is there. It makes at most `limit` + 1 reads, and reads on to the end before it answers.
 pub fn read_file<R: Read>(

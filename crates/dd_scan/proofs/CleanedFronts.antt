@@ -6,7 +6,7 @@ use Rattle.std.proofs.lemmas.List.{length-append, take_all, take-append-le, nil_
 use Rattle.dd_elem.specs.Clean.{clean_of, keep}
 use Rattle.dd_elem.proofs.Cleaning.{clean_of_begins}
 
--- padding behind a value goes
+-- padding after a value goes
 clean_before_padding : (xs ys : List ℕ) → clean_of ys ≡ [] → clean_of (xs ++ ys) ≡ clean_of xs
 clean_before_padding [] ys none = none
 clean_before_padding (x ∷ xs) ys none = ap (keep x) (clean_before_padding xs ys none)

@@ -12,10 +12,10 @@ use Rattle.dd_encoding.specs.declared.syntax.Length.TheVariants.{Defined}
 use Rattle.dd_encoding.specs.declared.syntax.Syntax.{Syntax}
 use Rattle.dd_stream.specs.Feeds.{IsOver}
 use Rattle.dd_grammar.specs.Reading.{eight_at, head_at, long_length_at, opening_at, front_at, item_opening}
-use Rattle.dd_grammar.specs.Reading.{item_front_at, At, ◌>>=◌, leaves_fewer, less, take_at, is_over}
+use Rattle.dd_grammar.specs.Reading.{item_front_at, At, ◌>>=◌, leaves_fewer, left_after, take_at, is_over}
 use Rattle.dd_grammar.proofs.Loops.{differ}
 
--- ---- so many bytes
+-- ---- a number of bytes
 
 -- the enclosing length leaves too few
 pub take_overruns : (n : ℕ) (left : Option ℕ) (bytes : List ℕ) → leaves_fewer left n ≡ true
@@ -32,7 +32,7 @@ take_ends n left bytes enough few = rw (enough, lt-ltb (length bytes) n few) ref
 -- there are enough, and these
 pub take_whole : (n : ℕ) (left : Option ℕ) (taken rest : List ℕ) → leaves_fewer left n ≡ false → length taken ≡ n
     → take_at n (record { left = left; bytes = taken ++ rest }) ≡ Ok
-    (taken, record { left = less left n; bytes = rest })
+    (taken, record { left = left_after left n; bytes = rest })
 unfolding take_at
 take_whole n left taken rest enough whole =
     rw (
@@ -43,7 +43,7 @@ take_whole n left taken rest enough whole =
       drop_front taken rest n (omega arith),
     ) refl
 
--- where the feed is over behind some bytes, no more were to come
+-- where the feed is over after some bytes, no more were to come
 pub over_length : {F : Type 0} (tells : F → List ℕ → Type 0) (feed : F) (taken rest : List ℕ) → IsOver tells feed
     → tells feed rest → length (taken ++ rest) ≡ length taken
 over_length tells feed taken rest over t = rw (over.none rest t, append-nil) refl

@@ -5,7 +5,7 @@ use Rattle.dd_grammar.specs.declared.fault.SetFault.{SetFault}
 use Rattle.dd_encoding.specs.declared.syntax.Length.TheVariants.{Undefined}
 use Rattle.dd_grammar.specs.AnswersAs.{FailsAs}
 use Rattle.dd_grammar.specs.Faults.{is_memory}
-use Rattle.dd_grammar.specs.Reading.{At, take_at, item_front_at, fragment_length, fragment_behind, fragment_at}
+use Rattle.dd_grammar.specs.Reading.{At, take_at, item_front_at, fragment_length, fragment_after, fragment_at}
 use Rattle.dd_grammar.specs.Reading.{fragments_at, fragments_here}
 use Rattle.dd_grammar.proofs.Failing.{bind_fails}
 use Rattle.dd_grammar.proofs.FragmentLaws.{with_fragments, with_no_fragments, fragments_more, fragments_done}
@@ -27,7 +27,7 @@ module _ (at : At) where
 
   front_fails : (e : SetFault) → item_front_at Undefined at ≡ Err e → fragment_at at ≡ Err e
   unfolding fragment_at
-  front_fails e h = bind_fails _ fragment_behind e h
+  front_fails e h = bind_fails _ fragment_after e h
 
   pub front_stops : (e : SetFault) → FailsAs is_memory e (item_front_at Undefined at)
       → FailsAs is_memory e (fragment_at at)

@@ -1,7 +1,7 @@
 -- What a scan finds in a set, element by element.
 use Rattle.std.proofs.Common.{◌≡◌, ◌<◌, ◌≤◌, ℕ, suc, ◌+◌, ◌-◌, Bool, true, false, if◌then◌else◌, List, [], ◌∷◌, ◌++◌}
-use Rattle.std.proofs.Common.{length, map, filter, Option, Some, None, option_map, unwrap_or, Result, Ok, Err, refl}
-use Rattle.std.proofs.Common.{zero, IsTrue, ◌∙◌, sym, ap, subst, arith, append_assoc}
+use Rattle.std.proofs.Common.{length, map, filter, Option, Some, None, unwrap_or, Result, Ok, Err, refl}
+use Rattle.std.proofs.Common.{zero, IsTrue, ◌∙◌, sym, ap, subst, arith, append_assoc, append-nil}
 use Rattle.std.specs.List.{list_any}
 use Rattle.std.proofs.lemmas.List.Folds.{list_any-append}
 use Rattle.dd_elem.specs.declared.tag.Tag.{Tag}
@@ -19,7 +19,7 @@ use Rattle.dd_grammar.specs.Faults.{is_memory}
 use Rattle.dd_grammar.specs.Reading.{Header, front_at, At, Reads, ◌>>=◌, SequenceReader, ItemReader, content_at}
 use Rattle.dd_grammar.specs.Reading.{element_at, elements_at, sequence_with, set_with, within, fragments_here}
 use Rattle.dd_scan.specs.Scan.{Summary, Hit, hit_of, is_wanted, hits_of, first_tag, first_of, summary_of, found_summary}
-use Rattle.dd_scan.specs.Scan.{summary_where, noted, whole_elements, summary_of_sort}
+use Rattle.dd_scan.specs.Scan.{whole_elements, summary_of_sort}
 use Rattle.dd_scan.specs.Skips.{GivesSummary, IsThere}
 use Rattle.dd_grammar.proofs.Lists.{element_list-elements_of}
 use Rattle.dd_grammar.proofs.Failing.{bind_fails}
@@ -57,6 +57,16 @@ summary_of_items read sorts.Fragments at end y other h =
     ap (λ (z : Content × At). summary_of z.0) (ok_is _ _ e.2)
 
 -- ---- sets
+
+-- the summary of a value where it is wanted
+abbrev pub summary_where : Bool → Content → Option Summary
+summary_where true c = Some (summary_of c)
+summary_where false c = None
+
+-- the hit that this makes
+abbrev pub noted : Tag → Option Summary → List Hit
+noted tag None = []
+noted tag (Some summary) = record { tag = tag; summary = summary } ∷ []
 
 module _ (wanted : List Tag) where
   hits_in : List Element → List Hit
@@ -107,17 +117,19 @@ pub record ValueStep (reader : SequenceReader) (syntax : Syntax) (low : ℕ) (le
   pub shorter : length rest < length all
 
 pub value_steps : (reader : SequenceReader) (syntax : Syntax) (low : ℕ) (left : Option ℕ) (header : Header)
-    (value : Option FoundValue) (keeps : Bool) (all : List ℕ) (behind now : Option ℕ) (mid rest : List ℕ)
+    (summary : Option Summary) (keeps : Bool) (all : List ℕ) (after now : Option ℕ) (mid rest : List ℕ)
+    (content : Content)
     → front_at syntax Defined low (record { left = left; bytes = all }) ≡ Ok
-    (Some header, record { left = behind; bytes = mid })
-    → GivesSummary (option_map found_summary) (summary_where keeps) (Ok (value, now))
-    (content_at reader syntax header (record { left = behind; bytes = mid })) rest → length rest ≤ length mid
-    → ValueStep reader syntax low left header (option_map found_summary value) keeps all now rest
-value_steps reader syntax low left header value keeps all behind now mid rest h k few = record {
-  content = k.0;
-  tells = k.1;
+    (Some header, record { left = after; bytes = mid })
+    → summary ≡ summary_where keeps content
+    → content_at reader syntax header (record { left = after; bytes = mid }) ≡ Ok
+    (content, record { left = now; bytes = rest })
+    → length rest ≤ length mid → ValueStep reader syntax low left header summary keeps all now rest
+value_steps reader syntax low left header summary keeps all after now mid rest content h tells k few = record {
+  content = content;
+  tells = tells;
   read = element_found reader syntax Defined low (record { left = left; bytes = all }) header
-      (record { left = behind; bytes = mid }) (record { left = now; bytes = rest }) k.0 h k.2;
+      (record { left = after; bytes = mid }) (record { left = now; bytes = rest }) content h k;
   shorter = omega (arith, (front_shortens syntax Defined low (record { left = left; bytes = all })).left header _ h);
 }
 
@@ -131,17 +143,17 @@ pub record ElementThere (reader : SequenceReader) (syntax : Syntax) (low : ℕ) 
       (Some entry, record { left = now; bytes = rest })
 
 pub element_there : (reader : SequenceReader) (syntax : Syntax) (low : ℕ) (left : Option ℕ) (header : Header)
-    (all : List ℕ) (behind : Option ℕ) (mid rest : List ℕ)
+    (all : List ℕ) (after : Option ℕ) (mid rest : List ℕ)
     → front_at syntax Defined low (record { left = left; bytes = all }) ≡ Ok
-    (Some header, record { left = behind; bytes = mid })
-    → IsThere (content_at reader syntax header (record { left = behind; bytes = mid })) rest
+    (Some header, record { left = after; bytes = mid })
+    → IsThere (content_at reader syntax header (record { left = after; bytes = mid })) rest
     → ElementThere reader syntax low left header.tag all rest
-element_there reader syntax low left header all behind mid rest h k = record {
+element_there reader syntax low left header all after mid rest h k = record {
   entry = record { tag = header.tag; vr = header.shape.vr; content = k.0 };
   tagged = refl;
   now = k.1;
   read = element_found reader syntax Defined low (record { left = left; bytes = all }) header
-      (record { left = behind; bytes = mid }) (record { left = k.1; bytes = rest }) k.0 h k.2;
+      (record { left = after; bytes = mid }) (record { left = k.1; bytes = rest }) k.0 h k.2;
 }
 
 -- those that were read whole, and one more
@@ -218,6 +230,15 @@ module _ (wanted : List Tag) (part : ItemReader) (syntax : Syntax) where
               (record { left = left; bytes = mid }) (record { left = now; bytes = rest }) e _ go.enough step.read
               go.whole;
         }
+
+    -- an element that is skipped adds no hit
+    pub scan_past : (header : Header) (now : Option ℕ) (rest : List ℕ)
+        → ScanGo wanted part syntax all low left first hits mid
+        → ValueStep (sequence_with part) syntax low left header None (is_wanted wanted header.tag) mid now rest
+        → ScanGo wanted part syntax all (number_of header.tag + 1) now (Some (unwrap_or first header.tag)) hits rest
+    scan_past header now rest go step =
+        subst (λ (hs : List Hit). ScanGo wanted part syntax all (number_of header.tag + 1) now
+        (Some (unwrap_or first header.tag)) hs rest) (append-nil hits) (scan_go header None now rest go step)
 
     pub scan_end : (end : At) → (go : ScanGo wanted part syntax all low left first hits mid)
         → element_at (sequence_with part) syntax Defined low (record { left = left; bytes = mid }) ≡ Ok (None, end)

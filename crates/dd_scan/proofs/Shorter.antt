@@ -11,10 +11,10 @@ use Rattle.dd_grammar.specs.declared.fault.SetFault.TheVariants.{Truncated, Orde
 use Rattle.dd_encoding.specs.declared.syntax.Length.{Length}
 use Rattle.dd_encoding.specs.declared.syntax.Length.TheVariants.{Undefined}
 use Rattle.dd_encoding.specs.declared.syntax.Syntax.{Syntax}
-use Rattle.dd_grammar.specs.Reading.{Header, there, header_with, eight_at, head_at, header_at, opening_at, behind_head}
-use Rattle.dd_grammar.specs.Reading.{front_at, item_opening, behind_item_head, item_front_at, At, Reads, ◌>>=◌}
+use Rattle.dd_grammar.specs.Reading.{Header, there, header_with, eight_at, head_at, header_at, opening_at, after_head}
+use Rattle.dd_grammar.specs.Reading.{front_at, item_opening, after_item_head, item_front_at, At, Reads, ◌>>=◌}
 use Rattle.dd_grammar.specs.Reading.{leaves_fewer, take_at, tag_of, is_over, shape_at, shape_where, explicit_at}
-use Rattle.dd_grammar.specs.Reading.{long_length_at, long_at, fragment_length, fragment_behind, fragment_at}
+use Rattle.dd_grammar.specs.Reading.{long_length_at, long_at, fragment_length, fragment_after, fragment_at}
 use Rattle.dd_encoding.specs.Spelling.{delimiter_group, names_vr}
 use Rattle.dd_grammar.proofs.Steps.{passes, bind_ok, ok_is}
 
@@ -50,7 +50,7 @@ at_most_then : {X Y : Type 0} (n : ℕ) (r : Reads X) (f : X × At → Reads Y) 
 at_most_then n (Ok x) f h k = record { left = λ y e. omega (arith, (k x).left y e, h.left x refl) }
 at_most_then n (Err e) f h k = record { left = λ y h. absurd cc }
 
--- where n bytes are taken, so many fewer are left
+-- where n bytes are taken, n fewer are left
 take_fewer : (n : ℕ) (at end : At) (x : List ℕ) → take_at n at ≡ Ok (x, end) → length end.bytes + n ≡ length at.bytes
 unfolding take_at
 take_fewer n at end x h =
@@ -115,12 +115,12 @@ pub front_shortens : (syntax : Syntax) (form : Length) (low : ℕ) (at : At)
 unfolding front_at
 front_shortens syntax form low at = record {
   left = λ header end h.
-      let e = bind_ok (head_at form at) (behind_head syntax form low) (Some header, end) h in
+      let e = bind_ok (head_at form at) (after_head syntax form low) (Some header, end) h in
       go e.0.0 e.0.1 header end e.1 e.2;
 }
   where
     go : (o : Option (List ℕ)) (mid : At) (header : Header) (end : At) → head_at form at ≡ Ok (o, mid)
-        → behind_head syntax form low (o, mid) ≡ Ok (Some header, end) → length end.bytes < length at.bytes
+        → after_head syntax form low (o, mid) ≡ Ok (Some header, end) → length end.bytes < length at.bytes
     go None mid header end e h = absurd (nothing_read header mid end h)
     go (Some head) mid header end e h = omega (
       arith,
@@ -133,12 +133,12 @@ pub item_front_shortens : (form : Length) (at : At) → Shortens (length at.byte
 unfolding item_front_at
 item_front_shortens form at = record {
   left = λ n end h.
-      let e = bind_ok (head_at form at) (behind_item_head form) (Some n, end) h in
+      let e = bind_ok (head_at form at) (after_item_head form) (Some n, end) h in
       go e.0.0 e.0.1 n end e.1 e.2;
 }
   where
     go : (o : Option (List ℕ)) (mid : At) (n : ℕ) (end : At) → head_at form at ≡ Ok (o, mid)
-        → behind_item_head form (o, mid) ≡ Ok (Some n, end) → length end.bytes < length at.bytes
+        → after_item_head form (o, mid) ≡ Ok (Some n, end) → length end.bytes < length at.bytes
     go None mid n end e h = absurd (nothing_read n mid end h)
     go (Some head) mid n end e h =
         let b = bind_ok (item_opening form head) _ (Some n, end) h in
@@ -147,7 +147,7 @@ item_front_shortens form at = record {
 
 -- a fragment takes bytes
 fragment_left : (at : At) (o : Option ℕ) (mid : At) (f : List ℕ) (end : At) → item_front_at Undefined at ≡ Ok (o, mid)
-    → fragment_behind (o, mid) ≡ Ok (Some f, end) → length end.bytes < length at.bytes
+    → fragment_after (o, mid) ≡ Ok (Some f, end) → length end.bytes < length at.bytes
 fragment_left at None mid f end e h = absurd (nothing_read f mid end h)
 fragment_left at (Some n) mid f end e h =
     let l = bind_ok (fragment_length n) (λ k. take_at k mid >>= there) (Some f, end) h in
@@ -164,6 +164,6 @@ pub fragment_shortens : (at : At) → Shortens (length at.bytes) (fragment_at at
 unfolding fragment_at
 fragment_shortens at = record {
   left = λ f end h.
-      let b = bind_ok (item_front_at Undefined at) fragment_behind (Some f, end) h in
+      let b = bind_ok (item_front_at Undefined at) fragment_after (Some f, end) h in
       fragment_left at b.0.0 b.0.1 f end b.1 b.2;
 }

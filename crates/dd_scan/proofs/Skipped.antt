@@ -1,4 +1,4 @@
--- Skipping what is read: nothing is kept of it, and reading goes on behind it.
+-- Skipping what is read: nothing is kept of it, and reading goes on after it.
 use Rattle.std.proofs.Common.{◌≡◌, ◌<◌, ◌≤◌, ℕ, suc, ◌+◌, ◌-◌, List, [], ◌∷◌, ◌++◌, length, Option, Some, None, Result}
 use Rattle.std.proofs.Common.{Ok, Err, refl, arith}
 use Rattle.dd_elem.specs.declared.tag.Tag.{Tag}
@@ -42,28 +42,28 @@ pub record ItemStep (part : ItemReader) (syntax : Syntax) (form : Length) (left 
   pub shorter : length rest < length bytes
 
 pub element_steps : (sequence : SequenceReader) (syntax : Syntax) (form : Length) (low : ℕ) (left : Option ℕ)
-    (header : Header) (bytes : List ℕ) (behind now : Option ℕ) (mid rest : List ℕ)
+    (header : Header) (bytes : List ℕ) (after now : Option ℕ) (mid rest : List ℕ)
     → front_at syntax form low (record { left = left; bytes = bytes }) ≡ Ok
-    (Some header, record { left = behind; bytes = mid })
-    → Skips (Ok now) (content_at sequence syntax header (record { left = behind; bytes = mid })) rest
+    (Some header, record { left = after; bytes = mid })
+    → Skips (Ok now) (content_at sequence syntax header (record { left = after; bytes = mid })) rest
     → length rest ≤ length mid
     → ElementStep sequence syntax form low left header.tag bytes now rest
-element_steps sequence syntax form low left header bytes behind now mid rest h k few = record {
+element_steps sequence syntax form low left header bytes after now mid rest h k few = record {
   entry = record { tag = header.tag; vr = header.shape.vr; content = k.0 };
   tagged = refl;
   read = element_found sequence syntax form low (record { left = left; bytes = bytes }) header
-      (record { left = behind; bytes = mid }) (record { left = now; bytes = rest }) k.0 h k.1;
+      (record { left = after; bytes = mid }) (record { left = now; bytes = rest }) k.0 h k.1;
   shorter = omega (arith, (front_shortens syntax form low (record { left = left; bytes = bytes })).left header _ h);
 }
 
 pub item_steps : (part : ItemReader) (syntax : Syntax) (form : Length) (left : Option ℕ) (n : ℕ) (bytes : List ℕ)
-    (behind now : Option ℕ) (mid rest : List ℕ)
-    → item_front_at form (record { left = left; bytes = bytes }) ≡ Ok (Some n, record { left = behind; bytes = mid })
-    → Skips (Ok now) (part syntax n (record { left = behind; bytes = mid })) rest → length rest ≤ length mid
+    (after now : Option ℕ) (mid rest : List ℕ)
+    → item_front_at form (record { left = left; bytes = bytes }) ≡ Ok (Some n, record { left = after; bytes = mid })
+    → Skips (Ok now) (part syntax n (record { left = after; bytes = mid })) rest → length rest ≤ length mid
     → ItemStep part syntax form left bytes now rest
-item_steps part syntax form left n bytes behind now mid rest h k few = record {
+item_steps part syntax form left n bytes after now mid rest h k few = record {
   item = k.0;
-  read = item_found part syntax form (record { left = left; bytes = bytes }) n (record { left = behind; bytes = mid })
+  read = item_found part syntax form (record { left = left; bytes = bytes }) n (record { left = after; bytes = mid })
       (record { left = now; bytes = rest }) k.0 h k.1;
   shorter = omega (arith, (item_front_shortens form (record { left = left; bytes = bytes })).left n _ h);
 }

@@ -1,3 +1,4 @@
 pub mod Scan
 pub mod Scanning
 pub mod Skips
+pub mod Summaries

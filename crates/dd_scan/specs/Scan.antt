@@ -1,6 +1,6 @@
 -- What a scan tells of a data set: its first tag, and of each wanted element of the set itself what its value is (PS3.5
 -- sections 6.2 and 7.1).
-use Rattle.std.specs.Prelude.{◌≡◌, ℕ, zero, suc, ◌+◌, Bool, true, false, IsTrue, List, [], ◌∷◌, length, take, map}
+use Rattle.std.specs.Prelude.{◌≡◌, ℕ, zero, suc, ◌+◌, Bool, IsTrue, List, [], ◌∷◌, length, take, map}
 use Rattle.std.specs.Prelude.{filter, Option, Some, None, Result, Ok, Err}
 use Rattle.std.specs.List.{list_any}
 use Rattle.dd_elem.specs.Clean.{clean_of}
@@ -102,16 +102,11 @@ pub record IsScan (wanted : List Tag) (scan : Scan) (set : Elements) : Type 0 wh
   pub first : scan.first ≡ first_of set
   pub found : map found_hit scan.found.items ≡ hits_of wanted set
 
--- a returned scan tells the set that reading the bytes gives; want of memory comes only where a wanted element is there
+-- a returned scan tells the set that reading the bytes gives; lack of memory comes only where a wanted element is there
 abbrev pub ScanGives : Syntax → List Tag → Result Scan SetFault → List ℕ → Type 0
 ScanGives syntax wanted (Ok scan) given = (set : Elements) × (read_all syntax given ≡ Ok set) × IsScan wanted scan set
 ScanGives syntax wanted (Err e) given =
     FailsAs is_memory e (read_all syntax given) × (e ≡ Memory → HasWanted syntax wanted given)
-
--- the summary of a value where it is wanted
-abbrev pub summary_where : Bool → Content → Option Summary
-summary_where true c = Some (summary_of c)
-summary_where false c = None
 
 -- the summary of a value of this sort that is not bytes
 abbrev pub summary_of_sort : Sort → Summary
@@ -119,8 +114,3 @@ summary_of_sort (sorts.Bytes n) = sequence
 summary_of_sort (sorts.Open inner) = sequence
 summary_of_sort (sorts.Closed inner n) = sequence
 summary_of_sort sorts.Fragments = fragments
-
--- the hit that this makes
-abbrev pub noted : Tag → Option Summary → List Hit
-noted tag None = []
-noted tag (Some summary) = record { tag = tag; summary = summary } ∷ []

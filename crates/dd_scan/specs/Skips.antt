@@ -38,7 +38,7 @@ SkipsSome (Err e) read rest = FailsAs is_memory e read
 abbrev pub IsThere : {Y : Type 0} → Reads Y → List ℕ → Type 0
 IsThere {Y} read rest = (y : Y) × (left : Option ℕ) × (read ≡ Ok (y, record { left = left; bytes = rest }))
 
--- reading gives some value, and what is returned tells it; want of memory comes only where reading gives one
+-- reading gives some value, and what is returned tells it; lack of memory comes only where reading gives one
 abbrev pub GivesSummary : {X Y Z : Type 0} → (X → Z) → (Y → Z) → Result (X × Option ℕ) SetFault → Reads Y → List ℕ
     → Type 0
 GivesSummary {X} {Y} view summary (Ok x) read rest =

@@ -11,7 +11,7 @@ ghost use Rattle.dd_scan.specs.Skips.{GivesSummary};
 use crate::feed_headers::take;
 use crate::found::FoundValue;
 use dd_elem::{Key, clean};
-use dd_grammar::{SetFault, leaves_fewer, less};
+use dd_grammar::{SetFault, leaves_fewer, left_after};
 use dd_stream::{Feed, fill};
 use std::alloc::Global;
 
@@ -22,7 +22,7 @@ const KEPT: usize = Key::MAX_LEN;
 /// values this is enough.
 const SHORT: usize = 64;
 
-/// The most bytes of a value that are looked at together behind those.
+/// The most bytes of a value that are looked at together after those.
 const PIECE: usize = 256;
 
 /// Takes a value of n bytes, and keeps its front without its padding.
@@ -95,10 +95,10 @@ fn take_long<F: Feed>(
     };
     let kept = length.min(KEPT as u64) as usize;
     let front = front[..kept].to_vec(alloc)?;
-    Ok((FoundValue::Bytes { front, length }, less(left, n)))
+    Ok((FoundValue::Bytes { front, length }, left_after(left, n)))
 }
 
-/// Skips the bytes of a value behind the first `passed` of n, and answers how many of all stay without
+/// Skips the bytes of a value after the first `passed` of n, and answers how many of all stay without
 /// the padding, where `cleaned` of the first do. None where the feed is over before.
 fn cleaned_length<F: Feed>(feed: &mut F, mut cleaned: u64, mut passed: u64, n: u64) -> Option<u64>
     requires { passed ≤ n }
@@ -125,7 +125,7 @@ fn cleaned_length<F: Feed>(feed: &mut F, mut cleaned: u64, mut passed: u64, n: u
 }
 
 /// How many bytes stay without the padding of the first `passed`, of which `cleaned` stay, and this
-/// piece behind them.
+/// piece after them.
 fn cleaned_with(cleaned: u64, passed: u64, piece: &[u8]) -> u64
     requires { passed + length piece.now < 2 ^ 64 }
     ensures { (front : List ℕ) → length front ≡ passed → cleaned ≡ length (clean_of front)

@@ -10,7 +10,8 @@ ghost use Rattle.dd_scan.specs.Skips.{Finds, FindsStart, Takes, Skips};
 
 use dd_encoding::{HEADER_SIZE, LONG_LENGTH_SIZE, Length, Syntax};
 use dd_grammar::{
-    Header, Opening, SetFault, Shape, element_opening, ends_here, item_opening, leaves_fewer, less,
+    Header, Opening, SetFault, Shape, element_opening, ends_here, item_opening, leaves_fewer,
+    left_after,
 };
 use dd_stream::{Feed, fill, skip};
 
@@ -33,7 +34,7 @@ pub fn take<F: Feed>(
     if fill(feed, room) < n {
         return Err(SetFault::Truncated);
     }
-    Ok(less(left, n as u64))
+    Ok(left_after(left, n as u64))
 }
 
 /// Skips n bytes.
@@ -50,7 +51,7 @@ pub fn pass<F: Feed>(feed: &mut F, n: u32, left: Option<u64>) -> Result<Option<u
     if skip(feed, n) < n {
         return Err(SetFault::Truncated);
     }
-    Ok(less(left, n))
+    Ok(left_after(left, n))
 }
 
 /// The eight bytes that a header begins with, taken from a feed.
@@ -58,7 +59,7 @@ pub fn pass<F: Feed>(feed: &mut F, n: u32, left: Option<u64>) -> Result<Option<u
 struct HeaderStart {
     /// The bytes, or None where a set or a sequence ends by its length.
     bytes: Option<[u8; HEADER_SIZE]>,
-    /// What the nearest enclosing length leaves behind them.
+    /// What the nearest enclosing length leaves after them.
     left: Option<u64>,
 }
 
@@ -119,7 +120,7 @@ fn head<F: Feed>(feed: &mut F, form: Length, left: Option<u64>) -> Result<Header
     }
 }
 
-/// The length of a long header, behind its first eight bytes.
+/// The length of a long header, after its first eight bytes.
 fn long<F: Feed>(feed: &mut F, left: Option<u64>) -> Result<(u32, Option<u64>), SetFault>
     ensures found { Scans F.moves F.tells feed.old feed.new (λ bytes rest.
         Finds (λ n. n) result (long_length_at (record { left = left; bytes = bytes })) rest) }

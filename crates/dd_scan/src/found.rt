@@ -51,7 +51,7 @@ pub enum FoundValue {
 }
 
 /// Finds the first of these elements with this tag.
-pub fn find_in(found: &[Found], tag: Tag) -> Option<&Found>
+pub(crate) fn find_in(found: &[Found], tag: Tag) -> Option<&Found>
     ensures { option_copied result ≡ find (λ found. same_tag found.tag tag) found.now }
 {
     found.iter().find(|found| found.tag == tag)

@@ -12,9 +12,11 @@ mod found;
 mod scan_fault;
 mod scanning;
 mod skipping;
+mod summary;
 mod top_set;
 
-pub use found::{Found, FoundValue, Scan, find_in};
+pub use found::{Found, FoundValue, Scan};
 pub use scan_fault::ScanFault;
 pub use scanning::scan;
+pub use summary::Summary;
 pub use top_set::take_set;

@@ -18,8 +18,8 @@ use std::alloc::Global;
 /// nothing.
 ///
 /// 14 Read exactly where the reader fails, and 15 TooLong exactly where it gives `limit` bytes and one
-/// more. Else the refusals are those of `parse` on what the reader gave, or want of memory, where the
-/// reader gave a wanted element of the set itself, whole and behind no check that fails. It makes at most
+/// more. Else the refusals are those of `parse` on what the reader gave, or lack of memory, where the
+/// reader gave a wanted element of the set itself, whole and after no check that fails. It makes at most
 /// `limit` + 1 reads, and reads on to the end before it answers.
 pub fn scan<R: Read>(
     alloc: Global,

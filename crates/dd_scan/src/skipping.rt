@@ -12,11 +12,11 @@ ghost use Rattle.dd_scan.specs.Skips.{Skips, SkipsSome};
 use crate::feed_headers::{front, item_front, pass};
 use dd_encoding::{Length, Syntax};
 use dd_grammar::{
-    Header, Reach, SetFault, Sort, fragment_length, less, low_behind, reach_of, sort_of,
+    Header, Reach, SetFault, Sort, fragment_length, left_after, low_after, reach_of, sort_of,
 };
 use dd_stream::Feed;
 
-/// Skips the value behind a header.
+/// Skips the value after a header.
 #[cycle(skipping)]
 pub fn skip_content<F: Feed>(
     feed: &mut F,
@@ -37,7 +37,7 @@ pub fn skip_content<F: Feed>(
         Sort::Closed(inner, n) => {
             let n = u64::from(n);
             skip_items(feed, levels, inner, Length::Defined, Some(n))?;
-            Ok(less(left, n))
+            Ok(left_after(left, n))
         }
         Sort::Fragments => skip_fragments(feed, left),
     }
@@ -51,8 +51,8 @@ fn skip_fragments<F: Feed>(feed: &mut F, mut left: Option<u64>) -> Result<Option
     ensures memory { result ≢ Err Memory }
 {
     'fragments: loop {
-        let (more, behind) = skip_fragment(feed, left)?;
-        left = behind;
+        let (more, after) = skip_fragment(feed, left)?;
+        left = after;
         if !more {
             return Ok(left);
         }
@@ -67,12 +67,12 @@ fn skip_fragment<F: Feed>(feed: &mut F, left: Option<u64>) -> Result<(bool, Opti
     ensures some { IfOk result (λ x. IsTrue x.0 → F.most feed.new < F.most feed.old) }
     ensures memory { result ≢ Err Memory }
 {
-    let (length, behind) = item_front(feed, Length::Undefined, left)?;
+    let (length, after) = item_front(feed, Length::Undefined, left)?;
     let Some(n) = length else {
-        return Ok((false, behind));
+        return Ok((false, after));
     };
     let n = fragment_length(n)?;
-    Ok((true, pass(feed, n, behind)?))
+    Ok((true, pass(feed, n, after)?))
 }
 
 /// Skips the elements of a set, to its end.
@@ -91,12 +91,12 @@ fn skip_set<F: Feed>(
 {
     let mut low = 0;
     'elements: loop {
-        let (header, behind) = front(feed, syntax, form, low, left)?;
+        let (header, after) = front(feed, syntax, form, low, left)?;
         let Some(header) = header else {
-            return Ok(behind);
+            return Ok(after);
         };
-        low = low_behind(header.tag);
-        left = skip_content(feed, levels, syntax, header, behind)?;
+        low = low_after(header.tag);
+        left = skip_content(feed, levels, syntax, header, after)?;
     }
 }
 
@@ -116,15 +116,15 @@ fn skip_items<F: Feed>(
     ensures memory { result ≢ Err Memory }
 {
     'items: loop {
-        let (length, behind) = item_front(feed, form, left)?;
+        let (length, after) = item_front(feed, form, left)?;
         let Some(n) = length else {
-            return Ok(behind);
+            return Ok(after);
         };
-        left = skip_part(feed, levels, syntax, n, behind)?;
+        left = skip_part(feed, levels, syntax, n, after)?;
     }
 }
 
-/// Skips an item behind its header, where `levels` levels may still nest.
+/// Skips an item after its header, where `levels` levels may still nest.
 #[cycle(skipping)]
 fn skip_part<F: Feed>(
     feed: &mut F,
@@ -147,7 +147,7 @@ fn skip_part<F: Feed>(
         Reach::Closed(n) => {
             let n = u64::from(n);
             skip_set(feed, inner, syntax, Length::Defined, Some(n))?;
-            Ok(less(left, n))
+            Ok(left_after(left, n))
         }
     }
 }

@@ -1,13 +1,11 @@
 //! A data set of a feed, of which only summaries of wanted elements are kept.
 
-ghost use Rattle.std.specs.Prelude.{◌≡◌, ◌≤◌, ◌++◌, [], Some, None, IsSome, IsTrue, Err, IfOk, IfErr, map, option_map};
-ghost use Rattle.std.specs.Prelude.{unwrap_or};
-ghost use Rattle.dd_grammar.specs.declared.fault.SetFault.TheVariants.{Memory};
+ghost use Rattle.std.specs.Prelude.{◌≡◌, ◌≤◌};
 ghost use Rattle.dd_stream.specs.Feeds.{Scans};
+ghost use Rattle.dd_encoding.specs.Spelling.{max_levels};
 ghost use Rattle.dd_grammar.specs.Checks.{header_view};
 ghost use Rattle.dd_grammar.specs.Reading.{item_reader, sequence_with, content_at};
-ghost use Rattle.dd_scan.specs.Scan.{ScanGives, is_wanted, found_hit, found_summary, summary_of, summary_where, noted};
-ghost use Rattle.dd_scan.specs.Scan.{summary_of_sort};
+ghost use Rattle.dd_scan.specs.Scan.{ScanGives, is_wanted, found_summary, summary_of, summary_of_sort};
 ghost use Rattle.dd_scan.specs.Skips.{GivesSummary};
 
 use crate::cleaning::take_cleaned;
@@ -16,14 +14,14 @@ use crate::found::{Found, FoundValue, Scan};
 use crate::skipping::skip_content;
 use dd_elem::Tag;
 use dd_encoding::{Length, Syntax};
-use dd_grammar::{Header, MAX_LEVELS, SetFault, Sort, low_behind, sort_of};
+use dd_grammar::{Header, MAX_LEVELS, SetFault, Sort, low_after, sort_of};
 use dd_stream::Feed;
 use std::alloc::Global;
 
 /// Takes the data set that the bytes of a feed spell, all that are still to come, with every check of
 /// `parse` in its order. Keeps its first tag, and of each wanted element of the set itself whether it
 /// is a sequence or fragments, or else the front of its value without the padding. Wants memory only
-/// behind a wanted element that was read whole.
+/// after a wanted element that was read whole.
 pub fn take_set<F: Feed>(
     alloc: Global,
     feed: &mut F,
@@ -43,16 +41,20 @@ pub fn take_set<F: Feed>(
     let mut left = None;
     let mut low = 0;
     'elements: loop {
-        let (header, behind) = front(feed, syntax, Length::Defined, low, left)?;
+        let (header, rest) = front(feed, syntax, Length::Defined, low, left)?;
         let Some(header) = header else {
             return Ok(scan);
         };
         let tag = header.tag;
-        low = low_behind(tag);
-        let keeps = is_wanted(wanted, tag);
-        let (value, behind) = take_value(alloc, feed, MAX_LEVELS, syntax, header, behind, keeps)?;
-        left = behind;
-        note(&mut scan, tag, value)?;
+        low = low_after(tag);
+        scan.first = Some(scan.first.unwrap_or(tag));
+        left = if is_wanted(wanted, tag) {
+            let (value, rest) = take_wanted(alloc, feed, syntax, header, rest)?;
+            scan.found.push(Found { tag, value })?;
+            rest
+        } else {
+            skip_content(feed, MAX_LEVELS, syntax, header, rest)?
+        };
     }
 }
 
@@ -63,59 +65,17 @@ fn is_wanted(wanted: &[Tag], tag: Tag) -> bool
     wanted.iter().any(|other| *other == tag)
 }
 
-/// Notes an element with this tag, and what is kept of its value.
-fn note(scan: &mut Scan, tag: Tag, value: Option<FoundValue>) -> Result<(), SetFault>
-    ensures first { IfOk result (λ _. scan.new.first ≡ Some (unwrap_or scan.old.first tag)) }
-    ensures found { IfOk result (λ _. map found_hit scan.new.found.items
-        ≡ map found_hit scan.old.found.items ++ noted tag (option_map found_summary value)) }
-    ensures memory { IfErr result (λ e. (e ≡ Memory) × IsSome value) }
-{
-    scan.first = Some(scan.first.unwrap_or(tag));
-    let Some(value) = value else {
-        return Ok(());
-    };
-    scan.found.push(Found { tag, value })?;
-    Ok(())
-}
-
-/// Takes the value behind a header, and keeps its summary, where it is wanted.
-fn take_value<F: Feed>(
-    alloc: Global,
-    feed: &mut F,
-    levels: u32,
-    syntax: Syntax,
-    header: Header,
-    left: Option<u64>,
-    keeps: bool,
-) -> Result<(Option<FoundValue>, Option<u64>), SetFault>
-    ensures found { Scans F.moves F.tells feed.old feed.new (λ bytes rest.
-        GivesSummary (option_map found_summary) (summary_where keeps) result
-        (content_at (sequence_with (item_reader levels)) syntax (header_view header)
-        (record { left = left; bytes = bytes })) rest) }
-    ensures fewer { F.most feed.new ≤ F.most feed.old }
-    ensures kept { IfOk result (λ x. IsSome x.0 → IsTrue keeps) }
-    ensures memory { result ≡ Err Memory → IsTrue keeps }
-{
-    if !keeps {
-        let left = skip_content(feed, levels, syntax, header, left)?;
-        return Ok((None, left));
-    }
-    let (value, left) = take_wanted(alloc, feed, levels, syntax, header, left)?;
-    Ok((Some(value), left))
-}
-
-/// Takes the value behind a header, and keeps its summary.
+/// Takes the value after a header, and keeps its summary.
 fn take_wanted<F: Feed>(
     alloc: Global,
     feed: &mut F,
-    levels: u32,
     syntax: Syntax,
     header: Header,
     left: Option<u64>,
 ) -> Result<(FoundValue, Option<u64>), SetFault>
     ensures found { Scans F.moves F.tells feed.old feed.new
         (λ bytes rest. GivesSummary found_summary summary_of result
-        (content_at (sequence_with (item_reader levels)) syntax (header_view header)
+        (content_at (sequence_with (item_reader max_levels)) syntax (header_view header)
         (record { left = left; bytes = bytes })) rest) }
     ensures fewer { F.most feed.new ≤ F.most feed.old }
 {
@@ -124,7 +84,7 @@ fn take_wanted<F: Feed>(
         return take_cleaned(alloc, feed, n, left);
     }
     let value = found_of_sort(sort);
-    let left = skip_content(feed, levels, syntax, header, left)?;
+    let left = skip_content(feed, MAX_LEVELS, syntax, header, left)?;
     Ok((value, left))
 }
 

@@ -82,7 +82,7 @@ pub part_at : (parts : List Item) (i : ℕ) (p : Item) → i < length parts → 
 part_at parts i p within is = ap items_text (items_view-drop parts i p within is)
     ∙ part_first (item_view p) (items_view (drop (i + 1) parts))
 
--- elements from a place on are valid behind it too
+-- elements from a place on are valid after it too
 pub element_valid : (syntax : Syntax) (levels low : ℕ) (es : List Element) (i : ℕ) (e : Element) → i < length es
     → e ≡ get_or es i e → AreElements syntax levels low (elements_view (drop i es))
     → IsElement syntax levels low (element_view e) × AreElements syntax levels (number_of (element_view e).tag + 1)
@@ -108,7 +108,7 @@ pub piece_at : (fs : List (Bor (List ℕ))) (i : ℕ) (d : Bor (List ℕ)) → i
 piece_at fs i d within = ap fragments_text (pieces-drop fs i (get_or fs i d) within
     (get_or_default fs i d (get_or fs i d) within))
 
--- fragments from a place on are valid behind it too
+-- fragments from a place on are valid after it too
 pub piece_valid : (fs : List (Bor (List ℕ))) (i : ℕ) (d : Bor (List ℕ)) → i < length fs
     → AreFragments (pieces (drop i fs)) → (length (get_or fs i d).now % 2 ≡ 0)
     × (length (get_or fs i d).now < undefined_length) × AreFragments (pieces (drop (i + 1) fs))

@@ -19,7 +19,7 @@ use Rattle.dd_set.proofs.Counting.{with_element, with_item, element_first, part_
 use Rattle.dd_set.proofs.Counting.{elements_view-end}
 use Rattle.dd_set.proofs.Seen.{element_view-is}
 
--- the places of items behind `at` bytes
+-- the places of items after `at` bytes
 abbrev pub starts_from : ℕ → Items → List ℕ
 starts_from at no_items = []
 starts_from at (item form set rest) = at ∷ starts_from (at + length (item_text (record { length = form; set = set })))

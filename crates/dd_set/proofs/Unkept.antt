@@ -13,7 +13,7 @@ use Rattle.dd_encoding.specs.Elements.{Elements, Items, items, Element, Item}
 use Rattle.dd_set.specs.Memory.{keeps_no_item, unkept_sequence, keeps_no_element, unkept_set, unkept_item, WantsMemory}
 use Rattle.dd_set.specs.Memory.{WantsContent, WantsElement}
 use Rattle.dd_grammar.specs.Reading.{Header, front_at, opens_fragments, open_at, At, Reads, Shape, ◌>>=◌}
-use Rattle.dd_grammar.specs.Reading.{SequenceReader, SetReader, ItemReader, take_at, less, leaves_fewer, within}
+use Rattle.dd_grammar.specs.Reading.{SequenceReader, SetReader, ItemReader, take_at, left_after, leaves_fewer, within}
 use Rattle.dd_grammar.specs.Reading.{undefined_at, defined_at, content_at, tag_of, long_of, shape_at, is_over, ends_set}
 use Rattle.dd_grammar.specs.Reading.{element_at, next_elements, elements_at, ends_sequence, is_item, item_at}
 use Rattle.dd_grammar.specs.Reading.{next_items, items_at, part_at, sequence_with, set_with, item_reader}
@@ -64,7 +64,7 @@ module _ (full unkept : SequenceReader) (law : (syntax : Syntax) (form : Length)
       alike_made (within n at (full inner Defined)) (within n at (unkept inner Defined))
       (λ x. Ok (items Defined x.0, x.1))
       (alike_made (full inner Defined here) (unkept inner Defined here)
-      (λ x. Ok (x.0, record { left = less at.left n; bytes = x.1.bytes })) (law inner Defined here))
+      (λ x. Ok (x.0, record { left = left_after at.left n; bytes = x.1.bytes })) (law inner Defined here))
 
   open_alike : (opens : Bool) (inner : Option Syntax) (at : At)
       → Alike (open_at full opens inner at) (open_at unkept opens inner at)

@@ -8,20 +8,20 @@ use Rattle.dd_grammar.specs.Lists.{same_tag}
 use Rattle.dd_set.specs.Single.{element_text, item_text}
 use Rattle.dd_encoding.specs.Spelling.{items_text, header_text, length_of}
 
--- of items that stand behind the bytes `front`
+-- of items that stand after the bytes `front`
 abbrev pub item_places : List ℕ → Items → List ℕ
 item_places front no_items = []
 item_places front (item form set rest) = length front
     ∷ item_places (front ++ item_text (record { length = form; set = set })) rest
 
--- of the items of an element that stands behind the bytes `front`, where it is a sequence
+-- of the items of an element that stands after the bytes `front`, where it is a sequence
 abbrev pub content_places : List ℕ → Tag → Option Vr → Content → Option (List ℕ)
 content_places front tag vr (bytes v) = None
 content_places front tag vr (fragments fs) = None
 content_places front tag vr (items form parts) =
     Some (item_places (front ++ header_text tag vr (length_of form (items_text parts))) parts)
 
--- of the items of the first element with the tag, in a set that stands behind the bytes `front`
+-- of the items of the first element with the tag, in a set that stands after the bytes `front`
 abbrev pub places_in : Tag → List ℕ → Elements → Option (List ℕ)
 places_in wanted front no_elements = None
 places_in wanted front (element tag vr content rest) =

@@ -3,12 +3,13 @@
 ghost use Rattle.std.specs.Prelude.{◌≡◌, ◌≢◌, ◌+◌, ◌≤◌, ◌<◌, length, IfOk, OnSome, Err, option_map};
 ghost use Rattle.dd_grammar.specs.declared.fault.SetFault.TheVariants.{Memory};
 ghost use Rattle.dd_grammar.specs.Checks.{header_view};
-ghost use Rattle.dd_grammar.specs.Reading.{long_length_at, front_at, item_front_at, take_at, is_over, less};
+ghost use Rattle.dd_grammar.specs.Reading.{long_length_at, front_at, item_front_at, take_at, is_over, left_after};
 ghost use Rattle.dd_set.specs.Places.{at_view, stepped};
 
 use dd_encoding::{HEADER_SIZE, LONG_LENGTH_SIZE, Length, Syntax};
 use dd_grammar::{
-    Header, Opening, SetFault, Shape, element_opening, ends_here, item_opening, leaves_fewer, less,
+    Header, Opening, SetFault, Shape, element_opening, ends_here, item_opening, leaves_fewer,
+    left_after,
 };
 
 /// A place in the bytes: what is to come, and how much of it the nearest enclosing length leaves.
@@ -39,13 +40,13 @@ impl<'a> Cursor<'a> {
         }
     }
 
-    /// The place behind the n bytes from here, which end where `inner` stands.
-    pub fn behind(self, n: u64, inner: Cursor<'a>) -> Cursor<'a>
+    /// The place after the n bytes from here, which end where `inner` stands.
+    pub fn after(self, n: u64, inner: Cursor<'a>) -> Cursor<'a>
         ensures { at_view result
-            ≡ record { left = less self.entry.left n; bytes = inner.entry.rest.now } }
+            ≡ record { left = left_after self.entry.left n; bytes = inner.entry.rest.now } }
     {
         Cursor {
-            left: less(self.left, n),
+            left: left_after(self.left, n),
             rest: inner.rest,
         }
     }
@@ -65,11 +66,11 @@ impl<'a> Cursor<'a> {
             return Err(SetFault::Truncated);
         }
         let (front, rest) = self.rest.split_at(n as usize);
-        let left = less(self.left, n);
+        let left = left_after(self.left, n);
         Ok((front, Cursor { left, rest }))
     }
 
-    /// Takes the length of a long header, behind its first eight bytes.
+    /// Takes the length of a long header, after its first eight bytes.
     #[tactic(auto, unfolding(dd_grammar::specs::Reading::long_length_at))]
     fn long(self) -> Result<(u32, Cursor<'a>), SetFault>
         ensures exact { long_length_at (at_view self.entry) ≡ stepped (λ n. n) result }

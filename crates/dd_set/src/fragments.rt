@@ -27,8 +27,8 @@ pub fn fragments<'a>(alloc: Global, at: Cursor<'a>) -> Result<(Vec<&'a [u8]>, Cu
     let mut fragments = Vec::with_capacity(alloc, count)?;
     let mut place = at;
     'fragments: loop {
-        let (found, behind) = fragment(place)?;
-        place = behind;
+        let (found, after) = fragment(place)?;
+        place = after;
         match found {
             None => return Ok((fragments, place)),
             Some(next) => fragments.push(next)?,
@@ -44,8 +44,8 @@ fn count_fragments(at: Cursor<'_>) -> Result<usize, SetFault>
     let mut count = 0usize;
     let mut place = at;
     'fragments: loop {
-        let (found, behind) = fragment(place)?;
-        place = behind;
+        let (found, after) = fragment(place)?;
+        place = after;
         match found {
             None => return Ok(count),
             Some(_next) => count += 1,

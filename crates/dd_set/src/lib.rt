@@ -4,7 +4,7 @@
 //!
 //! Its one promise: what is read is the one set that the bytes spell, what is refused spells none and
 //! is refused by the first check that it fails, and what is written is the spelling. Only where a
-//! allocation is refused, behind the first item or element, is the answer want of memory instead. The checks
+//! allocation is refused, after the first item or element, is the answer lack of memory instead. The checks
 //! are those of `dd_grammar`, which `dd_scan` makes on the bytes of a reader.
 #![tactic(auto)]
 
@@ -22,7 +22,7 @@ mod written_headers;
 
 pub use dd_encoding::{HEADER_SIZE, LONG_HEADER_SIZE, Length, Syntax, item_header, send_header};
 pub use dd_grammar::SetFault;
-pub use dd_stream::{End, Feed, Stream, WriteFault, drain, fill, finish, send, skip};
+pub use dd_stream::{End, Feed, Stream, WriteFault, fill, finish, send, skip};
 pub use finding::value_at;
 pub use parsing::parse;
 pub use set::{DataSet, Element, Item, Value};

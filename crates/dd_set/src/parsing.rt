@@ -6,10 +6,9 @@ ghost use Rattle.dd_encoding.specs.Elements.{Elements};
 ghost use Rattle.dd_grammar.specs.AnswersAs.{AnswersAs};
 ghost use Rattle.dd_grammar.specs.Faults.{is_memory};
 ghost use Rattle.dd_set.specs.Memory.{unkept_sequence, unkept_set, unkept_item, WantsMemory, WantsContent};
-ghost use Rattle.dd_set.specs.Memory.{WantsElement};
 ghost use Rattle.dd_grammar.specs.Checks.{header_view};
 ghost use Rattle.dd_set.specs.Places.{at_view};
-ghost use Rattle.dd_grammar.specs.Reading.{item_reader, sequence_with, set_with, content_at, element_at, item_at};
+ghost use Rattle.dd_grammar.specs.Reading.{item_reader, sequence_with, set_with, content_at, item_at};
 ghost use Rattle.dd_grammar.specs.Reading.{read_all};
 ghost use Rattle.dd_encoding.specs.Spelling.{Spells};
 ghost use Rattle.dd_set.specs.Views.{set_view, element_view, value_view, item_view, items_view};
@@ -18,10 +17,10 @@ use crate::cursor::Cursor;
 use crate::fragments::fragments;
 use crate::set::{DataSet, Element, Item, Value};
 use dd_encoding::{Length, Syntax};
-use dd_grammar::{Header, MAX_LEVELS, Reach, SetFault, Sort, low_behind, reach_of, sort_of};
+use dd_grammar::{Header, MAX_LEVELS, Reach, SetFault, Sort, low_after, reach_of, sort_of};
 use std::alloc::Global;
 
-/// The value behind a header.
+/// The value after a header.
 #[cycle(parser)]
 fn content<'a>(
     alloc: Global,
@@ -53,42 +52,13 @@ fn content<'a>(
         Sort::Closed(inner, n) => {
             let (length, n) = (Length::Defined, u64::from(n));
             let (items, end) = sequence(alloc, levels, inner, length, at.within(n))?;
-            Ok((Value::Items { length, items }, at.behind(n, end)))
+            Ok((Value::Items { length, items }, at.after(n, end)))
         }
         Sort::Fragments => {
             let (fragments, end) = fragments(alloc, at)?;
             Ok((Value::Fragments(fragments), end))
         }
     }
-}
-
-/// The next element of a set, or None at its end.
-#[cycle(parser)]
-fn element<'a>(
-    alloc: Global,
-    levels: u32,
-    syntax: Syntax,
-    form: Length,
-    low: u64,
-    at: Cursor<'a>,
-) -> Result<(Option<Element<'a>>, Cursor<'a>), SetFault>
-    ensures exact { AnswersAs is_memory (λ x. (option_map element_view x.0, at_view x.1)) result
-        (element_at (sequence_with (item_reader levels)) syntax form low (at_view at.entry)) }
-    ensures shorter { IfOk result
-        (λ x. OnSome x.0 (length x.1.rest.now < length at.entry.rest.now)) }
-    ensures not_longer { IfOk result (λ x. length x.1.rest.now ≤ length at.entry.rest.now) }
-    ensures memory { result ≡ Err Memory
-        → WantsElement (element_at (sequence_with (item_reader levels)) syntax form low
-        (at_view at.entry))
-        (element_at (unkept_sequence (unkept_item levels)) syntax form low (at_view at.entry)) }
-{
-    let (header, at) = at.front(syntax, form, low)?;
-    let Some(header) = header else {
-        return Ok((None, at));
-    };
-    let (tag, vr) = (header.tag, header.shape.vr);
-    let (value, at) = content(alloc, levels, syntax, header, at)?;
-    Ok((Some(Element { tag, vr, value }), at))
 }
 
 /// The elements of a set, to its end.
@@ -110,15 +80,15 @@ fn set<'a>(
     let mut place = at;
     let mut low = 0u64;
     'elements: loop {
-        let (found, behind) = element(alloc, levels, syntax, form, low, place)?;
-        place = behind;
-        match found {
-            None => return Ok((DataSet { elements }, place)),
-            Some(next) => {
-                low = low_behind(next.tag);
-                elements.push(next)?;
-            }
-        }
+        let (header, rest) = place.front(syntax, form, low)?;
+        let Some(header) = header else {
+            return Ok((DataSet { elements }, rest));
+        };
+        let (value, rest) = content(alloc, levels, syntax, header, rest)?;
+        place = rest;
+        low = low_after(header.tag);
+        let (tag, vr) = (header.tag, header.shape.vr);
+        elements.push(Element { tag, vr, value })?;
     }
 }
 
@@ -165,8 +135,8 @@ fn sequence<'a>(
     let mut items = Vec::new(alloc);
     let mut place = at;
     'items: loop {
-        let (found, behind) = item(alloc, levels, syntax, form, place)?;
-        place = behind;
+        let (found, rest) = item(alloc, levels, syntax, form, place)?;
+        place = rest;
         match found {
             None => return Ok((items, place)),
             Some(next) => items.push(next)?,
@@ -174,7 +144,7 @@ fn sequence<'a>(
     }
 }
 
-/// An item behind its tag, with the length that its header gives, where `levels` levels may still
+/// An item after its tag, with the length that its header gives, where `levels` levels may still
 /// nest.
 #[cycle(parser)]
 fn part<'a>(
@@ -203,14 +173,14 @@ fn part<'a>(
         Reach::Closed(n) => {
             let (length, n) = (Length::Defined, u64::from(n));
             let (set, end) = set(alloc, inner, syntax, length, at.within(n))?;
-            Ok((Item { length, set }, at.behind(n, end)))
+            Ok((Item { length, set }, at.after(n, end)))
         }
     }
 }
 
 /// The whole of the bytes as one set.
 #[tactic(auto, unfolding(dd_grammar::specs::Reading::read_all))]
-fn whole<'a>(alloc: Global, syntax: Syntax, bytes: &'a [u8]) -> Result<DataSet<'a>, SetFault>
+fn whole_set<'a>(alloc: Global, syntax: Syntax, bytes: &'a [u8]) -> Result<DataSet<'a>, SetFault>
     ensures exact { AnswersAs is_memory set_view result (read_all syntax bytes.now) }
     ensures memory { result ≡ Err Memory → WantsMemory syntax bytes.now }
 {
@@ -224,7 +194,7 @@ fn whole<'a>(alloc: Global, syntax: Syntax, bytes: &'a [u8]) -> Result<DataSet<'
 
 /// The data set that the bytes spell, all of them, in this syntax (PS3.5 section 7). Its values are
 /// slices of the bytes. Refused by the first check that the bytes fail, or by Memory where an allocation
-/// was refused, behind the first item or element that was read whole.
+/// was refused, after the first item or element that was read whole.
 pub fn parse<'a>(alloc: Global, syntax: Syntax, bytes: &'a [u8]) -> Result<DataSet<'a>, SetFault>
     // What is answered is spelled so, each byte of it.
     ensures found { IfOk result (λ set. Spells syntax (set_view set) bytes.now) }
@@ -233,8 +203,8 @@ pub fn parse<'a>(alloc: Global, syntax: Syntax, bytes: &'a [u8]) -> Result<DataS
         → AnswersAs is_memory set_view result (Ok set) }
     // A refusal is the first check that fails, unless memory ran out.
     ensures exact { AnswersAs is_memory set_view result (read_all syntax bytes.now) }
-    // Memory runs out only where it is wanted: behind the first item or element.
+    // Memory runs out only where it is wanted: after the first item or element.
     ensures memory { result ≡ Err Memory → WantsMemory syntax bytes.now }
 {
-    whole(alloc, syntax, bytes)
+    whole_set(alloc, syntax, bytes)
 }

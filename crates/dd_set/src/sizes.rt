@@ -14,7 +14,7 @@ use crate::written_headers::{PLAIN_SIZE, holds_bytes, length_limit, shape_size};
 use dd_elem::{Tag, Vr};
 use dd_encoding::{DELIMITER_GROUP, Length, Syntax, TAG_SIZE};
 use dd_grammar::{
-    MAX_LEVELS, UNDEFINED_LENGTH, encapsulates, is_pixel_data, item_syntax, low_behind,
+    MAX_LEVELS, UNDEFINED_LENGTH, encapsulates, is_pixel_data, item_syntax, low_after,
 };
 
 impl DataSet<'_> {
@@ -45,7 +45,7 @@ pub fn set_size(set: &DataSet<'_>, syntax: Syntax, levels: u32) -> Option<u64>
     for element in &set.elements {
         let size = element_size(element, syntax, levels, low)?;
         total = total.checked_add(size)?;
-        low = low_behind(element.tag);
+        low = low_after(element.tag);
     }
     Some(total)
 }
@@ -69,7 +69,7 @@ pub fn element_size(element: &Element<'_>, syntax: Syntax, levels: u32, low: u64
     size.checked_add(TAG_SIZE as u64)
 }
 
-/// The size of a value with what its header has behind the tag.
+/// The size of a value with what its header has after the tag.
 #[cycle(sizes)]
 fn value_size(value: &Value<'_>, vr: Option<Vr>, syntax: Syntax, levels: u32) -> Option<u64>
     ensures { let text = content_text vr (value_view value.now)
@@ -133,7 +133,7 @@ fn fragment_size(fragment: &[u8]) -> Option<u64>
     Some(PLAIN_SIZE + size)
 }
 
-/// The size of a value that is bytes with what its header has behind the tag.
+/// The size of a value that is bytes with what its header has after the tag.
 fn bytes_size(value: &[u8], vr: Option<Vr>, syntax: Syntax) -> Option<u64>
     ensures { let text = content_text vr (bytes value.now)
         in (levels : ℕ) → SomeIff result
@@ -177,7 +177,7 @@ pub fn item_size(item: &Item<'_>, syntax: Syntax, levels: u32) -> Option<u64>
 }
 
 /// The size of the contents of an item or a sequence with `front` bytes before them and the mark of
-/// their end behind them, where they want one.
+/// their end after them, where they want one.
 fn closed_size(front: u64, form: Length, size: u64) -> Option<u64>
     requires { front ≤ 8 }
     ensures { (text mark : List ℕ) → length text ≡ size → length mark ≡ 8

@@ -9,10 +9,10 @@ ghost use Rattle.dd_set.specs.Views.{element_view, value_view, items_view};
 
 use crate::set::{DataSet, Element, Item, Value};
 use crate::sizes::{element_size, item_size};
-use crate::written_headers::shape_size;
+use crate::written_headers::{inner_syntax, shape_size};
 use dd_elem::{Memory, Tag};
 use dd_encoding::{Syntax, TAG_SIZE};
-use dd_grammar::{MAX_LEVELS, item_syntax};
+use dd_grammar::MAX_LEVELS;
 use std::alloc::Global;
 
 impl DataSet<'_> {
@@ -45,16 +45,16 @@ impl DataSet<'_> {
             if element.tag == tag {
                 return starts_of(alloc, element, syntax, at);
             }
-            match element_size(element, syntax, MAX_LEVELS, 0) {
-                Some(size) => at += size,
-                None => unreachable!(),
-            }
+            let Some(size) = element_size(element, syntax, MAX_LEVELS, 0) else {
+                return Ok(None);
+            };
+            at += size;
         }
         Ok(None)
     }
 }
 
-/// The places of the items of an element behind `at` bytes, or None where its value is no sequence.
+/// The places of the items of an element after `at` bytes, or None where its value is no sequence.
 fn starts_of(
     alloc: Global,
     element: &Element<'_>,
@@ -73,37 +73,35 @@ fn starts_of(
     match &element.value {
         Value::Bytes(_) => Ok(None),
         Value::Fragments(_) => Ok(None),
-        Value::Items { length, items } => match item_syntax(syntax, element.vr, *length) {
-            Some(inner) => {
-                let first = at + TAG_SIZE as u64 + shape_size(element.vr);
-                Ok(Some(items_starts(alloc, items, inner, first)?))
-            }
-            None => unreachable!(),
-        },
+        Value::Items { items, .. } => {
+            let inner = inner_syntax(syntax, element.vr);
+            let first = at + TAG_SIZE as u64 + shape_size(element.vr);
+            items_starts(alloc, items, inner, first)
+        }
     }
 }
 
-/// The places of items behind `first` bytes.
+/// The places of items after `first` bytes, or None where nothing spells them.
 fn items_starts(
     alloc: Global,
     items: &[Item<'_>],
     syntax: Syntax,
     first: u64,
-) -> Result<Vec<u64>, Memory>
+) -> Result<Option<Vec<u64>>, Memory>
     requires valid { AreItems syntax max_levels (items_view items.now) }
     requires fits { first + length (items_text (items_view items.now)) < 2 ^ 64 }
-    ensures places { (front : List ℕ) → length front ≡ first → IfOk result (λ starts. starts.items
-        ≡ item_places front (items_view items.now)) }
+    ensures places { (front : List ℕ) → length front ≡ first → IfOk result (λ starts.
+        option_map (λ v. v.items) starts ≡ Some (item_places front (items_view items.now))) }
     ensures memory { OnErr result (0 < length items.now) }
 {
     let mut starts = Vec::new(alloc);
     let mut at = first;
     for item in items {
         starts.push(at)?;
-        match item_size(item, syntax, MAX_LEVELS) {
-            Some(size) => at += size,
-            None => unreachable!(),
-        }
+        let Some(size) = item_size(item, syntax, MAX_LEVELS) else {
+            return Ok(None);
+        };
+        at += size;
     }
-    Ok(starts)
+    Ok(Some(starts))
 }

@@ -13,9 +13,10 @@ ghost use Rattle.dd_set.specs.Views.{set_view, element_view, value_view, items_v
 use crate::set::{DataSet, Element, Item, Value};
 use crate::set_headers::send_front;
 use crate::sizes::{items_size, set_size};
+use crate::written_headers::inner_syntax;
 use dd_elem::{Tag, Vr, Write};
 use dd_encoding::{ITEM_END, Length, SEQUENCE_END, Syntax, item_header, plain_header};
-use dd_grammar::{MAX_LEVELS, UNDEFINED_LENGTH, item_syntax};
+use dd_grammar::{MAX_LEVELS, UNDEFINED_LENGTH};
 use dd_stream::{WriteFault, send};
 
 /// Sends the bytes that spell the set, and answers how many they are. 13 NotWritable exactly where
@@ -75,9 +76,7 @@ fn send_element<W: Write>(
     match &element.value {
         Value::Bytes(bytes) => send_bytes(element.tag, element.vr, bytes, writer, sent),
         Value::Items { length, items } => {
-            let Some(inner) = item_syntax(syntax, element.vr, *length) else {
-                unreachable!()
-            };
+            let inner = inner_syntax(syntax, element.vr);
             let count = items_length(items, *length, inner, levels);
             let sent = send_front(element.tag, element.vr, count, writer, sent)?;
             let sent = send_items(items, inner, levels, writer, sent)?;

@@ -1,7 +1,9 @@
 //! What stands before a value that is written, and which values may stand there.
 
 ghost use Rattle.std.specs.Prelude.{◌≡◌, ◌≤◌, ◌↔◌, ℕ, length, IsTrue, Some, None, true, false};
-ghost use Rattle.dd_encoding.specs.Spelling.{length_limit, HoldsBytes, shape_text};
+ghost use Rattle.dd_encoding.specs.Spelling.{item_syntax, length_limit, HoldsBytes, shape_text};
+ghost use Rattle.dd_encoding.specs.declared.syntax.Length.{Length};
+ghost use Rattle.dd_encoding.specs.declared.syntax.Syntax.{Syntax};
 
 use dd_elem::Vr;
 use dd_encoding::{HEADER_SIZE, LONG_HEADER_SIZE, Syntax, TAG_SIZE};
@@ -21,6 +23,18 @@ pub fn holds_bytes(syntax: Syntax, vr: Option<Vr>) -> bool
     }
 }
 
+/// The syntax of the items of a sequence that may stand under this value representation (PS3.5 sections
+/// 6.2.2 and 7.5.1).
+pub fn inner_syntax(syntax: Syntax, vr: Option<Vr>) -> Syntax
+    ensures { (form : Length) (inner : Syntax) → item_syntax syntax vr form ≡ Some inner
+        → result ≡ inner }
+{
+    match vr {
+        Some(Vr::SQ) => syntax,
+        _ => Syntax::Implicit,
+    }
+}
+
 /// The defined lengths that a header of this value representation has room for are below this.
 pub fn length_limit(vr: Option<Vr>) -> u64
     ensures { result ≡ length_limit vr }
@@ -31,7 +45,7 @@ pub fn length_limit(vr: Option<Vr>) -> u64
     }
 }
 
-/// How many bytes a header of this value representation has behind the tag.
+/// How many bytes a header of this value representation has after the tag.
 pub fn shape_size(vr: Option<Vr>) -> u64
     ensures exact { (n : ℕ) → result ≡ length (shape_text vr n) }
     ensures few { result ≤ 8 }

@@ -59,7 +59,7 @@ pub fails_at : {R : Type 0} (bytes : List ℕ) (sent at : ℕ) (a b : Option (Li
 fails_at bytes sent at a b before after within holds stays failed called =
     record { ok = tt; err = stops_at bytes sent at a b before after within holds stays failed called }
 
--- ---- several texts, one behind the other
+-- ---- several texts, one after the other
 
 -- no text at all
 pub goes_none : {R : Type 0} (a : Option (List ℕ) × R) (f : Counts) → Goes [] a a f f
@@ -105,10 +105,10 @@ stops_before xs ys sent k a b f g one = record {
   stays = one.stays;
 }
 
--- the same piece, behind some bytes
-stops_behind : {R : Type 0} (piece : List ℕ) (before k : ℕ) (a b : Option (List ℕ) × R) (f g : Counts)
+-- the same piece, after some bytes
+stops_after : {R : Type 0} (piece : List ℕ) (before k : ℕ) (a b : Option (List ℕ) × R) (f g : Counts)
     → Stops piece 0 k a b f g → Stops piece (0 + before) (before + k) a b f g
-stops_behind piece before k a b f g stopped = record {
+stops_after piece before k a b f g stopped = record {
   front = stopped.front;
   rest = stopped.rest;
   parts = stopped.parts;
@@ -127,12 +127,12 @@ pub stops_amid : {R : Type 0} (sent piece : List ℕ) (fault : WriteFault) (a b 
 stops_amid sent piece NotWritable a b c f g h went stopped = absurd stopped
 stops_amid sent piece (Write k) a b c f g h went stopped = (
   length sent + k,
-  stops_then sent piece 0 (length sent + k) a b c f g h went (stops_behind piece (length sent) k b c g h stopped),
+  stops_then sent piece 0 (length sent + k) a b c f g h went (stops_after piece (length sent) k b c g h stopped),
 )
 
 -- ---- a text of which the front is sent
 
--- Of a whole text the front is sent, which behind `start` bytes makes `sent`, and the rest is not.
+-- Of a whole text the front is sent, which after `start` bytes makes `sent`, and the rest is not.
 pub record GoesOn {R : Type 0} (all rest : List ℕ) (start sent : ℕ) (old new : Option (List ℕ) × R) (before after : Counts)
     : Type 0 where
   pub gone : List ℕ

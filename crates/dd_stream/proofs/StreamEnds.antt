@@ -53,7 +53,7 @@ module _ {R : Type 0} (reader : ReadOf R) where
     turned first last m.given p.left r.left p.end r.end end opened shut m.turns,
   )
 
--- A stretch of which this is said whatever comes behind it, and then one to the end of the stream: what is said of all
+-- A stretch of which this is said whatever comes after it, and then one to the end of the stream: what is said of all
 -- that the reader gave, and how it ended, are the answer.
 pub reads_to_end : {R : Type 0} (reader : ReadOf R) (first then last : R) (p q r : Position) (xs ys : List ℕ)
     (end : End)
@@ -67,12 +67,12 @@ pub reads_to_end : {R : Type 0} (reader : ReadOf R) (first then last : R) (p q r
 reads_to_end reader first then last p q r xs ys end said answers m n says empty opened none shut answer =
     let whole = moves_then reader first then last p q r xs ys m n in
     let done = stream_ends reader first last p r (xs ++ ys) end whole empty opened none shut in
-    let told = tells_then reader then last q r ys [] n (tells_none r none) in
+    let last_tells = tells_then reader then last q r ys [] n (tells_none r none) in
     let same : xs ++ (ys ++ []) ≡ whole.given = ap (λ (z : List ℕ). xs ++ z) (append-nil ys) ∙ sym done.0 in
     record {
       given = whole.given;
       gave = whole.gave;
       known = whole.known;
       few = done.1.1;
-      answered = answer whole.given _ _ _ whole.bytes (subst said same (says (ys ++ []) told)) done.1.0;
+      answered = answer whole.given _ _ _ whole.bytes (subst said same (says (ys ++ []) last_tells)) done.1.0;
     }

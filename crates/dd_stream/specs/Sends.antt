@@ -16,7 +16,7 @@ pub record Goes {R : Type 0} (text : List ℕ) (old new : Option (List ℕ) × R
   pub stays : new.1 ≡ old.1
 
 -- The writer failed and a part of the text did not go. It holds what it held and then the front of the text, which
--- behind `sent` bytes makes k bytes. The rest of it stays.
+-- after `sent` bytes makes k bytes. The rest of it stays.
 pub record Stops {R : Type 0} (text : List ℕ) (sent k : ℕ) (old new : Option (List ℕ) × R) (before after : Counts)
     : Type 0 where
   pub front : List ℕ
@@ -35,7 +35,7 @@ abbrev pub StopsBy : {R : Type 0} → List ℕ → ℕ → WriteFault → Option
 StopsBy text sent (Write k) old new before after = Stops text sent k old new before after
 StopsBy text sent NotWritable old new before after = ⊥
 
--- The result of sending a text behind `sent` bytes: how many bytes have gone then, or after how many the writer failed.
+-- The result of sending a text after `sent` bytes: how many bytes have gone then, or after how many the writer failed.
 pub record Sends {R : Type 0} (text : List ℕ) (sent : ℕ) (result : Result ℕ WriteFault)
     (old new : Option (List ℕ) × R) (before after : Counts) : Type 0 where
   pub ok : IfOk result (λ n. (n ≡ sent + length text) × Goes text old new before after)

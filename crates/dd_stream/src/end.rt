@@ -3,7 +3,7 @@
 ghost use Rattle.std.specs.Prelude.{◌≡◌, [], List, ℕ, Some};
 ghost use Rattle.dd_stream.specs.Streams.{Moves, position_of};
 
-use crate::filling::drain;
+use crate::feed::Feed;
 use crate::stream::Stream;
 use dd_elem::Read;
 
@@ -26,9 +26,13 @@ pub fn finish<R: Read>(stream: &mut Stream<'_, R>) -> End
     ensures empty { stream.new.kept ≡ [] }
     ensures ended { stream.new.end ≡ Some result }
 {
-    drain(stream);
-    match stream.end {
-        Some(end) => end,
-        None => unreachable!(),
+    'pieces: loop {
+        let passed = stream.pass(u64::MAX);
+        let Some(end) = stream.end else {
+            continue;
+        };
+        if passed == 0 {
+            return end;
+        }
     }
 }

@@ -5,7 +5,7 @@ ghost use Rattle.dd_stream.specs.Feeds.{IsOver};
 
 /// Bytes that come one after the other. Each is taken once, and a feed at its end stays there.
 ///
-/// It is never refused: where a device behind it fails, the feed is at its end. Whoever made the feed
+/// It is never refused: where the device that it reads fails, the feed is at its end. Whoever made the feed
 /// knows then why it ended.
 pub trait Feed {
     // From one state of the feed to another these bytes were taken.
@@ -41,7 +41,7 @@ pub trait Feed {
         → moves second third ys
         → moves first third (xs ++ ys) };
 
-    // What was taken, and what is to come behind it, was to come before.
-    ghost told: { (first second : Self) (xs ys : List ℕ) → moves first second xs → tells second ys
+    // What was taken, and what is to come after it, was to come before.
+    ghost tells_before: { (first second : Self) (xs ys : List ℕ) → moves first second xs → tells second ys
         → tells first (xs ++ ys) };
 }

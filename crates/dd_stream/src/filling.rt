@@ -1,4 +1,4 @@
-//! So many bytes of a feed, and all of them.
+//! Bytes of a feed, as many as are asked for.
 
 ghost use Rattle.std.specs.Prelude.{◌≡◌, ◌≤◌, ◌<◌, ◌+◌, ℕ, List, length, take};
 ghost use Rattle.dd_stream.specs.Feeds.{IsOver};
@@ -40,12 +40,4 @@ pub fn skip<F: Feed>(feed: &mut F, n: u64) -> u64
         at += passed;
     }
     at
-}
-
-/// Skips all bytes that are still to come.
-pub fn drain<F: Feed>(feed: &mut F)
-    ensures moved { (taken : List ℕ) × F.moves feed.old feed.new taken }
-    ensures over { IsOver F.tells feed.new }
-{
-    while feed.pass(u64::MAX) > 0 {}
 }

@@ -16,7 +16,7 @@ mod write_fault;
 
 pub use end::{End, finish};
 pub use feed::Feed;
-pub use filling::{drain, fill, skip};
+pub use filling::{fill, skip};
 pub use sending::send;
 pub use stream::Stream;
 pub use write_fault::WriteFault;

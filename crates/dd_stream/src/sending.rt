@@ -6,7 +6,7 @@ ghost use Rattle.dd_stream.specs.Sends.{SendsTo};
 use crate::write_fault::WriteFault;
 use dd_elem::Write;
 
-/// Sends the bytes behind `sent` others, and answers how many have gone then. 12 Write where the
+/// Sends the bytes after `sent` others, and answers how many have gone then. 12 Write where the
 /// writer failed, with how many went before: `sent` and those of the piece that the writer took.
 pub fn send<W: Write>(bytes: &[u8], writer: &mut W, sent: u64) -> Result<u64, WriteFault>
     requires { sent + length bytes.now < 2 ^ 64 }

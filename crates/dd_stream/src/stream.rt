@@ -11,7 +11,7 @@ use crate::kept::{Kept, PIECE};
 use dd_elem::Read;
 
 /// The bytes of a reader as a feed: it reads them in pieces of 16 KiB, and at most its limit and one
-/// more. It is at its end where the reader is, where the reader fails, and behind the one byte more;
+/// more. It is at its end where the reader is, where the reader fails, and after the one byte more;
 /// `finish` says which.
 #[derive(Drop)]
 pub struct Stream<'r, R: Read> {
@@ -94,6 +94,6 @@ impl<R: Read> Feed for Stream<'_, R> {
           m.1 n.1,
     ) };
 
-    ghost told = { λ a b xs ys m t.
+    ghost tells_before = { λ a b xs ys m t.
         tells_then R.Read a.reader.now b.reader.now (position_of a) (position_of b) xs ys m.1 t };
 }

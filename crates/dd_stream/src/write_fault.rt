@@ -5,7 +5,7 @@ use thiserror::Error;
 /// Why bytes were not sent.
 #[derive(Clone, Copy, Debug, PartialEq, Eq, Hash, Error)]
 pub enum WriteFault {
-    /// The writer failed. So many bytes had gone.
+    /// The writer failed, when this number of bytes had gone.
     #[error("12 Write {0}")]
     Write(u64),
     /// There are no bytes that spell the set, or a length has no room in its header.

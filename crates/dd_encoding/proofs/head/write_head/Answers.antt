@@ -11,8 +11,8 @@ unfolding head_text
 returns-in_err-sent g c =
     let p = err_from_is_err_and c.from_residual.result c.from_residual.ensures.1 in
     let group = group_text c.args.meta.now in
-    let behind = prefix ++ (group_length_text (length group) ++ group) in
-    rw (p.1, p.2) (first_fails (replicate 128 0) behind _ _ _ _ _ _ c.in_err-sent.ensures)
+    let after = prefix ++ (group_length_text (length group) ++ group) in
+    rw (p.1, p.2) (first_fails (replicate 128 0) after _ _ _ _ _ _ c.in_err-sent.ensures)
 
 pub returns-in_err-sent-2 : goal.returns-in_err-sent-2
 unfolding head_text

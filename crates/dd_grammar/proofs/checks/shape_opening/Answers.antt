@@ -1,4 +1,4 @@
--- A long header, whose length stands behind its first eight bytes.
+-- A long header, whose length stands after its first eight bytes.
 use Rattle.std.proofs.Common.{◌≡◌, ◌∙◌, ℕ, true, false, eqb, rules, ap, sym, List, take, drop, Option, Some, Ok, Err}
 use Rattle.std.proofs.Common.{refl}
 use Rattle.dd_elem.specs.declared.tag.Tag.{Tag}
@@ -19,10 +19,10 @@ shape_with vr n = Ok (record { vr = Some vr; length = n.0 }, n.1)
 abbrev whole_with : Tag → Vr → ℕ × At → Reads (Option Header)
 whole_with tag vr n = Ok (Some (record { tag = tag; shape = record { vr = Some vr; length = n.0 } }), n.1)
 
-behind_length : (tag : Tag) (vr : Vr) (r : Reads ℕ)
+after_length : (tag : Tag) (vr : Vr) (r : Reads ℕ)
     → (r >>= shape_with vr >>= header_with tag >>= there) ≡ (r >>= whole_with tag vr)
-behind_length tag vr (Ok n) = refl
-behind_length tag vr (Err e) = refl
+after_length tag vr (Ok n) = refl
+after_length tag vr (Err e) = refl
 
 long_header : (syntax : Syntax) (tag : Tag) (vr : Vr) (head : List ℕ) (at : At) → names_vr syntax ≡ true
     → vr_of (take 2 (drop 4 head)) ≡ Some vr
@@ -30,7 +30,7 @@ long_header : (syntax : Syntax) (tag : Tag) (vr : Vr) (head : List ℕ) (at : At
     → tagged_at syntax tag head at ≡ long_header_at tag vr at
 unfolding shape_at long_at
 long_header syntax tag vr head at names named long zero =
-    rw (names, named, long, zero) (behind_length tag vr (long_length_at at))
+    rw (names, named, long, zero) (after_length tag vr (long_length_at at))
 
 reserved_header : (syntax : Syntax) (tag : Tag) (vr : Vr) (head : List ℕ) (at : At) → names_vr syntax ≡ true
     → vr_of (take 2 (drop 4 head)) ≡ Some vr

@@ -17,7 +17,7 @@ pub returns-in_err-scan : goal.returns-in_err-scan
 returns-in_err-scan g c =
     let p = err_from_is_err_and c.from_residual-in_err-scan.result c.from_residual-in_err-scan.ensures.1 in
     rw (p.1, p.2) (record {
-      found = scans_then _ _ g.met.F.Feed.goes g.met.F.Feed.told _ _ _ _ _ _ c.in_ok-meta.ensures.found
+      found = scans_then _ _ g.met.F.Feed.goes g.met.F.Feed.tells_before _ _ _ _ _ _ c.in_ok-meta.ensures.found
           c.in_err-scan.ensures.found
           (λ bytes mid rest few fewer h k. file_without_set c.args.wanted.now c.in_err-scan.field-0.0 bytes mid
           c.in_ok-meta.meta c.in_ok-meta.syntax (λ is. c.in_err-scan.ensures.memory (ap (λ f. Err f) is)) h k);
@@ -25,7 +25,7 @@ returns-in_err-scan g c =
 
 pub returns : goal.returns
 returns g c = record {
-  found = scans_then _ _ g.met.F.Feed.goes g.met.F.Feed.told _ _ _ _ _ _ c.in_ok-meta.ensures.found
+  found = scans_then _ _ g.met.F.Feed.goes g.met.F.Feed.tells_before _ _ _ _ _ _ c.in_ok-meta.ensures.found
       c.in_ok-scan.ensures.found
       (λ bytes mid rest few fewer h k. file_taken c.args.wanted.now
       (record { meta = c.in_ok-meta.meta; found = c.in_ok-scan.scan.found }) c.in_ok-scan.scan bytes mid

@@ -2,7 +2,7 @@ use Rattle.std.proofs.Common.{◌≡◌, ◌≤◌, ℕ, replicate, length, take
 use Rattle.std.proofs.lemmas.Result.{err_from_is_err_and}
 use Rattle.std.proofs.lemmas.List.{length-take-le, length-replicate}
 use Rattle.dd_stream.proofs.Along.{scans_same, scans_then}
-use Rattle.dd_part10.specs.Reading.{split_at, behind_length}
+use Rattle.dd_part10.specs.Reading.{split_at, after_length}
 use Rattle.dd_part10.specs.Taking.{GroupTaken}
 use Rattle.dd_part10.proofs.Taken.{meta_without_count}
 use Rattle.dd_part10.proofs.feed_file.take_meta.Goals as goal
@@ -21,14 +21,14 @@ pub returns-then-count-le-SHORT_GROUP-clause-found : goal.returns-then-count-le-
 returns-then-count-le-SHORT_GROUP-clause-found g c =
     let n = c.in_ok-count.field-0 in
     let size = front_is n 1024 c.if-count-le-SHORT_GROUP.true in
-    scans_then _ _ g.met.F.Feed.goes g.met.F.Feed.told _ _ _ _ (λ mid rest. GroupTaken _ _ mid rest) _
+    scans_then _ _ g.met.F.Feed.goes g.met.F.Feed.tells_before _ _ _ _ (λ mid rest. GroupTaken _ _ mid rest) _
     c.in_ok-count.ensures.found c.take_group.ensures.found
-    (λ bytes mid rest few fewer h k. k bytes (subst (λ (m : ℕ). behind_length bytes ≡ split_at m mid) (sym size) h))
+    (λ bytes mid rest few fewer h k. k bytes (subst (λ (m : ℕ). after_length bytes ≡ split_at m mid) (sym size) h))
 
 pub returns-else-count-le-SHORT_GROUP-clause-found : goal.returns-else-count-le-SHORT_GROUP-clause-found
 returns-else-count-le-SHORT_GROUP-clause-found g c =
     let n = c.in_ok-count.field-0 in
     let size = front_is n 65536 c.in_ok-count.ensures.few in
-    scans_then _ _ g.met.F.Feed.goes g.met.F.Feed.told _ _ _ _ (λ mid rest. GroupTaken _ _ mid rest) _
+    scans_then _ _ g.met.F.Feed.goes g.met.F.Feed.tells_before _ _ _ _ (λ mid rest. GroupTaken _ _ mid rest) _
     c.in_ok-count.ensures.found c.take_group-else-count-le-SHORT_GROUP.ensures.found
-    (λ bytes mid rest few fewer h k. k bytes (subst (λ (m : ℕ). behind_length bytes ≡ split_at m mid) (sym size) h))
+    (λ bytes mid rest few fewer h k. k bytes (subst (λ (m : ℕ). after_length bytes ≡ split_at m mid) (sym size) h))

@@ -4,8 +4,8 @@ use Rattle.dd_scan.proofs.Feeding.{front_length}
 use Rattle.dd_part10.proofs.Taken.{prefix_taken, prefix_fails}
 use Rattle.dd_part10.proofs.feed_file.take_prefix.Goals as goal
 
-pub returns-in_err-behind_prefix-clause-found : goal.returns-in_err-behind_prefix-clause-found
-returns-in_err-behind_prefix-clause-found g c =
+pub returns-in_err-rest_after_prefix-clause-found : goal.returns-in_err-rest_after_prefix-clause-found
+returns-in_err-rest_after_prefix-clause-found g c =
     let p = err_from_is_err_and c.from_residual.result c.from_residual.ensures.1 in
     let room = c.fill-n.new.room in
     let size : length room ≡ 132 = c.fill-n.auto.room in
@@ -13,10 +13,10 @@ returns-in_err-behind_prefix-clause-found g c =
     rw (p.1, p.2) (record {
       taken = take c.fill-n.result room;
       moved = c.fill-n.ensures.moved;
-      gives = λ rest t. prefix_fails c.in_err-behind_prefix.field-0.0 (take c.fill-n.result room) rest
+      gives = λ rest t. prefix_fails c.in_err-rest_after_prefix.field-0.0 (take c.fill-n.result room) rest
           (omega (arith, few, c.fill-n.ensures.bound, size))
           (λ less. (c.fill-n.ensures.over (omega (arith, few, size, less))).none rest t)
-          c.in_err-behind_prefix.ensures.exact;
+          c.in_err-rest_after_prefix.ensures.exact;
     })
 
 pub returns-clause-found : goal.returns-clause-found
@@ -27,6 +27,6 @@ returns-clause-found g c =
     record {
       taken = take c.fill-n.result room;
       moved = c.fill-n.ensures.moved;
-      gives = λ rest t. prefix_taken (take c.fill-n.result room) c.in_ok-behind_prefix.field-0.now rest
-          (omega (arith, few, c.fill-n.ensures.bound, size)) c.in_ok-behind_prefix.ensures.exact;
+      gives = λ rest t. prefix_taken (take c.fill-n.result room) c.in_ok-rest_after_prefix.field-0.now rest
+          (omega (arith, few, c.fill-n.ensures.bound, size)) c.in_ok-rest_after_prefix.ensures.exact;
     }

@@ -1,10 +1,10 @@
--- The front of the value, and the rest of it behind.
+-- The front of the value, and the rest of it after.
 use Rattle.std.proofs.Common.{◌≡◌, ◌∙◌, ◌≤◌, ◌++◌, ℕ, List, length, take, ap, sym, subst, refl, true, false, arith}
 use Rattle.std.proofs.Common.{replicate}
 use Rattle.std.proofs.lemmas.List.{length-append, length-take-le, length-replicate, take_all}
 use Rattle.std.proofs.lemmas.Result.{err_from_is_err_and}
 use Rattle.dd_elem.proofs.Cleaning.{length-clean_of}
-use Rattle.dd_grammar.specs.Reading.{leaves_fewer, less}
+use Rattle.dd_grammar.specs.Reading.{leaves_fewer, left_after}
 use Rattle.dd_scan.specs.Scan.{Summary, cleaned}
 use Rattle.dd_stream.proofs.Along.{scans_none}
 use Rattle.dd_scan.proofs.CleanedFronts.{cleaned_front}
@@ -97,7 +97,7 @@ returns-in_err-front-clause-found g c =
         tt,
         λ is. (
           room ++ m.0,
-          less c.args.left c.args.n,
+          left_after c.args.left c.args.n,
           take_whole c.args.n c.args.left (room ++ m.0) rest enough whole,
         ),
       );
@@ -117,7 +117,7 @@ returns-clause-found g c =
     let kept = c.in_ok-front.ensures.items_if_clones_equal (λ x y h. h) in
     let front_is = cleaned_front 1024 c.min-kept.result room m.0 (omega arith) (omega (arith, length-append room m.0))
     in
-    let less_is : c.less.result ≡ less c.args.left c.args.n = c.less.ensures ∙ ap (less c.args.left) c.from-n.ensures in
+    let left_is : c.left_after.result ≡ left_after c.args.left c.args.n = c.left_after.ensures ∙ ap (left_after c.args.left) c.from-n.ensures in
     record {
       taken = room ++ m.0;
       moved = g.met.F.Feed.goes _ _ _ _ _ (subst (g.F.Feed.moves c.args.feed.now c.fill.new.feed) all
@@ -125,6 +125,6 @@ returns-clause-found g c =
       gives = λ rest t. (
         room ++ m.0,
         same_summary _ _ _ _ (kept ∙ front_is) length_is,
-        rw less_is (take_whole c.args.n c.args.left (room ++ m.0) rest enough whole),
+        rw left_is (take_whole c.args.n c.args.left (room ++ m.0) rest enough whole),
       );
     }

@@ -37,7 +37,7 @@ returns-in_err-length-in-Long-clause-found g c =
     let p = err_from_is_err_and c.from_residual-in_err-length-in-Long.result
     c.from_residual-in_err-length-in-Long.ensures.1 in
     let at : List ℕ → At = λ bytes. record { left = c.args.left; bytes = bytes } in
-    rw (p.1, p.2) (scans_then _ _ g.met.F.Feed.goes g.met.F.Feed.told _ _ _ _ _ _ c.in_ok-head.ensures.found
+    rw (p.1, p.2) (scans_then _ _ g.met.F.Feed.goes g.met.F.Feed.tells_before _ _ _ _ _ _ c.in_ok-head.ensures.found
     c.in_err-length-in-Long.ensures.found
     (λ bytes mid rest few fewer h k. fails_along c.in_err-length-in-Long.field-0.0 _ _ k (λ e failed.
     let opens = rw c.in-Long.is at (c.in_ok-element_opening.ensures.exact
@@ -64,7 +64,7 @@ returns-in-Whole-clause-found g c =
 pub returns-in_ok-length-in-Long-clause-found : goal.returns-in_ok-length-in-Long-clause-found
 returns-in_ok-length-in-Long-clause-found g c =
     let at : List ℕ → At = λ bytes. record { left = c.args.left; bytes = bytes } in
-    scans_then _ _ g.met.F.Feed.goes g.met.F.Feed.told _ _ _ _ _ _ c.in_ok-head.ensures.found
+    scans_then _ _ g.met.F.Feed.goes g.met.F.Feed.tells_before _ _ _ _ _ _ c.in_ok-head.ensures.found
     c.in_ok-length-in-Long.ensures.found
     (λ bytes mid rest few fewer h k.
     let opens = rw c.in-Long.is at (c.in_ok-element_opening.ensures.exact

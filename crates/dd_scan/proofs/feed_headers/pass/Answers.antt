@@ -32,6 +32,6 @@ returns-clause-found g c =
     record {
       taken = m.0;
       moved = m.2;
-      gives = λ rest t. rw (c.less.ensures, c.from-n.ensures)
+      gives = λ rest t. rw (c.left_after.ensures, c.from-n.ensures)
           (m.0, take_whole c.args.n c.args.left m.0 rest enough whole);
     }

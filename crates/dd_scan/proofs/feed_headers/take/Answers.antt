@@ -1,6 +1,6 @@
 use Rattle.std.proofs.Common.{◌≡◌, ◌∙◌, ◌++◌, ℕ, length, take, sym, ap, subst, false, refl, arith}
 use Rattle.std.proofs.lemmas.List.{take_all}
-use Rattle.dd_grammar.specs.Reading.{leaves_fewer, less}
+use Rattle.dd_grammar.specs.Reading.{leaves_fewer, left_after}
 use Rattle.dd_stream.proofs.Along.{scans_none}
 use Rattle.dd_scan.proofs.Feeding.{take_overruns, take_ends, take_whole, over_length, front_length}
 use Rattle.dd_scan.proofs.feed_headers.take.Goals as goal
@@ -32,9 +32,9 @@ returns-clause-found g c =
     let same : n ≡ length c.args.room.now = c.fill.auto.room in
     let enough : leaves_fewer c.args.left n ≡ false = rw same (sym c.leaves_fewer.ensures ∙ c.if-leaves_fewer.false) in
     let all : take c.fill.result room ≡ room = take_all c.fill.result room (omega arith) in
-    let less_is : c.less.result ≡ less c.args.left n = c.less.ensures ∙ ap (less c.args.left) (sym same) in
+    let left_is : c.left_after.result ≡ left_after c.args.left n = c.left_after.ensures ∙ ap (left_after c.args.left) (sym same) in
     record {
       taken = room;
       moved = subst (g.F.Feed.moves c.args.feed.now c.fill.new.feed) all c.fill.ensures.moved;
-      gives = λ rest t. rw less_is (take_whole n c.args.left room rest enough refl);
+      gives = λ rest t. rw left_is (take_whole n c.args.left room rest enough refl);
     }

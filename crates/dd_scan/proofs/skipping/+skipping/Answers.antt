@@ -1,4 +1,4 @@
--- The answers of the calls, put together: a header and what stands behind it are an element or an item, and the loops
+-- The answers of the calls, put together: a header and what stands after it are an element or an item, and the loops
 -- read one after the other.
 use Rattle.std.proofs.Common.{◌≡◌, ◌∙◌, ◌-◌, suc, ap, arith}
 use Rattle.std.proofs.lemmas.Result.{err_from_is_err_and}
@@ -7,7 +7,7 @@ use Rattle.dd_grammar.specs.Checks.{header_view}
 use Rattle.dd_encoding.specs.Elements.{Elements, items}
 use Rattle.dd_grammar.specs.AnswersAs.{FailsAs}
 use Rattle.dd_grammar.specs.Faults.{is_memory}
-use Rattle.dd_grammar.specs.Reading.{At, item_reader, sequence_with, set_with, element_at, item_at, less}
+use Rattle.dd_grammar.specs.Reading.{At, item_reader, sequence_with, set_with, element_at, item_at, left_after}
 use Rattle.dd_stream.proofs.Along.{scans_none, scans_same, scans_then}
 use Rattle.dd_grammar.proofs.Failing.{fails_is}
 use Rattle.dd_grammar.proofs.Loops.{fails_along}
@@ -24,13 +24,13 @@ pub skip_content-returns-in_ok-skip_items-in-Closed-clause-found :
     goal.skip_content-returns-in_ok-skip_items-in-Closed-clause-found
 skip_content-returns-in_ok-skip_items-in-Closed-clause-found g t c =
     let sequence = sequence_with (item_reader c.args.levels) in
-    let less_is : c.less.result ≡ less c.args.left c.in-Closed.n = c.less.ensures
-    ∙ ap (less c.args.left) c.from-n.ensures in
+    let left_is : c.left_after.result ≡ left_after c.args.left c.in-Closed.n = c.left_after.ensures
+    ∙ ap (left_after c.args.left) c.from-n.ensures in
     scans_same _ _ _ _ _ _ c.in_ok-skip_items-in-Closed.ensures.found (λ bytes rest few t h.
     let is = rw c.in-Closed.is at (c.in_ok-n.ensures.exact sequence bytes) in
     let read = rw c.from-n.ensures at h.1 in (
       items Defined h.0,
-      rw less_is (is ∙ within_found c.in-Closed.n (record { left = c.args.left; bytes = bytes })
+      rw left_is (is ∙ within_found c.in-Closed.n (record { left = c.args.left; bytes = bytes })
           (sequence c.in-Closed.inner Defined) _ h.0 _ read),
     ))
 
@@ -47,7 +47,7 @@ skip_items-items-init g t c =
 pub skip_items-returns-in_err-length-clause-found : goal.skip_items-returns-in_err-length-clause-found
 skip_items-returns-in_err-length-clause-found g t c =
     let p = err_from_is_err_and c.from_residual.result c.from_residual.ensures.1 in
-    rw (p.1, p.2) (scans_then _ _ g.met.F.Feed.goes g.met.F.Feed.told _ _ _ _ _ _ c.items.invariant.goes
+    rw (p.1, p.2) (scans_then _ _ g.met.F.Feed.goes g.met.F.Feed.tells_before _ _ _ _ _ _ c.items.invariant.goes
     c.in_err-length.ensures.found
     (λ bytes mid rest few fewer go h.
     items_stop (item_reader c.args.levels) c.args.syntax c.args.form c.args.left bytes c.items.left mid
@@ -57,7 +57,7 @@ skip_items-returns-in_err-length-clause-found g t c =
 
 pub skip_items-returns-in_default-clause-found : goal.skip_items-returns-in_default-clause-found
 skip_items-returns-in_default-clause-found g t c =
-    scans_then _ _ g.met.F.Feed.goes g.met.F.Feed.told _ _ _ _ _ _ c.items.invariant.goes c.in_ok-length.ensures.found
+    scans_then _ _ g.met.F.Feed.goes g.met.F.Feed.tells_before _ _ _ _ _ _ c.items.invariant.goes c.in_ok-length.ensures.found
     (λ bytes mid rest few fewer go h.
     let ended = item_none (item_reader c.args.levels) c.args.syntax c.args.form
     (record { left = c.items.left; bytes = mid }) _ (rw c.in_default.is at h) in
@@ -68,26 +68,26 @@ skip_items-returns-in_err-left-clause-found g t c =
     let p = err_from_is_err_and c.from_residual-in_err-left.result c.from_residual-in_err-left.ensures.1 in
     let part = item_reader c.args.levels in
     let e = c.in_err-left.field-0.0 in
-    let one = scans_then _ _ g.met.F.Feed.goes g.met.F.Feed.told _ _ _ _ _
+    let one = scans_then _ _ g.met.F.Feed.goes g.met.F.Feed.tells_before _ _ _ _ _
     (λ bytes rest. FailsAs is_memory e (item_at part c.args.syntax c.args.form
     (record { left = c.items.left; bytes = bytes })))
     c.in_ok-length.ensures.found c.in_err-left.ensures.found
     (λ bytes mid rest few fewer h k. part_stops part c.args.syntax c.args.form
     (record { left = c.items.left; bytes = bytes }) c.in-Some.n _ e (rw c.in-Some.is at h) k) in
-    rw (p.1, p.2) (scans_then _ _ g.met.F.Feed.goes g.met.F.Feed.told _ _ _ _ _ _ c.items.invariant.goes one
+    rw (p.1, p.2) (scans_then _ _ g.met.F.Feed.goes g.met.F.Feed.tells_before _ _ _ _ _ _ c.items.invariant.goes one
     (λ bytes mid rest few fewer go h. items_stop part c.args.syntax c.args.form c.args.left bytes c.items.left mid e go
     h))
 
 pub skip_items-items-preserved : goal.skip_items-items-preserved
 skip_items-items-preserved g t c =
     let part = item_reader c.args.levels in
-    let one = scans_then _ _ g.met.F.Feed.goes g.met.F.Feed.told _ _ _ _ _
+    let one = scans_then _ _ g.met.F.Feed.goes g.met.F.Feed.tells_before _ _ _ _ _
     (λ bytes rest. ItemStep part c.args.syntax c.args.form c.items.left bytes c.in_ok-left.left rest)
     c.in_ok-length.ensures.found c.in_ok-left.ensures.found
     (λ bytes mid rest few fewer h k. item_steps part c.args.syntax c.args.form c.items.left c.in-Some.n bytes
-    c.in_ok-length.behind c.in_ok-left.left mid rest (rw c.in-Some.is at h) k few) in
+    c.in_ok-length.after c.in_ok-left.left mid rest (rw c.in-Some.is at h) k few) in
     record {
-      goes = scans_then _ _ g.met.F.Feed.goes g.met.F.Feed.told _ _ _ _ _ _ c.items.invariant.goes one
+      goes = scans_then _ _ g.met.F.Feed.goes g.met.F.Feed.tells_before _ _ _ _ _ _ c.items.invariant.goes one
           (λ bytes mid rest few fewer go h. items_go part c.args.syntax c.args.form c.args.left bytes c.items.left mid
           h.item c.in_ok-left.left rest go h.read h.shorter);
       fewer = omega arith;
@@ -132,14 +132,14 @@ pub skip_part-returns-in_ok-skip_set-in-Closed-clause-found :
 skip_part-returns-in_ok-skip_set-in-Closed-clause-found g t c =
     let deeper : c.args.levels ≡ suc (c.args.levels - 1) = omega arith in
     let set = set_with (item_reader (c.args.levels - 1)) in
-    let less_is : c.less.result ≡ less c.args.left c.in-Closed.n = c.less.ensures
-    ∙ ap (less c.args.left) c.from-n.ensures in
+    let left_is : c.left_after.result ≡ left_after c.args.left c.in-Closed.n = c.left_after.ensures
+    ∙ ap (left_after c.args.left) c.from-n.ensures in
     scans_same _ _ _ _ _ _ c.in_ok-skip_set-in-Closed.ensures.found (λ bytes rest k few h.
     let at : At = record { left = c.args.left; bytes = bytes } in
     let is = rw c.in-Closed.is at (c.in_ok-reach_of.ensures.exact set c.args.syntax bytes) in
     let read = rw c.from-n.ensures at h.1 in (
       record { length = Defined; set = h.0 },
-      rw less_is (deeper_is c.args.levels (c.args.levels - 1) c.args.n
+      rw left_is (deeper_is c.args.levels (c.args.levels - 1) c.args.n
           c.args.syntax at deeper ∙ is ∙ within_found c.in-Closed.n at (set c.args.syntax Defined) _ h.0 _ read),
     ))
 
@@ -156,7 +156,7 @@ skip_set-elements-init g t c =
 pub skip_set-returns-in_err-header-clause-found : goal.skip_set-returns-in_err-header-clause-found
 skip_set-returns-in_err-header-clause-found g t c =
     let p = err_from_is_err_and c.from_residual.result c.from_residual.ensures.1 in
-    rw (p.1, p.2) (scans_then _ _ g.met.F.Feed.goes g.met.F.Feed.told _ _ _ _ _ _ c.elements.invariant.goes
+    rw (p.1, p.2) (scans_then _ _ g.met.F.Feed.goes g.met.F.Feed.tells_before _ _ _ _ _ _ c.elements.invariant.goes
     c.in_err-header.ensures.found
     (λ bytes mid rest few fewer go h.
     elements_stop (item_reader c.args.levels) c.args.syntax c.args.form c.args.left bytes c.elements.left mid
@@ -166,7 +166,7 @@ skip_set-returns-in_err-header-clause-found g t c =
 
 pub skip_set-returns-in_default-clause-found : goal.skip_set-returns-in_default-clause-found
 skip_set-returns-in_default-clause-found g t c =
-    scans_then _ _ g.met.F.Feed.goes g.met.F.Feed.told _ _ _ _ _ _ c.elements.invariant.goes
+    scans_then _ _ g.met.F.Feed.goes g.met.F.Feed.tells_before _ _ _ _ _ _ c.elements.invariant.goes
     c.in_ok-header.ensures.found
     (λ bytes mid rest few fewer go h.
     let ended = element_none (sequence_with (item_reader c.args.levels)) c.args.syntax c.args.form c.elements.low
@@ -181,32 +181,32 @@ skip_set-returns-in_err-left-clause-found g t c =
     let p = err_from_is_err_and c.from_residual-in_err-left.result c.from_residual-in_err-left.ensures.1 in
     let sequence = sequence_with (item_reader c.args.levels) in
     let e = c.in_err-left.field-0.0 in
-    let one = scans_then _ _ g.met.F.Feed.goes g.met.F.Feed.told _ _ _ _ _
+    let one = scans_then _ _ g.met.F.Feed.goes g.met.F.Feed.tells_before _ _ _ _ _
     (λ bytes rest. FailsAs is_memory e (element_at sequence c.args.syntax c.args.form c.elements.low
     (record { left = c.elements.left; bytes = bytes })))
     c.in_ok-header.ensures.found c.in_err-left.ensures.found
     (λ bytes mid rest few fewer h k. content_stops sequence c.args.syntax c.args.form c.elements.low
     (record { left = c.elements.left; bytes = bytes }) (header_view c.in-Some.header) _ e (rw c.in-Some.is at h) k)
     in
-    rw (p.1, p.2) (scans_then _ _ g.met.F.Feed.goes g.met.F.Feed.told _ _ _ _ _ _ c.elements.invariant.goes one
+    rw (p.1, p.2) (scans_then _ _ g.met.F.Feed.goes g.met.F.Feed.tells_before _ _ _ _ _ _ c.elements.invariant.goes one
     (λ bytes mid rest few fewer go h. elements_stop (item_reader c.args.levels) c.args.syntax c.args.form c.args.left
     bytes c.elements.left mid c.elements.low e go h))
 
 pub skip_set-elements-preserved : goal.skip_set-elements-preserved
 skip_set-elements-preserved g t c =
     let part = item_reader c.args.levels in
-    let one = scans_then _ _ g.met.F.Feed.goes g.met.F.Feed.told _ _ _ _ _
+    let one = scans_then _ _ g.met.F.Feed.goes g.met.F.Feed.tells_before _ _ _ _ _
     (λ bytes rest. ElementStep (sequence_with part) c.args.syntax c.args.form c.elements.low c.elements.left
     c.in-Some.header.tag bytes c.in_ok-left.left rest)
     c.in_ok-header.ensures.found c.in_ok-left.ensures.found
     (λ bytes mid rest few fewer h k. element_steps (sequence_with part) c.args.syntax c.args.form c.elements.low
-    c.elements.left (header_view c.in-Some.header) bytes c.in_ok-header.behind c.in_ok-left.left mid rest
+    c.elements.left (header_view c.in-Some.header) bytes c.in_ok-header.after c.in_ok-left.left mid rest
     (rw c.in-Some.is at h) k few) in
     record {
-      goes = scans_then _ _ g.met.F.Feed.goes g.met.F.Feed.told _ _ _ _ _ _ c.elements.invariant.goes one
+      goes = scans_then _ _ g.met.F.Feed.goes g.met.F.Feed.tells_before _ _ _ _ _ _ c.elements.invariant.goes one
           (λ bytes mid rest few fewer go h.
           let next = elements_go part c.args.syntax c.args.form c.args.left bytes c.elements.left mid c.elements.low
           h.entry c.in_ok-left.left rest go h.read h.shorter in
-          rw c.low_behind-low.ensures (rw h.tagged at next));
+          rw c.low_after-low.ensures (rw h.tagged at next));
       fewer = omega arith;
     }

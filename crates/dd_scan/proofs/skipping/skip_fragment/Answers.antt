@@ -27,7 +27,7 @@ pub returns-in_err-pass-clause-found : goal.returns-in_err-pass-clause-found
 returns-in_err-pass-clause-found g c =
     let p = err_from_is_err_and c.from_residual-in_err-pass.result c.from_residual-in_err-pass.ensures.1 in
     let len = sym c.fragment_length.ensures.exact ∙ c.in_ok-n.was in
-    rw (p.1, p.2) (scans_then _ _ g.met.F.Feed.goes g.met.F.Feed.told _ _ _ _ _ _ c.in_ok-length.ensures.found
+    rw (p.1, p.2) (scans_then _ _ g.met.F.Feed.goes g.met.F.Feed.tells_before _ _ _ _ _ _ c.in_ok-length.ensures.found
     c.in_err-pass.ensures.found
     (λ bytes mid rest few fewer h k. take_stops (record { left = c.args.left; bytes = bytes }) c.in-Some.n c.in_ok-n.n _
     c.in_err-pass.field-0.0 (rw c.in-Some.is at h) len k))
@@ -35,7 +35,7 @@ returns-in_err-pass-clause-found g c =
 pub returns-clause-found : goal.returns-clause-found
 returns-clause-found g c =
     let len = sym c.fragment_length.ensures.exact ∙ c.in_ok-n.was in
-    scans_then _ _ g.met.F.Feed.goes g.met.F.Feed.told _ _ _ _ _ _ c.in_ok-length.ensures.found
+    scans_then _ _ g.met.F.Feed.goes g.met.F.Feed.tells_before _ _ _ _ _ _ c.in_ok-length.ensures.found
     c.in_ok-pass.ensures.found
     (λ bytes mid rest few fewer h k. (
       k.0,

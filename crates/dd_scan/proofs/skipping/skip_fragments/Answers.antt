@@ -14,7 +14,7 @@ fragments-init g c =
 pub returns-in_err-more-clause-found : goal.returns-in_err-more-clause-found
 returns-in_err-more-clause-found g c =
     let p = err_from_is_err_and c.from_residual.result c.from_residual.ensures.1 in
-    rw (p.1, p.2) (scans_then _ _ g.met.F.Feed.goes g.met.F.Feed.told _ _ _ _ _ _ c.fragments.invariant.goes
+    rw (p.1, p.2) (scans_then _ _ g.met.F.Feed.goes g.met.F.Feed.tells_before _ _ _ _ _ _ c.fragments.invariant.goes
     c.in_err-more.ensures.found
     (λ bytes mid rest few fewer go h.
     fragments_stop c.args.left bytes c.fragments.left mid c.in_err-more.field-0.0 go h))
@@ -22,7 +22,7 @@ returns-in_err-more-clause-found g c =
 pub returns-then-not-more-clause-found : goal.returns-then-not-more-clause-found
 returns-then-not-more-clause-found g c =
     let ended : c.in_ok-more.more ≡ false = search rules in
-    scans_then _ _ g.met.F.Feed.goes g.met.F.Feed.told _ _ _ _ _ _ c.fragments.invariant.goes
+    scans_then _ _ g.met.F.Feed.goes g.met.F.Feed.tells_before _ _ _ _ _ _ c.fragments.invariant.goes
     c.in_ok-more.ensures.found
     (λ bytes mid rest few fewer go h.
     let is = rw ended at h in
@@ -32,11 +32,11 @@ pub fragments-preserved : goal.fragments-preserved
 fragments-preserved g c =
     let going : c.in_ok-more.more ≡ true = search rules in
     record {
-      goes = scans_then _ _ g.met.F.Feed.goes g.met.F.Feed.told _ _ _ _ _ _ c.fragments.invariant.goes
+      goes = scans_then _ _ g.met.F.Feed.goes g.met.F.Feed.tells_before _ _ _ _ _ _ c.fragments.invariant.goes
           c.in_ok-more.ensures.found
           (λ bytes mid rest few fewer go h.
           let is = rw going at h in
-          fragments_go c.args.left bytes c.fragments.left mid c.in_ok-more.behind rest go
-          (fragment_steps c.fragments.left mid c.in_ok-more.behind rest is.0 is.1));
+          fragments_go c.args.left bytes c.fragments.left mid c.in_ok-more.after rest go
+          (fragment_steps c.fragments.left mid c.in_ok-more.after rest is.0 is.1));
       fewer = omega arith;
     }

@@ -1,5 +1,6 @@
--- A header and its value are an element, and the loop reads one after the other.
-use Rattle.std.proofs.Common.{◌≡◌, List, ℕ, Ok, Err, None, Result, ap, sym, map, arith}
+-- A header and its value are an element, and the loop reads one after the other, which it keeps or skips.
+use Rattle.std.proofs.Common.{◌≡◌, List, [], ◌∷◌, ◌++◌, ℕ, Ok, Err, None, Some, Result, ap, sym, map, refl, arith}
+use Rattle.std.proofs.lemmas.List.{map_push}
 use Rattle.std.proofs.lemmas.Result.{err_from_is_err_and}
 use Rattle.dd_encoding.specs.declared.syntax.Length.TheVariants.{Defined}
 use Rattle.dd_grammar.specs.Checks.{header_view}
@@ -7,15 +8,15 @@ use Rattle.dd_grammar.specs.AnswersAs.{FailsAs}
 use Rattle.dd_grammar.specs.Faults.{is_memory}
 use Rattle.dd_grammar.specs.Reading.{◌>>=◌, item_reader, sequence_with, element_at, set_with, read_all}
 use Rattle.dd_scan.specs.Scan.{found_hit, found_summary}
+use Rattle.dd_scan.specs.declared.found.Found.{Found}
 use Rattle.dd_encoding.specs.Elements.{Elements, elements_of}
 use Rattle.dd_encoding.specs.Spelling.{max_levels}
 use Rattle.dd_grammar.specs.declared.fault.SetFault.{SetFault}
 use Rattle.dd_grammar.specs.declared.fault.SetFault.TheVariants.{Memory}
 use Rattle.dd_encoding.specs.declared.syntax.Syntax.{Syntax}
-use Rattle.std.specs.Prelude.{option_map}
 use Rattle.dd_stream.proofs.Along.{scans_none, scans_then}
 use Rattle.dd_grammar.proofs.ReadingOn.{element_none, front_stops, content_stops}
-use Rattle.dd_scan.proofs.Scanned.{ValueStep, value_steps, scan_start, scan_go, scan_end, scan_stop, ElementThere}
+use Rattle.dd_scan.proofs.Scanned.{ValueStep, value_steps, scan_start, scan_go, scan_past, scan_end, scan_stop, ElementThere}
 use Rattle.dd_scan.proofs.Scanned.{element_there, scan_wants}
 use Rattle.dd_scan.proofs.top_set.take_set.Goals as goal
 
@@ -41,33 +42,10 @@ elements-init g c = record {
   fewer = omega arith;
 }
 
-pub elements-preserved : goal.elements-preserved
-elements-preserved g c =
-    let part = item_reader max_levels in
-    let wanted = c.args.wanted.now in
-    let header = header_view c.in-Some.header in
-    let one = scans_then _ _ g.met.F.Feed.goes g.met.F.Feed.told _ _ _ _ _
-    (λ all rest. ValueStep (sequence_with part) c.args.syntax c.elements.low c.elements.left header
-    (option_map found_summary c.in_ok-value.value) c.is_wanted-keeps.result all c.in_ok-value.behind rest)
-    c.in_ok-header.ensures.found c.in_ok-value.ensures.found
-    (λ all mid rest few fewer h k. value_steps (sequence_with part) c.args.syntax c.elements.low c.elements.left header
-    c.in_ok-value.value c.is_wanted-keeps.result all c.in_ok-header.behind c.in_ok-value.behind mid rest
-    (rw c.in-Some.is at h) k few) in
-    record {
-      goes = scans_then _ _ g.met.F.Feed.goes g.met.F.Feed.told _ _ _ _ _ _ c.elements.invariant.goes one
-          (λ all mid rest few fewer go h.
-          let step = rw c.is_wanted-keeps.ensures at h in
-          let next = scan_go wanted part c.args.syntax all c.elements.left c.elements.scan.first
-          (map found_hit c.elements.scan.found.items) mid c.elements.low header
-          (option_map found_summary c.in_ok-value.value) c.in_ok-value.behind rest go step in
-          rw (c.low_behind-low.ensures, c.in_ok-note.ensures.first, c.in_ok-note.ensures.found) next);
-      fewer = omega arith;
-    }
-
 pub returns-in_default-clause-found : goal.returns-in_default-clause-found
 returns-in_default-clause-found g c =
     let part = item_reader max_levels in
-    scans_then _ _ g.met.F.Feed.goes g.met.F.Feed.told _ _ _ _ _ _ c.elements.invariant.goes
+    scans_then _ _ g.met.F.Feed.goes g.met.F.Feed.tells_before _ _ _ _ _ _ c.elements.invariant.goes
     c.in_ok-header.ensures.found
     (λ all mid rest few fewer go h.
     let ended = element_none (sequence_with part) c.args.syntax Defined c.elements.low
@@ -82,7 +60,7 @@ pub returns-in_err-header-clause-found : goal.returns-in_err-header-clause-found
 returns-in_err-header-clause-found g c =
     let p = err_from_is_err_and c.from_residual.result c.from_residual.ensures.1 in
     let part = item_reader max_levels in
-    rw (p.1, p.2) (scans_then _ _ g.met.F.Feed.goes g.met.F.Feed.told _ _ _ _ _ _ c.elements.invariant.goes
+    rw (p.1, p.2) (scans_then _ _ g.met.F.Feed.goes g.met.F.Feed.tells_before _ _ _ _ _ _ c.elements.invariant.goes
     c.in_err-header.ensures.found
     (λ all mid rest few fewer go h. (
       stop_is c.args.syntax all c.in_err-header.field-0.0 (scan_stop c.args.wanted.now part c.args.syntax all
@@ -92,13 +70,83 @@ returns-in_err-header-clause-found g c =
       λ is. absurd (c.in_err-header.ensures.memory (ap (λ f. Err f) is)),
     )))
 
+-- ---- an element that is skipped
+
+pub elements-preserved : goal.elements-preserved
+elements-preserved g c =
+    let part = item_reader max_levels in
+    let header = header_view c.in-Some.header in
+    let one = scans_then _ _ g.met.F.Feed.goes g.met.F.Feed.tells_before _ _ _ _ _
+    (λ all rest. ValueStep (sequence_with part) c.args.syntax c.elements.low c.elements.left header None
+    c.is_wanted.result all c.in_ok-left.left rest)
+    c.in_ok-header.ensures.found c.in_ok-left.ensures.found
+    (λ all mid rest few fewer h k. value_steps (sequence_with part) c.args.syntax c.elements.low c.elements.left header
+    None c.is_wanted.result all c.in_ok-header.rest c.in_ok-left.left mid rest k.0 (rw c.in-Some.is at h)
+    (rw c.if-is_wanted.false refl) k.1 few) in
+    record {
+      goes = scans_then _ _ g.met.F.Feed.goes g.met.F.Feed.tells_before _ _ _ _ _ _ c.elements.invariant.goes one
+          (λ all mid rest few fewer go h.
+          let step = rw c.is_wanted.ensures at h in
+          let next = scan_past c.args.wanted.now part c.args.syntax all c.elements.left c.elements.scan.first
+          (map found_hit c.elements.scan.found.items) mid c.elements.low header c.in_ok-left.left rest go step in
+          rw (c.low_after-low.ensures, c.unwrap_or.ensures) next);
+      fewer = omega arith;
+    }
+
+pub returns-in_err-left-clause-found : goal.returns-in_err-left-clause-found
+returns-in_err-left-clause-found g c =
+    let p = err_from_is_err_and c.from_residual-in_err-left.result c.from_residual-in_err-left.ensures.1 in
+    let part = item_reader max_levels in
+    let header = header_view c.in-Some.header in
+    let e = c.in_err-left.field-0.0 in
+    let one = scans_then _ _ g.met.F.Feed.goes g.met.F.Feed.tells_before _ _ _ _ _
+    (λ all rest. FailsAs is_memory e (element_at (sequence_with part) c.args.syntax Defined c.elements.low
+    (record { left = c.elements.left; bytes = all })))
+    c.in_ok-header.ensures.found c.in_err-left.ensures.found
+    (λ all mid rest few fewer h k. content_stops (sequence_with part) c.args.syntax Defined c.elements.low
+    (record { left = c.elements.left; bytes = all }) header _ e (rw c.in-Some.is at h) k) in
+    rw (p.1, p.2) (scans_then _ _ g.met.F.Feed.goes g.met.F.Feed.tells_before _ _ _ _ _ _ c.elements.invariant.goes one
+    (λ all mid rest few fewer go h. (
+      stop_is c.args.syntax all e (scan_stop c.args.wanted.now part c.args.syntax all c.elements.left
+          c.elements.scan.first (map found_hit c.elements.scan.found.items) mid c.elements.low e go h),
+      λ is. absurd (c.in_err-left.ensures.memory (ap (λ f. Err f) is)),
+    )))
+
+-- ---- an element that is kept
+
+pub elements-preserved-in_ok-push : goal.elements-preserved-in_ok-push
+elements-preserved-in_ok-push g c =
+    let part = item_reader max_levels in
+    let header = header_view c.in-Some.header in
+    let kept : Found = record { tag = c.in-Some.header.tag; value = c.in_ok-value.value } in
+    let summary = Some (found_summary c.in_ok-value.value) in
+    let one = scans_then _ _ g.met.F.Feed.goes g.met.F.Feed.tells_before _ _ _ _ _
+    (λ all rest. ValueStep (sequence_with part) c.args.syntax c.elements.low c.elements.left header summary
+    c.is_wanted.result all c.in_ok-value.rest rest)
+    c.in_ok-header.ensures.found c.in_ok-value.ensures.found
+    (λ all mid rest few fewer h k. value_steps (sequence_with part) c.args.syntax c.elements.low c.elements.left header
+    summary c.is_wanted.result all c.in_ok-header.rest c.in_ok-value.rest mid rest k.0 (rw c.in-Some.is at h)
+    (rw (c.if-is_wanted.true, k.1) refl) k.2 few) in
+    let pushed : map found_hit c.push.new.self.items ≡ map found_hit c.elements.scan.found.items
+    ++ found_hit kept ∷ [] = rw c.in_ok-push.ensures.items (map_push _ c.elements.scan.found.items kept) in
+    record {
+      goes = scans_then _ _ g.met.F.Feed.goes g.met.F.Feed.tells_before _ _ _ _ _ _ c.elements.invariant.goes one
+          (λ all mid rest few fewer go h.
+          let step = rw c.is_wanted.ensures at h in
+          let next = scan_go c.args.wanted.now part c.args.syntax all c.elements.left c.elements.scan.first
+          (map found_hit c.elements.scan.found.items) mid c.elements.low header summary c.in_ok-value.rest rest go
+          step in
+          rw (c.low_after-low.ensures, c.unwrap_or.ensures, pushed) next);
+      fewer = omega arith;
+    }
+
 pub returns-in_err-value-clause-found : goal.returns-in_err-value-clause-found
 returns-in_err-value-clause-found g c =
     let p = err_from_is_err_and c.from_residual-in_err-value.result c.from_residual-in_err-value.ensures.1 in
     let part = item_reader max_levels in
     let header = header_view c.in-Some.header in
     let e = c.in_err-value.field-0.0 in
-    let one = scans_then _ _ g.met.F.Feed.goes g.met.F.Feed.told _ _ _ _ _
+    let one = scans_then _ _ g.met.F.Feed.goes g.met.F.Feed.tells_before _ _ _ _ _
     (λ all rest. FailsAs is_memory e (element_at (sequence_with part) c.args.syntax Defined c.elements.low
     (record { left = c.elements.left; bytes = all })) × (e ≡ Memory → ElementThere (sequence_with part) c.args.syntax
     c.elements.low c.elements.left header.tag all rest))
@@ -109,31 +157,29 @@ returns-in_err-value-clause-found g c =
       λ is. element_there (sequence_with part) c.args.syntax c.elements.low c.elements.left header all _ mid rest
           (rw c.in-Some.is at h) (k.1 is),
     )) in
-    rw (p.1, p.2) (scans_then _ _ g.met.F.Feed.goes g.met.F.Feed.told _ _ _ _ _ _ c.elements.invariant.goes one
+    rw (p.1, p.2) (scans_then _ _ g.met.F.Feed.goes g.met.F.Feed.tells_before _ _ _ _ _ _ c.elements.invariant.goes one
     (λ all mid rest few fewer go h. (
       stop_is c.args.syntax all e (scan_stop c.args.wanted.now part c.args.syntax all c.elements.left
           c.elements.scan.first (map found_hit c.elements.scan.found.items) mid c.elements.low e go h.0),
       λ is. scan_wants c.args.wanted.now part c.args.syntax all c.elements.left c.elements.scan.first
           (map found_hit c.elements.scan.found.items) mid c.elements.low header.tag rest go (h.1 is)
-          (rw (sym c.is_wanted-keeps.ensures) (c.in_err-value.ensures.memory (ap (λ f. Err f) is))),
+          (rw (sym c.is_wanted.ensures, c.if-is_wanted.true) refl),
     )))
 
-pub returns-in_err-note-clause-found : goal.returns-in_err-note-clause-found
-returns-in_err-note-clause-found g c =
-    let p = err_from_is_err_and c.from_residual-in_err-note.result c.from_residual-in_err-note.ensures.1 in
+pub returns-in_err-push-clause-found : goal.returns-in_err-push-clause-found
+returns-in_err-push-clause-found g c =
+    let p = err_from_is_err_and c.from_residual-in_err-push.result c.from_residual-in_err-push.ensures.1 in
     let part = item_reader max_levels in
-    let wanted = c.args.wanted.now in
     let header = header_view c.in-Some.header in
-    let one = scans_then _ _ g.met.F.Feed.goes g.met.F.Feed.told _ _ _ _ _
+    let one = scans_then _ _ g.met.F.Feed.goes g.met.F.Feed.tells_before _ _ _ _ _
     (λ all rest. ElementThere (sequence_with part) c.args.syntax c.elements.low c.elements.left header.tag all rest)
     c.in_ok-header.ensures.found c.in_ok-value.ensures.found
     (λ all mid rest few fewer h k. element_there (sequence_with part) c.args.syntax c.elements.low c.elements.left
-    header all _ mid rest (rw c.in-Some.is at h) (k.0, c.in_ok-value.behind, k.2)) in
-    rw (p.1, p.2, c.in_err-note.ensures.memory.0) (scans_then _ _ g.met.F.Feed.goes g.met.F.Feed.told _ _ _ _ _ _
-    c.elements.invariant.goes one
+    header all _ mid rest (rw c.in-Some.is at h) (k.0, c.in_ok-value.rest, k.2)) in
+    rw (p.1, p.2) (scans_then _ _ g.met.F.Feed.goes g.met.F.Feed.tells_before _ _ _ _ _ _ c.elements.invariant.goes one
     (λ all mid rest few fewer go h. (
       tt,
-      λ is. scan_wants wanted part c.args.syntax all c.elements.left c.elements.scan.first
+      λ is. scan_wants c.args.wanted.now part c.args.syntax all c.elements.left c.elements.scan.first
           (map found_hit c.elements.scan.found.items) mid c.elements.low header.tag rest go h
-          (rw (sym c.is_wanted-keeps.ensures) (c.in_ok-value.ensures.kept c.in_err-note.ensures.memory.1)),
+          (rw (sym c.is_wanted.ensures, c.if-is_wanted.true) refl),
     )))

@@ -1,5 +1,6 @@
 use Rattle.std.proofs.Common.{◌∙◌, Err, ap, sym}
 use Rattle.std.proofs.lemmas.Result.{err_from_is_err_and}
+use Rattle.dd_encoding.specs.Spelling.{max_levels}
 use Rattle.dd_grammar.specs.Reading.{At, item_reader, sequence_with}
 use Rattle.dd_stream.proofs.Along.{scans_none, scans_same}
 use Rattle.dd_grammar.proofs.Failing.{fails_is}
@@ -8,7 +9,7 @@ use Rattle.dd_scan.proofs.top_set.take_wanted.Goals as goal
 
 pub returns-in-Bytes-clause-found : goal.returns-in-Bytes-clause-found
 returns-in-Bytes-clause-found g c =
-    let reader = sequence_with (item_reader c.args.levels) in
+    let reader = sequence_with (item_reader max_levels) in
     scans_same _ _ _ _ _ _ c.take_cleaned.ensures.found (λ all rest t few h.
     let is = rw c.in-Bytes.is at (c.in_ok-sort.ensures.exact reader all) in
     rw is (tells_bytes _ _ rest h))
@@ -21,7 +22,7 @@ returns-in_err-left-clause-found g c =
 
 pub returns-clause-found : goal.returns-clause-found
 returns-clause-found g c =
-    let reader = sequence_with (item_reader c.args.levels) in
+    let reader = sequence_with (item_reader max_levels) in
     scans_same _ _ _ _ _ _ c.in_ok-left.ensures.found (λ all rest t few h.
     let at : At = record { left = c.args.left; bytes = all } in (
       h.0,
@@ -33,7 +34,7 @@ returns-clause-found g c =
 pub returns-in_err-sort-clause-found : goal.returns-in_err-sort-clause-found
 returns-in_err-sort-clause-found g c =
     let p = err_from_is_err_and c.from_residual.result c.from_residual.ensures.1 in
-    let reader = sequence_with (item_reader c.args.levels) in
+    let reader = sequence_with (item_reader max_levels) in
     rw (p.1, p.2) (scans_none _ _ _ _ (g.met.F.Feed.stays _) (λ rest t. (
       fails_is c.in_err-sort.field-0.0 _ (c.in_err-sort.ensures.exact reader rest),
       λ is. absurd (c.in_err-sort.ensures.memory (ap (λ e. Err e) is)),

@@ -17,12 +17,12 @@ returns-in_err-found-clause-exact c =
 pub returns-in-None-clause-exact : goal.returns-in-None-clause-exact
 returns-in-None-clause-exact c =
     let at = c.fragments.invariant in
-    let ended : fragment_at (at_view c.fragments.place) ≡ Ok (None, at_view c.in_ok-found.behind) =
+    let ended : fragment_at (at_view c.fragments.place) ≡ Ok (None, at_view c.in_ok-found.after) =
     rw c.in-None.is at c.in_ok-found.ensures.exact in (
       at.1,
-      at_view c.in_ok-found.behind,
+      at_view c.in_ok-found.after,
       fragments_done (length c.fragments.place.rest.now) at.0 at.1 (at_view c.fragments.place)
-          (at_view c.in_ok-found.behind) (fragments_here (at_view c.args.at)) at.2 ended at.5,
+          (at_view c.in_ok-found.after) (fragments_here (at_view c.args.at)) at.2 ended at.5,
       at.3,
     )
 
@@ -30,9 +30,9 @@ pub fragments-preserved : goal.fragments-preserved
 fragments-preserved c =
     let at = c.fragments.invariant in
     let next = c.in-Some._next in
-    let found : fragment_at (at_view c.fragments.place) ≡ Ok (Some next.now, at_view c.in_ok-found.behind) =
+    let found : fragment_at (at_view c.fragments.place) ≡ Ok (Some next.now, at_view c.in_ok-found.after) =
     rw c.in-Some.is at c.in_ok-found.ensures.exact in
-    let shorter : length c.in_ok-found.behind.rest.now < length c.fragments.place.rest.now =
+    let shorter : length c.in_ok-found.after.rest.now < length c.fragments.place.rest.now =
     rw c.in-Some.is at c.in_ok-found.ensures.shorter in (
       at.0 - 1,
       at.1 ++ next.now ∷ [],
@@ -40,5 +40,5 @@ fragments-preserved c =
       omega (arith, length-append at.1 (next.now ∷ [])),
       omega arith,
       fragments_more (length c.fragments.place.rest.now) at.0 at.1 (at_view c.fragments.place)
-          (at_view c.in_ok-found.behind) next.now (fragments_here (at_view c.args.at)) at.2 found at.5,
+          (at_view c.in_ok-found.after) next.now (fragments_here (at_view c.args.at)) at.2 found at.5,
     )

@@ -20,18 +20,18 @@ returns-in_err-found-clause-exact c =
 pub returns-in-None-clause-exact : goal.returns-in-None-clause-exact
 returns-in-None-clause-exact c =
     let at = c.fragments.invariant in
-    let ended : fragment_at (at_view c.fragments.place) ≡ Ok (None, at_view c.in_ok-found.behind) =
+    let ended : fragment_at (at_view c.fragments.place) ≡ Ok (None, at_view c.in_ok-found.after) =
     rw c.in-None.is at c.in_ok-found.ensures.exact in
     fragments_done (length c.fragments.place.rest.now) at.0 (pieces c.fragments.fragments.items)
-    (at_view c.fragments.place) (at_view c.in_ok-found.behind) (fragments_here (at_view c.args.at)) at.1 ended at.3
+    (at_view c.fragments.place) (at_view c.in_ok-found.after) (fragments_here (at_view c.args.at)) at.1 ended at.3
 
 pub fragments-preserved : goal.fragments-preserved
 fragments-preserved c =
     let at = c.fragments.invariant in
     let next = c.in-Some.next in
-    let found : fragment_at (at_view c.fragments.place) ≡ Ok (Some next.now, at_view c.in_ok-found.behind) =
+    let found : fragment_at (at_view c.fragments.place) ≡ Ok (Some next.now, at_view c.in_ok-found.after) =
     rw c.in-Some.is at c.in_ok-found.ensures.exact in
-    let shorter : length c.in_ok-found.behind.rest.now < length c.fragments.place.rest.now =
+    let shorter : length c.in_ok-found.after.rest.now < length c.fragments.place.rest.now =
     rw c.in-Some.is at c.in_ok-found.ensures.shorter in
     let pushed : pieces c.push.new.self.items ≡ pieces c.fragments.fragments.items ++ next.now ∷ [] =
     rw c.in_ok-push-in-Some.ensures.items (map_push _ c.fragments.fragments.items next) in (
@@ -40,5 +40,5 @@ fragments-preserved c =
       omega arith,
       rw pushed (fragments_more (length c.fragments.place.rest.now) at.0 (pieces c.fragments.fragments.items)
           (at_view c.fragments.place)
-          (at_view c.in_ok-found.behind) next.now (fragments_here (at_view c.args.at)) at.1 found at.3),
+          (at_view c.in_ok-found.after) next.now (fragments_here (at_view c.args.at)) at.1 found at.3),
     )

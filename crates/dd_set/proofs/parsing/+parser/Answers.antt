@@ -1,6 +1,6 @@
 -- What the loops read, and the item of defined length; the search finds the rest.
-use Rattle.std.proofs.Common.{rules, ◌≡◌, ◌+◌, ◌-◌, ◌<◌, length, suc, [], ◌∷◌, ◌++◌, map, ap, sym, subst, ◌∙◌, arith}
-use Rattle.std.proofs.Common.{inl, inr, Some, None, Ok, Err}
+use Rattle.std.proofs.Common.{rules, ◌≡◌, ◌+◌, ◌-◌, ◌<◌, ◌≤◌, length, suc, [], ◌∷◌, ◌++◌, map, ap, sym, subst, ◌∙◌, arith}
+use Rattle.std.proofs.Common.{inl, inr, Some, None, Ok, Err, ℕ}
 use Rattle.std.proofs.lemmas.Result.{err_from_is_err_and}
 use Rattle.std.proofs.lemmas.List.{map_push}
 use Rattle.dd_elem.specs.Tag.{number_of}
@@ -11,8 +11,12 @@ use Rattle.dd_encoding.specs.Elements.{elements_of, fragments}
 use Rattle.dd_grammar.specs.AnswersAs.{FailsAs}
 use Rattle.dd_grammar.specs.Faults.{is_memory}
 use Rattle.dd_grammar.specs.Checks.{header_view}
+use Rattle.dd_grammar.specs.declared.checks.Header.{Header as HeaderValue}
+use Rattle.dd_encoding.specs.declared.syntax.Length.{Length}
+use Rattle.dd_encoding.specs.declared.syntax.Syntax.{Syntax}
+use Rattle.dd_set.specs.declared.set.Value.{Value}
 use Rattle.dd_set.specs.Places.{at_view}
-use Rattle.dd_grammar.specs.Reading.{item_reader, sequence_with, set_with, item_at, element_at, less, At}
+use Rattle.dd_grammar.specs.Reading.{item_reader, sequence_with, set_with, item_at, element_at, front_at, content_at, left_after, At}
 use Rattle.dd_set.specs.Memory.{unkept_sequence, unkept_set, unkept_item}
 use Rattle.dd_grammar.specs.declared.fault.SetFault.TheVariants.{Memory}
 use Rattle.dd_set.specs.Views.{set_view, element_view, value_view, item_view}
@@ -40,9 +44,9 @@ pub sequence-returns-in-None-clause-exact : goal.sequence-returns-in-None-clause
 sequence-returns-in-None-clause-exact t c =
     let at = c.items.invariant in
     let ended : item_at (item_reader c.args.levels) c.args.syntax c.args.form (at_view c.items.place) ≡ Ok
-    (None, at_view c.in_ok-found.behind) = rw c.in-None.is at c.in_ok-found.ensures.exact in
+    (None, at_view c.in_ok-found.rest) = rw c.in-None.is at c.in_ok-found.ensures.exact in
     items_done (item_reader c.args.levels) c.args.syntax c.args.form (length c.items.place.rest.now) at.0
-    (map item_view c.items.items.items) (at_view c.items.place) (at_view c.in_ok-found.behind)
+    (map item_view c.items.items.items) (at_view c.items.place) (at_view c.in_ok-found.rest)
     (sequence_with (item_reader c.args.levels) c.args.syntax c.args.form (at_view c.args.at)) at.1 ended at.3
 
 pub sequence-items-preserved : goal.sequence-items-preserved
@@ -50,8 +54,8 @@ sequence-items-preserved t c =
     let at = c.items.invariant in
     let next = c.in-Some.next in
     let found : item_at (item_reader c.args.levels) c.args.syntax c.args.form (at_view c.items.place) ≡ Ok
-    (Some (item_view next), at_view c.in_ok-found.behind) = rw c.in-Some.is at c.in_ok-found.ensures.exact in
-    let shorter : length c.in_ok-found.behind.rest.now < length c.items.place.rest.now =
+    (Some (item_view next), at_view c.in_ok-found.rest) = rw c.in-Some.is at c.in_ok-found.ensures.exact in
+    let shorter : length c.in_ok-found.rest.rest.now < length c.items.place.rest.now =
     rw c.in-Some.is at c.in_ok-found.ensures.shorter in
     let pushed : map item_view c.push.new.self.items ≡ map item_view c.items.items.items ++ item_view next ∷ [] =
     rw c.in_ok-push-in-Some.ensures.items (map_push _ c.items.items.items next) in (
@@ -59,60 +63,10 @@ sequence-items-preserved t c =
       omega arith,
       omega arith,
       rw pushed (items_more (item_reader c.args.levels) c.args.syntax c.args.form (length c.items.place.rest.now) at.0
-          (map item_view c.items.items.items) (at_view c.items.place) (at_view c.in_ok-found.behind) (item_view next)
+          (map item_view c.items.items.items) (at_view c.items.place) (at_view c.in_ok-found.rest) (item_view next)
           (sequence_with (item_reader c.args.levels) c.args.syntax c.args.form (at_view c.args.at)) at.1 found at.3),
       inr (sequence_wants c.args.levels c.args.syntax c.args.form (at_view c.args.at) (at_view c.items.place)
-          (at_view c.in_ok-found.behind) (item_view next) at.4 found),
-    )
-
-pub set-returns-in_err-found-clause-exact : goal.set-returns-in_err-found-clause-exact
-set-returns-in_err-found-clause-exact t c =
-    let p = err_from_is_err_and c.from_residual.result c.from_residual.ensures.1 in
-    let at = c.elements.invariant in
-    rw (p.1, p.2) (elements_fail (sequence_with (item_reader c.args.levels)) c.args.syntax c.args.form
-    (length c.elements.place.rest.now) at.0 c.elements.low (map element_view c.elements.elements.items)
-    (at_view c.elements.place)
-    (set_with (item_reader c.args.levels) c.args.syntax c.args.form (at_view c.args.at)) c.in_err-found.field-0.0 at.1
-    c.in_err-found.ensures.exact at.3)
-
-pub set-returns-in-None-clause-exact : goal.set-returns-in-None-clause-exact
-set-returns-in-None-clause-exact t c =
-    let at = c.elements.invariant in
-    let ended : element_at (sequence_with (item_reader c.args.levels)) c.args.syntax c.args.form c.elements.low
-    (at_view c.elements.place) ≡ Ok (None, at_view c.in_ok-found.behind) =
-    rw c.in-None.is at c.in_ok-found.ensures.exact in
-    let seen : set_view (roll-DataSet (record { elements = c.elements.elements })) ≡ elements_of
-    (map element_view c.elements.elements.items) = search (rules, the_lemmas) in
-    rw seen (elements_done (sequence_with (item_reader c.args.levels)) c.args.syntax c.args.form
-    (length c.elements.place.rest.now) at.0 c.elements.low (map element_view c.elements.elements.items)
-    (at_view c.elements.place) (at_view c.in_ok-found.behind)
-    (set_with (item_reader c.args.levels) c.args.syntax c.args.form (at_view c.args.at)) at.1 ended at.3)
-
-pub set-elements-preserved : goal.set-elements-preserved
-set-elements-preserved t c =
-    let at = c.elements.invariant in
-    let next = c.in-Some.next in
-    let found : element_at (sequence_with (item_reader c.args.levels)) c.args.syntax c.args.form c.elements.low
-    (at_view c.elements.place) ≡ Ok (
-      Some
-          (element_view next),
-      at_view c.in_ok-found.behind,
-    ) = rw c.in-Some.is at c.in_ok-found.ensures.exact in
-    let shorter : length c.in_ok-found.behind.rest.now < length c.elements.place.rest.now =
-    rw c.in-Some.is at c.in_ok-found.ensures.shorter in
-    let pushed : map element_view c.push.new.self.items ≡ map element_view c.elements.elements.items
-    ++ element_view next ∷ [] = rw c.in_ok-push-in-Some.ensures.items (map_push _ c.elements.elements.items next) in
-    let seen : (element_view next).tag ≡ next.tag = search (rules, the_lemmas) in
-    let low : c.low_behind-low.result ≡ number_of (element_view next).tag + 1 = rw seen c.low_behind-low.ensures in (
-      at.0 - 1,
-      omega arith,
-      omega arith,
-      rw (pushed, low) (elements_more (sequence_with (item_reader c.args.levels)) c.args.syntax c.args.form
-          (length c.elements.place.rest.now) at.0 c.elements.low (map element_view c.elements.elements.items)
-          (at_view c.elements.place) (at_view c.in_ok-found.behind) (element_view next)
-          (set_with (item_reader c.args.levels) c.args.syntax c.args.form (at_view c.args.at)) at.1 found at.3),
-      inr (set_wants c.args.levels c.args.syntax c.args.form c.elements.low (at_view c.args.at)
-          (at_view c.elements.place) (at_view c.in_ok-found.behind) (element_view next) at.4 found),
+          (at_view c.in_ok-found.rest) (item_view next) at.4 found),
     )
 
 pub sequence-returns-in_err-found-clause-memory : goal.sequence-returns-in_err-found-clause-memory
@@ -126,28 +80,113 @@ pub sequence-returns-in_err-push-in-Some-clause-memory : goal.sequence-returns-i
 sequence-returns-in_err-push-in-Some-clause-memory t c = λ memory.
     let next = c.in-Some.next in
     let found : item_at (item_reader c.args.levels) c.args.syntax c.args.form (at_view c.items.place) ≡ Ok
-    (Some (item_view next), at_view c.in_ok-found.behind) = rw c.in-Some.is at c.in_ok-found.ensures.exact in
+    (Some (item_view next), at_view c.in_ok-found.rest) = rw c.in-Some.is at c.in_ok-found.ensures.exact in
     sequence_wants c.args.levels c.args.syntax c.args.form (at_view c.args.at) (at_view c.items.place)
-    (at_view c.in_ok-found.behind) (item_view next) c.items.invariant.4 found
+    (at_view c.in_ok-found.rest) (item_view next) c.items.invariant.4 found
 
-pub set-returns-in_err-found-clause-memory : goal.set-returns-in_err-found-clause-memory
-set-returns-in_err-found-clause-memory t c = λ memory.
+-- ---- a set
+
+pub set-returns-in_err-header-clause-exact : goal.set-returns-in_err-header-clause-exact
+set-returns-in_err-header-clause-exact t c =
     let p = err_from_is_err_and c.from_residual.result c.from_residual.ensures.1 in
-    let refused : c.in_err-found.field-0.0 ≡ Memory = fault_is _ _ _ p.1 p.2 memory in
-    set_stops c.args.levels c.args.syntax c.args.form c.elements.low (at_view c.args.at)
-    (at_view c.elements.place) c.elements.invariant.4 (c.in_err-found.ensures.memory (ap (λ e. Err e) refused))
+    let at = c.elements.invariant in
+    let sequence = sequence_with (item_reader c.args.levels) in
+    rw (p.1, p.2) (elements_fail sequence c.args.syntax c.args.form (length c.elements.place.rest.now) at.0
+    c.elements.low (map element_view c.elements.elements.items) (at_view c.elements.place)
+    (set_with (item_reader c.args.levels) c.args.syntax c.args.form (at_view c.args.at)) c.in_err-header.field-0.0 at.1
+    (fails_is c.in_err-header.field-0.0 _ (front_refused sequence c.args.syntax c.args.form c.elements.low
+    (at_view c.elements.place) c.in_err-header.field-0.0 c.in_err-header.ensures.exact)) at.3)
 
-pub set-returns-in_err-push-in-Some-clause-memory : goal.set-returns-in_err-push-in-Some-clause-memory
-set-returns-in_err-push-in-Some-clause-memory t c = λ memory.
-    let next = c.in-Some.next in
-    let found : element_at (sequence_with (item_reader c.args.levels)) c.args.syntax c.args.form c.elements.low
-    (at_view c.elements.place) ≡ Ok (
-      Some
-          (element_view next),
-      at_view c.in_ok-found.behind,
-    ) = rw c.in-Some.is at c.in_ok-found.ensures.exact in
+pub set-returns-in_err-header-clause-memory : goal.set-returns-in_err-header-clause-memory
+set-returns-in_err-header-clause-memory t c = λ memory.
+    let p = err_from_is_err_and c.from_residual.result c.from_residual.ensures.1 in
+    let refused : c.in_err-header.field-0.0 ≡ Memory = fault_is _ _ _ p.1 p.2 memory in
+    set_stops c.args.levels c.args.syntax c.args.form c.elements.low (at_view c.args.at)
+    (at_view c.elements.place) c.elements.invariant.4
+    (inl (front_refused (unkept_sequence (unkept_item c.args.levels)) c.args.syntax c.args.form c.elements.low
+    (at_view c.elements.place) Memory (rw refused at c.in_err-header.ensures.exact)))
+
+pub set-returns-in_default-clause-exact : goal.set-returns-in_default-clause-exact
+set-returns-in_default-clause-exact t c =
+    let at = c.elements.invariant in
+    let sequence = sequence_with (item_reader c.args.levels) in
+    let ended = element_none sequence c.args.syntax c.args.form c.elements.low (at_view c.elements.place)
+    (at_view c.in_ok-header.rest) (rw c.in_default.is at c.in_ok-header.ensures.exact) in
+    let seen : set_view (roll-DataSet (record { elements = c.elements.elements })) ≡ elements_of
+    (map element_view c.elements.elements.items) = search (rules, the_lemmas) in
+    rw seen (elements_done sequence c.args.syntax c.args.form (length c.elements.place.rest.now) at.0 c.elements.low
+    (map element_view c.elements.elements.items) (at_view c.elements.place) (at_view c.in_ok-header.rest)
+    (set_with (item_reader c.args.levels) c.args.syntax c.args.form (at_view c.args.at)) at.1 ended at.3)
+
+pub set-returns-in_err-value-clause-exact : goal.set-returns-in_err-value-clause-exact
+set-returns-in_err-value-clause-exact t c =
+    let p = err_from_is_err_and c.from_residual-in_err-value.result c.from_residual-in_err-value.ensures.1 in
+    let at = c.elements.invariant in
+    let sequence = sequence_with (item_reader c.args.levels) in
+    rw (p.1, p.2) (elements_fail sequence c.args.syntax c.args.form (length c.elements.place.rest.now) at.0
+    c.elements.low (map element_view c.elements.elements.items) (at_view c.elements.place)
+    (set_with (item_reader c.args.levels) c.args.syntax c.args.form (at_view c.args.at)) c.in_err-value.field-0.0 at.1
+    (content_stops sequence c.args.syntax c.args.form c.elements.low (at_view c.elements.place) _ _
+    c.in_err-value.field-0.0 (rw c.in-Some.is at c.in_ok-header.ensures.exact) c.in_err-value.ensures.exact) at.3)
+
+pub set-returns-in_err-value-clause-memory : goal.set-returns-in_err-value-clause-memory
+set-returns-in_err-value-clause-memory t c = λ memory.
+    let p = err_from_is_err_and c.from_residual-in_err-value.result c.from_residual-in_err-value.ensures.1 in
+    let refused : c.in_err-value.field-0.0 ≡ Memory = fault_is _ _ _ p.1 p.2 memory in
+    set_stops c.args.levels c.args.syntax c.args.form c.elements.low (at_view c.args.at)
+    (at_view c.elements.place) c.elements.invariant.4
+    (value_wants c.args.levels c.args.syntax c.args.form c.elements.low (at_view c.elements.place) _ _
+    (rw c.in-Some.is at c.in_ok-header.ensures.exact) (c.in_err-value.ensures.memory (ap (λ e. Err e) refused)))
+
+-- the element of a header and of the value after it
+element_is : (levels : ℕ) (syntax : Syntax) (form : Length) (low : ℕ) (at mid end : At) (header : HeaderValue)
+    (value : Value) → front_at syntax form low at ≡ Ok (Some (header_view header), mid)
+    → content_at (sequence_with (item_reader levels)) syntax (header_view header) mid ≡ Ok (value_view value, end)
+    → element_at (sequence_with (item_reader levels)) syntax form low at
+    ≡ Ok (Some (element_view (roll-Element (record { tag = header.tag; vr = header.shape.vr; value = value }))), end)
+element_is levels syntax form low at mid end header value is holds =
+    let seen : element_view (roll-Element (record { tag = header.tag; vr = header.shape.vr; value = value })) ≡ record
+    { tag = header.tag; vr = header.shape.vr; content = value_view value } = search (rules, the_lemmas) in
+    rw seen (element_found (sequence_with (item_reader levels)) syntax form low at (header_view header) mid end
+    (value_view value) is holds)
+
+pub set-elements-preserved : goal.set-elements-preserved
+set-elements-preserved t c =
+    let at = c.elements.invariant in
+    let header = c.in-Some.header in
+    let next = roll-Element (record { tag = header.tag; vr = header.shape.vr; value = c.in_ok-value.value }) in
+    let found = element_is c.args.levels c.args.syntax c.args.form c.elements.low (at_view c.elements.place)
+    (at_view c.in_ok-header.rest) (at_view c.in_ok-value.rest) header c.in_ok-value.value
+    (rw c.in-Some.is at c.in_ok-header.ensures.exact) c.in_ok-value.ensures.exact in
+    let opens : length c.in_ok-header.rest.rest.now < length c.elements.place.rest.now =
+    rw c.in-Some.is at c.in_ok-header.ensures.shorter in
+    let holds : length c.in_ok-value.rest.rest.now ≤ length c.in_ok-header.rest.rest.now =
+    c.in_ok-value.ensures.shorter in
+    let shorter : length c.in_ok-value.rest.rest.now < length c.elements.place.rest.now = omega (arith, opens, holds) in
+    let pushed : map element_view c.push.new.self.items ≡ map element_view c.elements.elements.items
+    ++ element_view next ∷ [] = rw c.in_ok-push.ensures.items (map_push _ c.elements.elements.items next) in
+    let seen : (element_view next).tag ≡ header.tag = search (rules, the_lemmas) in
+    let low : c.low_after-low.result ≡ number_of (element_view next).tag + 1 = rw seen c.low_after-low.ensures in (
+      at.0 - 1,
+      omega arith,
+      omega arith,
+      rw (pushed, low) (elements_more (sequence_with (item_reader c.args.levels)) c.args.syntax c.args.form
+          (length c.elements.place.rest.now) at.0 c.elements.low (map element_view c.elements.elements.items)
+          (at_view c.elements.place) (at_view c.in_ok-value.rest) (element_view next)
+          (set_with (item_reader c.args.levels) c.args.syntax c.args.form (at_view c.args.at)) at.1 found at.3),
+      inr (set_wants c.args.levels c.args.syntax c.args.form c.elements.low (at_view c.args.at)
+          (at_view c.elements.place) (at_view c.in_ok-value.rest) (element_view next) at.4 found),
+    )
+
+pub set-returns-in_err-push-clause-memory : goal.set-returns-in_err-push-clause-memory
+set-returns-in_err-push-clause-memory t c = λ memory.
+    let header = c.in-Some.header in
+    let next = roll-Element (record { tag = header.tag; vr = header.shape.vr; value = c.in_ok-value.value }) in
+    let found = element_is c.args.levels c.args.syntax c.args.form c.elements.low (at_view c.elements.place)
+    (at_view c.in_ok-header.rest) (at_view c.in_ok-value.rest) header c.in_ok-value.value
+    (rw c.in-Some.is at c.in_ok-header.ensures.exact) c.in_ok-value.ensures.exact in
     set_wants c.args.levels c.args.syntax c.args.form c.elements.low (at_view c.args.at) (at_view c.elements.place)
-    (at_view c.in_ok-found.behind) (element_view next) c.elements.invariant.4 found
+    (at_view c.in_ok-value.rest) (element_view next) c.elements.invariant.4 found
 
 -- ---- fragments
 
@@ -161,52 +200,6 @@ content-returns-in_err-fragments-in-Fragments-clause-memory t c = λ memory.
     let is = rw c.in-Fragments.is at (c.in_ok-n.ensures.exact (sequence_with (item_reader c.args.levels))
     c.args.at.rest.now) in
     inr (fragments whole.0, whole.1, is ∙ bind_made _ _ _ whole.2)
-
--- ---- an element
-
-pub element-returns-in_err-header-clause-exact : goal.element-returns-in_err-header-clause-exact
-element-returns-in_err-header-clause-exact t c =
-    let p = err_from_is_err_and c.from_residual.result c.from_residual.ensures.1 in
-    rw (p.1, p.2) (fails_is c.in_err-header.field-0.0 _
-    (front_refused (sequence_with (item_reader c.args.levels)) c.args.syntax c.args.form c.args.low (at_view c.args.at)
-    c.in_err-header.field-0.0 c.in_err-header.ensures.exact))
-
-pub element-returns-in_err-header-clause-memory : goal.element-returns-in_err-header-clause-memory
-element-returns-in_err-header-clause-memory t c = λ memory.
-    let p = err_from_is_err_and c.from_residual.result c.from_residual.ensures.1 in
-    let refused : c.in_err-header.field-0.0 ≡ Memory = fault_is _ _ _ p.1 p.2 memory in
-    inl (front_refused (unkept_sequence (unkept_item c.args.levels)) c.args.syntax c.args.form c.args.low
-    (at_view c.args.at) Memory (rw refused at c.in_err-header.ensures.exact))
-
-pub element-returns-in_default-clause-exact : goal.element-returns-in_default-clause-exact
-element-returns-in_default-clause-exact t c =
-    element_none (sequence_with (item_reader c.args.levels)) c.args.syntax c.args.form c.args.low (at_view c.args.at) _
-    (rw c.in_default.is at c.in_ok-header.ensures.exact)
-
-pub element-returns-in_err-value-clause-exact : goal.element-returns-in_err-value-clause-exact
-element-returns-in_err-value-clause-exact t c =
-    let p = err_from_is_err_and c.from_residual-in_err-value.result c.from_residual-in_err-value.ensures.1 in
-    rw (p.1, p.2) (content_stops (sequence_with (item_reader c.args.levels)) c.args.syntax c.args.form c.args.low
-    (at_view c.args.at) _ _ c.in_err-value.field-0.0
-    (rw c.in-Some.is at c.in_ok-header.ensures.exact) c.in_err-value.ensures.exact)
-
-pub element-returns-in_err-value-clause-memory : goal.element-returns-in_err-value-clause-memory
-element-returns-in_err-value-clause-memory t c = λ memory.
-    let p = err_from_is_err_and c.from_residual-in_err-value.result c.from_residual-in_err-value.ensures.1 in
-    let refused : c.in_err-value.field-0.0 ≡ Memory = fault_is _ _ _ p.1 p.2 memory in
-    value_wants c.args.levels c.args.syntax c.args.form c.args.low (at_view c.args.at) _ _
-    (rw c.in-Some.is at c.in_ok-header.ensures.exact) (c.in_err-value.ensures.memory (ap (λ e. Err e) refused))
-
-pub element-returns-clause-exact : goal.element-returns-clause-exact
-element-returns-clause-exact t c =
-    let header = c.in-Some.header in
-    let value = c.in_ok-value.value in
-    let seen : element_view (roll-Element (record { tag = header.tag; vr = header.shape.vr; value = value })) ≡ record
-    { tag = header.tag; vr = header.shape.vr; content = value_view value } = search (rules, the_lemmas) in
-    rw seen (element_found (sequence_with (item_reader c.args.levels)) c.args.syntax c.args.form c.args.low
-    (at_view c.args.at)
-    (header_view header) (at_view c.in_ok-header.at) (at_view c.in_ok-value.at) (value_view value)
-    (rw c.in-Some.is at c.in_ok-header.ensures.exact) c.in_ok-value.ensures.exact)
 
 -- ---- an item
 
@@ -290,12 +283,12 @@ part-returns-in_ok-set-in-Closed-clause-exact t c =
     let is = rw c.in-Closed.is at (c.in_ok-reach_of.ensures.exact set c.args.syntax c.args.at.rest.now) in
     let place : at_view c.within.result ≡ record { left = Some c.in-Closed.n; bytes = c.args.at.rest.now } =
     search rules in
-    let behind : at_view c.behind.result ≡ record {
-      left = less c.args.at.left c.in-Closed.n;
+    let after : at_view c.after.result ≡ record {
+      left = left_after c.args.at.left c.in-Closed.n;
       bytes =
           c.in_ok-set-in-Closed.end.rest.now;
     } = search rules in
-    rw (seen, behind) (deeper_is c.args.levels (c.args.levels - 1) c.args.n c.args.syntax (at_view c.args.at) deeper
+    rw (seen, after) (deeper_is c.args.levels (c.args.levels - 1) c.args.n c.args.syntax (at_view c.args.at) deeper
     ∙ is
     ∙ within_found c.in-Closed.n (at_view c.args.at) (set c.args.syntax Defined) _ (set_view s)
     (at_view c.in_ok-set-in-Closed.end)

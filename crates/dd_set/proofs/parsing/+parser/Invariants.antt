@@ -20,11 +20,8 @@ decreases-sequence l = 8 * l.levels + 2
 abbrev pub decreases-content : goal.decreases-content
 decreases-content l = 8 * l.levels + 3
 
-abbrev pub decreases-element : goal.decreases-element
-decreases-element l = 8 * l.levels + 4
-
 abbrev pub decreases-set : goal.decreases-set
-decreases-set l = 8 * l.levels + 5
+decreases-set l = 8 * l.levels + 4
 
 -- the items so far and those that reading gives from here are those that it gives from the start; nothing was read
 -- yet, or memory is wanted

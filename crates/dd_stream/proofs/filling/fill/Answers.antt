@@ -1,4 +1,4 @@
--- The bytes that came stand behind those that stood there.
+-- The bytes that came stand after those that stood there.
 use Rattle.std.proofs.Common.{◌≡◌, ◌≤◌, ℕ, ◌+◌, ◌-◌, ◌++◌, List, length, take, subst, sym, arith}
 use Rattle.std.proofs.Math.Seq.{take-add}
 use Rattle.std.proofs.lemmas.List.{take-append-le, drop-append-le}

@@ -1,0 +1,27 @@
+-- Summaries of values as code has them, and that of a value by what a scan found (PS3.5 section 6.2).
+use Rattle.std.specs.Prelude.{List, [], Option, Some, None, find}
+use Rattle.dd_elem.specs.declared.tag.Tag.{Tag}
+use Rattle.dd_grammar.specs.Lists.{same_tag}
+use Rattle.dd_scan.specs.Scan.{Summary, sequence, fragments, cleaned, found_summary}
+use Rattle.dd_scan.specs.declared.found.Found.{Found}
+use Rattle.dd_scan.specs.declared.summary.Summary.{Summary as BytesSummary}
+
+-- the summary of a value of bytes, or None where the value is a sequence
+abbrev pub summary_view : Option BytesSummary → Summary
+summary_view None = sequence
+summary_view (Some summary) = cleaned summary.front.now summary.length
+
+-- a summary in which fragments count as a sequence: neither is a value of bytes
+abbrev pub bytes_or_sequence : Summary → Summary
+bytes_or_sequence sequence = sequence
+bytes_or_sequence fragments = sequence
+bytes_or_sequence (cleaned front size) = cleaned front size
+
+-- that of the value of an element that may have been found: of no bytes where none was
+abbrev pub summary_of_found : Option Found → Summary
+summary_of_found None = cleaned [] 0
+summary_of_found (Some found) = bytes_or_sequence (found_summary found.value)
+
+-- that of the first one with a tag
+abbrev pub summary_in : Tag → List Found → Summary
+summary_in tag founds = summary_of_found (find (λ found. same_tag found.tag tag) founds)
