@@ -1,6 +1,6 @@
 use Rattle.std.proofs.Common.{◌≤◌}
 use Rattle.dicomdir_host.specs.Folders.{HasNoSlash}
-use Rattle.dicomdir_host.proofs.paths.name_before.Given as goal
+use Rattle.dicomdir_host.proofs.path_folder.name_before.Given as goal
 
 abbrev pub invariant-loop-start : goal.invariant-loop-start
 invariant-loop-start l = record {
