@@ -2,7 +2,7 @@
 ghost use Rattle.std.specs.Prelude.{◌≡◌, ◌≤◌, ◌++◌, ℕ, None, IfErr, IfOk, IfSome, length};
 ghost use Rattle.dd_line.specs.Line.{words_of};
 ghost use Rattle.dd_line.specs.Requests.{read_of};
-ghost use Rattle.dicomdir.specs.ListedNames.{AreWithListed, parts};
+ghost use Rattle.dicomdir.specs.ListedNames.{AreWithListed, HasNoList, parts};
 ghost use Rattle.dicomdir.specs.Refusal.{IsOfWork};
 
 use crate::file_set::refuse_taken;
@@ -22,6 +22,7 @@ pub(crate) fn all_sources<F: Files>(
     files: &mut F,
 ) -> Result<Option<Vec<String>>, Refusal>
     ensures refusal { (paths : ℕ) → IfErr result (IsOfWork paths) }
+    ensures none { HasNoList request.now → IfOk result (λ listed. listed ≡ None) }
     ensures all { IfOk result (λ listed.
         IfSome listed (λ all. AreWithListed (read_of request.now) all.items)) }
     ensures least { IfOk result (λ listed.
