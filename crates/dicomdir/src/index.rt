@@ -13,16 +13,15 @@ use crate::file_set::FileSet;
 use crate::file_supply::FileSupply;
 use crate::making::{Making, make_file_set, tell_plan_of_images};
 use crate::notes::{
-    has_notes, refuse_noted, tell_conflict, tell_names, tell_skipped, tell_sources_left_out,
+    has_notes, refuse_noted, tell_conflict, tell_left_out, tell_names, tell_skipped,
 };
 use crate::origins::SourceFiles;
 use crate::refusal::{ProgramFault, Refusal, Subject};
-use crate::shown_path::ShownPath;
 use crate::source_counts::SourceCounts;
 use dd_elem::{Memory, Write};
 use dd_engine::{EngineFault, NotedFault, NotedIndex, index_with_notes};
 use dd_files::{Files, Progress, SOURCE_LIMIT, Step};
-use dd_layout::{Limits, PlanFault};
+use dd_layout::Limits;
 use std::alloc::Global;
 use std::fmt;
 
@@ -48,7 +47,7 @@ pub(crate) fn run_index<F: Files + Progress, O: Write>(
     files.hide_line();
     let noted = match answer {
         Ok(noted) => noted,
-        Err(fault) => return Err(refused(sources, &fault, out)),
+        Err(fault) => return Err(refuse(sources, &fault, out)),
     };
     if tell_noted(&noted, sources, out).is_err() {
         return Ok(1);
@@ -78,7 +77,7 @@ fn tell_noted<O: Write>(noted: &NotedIndex, sources: &[String], out: &mut O) -> 
     ensures failed { IsErr result → HasFailed (O.failures out.old) (O.failures out.new) }
 {
     tell_skipped(&noted.indexed.skipped, sources, out)?;
-    tell_sources_left_out(&noted.notes.left_out, sources, out)?;
+    tell_left_out(&noted.notes.left_out, sources, out)?;
     tell_names(&noted.notes.names, out)
 }
 
@@ -135,7 +134,7 @@ fn counts_of(alloc: Global, sources: usize) -> Result<Vec<SourceCounts>, Memory>
 }
 
 /// Prints which sources have the two instances that conflict, if the plan is refused for two, and gives the refusal.
-fn refused<O: Write>(
+fn refuse<O: Write>(
     sources: &[String],
     noted: &NotedFault<EngineFault, usize>,
     out: &mut O,
@@ -144,12 +143,8 @@ fn refused<O: Write>(
     requires conflict { IsBelow (λ at. at) (length sources.now) noted.now.conflict }
     ensures { IsOfWork (length sources.now) result }
 {
-    if let EngineFault::Plan(PlanFault::Conflict(one, other)) = &noted.fault {
-        if let Some(conflict) = &noted.conflict {
-            let file = ShownPath::of_source(sources, conflict.one);
-            let other_file = ShownPath::of_source(sources, conflict.other);
-            tell_conflict((file, one), (other_file, other), out);
-        }
+    if let EngineFault::Plan(fault) = &noted.fault {
+        tell_conflict(fault, &noted.conflict, sources, out);
     }
     refusal_of(noted.fault)
 }

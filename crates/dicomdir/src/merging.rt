@@ -13,16 +13,15 @@ ghost use Rattle.dicomdir.specs.Refusal.{IsOfWork, IsStrict};
 
 use crate::file_set::FileSet;
 use crate::making::{Ending, Making, make_file_set, tell_counts};
-use crate::notes::{has_notes, refuse_noted, tell_conflict, tell_names, tell_picks_left_out};
+use crate::notes::{has_notes, refuse_noted, tell_conflict, tell_left_out, tell_names};
 use crate::origins::SetFiles;
 use crate::refusal::{ProgramFault, Refusal, Subject};
 use crate::set_directory::read_directories;
 use crate::set_notes::{has_set_notes, tell_unlisted, tell_unreached, tell_withdrawn};
-use crate::shown_path::ShownPath;
 use dd_elem::{Memory, Write};
 use dd_engine::{MergeFault, NotedFault, NotedMerge, Pick, merge_with_notes, withdraw_with_notes};
 use dd_files::{Files, Progress};
-use dd_layout::{Limits, PlanFault};
+use dd_layout::Limits;
 use std::alloc::Global;
 use std::{fmt, slice};
 
@@ -47,7 +46,7 @@ pub(crate) fn run_merge<F: Files + Progress, O: Write>(
     let limits = Limits::of_bytes(making.max_bytes);
     let noted = match merge_with_notes(alloc, &slices, &making.names.choice, limits) {
         Ok(noted) => noted,
-        Err(fault) => return Err(refused(sets, &fault, out)),
+        Err(fault) => return Err(refuse(sets, &fault, out)),
     };
     let origins = SetFiles {
         folders: sets,
@@ -108,7 +107,7 @@ fn withdraw_of<F: Files + Progress, O: Write>(
         limits,
     ) {
         Ok(noted) => noted,
-        Err(fault) => return Err(refused(sets, &fault, out)),
+        Err(fault) => return Err(refuse(sets, &fault, out)),
     };
     let origins = SetFiles {
         folders: sets,
@@ -191,7 +190,7 @@ fn tell_noted<O: Write>(
         sets,
     } = noted;
     tell_unreached(&sets.unreached, folders, out)?;
-    tell_picks_left_out(&notes.left_out, folders, out)?;
+    tell_left_out(&notes.left_out, folders, out)?;
     if is_strict {
         tell_withdrawn(&sets.withdrawn, folders, out)?;
     }
@@ -213,7 +212,7 @@ pub(crate) fn slices<'a>(alloc: Global, all: &'a [Vec<u8>]) -> Result<Vec<&'a [u
 }
 
 /// Prints which files have the two instances that conflict, if the plan is refused for two, and gives the refusal.
-fn refused<O: Write>(
+fn refuse<O: Write>(
     folders: &[String],
     noted: &NotedFault<MergeFault, Pick<'_>>,
     out: &mut O,
@@ -222,12 +221,8 @@ fn refused<O: Write>(
     requires conflict { IsBelow (λ pick. pick.set) (length folders.now) noted.now.conflict }
     ensures { IsOfWork (length folders.now) result }
 {
-    if let MergeFault::Plan(PlanFault::Conflict(one, other)) = &noted.fault {
-        if let Some(conflict) = &noted.conflict {
-            let file = ShownPath::of_pick(folders, &conflict.one);
-            let other_file = ShownPath::of_pick(folders, &conflict.other);
-            tell_conflict((file, one), (other_file, other), out);
-        }
+    if let MergeFault::Plan(fault) = &noted.fault {
+        tell_conflict(fault, &noted.conflict, folders, out);
     }
     refusal_of(noted.fault)
 }

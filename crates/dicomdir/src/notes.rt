@@ -1,15 +1,16 @@
 //! What a command says of its sources before it makes anything.
 ghost use Rattle.std.specs.Prelude.{◌≡◌, ◌↔◌, ◌<◌, ℕ, All, IfErr, IsErr, IsOk, IsTrue, length, true};
 ghost use Rattle.dd_elem.specs.Device.{HasFailed};
-ghost use Rattle.dd_engine.specs.Noting.{AreBelow};
+ghost use Rattle.dd_engine.specs.Noting.{AreBelow, IsBelow};
 ghost use Rattle.dicomdir.specs.Noted.{HasNotes};
 ghost use Rattle.dicomdir.specs.Refusal.{IsOfWork, IsStrict};
 
 use crate::refusal::{ProgramFault, Refusal, Words};
-use crate::shown_path::ShownPath;
+use crate::shown_path::{ShownFile, ShownPath};
 use dd_elem::{Key, Uid, Write};
-use dd_engine::{LeftOut, Notes, PatientNames, Pick};
+use dd_engine::{ConflictingFiles, LeftOut, Notes, PatientNames};
 use dd_keys::KeyFault;
+use dd_layout::PlanFault;
 use dd_report::{print_line, show_line};
 use itoa::Buffer;
 use std::fmt::{self, InlineText};
@@ -35,45 +36,27 @@ pub(crate) fn tell_skipped<O: Write>(
     Ok(())
 }
 
-/// Prints each source that is left out, and which one is kept. It fails only where the output failed.
-pub(crate) fn tell_sources_left_out<O: Write>(
-    left_out: &[LeftOut<usize>],
-    sources: &[String],
+/// Prints each file that is left out, and which one is kept. The sources, or the folders of the file-sets, are
+/// these. It fails only where the output failed.
+pub(crate) fn tell_left_out<T: ShownFile, O: Write>(
+    left_out: &[LeftOut<T>],
+    paths: &[String],
     out: &mut O,
 ) -> fmt::Result
-    requires { AreBelow (λ at. at) (length sources.now) left_out.now }
+    requires { AreBelow T.number (length paths.now) left_out.now }
     ensures worked { IsOk result → O.failures out.new ≡ O.failures out.old }
     ensures failed { IsErr result → HasFailed (O.failures out.old) (O.failures out.new) }
 {
     for note in left_out {
-        let file = ShownPath::of_source(sources, note.file);
-        let kept = ShownPath::of_source(sources, note.kept);
-        tell_left_out(file, kept, &note.instance, out)?;
-    }
-    Ok(())
-}
-
-/// Prints each file of the file-sets in these folders that is left out, and which one is kept. It fails only where
-/// the output failed.
-pub(crate) fn tell_picks_left_out<O: Write>(
-    left_out: &[LeftOut<Pick<'_>>],
-    folders: &[String],
-    out: &mut O,
-) -> fmt::Result
-    requires { AreBelow (λ pick. pick.set) (length folders.now) left_out.now }
-    ensures worked { IsOk result → O.failures out.new ≡ O.failures out.old }
-    ensures failed { IsErr result → HasFailed (O.failures out.old) (O.failures out.new) }
-{
-    for note in left_out {
-        let file = ShownPath::of_pick(folders, &note.file);
-        let kept = ShownPath::of_pick(folders, &note.kept);
-        tell_left_out(file, kept, &note.instance, out)?;
+        let file = note.file.path_among(paths);
+        let kept = note.kept.path_among(paths);
+        tell_left_out_for(file, kept, &note.instance, out)?;
     }
     Ok(())
 }
 
 /// Prints that a file is left out, since another file of its instance is kept.
-fn tell_left_out<O: Write>(
+fn tell_left_out_for<O: Write>(
     file: ShownPath<'_>,
     kept: ShownPath<'_>,
     instance: &Uid,
@@ -210,14 +193,20 @@ fn mark_behind(names: &[Key]) -> &[u8] {
     if names.len() > 10 { b", .." } else { b"" }
 }
 
-/// Prints which files have the two instances that conflict. Where the output fails, nothing more is printed.
-pub(crate) fn tell_conflict<O: Write>(
-    (one, uid): (ShownPath<'_>, &Uid),
-    (other, other_uid): (ShownPath<'_>, &Uid),
+/// Prints which files have the two instances that conflict, if the plan is refused for two. The sources, or the
+/// folders of the file-sets, are these. Where the output fails, nothing more is printed.
+pub(crate) fn tell_conflict<T: ShownFile, O: Write>(
+    fault: &PlanFault,
+    conflict: &Option<ConflictingFiles<T>>,
+    paths: &[String],
     out: &mut O,
-) {
-    if tell_has(one, uid, out).is_ok() {
-        let _ = tell_has(other, other_uid, out);
+)
+    requires { IsBelow T.number (length paths.now) conflict.now }
+{
+    if let (PlanFault::Conflict(one, other), Some(files)) = (fault, conflict) {
+        if tell_has(files.one.path_among(paths), one, out).is_ok() {
+            let _ = tell_has(files.other.path_among(paths), other, out);
+        }
     }
 }
 

@@ -4,7 +4,7 @@ ghost use Rattle.dd_elem.specs.Device.{HasFailed};
 ghost use Rattle.dicomdir.specs.Noted.{HasSetNotes};
 
 use crate::notes::UidText;
-use crate::shown_path::ShownPath;
+use crate::shown_path::{ShownFile, ShownPath};
 use dd_elem::{Uid, Write};
 use dd_engine::{Pick, SetNotes, Unreached, WithdrawnImage};
 use dd_report::print_line;
@@ -47,7 +47,7 @@ pub(crate) fn tell_withdrawn<O: Write>(
     ensures failed { IsErr result → HasFailed (O.failures out.old) (O.failures out.new) }
 {
     for image in withdrawn {
-        let file = ShownPath::of_pick(folders, &image.file);
+        let file = image.file.path_among(folders);
         let by = folders[image.by].as_str();
         print_withdrawn(file, by, &image.instance, out)?;
     }
