@@ -12,7 +12,7 @@ ghost use Rattle.dicomdir.specs.Refusal.{IsOfWork};
 use crate::file_set::FileSet;
 use crate::file_supply::FileSupply;
 use crate::making::{Making, make_file_set, tell_plan_of_images};
-use crate::notes::{
+use crate::note_lines::{
     has_notes, refuse_noted, tell_conflict, tell_left_out, tell_names, tell_skipped,
 };
 use crate::origins::SourceFiles;

@@ -13,11 +13,11 @@ ghost use Rattle.dicomdir.specs.Refusal.{IsOfWork, IsStrict};
 
 use crate::file_set::FileSet;
 use crate::making::{Ending, Making, make_file_set, tell_counts};
-use crate::notes::{has_notes, refuse_noted, tell_conflict, tell_left_out, tell_names};
+use crate::note_lines::{has_notes, refuse_noted, tell_conflict, tell_left_out, tell_names};
 use crate::origins::SetFiles;
 use crate::refusal::{ProgramFault, Refusal, Subject};
 use crate::set_directory::read_directories;
-use crate::set_notes::{has_set_notes, tell_unlisted, tell_unreached, tell_withdrawn};
+use crate::set_note_lines::{has_set_notes, tell_unlisted, tell_unreached, tell_withdrawn};
 use dd_elem::{Memory, Write};
 use dd_engine::{MergeFault, NotedFault, NotedMerge, Pick, merge_with_notes, withdraw_with_notes};
 use dd_files::{Files, Progress};

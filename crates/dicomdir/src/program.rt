@@ -16,7 +16,7 @@ use crate::making::Making;
 use crate::merging::{run_merge, run_withdraw};
 use crate::names::{Names, names_of};
 use crate::refusal::{Paths, Refusal, tell};
-use crate::sources::all_sources;
+use crate::source_paths::all_sources;
 use dd_elem::Write;
 use dd_files::{Files, Progress};
 use dd_line::{Request, Verb, read_request};

@@ -3,7 +3,7 @@ ghost use Rattle.std.specs.Prelude.{◌≡◌, ◌↔◌, ◌<◌, All, IsErr, I
 ghost use Rattle.dd_elem.specs.Device.{HasFailed};
 ghost use Rattle.dicomdir.specs.Noted.{HasSetNotes};
 
-use crate::notes::UidText;
+use crate::note_lines::UidText;
 use crate::shown_path::{ShownFile, ShownPath};
 use dd_elem::{Uid, Write};
 use dd_engine::{Pick, SetNotes, Unreached, WithdrawnImage};
