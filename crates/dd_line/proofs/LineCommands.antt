@@ -24,8 +24,7 @@ index_serves = command_serves Index (built_leaf index_app.top) (record {
   plain = record { once = refl; wants = refl };
   flags = refl;
   others = refl;
-  paths = λ words none.
-      new_set_given (built_leaf index_app.top) words (record { once = refl; wants = refl }) none refl refl;
+  paths = λ plain words none. new_set_given _ words plain none refl refl;
 })
 
 pub merge_serves : Serves (built_leaf merge_app.top)
@@ -34,8 +33,7 @@ merge_serves = command_serves Merge (built_leaf merge_app.top) (record {
   plain = record { once = refl; wants = refl };
   flags = refl;
   others = refl;
-  paths = λ words none.
-      new_set_given (built_leaf merge_app.top) words (record { once = refl; wants = refl }) none refl refl;
+  paths = λ plain words none. new_set_given _ words plain none refl refl;
 })
 
 pub withdraw_serves : Serves (built_leaf withdraw_app.top)
@@ -44,13 +42,11 @@ withdraw_serves = command_serves Withdraw (built_leaf withdraw_app.top) (record 
   plain = record { once = refl; wants = refl };
   flags = refl;
   others = refl;
-  paths = λ words none.
-      let plain : IsPlain (built_leaf withdraw_app.top) = record { once = refl; wants = refl } in
-      record {
-        new_set = new_set_given (built_leaf withdraw_app.top) words plain none refl refl;
-        set = one_given (built_leaf withdraw_app.top) words plain none (codes "set") 2 refl;
-        instances = some_given (built_leaf withdraw_app.top) words plain none (codes "instance") 3 refl;
-      };
+  paths = λ plain words none. record {
+    new_set = new_set_given _ words plain none refl refl;
+    set = one_given _ words plain none (codes "set") 2 refl;
+    instances = some_given _ words plain none (codes "instance") 3 refl;
+  };
 })
 
 pub check_serves : Serves (built_leaf check_app.top)
@@ -59,8 +55,7 @@ check_serves = command_serves Check (built_leaf check_app.top) (record {
   plain = record { once = refl; wants = refl };
   flags = refl;
   others = refl;
-  paths = λ words none.
-      one_given (built_leaf check_app.top) words (record { once = refl; wants = refl }) none (codes "set") 1 refl;
+  paths = λ plain words none. one_given _ words plain none (codes "set") 1 refl;
 })
 
 pub list_serves : Serves (built_leaf list_app.top)
@@ -69,6 +64,5 @@ list_serves = command_serves ListSet (built_leaf list_app.top) (record {
   plain = record { once = refl; wants = refl };
   flags = refl;
   others = refl;
-  paths = λ words none.
-      one_given (built_leaf list_app.top) words (record { once = refl; wants = refl }) none (codes "set") 1 refl;
+  paths = λ plain words none. one_given _ words plain none (codes "set") 1 refl;
 })

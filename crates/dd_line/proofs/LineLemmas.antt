@@ -1,8 +1,8 @@
 -- What the fault of a parser's error says, and the app of a command with its subcommands.
-use Rattle.std.proofs.Common.{◌≡◌, IfErr, List, refl, None, Ok, Option, Some, Err, Result, inl, inr, sym, ap, ap₂}
-use Rattle.std.proofs.Common.{codes, option_map, string_bytes, true, ◌||◌, ◌∙◌}
-use Rattle.std.specs.Prelude.{Contains, IsErrAnd, MatchResult}
-use Rattle.clap.specs.Words.{AddsSubcommand, App, HasKind, Kinds, Row, Text, is_simple, is_simple_and_free}
+use Rattle.std.proofs.Common.{◌≡◌, IfErr, refl, Ok, Err, Result, inl, inr, ap, ap₂}
+use Rattle.std.proofs.Common.{true, ◌||◌, ◌∙◌}
+use Rattle.std.specs.Prelude.{IsErrAnd, MatchResult}
+use Rattle.clap.specs.Words.{AddsSubcommand, App, HasKind, Kinds, is_simple, is_simple_and_free}
 use Rattle.clap.specs.Words.{kind_of, with_subcommand}
 use Rattle.clap.specs.declared.builder.command.Command.{Command}
 use Rattle.clap.specs.declared.error.Error.{Error}

@@ -60,7 +60,7 @@ help_serves s named none name met other words fault = go (bytes_eq s.name name) 
 
 -- ---- a command of the program
 
--- the command takes each argument once, and wants those that have to be given
+-- the command takes each argument once, and its required arguments have to be given
 pub record IsPlain (s : Shape) : Type 0 where
   pub once : s.args_override_self ≡ false
   pub wants : s.subcommand_negates_reqs ≡ false
@@ -71,7 +71,7 @@ pub record IsCommand (verb : Verb) (s : Shape) : Type 0 where
   pub plain : IsPlain s
   pub flags : map (λ f. named_in f.0 s.rules) flags ≡ map (flag_rules verb) flags
   pub others : map (λ name. named_in name s.rules) (lacked verb) ≡ map (λ name. []) (lacked verb)
-  pub paths : (words : List Text) → IsFaultless s words → GivesPaths verb (rows_after s.rules [] words)
+  pub paths : IsPlain s → (words : List Text) → IsFaultless s words → GivesPaths verb (rows_after s.rules [] words)
 
 module _ (s : Shape) (words : List Text) (plain : IsPlain s) (none : IsFaultless s words) where
   -- no row has a name that no rule has
@@ -123,7 +123,7 @@ command_serves verb s is name met other words none =
       rows_after s.rules [] words,
       rw named refl,
       record {
-        paths = is.paths words none;
+        paths = is.paths plain words none;
         flags = level_flags verb s words plain.once none is.flags;
         others = among_each _ (lacked verb) (absent_each s words plain none (lacked verb) is.others);
       },

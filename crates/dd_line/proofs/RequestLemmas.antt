@@ -1,13 +1,12 @@
 -- The parts of a request are what the words give.
-use Rattle.std.proofs.Common.{◌≡◌, ◌⊎◌, ◌↔◌, ◌∷◌, ◌∙◌, false, List, [], Option, Some, None, ap, codes, inl, inr, refl, subst, sym}
+use Rattle.std.proofs.Common.{◌≡◌, ◌↔◌, ◌∷◌, ◌∙◌, false, List, [], Option, Some, None, ap, codes, inl, inr, refl, subst, sym}
 use Rattle.std.proofs.lemmas.List.{append-nil}
-use Rattle.std.specs.Option.{option_map}
-use Rattle.std.specs.Prelude.{Contains, string_bytes}
+use Rattle.std.specs.Prelude.{string_bytes}
 use Rattle.clap.specs.Takes.{is_given}
 use Rattle.clap.specs.Words.{Row, Text, first_of}
-use Rattle.dd_line.specs.Line.{GivesInstance, GivesOption, HasBadName, IsCheck, IsReading, OnlyReads, given_for, given_paths, verb_name, words_of}
+use Rattle.dd_line.specs.Line.{HasBadName, IsCheck, IsReading, OnlyReads, given_for, verb_name}
 use Rattle.dd_line.specs.Requests.{IsAbsent, IsRequested, Requests}
-use Rattle.dd_line.specs.Requests.{RequestsBadName, SaysParts, instances_of, id_of, uid_of, verb_of}
+use Rattle.dd_line.specs.Requests.{RequestsBadName, SaysParts, verb_of}
 use Rattle.dd_line.proofs.LineVerbs.{IsReader, reader}
 use Rattle.dd_line.specs.declared.line.Verb.TheVariants.{Check}
 use Rattle.dd_line.specs.declared.request.Request.{Request}

@@ -14,7 +14,7 @@ use Rattle.std.specs.Str.Parse.{IsNumeral, signed_digits_value, without_leading_
 use Rattle.clap.specs.Takes.{is_given}
 use Rattle.clap.specs.Words.{App, Row, Rule, Text, all_of, app_of, first_of, kind_of}
 use Rattle.clap.specs.Words.{new_app, new_rule, rule_of, with_rule}
-use Rattle.clap.specs.Words.{IsAmong, Kinds, with_subcommand}
+use Rattle.clap.specs.Words.{IsAmong, Kinds, fault_of, subcommand_of, takes, with_subcommand}
 use Rattle.clap.specs.declared.builder.action.ArgAction.TheVariants.{SetTrue}
 use Rattle.clap.specs.declared.builder.arg.Arg.{Arg}
 use Rattle.clap.specs.declared.builder.command.Command.{Command}
@@ -22,7 +22,7 @@ use Rattle.clap.specs.declared.builder.command.Command.TheViews.{out-Command as 
 use Rattle.clap.specs.declared.builder.value_parser.ValueParser.TheVariants.{Signed}
 use Rattle.clap.specs.declared.error.Error.{Error}
 use Rattle.clap.specs.declared.error.kind.ErrorKind.TheVariants.{MissingRequiredArgument, OutOfMemory}
-use Rattle.std.specs.Prelude.{◌⊎◌, ◌∷◌, if◌then◌else◌}
+use Rattle.std.specs.Prelude.{◌⊎◌, ◌∷◌, IfErr, MatchResult, Result, if◌then◌else◌}
 use Rattle.std.specs.List.{list_any}
 use Rattle.std.specs.Str.{bytes_eq}
 use Rattle.dd_elem.specs.SetId.{IsSetId}
@@ -370,6 +370,27 @@ IsRefusedFor kinds Memory = Unit {0}
 abbrev pub IsMissingArgument : LineFault → Type 0
 IsMissingArgument (Refused e) = kind_of e ≡ MissingRequiredArgument
 IsMissingArgument Memory = ⊥
+
+-- a refusal is for lack of memory, or says that an argument is missing, where one is
+abbrev pub IsRefusedAsMissing : Type 0 → LineFault → Type 0
+IsRefusedAsMissing Lacks fault = (fault ≡ Memory) ⊎ (Lacks × IsMissingArgument fault)
+
+-- the result is such a refusal, or no argument is missing
+abbrev pub RefusesMissing : {T : Type 0} → Type 0 → Result T LineFault → Type 0
+RefusesMissing Lacks result = MatchResult result (λ _. ¬ Lacks) (IsRefusedAsMissing Lacks)
+
+-- words that the parser takes are refused for lack of memory, or since they give no source
+abbrev pub PassesTaken : {T : Type 0} → List Text → Result T LineFault → Type 0
+PassesTaken words result = IfErr result (λ fault. takes dicomdir_app words ≡ true
+    → IsRefusedAsMissing (LacksSources (subcommand_of dicomdir_app words)) fault)
+
+-- words are refused for a fault that the parser finds in them, or, where it finds none, since they give no source
+abbrev pub RefusesByKind : {T : Type 0} → List Text → Result T LineFault → Type 0
+RefusesByKind words result = MatchResult result
+    (λ _. (fault_of dicomdir_app words ≡ []) × ¬ LacksSources (subcommand_of dicomdir_app words))
+    (λ fault. IsRefusedFor (fault_of dicomdir_app words) fault
+    ⊎ ((fault_of dicomdir_app words ≡ []) × LacksSources (subcommand_of dicomdir_app words)
+    × IsMissingArgument fault))
 
 -- the fault of an error of the parser
 abbrev pub IsFaultOf : Error → LineFault → Type 0

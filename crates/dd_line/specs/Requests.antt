@@ -104,7 +104,7 @@ pub record MakesAsGiven (n : NewSet) (given : List Row) : Type 0 where
   pub dry_run : n.dry_run ≡ is_given line.dry_run_name given
   pub quiet : n.quiet ≡ is_given line.quiet_name given
 
--- the sources are those that the words give, under this name and in a file of names
+-- the sources are as the words give them, under this name and in a file of names
 pub record HasSources (name : Text) (given : List Row) (s : Sources) : Type 0 where
   pub words : words_of s.words.items ≡ given_for name given
   pub files0_from : option_map string_bytes s.files0_from ≡ first_of line.files0_from_name given
@@ -240,7 +240,7 @@ folder_of r = option_map_or (λ n. string_bytes n.out) (new_set_of r) []
 abbrev pub is_dry : Request → Bool
 is_dry r = option_map_or (λ n. n.dry_run) (new_set_of r) false
 
--- all paths of the line, that of the new file-set first
+-- all paths of the line: the folder of the new file-set, and then the paths that it reads
 abbrev pub paths_of : Request → List (String Global)
 paths_of r = option_map_or (λ n. n.out ∷ read_of r) (new_set_of r) (read_of r)
 

@@ -110,7 +110,11 @@ fn files0_from<'a>(alloc: Global) -> Arg<'a>
 }
 
 /// Makes a command with the options for the label of a directory and for its size.
-fn labelled<'a>(alloc: Global, name: &'a str, about: &'a str) -> Result<Command<'a>, AllocError>
+fn labelled_command<'a>(
+    alloc: Global,
+    name: &'a str,
+    about: &'a str,
+) -> Result<Command<'a>, AllocError>
     ensures { IfOk result (HasApp (labelled_app name.entry.now)) }
 {
     Command::new(alloc, name)
@@ -136,10 +140,14 @@ fn labelled<'a>(alloc: Global, name: &'a str, about: &'a str) -> Result<Command<
 }
 
 /// Makes a command that writes a directory, with its options and the folder that it writes to.
-fn writing<'a>(alloc: Global, name: &'a str, about: &'a str) -> Result<Command<'a>, AllocError>
+fn writing_command<'a>(
+    alloc: Global,
+    name: &'a str,
+    about: &'a str,
+) -> Result<Command<'a>, AllocError>
     ensures { IfOk result (HasApp (writing_app name.entry.now)) }
 {
-    labelled(alloc, name, about)?
+    labelled_command(alloc, name, about)?
         .arg(flag(
             alloc,
             STRICT,
@@ -160,7 +168,7 @@ fn index_command<'a>(alloc: Global) -> Result<Command<'a>, AllocError>
     ensures { IfOk result (HasApp index_app) }
 {
     let about = "Makes a file-set of image files: copies them, writes its DICOMDIR";
-    let command = writing(alloc, "index", about)?.after_help(endings::INDEX);
+    let command = writing_command(alloc, "index", about)?.after_help(endings::INDEX);
     command.arg(files0_from(alloc))?.arg(any_paths(
         alloc,
         SOURCE,
@@ -174,7 +182,7 @@ fn merge_command<'a>(alloc: Global) -> Result<Command<'a>, AllocError>
     ensures { IfOk result (HasApp merge_app) }
 {
     let about = "Makes a file-set of others: copies their images, writes its DICOMDIR";
-    let command = writing(alloc, "merge", about)?.after_help(endings::MERGE);
+    let command = writing_command(alloc, "merge", about)?.after_help(endings::MERGE);
     command
         .arg(files0_from(alloc))?
         .arg(flag(alloc, LINK, "Gives images second names in place of copies"))?
@@ -191,7 +199,7 @@ fn withdraw_command<'a>(alloc: Global) -> Result<Command<'a>, AllocError>
     ensures { IfOk result (HasApp withdraw_app) }
 {
     let about = "Makes a file-set of one without some images, which no merge brings back";
-    writing(alloc, "withdraw", about)?
+    writing_command(alloc, "withdraw", about)?
         .after_help(endings::WITHDRAW)
         .arg(path(
             alloc,
@@ -208,7 +216,11 @@ fn withdraw_command<'a>(alloc: Global) -> Result<Command<'a>, AllocError>
 }
 
 /// Makes a command that reads one file-set.
-fn reading<'a>(alloc: Global, name: &'a str, about: &'a str) -> Result<Command<'a>, AllocError>
+fn reading_command<'a>(
+    alloc: Global,
+    name: &'a str,
+    about: &'a str,
+) -> Result<Command<'a>, AllocError>
     ensures { IfOk result (HasApp (reading_app name.entry.now)) }
 {
     Command::new(alloc, name).about(about).arg(path(
@@ -224,7 +236,7 @@ fn check_command<'a>(alloc: Global) -> Result<Command<'a>, AllocError>
     ensures { IfOk result (HasApp check_app) }
 {
     let about = "Checks that the files which a DICOMDIR names are there and unchanged";
-    let command = reading(alloc, "check", about)?.after_help(endings::CHECK);
+    let command = reading_command(alloc, "check", about)?.after_help(endings::CHECK);
     command
         .arg(flag(
             alloc,
@@ -244,7 +256,7 @@ fn list_command<'a>(alloc: Global) -> Result<Command<'a>, AllocError>
     ensures { IfOk result (HasApp list_app) }
 {
     let about = "Lists the records of a DICOMDIR, those of other programs too";
-    let command = reading(alloc, "list", about)?.after_help(endings::LIST);
+    let command = reading_command(alloc, "list", about)?.after_help(endings::LIST);
     command.arg(flag(
         alloc,
         LONG,

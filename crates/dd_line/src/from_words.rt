@@ -1,8 +1,8 @@
 //! The words of a command line, read as a request.
-ghost use Rattle.std.specs.Prelude.{◌≡◌, ◌⊎◌, [], Some, IfErr, IfOk, MatchResult, true};
+ghost use Rattle.std.specs.Prelude.{◌≡◌, [], Some, IfErr, IfOk, MatchResult, true};
 ghost use Rattle.clap.specs.Words.{fault_of, found_of, rows_of, subcommand_of, subcommand_rows_of, takes};
-ghost use Rattle.dd_line.specs.Line.{IsMissingArgument, IsRefusedFor, LacksSources, dicomdir_app};
-ghost use Rattle.dd_line.specs.Line.{verb_name, words_of};
+ghost use Rattle.dd_line.specs.Line.{IsRefusedFor, LacksSources, PassesTaken, RefusesByKind, RefusesMissing};
+ghost use Rattle.dd_line.specs.Line.{dicomdir_app, verb_name, words_of};
 ghost use Rattle.dd_line.specs.Requests.{GivesNewSet, GivesNoSource, HasFlags, HasSources, IsRequested, IsServed};
 ghost use Rattle.dd_line.specs.Requests.{MakesAsGiven, NamesCommand, Requests};
 
@@ -33,7 +33,7 @@ fn new_set_of(alloc: Global, given: &ArgMatches<'_>) -> Result<NewSet, AllocErro
     })
 }
 
-/// Lists the sources of a command, whose paths have this name. Refused where there are none.
+/// Lists the sources of a command, whose paths have this name. Refused where the words give no source.
 fn sources_of(
     alloc: Global,
     verb: Verb,
@@ -41,10 +41,7 @@ fn sources_of(
     name: &str,
 ) -> Result<Sources, LineFault>
     ensures sources { IfOk result (HasSources name.now (rows_of (found_of given.now))) }
-    ensures some { MatchResult result
-        (λ _. ¬ GivesNoSource name.now (rows_of (found_of given.now)))
-        (λ fault. (fault ≡ LineFault.Memory)
-        ⊎ (GivesNoSource name.now (rows_of (found_of given.now)) × IsMissingArgument fault)) }
+    ensures some { RefusesMissing (GivesNoSource name.now (rows_of (found_of given.now))) result }
 {
     let words = values_of(alloc, given, name)?;
     let files0_from = value_of(alloc, given, commands::FILES0_FROM)?;
@@ -59,11 +56,8 @@ fn index_request(alloc: Global, given: &ArgMatches<'_>) -> Result<Request, LineF
     requires { IsServed Verb.Index (rows_of (found_of given.now)) }
     ensures request { IfOk result (λ request.
         Requests request (verb_name Verb.Index) (rows_of (found_of given.now))) }
-    ensures some { MatchResult result
-        (λ _. ¬ LacksSources (Some (verb_name Verb.Index, rows_of (found_of given.now))))
-        (λ fault. (fault ≡ LineFault.Memory)
-        ⊎ (LacksSources (Some (verb_name Verb.Index, rows_of (found_of given.now)))
-        × IsMissingArgument fault)) }
+    ensures some { RefusesMissing
+        (LacksSources (Some (verb_name Verb.Index, rows_of (found_of given.now)))) result }
 {
     let new_set = new_set_of(alloc, given)?;
     let sources = sources_of(alloc, Verb::Index, given, commands::SOURCE)?;
@@ -75,11 +69,8 @@ fn merge_request(alloc: Global, given: &ArgMatches<'_>) -> Result<Request, LineF
     requires { IsServed Verb.Merge (rows_of (found_of given.now)) }
     ensures request { IfOk result (λ request.
         Requests request (verb_name Verb.Merge) (rows_of (found_of given.now))) }
-    ensures some { MatchResult result
-        (λ _. ¬ LacksSources (Some (verb_name Verb.Merge, rows_of (found_of given.now))))
-        (λ fault. (fault ≡ LineFault.Memory)
-        ⊎ (LacksSources (Some (verb_name Verb.Merge, rows_of (found_of given.now)))
-        × IsMissingArgument fault)) }
+    ensures some { RefusesMissing
+        (LacksSources (Some (verb_name Verb.Merge, rows_of (found_of given.now)))) result }
 {
     let new_set = new_set_of(alloc, given)?;
     let sets = sources_of(alloc, Verb::Merge, given, commands::SET)?;
@@ -135,10 +126,7 @@ fn request_of(alloc: Global, found: &ArgMatches<'_>) -> Result<Request, LineFaul
     requires { NamesCommand (subcommand_rows_of found.now) }
     ensures request { IfOk result (λ request.
         IsRequested request (subcommand_rows_of found.now)) }
-    ensures some { MatchResult result
-        (λ _. ¬ LacksSources (subcommand_rows_of found.now))
-        (λ fault. (fault ≡ LineFault.Memory)
-        ⊎ (LacksSources (subcommand_rows_of found.now) × IsMissingArgument fault)) }
+    ensures some { RefusesMissing (LacksSources (subcommand_rows_of found.now)) result }
 {
     match found.subcommand() {
         Some(("index", given)) => index_request(alloc, given),
@@ -171,18 +159,8 @@ fn matches_of<'a>(alloc: Global, words: &'a [String]) -> Result<ArgMatches<'a>, 
 pub fn read_request(alloc: Global, words: &[String]) -> Result<Request, LineFault>
     ensures request { IfOk result (λ request.
         IsRequested request (subcommand_of dicomdir_app (words_of words.now))) }
-    ensures passes { IfErr result (λ fault.
-        takes dicomdir_app (words_of words.now) ≡ true
-        → (fault ≡ LineFault.Memory)
-        ⊎ (LacksSources (subcommand_of dicomdir_app (words_of words.now))
-        × IsMissingArgument fault)) }
-    ensures kinds { MatchResult result
-        (λ _. (fault_of dicomdir_app (words_of words.now) ≡ [])
-        × ¬ LacksSources (subcommand_of dicomdir_app (words_of words.now)))
-        (λ fault. IsRefusedFor (fault_of dicomdir_app (words_of words.now)) fault
-        ⊎ ((fault_of dicomdir_app (words_of words.now) ≡ [])
-        × LacksSources (subcommand_of dicomdir_app (words_of words.now))
-        × IsMissingArgument fault)) }
+    ensures passes { PassesTaken (words_of words.now) result }
+    ensures kinds { RefusesByKind (words_of words.now) result }
 {
     let found = matches_of(alloc, words)?;
     request_of(alloc, &found)

@@ -1,9 +1,8 @@
 //! The command line in one form for all commands.
-ghost use Rattle.std.specs.Prelude.{◌≡◌, List, ◌∷◌, ◌↔◌, ◌⊎◌, [], None, false, string_bytes, true};
-ghost use Rattle.std.specs.Prelude.{IfErr, IfOk, MatchResult};
-ghost use Rattle.clap.specs.Words.{Row, Text, fault_of, subcommand_of, takes};
-ghost use Rattle.dd_line.specs.Line.{Asks, FitsCommand, IsAsked, IsMissingArgument, IsReading};
-ghost use Rattle.dd_line.specs.Line.{IsRefusedFor, LacksSources, OnlyReads, dicomdir_app, words_of};
+ghost use Rattle.std.specs.Prelude.{◌≡◌, List, ◌∷◌, ◌↔◌, [], IfOk, None, false, string_bytes};
+ghost use Rattle.clap.specs.Words.{Row, Text, subcommand_of};
+ghost use Rattle.dd_line.specs.Line.{Asks, FitsCommand, IsAsked, IsReading, OnlyReads, PassesTaken, RefusesByKind};
+ghost use Rattle.dd_line.specs.Line.{dicomdir_app, words_of};
 ghost use Rattle.dd_line.specs.Requests.{AsksToMake, AsksToRead, Requests};
 
 use crate::from_words::read_request;
@@ -61,7 +60,7 @@ pub struct Asked {
     /// Whether `list` also prints the names, dates, times, modalities and numbers of the records: `list --long`.
     /// False for every other command.
     pub long: bool,
-    /// Whether `merge` gives images second names in place of copies: `merge --link`. False for every other command.
+    /// Whether `merge` gives images hard links in place of copies: `merge --link`. False for every other command.
     pub link: bool,
     /// The file that holds names of more sources, each ended by a zero byte: `--files0-from FILE`. `None` where the
     /// line has none, and for every command but `index` and `merge`.
@@ -219,18 +218,8 @@ pub fn read_words(alloc: Global, words: &[String]) -> Result<Asked, LineFault>
     ensures fits { IfOk result FitsCommand }
     ensures reading { IfOk result (λ asked.
         OnlyReads asked.verb ↔ IsReading (subcommand_of dicomdir_app (words_of words.now))) }
-    ensures passes { IfErr result (λ fault.
-        takes dicomdir_app (words_of words.now) ≡ true
-        → (fault ≡ LineFault.Memory)
-        ⊎ (LacksSources (subcommand_of dicomdir_app (words_of words.now))
-        × IsMissingArgument fault)) }
-    ensures kinds { MatchResult result
-        (λ _. (fault_of dicomdir_app (words_of words.now) ≡ [])
-        × ¬ LacksSources (subcommand_of dicomdir_app (words_of words.now)))
-        (λ fault. IsRefusedFor (fault_of dicomdir_app (words_of words.now)) fault
-        ⊎ ((fault_of dicomdir_app (words_of words.now) ≡ [])
-        × LacksSources (subcommand_of dicomdir_app (words_of words.now))
-        × IsMissingArgument fault)) }
+    ensures passes { PassesTaken (words_of words.now) result }
+    ensures kinds { RefusesByKind (words_of words.now) result }
 {
     let request = read_request(alloc, words)?;
     Ok(line_of(alloc, request)?)

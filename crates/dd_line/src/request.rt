@@ -102,7 +102,7 @@ pub struct MergeRequest {
     pub new_set: NewSet,
     /// The folders of the others.
     pub sets: Sources,
-    /// Whether images get second names in place of copies: `--link`.
+    /// Whether images get hard links in place of copies: `--link`.
     pub link: bool,
 }
 

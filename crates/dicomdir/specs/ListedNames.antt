@@ -1,10 +1,12 @@
 -- Lists of names in which a zero byte ends each name.
 use Rattle.std.specs.Prelude.{◌≡◌, ◌≢◌, ◌≤◌, ◌-◌, ◌⊎◌, ◌++◌, ◌==◌, ℕ, List, [], ◌∷◌, if◌then◌else◌}
-use Rattle.std.specs.Prelude.{All, Contains, length, max, slice_index_or}
+use Rattle.std.specs.Prelude.{All, Contains, None, length, max, slice_index_or}
 use Rattle.std.specs.List.{AllWithin, flat_map, onto_first}
 use Rattle.std.specs.Str.{IsUtf8}
 use Rattle.std.specs.Prelude.{String}
 use Rattle.dd_line.specs.Line.{words_of}
+use Rattle.dd_line.specs.declared.request.Request.{Request}
+use Rattle.dd_line.specs.declared.request.Request.TheVariants.{Check, Index, List as ListSet, Merge, Withdraw}
 
 -- the parts of a list: a zero byte ends each, but the last one may end with the list
 abbrev pub parts : List ℕ → List (List ℕ)
@@ -37,3 +39,11 @@ pub record FailsAt (parts : List (List ℕ)) (number : ℕ) : Type 0 where
 -- the paths are the given ones, and behind them the names of a list, in their order
 abbrev pub AreWithListed : {Z : Type 0} → List (String Z) → List (String Z) → Type 0
 AreWithListed given all = (list : List ℕ) × (words_of all ≡ words_of given ++ parts list)
+
+-- the request names no list
+abbrev pub HasNoList : Request → Type 0
+HasNoList (Index x) = x.sources.files0_from ≡ None
+HasNoList (Merge x) = x.sets.files0_from ≡ None
+HasNoList (Withdraw x) = Unit {0}
+HasNoList (Check x) = Unit {0}
+HasNoList (ListSet x) = Unit {0}

@@ -8,117 +8,129 @@ ghost use Rattle.dicomdir.specs.Made.{Copies, CopiesImage, LinksImage, MakesImag
 ghost use Rattle.dicomdir.specs.Claims.{IsRefusedAs};
 ghost use Rattle.dicomdir.specs.Refusal.{IsAmong, IsMemory, IsOfWork};
 
+use crate::file_set::FileSet;
 use crate::image_path::{ImageFolder, ImagePathText};
 use crate::origins::Origins;
 use crate::refusal::{ProgramFault, Refusal, Subject};
 use dd_elem::FileId;
 use dd_files::{Files, LinkFault, Progress, SOURCE_LIMIT, Step, file_path, path_in};
 use dd_filing::{Filed, FilingFault, file_image};
-use dd_layout::{Plan, PlanRecord};
+use dd_layout::PlanRecord;
 use dd_version::Version;
 use std::alloc::Global;
+
+/// An image that is made in a file-set.
+#[derive(Drop)]
+struct Image<'a, O: Origins> {
+    /// The folder of the file-set.
+    folder: &'a str,
+    /// The File ID of the image.
+    file: FileId,
+    /// Its version in the plan.
+    planned: &'a Version,
+    /// The files that images are made of.
+    origins: &'a O,
+    /// The file that this one is made of.
+    pick: O::Pick,
+}
 
 /// Makes each image at its File ID in the folder, in the order of the plan: a copy of its file, or a hard link to it.
 /// Each copy must be a file of the version that is planned there.
 pub(crate) fn copy_images<F: Files + Progress, O: Origins>(
     alloc: Global,
-    folder: &str,
-    plan: &Plan,
-    origins: &O,
-    picks: &[O::Pick],
+    set: &FileSet<'_, O>,
     files: &mut F,
 ) -> Result<(), Refusal>
-    requires { All (O.has origins.now) picks.now }
-    ensures refusal { IfErr result (IsOfWork (O.paths origins.now)) }
+    requires { All (O.has set.now.origins.now) set.now.picks.now }
+    ensures refusal { IfErr result (IsOfWork (O.paths set.now.origins.now)) }
 
     // Where the files tell what they hold, an image was made for each pick, as a file of its planned version, or it is
     // the file of the pick. All other files are as they were.
-    ensures made { IsOk result
-        → MakesImages (MayLink (O.gives_links origins.now) (O.stands_at origins.now))
-        folder.now plan.now.versions (records_of plan.now.label plan.now.versions) picks.now
+    ensures made { IsOk result → MakesImages
+        (MayLink (O.gives_links set.now.origins.now) (O.stands_at set.now.origins.now))
+        set.now.folder.now set.now.plan.now.versions
+        (records_of set.now.plan.now.label set.now.plan.now.versions) set.now.picks.now
         (F.held files.old) (F.held files.new) }
 {
-    let versions = plan.versions();
-    let mut picks = picks;
+    let mut picks = set.picks;
     files.begin_step(Step::Copying, picks.len() as u64);
-    for record in plan.records() {
-        picks = copy_record(alloc, folder, versions, record, origins, picks, files)?;
+    for record in set.plan.records() {
+        picks = copy_record(alloc, set, record, picks, files)?;
     }
     Ok(())
 }
 
-/// Makes the image of a record, where it has one, from the first of these picks, and answers the others.
+/// Makes the image of a record of the plan, where it has one, from the first of these picks, and answers the others.
 fn copy_record<'p, F: Files + Progress, O: Origins>(
     alloc: Global,
-    folder: &str,
-    versions: &[Version],
-    record: &PlanRecord,
-    origins: &O,
+    set: &FileSet<'_, O>,
+    row: &PlanRecord,
     picks: &'p [O::Pick],
     files: &mut F,
 ) -> Result<&'p [O::Pick], Refusal>
-    requires has { All (O.has origins.now) picks.now }
-    requires within { record.now.of < length versions.now }
-    ensures refusal { IfErr result (IsOfWork (O.paths origins.now)) }
-    ensures has { IfOk result (λ later. All (O.has origins.now) later.now) }
-    ensures copied { IfOk result (λ later.
-        Copies (MayLink (O.gives_links origins.now) (O.stands_at origins.now))
-        folder.now versions.now record.now picks.now later.now
+    requires has { All (O.has set.now.origins.now) picks.now }
+    requires within { row.now.of < length set.now.plan.now.versions }
+    ensures refusal { IfErr result (IsOfWork (O.paths set.now.origins.now)) }
+    ensures has { IfOk result (λ later. All (O.has set.now.origins.now) later.now) }
+    ensures copied { IfOk result (λ later. Copies
+        (MayLink (O.gives_links set.now.origins.now) (O.stands_at set.now.origins.now))
+        set.now.folder.now set.now.plan.now.versions row.now picks.now later.now
         (F.held files.old) (F.held files.new)) }
 {
-    match (record.file, picks) {
+    match (row.file, picks) {
         (Some(file), [pick, later @ ..]) => {
-            let planned = &versions[record.of];
-            make_image(alloc, folder, file, planned, origins, *pick, files)?;
+            let versions = set.plan.versions();
+            let image = Image {
+                folder: set.folder,
+                file,
+                planned: &versions[row.of],
+                origins: set.origins,
+                pick: *pick,
+            };
+            make_image(alloc, &image, files)?;
             Ok(later)
         }
         _ => Ok(picks),
     }
 }
 
-/// Makes an image at this File ID in the folder: a copy of its file, or a hard link to it, where the system gives
-/// one.
+/// Makes an image: a copy of its file, or a hard link to it, where the system gives one.
 fn make_image<F: Files + Progress, O: Origins>(
     alloc: Global,
-    folder: &str,
-    file: FileId,
-    planned: &Version,
-    origins: &O,
-    pick: O::Pick,
+    image: &Image<'_, O>,
     files: &mut F,
 ) -> Result<(), Refusal>
-    requires { O.has origins.now pick }
-    ensures refusal { IfErr result (IsOfWork (O.paths origins.now)) }
-    ensures made { IsOk result
-        → MakesImage (MayLink (O.gives_links origins.now) (O.stands_at origins.now) pick)
-        folder.now file planned.now (F.held files.old) (F.held files.new) }
-{
-    if link_image(alloc, folder, file, origins, pick, files)? {
-        return Ok(());
-    }
-    copy_image(alloc, folder, file, planned, origins, pick, files)
-}
-
-/// Copies an image to this File ID in the folder, as a file of its version in the plan.
-fn copy_image<F: Files + Progress, O: Origins>(
-    alloc: Global,
-    folder: &str,
-    file: FileId,
-    planned: &Version,
-    origins: &O,
-    pick: O::Pick,
-    files: &mut F,
-) -> Result<(), Refusal>
-    requires { O.has origins.now pick }
-    ensures refusal { IfErr result (IsOfWork (O.paths origins.now)) }
-    ensures made { IsOk result → CopiesImage folder.now file planned.now
+    requires { O.has image.now.origins.now image.now.pick }
+    ensures refusal { IfErr result (IsOfWork (O.paths image.now.origins.now)) }
+    ensures made { IsOk result → MakesImage
+        (MayLink (O.gives_links image.now.origins.now) (O.stands_at image.now.origins.now)
+        image.now.pick)
+        image.now.folder.now image.now.file image.now.planned.now
         (F.held files.old) (F.held files.new) }
 {
-    let mut reader = open(alloc, origins, pick, files)?;
-    start_copy(alloc, folder, file, files)?;
-    match file_image(alloc, &mut reader, files, planned, SOURCE_LIMIT) {
-        Ok(filed) => end_copy(alloc, file, planned, filed, origins, pick, files),
-        Err(fault) => Err(refusal_of(fault, file, origins.subject(pick))),
+    if link_image(alloc, image, files)? {
+        return Ok(());
+    }
+    copy_image(alloc, image, files)
+}
+
+/// Copies an image, as a file of its version in the plan.
+fn copy_image<F: Files + Progress, O: Origins>(
+    alloc: Global,
+    image: &Image<'_, O>,
+    files: &mut F,
+) -> Result<(), Refusal>
+    requires { O.has image.now.origins.now image.now.pick }
+    ensures refusal { IfErr result (IsOfWork (O.paths image.now.origins.now)) }
+    ensures made { IsOk result
+        → CopiesImage image.now.folder.now image.now.file image.now.planned.now
+        (F.held files.old) (F.held files.new) }
+{
+    let mut reader = open(alloc, image.origins, image.pick, files)?;
+    start_copy(alloc, image.folder, image.file, files)?;
+    match file_image(alloc, &mut reader, files, image.planned, SOURCE_LIMIT) {
+        Ok(filed) => end_copy(alloc, image, filed, files),
+        Err(fault) => Err(refusal_of(fault, image.file, image.origins.subject(image.pick))),
     }
 }
 
@@ -139,20 +151,25 @@ fn linked_set<O: Origins>(origins: &O, pick: O::Pick) -> Option<&str>
 /// where a copy is.
 fn link_image<F: Files + Progress, O: Origins>(
     alloc: Global,
-    folder: &str,
-    file: FileId,
-    origins: &O,
-    pick: O::Pick,
+    image: &Image<'_, O>,
     files: &mut F,
 ) -> Result<bool, Refusal>
-    requires { O.has origins.now pick }
-    ensures refusal { IfErr result (IsOfWork (O.paths origins.now)) }
-    ensures linked { IfOk result (λ is_linked. is_linked ≡ true
-        → LinksImage (MayLink (O.gives_links origins.now) (O.stands_at origins.now) pick)
-        folder.now file (F.held files.old) (F.held files.new)) }
+    requires { O.has image.now.origins.now image.now.pick }
+    ensures refusal { IfErr result (IsOfWork (O.paths image.now.origins.now)) }
+    ensures linked { IfOk result (λ is_linked. is_linked ≡ true → LinksImage
+        (MayLink (O.gives_links image.now.origins.now) (O.stands_at image.now.origins.now)
+        image.now.pick)
+        image.now.folder.now image.now.file (F.held files.old) (F.held files.new)) }
     ensures kept { IfOk result (λ is_linked.
         is_linked ≡ false → F.held files.new ≡ F.held files.old) }
 {
+    let Image {
+        folder,
+        file,
+        origins,
+        pick,
+        ..
+    } = *image;
     let Some(set) = linked_set(origins, pick) else {
         return Ok(false);
     };
@@ -237,41 +254,39 @@ fn start_copy<F: Files>(
 /// Ends the copy of an image, which must be a file of its planned version, and has it stored with others.
 fn end_copy<F: Files + Progress, O: Origins>(
     alloc: Global,
-    file: FileId,
-    planned: &Version,
+    image: &Image<'_, O>,
     filed: Filed,
-    origins: &O,
-    pick: O::Pick,
     files: &mut F,
 ) -> Result<(), Refusal>
-    requires { O.has origins.now pick }
-    ensures refusal { IfErr result (IsOfWork (O.paths origins.now)) }
+    requires { O.has image.now.origins.now image.now.pick }
+    ensures refusal { IfErr result (IsOfWork (O.paths image.now.origins.now)) }
     ensures planned { IsOk result → filed ≡ Filed.AsPlanned }
     ensures ended { IsOk result → F.held files.new ≡ option_map ended (F.held files.old) }
 {
     if files.finish().is_err() {
-        return Err(Refusal::of(Subject::Image(file), ProgramFault::Unsent));
+        return Err(Refusal::of(Subject::Image(image.file), ProgramFault::Unsent));
     }
-    accept(alloc, planned, filed, origins, pick)?;
+    accept(alloc, image, filed)?;
     files.advance();
     store_batch(files)
 }
 
 /// Refuses a copy that is not a file of the planned version. Where it is of a version with another digest, the
 /// refusal names the file that was copied. Else it names the file whose record says what the plan says.
-fn accept<O: Origins>(
-    alloc: Global,
-    planned: &Version,
-    filed: Filed,
-    origins: &O,
-    pick: O::Pick,
-) -> Result<(), Refusal>
-    requires { O.has origins.now pick }
-    ensures refusal { IfErr result (IsOfWork (O.paths origins.now)) }
+fn accept<O: Origins>(alloc: Global, image: &Image<'_, O>, filed: Filed) -> Result<(), Refusal>
+    requires { O.has image.now.origins.now image.now.pick }
+    ensures refusal { IfErr result (IsOfWork (O.paths image.now.origins.now)) }
     ensures planned { IsOk result → filed ≡ Filed.AsPlanned }
-    ensures refused { IfErr result (IsRefusedAs filed (O.is_subject origins.now pick)
-        (O.is_claimant origins.now pick planned.now)) }
+    ensures refused { IfErr result (IsRefusedAs filed
+        (O.is_subject image.now.origins.now image.now.pick)
+        (O.is_claimant image.now.origins.now image.now.pick image.now.planned.now)) }
 {
+    let Image {
+        planned,
+        origins,
+        pick,
+        ..
+    } = *image;
     let subject = match filed {
         Filed::AsPlanned => return Ok(()),
         Filed::OtherVersion => origins.subject(pick),

@@ -14,6 +14,19 @@ use dd_files::{DIRECTORY, Files, Progress, path_in};
 use dd_layout::Plan;
 use std::alloc::Global;
 
+/// What a file-set is made of.
+#[derive(Drop)]
+pub(crate) struct FileSet<'a, O: Origins> {
+    /// The folder that it is made in.
+    pub(crate) folder: &'a str,
+    /// The plan of its images and its directory.
+    pub(crate) plan: &'a Plan,
+    /// The files that images are made of.
+    pub(crate) origins: &'a O,
+    /// The file of each image, in the order of the plan.
+    pub(crate) picks: &'a [O::Pick],
+}
+
 /// Refuses a folder whose directory can be opened, also where the system shows it under another spelling of its
 /// name.
 pub(crate) fn refuse_taken<F: Files>(
@@ -36,27 +49,25 @@ pub(crate) fn refuse_taken<F: Files>(
 /// is shown until all is stored.
 pub(crate) fn write_file_set<F: Files + Progress, O: Origins>(
     alloc: Global,
-    folder: &str,
-    plan: &Plan,
-    origins: &O,
-    picks: &[O::Pick],
+    set: &FileSet<'_, O>,
     files: &mut F,
 ) -> Result<(), Refusal>
-    requires { All (O.has origins.now) picks.now }
-    ensures refusal { IfErr result (IsOfWork (O.paths origins.now)) }
+    requires { All (O.has set.now.origins.now) set.now.picks.now }
+    ensures refusal { IfErr result (IsOfWork (O.paths set.now.origins.now)) }
 
     // Where the files tell what they hold, an image was made for each pick, and then the directory.
     ensures made { IsOk result
-        → MakesFileSet (MayLink (O.gives_links origins.now) (O.stands_at origins.now))
-        folder.now plan.now picks.now (F.held files.old) (F.held files.new) }
+        → MakesFileSet
+        (MayLink (O.gives_links set.now.origins.now) (O.stands_at set.now.origins.now))
+        set.now.folder.now set.now.plan.now set.now.picks.now (F.held files.old) (F.held files.new) }
 {
-    copy_images(alloc, folder, plan, origins, picks, files)?;
-    if files.folder(folder).is_err() {
+    copy_images(alloc, set, files)?;
+    if files.folder(set.folder).is_err() {
         return Err(Refusal::of(Subject::Folder, ProgramFault::Folder));
     }
-    let path = path_in(alloc, folder, DIRECTORY)?;
+    let path = path_in(alloc, set.folder, DIRECTORY)?;
     store(files)?;
-    match make_directory(path.as_str(), plan, files) {
+    match make_directory(path.as_str(), set.plan, files) {
         Ok(()) => {}
         Err(fault) => return Err(Refusal::of(Subject::Directory, fault)),
     }

@@ -6,24 +6,22 @@ ghost use Rattle.dd_engine.specs.IndexNotes.{NotesSupply};
 ghost use Rattle.dd_engine.specs.Noting.{AreBelow, IsBelow};
 ghost use Rattle.dd_line.specs.Line.{words_of};
 ghost use Rattle.dicomdir.specs.FileSupply.{contents_by};
-ghost use Rattle.dicomdir.specs.Indexes.{DoneIndexes, most_of_source};
-ghost use Rattle.dicomdir.specs.Made.{IsPathAt, MakesFileSet, MayLink};
+ghost use Rattle.dicomdir.specs.Indexes.{DoneIndexes, limits_of, most_of_source};
 ghost use Rattle.dicomdir.specs.Refusal.{IsOfWork};
 
-use crate::file_set::write_file_set;
+use crate::file_set::FileSet;
 use crate::file_supply::FileSupply;
-use crate::making::{Ending, Making, tell_counts, tell_plan_of_images};
-use crate::notes::{
-    has_notes, refuse_noted, tell_conflict, tell_names, tell_skipped, tell_sources_left_out,
+use crate::making::{Making, make_file_set, tell_plan_of_images};
+use crate::note_lines::{
+    has_notes, refuse_noted, tell_conflict, tell_left_out, tell_names, tell_skipped,
 };
 use crate::origins::SourceFiles;
 use crate::refusal::{ProgramFault, Refusal, Subject};
-use crate::shown_path::ShownPath;
 use crate::source_counts::SourceCounts;
 use dd_elem::{Memory, Write};
-use dd_engine::{Choice, EngineFault, Indexed, NotedFault, NotedIndex, index_with_notes};
+use dd_engine::{EngineFault, NotedFault, NotedIndex, index_with_notes};
 use dd_files::{Files, Progress, SOURCE_LIMIT, Step};
-use dd_layout::{Limits, PlanFault};
+use dd_layout::Limits;
 use std::alloc::Global;
 use std::fmt;
 
@@ -33,7 +31,6 @@ pub(crate) fn run_index<F: Files + Progress, O: Write>(
     alloc: Global,
     making: Making<'_>,
     sources: &[String],
-    choice: &Choice,
     files: &mut F,
     out: &mut O,
 ) -> Result<u8, Refusal>
@@ -41,17 +38,16 @@ pub(crate) fn run_index<F: Files + Progress, O: Write>(
     ensures status { IfOk result (λ status. status ≤ 1) }
     ensures dry { making.entry.dry_run ≡ true → F.held files.new ≡ F.held files.old }
     ensures made { making.entry.dry_run ≡ false
-        → DoneIndexes result choice.now making.entry.max_bytes (words_of sources.now)
-        making.entry.folder.now (F.held files.old) (F.held files.new) }
+        → DoneIndexes result making.entry.names.now.choice making.entry.max_bytes
+        (words_of sources.now) making.entry.folder.now (F.held files.old) (F.held files.new) }
 {
     let mut counts = counts_of(alloc, sources.len())?;
-    let limits = Limits::of_bytes(making.max_bytes);
     files.begin_step(Step::Reading, sources.len() as u64);
-    let answer = index_files(alloc, sources, &mut counts, choice, limits, files);
+    let answer = index_files(alloc, making, sources, &mut counts, files);
     files.hide_line();
     let noted = match answer {
         Ok(noted) => noted,
-        Err(fault) => return Err(refused(sources, &fault, out)),
+        Err(fault) => return Err(refuse(sources, &fault, out)),
     };
     if tell_noted(&noted, sources, out).is_err() {
         return Ok(1);
@@ -63,7 +59,13 @@ pub(crate) fn run_index<F: Files + Progress, O: Write>(
         let images = bytes_of(&indexed.picks, &counts);
         return Ok(tell_plan_of_images(&indexed.plan, images, out));
     }
-    write_indexed(alloc, making.folder, sources, indexed, files, out)
+    let set = FileSet {
+        folder: making.folder,
+        plan: &indexed.plan,
+        origins: &SourceFiles { paths: sources },
+        picks: &indexed.picks,
+    };
+    make_file_set(alloc, &set, files, out)
 }
 
 /// Prints which sources are skipped, which are left out, and which Patient IDs have more than one name. It fails
@@ -75,35 +77,8 @@ fn tell_noted<O: Write>(noted: &NotedIndex, sources: &[String], out: &mut O) -> 
     ensures failed { IsErr result → HasFailed (O.failures out.old) (O.failures out.new) }
 {
     tell_skipped(&noted.indexed.skipped, sources, out)?;
-    tell_sources_left_out(&noted.notes.left_out, sources, out)?;
+    tell_left_out(&noted.notes.left_out, sources, out)?;
     tell_names(&noted.notes.names, out)
-}
-
-/// Makes the file-set of what was indexed of these sources, prints that, and answers the status.
-fn write_indexed<F: Files + Progress, O: Write>(
-    alloc: Global,
-    folder: &str,
-    sources: &[String],
-    indexed: &Indexed,
-    files: &mut F,
-    out: &mut O,
-) -> Result<u8, Refusal>
-    requires { IsWithin (length sources.now) indexed.now }
-    ensures refusal { IfErr result (IsOfWork (length sources.now)) }
-    ensures status { IfOk result (λ status. status ≤ 1) }
-    ensures made { IsOk result → MakesFileSet (MayLink ⊥ (IsPathAt (words_of sources.now)))
-        folder.now indexed.now.plan indexed.now.picks.items (F.held files.old) (F.held files.new) }
-{
-    let origins = SourceFiles { paths: sources };
-    write_file_set(
-        alloc,
-        folder,
-        &indexed.plan,
-        &origins,
-        &indexed.picks,
-        files,
-    )?;
-    Ok(tell_counts(Ending::Done, &indexed.plan, out))
 }
 
 /// Adds up the bytes of these sources, up to `u64::MAX`.
@@ -120,14 +95,14 @@ fn bytes_of(picks: &[usize], counts: &[SourceCounts]) -> u64 {
 /// Reads these files as sources, each with its counts, and plans the directory of their versions.
 fn index_files<F: Files + Progress>(
     alloc: Global,
+    making: Making<'_>,
     sources: &[String],
     counts: &mut [SourceCounts],
-    choice: &Choice,
-    limits: Limits,
     files: &mut F,
 ) -> Result<NotedIndex, NotedFault<EngineFault, usize>>
     requires { length counts.old ≡ length sources.now }
-    ensures answers { NotesSupply choice.now limits most_of_source
+    ensures answers { NotesSupply making.entry.names.now.choice
+        (limits_of making.entry.max_bytes) most_of_source
         (contents_by (F.held files.old) (words_of sources.now)) (length sources.now) result }
     ensures named { IfErr result (λ noted. IsNamed (length sources.now) noted.fault) }
     ensures conflict { IfErr result (λ noted. IsBelow (λ at. at) (length sources.now) noted.conflict) }
@@ -137,7 +112,14 @@ fn index_files<F: Files + Progress>(
     ensures kept { F.held files.new ≡ F.held files.old }
 {
     let mut supply = FileSupply::new(files, sources, counts);
-    index_with_notes(alloc, &mut supply, choice, limits, SOURCE_LIMIT)
+    let limits = Limits::of_bytes(making.max_bytes);
+    index_with_notes(
+        alloc,
+        &mut supply,
+        &making.names.choice,
+        limits,
+        SOURCE_LIMIT,
+    )
 }
 
 /// The counts of a number of sources.
@@ -152,7 +134,7 @@ fn counts_of(alloc: Global, sources: usize) -> Result<Vec<SourceCounts>, Memory>
 }
 
 /// Prints which sources have the two instances that conflict, if the plan is refused for two, and gives the refusal.
-fn refused<O: Write>(
+fn refuse<O: Write>(
     sources: &[String],
     noted: &NotedFault<EngineFault, usize>,
     out: &mut O,
@@ -161,12 +143,8 @@ fn refused<O: Write>(
     requires conflict { IsBelow (λ at. at) (length sources.now) noted.now.conflict }
     ensures { IsOfWork (length sources.now) result }
 {
-    if let EngineFault::Plan(PlanFault::Conflict(one, other)) = &noted.fault {
-        if let Some(conflict) = &noted.conflict {
-            let file = ShownPath::of_source(sources, conflict.one);
-            let other_file = ShownPath::of_source(sources, conflict.other);
-            tell_conflict((file, one), (other_file, other), out);
-        }
+    if let EngineFault::Plan(fault) = &noted.fault {
+        tell_conflict(fault, &noted.conflict, sources, out);
     }
     refusal_of(noted.fault)
 }

@@ -18,15 +18,15 @@ mod making;
 mod masked_words;
 mod merging;
 mod names;
-mod notes;
+mod note_lines;
 mod origins;
 mod program;
 mod refusal;
 mod set_directory;
-mod set_notes;
+mod set_note_lines;
 mod shown_path;
 mod source_counts;
-mod sources;
+mod source_paths;
 
 pub use dd_engine::{
     Choice, ConflictingFiles, EngineFault, Indexed, LeftOut, MergeFault, Merged, NotedFault,

@@ -1,21 +1,31 @@
 //! How a command makes its file-set, and the last line that it prints.
-ghost use Rattle.std.specs.Prelude.{◌≡◌, ◌⊎◌, length, string_bytes};
+ghost use Rattle.std.specs.Prelude.{◌≡◌, ◌≤◌, ◌⊎◌, All, IfErr, IfOk, IsOk, length, string_bytes};
 ghost use Rattle.dd_elem.specs.Device.{HasFailed};
 ghost use Rattle.dd_layout.specs.Plans.{size};
 ghost use Rattle.dd_report.specs.Text.{TakesText};
 ghost use Rattle.dicomdir.specs.Done.{ending_text, images_text, word_of};
+ghost use Rattle.dicomdir.specs.Made.{MakesFileSet, MayLink};
+ghost use Rattle.dicomdir.specs.Refusal.{IsOfWork};
 
+use crate::file_set::{FileSet, write_file_set};
+use crate::names::Names;
+use crate::origins::Origins;
+use crate::refusal::Refusal;
 use dd_elem::Write;
+use dd_files::{Files, Progress};
 use dd_layout::Plan;
 use dd_line::NewSet;
 use dd_report::print_line;
 use itoa::Buffer;
+use std::alloc::Global;
 
 /// How a command makes its file-set.
 #[derive(Clone, Copy)]
 pub(crate) struct Making<'a> {
     /// The folder that it is made in.
     pub(crate) folder: &'a str,
+    /// The names that the command line gives: its label, and the instances that are withdrawn.
+    pub(crate) names: &'a Names,
     /// The most bytes that its directory may have.
     pub(crate) max_bytes: u32,
     /// Whether the run is refused where a line SKIP or NOTE was printed.
@@ -27,9 +37,10 @@ pub(crate) struct Making<'a> {
 }
 
 impl<'a> Making<'a> {
-    /// Says how this file-set is made, with hard links or without.
-    pub(crate) fn of(new_set: &'a NewSet, link: bool) -> Making<'a>
+    /// Says how this file-set is made, by these names, with hard links or without.
+    pub(crate) fn of(new_set: &'a NewSet, names: &'a Names, link: bool) -> Making<'a>
         ensures folder { result.folder.now ≡ string_bytes new_set.now.out }
+        ensures names { result.names.now ≡ names.now }
         ensures limit { result.max_bytes ≡ new_set.now.max_bytes }
         ensures strict { result.strict ≡ new_set.now.strict }
         ensures dry { result.dry_run ≡ new_set.now.dry_run }
@@ -37,6 +48,7 @@ impl<'a> Making<'a> {
     {
         Making {
             folder: new_set.out.as_str(),
+            names,
             max_bytes: new_set.max_bytes,
             strict: new_set.strict,
             dry_run: new_set.dry_run,
@@ -64,6 +76,24 @@ impl Ending {
             Ending::Planned => "PLAN ",
         }
     }
+}
+
+/// Makes this file-set, prints that, and answers the status: 1 where the output failed.
+pub(crate) fn make_file_set<F: Files + Progress, O: Origins, W: Write>(
+    alloc: Global,
+    set: &FileSet<'_, O>,
+    files: &mut F,
+    out: &mut W,
+) -> Result<u8, Refusal>
+    requires { All (O.has set.now.origins.now) set.now.picks.now }
+    ensures refusal { IfErr result (IsOfWork (O.paths set.now.origins.now)) }
+    ensures status { IfOk result (λ status. status ≤ 1) }
+    ensures made { IsOk result → MakesFileSet
+        (MayLink (O.gives_links set.now.origins.now) (O.stands_at set.now.origins.now))
+        set.now.folder.now set.now.plan.now set.now.picks.now (F.held files.old) (F.held files.new) }
+{
+    write_file_set(alloc, set, files)?;
+    Ok(tell_counts(Ending::Done, set.plan, out))
 }
 
 /// Prints the last line: how many images the file-set has, and the size of its directory. Answers the status: 1

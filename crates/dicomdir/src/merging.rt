@@ -11,21 +11,17 @@ ghost use Rattle.dicomdir.specs.Merges.{DoneMerges};
 ghost use Rattle.dicomdir.specs.Noted.{IsNoted};
 ghost use Rattle.dicomdir.specs.Refusal.{IsOfWork, IsStrict};
 
-use crate::file_set::write_file_set;
-use crate::making::{Ending, Making, tell_counts};
-use crate::names::Names;
-use crate::notes::{has_notes, refuse_noted, tell_conflict, tell_names, tell_picks_left_out};
+use crate::file_set::FileSet;
+use crate::making::{Ending, Making, make_file_set, tell_counts};
+use crate::note_lines::{has_notes, refuse_noted, tell_conflict, tell_left_out, tell_names};
 use crate::origins::SetFiles;
 use crate::refusal::{ProgramFault, Refusal, Subject};
 use crate::set_directory::read_directories;
-use crate::set_notes::{has_set_notes, tell_unlisted, tell_unreached, tell_withdrawn};
-use crate::shown_path::ShownPath;
+use crate::set_note_lines::{has_set_notes, tell_unlisted, tell_unreached, tell_withdrawn};
 use dd_elem::{Memory, Write};
-use dd_engine::{
-    Choice, MergeFault, Merged, NotedFault, NotedMerge, Pick, merge_with_notes, withdraw_with_notes,
-};
+use dd_engine::{MergeFault, NotedFault, NotedMerge, Pick, merge_with_notes, withdraw_with_notes};
 use dd_files::{Files, Progress};
-use dd_layout::{Limits, PlanFault};
+use dd_layout::Limits;
 use std::alloc::Global;
 use std::{fmt, slice};
 
@@ -35,7 +31,6 @@ pub(crate) fn run_merge<F: Files + Progress, O: Write>(
     alloc: Global,
     making: Making<'_>,
     sets: &[String],
-    choice: &Choice,
     files: &mut F,
     out: &mut O,
 ) -> Result<u8, Refusal>
@@ -43,15 +38,15 @@ pub(crate) fn run_merge<F: Files + Progress, O: Write>(
     ensures status { IfOk result (λ status. status ≤ 1) }
     ensures dry { making.entry.dry_run ≡ true → F.held files.new ≡ F.held files.old }
     ensures made { making.entry.dry_run ≡ false
-        → DoneMerges result choice.now making.entry.max_bytes [] (words_of sets.now)
-        (making.entry.link ≡ true) making.entry.folder.now (F.held files.old) (F.held files.new) }
+        → DoneMerges result making.entry.names.now.choice making.entry.max_bytes []
+        (words_of sets.now) (making.entry.link ≡ true) making.entry.folder.now (F.held files.old) (F.held files.new) }
 {
     let directories = read_directories(alloc, sets, files)?;
     let slices = slices(alloc, &directories)?;
     let limits = Limits::of_bytes(making.max_bytes);
-    let noted = match merge_with_notes(alloc, &slices, choice, limits) {
+    let noted = match merge_with_notes(alloc, &slices, &making.names.choice, limits) {
         Ok(noted) => noted,
-        Err(fault) => return Err(refused(sets, &fault, out)),
+        Err(fault) => return Err(refuse(sets, &fault, out)),
     };
     let origins = SetFiles {
         folders: sets,
@@ -67,7 +62,6 @@ pub(crate) fn run_withdraw<F: Files + Progress, O: Write>(
     alloc: Global,
     making: Making<'_>,
     set: &String,
-    names: &Names,
     files: &mut F,
     out: &mut O,
 ) -> Result<u8, Refusal>
@@ -75,11 +69,11 @@ pub(crate) fn run_withdraw<F: Files + Progress, O: Write>(
     ensures status { IfOk result (λ status. status ≤ 1) }
     ensures dry { making.entry.dry_run ≡ true → F.held files.new ≡ F.held files.old }
     ensures made { making.entry.dry_run ≡ false
-        → DoneMerges result names.now.choice making.entry.max_bytes names.now.withdrawn.items
-        (string_bytes set.now ∷ []) ⊥ making.entry.folder.now
+        → DoneMerges result making.entry.names.now.choice making.entry.max_bytes
+        making.entry.names.now.withdrawn.items (string_bytes set.now ∷ []) ⊥ making.entry.folder.now
         (F.held files.old) (F.held files.new) }
 {
-    match withdraw_of(alloc, making, slice::from_ref(set), names, files, out) {
+    match withdraw_of(alloc, making, slice::from_ref(set), files, out) {
         Ok(status) => Ok(status),
         Err(refusal) => Err(refusal),
     }
@@ -90,7 +84,6 @@ fn withdraw_of<F: Files + Progress, O: Write>(
     alloc: Global,
     making: Making<'_>,
     sets: &[String],
-    names: &Names,
     files: &mut F,
     out: &mut O,
 ) -> Result<u8, Refusal>
@@ -99,8 +92,8 @@ fn withdraw_of<F: Files + Progress, O: Write>(
     ensures status { IfOk result (λ status. status ≤ 1) }
     ensures dry { making.entry.dry_run ≡ true → F.held files.new ≡ F.held files.old }
     ensures made { making.entry.dry_run ≡ false
-        → DoneMerges result names.now.choice making.entry.max_bytes names.now.withdrawn.items
-        (words_of sets.now) ⊥ making.entry.folder.now
+        → DoneMerges result making.entry.names.now.choice making.entry.max_bytes
+        making.entry.names.now.withdrawn.items (words_of sets.now) ⊥ making.entry.folder.now
         (F.held files.old) (F.held files.new) }
 {
     let directories = read_directories(alloc, sets, files)?;
@@ -109,12 +102,12 @@ fn withdraw_of<F: Files + Progress, O: Write>(
     let noted = match withdraw_with_notes(
         alloc,
         slices[0],
-        &names.withdrawn,
-        &names.choice,
+        &making.names.withdrawn,
+        &making.names.choice,
         limits,
     ) {
         Ok(noted) => noted,
-        Err(fault) => return Err(refused(sets, &fault, out)),
+        Err(fault) => return Err(refuse(sets, &fault, out)),
     };
     let origins = SetFiles {
         folders: sets,
@@ -156,7 +149,16 @@ fn write_noted<'a, F: Files + Progress, O: Write>(
         return Ok(1);
     }
     refuse_noted(making.strict, is_noted(noted))?;
-    write_merged(alloc, making, sets, &noted.merged, files, out)
+    if making.dry_run {
+        return Ok(tell_counts(Ending::Planned, &noted.merged.plan, out));
+    }
+    let set = FileSet {
+        folder: making.folder,
+        plan: &noted.merged.plan,
+        origins: sets,
+        picks: &noted.merged.picks,
+    };
+    make_file_set(alloc, &set, files, out)
 }
 
 /// Says whether there is a note on these file-sets.
@@ -188,46 +190,12 @@ fn tell_noted<O: Write>(
         sets,
     } = noted;
     tell_unreached(&sets.unreached, folders, out)?;
-    tell_picks_left_out(&notes.left_out, folders, out)?;
+    tell_left_out(&notes.left_out, folders, out)?;
     if is_strict {
         tell_withdrawn(&sets.withdrawn, folders, out)?;
     }
     tell_unlisted(&sets.unlisted, out)?;
     tell_names(&notes.names, out)
-}
-
-/// Makes what a merge of these file-sets planned, or prints what would be made, and answers the status.
-fn write_merged<'a, F: Files + Progress, O: Write>(
-    alloc: Global,
-    making: Making<'_>,
-    sets: &SetFiles<'_, 'a>,
-    merged: &Merged<'a>,
-    files: &mut F,
-    out: &mut O,
-) -> Result<u8, Refusal>
-    requires sets { length sets.now.directories.now ≡ length sets.now.folders.now }
-    requires within { All (λ pick. pick.set < length sets.now.folders.now) merged.now.picks.items }
-    ensures refusal { IfErr result (IsOfWork (length sets.now.folders.now)) }
-    ensures status { IfOk result (λ status. status ≤ 1) }
-    ensures dry { making.entry.dry_run ≡ true → F.held files.new ≡ F.held files.old }
-    ensures made { IsOk result → making.entry.dry_run ≡ false
-        → MakesFileSet
-        (MayLink (sets.now.link ≡ true) (IsMemberPath (words_of sets.now.folders.now)))
-        making.entry.folder.now merged.now.plan merged.now.picks.items
-        (F.held files.old) (F.held files.new) }
-{
-    if making.dry_run {
-        return Ok(tell_counts(Ending::Planned, &merged.plan, out));
-    }
-    write_file_set(
-        alloc,
-        making.folder,
-        &merged.plan,
-        sets,
-        &merged.picks,
-        files,
-    )?;
-    Ok(tell_counts(Ending::Done, &merged.plan, out))
 }
 
 /// The bytes of all directories.
@@ -244,7 +212,7 @@ pub(crate) fn slices<'a>(alloc: Global, all: &'a [Vec<u8>]) -> Result<Vec<&'a [u
 }
 
 /// Prints which files have the two instances that conflict, if the plan is refused for two, and gives the refusal.
-fn refused<O: Write>(
+fn refuse<O: Write>(
     folders: &[String],
     noted: &NotedFault<MergeFault, Pick<'_>>,
     out: &mut O,
@@ -253,12 +221,8 @@ fn refused<O: Write>(
     requires conflict { IsBelow (λ pick. pick.set) (length folders.now) noted.now.conflict }
     ensures { IsOfWork (length folders.now) result }
 {
-    if let MergeFault::Plan(PlanFault::Conflict(one, other)) = &noted.fault {
-        if let Some(conflict) = &noted.conflict {
-            let file = ShownPath::of_pick(folders, &conflict.one);
-            let other_file = ShownPath::of_pick(folders, &conflict.other);
-            tell_conflict((file, one), (other_file, other), out);
-        }
+    if let MergeFault::Plan(fault) = &noted.fault {
+        tell_conflict(fault, &noted.conflict, folders, out);
     }
     refusal_of(noted.fault)
 }

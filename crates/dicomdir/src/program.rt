@@ -16,7 +16,7 @@ use crate::making::Making;
 use crate::merging::{run_merge, run_withdraw};
 use crate::names::{Names, names_of};
 use crate::refusal::{Paths, Refusal, tell};
-use crate::sources::all_sources;
+use crate::source_paths::all_sources;
 use dd_elem::Write;
 use dd_files::{Files, Progress};
 use dd_line::{Request, Verb, read_request};
@@ -324,16 +324,16 @@ fn run_verb<F: Files + Progress, O: Write>(
     let Work { request, names } = work;
     match request {
         Request::Index(index) => {
-            let making = Making::of(&index.new_set, false);
-            run_index(alloc, making, sources, &names.choice, files, out)
+            let making = Making::of(&index.new_set, names, false);
+            run_index(alloc, making, sources, files, out)
         }
         Request::Merge(merge) => {
-            let making = Making::of(&merge.new_set, merge.link);
-            run_merge(alloc, making, sources, &names.choice, files, out)
+            let making = Making::of(&merge.new_set, names, merge.link);
+            run_merge(alloc, making, sources, files, out)
         }
         Request::Withdraw(withdraw) => {
-            let making = Making::of(&withdraw.new_set, false);
-            run_withdraw(alloc, making, &withdraw.set, names, files, out)
+            let making = Making::of(&withdraw.new_set, names, false);
+            run_withdraw(alloc, making, &withdraw.set, files, out)
         }
         Request::Check(check) => {
             run_check(alloc, check.set.as_str(), comparison_of(check), files, out)

@@ -1,5 +1,5 @@
 //! The path of a file, as the lines of the output show it.
-ghost use Rattle.std.specs.Prelude.{◌<◌, length};
+ghost use Rattle.std.specs.Prelude.{◌<◌, ℕ, length};
 
 use crate::image_path::{IdPath, PathText};
 use dd_engine::Pick;
@@ -16,27 +16,37 @@ pub(crate) struct ShownPath<'a> {
     pub(crate) inside: PathText,
 }
 
-impl<'a> ShownPath<'a> {
-    /// Gives the path of the source of this number.
-    pub(crate) fn of_source(sources: &'a [String], at: usize) -> ShownPath<'a>
-        requires { at < length sources.now }
-    {
+/// A file that lines of the output name: a source, or a file of a file-set.
+pub(crate) trait ShownFile {
+    // The number of the source, or of the file-set.
+    ghost number: { Self → ℕ };
+
+    /// Gives its path, where the sources or the folders of the file-sets are these.
+    fn path_among<'a>(&self, paths: &'a [String]) -> ShownPath<'a>
+        requires { number self.now < length paths.now };
+}
+
+impl ShownFile for usize {
+    ghost number = { λ at. at };
+
+    fn path_among<'a>(&self, paths: &'a [String]) -> ShownPath<'a> {
         ShownPath {
-            folder: sources[at].as_str(),
+            folder: paths[*self].as_str(),
             joint: "",
             inside: PathText::of(&IdPath(b"")),
         }
     }
+}
 
-    /// Gives the path of the file that is picked of one of the file-sets in these folders.
-    pub(crate) fn of_pick(folders: &'a [String], pick: &Pick<'_>) -> ShownPath<'a>
-        requires { pick.now.set < length folders.now }
-    {
-        let folder = folders[pick.set].as_str();
+impl ShownFile for Pick<'_> {
+    ghost number = { λ pick. pick.set };
+
+    fn path_among<'a>(&self, paths: &'a [String]) -> ShownPath<'a> {
+        let folder = paths[self.set].as_str();
         ShownPath {
             folder,
             joint: if is_joined_by_slash(folder) { "/" } else { "" },
-            inside: PathText::of(&IdPath(pick.file)),
+            inside: PathText::of(&IdPath(self.file)),
         }
     }
 }

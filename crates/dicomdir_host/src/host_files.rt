@@ -10,7 +10,7 @@ use crate::counted::Counted;
 use crate::members::Members;
 use crate::opening::{Input, open_any, open_seen};
 use crate::output::{self, Output};
-use crate::paths::{before_slash, folder_of};
+use crate::path_folder::{before_slash, folder_of};
 use crate::progress_line::ProgressLine;
 use crate::storing::Unstored;
 use crate::system::System;

@@ -13,7 +13,7 @@ mod members;
 mod opening;
 mod output;
 mod path_buffer;
-mod paths;
+mod path_folder;
 mod progress_line;
 mod spelling;
 mod storing;

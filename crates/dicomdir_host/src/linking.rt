@@ -8,7 +8,7 @@ ghost use Rattle.dicomdir_host.specs.Storing.{Names, Waits};
 use crate::again::link_file;
 use crate::host_files::HostFiles;
 use crate::opening::{open_same, require_same};
-use crate::paths::folder_of;
+use crate::path_folder::folder_of;
 use crate::system::System;
 use dd_files::LinkFault;
 use std::alloc::AllocError;

@@ -66,13 +66,13 @@ impl<W: io::Write + Drop> ProgressLine<W> {
         self.step = step;
         self.done = 0;
         self.of = of;
-        self.show(clock, doing(step), 0, of);
+        self.show(clock, step_word(step), 0, of);
     }
 
     /// Counts one more as done.
     pub(crate) fn advance<C: Clock>(&mut self, clock: &C) {
         self.done = self.done.saturating_add(1);
-        self.show(clock, doing(self.step), self.done, self.of);
+        self.show(clock, step_word(self.step), self.done, self.of);
     }
 
     /// Shows how many of all are done, if it is time to show a line.
@@ -122,7 +122,7 @@ impl<W: io::Write + Drop> ProgressLine<W> {
 }
 
 /// Gives the word that a line has for a step.
-fn doing(step: Step) -> &'static str {
+fn step_word(step: Step) -> &'static str {
     match step {
         Step::Reading => "reading",
         Step::Copying => "copying",

@@ -10,8 +10,10 @@ loop-record-preserved g c =
     record {
       has = c.in_ok-picks.ensures.has;
       made = so_far_more
-          (MayLink (g.O.Origins.gives_links c.args.origins.now) (g.O.Origins.stands_at c.args.origins.now))
-          c.args.folder.now c.versions-versions.result.now c.records-record-items.result.now c.args.picks.now
+          (MayLink (g.O.Origins.gives_links c.args.set.now.origins.now)
+          (g.O.Origins.stands_at c.args.set.now.origins.now))
+          c.args.set.now.folder.now c.args.set.now.plan.now.versions c.records-record-items.result.now
+          c.args.set.now.picks.now
           c.loop-record.record-index c.record-item.result c.loop-record.picks.now c.in_ok-picks.picks.now _ _ _
           (omega (arith, within)) (rw (← c.record-item.is) c.in_ok-picks.ensures.copied)
           c.loop-record.invariant.made;

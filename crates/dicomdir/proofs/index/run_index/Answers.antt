@@ -8,8 +8,12 @@ use Rattle.dicomdir.proofs.index.run_index.Goals as goal
 
 pub returns-clause-made : goal.returns-clause-made
 returns-clause-made g c = λ makes.
-    done_indexes c.write_indexed.result c.args.choice.now c.args.making.max_bytes (words_of c.args.sources.now)
-    c.args.making.folder.now _ _ c.in-Ok.noted _ (sym (length-map c.args.sources.now (λ word. string_bytes word)))
-    (rw (c.begin_step.ensures.kept, c.of_bytes-limits.ensures) at c.in-Ok.ensures.answers)
-    (λ done. rw (c.hide_line.ensures.kept, c.index_files-answer.ensures.kept, c.begin_step.ensures.kept) at
-    c.write_indexed.ensures.made done)
+    done_indexes c.make_file_set.result c.args.making.names.now.choice c.args.making.max_bytes
+    (words_of c.args.sources.now) c.args.making.folder.now _ _ c.in-Ok.noted _ (sym (length-map c.args.sources.now (λ word. string_bytes word)))
+    (rw c.begin_step.ensures.kept at c.in-Ok.ensures.answers)
+    (λ done. rw (
+      c.deref-2.ensures.value,
+      c.hide_line.ensures.kept,
+      c.index_files-answer.ensures.kept,
+      c.begin_step.ensures.kept,
+    ) at c.make_file_set.ensures.made done)

@@ -1,5 +1,0 @@
--- The file-set was made of all picks.
-use Rattle.dicomdir.proofs.merging.write_merged.Goals as goal
-
-pub returns-clause-made : goal.returns-clause-made
-returns-clause-made g c = λ done makes. rw c.deref.ensures.value at c.in_ok-write_file_set.ensures.made cc

@@ -1,0 +1,248 @@
+//! What a command says of its sources before it makes anything.
+ghost use Rattle.std.specs.Prelude.{◌≡◌, ◌↔◌, ◌<◌, ℕ, All, IfErr, IsErr, IsOk, IsTrue, length, true};
+ghost use Rattle.dd_elem.specs.Device.{HasFailed};
+ghost use Rattle.dd_engine.specs.Noting.{AreBelow, IsBelow};
+ghost use Rattle.dicomdir.specs.Noted.{HasNotes};
+ghost use Rattle.dicomdir.specs.Refusal.{IsOfWork, IsStrict};
+
+use crate::refusal::{ProgramFault, Refusal, Words};
+use crate::shown_path::{ShownFile, ShownPath};
+use dd_elem::{Key, Uid, Write};
+use dd_engine::{ConflictingFiles, LeftOut, Notes, PatientNames};
+use dd_keys::KeyFault;
+use dd_layout::PlanFault;
+use dd_report::{print_line, show_line};
+use itoa::Buffer;
+use std::fmt::{self, InlineText};
+
+/// The text of a UID: it has at most 64 characters (PS3.5 section 9.1).
+pub(crate) type UidText = InlineText<64>;
+
+/// Prints each source that is skipped, and why. It fails only where the output failed.
+pub(crate) fn tell_skipped<O: Write>(
+    skipped: &[(usize, KeyFault)],
+    sources: &[String],
+    out: &mut O,
+) -> fmt::Result
+    requires { All (λ skip. skip.0 < length sources.now) skipped.now }
+    ensures worked { IsOk result → O.failures out.new ≡ O.failures out.old }
+    ensures failed { IsErr result → HasFailed (O.failures out.old) (O.failures out.new) }
+{
+    for (at, fault) in skipped {
+        let words = Words::of(fault);
+        let path = sources[*at].as_str();
+        print_line(&["SKIP ", path, ": ", words.as_str()], out)?;
+    }
+    Ok(())
+}
+
+/// Prints each file that is left out, and which one is kept. The sources, or the folders of the file-sets, are
+/// these. It fails only where the output failed.
+pub(crate) fn tell_left_out<T: ShownFile, O: Write>(
+    left_out: &[LeftOut<T>],
+    paths: &[String],
+    out: &mut O,
+) -> fmt::Result
+    requires { AreBelow T.number (length paths.now) left_out.now }
+    ensures worked { IsOk result → O.failures out.new ≡ O.failures out.old }
+    ensures failed { IsErr result → HasFailed (O.failures out.old) (O.failures out.new) }
+{
+    for note in left_out {
+        let file = note.file.path_among(paths);
+        let kept = note.kept.path_among(paths);
+        tell_left_out_for(file, kept, &note.instance, out)?;
+    }
+    Ok(())
+}
+
+/// Prints that a file is left out, since another file of its instance is kept.
+fn tell_left_out_for<O: Write>(
+    file: ShownPath<'_>,
+    kept: ShownPath<'_>,
+    instance: &Uid,
+    out: &mut O,
+) -> fmt::Result
+    ensures worked { IsOk result → O.failures out.new ≡ O.failures out.old }
+    ensures failed { IsErr result → HasFailed (O.failures out.old) (O.failures out.new) }
+{
+    let (one, other) = (file.inside, kept.inside);
+    let uid = UidText::of(instance);
+    print_left_out(
+        (file.folder, file.joint, one.as_str()),
+        (kept.folder, kept.joint, other.as_str()),
+        uid.as_str(),
+        out,
+    )
+}
+
+/// Prints the line of a file that is left out, with the parts of both paths and the UID that both files have.
+fn print_left_out<O: Write>(
+    file: (&str, &str, &str),
+    kept: (&str, &str, &str),
+    uid: &str,
+    out: &mut O,
+) -> fmt::Result
+    ensures worked { IsOk result → O.failures out.new ≡ O.failures out.old }
+    ensures failed { IsErr result → HasFailed (O.failures out.old) (O.failures out.new) }
+{
+    let (folder, joint, inside) = file;
+    let (kept_folder, kept_joint, kept_inside) = kept;
+    print_line(
+        &[
+            "NOTE ",
+            folder,
+            joint,
+            inside,
+            ": left out for ",
+            kept_folder,
+            kept_joint,
+            kept_inside,
+            ": same SOP Instance UID ",
+            uid,
+            ", other bytes",
+        ],
+        out,
+    )
+}
+
+/// Prints the Patient IDs that have more than one name. It fails only where the output failed.
+pub(crate) fn tell_names<O: Write>(patients: &[PatientNames], out: &mut O) -> fmt::Result
+    ensures worked { IsOk result → O.failures out.new ≡ O.failures out.old }
+    ensures failed { IsErr result → HasFailed (O.failures out.old) (O.failures out.new) }
+{
+    for patient in patients {
+        tell_names_of(patient, out)?;
+    }
+    Ok(())
+}
+
+/// Prints the names of a patient, at most ten of them.
+fn tell_names_of<O: Write>(patient: &PatientNames, out: &mut O) -> fmt::Result
+    ensures worked { IsOk result → O.failures out.new ≡ O.failures out.old }
+    ensures failed { IsErr result → HasFailed (O.failures out.old) (O.failures out.new) }
+{
+    let names = patient.names();
+    let mut count = Buffer::new();
+    let count = count.format(names.len());
+    print_names(patient.id().as_bytes(), count.as_bytes(), names, out)
+}
+
+/// Prints the line of a Patient ID with this number of names.
+fn print_names<O: Write>(id: &[u8], count: &[u8], names: &[Key], out: &mut O) -> fmt::Result
+    ensures worked { IsOk result → O.failures out.new ≡ O.failures out.old }
+    ensures failed { IsErr result → HasFailed (O.failures out.old) (O.failures out.new) }
+{
+    show_line(
+        &[
+            b"NOTE -: Patient ID ",
+            id,
+            or_none(id),
+            b" has ",
+            count,
+            b" names: ",
+            name_at(names, 0),
+            mark_before(names, 1),
+            name_at(names, 1),
+            mark_before(names, 2),
+            name_at(names, 2),
+            mark_before(names, 3),
+            name_at(names, 3),
+            mark_before(names, 4),
+            name_at(names, 4),
+            mark_before(names, 5),
+            name_at(names, 5),
+            mark_before(names, 6),
+            name_at(names, 6),
+            mark_before(names, 7),
+            name_at(names, 7),
+            mark_before(names, 8),
+            name_at(names, 8),
+            mark_before(names, 9),
+            name_at(names, 9),
+            mark_behind(names),
+        ],
+        out,
+    )
+}
+
+/// Gives what stands behind the ID: for `NOID` that it also stands for a patient without an ID.
+fn or_none(id: &[u8]) -> &[u8] {
+    if id == b"NOID".as_slice() {
+        b" or none"
+    } else {
+        b""
+    }
+}
+
+/// Gives the name of this number, `-` for an empty one, and nothing where there are fewer names.
+fn name_at(names: &[Key], at: usize) -> &[u8] {
+    match names.get(at) {
+        Some(name) if name.as_bytes().is_empty() => b"-",
+        Some(name) => name.as_bytes(),
+        None => b"",
+    }
+}
+
+/// Gives what stands before the name of this number, where there is one.
+fn mark_before(names: &[Key], at: usize) -> &[u8] {
+    if at < names.len() { b", " } else { b"" }
+}
+
+/// Gives what stands behind the tenth name where there are more.
+fn mark_behind(names: &[Key]) -> &[u8] {
+    if names.len() > 10 { b", .." } else { b"" }
+}
+
+/// Prints which files have the two instances that conflict, if the plan is refused for two. The sources, or the
+/// folders of the file-sets, are these. Where the output fails, nothing more is printed.
+pub(crate) fn tell_conflict<T: ShownFile, O: Write>(
+    fault: &PlanFault,
+    conflict: &Option<ConflictingFiles<T>>,
+    paths: &[String],
+    out: &mut O,
+)
+    requires { IsBelow T.number (length paths.now) conflict.now }
+{
+    if let (PlanFault::Conflict(one, other), Some(files)) = (fault, conflict) {
+        if tell_has(files.one.path_among(paths), one, out).is_ok() {
+            let _ = tell_has(files.other.path_among(paths), other, out);
+        }
+    }
+}
+
+/// Prints that a file has this instance.
+fn tell_has<O: Write>(file: ShownPath<'_>, instance: &Uid, out: &mut O) -> fmt::Result {
+    let inside = file.inside;
+    let uid = UidText::of(instance);
+    print_has(file.folder, file.joint, inside.as_str(), uid.as_str(), out)
+}
+
+/// Prints the line of a file that has an instance, with the parts of its path and the UID.
+fn print_has<O: Write>(
+    folder: &str,
+    joint: &str,
+    inside: &str,
+    uid: &str,
+    out: &mut O,
+) -> fmt::Result {
+    print_line(&["NOTE ", folder, joint, inside, ": has ", uid], out)
+}
+
+/// Says whether there is a note to tell.
+pub(crate) fn has_notes<T>(notes: &Notes<T>) -> bool
+    ensures { IsTrue result ↔ HasNotes notes.now }
+{
+    !notes.left_out.is_empty() || !notes.names.is_empty()
+}
+
+/// Refuses a run with `--strict` where a line SKIP or NOTE was printed about its sources.
+pub(crate) fn refuse_noted(strict: bool, is_noted: bool) -> Result<(), Refusal>
+    ensures refuses { IsErr result ↔ (strict ≡ true) × (is_noted ≡ true) }
+    ensures fault { IfErr result IsStrict }
+    ensures refusal { (paths : ℕ) → IfErr result (IsOfWork paths) }
+{
+    if strict && is_noted {
+        return Err(Refusal::general(ProgramFault::Strict));
+    }
+    Ok(())
+}
