@@ -1,4 +1,4 @@
--- A parent has more children than so many where, and only where, one of them has a rank above that. So the topmost
+-- A parent has more children than a number where, and only where, one of them has a rank above that. So the topmost
 -- level that the pass notes is the topmost one with such a parent.
 use Rattle.std.specs.Prelude.{◌≡◌, ◌⊎◌, ◌+◌, ◌<◌, ◌≤◌, ◌==◌, ◌&&◌, ◌||◌, ℕ, Bool, true, false, List, [], ◌∷◌, ◌++◌}
 use Rattle.std.specs.Prelude.{length, filter, find, is_some, Option, None, Some, nat_lt, if◌then◌else◌}

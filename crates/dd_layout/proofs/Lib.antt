@@ -1,8 +1,8 @@
 pub mod Blocks
-pub mod Cleared
 pub mod Counts
 pub mod Crowds
 pub mod DirectoryElements
+pub mod Excesses
 pub mod HasLevel
 pub mod InOrder
 pub mod LeastBelow
@@ -11,6 +11,7 @@ pub mod Lengths
 pub mod LinkPass
 pub mod LinkTurns
 pub mod LinksAlong
+pub mod Moved
 pub mod Neighbourhood
 pub mod NumberPass
 pub mod OffsetPass

@@ -32,7 +32,7 @@ linked_after zero rows = linked rows
 linked_after (suc n) [] = []
 linked_after (suc n) (row ∷ rows) = row ∷ linked_after n rows
 
--- what stands behind so many rows
+-- what stands behind this many rows
 abbrev pub behind_after : ℕ → List PlanRecord → Behind
 behind_after zero rows = behind_of rows
 behind_after (suc n) [] = none_behind
@@ -40,7 +40,7 @@ behind_after (suc n) (row ∷ rows) = behind_after n rows
 
 -- ---- the same by paths
 
--- the offset of the first of these rows with so many parts, if none before it has fewer
+-- the offset of the first of these rows with this many parts, if none before it has fewer
 abbrev pub found : Label → List Parts → ℕ → List Path → ℕ
 found label versions n rest = at_or_none label versions (scan n rest)
 

@@ -17,13 +17,13 @@ weight_by row (Some version) = record_size (record_elements row.level 0 0 row.fi
 abbrev pub weight : List Parts → PlanRecord → ℕ
 weight versions row = weight_by row (slice_get versions row.of)
 
--- so many of these rows with their offsets, the first one at this offset, and the others as they are
+-- this many of these rows with their offsets, the first one at this offset, and the others as they are
 abbrev pub placed_to : (PlanRecord → ℕ) → ℕ → ℕ → List PlanRecord → List PlanRecord
 placed_to size zero at rows = rows
 placed_to size (suc n) at [] = []
 placed_to size (suc n) at (row ∷ rows) = record row { at = at } ∷ placed_to size n (at + size row) rows
 
--- the offset behind so many of these rows
+-- the offset behind this many of these rows
 abbrev pub end_of : (PlanRecord → ℕ) → ℕ → ℕ → List PlanRecord → ℕ
 end_of size zero at rows = at
 end_of size (suc n) at [] = at

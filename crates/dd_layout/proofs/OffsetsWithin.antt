@@ -76,7 +76,7 @@ last_there q rows = if_some (last_or None (filter q rows)) (λ x. Contains rows 
 
 -- ---- each record has bytes
 
-version_there : (versions : List Parts) (n : ℕ) → n < length versions → (v : Parts) × (slice_get versions n ≡ Some v)
+pub version_there : (versions : List Parts) (n : ℕ) → n < length versions → (v : Parts) × (slice_get versions n ≡ Some v)
 version_there [] n h = absurd (omega arith)
 version_there (v ∷ versions) zero h = (v, refl)
 version_there (v ∷ versions) (suc n) h = version_there versions n (omega arith)

@@ -7,7 +7,6 @@ use Rattle.std.proofs.lemmas.List.{length-map}
 use Rattle.dd_catalogue.proofs.Members.{Member}
 use Rattle.dd_catalogue.specs.Rising.{by_test}
 use Rattle.dd_elem.specs.FileId.{Ranks, AreRanks, IsRank, max_rank, ranks_of}
-use Rattle.dd_version.specs.declared.parts.Parts.{Parts}
 use Rattle.dd_layout.specs.declared.level.Level.{Level}
 use Rattle.dd_layout.specs.declared.ranks.Counters.{Counters}
 use Rattle.dd_layout.specs.Neighbours.{counted, counts_after}
@@ -15,7 +14,6 @@ use Rattle.dd_layout.specs.Numbering.{after, count_of, counted_file, counters_of
 use Rattle.dd_layout.specs.Paths.{Path, prefixes}
 use Rattle.dd_layout.specs.Plans.{level_of, file_of}
 use Rattle.dd_layout.specs.Records.{IsFileOf}
-use Rattle.dd_layout.specs.Stages.{bare_at}
 use Rattle.dd_layout.specs.Tree.{rank, ranks_along}
 use Rattle.dd_layout.proofs.NumberPass.{noted, noted_from}
 use Rattle.dd_layout.proofs.TreeRows.{AreRows, IsRow}
@@ -99,21 +97,20 @@ noted_rows most rows before [] = before
 noted_rows most rows before (x ∷ rest) =
     noted_rows most rows (noted most (level_of x) (rank rows x) before) rest
 
-pub walk_noted : (most : ℕ) (versions : List Parts) (rows : List Path) (before : Option Level) (front rest : List Path)
+pub walk_noted : (most : ℕ) (rows : List Path) (before : Option Level) (front rest : List Path)
     → AreRows rows → rows ≡ front ++ rest
-    → noted_from most (filled (counts_after [] front)) before (map (bare_at versions) rest)
-    ≡ noted_rows most rows before rest
-walk_noted most versions rows before front [] are is = refl
-walk_noted most versions rows before front (x ∷ rest) are is =
+    → noted_from most (filled (counts_after [] front)) before (map level_of rest) ≡ noted_rows most rows before rest
+walk_noted most rows before front [] are is = refl
+walk_noted most rows before front (x ∷ rest) are is =
     let i = row_at rows front x rest is in
     let own : count_of (level_of x) (filled (counts_after [] (front ++ x ∷ []))) ≡ rank rows x =
     ap (λ (cs : List ℕ). count_of (level_of x) (filled cs)) (sym (are.ranks front x rest is))
     ∙ own_rank rows x (are.parts x i) in
     ap (λ (c : Counters). noted_from most c (noted most (level_of x) (count_of (level_of x) c) before)
-    (map (bare_at versions) rest)) (row_after rows front x rest are i is)
+    (map level_of rest)) (row_after rows front x rest are i is)
     ∙ ap (λ (n : ℕ). noted_from most (filled (counts_after [] (front ++ x ∷ []))) (noted most (level_of x) n before)
-    (map (bare_at versions) rest)) own
-    ∙ walk_noted most versions rows (noted most (level_of x) (rank rows x) before) (front ++ x ∷ []) rest are
+    (map level_of rest)) own
+    ∙ walk_noted most rows (noted most (level_of x) (rank rows x) before) (front ++ x ∷ []) rest are
     (is ∙ sym (append_assoc front (x ∷ []) rest))
 
 -- where nothing is noted, no rank is above the limit

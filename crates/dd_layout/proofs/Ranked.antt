@@ -1,9 +1,9 @@
--- What the pass gives along the records of a tree: the crowded level, and else each record with its File ID.
+-- What the passes give along the records of a tree: the crowded level, and else each record with its File ID.
 use Rattle.std.specs.Prelude.{◌≡◌, ◌≤◌, ℕ, List, [], ◌∷◌, ◌++◌, length, map, Option, None, All}
 use Rattle.std.specs.List.{AllByRecursion}
 use Rattle.std.proofs.Common.{refl, sym, ◌∙◌, ap, ap₂, subst, inl, inr, arith, append_assoc, take, drop}
 use Rattle.std.proofs.lemmas.List.{append-nil, drop_all, take_all}
-use Rattle.std.proofs.lemmas.List.Elements.{All-from_recursion, All-map, All-same}
+use Rattle.std.proofs.lemmas.List.Elements.{All-from_recursion, All-map}
 use Rattle.dd_catalogue.proofs.Members.{Member}
 use Rattle.dd_elem.specs.FileId.{Ranks, max_rank}
 use Rattle.dd_version.specs.declared.parts.Parts.{Parts}
@@ -16,7 +16,7 @@ use Rattle.dd_layout.specs.Paths.{Path, prefixes}
 use Rattle.dd_layout.specs.Plans.{file_of, level_of, tree}
 use Rattle.dd_layout.specs.Records.{IsFileOf}
 use Rattle.dd_layout.specs.Refusal.{crowded}
-use Rattle.dd_layout.specs.Stages.{bare_at, numbered_at}
+use Rattle.dd_layout.specs.Stages.{bare_at, level_in, numbered_at}
 use Rattle.dd_layout.specs.Tree.{rank}
 use Rattle.dd_layout.proofs.Crowds.{noted_is_crowded}
 use Rattle.dd_layout.proofs.NumberPass.{noted_from, numbered_from}
@@ -33,28 +33,24 @@ all_from : (P : Path → Type 0) (m : List Path) → ((x : Path) → Member x m 
 all_from P [] h = tt
 all_from P (y ∷ m) h = (h y (inl refl), all_from P m (λ x i. h x (inr i)))
 
-noted_at : (most : ℕ) (versions : List Parts) (records : List PlanRecord)
-    → records ≡ map (bare_at versions) (tree versions)
-    → noted_from most (counters_of 0 0 0 0) None records ≡ noted_rows most (tree versions) None (tree versions)
-noted_at most versions records is =
+noted_at : (most : ℕ) (versions : List Parts) (levels : List Level) → levels ≡ map level_of (tree versions)
+    → noted_from most (counters_of 0 0 0 0) None levels ≡ noted_rows most (tree versions) None (tree versions)
+noted_at most versions levels is =
     ap (noted_from most (counters_of 0 0 0 0) None) is
-    ∙ walk_noted most versions (tree versions) None [] (tree versions) (tree_rows versions) refl
+    ∙ walk_noted most (tree versions) None [] (tree versions) (tree_rows versions) refl
 
-pub pass_crowded : (most : ℕ) (versions : List Parts) (records : List PlanRecord)
-    → records ≡ map (bare_at versions) (tree versions)
-    → noted_from most (counters_of 0 0 0 0) None records ≡ crowded most (tree versions)
-pass_crowded most versions records is =
-    noted_at most versions records is ∙ noted_is_crowded most (tree versions) (tree_rows versions)
+pub pass_crowded : (most : ℕ) (versions : List Parts) (levels : List Level) → levels ≡ map level_of (tree versions)
+    → noted_from most (counters_of 0 0 0 0) None levels ≡ crowded most (tree versions)
+pass_crowded most versions levels is =
+    noted_at most versions levels is ∙ noted_is_crowded most (tree versions) (tree_rows versions)
 
 -- ---- where no level is crowded, each rank can stand in a File ID
 
-all_numbered : (most : ℕ) (versions : List Parts) (records : List PlanRecord) → most ≤ max_rank
-    → records ≡ map (bare_at versions) (tree versions)
-    → noted_from most (counters_of 0 0 0 0) None records ≡ None
+all_numbered : (most : ℕ) (versions : List Parts) → most ≤ max_rank → crowded most (tree versions) ≡ None
     → (x : Path) → Member x (tree versions) → IsNumbered (tree versions) x
-all_numbered most versions records few is none x i =
+all_numbered most versions few fits x i =
     let each = (none_noted most (tree versions) None (tree versions)
-    (sym (noted_at most versions records is) ∙ none)).1 in
+    (noted_is_crowded most (tree versions) (tree_rows versions) ∙ fits)).1 in
     all_from (λ q. rank (tree versions) q ≤ max_rank) (prefixes x) (λ q j.
     let at : rank (tree versions) q ≤ most =
     all_at (λ y. rank (tree versions) y ≤ most) (tree versions) q each ((tree_rows versions).above x i q j) in
@@ -77,33 +73,26 @@ walk_numbered versions front (x ∷ rest) are each is =
     (walk_numbered versions (front ++ x ∷ []) rest are each (is ∙ sym (append_assoc front (x ∷ []) rest)))
 
 pub pass_numbered : (most : ℕ) (versions : List Parts) (records : List PlanRecord) → most ≤ max_rank
-    → records ≡ map (bare_at versions) (tree versions)
-    → noted_from most (counters_of 0 0 0 0) None records ≡ None
+    → crowded most (tree versions) ≡ None → records ≡ map (bare_at versions) (tree versions)
     → numbered_from (counters_of 0 0 0 0) records ≡ map (numbered_at versions) (tree versions)
-pass_numbered most versions records few is none =
+pass_numbered most versions records few fits is =
     ap (numbered_from (counters_of 0 0 0 0)) is
-    ∙ walk_numbered versions [] (tree versions) (tree_rows versions)
-    (all_numbered most versions records few is none) refl
+    ∙ walk_numbered versions [] (tree versions) (tree_rows versions) (all_numbered most versions few fits) refl
 
-pub pass_files : (most : ℕ) (versions : List Parts) (records : List PlanRecord) → most ≤ max_rank
-    → records ≡ map (bare_at versions) (tree versions)
-    → noted_from most (counters_of 0 0 0 0) None records ≡ None
-    → All (λ row. IsFileOf row.level row.file) (numbered_from (counters_of 0 0 0 0) records)
-pass_files most versions records few is none =
-    All-same (λ (row : PlanRecord). IsFileOf row.level row.file) (numbered_from (counters_of 0 0 0 0) records)
-    (map (numbered_at versions) (tree versions)) (pass_numbered most versions records few is none)
-    (All-map (λ (row : PlanRecord). IsFileOf row.level row.file) (numbered_at versions) (tree versions)
+pub files_numbered : (most : ℕ) (versions : List Parts) → most ≤ max_rank → crowded most (tree versions) ≡ None
+    → All (λ row. IsFileOf row.level row.file) (map (numbered_at versions) (tree versions))
+files_numbered most versions few fits =
+    All-map (λ (row : PlanRecord). IsFileOf row.level row.file) (numbered_at versions) (tree versions)
     (All-from_recursion (λ (x : Path). IsFileOf (level_of x) (file_of (tree versions) x)) (tree versions)
     (all_from (λ (x : Path). IsFileOf (level_of x) (file_of (tree versions) x)) (tree versions) (λ x i.
-    file_is_file (tree versions) x ((tree_rows versions).parts x i)
-    (all_numbered most versions records few is none x i)))))
+    file_is_file (tree versions) x ((tree_rows versions).parts x i) (all_numbered most versions few fits x i))))
 
 -- ---- at the end of the pass
 
 pub noted_all : (most i : ℕ) (counters : Counters) (before last : Option Level) (records : List PlanRecord)
-    → length records ≤ i → noted_from most counters before (drop i records) ≡ last → before ≡ last
+    → length records ≤ i → noted_from most counters before (map level_in (drop i records)) ≡ last → before ≡ last
 noted_all most i counters before last records all e =
-    sym (ap (noted_from most counters before) (drop_all i records all)) ∙ e
+    sym (ap (λ (l : List PlanRecord). noted_from most counters before (map level_in l)) (drop_all i records all)) ∙ e
 
 pub numbered_all : (i : ℕ) (counters : Counters) (records made : List PlanRecord) → length records ≤ i
     → take i records ++ numbered_from counters (drop i records) ≡ made → records ≡ made

@@ -12,9 +12,9 @@ use crate::label::Label;
 use crate::limits::Limits;
 use crate::links::link;
 use crate::nodes::nodes;
-use crate::offsets::place;
+use crate::offsets::set_offsets;
 use crate::plan::Plan;
-use crate::ranks::number;
+use crate::ranks::{crowded_level, number};
 use crate::record::PlanRecord;
 use crate::withdrawal_elements::withdrawals_size;
 use dd_catalogue::Catalogue;
@@ -59,7 +59,7 @@ pub fn lay_out(
 /// Gives the records of these versions all that they hold, and answers the size of the directory that names
 /// these withdrawn UIDs. TooMany where one parent has more children than the limits allow; else TooLarge
 /// where the file has more bytes.
-pub(crate) fn fill(
+fn fill(
     records: &mut [PlanRecord],
     versions: &[Version],
     withdrawn: &[Uid],
@@ -73,14 +73,15 @@ pub(crate) fn fill(
     ensures refused { IfErr result (λ fault. excess label.now limits versions.now withdrawn.now
         ≡ Some fault) }
 {
-    if let Some(level) = number(records, limits.per_level) {
+    if let Some(level) = crowded_level(records, limits.per_level) {
         return Err(PlanFault::TooMany(level));
     }
+    number(records);
     let behind = withdrawals_size(withdrawn);
     let Some(most) = u128::from(limits.bytes).checked_sub(behind) else {
         return Err(PlanFault::TooLarge);
     };
-    let Some(end) = place(records, versions, label, most as u32) else {
+    let Some(end) = set_offsets(records, versions, label, most as u32) else {
         return Err(PlanFault::TooLarge);
     };
     link(records);

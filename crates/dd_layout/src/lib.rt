@@ -3,7 +3,7 @@
 //!
 //! Its one promise: the records of a plan are those of the tree of its versions in harmony, each with the offset
 //! that its bytes have in the directory under that label; and what is refused has two versions in conflict, or
-//! passes a limit. Only where an allocation is refused is the answer want of memory instead.
+//! passes a limit. Only where an allocation is refused does `lay_out` answer `PlanFault::Memory` instead.
 #![tactic(auto)]
 
 mod cell;

@@ -42,7 +42,7 @@ impl Behind {
     }
 
     /// The offset of the first record below, for a record of this level.
-    fn lower(self, level: Level) -> u32
+    fn first_below(self, level: Level) -> u32
         ensures { result ≡ lower_of level self }
     {
         match level {
@@ -88,7 +88,7 @@ pub(crate) fn link(records: &mut [PlanRecord])
     for i in (0..records.len()).rev() {
         let record = &mut records[i];
         record.next = behind.next(record.level);
-        record.lower = behind.lower(record.level);
+        record.lower = behind.first_below(record.level);
         behind = behind.before(record.level, record.at);
     }
 }

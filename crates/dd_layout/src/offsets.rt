@@ -13,7 +13,7 @@ use dd_version::Version;
 
 /// Gives each record its offset, and answers how many bytes there are up to the end of the last one: None
 /// where they are more than `most`.
-pub(crate) fn place(
+pub(crate) fn set_offsets(
     records: &mut [PlanRecord],
     versions: &[Version],
     label: &Label,

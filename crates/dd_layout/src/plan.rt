@@ -70,19 +70,19 @@ impl Plan {
         }
     }
 
-    /// Gives the catalogue, in harmony, and the records.
-    pub(crate) fn into_parts(self) -> (Catalogue, Vec<PlanRecord>)
+    /// Gives the catalogue, in harmony, the records and the size of the file.
+    pub(crate) fn into_parts(self) -> (Catalogue, Vec<PlanRecord>, u32)
         ensures versions { result.0.versions ≡ self.versions }
         ensures withdrawn { result.0.withdrawn ≡ self.withdrawn }
-        ensures records { result.1.items ≡ records_of self.label self.versions }
+        ensures laid_out { IsLaidOut self.label self.versions self.withdrawn result.1.items result.2 }
     {
         let Plan {
             label: _label,
             catalogue,
             records,
-            size: _size,
+            size,
         } = self;
-        (catalogue, records)
+        (catalogue, records, size)
     }
 
     /// The label that the file-set gets.

@@ -1,13 +1,13 @@
 //! The ranks of records, and the File IDs of images.
 
-ghost use Rattle.std.specs.Prelude.{◌≡◌, ◌+◌, ◌<◌, ◌≤◌, ◌^◌, All, List, None, Some, map};
+ghost use Rattle.std.specs.Prelude.{◌≡◌, ◌+◌, ◌<◌, ◌≤◌, ◌^◌, All, List, None, Some, map, ℕ};
 ghost use Rattle.dd_elem.specs.FileId.{max_rank};
 ghost use Rattle.dd_version.specs.declared.parts.Parts.{Parts};
 ghost use Rattle.dd_layout.specs.Numbering.{after, count_of, counted_file, topmost};
-ghost use Rattle.dd_layout.specs.Plans.{tree};
+ghost use Rattle.dd_layout.specs.Plans.{level_of, tree};
 ghost use Rattle.dd_layout.specs.Records.{IsFileOf};
 ghost use Rattle.dd_layout.specs.Refusal.{crowded};
-ghost use Rattle.dd_layout.specs.Stages.{bare_at, numbered_at};
+ghost use Rattle.dd_layout.specs.Stages.{bare_at, level_in, numbered_at};
 
 use crate::level::Level;
 use crate::record::PlanRecord;
@@ -89,7 +89,7 @@ impl Counters {
 }
 
 /// The level nearest to the root of these.
-fn topmost(level: Level, before: Option<Level>) -> Level
+fn topmost_of(level: Level, before: Option<Level>) -> Level
     ensures { result ≡ topmost level before }
 {
     match (level, before) {
@@ -100,26 +100,37 @@ fn topmost(level: Level, before: Option<Level>) -> Level
     }
 }
 
-/// Gives each image its File ID. Answers the topmost level of which more records than `most` stand below
-/// one parent, and None where there is no such level.
-pub(crate) fn number(records: &mut [PlanRecord], most: u32) -> Option<Level>
-    requires { most ≤ max_rank }
-    ensures crowded { (versions : List Parts) → records.old ≡ map (bare_at versions) (tree versions)
+/// The topmost level of which more records than `most` stand below one parent: None where there is no such
+/// level.
+pub(crate) fn crowded_level(records: &[PlanRecord], most: u32) -> Option<Level>
+    ensures { (versions : List Parts) → map level_in records.now ≡ map level_of (tree versions)
         → result ≡ crowded most (tree versions) }
-    ensures numbered { (versions : List Parts)
-        → records.old ≡ map (bare_at versions) (tree versions)
-        → result ≡ None → records.new ≡ map (numbered_at versions) (tree versions) }
-    ensures files { (versions : List Parts) → records.old ≡ map (bare_at versions) (tree versions)
-        → result ≡ None → All (λ planned. IsFileOf planned.level planned.file) records.new }
 {
     let mut counters = Counters::NONE;
     let mut crowded = None;
-    for record in records.iter_mut() {
+    for record in records {
         counters = counters.after(record.level);
         if counters.of(record.level) > u64::from(most) {
-            crowded = Some(topmost(record.level, crowded));
+            crowded = Some(topmost_of(record.level, crowded));
         }
-        record.file = counters.file(record.level);
     }
     crowded
+}
+
+/// Gives each image its File ID, where no level is crowded.
+pub(crate) fn number(records: &mut [PlanRecord])
+    ensures numbered { (versions : List Parts) (most : ℕ) → most ≤ max_rank
+        → crowded most (tree versions) ≡ None
+        → records.old ≡ map (bare_at versions) (tree versions)
+        → records.new ≡ map (numbered_at versions) (tree versions) }
+    ensures files { (versions : List Parts) (most : ℕ) → most ≤ max_rank
+        → crowded most (tree versions) ≡ None
+        → records.old ≡ map (bare_at versions) (tree versions)
+        → All (λ planned. IsFileOf planned.level planned.file) records.new }
+{
+    let mut counters = Counters::NONE;
+    for record in records.iter_mut() {
+        counters = counters.after(record.level);
+        record.file = counters.file(record.level);
+    }
 }

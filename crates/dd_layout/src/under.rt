@@ -1,24 +1,22 @@
 //! The plan of a catalogue that is laid out, under another label.
 
-ghost use Rattle.std.specs.Prelude.{◌≡◌, None, Some, IsOk, IfOk, IfErr, map};
-ghost use Rattle.dd_layout.specs.Layouts.{IsLaidOut};
-ghost use Rattle.dd_layout.specs.Plans.{tree};
+ghost use Rattle.std.specs.Prelude.{◌≡◌, ◌+◌, ◌-◌, ◌<◌, ◌^◌, All, None, Some, IsOk, IfOk, IfErr, map};
+ghost use Rattle.dd_layout.specs.Layouts.{StandsWithin};
 ghost use Rattle.dd_layout.specs.Refusal.{excess};
-ghost use Rattle.dd_layout.specs.Stages.{bare_again, bare_at};
+ghost use Rattle.dd_layout.specs.Stages.{moved_offset, moved_record};
 
 use crate::fault::PlanFault;
+use crate::front::first_offset;
 use crate::label::Label;
-use crate::layout::fill;
 use crate::limits::Limits;
 use crate::plan::Plan;
+use crate::ranks::crowded_level;
 use crate::record::PlanRecord;
-use dd_elem::Uid;
-use dd_version::Version;
 
 impl Plan {
     /// Gives the plan of the same catalogue under another label, within these limits. It is the plan that
-    /// `lay_out` gives for that catalogue, and the fault is the one that it gives. But nothing is sorted or
-    /// harmonised again, and no allocation is wanted, so the fault is never Conflict or Memory.
+    /// `lay_out` gives for that catalogue, and the fault is the one that it gives. But nothing is sorted,
+    /// harmonised or measured again, and no allocation is wanted, so the fault is never Conflict or Memory.
     pub fn under(self, label: &Label, limits: Limits) -> Result<Plan, PlanFault>
         ensures planned { IfOk result (λ plan. plan ≡ record self { label = label.now }) }
         ensures allowed { IsOk result → excess label.now limits self.versions self.withdrawn
@@ -26,45 +24,41 @@ impl Plan {
         ensures refused { IfErr result
             (λ fault. excess label.now limits self.versions self.withdrawn ≡ Some fault) }
     {
-        let (catalogue, mut records) = self.into_parts();
-        let size = fill_again(
-            &mut records,
-            catalogue.versions(),
-            catalogue.withdrawn(),
-            label,
-            limits,
-        )?;
-        Ok(Plan::of(*label, catalogue, records, size))
+        let from = first_offset(self.label()) as u32;
+        let to = first_offset(label) as u32;
+        let (catalogue, mut records, size) = self.into_parts();
+        if let Some(level) = crowded_level(&records, limits.per_level) {
+            return Err(PlanFault::TooMany(level));
+        }
+        let size = u64::from(size - from) + u64::from(to);
+        if size > u64::from(limits.bytes) {
+            return Err(PlanFault::TooLarge);
+        }
+        move_records(&mut records, from, to);
+        Ok(Plan::of(*label, catalogue, records, size as u32))
     }
 }
 
-/// Does what `fill` does, with records that may hold more than their levels and versions.
-fn fill_again(
-    records: &mut [PlanRecord],
-    versions: &[Version],
-    withdrawn: &[Uid],
-    label: &Label,
-    limits: Limits,
-) -> Result<u32, PlanFault>
-    requires { map bare_again records.old ≡ map (bare_at versions.now) (tree versions.now) }
-    ensures full { IfOk result
-        (λ bytes. IsLaidOut label.now versions.now withdrawn.now records.new bytes) }
-    ensures allowed { IsOk result → excess label.now limits versions.now withdrawn.now ≡ None }
-    ensures refused { IfErr result (λ fault. excess label.now limits versions.now withdrawn.now
-        ≡ Some fault) }
-{
-    clear(records);
-    fill(records, versions, withdrawn, label, limits)
-}
-
-/// Takes from each record all but its level and its version.
-fn clear(records: &mut [PlanRecord])
-    ensures { records.new ≡ map bare_again records.old }
+/// Moves the offsets in these records, before the first of which not `from` but `to` bytes stand now.
+fn move_records(records: &mut [PlanRecord], from: u32, to: u32)
+    requires { All (StandsWithin (2 ^ 32 + from - to)) records.old }
+    ensures { records.new ≡ map (moved_record from to) records.old }
 {
     for record in records.iter_mut() {
-        record.at = 0;
-        record.next = 0;
-        record.lower = 0;
-        record.file = None;
+        record.at = moved_offset(record.at, from, to);
+        record.next = moved_offset(record.next, from, to);
+        record.lower = moved_offset(record.lower, from, to);
+    }
+}
+
+/// The offset of what stands at this one, where not `from` but `to` bytes stand before all records now. What is
+/// smaller than `from` names no record, and becomes 0.
+fn moved_offset(offset: u32, from: u32, to: u32) -> u32
+    requires { offset < 2 ^ 32 + from - to }
+    ensures { result ≡ moved_offset from to offset }
+{
+    match offset.checked_sub(from) {
+        Some(behind) => behind + to,
+        None => 0,
     }
 }

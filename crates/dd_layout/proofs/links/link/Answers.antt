@@ -13,8 +13,8 @@ loop-i-init c = record {
 pub loop-i-preserved : goal.loop-i-preserved
 loop-i-preserved c = record {
   rows = rows_more c.loop-i.i c.args.records.now c.loop-i.records c.index-records-i.result c.loop-i.behind
-      c.next-record.result c.lower-record.result c.loop-i-test.true c.loop-i.auto.i c.loop-i.invariant.rows
-      c.loop-i.invariant.behind c.next-record.ensures c.lower-record.ensures;
+      c.next-record.result c.first_below-record.result c.loop-i-test.true c.loop-i.auto.i c.loop-i.invariant.rows
+      c.loop-i.invariant.behind c.next-record.ensures c.first_below-record.ensures;
   behind = c.before-behind.ensures
       ∙ behind_more c.loop-i.i c.args.records.now c.loop-i.records c.index-records-i.result c.loop-i.behind
       c.loop-i-test.true c.loop-i.auto.i c.loop-i.invariant.rows c.loop-i.invariant.behind;

@@ -3,8 +3,8 @@ use Rattle.dd_layout.specs.Directory.{first_offset}
 use Rattle.dd_layout.proofs.OffsetPass.{end_of, weight}
 use Rattle.dd_layout.proofs.OffsetsAlong.{of_turn, size_of_turn, end_within, end_known, offsets_are_known}
 use Rattle.dd_layout.proofs.PlaceTurns.{rows_more, end_more}
-use Rattle.dd_layout.proofs.offsets.place.Goals as goal
-use Rattle.dd_layout.proofs.offsets.place.Goals.{After-record_size-size}
+use Rattle.dd_layout.proofs.offsets.set_offsets.Goals as goal
+use Rattle.dd_layout.proofs.offsets.set_offsets.Goals.{After-record_size-size}
 
 pub loop-record-init : goal.loop-record-init
 loop-record-init c = record { rows = refl; end = c.first_offset-end.ensures.exact; fits = c.if-end-most.false }

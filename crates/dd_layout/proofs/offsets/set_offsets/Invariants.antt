@@ -1,7 +1,7 @@
 use Rattle.std.proofs.Common.{◌≡◌, ◌≤◌}
 use Rattle.dd_layout.specs.Directory.{first_offset}
 use Rattle.dd_layout.proofs.OffsetPass.{end_of, placed_to, weight}
-use Rattle.dd_layout.proofs.offsets.place.Given as goal
+use Rattle.dd_layout.proofs.offsets.set_offsets.Given as goal
 
 -- the rows up to here have their offsets, and all ends are within the limit
 abbrev pub invariant-loop-record : goal.invariant-loop-record
