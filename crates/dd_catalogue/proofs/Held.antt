@@ -10,17 +10,18 @@ use Rattle.dd_version.specs.Orders.{parts_cmp}
 use Rattle.dd_version.specs.declared.parts.Parts.{Parts}
 use Rattle.dd_catalogue.specs.Compared.{compared_keys}
 use Rattle.dd_catalogue.specs.BestLaws.{best_of_rising, same_best_at}
-use Rattle.dd_catalogue.specs.CatalogueJoin.{uids_ordered, same_contents}
+use Rattle.dd_catalogue.specs.CatalogueJoin.{uids_ordered, held_is_held, same_contents}
 use Rattle.dd_catalogue.specs.Contents.{Contents, IsHeld, SameContents, and_version, and_withdrawn, all_of, held_of}
 use Rattle.dd_catalogue.specs.Contents.{compared_in_merge, is_withdrawn, kept_of, left_of, uids_of}
 use Rattle.dd_catalogue.specs.Free.{is_free}
-use Rattle.dd_catalogue.specs.FreeLaws.{free_of_best, free_of_set, kept_is_free, kept_itself, free-append, same_free}
+use Rattle.dd_catalogue.specs.FreeLaws.{free_of_best, free_of_set, kept_itself, free-append, same_free}
 use Rattle.dd_catalogue.specs.Harmony.{agreed, harmonised}
 use Rattle.dd_catalogue.specs.Rising.{by_test}
 use Rattle.dd_catalogue.specs.Versions.{best_of, compared_of, versions_ordered, instance_of}
 use Rattle.dd_catalogue.proofs.BestMembers.{absorbed, best_of_same}
 use Rattle.dd_catalogue.proofs.Counted.{compared_at_most, length-best}
 use Rattle.dd_catalogue.proofs.FreeMembers.{free_decides, kept_of_same, withdrawn_member}
+use Rattle.dd_catalogue.proofs.Harmonies.{harmonised_rises}
 use Rattle.dd_catalogue.proofs.Woven.{compared_at_end}
 
 -- ---- filters
@@ -52,8 +53,12 @@ pub left_of_none : (m : List Parts) → left_of m [] ≡ m
 left_of_none [] = refl
 left_of_none (v ∷ m) = ap (λ x. v ∷ x) (left_of_none m)
 
-pub left_twice : (m : List Parts) (w : List (List ℕ)) → left_of (left_of m w) w ≡ left_of m w
+left_twice : (m : List Parts) (w : List (List ℕ)) → left_of (left_of m w) w ≡ left_of m w
 left_twice m w = filter_twice (λ v. is_free bytes_cmp w v.instance) m
+
+-- what took anything is as a catalogue holds it
+pub held_as : (c d : Contents) → c ≡ held_of d → IsHeld c
+held_as c d e = subst IsHeld (sym e) (held_is_held d)
 
 -- ---- sifting
 
@@ -96,16 +101,12 @@ held_without c v h e =
     (best_of_rising uids_ordered c.withdrawn h.withdrawn))
 
 -- its instance is not withdrawn
-pub left_with : (m : List Parts) (w : List (List ℕ)) (v : Parts) → left_of m w ≡ m → is_withdrawn w v.instance ≡ false
+left_with : (m : List Parts) (w : List (List ℕ)) (v : Parts) → left_of m w ≡ m → is_withdrawn w v.instance ≡ false
     → kept_of (v ∷ m) w ≡ best_of (v ∷ m)
 left_with m w v apart e =
     let there : is_free bytes_cmp w v.instance ≡ true = not_false (is_free bytes_cmp w v.instance) e in
     let same : left_of (v ∷ m) w ≡ v ∷ left_of m w = rw there refl in
     ap best_of (same ∙ ap (λ x. v ∷ x) apart)
-
-pub apart_with : (m : List Parts) (w : List (List ℕ)) (v : Parts) → left_of m w ≡ m → is_withdrawn w v.instance ≡ false
-    → left_of (best_of (v ∷ m)) w ≡ best_of (v ∷ m)
-apart_with m w v apart e = sifted (v ∷ m) w ∙ left_with m w v apart e
 
 pub held_with : (c : Contents) (v : Parts) → IsHeld c → is_withdrawn c.withdrawn v.instance ≡ false
     → record { versions = best_of (v ∷ c.versions); withdrawn = c.withdrawn } ≡ held_of (and_version v c)
@@ -132,7 +133,7 @@ held_already c uid h e =
     (same ∙ best_of_rising uids_ordered w h.withdrawn))
 
 -- without its version
-pub kept_less : (c : Contents) (uid : List ℕ) → IsHeld c
+kept_less : (c : Contents) (uid : List ℕ) → IsHeld c
     → kept_of c.versions (uid ∷ c.withdrawn) ≡ left_of c.versions (uid ∷ [])
 kept_less c uid h =
     let m = c.versions in
@@ -144,13 +145,6 @@ kept_less c uid h =
     (λ v. free-append bytes_cmp (uid ∷ []) w v.instance) m
     ∙ filter_both (λ v. is_free bytes_cmp (uid ∷ []) v.instance) (λ v. is_free bytes_cmp w v.instance) m
     ∙ ap (λ x. left_of x (uid ∷ [])) h.apart
-
-pub apart_less : (c : Contents) (uid : List ℕ) → IsHeld c
-    → left_of (left_of c.versions (uid ∷ [])) (uids_of (uid ∷ c.withdrawn)) ≡ left_of c.versions (uid ∷ [])
-apart_less c uid h =
-    let is = kept_less c uid h in
-    ap (λ x. left_of x (uids_of (uid ∷ c.withdrawn))) (sym is)
-    ∙ kept_is_free versions_ordered c.versions (uid ∷ c.withdrawn) ∙ is
 
 pub held_less : (c : Contents) (uid : List ℕ) → IsHeld c
     → record { versions = left_of c.versions (uid ∷ []); withdrawn = uids_of (uid ∷ c.withdrawn) }
@@ -226,9 +220,17 @@ held_of_both c d = same_contents _ (held_of (all_of c d))
 
 -- ---- harmony
 
-pub harmonised_apart : (m : List Parts) (w : List (List ℕ)) → left_of m w ≡ m → left_of (harmonised m) w ≡ harmonised m
+harmonised_apart : (m : List Parts) (w : List (List ℕ)) → left_of m w ≡ m → left_of (harmonised m) w ≡ harmonised m
 harmonised_apart m w apart =
     filter_map (λ v. is_free bytes_cmp w v.instance) (agreed m) m (λ v. refl) ∙ ap (map (agreed m)) apart
+
+pub harmonised_held : (c : Contents) → IsHeld c
+    → IsHeld (record { versions = harmonised c.versions; withdrawn = c.withdrawn })
+harmonised_held c h = record {
+  versions = harmonised_rises c.versions h.versions;
+  withdrawn = h.withdrawn;
+  apart = harmonised_apart c.versions c.withdrawn h.apart;
+}
 
 -- ---- laws
 

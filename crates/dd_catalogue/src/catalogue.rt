@@ -36,8 +36,7 @@ pub struct Catalogue {
 }
 
 impl Model for Catalogue {
-    ghost use Rattle.std.specs.Prelude.{◌≡◌};
-    ghost use Rattle.dd_catalogue.specs.Contents.{Contents, left_of};
+    ghost use Rattle.dd_catalogue.specs.Contents.{Contents, IsHeld};
 
     ghost Value = { Contents };
 
@@ -45,7 +44,7 @@ impl Model for Catalogue {
         record { versions = catalogue.table; withdrawn = catalogue.withdrawn } };
 
     ghost invariant = { λ catalogue.
-        left_of catalogue.table catalogue.withdrawn ≡ catalogue.table };
+        IsHeld (record { versions = catalogue.table; withdrawn = catalogue.withdrawn }) };
 }
 
 // By hand, so that dropping a catalogue is one call.
@@ -103,7 +102,6 @@ impl Catalogue {
 
     /// The best of these versions, with nothing withdrawn: they are sorted once, and each that is kept is
     /// copied once. Memory where an allocation was refused: never where there are no versions.
-    #[tactic(auto, using(crate::proofs::Held::left_of_none))]
     pub fn from_versions(alloc: Global, versions: &[Version]) -> Result<Catalogue, Memory>
         ensures best { IfOk result (λ catalogue. catalogue.versions ≡ best_of versions.now) }
         ensures withdrawn { IfOk result (λ catalogue. catalogue.withdrawn ≡ []) }
@@ -166,7 +164,6 @@ impl Catalogue {
         ensures rising { IsCatalogue self.now.versions }
         ensures held { IsHeld self.now }
     {
-        self.known();
         self.table.values()
     }
 
@@ -178,20 +175,11 @@ impl Catalogue {
         self.withdrawn.values()
     }
 
-    /// What is known of every catalogue.
-    fn known(&self)
-        ensures { IsHeld self.now }
-    {
-        self.table.values();
-        self.withdrawn.values();
-    }
-
     /// Is the instance withdrawn?
     fn has_withdrawn(&self, instance: &Uid) -> bool
         ensures withdrawn { result ≡ is_withdrawn self.now.withdrawn instance.now }
         ensures held { IsHeld self.now }
     {
-        self.known();
         self.withdrawn.has(instance)
     }
 
@@ -267,8 +255,6 @@ impl Catalogue {
         ensures empty { other.now ≡ nothing → IsOk result }
         ensures catalogues { IsHeld self.old × IsHeld other.now }
     {
-        self.known();
-        other.known();
         if other.withdrawn.values().is_empty() {
             return self.merge_versions(other);
         }
@@ -294,8 +280,6 @@ impl Catalogue {
         ensures empty { other.now ≡ nothing → IsOk result }
         ensures catalogues { IsHeld self.old × IsHeld other.now }
     {
-        self.known();
-        other.known();
         let maps = self.table.merge(&other.table)?;
         let sifted = self.table.sift(self.withdrawn.values());
         Ok(maps.saturating_add(sifted))

@@ -60,6 +60,7 @@ impl Withdrawals {
     /// are no UIDs.
     pub(crate) fn for_sharing(alloc: Global, uids: Table<Uid>) -> Result<Withdrawals, Memory>
         ensures equal { IfOk result (λ withdrawals. withdrawals ≡ uids) }
+        ensures rising { IsRising (λ uid. uid) bytes_cmp uids }
         ensures some { OnErr result (uids ≢ []) }
     {
         if uids.values().is_empty() {

@@ -17,7 +17,7 @@ use crate::plan::Plan;
 use crate::ranks::{crowded_level, number};
 use crate::record::PlanRecord;
 use crate::withdrawal_elements::withdrawals_size;
-use dd_catalogue::Catalogue;
+use dd_catalogue::{Catalogue, Harmony};
 use dd_elem::Uid;
 use dd_version::Version;
 use std::alloc::Global;
@@ -41,10 +41,10 @@ pub fn lay_out(
         × (catalogue.now ≢ nothing))
         ⊎ (refusal label.now limits catalogue.now.versions catalogue.now.withdrawn ≡ Some fault)) }
 {
-    if let Some((one, other)) = catalogue.conflict()? {
-        return Err(PlanFault::Conflict(one, other));
-    }
-    let versions = catalogue.harmonise()?;
+    let versions = match catalogue.harmonise_or_conflict()? {
+        Harmony::Found(versions) => versions,
+        Harmony::Conflict(one, other) => return Err(PlanFault::Conflict(one, other)),
+    };
     let mut records = nodes(alloc, versions.versions())?;
     let size = fill(
         &mut records,

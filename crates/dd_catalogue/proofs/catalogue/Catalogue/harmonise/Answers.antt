@@ -1,7 +1,7 @@
 use Rattle.std.proofs.Common.{sym, ◌∙◌, ap, subst}
 use Rattle.dd_catalogue.specs.Contents.{Contents}
 use Rattle.dd_catalogue.proofs.Harmonised.{harmonised_is_harmonised}
-use Rattle.dd_catalogue.proofs.Held.{harmonised_apart}
+use Rattle.dd_catalogue.proofs.Held.{harmonised_held}
 use Rattle.dd_catalogue.specs.Harmony.{IsHarmonised, harmonised}
 use Rattle.dd_catalogue.proofs.catalogue.Catalogue.harmonise.Goals as goal
 
@@ -13,7 +13,7 @@ invariant_of-result c =
       c.in_ok-withdrawn.ensures.equal,
       ap (λ (x : Contents). x.withdrawn) c.self.view_is,
     )
-    (harmonised_apart c.args.self.now.versions c.args.self.now.withdrawn c.versions.ensures.held.apart)
+    (harmonised_held c.args.self.now c.versions.ensures.held)
 
 pub returns-clause-agreed : goal.returns-clause-agreed
 returns-clause-agreed c =

@@ -1,7 +1,7 @@
 use Rattle.std.proofs.Common.{◌≡◌, ap}
 use Rattle.dd_catalogue.specs.Contents.{Contents}
 use Rattle.dd_catalogue.specs.Harmony.{harmonised}
-use Rattle.dd_catalogue.proofs.Held.{harmonised_apart}
+use Rattle.dd_catalogue.proofs.Held.{harmonised_held}
 use Rattle.dd_catalogue.proofs.catalogue.Catalogue.harmonise_or_conflict.Goals as goal
 
 pub invariant_of-result : goal.invariant_of-result
@@ -13,4 +13,4 @@ invariant_of-result c =
       c.in_ok-copy-in-Ok.ensures.equal,
       ap (λ (x : Contents). x.withdrawn) c.self.view_is,
     )
-    (harmonised_apart c.args.self.now.versions c.args.self.now.withdrawn c.versions.ensures.held.apart)
+    (harmonised_held c.args.self.now c.versions.ensures.held)

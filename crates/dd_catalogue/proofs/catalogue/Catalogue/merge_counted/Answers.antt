@@ -4,15 +4,21 @@ use Rattle.dd_elem.specs.Device.{last_count}
 use Rattle.dd_elem.specs.Ordered.{bytes_cmp}
 use Rattle.dd_catalogue.specs.CatalogueJoin.{same_contents}
 use Rattle.dd_catalogue.specs.Compared.{compared_keys}
-use Rattle.dd_catalogue.specs.Contents.{Contents, left_of, uids_of}
+use Rattle.dd_catalogue.specs.Contents.{Contents, all_of, left_of, uids_of}
 use Rattle.dd_catalogue.specs.Versions.{best_of}
-use Rattle.dd_catalogue.proofs.Held.{counted_both, few_in_merge, held_of_both, left_twice}
+use Rattle.dd_catalogue.proofs.Held.{held_as, counted_both, few_in_merge, held_of_both}
 use Rattle.dd_catalogue.proofs.catalogue.Catalogue.merge_counted.Goals as goal
 
 pub invariant_of-self-2 : goal.invariant_of-self-2
 invariant_of-self-2 c =
-    rw (c.sift-sifted.ensures.after, c.values-2.ensures.all, c.from_table.ensures)
-    (left_twice c.merge-2.new.self c.merge.new.self)
+    let old : Contents = record { versions = c.self.inside.table; withdrawn = c.self.inside.withdrawn } in
+    let other : Contents = record { versions = c.other.inside.table; withdrawn = c.other.inside.withdrawn } in
+    let mine : c.in_ok-withdrawn.withdrawn ≡ c.self.inside.withdrawn =
+    c.in_ok-withdrawn.ensures.equal ∙ c.table.ensures in
+    let sets : c.merge.new.self ≡ uids_of (c.self.inside.withdrawn ++ c.other.inside.withdrawn) =
+    c.in_ok-sets.ensures.ok ∙ rw (mine, c.table-2.ensures) refl in
+    rw (c.sift-sifted.ensures.after, c.values-2.ensures.all, c.from_table.ensures, c.in_ok-maps.ensures.ok, sets)
+    (held_as _ (all_of old other) (held_of_both old other))
 
 pub returns-clause-ok : goal.returns-clause-ok
 returns-clause-ok c =

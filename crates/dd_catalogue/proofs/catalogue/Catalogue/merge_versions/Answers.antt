@@ -1,12 +1,15 @@
-use Rattle.std.proofs.Common.{◌≡◌, ◌++◌, sym, ◌∙◌, ap, subst}
-use Rattle.dd_catalogue.specs.Contents.{Contents, IsHeld, left_of}
+use Rattle.std.proofs.Common.{◌≡◌, ◌++◌, ◌∙◌, ap}
+use Rattle.dd_catalogue.specs.Contents.{Contents, all_of, left_of}
 use Rattle.dd_catalogue.specs.Versions.{best_of}
-use Rattle.dd_catalogue.proofs.Held.{counted_maps, held_of_maps, left_twice}
+use Rattle.dd_catalogue.proofs.Held.{held_as, counted_maps, held_of_maps}
 use Rattle.dd_catalogue.proofs.catalogue.Catalogue.merge_versions.Goals as goal
 
 pub invariant_of-self-2 : goal.invariant_of-self-2
 invariant_of-self-2 c =
-    rw (c.sift-sifted.ensures.after, c.values.ensures.all) (left_twice c.merge.new.self c.self.inside.withdrawn)
+    let old : Contents = record { versions = c.self.inside.table; withdrawn = c.self.inside.withdrawn } in
+    let other : Contents = record { versions = c.other.inside.table; withdrawn = c.other.inside.withdrawn } in
+    rw (c.sift-sifted.ensures.after, c.values.ensures.all, c.in_ok-maps.ensures.ok) (held_as _ (all_of old other)
+    (held_of_maps old other c.self.invariant (rw (← c.other.view_is) at c.requires)))
 
 pub returns-clause-ok : goal.returns-clause-ok
 returns-clause-ok c =
@@ -17,7 +20,7 @@ returns-clause-ok c =
     ∙ ap (λ m. left_of m c.self.inside.withdrawn) c.in_ok-maps.ensures.ok in
     rw (← c.self.view_is, ← c.other.view_is)
     (ap (λ m. record { versions = m; withdrawn = c.self.inside.withdrawn }) table
-    ∙ held_of_maps old other (subst IsHeld (sym c.self.view_is) c.known.ensures)
+    ∙ held_of_maps old other c.self.invariant
     (rw (← c.other.view_is) at c.requires))
 
 pub returns-clause-count : goal.returns-clause-count
@@ -25,6 +28,6 @@ returns-clause-count c =
     let old : Contents = record { versions = c.self.inside.table; withdrawn = c.self.inside.withdrawn } in
     let other : Contents = record { versions = c.other.inside.table; withdrawn = c.other.inside.withdrawn } in
     rw (← c.self.view_is, ← c.other.view_is) (c.saturating_add.ensures ∙ counted_maps old other c.merge.new.self
-    c.values.result.now c.in_ok-maps.maps c.sift-sifted.result (subst IsHeld (sym c.self.view_is) c.known.ensures)
+    c.values.result.now c.in_ok-maps.maps c.sift-sifted.result c.self.invariant
     (rw (← c.other.view_is) at c.requires) c.in_ok-maps.ensures.count c.in_ok-maps.ensures.ok c.values.ensures.all
     c.sift-sifted.ensures.count)

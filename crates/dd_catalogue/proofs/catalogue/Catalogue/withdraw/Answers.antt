@@ -1,7 +1,7 @@
-use Rattle.std.proofs.Common.{◌≡◌, [], ◌∷◌, sym, ◌∙◌, ap, subst}
+use Rattle.std.proofs.Common.{◌≡◌, [], ◌∷◌, sym, ◌∙◌, ap}
 use Rattle.dd_catalogue.specs.CatalogueJoin.{same_contents}
-use Rattle.dd_catalogue.specs.Contents.{Contents, IsHeld, left_of}
-use Rattle.dd_catalogue.proofs.Held.{apart_less, held_already, held_less}
+use Rattle.dd_catalogue.specs.Contents.{Contents, and_withdrawn, left_of}
+use Rattle.dd_catalogue.proofs.Held.{held_as, held_already, held_less}
 use Rattle.dd_catalogue.proofs.catalogue.Catalogue.withdraw.Goals as goal
 
 pub returns-then-has_withdrawn-clause-ok : goal.returns-then-has_withdrawn-clause-ok
@@ -15,7 +15,7 @@ invariant_of-self-2 c =
     let gone : c.remove.new.self ≡ left_of c.self.inside.table (c.args.instance ∷ []) = c.remove.ensures.after
     ∙ ap (λ k. left_of c.self.inside.table (k ∷ [])) c.as_bytes.ensures.value in
     rw (gone, c.in_ok-add.ensures.ok)
-    (apart_less old c.args.instance (subst IsHeld (sym c.self.view_is) c.has_withdrawn.ensures.held))
+    (held_as _ (and_withdrawn c.args.instance old) (held_less old c.args.instance c.self.invariant))
 
 pub returns-clause-ok : goal.returns-clause-ok
 returns-clause-ok c =
@@ -23,4 +23,4 @@ returns-clause-ok c =
     let gone : c.remove.new.self ≡ left_of c.self.inside.table (c.args.instance ∷ []) = c.remove.ensures.after
     ∙ ap (λ k. left_of c.self.inside.table (k ∷ [])) c.as_bytes.ensures.value in
     rw (← c.self.view_is) (same_contents _ _ gone c.in_ok-add.ensures.ok
-    ∙ held_less old c.args.instance (subst IsHeld (sym c.self.view_is) c.has_withdrawn.ensures.held))
+    ∙ held_less old c.args.instance c.self.invariant)
