@@ -175,7 +175,7 @@ first_fault_none file version h =
     ∙ cond-true (is_image_class h.meta.class) _ _ (version_image file version h)
     ∙ version_passes file version h
 
--- a refusal of the parse is the first check that fails, or want of memory
+-- a refusal of the parse is the first check that fails, or lack of memory
 pub file_refused : (file : List ℕ) (e : FileFault) → FailsAs is_memory e (file_in file)
     → (e ≡ faults.Meta Memory → GroupWants file) → (e ≡ faults.Set Memory → SetWants file)
     → IsWantOfMemory SetWants file (File e) ⊎ (first_fault file ≡ Some (File e))
@@ -183,14 +183,14 @@ file_refused file (faults.Meta Memory) is group set = inl (group refl)
 file_refused file (faults.Set Memory) is group set = inl (set refl)
 file_refused file fault is group set = inr (ap fault_of is)
 
--- so a refusal of it is want of memory
+-- so a refusal of it is lack of memory
 refusal_is_memory : (file : List ℕ) (version : Parts) (fault : KeyFault) → IsVersion file version
     → IsWantOfMemory SetWants file fault ⊎ (first_fault file ≡ Some fault) → IsWantOfMemory SetWants file fault
 refusal_is_memory file version fault h refused =
     let none = first_fault_none file version h in
     ⊎_elim (λ memory. memory) (λ is. absurd (cc)) refused
 
--- a refusal that is the first check that fails, or want of memory, answers
+-- a refusal that is the first check that fails, or lack of memory, answers
 pub refusal_answers : (file : List ℕ) (fault : KeyFault)
     → IsWantOfMemory SetWants file fault ⊎ (first_fault file ≡ Some fault)
     → Answers file (Err fault)

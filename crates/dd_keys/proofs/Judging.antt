@@ -30,7 +30,7 @@ use Rattle.dd_keys.specs.Table.{study_row, series_row, study_id_row, series_numb
 use Rattle.dd_keys.specs.Summaries.{front_of, summary_key_fault, summary_row_fault}
 use Rattle.dd_keys.proofs.Tells.{TellsSet}
 use Rattle.dd_keys.specs.Table.{tag_of, wanted_tags}
-use Rattle.dd_keys.specs.Summaries.{summary_table_fault, summary_fault, summary_key, summary_uid, summary_parts}
+use Rattle.dd_keys.specs.Summaries.{summary_table_fault, summary_fault, summary_key, summary_bytes, summary_parts}
 use Rattle.dd_keys.specs.Summaries.{IsJudged}
 use Rattle.dd_keys.specs.Values.{value_at, or_other}
 use Rattle.dd_keys.proofs.SetValues.{key_in, uid_in, parts_in}
@@ -119,7 +119,7 @@ module _ (tells : Tag → Summary) (f : FileParts) (shows : TellsSet tells f.set
       (front_is row.tag is (held_key row.tag (value_at row.tag f.set) e))
 
   uid_is : (row : UidRow) → is_wanted wanted_tags row.tag ≡ true → uid_fault row f.meta f.set ≡ None
-      → summary_uid tells row.tag ≡ uid_in row.tag f.set
+      → summary_bytes tells row.tag ≡ uid_in row.tag f.set
   uid_is row is e =
       ap (λ (held : Option (List ℕ)). unwrap_or held [])
       (front_is row.tag is (held_uid row.tag (wanted_uid f.meta row.same_as) (value_at row.tag f.set) e))

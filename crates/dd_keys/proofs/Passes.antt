@@ -1,12 +1,8 @@
 -- No check of the table fails exactly where those of each row pass.
 use Rattle.std.proofs.Common.{◌≡◌, List, [], ◌∷◌, Option, Some, None, map, refl}
-use Rattle.dd_elem.specs.declared.tag.Tag.{Tag}
-use Rattle.dd_scan.specs.Scan.{Summary}
 use Rattle.dd_part10.specs.Reading.{FileParts}
-use Rattle.dd_encoding.specs.declared.meta.Meta.{Meta}
 use Rattle.dd_keys.specs.declared.fault.KeyFault.{KeyFault}
 use Rattle.dd_keys.specs.Faults.{first, row_fault, table_fault}
-use Rattle.dd_keys.specs.Summaries.{summary_row_fault, summary_table_fault}
 use Rattle.dd_keys.specs.Table.{Row, key, uid, rows, charset_row, class_row, instance_row, study_date_row}
 use Rattle.dd_keys.specs.Table.{study_time_row, accession_row, modality_row, description_row, patient_name_row}
 use Rattle.dd_keys.specs.Table.{patient_id_row, study_row, series_row, study_id_row, series_number_row}
@@ -120,9 +116,3 @@ passes file e = all_pass (row_fault file) e
 pub table_fault_none : (file : FileParts) → Passes (row_fault file) → table_fault file ≡ None
 unfolding table_fault
 table_fault_none file p = none_fails (row_fault file) p
-
--- the same by summaries
-pub summary_passes : (meta : Meta) (tells : Tag → Summary) → summary_table_fault meta tells ≡ None
-    → Passes (summary_row_fault meta tells)
-unfolding summary_table_fault
-summary_passes meta tells e = all_pass (summary_row_fault meta tells) e

@@ -12,7 +12,8 @@ use Rattle.dd_scan.specs.Scan.{Summary, cleaned, summary_of_value, summary_of, H
 use Rattle.dd_scan.specs.Scan.{found_hit}
 use Rattle.dd_scan.specs.declared.found.Found.{Found}
 use Rattle.dd_part10.proofs.Tags.{same_tag-is}
-use Rattle.dd_keys.specs.Summaries.{summary_at, value_of_key, summary_of_found, summary_in, IsFront, AreFronts}
+use Rattle.dd_scan.specs.Summaries.{bytes_or_sequence, summary_of_found, summary_in}
+use Rattle.dd_keys.specs.Summaries.{summary_at, IsFront, AreFronts}
 use Rattle.dd_keys.proofs.Tells.{TellsSet}
 use Rattle.dd_keys.specs.Table.{wanted_tags}
 use Rattle.dd_keys.specs.Values.{content_value, element_value, value_at}
@@ -22,7 +23,7 @@ use Rattle.dd_keys.proofs.Held.{content_value-clean, value_at-clean}
 
 hit_summary : Option Hit → Summary
 hit_summary None = cleaned [] 0
-hit_summary (Some hit) = value_of_key hit.summary
+hit_summary (Some hit) = bytes_or_sequence hit.summary
 
 hits_summary : Tag → List Hit → Summary
 hits_summary tag hits = hit_summary (find (λ hit. same_tag hit.tag tag) hits)
@@ -43,7 +44,7 @@ found_is tag (found ∷ founds) =
 
 -- ---- the hits of a set tell its values at the wanted tags
 
-content_summary : (content : Content) → value_of_key (summary_of content) ≡ summary_of_value (content_value content)
+content_summary : (content : Content) → bytes_or_sequence (summary_of content) ≡ summary_of_value (content_value content)
 content_summary (bytes value) = refl
 content_summary (items form parts) = refl
 content_summary (fragments fs) = refl
@@ -69,11 +70,15 @@ hits_tell wanted tag is (e ∷ es) =
     (find (λ e. same_tag e.tag tag) es)
     (λ same. ap (is_wanted wanted) (same_tag-is e.tag tag same) ∙ is) refl (hits_tell wanted tag is es)
 
--- a scan for the tags of the table tells the values at them
+-- a scan tells the values at the tags that it is for
+pub found_tells : (wanted : List Tag) (founds : List Found) (set : Elements) → map found_hit founds ≡ hits_of wanted set
+    → (tag : Tag) → is_wanted wanted tag ≡ true → summary_in tag founds ≡ summary_at tag set
+found_tells wanted founds set h tag is =
+    found_is tag founds ∙ ap (hits_summary tag) h ∙ hits_tell wanted tag is (element_list set)
+
 pub scan_tells : (founds : List Found) (set : Elements) → map found_hit founds ≡ hits_of wanted_tags set
     → TellsSet (λ tag. summary_in tag founds) set
-scan_tells founds set h tag wanted =
-    found_is tag founds ∙ ap (hits_summary tag) h ∙ hits_tell wanted_tags tag wanted (element_list set)
+scan_tells founds set h = found_tells wanted_tags founds set h
 
 -- ---- a front that is not too long for a key is one
 

@@ -20,7 +20,7 @@ pub record Answers (file : List ℕ) (answer : Result Parts KeyFault) : Type 0 w
   -- a version is answered where there is one, unless memory runs out
   pub only : (version : Parts) → IsVersion file version
       → MatchResult answer (λ parts. parts ≡ version) (IsWantOfMemory SetWants file)
-  -- a refusal is the first check that fails, or want of memory where memory is wanted
+  -- a refusal is the first check that fails, or lack of memory where memory is wanted
   pub fault : IfErr answer (λ fault. IsWantOfMemory SetWants file fault ⊎ (first_fault file ≡ Some fault))
 
 -- The answer for a reader that gave `given` in the call and has `left` still to come; its failures were `old` and are
@@ -36,7 +36,7 @@ pub record AnswersReader (limit : ℕ) (given : List ℕ) (left : Option (List �
   -- and is that for the bytes that it gave,
   pub whole : answer ≢ Err Read → answer ≢ Err FileTooLong → IfErr answer (λ fault. ¬ SaysMemory fault)
       → Answers given answer
-  -- or want of memory where it is wanted, for the data set where an element of the table is there
+  -- or lack of memory where it is wanted, for the data set where an element of the table is there
   pub memory : IfErr answer (λ fault. SaysMemory fault → IsWantOfMemory (ScanWants wanted_tags) given fault)
 
 -- the refusal of a file that was not read

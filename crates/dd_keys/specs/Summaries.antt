@@ -1,52 +1,25 @@
 -- The checks of the table and the keys of a file, by summaries of the values of its data set: that a value is a
 -- sequence, or else its first 1,024 bytes and how many it has.
-use Rattle.std.specs.Prelude.{◌≡◌, ◌≤◌, ◌⊎◌, ℕ, List, [], Option, Some, None, Result, Ok, Err, map, find}
+use Rattle.std.specs.Prelude.{◌≡◌, ◌≤◌, ◌⊎◌, ℕ, List, Option, Some, None, Result, Ok, Err, map}
 use Rattle.std.specs.Prelude.{nat_lt, if◌then◌else◌}
 use Rattle.dd_elem.specs.Key.{IsKey, max_key_length}
 use Rattle.dd_elem.specs.declared.tag.Tag.{Tag}
 use Rattle.dd_encoding.specs.Elements.{Elements}
-use Rattle.dd_grammar.specs.Lists.{same_tag}
-use Rattle.dd_scan.specs.Scan.{Summary, sequence, fragments, cleaned, summary_of_value, found_summary}
-use Rattle.dd_scan.specs.declared.found.Found.{Found}
+use Rattle.dd_scan.specs.Scan.{Summary, sequence, fragments, cleaned, summary_of_value}
 use Rattle.dd_encoding.specs.declared.meta.Meta.{Meta}
 use Rattle.dd_keys.specs.declared.fault.KeyFault.{KeyFault}
 use Rattle.dd_keys.specs.declared.fault.KeyFault.TheVariants.{NotImage, KeyTooLong, KeyIsSequence, Memory}
-use Rattle.dd_keys.specs.declared.summary.ValueSummary.{ValueSummary}
-use Rattle.dd_keys.specs.declared.summary.ValueSummary.TheVariants.{Items, Bytes}
 use Rattle.dd_version.specs.declared.parts.Parts.{Parts}
-use Rattle.dd_version.specs.declared.keys.PatientKeys.{PatientKeys}
-use Rattle.dd_version.specs.declared.keys.StudyKeys.{StudyKeys}
-use Rattle.dd_version.specs.declared.keys.SeriesKeys.{SeriesKeys}
 use Rattle.dd_version.specs.Classes.{is_image_class}
 use Rattle.dd_keys.specs.Faults.{wanted_uid, uid_fault_of, first}
 use Rattle.dd_keys.specs.Table.{KeyRow, UidRow, Row, key, uid, rows}
-use Rattle.dd_keys.specs.Values.{value_at, key_by, uid_by, patient_by, study_by, series_by, parts_by}
+use Rattle.dd_keys.specs.Values.{value_at, key_by, uid_by, parts_by}
 
 -- ---- summaries
 
 -- the summary of the value that a data set has at a tag
 abbrev pub summary_at : Tag → Elements → Summary
 summary_at tag set = summary_of_value (value_at tag set)
-
--- the same where the element is that of a key: fragments count as a sequence, since a key has neither as its value
-abbrev pub value_of_key : Summary → Summary
-value_of_key sequence = sequence
-value_of_key fragments = sequence
-value_of_key (cleaned front size) = cleaned front size
-
--- that of an element that may have been found
-abbrev pub summary_of_found : Option Found → Summary
-summary_of_found None = cleaned [] 0
-summary_of_found (Some found) = value_of_key (found_summary found.value)
-
--- that of the first one with a tag
-abbrev pub summary_in : Tag → List Found → Summary
-summary_in tag founds = summary_of_found (find (λ found. same_tag found.tag tag) founds)
-
--- what the code says
-abbrev pub shown_summary : ValueSummary → Summary
-shown_summary Items = sequence
-shown_summary (Bytes front size) = cleaned front.now size
 
 -- the front of a value that is not too long for a key is one
 abbrev pub IsFront : Summary → Type 0
@@ -96,22 +69,14 @@ module _ (tells : Tag → Summary) where
   abbrev pub summary_key : KeyRow → List ℕ
   summary_key row = key_by summary_values row
 
-  abbrev pub summary_uid : Tag → List ℕ
-  summary_uid tag = uid_by summary_values tag
-
-  abbrev pub summary_patient : PatientKeys
-  summary_patient = patient_by summary_values
-
-  abbrev pub summary_study : StudyKeys
-  summary_study = study_by summary_values
-
-  abbrev pub summary_series : SeriesKeys
-  summary_series = series_by summary_values
+  -- the bytes at a tag: no bytes where the value is a sequence
+  abbrev pub summary_bytes : Tag → List ℕ
+  summary_bytes tag = uid_by summary_values tag
 
   abbrev pub summary_parts : List ℕ → Meta → Parts
   summary_parts digest meta = parts_by summary_values digest meta
 
--- the answer, where this is the first check that fails and these are the parts; want of memory comes behind all checks
+-- the answer, where this is the first check that fails and these are the parts; lack of memory comes after all checks
 abbrev pub IsJudged : Option KeyFault → Parts → Result Parts KeyFault → Type 0
 IsJudged check parts (Ok version) = (check ≡ None) × (version ≡ parts)
 IsJudged check parts (Err fault) = (check ≡ None) × (fault ≡ Memory) ⊎ (check ≡ Some fault)

@@ -10,7 +10,7 @@ use dd_part10::{FileFault, StreamFault};
 use thiserror::Error;
 
 /// The first check that a file fails as that of a version; or a reader's failure, too many bytes, or
-/// want of memory.
+/// lack of memory.
 #[derive(Clone, Copy, Debug, PartialEq, Eq, Error)]
 pub enum KeyFault {
     /// The bytes are no file; or an allocation was refused while they were read as one.

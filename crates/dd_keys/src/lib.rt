@@ -2,8 +2,8 @@
 //! memory or from a reader.
 //!
 //! Its one promise: what is read as the version of a file is that, and a refusal names the first check
-//! that the file fails. Where an allocation is refused, while the file is read or behind all checks, the
-//! answer is want of memory instead.
+//! that the file fails. Where an allocation is refused, while the file is read or after all checks, the
+//! answer is lack of memory instead.
 #![tactic(auto)]
 
 mod digesting;

@@ -1,84 +1,88 @@
-//! The checks of the table: here the rows say which of them a file fails.
+//! The rows of the table: the checks of each, and the value that passes them.
 
-ghost use Rattle.std.specs.Prelude.{◌≡◌, map};
+ghost use Rattle.std.specs.Prelude.{◌≡◌, ◌≤◌, length, IfOk};
 ghost use Rattle.std.specs.Option.{option_copied};
-ghost use Rattle.dd_keys.specs.Faults.{first, mismatch_of, wanted_uid};
-ghost use Rattle.dd_keys.specs.RowViews.{row_view, uid_row_view};
-ghost use Rattle.dd_keys.specs.Summaries.{summary_key_fault, summary_uid_fault, summary_row_fault, summary_table_fault};
+ghost use Rattle.std.specs.Result.{result_err};
+ghost use Rattle.dd_elem.specs.Clean.{clean_of};
+ghost use Rattle.dd_elem.specs.Key.{IsKey, max_key_length};
+ghost use Rattle.dd_keys.specs.Faults.{mismatch_of, wanted_uid};
+ghost use Rattle.dd_keys.specs.RowViews.{uid_row_view};
+ghost use Rattle.dd_keys.specs.Summaries.{AreFronts, summary_bytes, summary_key_fault, summary_uid_fault};
+ghost use Rattle.dd_keys.specs.Values.{or_other};
 
 use crate::fault::KeyFault;
-use crate::rows::{KeyRow, MetaUid, ROWS, Row, UidRow};
-use crate::summary::{ValueSummary, Values};
-use dd_elem::{Key, Tag, Uid};
+use crate::rows::{KeyRow, MetaUid, UidRow};
+use crate::summary::Values;
+use dd_elem::{Key, Memory, Tag, Uid};
 use dd_part10::Meta;
-
-/// The first check of the table that a file fails.
-#[tactic(auto, unfolding(crate::specs::Summaries::summary_table_fault))]
-pub(crate) fn table_fault<V: Values>(meta: &Meta, values: &V) -> Option<KeyFault>
-    ensures { result ≡ summary_table_fault meta.now (V.tells values.now) }
-{
-    first_fault(&ROWS, meta, values)
-}
-
-/// The first check of these rows that a file fails.
-fn first_fault<V: Values>(mut rows: &[Row], meta: &Meta, values: &V) -> Option<KeyFault>
-    ensures { result
-        ≡ first (map (λ row. summary_row_fault meta.now (V.tells values.now)
-        (row_view row)) rows.entry.now) }
-{
-    while let [row, rest @ ..] = rows {
-        if let Some(fault) = row.fault(meta, values) {
-            return Some(fault);
-        }
-        rows = rest;
-    }
-    None
-}
-
-impl Row {
-    /// The first check of the row that a file fails.
-    fn fault<V: Values>(&self, meta: &Meta, values: &V) -> Option<KeyFault>
-        ensures { result ≡ summary_row_fault meta.now (V.tells values.now) (row_view self.now) }
-    {
-        match self {
-            Row::Key(row) => row.fault(values),
-            Row::Uid(row) => row.fault(meta, values),
-        }
-    }
-}
+use std::alloc::Global;
 
 impl KeyRow {
-    /// The first check of a key that a data set fails.
-    fn fault<V: Values>(&self, values: &V) -> Option<KeyFault>
-        ensures { result ≡ summary_key_fault self.now.tag (V.tells values.now self.now.tag) }
+    /// The value that a data set has, or the first check of a key that it fails.
+    pub fn value<'v, V: Values>(&self, values: &'v V) -> Result<&'v [u8], KeyFault>
+        requires { AreFronts (V.tells values.now) }
+        ensures fault { result_err result
+            ≡ summary_key_fault self.now.tag (V.tells values.now self.now.tag) }
+        ensures value { IfOk result (λ value. value.now
+            ≡ summary_bytes (V.tells values.now) self.now.tag) }
+        ensures valid { IfOk result (λ value. IsKey value.now) }
     {
         match values.value(self.tag) {
-            ValueSummary::Items => Some(KeyFault::KeyIsSequence(self.tag)),
-            ValueSummary::Bytes { length, .. } if length > Key::MAX_LEN as u64 => {
-                Some(KeyFault::KeyTooLong(self.tag))
+            None => Err(KeyFault::KeyIsSequence(self.tag)),
+            Some(value) if value.length > Key::MAX_LEN as u64 => {
+                Err(KeyFault::KeyTooLong(self.tag))
             }
-            ValueSummary::Bytes { .. } => None,
+            Some(value) => Ok(value.front),
         }
+    }
+
+    /// The key that this value is: another one where it is empty.
+    pub fn key(&self, alloc: Global, value: &[u8]) -> Result<Key, Memory>
+        requires valid { IsKey value.now }
+        requires clean { clean_of self.now.when_empty.now ≡ self.now.when_empty.now }
+        requires short { length self.now.when_empty.now ≤ max_key_length }
+        ensures { IfOk result (λ key. key ≡ or_other value.now self.now.when_empty.now) }
+    {
+        if value.is_empty() {
+            keep(alloc, self.when_empty)
+        } else {
+            keep(alloc, value)
+        }
+    }
+}
+
+/// The key with these bytes.
+fn keep(alloc: Global, bytes: &[u8]) -> Result<Key, Memory>
+    requires { IsKey bytes.now }
+    ensures { IfOk result (λ key. key ≡ bytes.now) }
+{
+    match Key::copy_of(alloc, bytes) {
+        Ok(key) => Ok(key),
+        Err(_) => Err(Memory),
     }
 }
 
 impl UidRow {
-    /// The first check of a UID that a data set fails. A UID has at most 64 bytes, so that the front of a
-    /// longer value is none, as the value is none.
-    fn fault<V: Values>(&self, meta: &Meta, values: &V) -> Option<KeyFault>
-        ensures { result ≡ summary_uid_fault (uid_row_view self.now) meta.now
+    /// The UID that a data set gives, or the first check of it that the data set fails. A UID has at most
+    /// 64 bytes, so that neither a longer value nor its front is a UID.
+    pub fn uid<V: Values>(&self, meta: &Meta, values: &V) -> Result<Uid, KeyFault>
+        ensures fault { result_err result ≡ summary_uid_fault (uid_row_view self.now) meta.now
             (V.tells values.now self.now.tag) }
+        ensures value { IfOk result (λ uid. uid ≡ summary_bytes (V.tells values.now) self.now.tag) }
     {
-        let ValueSummary::Bytes { front, .. } = values.value(self.tag) else {
-            return Some(KeyFault::KeyIsSequence(self.tag));
+        let Some(value) = values.value(self.tag) else {
+            return Err(KeyFault::KeyIsSequence(self.tag));
         };
-        if front.is_empty() {
-            return Some(KeyFault::MissingKey(self.tag));
+        if value.front.is_empty() {
+            return Err(KeyFault::MissingKey(self.tag));
         }
-        if Uid::new(front).is_err() {
-            return Some(KeyFault::BadKeyUid(self.tag));
+        let Ok(uid) = Uid::new(value.front) else {
+            return Err(KeyFault::BadKeyUid(self.tag));
+        };
+        match mismatch(self.tag, wanted_uid(meta, self.same_as), value.front) {
+            Some(fault) => Err(fault),
+            None => Ok(uid),
         }
-        mismatch(self.tag, wanted_uid(meta, self.same_as), front)
     }
 }
 

@@ -1,135 +1,140 @@
-//! The keys and UIDs that the data set of a file gives: here the rows take them from a file that passes the checks.
+//! The values that the data set of a file has in the rows of the table, and the keys that they are.
 
-ghost use Rattle.std.specs.Prelude.{◌≡◌, ◌≤◌, length, None, IfOk};
-ghost use Rattle.dd_elem.specs.Clean.{clean_of};
-ghost use Rattle.dd_elem.specs.Key.{IsKey, max_key_length};
-ghost use Rattle.dd_keys.specs.RowViews.{key_row_view, uid_row_view};
-ghost use Rattle.dd_keys.specs.Summaries.{AreFronts, summary_key_fault, summary_uid_fault, summary_table_fault};
-ghost use Rattle.dd_keys.specs.Summaries.{summary_key, summary_uid, summary_patient, summary_study, summary_series};
-ghost use Rattle.dd_keys.specs.Summaries.{summary_parts};
+ghost use Rattle.std.specs.Prelude.{◌≡◌, List, ℕ, IfOk};
+ghost use Rattle.std.specs.Result.{result_err};
+ghost use Rattle.dd_keys.specs.RowViews.{AreKeys, row_parts, row_patient, row_series, row_study};
+ghost use Rattle.dd_keys.specs.Summaries.{AreFronts, summary_parts, summary_table_fault};
 
+use crate::fault::KeyFault;
 use crate::rows::{
-    ACCESSION, CHARSET, DESCRIPTION, INSTANCE_NUMBER, KeyRow, MODALITY, PATIENT_ID, PATIENT_NAME,
-    SERIES, SERIES_NUMBER, STUDY, STUDY_DATE, STUDY_ID, STUDY_TIME, UidRow,
+    ACCESSION, CHARSET, CLASS, DESCRIPTION, INSTANCE, INSTANCE_NUMBER, MODALITY, PATIENT_ID,
+    PATIENT_NAME, SERIES, SERIES_NUMBER, STUDY, STUDY_DATE, STUDY_ID, STUDY_TIME,
 };
-use crate::summary::{ValueSummary, Values};
-use dd_elem::{Key, KeyRefused, Memory, Uid};
+use crate::summary::Values;
+use dd_elem::{Memory, Uid};
 use dd_part10::Meta;
 use dd_version::{Parts, PatientKeys, SeriesKeys, StudyKeys};
 use std::alloc::Global;
 
-/// The key with these bytes.
-fn keep(alloc: Global, bytes: &[u8]) -> Result<Key, Memory>
-    requires { IsKey bytes.now }
-    ensures { IfOk result (λ key. key ≡ bytes.now) }
-{
-    match Key::copy_of(alloc, bytes) {
-        Ok(key) => Ok(key),
-        Err(KeyRefused::Memory) => Err(Memory),
-        Err(KeyRefused::TooLong) => unreachable!(),
-    }
+/// The values that a data set has in the rows of the table, each of which passes the checks of its row.
+#[derive(Clone, Copy)]
+pub(crate) struct RowValues<'v> {
+    charset: &'v [u8],
+    study_date: &'v [u8],
+    study_time: &'v [u8],
+    accession: &'v [u8],
+    modality: &'v [u8],
+    description: &'v [u8],
+    patient_name: &'v [u8],
+    patient_id: &'v [u8],
+    study: Uid,
+    series: Uid,
+    study_id: &'v [u8],
+    series_number: &'v [u8],
+    instance_number: &'v [u8],
 }
 
-impl KeyRow {
-    /// The key that a data set gives.
-    fn key<V: Values>(&self, alloc: Global, values: &V) -> Result<Key, Memory>
-        requires passes { summary_key_fault self.now.tag (V.tells values.now self.now.tag) ≡ None }
+impl<'v> RowValues<'v> {
+    /// The values of a data set, or the first check of the table that it fails.
+    #[tactic(auto, unfolding(crate::specs::Summaries::summary_table_fault))]
+    pub(crate) fn of<V: Values>(meta: &Meta, values: &'v V) -> Result<RowValues<'v>, KeyFault>
         requires fronts { AreFronts (V.tells values.now) }
-        requires clean { clean_of self.now.when_empty.now ≡ self.now.when_empty.now }
-        requires short { length self.now.when_empty.now ≤ max_key_length }
-        ensures { IfOk result (λ key. key
-            ≡ summary_key (V.tells values.now) (key_row_view self.now)) }
+        ensures fault { result_err result ≡ summary_table_fault meta.now (V.tells values.now) }
+        ensures parts { IfOk result (λ found. (digest : List ℕ) → row_parts found digest meta.now
+            ≡ summary_parts (V.tells values.now) digest meta.now) }
+        ensures keys { IfOk result AreKeys }
     {
-        let ValueSummary::Bytes { front, .. } = values.value(self.tag) else {
-            unreachable!()
-        };
-        if front.is_empty() {
-            keep(alloc, self.when_empty)
-        } else {
-            keep(alloc, front)
-        }
+        let charset = CHARSET.value(values)?;
+        CLASS.uid(meta, values)?;
+        INSTANCE.uid(meta, values)?;
+        let study_date = STUDY_DATE.value(values)?;
+        let study_time = STUDY_TIME.value(values)?;
+        let accession = ACCESSION.value(values)?;
+        let modality = MODALITY.value(values)?;
+        let description = DESCRIPTION.value(values)?;
+        let patient_name = PATIENT_NAME.value(values)?;
+        let patient_id = PATIENT_ID.value(values)?;
+        let study = STUDY.uid(meta, values)?;
+        let series = SERIES.uid(meta, values)?;
+        let study_id = STUDY_ID.value(values)?;
+        let series_number = SERIES_NUMBER.value(values)?;
+        let instance_number = INSTANCE_NUMBER.value(values)?;
+        Ok(RowValues {
+            charset,
+            study_date,
+            study_time,
+            accession,
+            modality,
+            description,
+            patient_name,
+            patient_id,
+            study,
+            series,
+            study_id,
+            series_number,
+            instance_number,
+        })
     }
-}
 
-impl UidRow {
-    /// The UID that a data set gives.
-    fn uid<V: Values>(&self, meta: &Meta, values: &V) -> Uid
-        requires { summary_uid_fault (uid_row_view self.now) meta.now
-            (V.tells values.now self.now.tag) ≡ None }
-        ensures { result ≡ summary_uid (V.tells values.now) self.now.tag }
+    /// The keys of the patient.
+    fn patient(&self, alloc: Global) -> Result<PatientKeys, Memory>
+        requires { AreKeys self.now }
+        ensures { IfOk result (λ patient. patient ≡ row_patient self.now) }
     {
-        let ValueSummary::Bytes { front, .. } = values.value(self.tag) else {
-            unreachable!()
-        };
-        let Ok(uid) = Uid::new(front) else {
-            unreachable!()
-        };
-        uid
+        Ok(PatientKeys {
+            id: PATIENT_ID.key(alloc, self.patient_id)?,
+            name: PATIENT_NAME.key(alloc, self.patient_name)?,
+            charset: CHARSET.key(alloc, self.charset)?,
+        })
     }
-}
 
-/// The keys of the patient of a file that passes the checks of the table.
-fn patient_keys<V: Values>(alloc: Global, meta: &Meta, values: &V) -> Result<PatientKeys, Memory>
-    requires passes { summary_table_fault meta.now (V.tells values.now) ≡ None }
-    requires fronts { AreFronts (V.tells values.now) }
-    ensures { IfOk result (λ patient. patient ≡ summary_patient (V.tells values.now)) }
-{
-    Ok(PatientKeys {
-        id: PATIENT_ID.key(alloc, values)?,
-        name: PATIENT_NAME.key(alloc, values)?,
-        charset: CHARSET.key(alloc, values)?,
-    })
-}
+    /// The keys of the study.
+    fn study(&self, alloc: Global) -> Result<StudyKeys, Memory>
+        requires { AreKeys self.now }
+        ensures { IfOk result (λ study. study ≡ row_study self.now) }
+    {
+        Ok(StudyKeys {
+            uid: self.study,
+            date: STUDY_DATE.key(alloc, self.study_date)?,
+            time: STUDY_TIME.key(alloc, self.study_time)?,
+            accession: ACCESSION.key(alloc, self.accession)?,
+            description: DESCRIPTION.key(alloc, self.description)?,
+            id: STUDY_ID.key(alloc, self.study_id)?,
+            charset: CHARSET.key(alloc, self.charset)?,
+        })
+    }
 
-/// The keys of its study.
-fn study_keys<V: Values>(alloc: Global, meta: &Meta, values: &V) -> Result<StudyKeys, Memory>
-    requires passes { summary_table_fault meta.now (V.tells values.now) ≡ None }
-    requires fronts { AreFronts (V.tells values.now) }
-    ensures { IfOk result (λ study. study ≡ summary_study (V.tells values.now)) }
-{
-    Ok(StudyKeys {
-        uid: STUDY.uid(meta, values),
-        date: STUDY_DATE.key(alloc, values)?,
-        time: STUDY_TIME.key(alloc, values)?,
-        accession: ACCESSION.key(alloc, values)?,
-        description: DESCRIPTION.key(alloc, values)?,
-        id: STUDY_ID.key(alloc, values)?,
-        charset: CHARSET.key(alloc, values)?,
-    })
-}
+    /// The keys of the series.
+    fn series(&self, alloc: Global) -> Result<SeriesKeys, Memory>
+        requires { AreKeys self.now }
+        ensures { IfOk result (λ series. series ≡ row_series self.now) }
+    {
+        Ok(SeriesKeys {
+            uid: self.series,
+            modality: MODALITY.key(alloc, self.modality)?,
+            number: SERIES_NUMBER.key(alloc, self.series_number)?,
+        })
+    }
 
-/// The keys of its series.
-fn series_keys<V: Values>(alloc: Global, meta: &Meta, values: &V) -> Result<SeriesKeys, Memory>
-    requires passes { summary_table_fault meta.now (V.tells values.now) ≡ None }
-    requires fronts { AreFronts (V.tells values.now) }
-    ensures { IfOk result (λ series. series ≡ summary_series (V.tells values.now)) }
-{
-    Ok(SeriesKeys {
-        uid: SERIES.uid(meta, values),
-        modality: MODALITY.key(alloc, values)?,
-        number: SERIES_NUMBER.key(alloc, values)?,
-    })
-}
-
-/// The parts of the version of a file with this digest, which passes all checks.
-pub(crate) fn parts_in<V: Values>(
-    alloc: Global,
-    meta: &Meta,
-    values: &V,
-    digest: [u8; 32],
-) -> Result<Parts, Memory>
-    requires passes { summary_table_fault meta.now (V.tells values.now) ≡ None }
-    requires fronts { AreFronts (V.tells values.now) }
-    ensures { IfOk result (λ parts. parts ≡ summary_parts (V.tells values.now) digest meta.now) }
-{
-    Ok(Parts {
-        digest,
-        patient: patient_keys(alloc, meta, values)?,
-        study: study_keys(alloc, meta, values)?,
-        series: series_keys(alloc, meta, values)?,
-        number: INSTANCE_NUMBER.key(alloc, values)?,
-        class: meta.class,
-        transfer: meta.transfer,
-        instance: meta.instance,
-    })
+    /// The parts of the version of a file with this meta information and this digest.
+    pub(crate) fn parts(
+        &self,
+        alloc: Global,
+        meta: &Meta,
+        digest: [u8; 32],
+    ) -> Result<Parts, Memory>
+        requires { AreKeys self.now }
+        ensures { IfOk result (λ parts. parts ≡ row_parts self.now digest meta.now) }
+    {
+        Ok(Parts {
+            digest,
+            patient: self.patient(alloc)?,
+            study: self.study(alloc)?,
+            series: self.series(alloc)?,
+            number: INSTANCE_NUMBER.key(alloc, self.instance_number)?,
+            class: meta.class,
+            transfer: meta.transfer,
+            instance: meta.instance,
+        })
+    }
 }

@@ -2,15 +2,6 @@
 
 use dd_elem::{Tag, tags};
 
-/// An element of a file's data set that gives a version a key or a UID.
-#[derive(Clone, Copy)]
-pub(crate) enum Row {
-    /// An element with a key.
-    Key(KeyRow),
-    /// An element with a UID.
-    Uid(UidRow),
-}
-
 /// An element whose value is a key: at most 1,024 bytes without padding.
 #[derive(Clone, Copy)]
 pub(crate) struct KeyRow {
@@ -102,25 +93,6 @@ pub(crate) const SERIES_NUMBER: KeyRow = key_row!(tags::SERIES_NUMBER, b"0");
 
 /// Instance Number.
 pub(crate) const INSTANCE_NUMBER: KeyRow = key_row!(tags::INSTANCE_NUMBER, b"0");
-
-/// The rows in the order of their tags.
-pub(crate) const ROWS: [Row; 15] = [
-    Row::Key(CHARSET),
-    Row::Uid(CLASS),
-    Row::Uid(INSTANCE),
-    Row::Key(STUDY_DATE),
-    Row::Key(STUDY_TIME),
-    Row::Key(ACCESSION),
-    Row::Key(MODALITY),
-    Row::Key(DESCRIPTION),
-    Row::Key(PATIENT_NAME),
-    Row::Key(PATIENT_ID),
-    Row::Uid(STUDY),
-    Row::Uid(SERIES),
-    Row::Key(STUDY_ID),
-    Row::Key(SERIES_NUMBER),
-    Row::Key(INSTANCE_NUMBER),
-];
 
 /// The tags of the rows, in their order.
 pub(crate) const WANTED: [Tag; 15] = [

@@ -12,8 +12,7 @@ ghost use Rattle.dd_keys.specs.Versions.{IsVersion};
 
 use crate::digesting::{Digested, read_digested};
 use crate::fault::KeyFault;
-use crate::row_checks::table_fault;
-use crate::row_values::parts_in;
+use crate::row_values::RowValues;
 use crate::rows::WANTED;
 use crate::summary::Values;
 use dd_elem::Read;
@@ -25,8 +24,8 @@ use std::alloc::Global;
 /// The version whose file these bytes are: the keys of the data set's elements, without their padding
 /// and replaced where one is empty that a directory must have; the UIDs of group 0002; the SHA-256 of
 /// all the bytes. Otherwise the first check that fails: those of a file (PS3.10 section 7), the class
-/// of group 0002, and then those of each element in the order of tags. Or want of memory: `File` with
-/// that of the parse, and `Memory` behind all checks.
+/// of group 0002, and then those of each element in the order of tags. Or lack of memory: `File` with
+/// that of the parse, and `Memory` after all checks.
 pub fn version_of(alloc: Global, bytes: &[u8]) -> Result<Version, KeyFault>
     ensures { Answers bytes.now result }
 {
@@ -39,8 +38,8 @@ pub fn version_of(alloc: Global, bytes: &[u8]) -> Result<Version, KeyFault>
 ///
 /// `Read` where the reader fails and `FileTooLong` where it gives `limit` bytes and one more; both come
 /// before every check. Else it has read to the end, and the answer is that of `version_of` for the bytes
-/// that the reader gave. Or want of memory: `File` with that of group 0002, or of the data set where an
-/// element of the table is there, and `Memory` behind all checks. It makes at most `limit` + 1 reads.
+/// that the reader gave. Or lack of memory: `File` with that of group 0002, or of the data set where an
+/// element of the table is there, and `Memory` after all checks. It makes at most `limit` + 1 reads.
 pub fn ingest<R: Read>(alloc: Global, reader: &mut R, limit: u64) -> Result<Version, KeyFault>
     ensures { ReadsUpTo R.Read limit reader.old reader.new
         (λ given left failures after. AnswersReader limit given left failures after result) }
@@ -51,7 +50,7 @@ pub fn ingest<R: Read>(alloc: Global, reader: &mut R, limit: u64) -> Result<Vers
 }
 
 /// The version of a file with this meta information, these values of its data set and this digest; or the
-/// first check that fails, of its class and of the table; or want of memory behind them.
+/// first check that fails, of its class and of the table; or lack of memory after them.
 fn version_from<V: Values>(
     alloc: Global,
     meta: &Meta,
@@ -66,11 +65,13 @@ fn version_from<V: Values>(
     if !is_image_class(&meta.class) {
         return Err(KeyFault::NotImage(meta.class));
     }
-    if let Some(fault) = table_fault(meta, values) {
-        return Err(fault);
+    match RowValues::of(meta, values) {
+        Ok(found) => {
+            let parts = found.parts(alloc, meta, digest)?;
+            Ok(Version::of(parts).unwrap())
+        }
+        Err(fault) => Err(fault),
     }
-    let parts = parts_in(alloc, meta, values, digest)?;
-    Ok(Version::of(parts).unwrap())
 }
 
 /// Law: bytes of any memory are a file of a version exactly where they fail no check, and then of one

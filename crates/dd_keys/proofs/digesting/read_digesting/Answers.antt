@@ -1,4 +1,4 @@
--- What the reader in front gave is what the reader behind it gave, and what was digested.
+-- What the reader in front gave is what the reader after it gave, and what was digested.
 use Rattle.dd_keys.proofs.Carrying.{passed}
 use Rattle.dd_keys.proofs.digesting.read_digesting.Goals as goal
 

@@ -4,7 +4,8 @@ use Rattle.std.proofs.lemmas.Result.{err_from_is_err_and}
 use Rattle.dd_elem.specs.declared.tag.Tag.{Tag}
 use Rattle.dd_scan.specs.Scan.{Summary}
 use Rattle.dd_encoding.specs.declared.meta.Meta.{Meta}
-use Rattle.dd_keys.specs.Summaries.{IsJudged, summary_fault, summary_in, summary_parts}
+use Rattle.dd_scan.specs.Summaries.{summary_in}
+use Rattle.dd_keys.specs.Summaries.{IsJudged, summary_fault, summary_parts}
 use Rattle.dd_keys.specs.Table.{wanted_tags}
 use Rattle.dd_keys.proofs.Ingesting.{answers_reader, refused_reader}
 use Rattle.dd_keys.proofs.Judging.{fault_same, judged_answers}
