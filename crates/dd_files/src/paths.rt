@@ -47,13 +47,13 @@ pub fn file_path(alloc: Global, folder: &str, file: &[u8]) -> Result<String, Mem
 {
     let mut path = path_in(alloc, folder, "")?;
     for byte in file {
-        path.push(slashed(*byte))?;
+        path.push(path_char(*byte))?;
     }
     Ok(path)
 }
 
 /// Gives what stands in a path for a character of a File ID: `/` for `\`.
-pub fn slashed(byte: u8) -> char
+pub fn path_char(byte: u8) -> char
     ensures { result ≡ slashed byte }
 {
     match byte {
