@@ -121,3 +121,8 @@ set_line walk = shown_line (set_parts (or_dash (Some walk.beside.id)) walk.besid
 -- the values by which a person recognises it
 abbrev pub long_listing : Walk → List ℕ
 long_listing walk = set_line walk ++ lines_in Long walk
+
+-- the listing of this form
+abbrev pub listing : Form → Walk → List ℕ
+listing Short walk = listing_text walk
+listing Long walk = long_listing walk

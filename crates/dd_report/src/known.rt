@@ -13,8 +13,8 @@ use dd_set::DataSet;
 use std::fmt;
 
 /// Says how much a listing shows of each record.
-#[derive(Clone, Copy)]
-pub(crate) enum Form {
+#[derive(Clone, Copy, Debug, PartialEq, Eq)]
+pub enum Form {
     /// What identifies it: its offset, its type and one value.
     Short,
     /// Also the values by which a person recognises it.
