@@ -131,12 +131,12 @@ pub(crate) fn finding_by<R: Read>(tree: &Tree<'_>, reader: &mut R, limit: u64) -
 {
     match digest_of(reader, limit) {
         None => Some(Finding::Unreadable),
-        Some(found) => compared(digest_in(&tree.set), found),
+        Some(found) => digest_finding(digest_in(&tree.set), found),
     }
 }
 
 /// Compares the digest that the record may have with that of the file.
-pub(crate) fn compared(recorded: Option<[u8; 32]>, found: [u8; 32]) -> Option<Finding>
+pub(crate) fn digest_finding(recorded: Option<[u8; 32]>, found: [u8; 32]) -> Option<Finding>
     ensures { result ≡ compared recorded found }
 {
     match recorded {
