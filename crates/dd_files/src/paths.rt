@@ -9,7 +9,7 @@ use std::alloc::Global;
 pub const DIRECTORY: &str = "DICOMDIR";
 
 /// Gives the path of a name in a folder. One `/` stands between them: none is added where the folder's text
-/// ends in `/`, and behind an empty folder the path is the bare name. Memory where an allocation is refused.
+/// ends in `/`, and after an empty folder the path is the bare name. Memory where an allocation is refused.
 pub fn path_in(alloc: Global, folder: &str, name: &str) -> Result<String, Memory>
     ensures bare { IfOk result (λ path. folder.now ≡ [] → string_bytes path ≡ name.now) }
     ensures ended { IfOk result (λ path. EndsInSlash folder.now

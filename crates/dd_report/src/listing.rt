@@ -239,7 +239,7 @@ fn list_pieces<W: Write>(value: &[u8], lines: &mut LineBuffer, to: &mut W) -> fm
     Ok(())
 }
 
-/// The first piece of the value, and what stands behind the `\` that ends it, if one does.
+/// The first piece of the value, and what stands after the `\` that ends it, if one does.
 fn first_piece(value: &[u8]) -> (&[u8], Option<&[u8]>)
     ensures { pieces_of value.now
         ≡ result.0.now ∷ pieces_in (option_map (λ rest. rest.now) result.1) }
