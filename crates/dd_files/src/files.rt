@@ -72,7 +72,7 @@ pub trait Files: Write {
         ensures bytes { Self.contents self.new ≡ Self.contents self.old };
 
     /// Makes a folder below the folder `out`, with its parents. Succeeds where it is there already. Refuses a
-    /// symbolic link as a name below `out`, and makes nothing behind such a link.
+    /// symbolic link as a name below `out`, and makes nothing through such a link.
     fn folder_in(&mut self, out: &str, path: &str) -> Result<(), NotDone>
         ensures call { IsCall Self.Write refusals held result self.old self.new }
         ensures kept { held self.new ≡ held self.old }

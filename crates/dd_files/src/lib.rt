@@ -17,6 +17,6 @@ mod whole;
 pub use copy::{CopyFault, copy_image};
 pub use digest::{digest_of, digest_text};
 pub use files::{Files, LinkFault, NotDone, NotThere, SOURCE_LIMIT};
-pub use paths::{DIRECTORY, file_path, is_joined_by_slash, path_in, slashed};
+pub use paths::{DIRECTORY, file_path, is_joined_by_slash, path_char, path_in};
 pub use progress::{Progress, Step};
 pub use whole::{ReadFault, read_whole};

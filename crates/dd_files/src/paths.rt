@@ -9,7 +9,7 @@ use std::alloc::Global;
 pub const DIRECTORY: &str = "DICOMDIR";
 
 /// Gives the path of a name in a folder. One `/` stands between them: none is added where the folder's text
-/// ends in `/`, and behind an empty folder the path is the bare name. Memory where an allocation is refused.
+/// ends in `/`, and after an empty folder the path is the bare name. Memory where an allocation is refused.
 pub fn path_in(alloc: Global, folder: &str, name: &str) -> Result<String, Memory>
     ensures bare { IfOk result (λ path. folder.now ≡ [] → string_bytes path ≡ name.now) }
     ensures ended { IfOk result (λ path. EndsInSlash folder.now
@@ -47,13 +47,13 @@ pub fn file_path(alloc: Global, folder: &str, file: &[u8]) -> Result<String, Mem
 {
     let mut path = path_in(alloc, folder, "")?;
     for byte in file {
-        path.push(slashed(*byte))?;
+        path.push(path_char(*byte))?;
     }
     Ok(path)
 }
 
 /// Gives what stands in a path for a character of a File ID: `/` for `\`.
-pub fn slashed(byte: u8) -> char
+pub fn path_char(byte: u8) -> char
     ensures { result ≡ slashed byte }
 {
     match byte {

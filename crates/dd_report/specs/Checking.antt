@@ -44,7 +44,7 @@ abbrev pub finding_line : Node → Option Finding → List ℕ
 finding_line node None = []
 finding_line node (Some finding) = shown_line (finding_parts node finding)
 
--- behind the findings how many items no offset reaches, where there are some, and else that all is right, where
+-- after the findings how many items no offset reaches, where there are some, and else that all is right, where
 -- nothing is found
 abbrev pub right_line : Walk → List ℕ
 right_line walk = shown_line (codes "OK " ∷ decimal (record_count walk.trees) ∷ codes " records" ∷ [])

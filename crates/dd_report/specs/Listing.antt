@@ -41,7 +41,7 @@ label_of node = or_dash (value_at (label_tag node.kind) node.set)
 abbrev pub flag_of : Node → List ℕ
 flag_of node = if node.in_use then [] else codes " inactive"
 
--- three words with spaces between them, and a mark at once behind the last
+-- three words with spaces between them, and a mark right after the last
 abbrev pub spaced : List ℕ → List ℕ → List ℕ → List ℕ → List (List ℕ)
 spaced first second third mark = first ∷ codes " " ∷ second ∷ codes " " ∷ third ∷ mark ∷ []
 
@@ -59,11 +59,11 @@ abbrev pub tags_in : Form → List ℕ → List Tag
 tags_in Short kind = []
 tags_in Long kind = known_tags kind
 
--- the value of an element behind ` | `
+-- the value of an element after ` | `
 abbrev pub value_parts : Elements → Tag → List (List ℕ)
 value_parts set wanted = codes " | " ∷ or_dash (value_at wanted set) ∷ []
 
--- what the line of a record says behind its spaces: two for each level. A long listing adds the values by which a
+-- what the line of a record says after its spaces: two for each level. A long listing adds the values by which a
 -- person recognises the record
 abbrev pub record_parts : Form → Node → List (List ℕ)
 record_parts form node = spaced (decimal node.at) node.kind (label_of node) (flag_of node)
@@ -121,3 +121,8 @@ set_line walk = shown_line (set_parts (or_dash (Some walk.beside.id)) walk.besid
 -- the values by which a person recognises it
 abbrev pub long_listing : Walk → List ℕ
 long_listing walk = set_line walk ++ lines_in Long walk
+
+-- the listing of this form
+abbrev pub listing : Form → Walk → List ℕ
+listing Short walk = listing_text walk
+listing Long walk = long_listing walk

@@ -41,7 +41,7 @@ shown_byte byte = if nat_le 0x20 byte && nat_le byte 0x7e then byte else 63
 abbrev pub shown : List ℕ → List ℕ
 shown text = map shown_byte text
 
--- a line of these parts, one behind the other, as it prints
+-- a line of these parts, one after the other, as it prints
 abbrev pub shown_line : List (List ℕ) → List ℕ
 shown_line parts = shown (concat parts) ++ 10 ∷ []
 

@@ -54,7 +54,7 @@ masked_char c = if is_control c then 63 else c
 unfoldable pub masked : List ℕ → List ℕ
 masked text = encode_utf8_all (map masked_char (chars text))
 
--- the parts of a line, one behind the other
+-- the parts of a line, one after the other
 abbrev pub joined : List (Bor (List ℕ)) → List ℕ
 joined parts = concat (map (λ part. part.now) parts)
 

@@ -19,7 +19,7 @@ ghost use Rattle.dd_report.specs.Agreements.{first_wrong, mislabelled, nearest, 
 ghost use Rattle.dd_report.specs.Agreements.{syntax_agreement};
 ghost use Rattle.dd_report.specs.Finding.{FindsBy, by_digest};
 
-use crate::findings::{Finding, compared, value_in};
+use crate::findings::{Finding, digest_finding, value_in};
 use dd_dir::{Tree, digest_in};
 use dd_elem::{Key, Memory, Read, Tag, Uid, tags};
 use dd_keys::{Digested, read_digested};
@@ -273,7 +273,7 @@ pub(crate) fn finding_by_keys<R: Read>(
         × SaysMemory fault × IsRefused compared_tags fault given) }
 {
     let Digested { file, digest } = read_digested(alloc, reader, &COMPARED, limit);
-    let differs = compared(digest_in(&tree.set), digest);
+    let differs = digest_finding(digest_in(&tree.set), digest);
     match file {
         Err(StreamFault::Read | StreamFault::TooLong) => Ok(Some(Finding::Unreadable)),
         _ if differs.is_some() => Ok(differs),

@@ -13,7 +13,7 @@ ghost use Rattle.dd_report.specs.Telling.{Tells, shown_line, way_of};
 ghost use Rattle.dd_report.specs.Text.{FailsInText, TakesText};
 
 use crate::agreements::{Inherited, finding_by_keys};
-use crate::findings::{Finding, file_in, finding_by, id_of, unopened, without_digest};
+use crate::findings::{Finding, file_in, finding_by, finding_unopened, id_of, without_digest};
 use crate::line_buffer::LineBuffer;
 use crate::listing::record_count;
 use crate::words::{tell_fault, tell_tag};
@@ -54,6 +54,15 @@ pub struct Check<'a> {
     pub folder: &'a str,
     /// What is compared.
     pub comparison: Comparison,
+}
+
+/// A check where the records above say this.
+#[derive(Clone, Copy)]
+struct CheckAt<'a, 't> {
+    /// The check.
+    check: Check<'a>,
+    /// What the records above say.
+    inherited: Inherited<'t>,
 }
 
 /// Checks the files in the folder that the records of a directory name. Prints what is
@@ -144,7 +153,11 @@ fn check_counted<F: Files + Progress, W: Write>(
     ensures kept { F.held files.new ≡ F.held files.old }
 {
     files.begin_step(Step::Reading, record_count(trees));
-    let checked = check_trees(check, trees, Inherited::at_root(), files, lines, to);
+    let at = CheckAt {
+        check,
+        inherited: Inherited::at_root(),
+    };
+    let checked = check_trees(at, trees, files, lines, to);
     files.hide_line();
     checked
 }
@@ -173,19 +186,18 @@ fn tell_end<W: Write>(
     lines.add_line(&[b"OK ", records, b" records"], to)
 }
 
-/// Checks the files of these records and of those below them. `inherited` is what the records above say.
+/// Checks the files of these records and of those below them. `at` has what the records above say.
 #[cycle(findings)]
 fn check_trees<'t, F: Files + Progress, W: Write>(
-    check: Check<'_>,
+    at: CheckAt<'_, 't>,
     trees: &[Tree<'t>],
-    inherited: Inherited<'t>,
     files: &mut F,
     lines: &mut LineBuffer,
     to: &mut W,
 ) -> Result<bool, CheckFault>
-    ensures checks { (above : List Node) → IsInherited inherited.entry above
+    ensures checks { (above : List Node) → IsInherited at.entry.inherited above
         → Checks F.In.Read (F.held files.old)
-        check.entry.folder.now check.entry.comparison
+        at.entry.check.folder.now at.entry.check.comparison
         (standings_below above (trees_view trees.now)) result
         (F.refusals files.old) (F.refusals files.new)
         (way_of W.Write lines.old to.old) (way_of W.Write lines.new to.new) }
@@ -193,55 +205,56 @@ fn check_trees<'t, F: Files + Progress, W: Write>(
 {
     let mut found = false;
     for tree in trees {
-        found = check_tree(check, tree, inherited, files, lines, to)? || found;
+        found = check_tree(at, tree, files, lines, to)? || found;
     }
     Ok(found)
 }
 
-/// Checks the file of this record, and those of the records below it. `inherited` is what the records above
-/// say.
+/// Checks the file of this record, and those of the records below it. `at` has what the records above say.
 #[cycle(findings)]
 fn check_tree<'t, F: Files + Progress, W: Write>(
-    check: Check<'_>,
+    at: CheckAt<'_, 't>,
     tree: &Tree<'t>,
-    inherited: Inherited<'t>,
     files: &mut F,
     lines: &mut LineBuffer,
     to: &mut W,
 ) -> Result<bool, CheckFault>
-    ensures checks { (above : List Node) → IsInherited inherited.entry above
+    ensures checks { (above : List Node) → IsInherited at.entry.inherited above
         → Checks F.In.Read (F.held files.old)
-        check.entry.folder.now check.entry.comparison
+        at.entry.check.folder.now at.entry.check.comparison
         (branch_standings above (tree_view tree.now)) result
         (F.refusals files.old) (F.refusals files.new)
         (way_of W.Write lines.old to.old) (way_of W.Write lines.new to.new) }
     ensures kept { F.held files.new ≡ F.held files.old }
 {
-    let inherited = inherited.under(tree);
-    let here = check_record(check, tree, inherited, files, lines, to)?;
-    let below = check_trees(check, &tree.below, inherited, files, lines, to)?;
+    let inherited = at.inherited.under(tree);
+    let at = CheckAt {
+        check: at.check,
+        inherited,
+    };
+    let here = check_record(at, tree, files, lines, to)?;
+    let below = check_trees(at, &tree.below, files, lines, to)?;
     Ok(here || below)
 }
 
-/// Checks the file of this record, and prints what is found. `inherited` is what it and the records above say.
+/// Checks the file of this record, and prints what is found. `at` has what it and the records above say.
 fn check_record<F: Files + Progress, W: Write>(
-    check: Check<'_>,
+    at: CheckAt<'_, '_>,
     tree: &Tree<'_>,
-    inherited: Inherited<'_>,
     files: &mut F,
     lines: &mut LineBuffer,
     to: &mut W,
 ) -> Result<bool, CheckFault>
     ensures checks { (above : List Node)
-        → IsInherited inherited.entry ((tree_view tree.now).node ∷ above)
+        → IsInherited at.entry.inherited ((tree_view tree.now).node ∷ above)
         → Checks F.In.Read (F.held files.old)
-        check.entry.folder.now check.entry.comparison
+        at.entry.check.folder.now at.entry.check.comparison
         (standing_below above (tree_view tree.now).node ∷ []) result
         (F.refusals files.old) (F.refusals files.new)
         (way_of W.Write lines.old to.old) (way_of W.Write lines.new to.new) }
     ensures kept { F.held files.new ≡ F.held files.old }
 {
-    let Ok(finding) = finding_in(check, tree, inherited, files) else {
+    let Ok(finding) = finding_in(at.check, tree, at.inherited, files) else {
         return Err(CheckFault::Memory);
     };
     files.advance();
@@ -276,12 +289,12 @@ fn finding_in<F: Files>(
     ensures kept { F.held files.new ≡ F.held files.old }
 {
     let Some(file) = id_of(tree) else {
-        return Ok(unopened(tree));
+        return Ok(finding_unopened(tree));
     };
     let path = file_path(check.alloc, check.folder, file)?;
     match files.member(check.folder, path.as_str()) {
         Ok(mut reader) => finding_of_file(check, tree, inherited, &mut reader),
-        Err(_) => Ok(unopened(tree)),
+        Err(_) => Ok(finding_unopened(tree)),
     }
 }
 

@@ -56,10 +56,10 @@ pub fn finding_of<R: Read>(tree: &Tree<'_>, file: Option<&mut R>, limit: u64) ->
     ensures unread { ¬ HasFileId (tree_view tree.now).node → IsUnread file.entry file.exit }
 {
     let Some(reader) = file else {
-        return unopened(tree);
+        return finding_unopened(tree);
     };
     if id_of(tree).is_none() {
-        return misnamed(tree);
+        return finding_misnamed(tree);
     }
     finding_by(tree, reader, limit)
 }
@@ -97,7 +97,7 @@ pub(crate) fn id_of<'t>(tree: &Tree<'t>) -> Option<&'t [u8]>
 }
 
 /// Judges a record whose file is not opened.
-pub(crate) fn unopened(tree: &Tree<'_>) -> Option<Finding>
+pub(crate) fn finding_unopened(tree: &Tree<'_>) -> Option<Finding>
     ensures missing { HasFileId (tree_view tree.now).node → result ≡ Some Finding.Missing }
     ensures bad { NamesFile (tree_view tree.now).node
         → ¬ IsFileId (file_in (tree_view tree.now).node)
@@ -106,12 +106,12 @@ pub(crate) fn unopened(tree: &Tree<'_>) -> Option<Finding>
 {
     match id_of(tree) {
         Some(_) => Some(Finding::Missing),
-        None => misnamed(tree),
+        None => finding_misnamed(tree),
     }
 }
 
 /// Judges a record by the name alone: `BadId` where it is in use and the name is no File ID.
-fn misnamed(tree: &Tree<'_>) -> Option<Finding>
+fn finding_misnamed(tree: &Tree<'_>) -> Option<Finding>
     ensures bad { NamesFile (tree_view tree.now).node
         → ¬ IsFileId (file_in (tree_view tree.now).node)
         → result ≡ Some Finding.BadId }
@@ -131,12 +131,12 @@ pub(crate) fn finding_by<R: Read>(tree: &Tree<'_>, reader: &mut R, limit: u64) -
 {
     match digest_of(reader, limit) {
         None => Some(Finding::Unreadable),
-        Some(found) => compared(digest_in(&tree.set), found),
+        Some(found) => digest_finding(digest_in(&tree.set), found),
     }
 }
 
 /// Compares the digest that the record may have with that of the file.
-pub(crate) fn compared(recorded: Option<[u8; 32]>, found: [u8; 32]) -> Option<Finding>
+pub(crate) fn digest_finding(recorded: Option<[u8; 32]>, found: [u8; 32]) -> Option<Finding>
     ensures { result ≡ compared recorded found }
 {
     match recorded {

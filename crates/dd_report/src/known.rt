@@ -13,8 +13,8 @@ use dd_set::DataSet;
 use std::fmt;
 
 /// Says how much a listing shows of each record.
-#[derive(Clone, Copy)]
-pub(crate) enum Form {
+#[derive(Clone, Copy, Debug, PartialEq, Eq)]
+pub enum Form {
     /// What identifies it: its offset, its type and one value.
     Short,
     /// Also the values by which a person recognises it.
@@ -33,7 +33,7 @@ const OF_SERIES: [Tag; 2] = [tags::MODALITY, tags::SERIES_NUMBER];
 /// The element by which a person recognises an IMAGE record.
 const OF_IMAGE: [Tag; 1] = [tags::INSTANCE_NUMBER];
 
-/// Adds the values of these elements, each behind ` | `.
+/// Adds the values of these elements, each after ` | `.
 pub(crate) fn add_values<W: Write>(
     set: &DataSet<'_>,
     wanted: &[Tag],
@@ -49,7 +49,7 @@ pub(crate) fn add_values<W: Write>(
     Ok(())
 }
 
-/// Adds a value behind ` | `.
+/// Adds a value after ` | `.
 fn add_value<W: Write>(value: &[u8], lines: &mut LineBuffer, to: &mut W) -> fmt::Result
     ensures { Tells result (shown (concat (codes " | " ∷ value.now ∷ [])))
         (way_of W.Write lines.old to.old) (way_of W.Write lines.new to.new) }

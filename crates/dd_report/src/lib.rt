@@ -1,8 +1,8 @@
 //! Reports on a directory, on its records and on the files that they name, and sends lines to a device without
 //! taking memory.
 //!
-//! What it promises stands at `list_records`, `list_long`, `check_records`, `finding_of`, `print_line`, `show_line`
-//! and `send_text`.
+//! What it promises stands at `list_records`, `check_records`, `finding_of`, `print_line`, `show_line` and
+//! `send_text`.
 #![tactic(auto)]
 
 mod agreements;
@@ -16,5 +16,6 @@ mod words;
 
 pub use checking::{Check, CheckFault, Comparison, check_records};
 pub use findings::{Finding, finding_of};
-pub use listing::{list_long, list_records};
+pub use known::Form;
+pub use listing::list_records;
 pub use text::{Text, print_line, send_text, show_line};

@@ -93,7 +93,7 @@ impl LineBuffer {
         Ok(())
     }
 
-    /// Adds a line of these parts, one behind the other, with `?` for each byte that does not print.
+    /// Adds a line of these parts, one after the other, with `?` for each byte that does not print.
     pub(crate) fn add_line<W: Write>(&mut self, parts: &[&[u8]], to: &mut W) -> fmt::Result
         ensures told { Tells result (shown_line (parts_of parts.now))
             (way_of W.Write self.old to.old) (way_of W.Write self.new to.new) }
@@ -103,7 +103,7 @@ impl LineBuffer {
         self.add_end(to)
     }
 
-    /// Adds these parts to the line, one behind the other, with `?` for each byte that does not print.
+    /// Adds these parts to the line, one after the other, with `?` for each byte that does not print.
     pub(crate) fn add_parts<W: Write>(&mut self, parts: &[&[u8]], to: &mut W) -> fmt::Result
         ensures told { Tells result (shown (concat (parts_of parts.now)))
             (way_of W.Write self.old to.old) (way_of W.Write self.new to.new) }
@@ -155,7 +155,7 @@ impl LineBuffer {
         more <= ROOM - self.used
     }
 
-    /// Keeps bytes behind those that wait.
+    /// Keeps bytes after those that wait.
     fn keep(&mut self, more: &[u8])
         requires { length self.old + length more.now ≤ ROOM }
         ensures { self.new ≡ self.old ++ more.now }

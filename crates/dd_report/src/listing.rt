@@ -7,7 +7,7 @@ ghost use Rattle.dd_set.specs.Views.{set_view};
 ghost use Rattle.dd_dir.specs.ForestViews.{tree_view, trees_view, walk_view};
 ghost use Rattle.dd_dir.specs.Withdrawn.{pieces_in, pieces_of};
 ghost use Rattle.dd_report.specs.Listing.{branch_lines, flag_of, label_of, label_tag, lines_in, lines_of};
-ghost use Rattle.dd_report.specs.Listing.{listing_text, long_listing, or_dash, record_count, record_line, record_parts};
+ghost use Rattle.dd_report.specs.Listing.{listing, long_listing, or_dash, record_count, record_line, record_parts};
 ghost use Rattle.dd_report.specs.Listing.{set_parts, spaced, totals_line, withdrawn_line, withdrawn_lines};
 ghost use Rattle.dd_report.specs.Telling.{Tells, shown, shown_line, way_of};
 ghost use Rattle.dd_report.specs.Text.{FailsInText, TakesText};
@@ -24,31 +24,34 @@ use itoa::Buffer;
 use std::fmt;
 
 /// Lists a directory: a line for each record, depth first, one for each piece of the value that names the
-/// withdrawn SOP Instance UIDs, and how many records there are. It fails only where the output does, and takes
-/// no memory.
-pub fn list_records<W: Write>(forest: &Forest<'_>, to: &mut W) -> fmt::Result
+/// withdrawn SOP Instance UIDs, and how many records there are. In the long form a first line has the File-set ID and
+/// the UID of the directory, and the line of each PATIENT, STUDY, SERIES and IMAGE record also has the values by which
+/// a person recognises it. It fails only where the output does, and takes no memory.
+pub fn list_records<W: Write>(forest: &Forest<'_>, form: Form, to: &mut W) -> fmt::Result
     ensures sent { OnOk result
-        (TakesText W.Write to.old to.new (listing_text (walk_view forest.now))) }
+        (TakesText W.Write to.old to.new (listing form (walk_view forest.now))) }
     ensures unsent { OnErr result
-        (FailsInText W.Write to.old to.new (listing_text (walk_view forest.now))) }
+        (FailsInText W.Write to.old to.new (listing form (walk_view forest.now))) }
 {
     let mut lines = LineBuffer::new();
-    list_forest(forest, Form::Short, &mut lines, to)?;
+    list_all(forest, form, &mut lines, to)?;
     lines.flush(to)
 }
 
-/// Lists a directory as `list_records` does, with more for a person to read. A first line has the File-set ID and
-/// the UID of the directory. The line of each PATIENT, STUDY, SERIES and IMAGE record also has the values by which
-/// a person recognises it. It fails only where the output does, and takes no memory.
-pub fn list_long<W: Write>(forest: &Forest<'_>, to: &mut W) -> fmt::Result
-    ensures sent { OnOk result
-        (TakesText W.Write to.old to.new (long_listing (walk_view forest.now))) }
-    ensures unsent { OnErr result
-        (FailsInText W.Write to.old to.new (long_listing (walk_view forest.now))) }
+/// Lists what names the file-set, in the long form, and then its records.
+fn list_all<W: Write>(
+    forest: &Forest<'_>,
+    form: Form,
+    lines: &mut LineBuffer,
+    to: &mut W,
+) -> fmt::Result
+    ensures { Tells result (listing form (walk_view forest.now))
+        (way_of W.Write lines.old to.old) (way_of W.Write lines.new to.new) }
 {
-    let mut lines = LineBuffer::new();
-    list_set(forest, &mut lines, to)?;
-    lines.flush(to)
+    match form {
+        Form::Short => list_forest(forest, Form::Short, lines, to),
+        Form::Long => list_set(forest, lines, to),
+    }
 }
 
 /// Lists what names the file-set, and then its records in the long form.
@@ -236,7 +239,7 @@ fn list_pieces<W: Write>(value: &[u8], lines: &mut LineBuffer, to: &mut W) -> fm
     Ok(())
 }
 
-/// The first piece of the value, and what stands behind the `\` that ends it, if one does.
+/// The first piece of the value, and what stands after the `\` that ends it, if one does.
 fn first_piece(value: &[u8]) -> (&[u8], Option<&[u8]>)
     ensures { pieces_of value.now
         ≡ result.0.now ∷ pieces_in (option_map (λ rest. rest.now) result.1) }

@@ -29,7 +29,7 @@ pub(crate) fn send_bytes<W: Write>(bytes: &[u8], to: &mut W) -> fmt::Result
     }
 }
 
-/// Prints the parts of a line, one behind the other, and the end of the line: all of it or up to where
+/// Prints the parts of a line, one after the other, and the end of the line: all of it or up to where
 /// the writer fails. A control character of a part prints as `?`, so that no part ends the line or steers
 /// a terminal. A line that is not long is one write.
 pub fn print_line<W: Write>(parts: &[&str], to: &mut W) -> fmt::Result
@@ -45,7 +45,7 @@ pub fn print_line<W: Write>(parts: &[&str], to: &mut W) -> fmt::Result
     line.flush(to)
 }
 
-/// Prints the parts of a line, one behind the other, and the end of the line, as `print_line` does, but byte by
+/// Prints the parts of a line, one after the other, and the end of the line, as `print_line` does, but byte by
 /// byte: each byte of a part outside 20 to 7E prints as `?`.
 pub fn show_line<W: Write>(parts: &[&[u8]], to: &mut W) -> fmt::Result
     ensures sent { OnOk result (TakesText W.Write to.old to.new (shown_line (parts_of parts.now))) }

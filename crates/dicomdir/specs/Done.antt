@@ -6,7 +6,7 @@ use Rattle.dicomdir.specs.declared.making.Ending.{Ending}
 use Rattle.dicomdir.specs.declared.making.Ending.TheVariants.{Done, Planned}
 
 -- a line of these parts: a word, the number of instances, the number of bytes of the directory, both as texts, and
--- what stands behind them
+-- what stands after them
 abbrev pub count_parts : List ℕ → List ℕ → List ℕ → List (List ℕ) → List ℕ
 count_parts word instances bytes behind =
     concat (word ∷ instances ∷ codes " instances, " ∷ bytes ∷ behind) ++ 10 ∷ []

@@ -13,7 +13,7 @@ abbrev pub parts : List ℕ → List (List ℕ)
 parts [] = []
 parts (byte ∷ list) = if byte == 0 then [] ∷ parts list else onto_first byte (parts list)
 
--- the list is these parts: none has a zero byte in it, and each has one behind it, which the last part may lack
+-- the list is these parts: none has a zero byte in it, and each has one after it, which the last part may lack
 pub record IsListOf (parts : List (List ℕ)) (list : List ℕ) : Type 0 where
   pub apart : All (λ part. ¬ Contains part 0) parts
   pub joined : (flat_map (λ part. part ++ 0 ∷ []) parts ≡ list)
@@ -36,7 +36,7 @@ pub record FailsAt (parts : List (List ℕ)) (number : ℕ) : Type 0 where
   pub before : AllWithin IsName parts 0 (number - 1)
   pub fails : ¬ IsName (slice_index_or parts (number - 1) [])
 
--- the paths are the given ones, and behind them the names of a list, in their order
+-- the paths are the given ones, and after them the names of a list, in their order
 abbrev pub AreWithListed : {Z : Type 0} → List (String Z) → List (String Z) → Type 0
 AreWithListed given all = (list : List ℕ) × (words_of all ≡ words_of given ++ parts list)
 

@@ -59,7 +59,8 @@ pub(crate) fn write_file_set<F: Files + Progress, O: Origins>(
     ensures made { IsOk result
         → MakesFileSet
         (MayLink (O.gives_links set.now.origins.now) (O.stands_at set.now.origins.now))
-        set.now.folder.now set.now.plan.now set.now.picks.now (F.held files.old) (F.held files.new) }
+        set.now.folder.now set.now.plan.now set.now.picks.now
+        (F.held files.old) (F.held files.new) }
 {
     copy_images(alloc, set, files)?;
     if files.folder(set.folder).is_err() {

@@ -17,7 +17,7 @@ pub(crate) struct FileSupply<'a, F: Files> {
     ghost counted: { length counts.now ≡ length paths.now },
 }
 
-// By hand, so that what becomes of the files is told.
+// By hand, so that its contract says what becomes of the files.
 impl<F: Files> Drop for FileSupply<'_, F> {
     fn drop(self)
         ensures { self.exit.0.now ≡ self.entry.files.now }

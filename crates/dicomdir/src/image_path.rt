@@ -1,7 +1,7 @@
 //! Where an image stands in the folder of a file-set.
 
 use dd_elem::FileId;
-use dd_files::slashed;
+use dd_files::path_char;
 use std::fmt::{self, InlineText, Write};
 
 /// How many characters a component of a File ID has at most (PS3.10 section 8.2).
@@ -58,7 +58,7 @@ impl fmt::Display for IdPath<'_> {
 /// Writes the first `count` characters of components, with `/` between these.
 fn write_path<W: fmt::Write>(text: &[u8], count: usize, f: &mut fmt::Formatter<W>) -> fmt::Result {
     for byte in text.iter().take(count) {
-        f.write_char(slashed(*byte))?;
+        f.write_char(path_char(*byte))?;
     }
     Ok(())
 }

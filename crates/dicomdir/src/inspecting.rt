@@ -1,5 +1,5 @@
 //! The commands that read one file-set.
-ghost use Rattle.std.specs.Prelude.{◌≡◌, ◌<◌, ◌≤◌, ◌⊎◌, ℕ, IfErr, IfOk};
+ghost use Rattle.std.specs.Prelude.{◌≡◌, ◌<◌, ◌≤◌, ◌⊎◌, ◌↔◌, ℕ, IfErr, IfOk, true};
 ghost use Rattle.dd_elem.specs.Device.{HasFailed};
 ghost use Rattle.dicomdir.specs.Refusal.{IsOfWork};
 
@@ -8,10 +8,8 @@ use crate::set_directory::{directory_bytes, refusal_of};
 use dd_dir::{DirFault, read_directory};
 use dd_elem::Write;
 use dd_files::{Files, Progress};
-use dd_line::CheckRequest;
-use dd_report::{
-    Check, CheckFault, Comparison, check_records, list_long, list_records, print_line,
-};
+use dd_line::{CheckRequest, ListRequest};
+use dd_report::{Check, CheckFault, Comparison, Form, check_records, list_records, print_line};
 use std::alloc::Global;
 
 /// Gives the comparison that `check` makes: of keys, too, where the line has `--keys`, and one that finds records
@@ -24,6 +22,13 @@ pub(crate) fn comparison_of(check: &CheckRequest) -> Comparison
         keys: check.keys,
         strict: check.strict,
     }
+}
+
+/// Gives the form that `list` prints: the long one where the line has `--long`.
+pub(crate) fn form_of(list: &ListRequest) -> Form
+    ensures { (result ≡ Form.Long) ↔ (list.now.long ≡ true) }
+{
+    if list.long { Form::Long } else { Form::Short }
 }
 
 /// Runs `check` on the file-set in this folder.
@@ -69,11 +74,11 @@ fn tell_broken<O: Write>(fault: &DirFault, out: &mut O) -> u8
     }
 }
 
-/// Runs `list` on the file-set in this folder, in the long form or the plain one.
+/// Runs `list` on the file-set in this folder, in this form.
 pub(crate) fn run_list<F: Files, O: Write>(
     alloc: Global,
     folder: &str,
-    long: bool,
+    form: Form,
     files: &mut F,
     out: &mut O,
 ) -> Result<u8, Refusal>
@@ -86,12 +91,7 @@ pub(crate) fn run_list<F: Files, O: Write>(
         Ok(forest) => forest,
         Err(fault) => return Err(refusal_of(0, fault)),
     };
-    let listed = if long {
-        list_long(&forest, out)
-    } else {
-        list_records(&forest, out)
-    };
-    match listed {
+    match list_records(&forest, form, out) {
         Ok(()) => Ok(0),
         Err(_) => Ok(1),
     }

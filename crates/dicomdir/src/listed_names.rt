@@ -35,7 +35,7 @@ pub(crate) fn names_in(alloc: Global, list: &[u8]) -> Result<Vec<String>, NamesF
     ensures bad { (number : ℕ) → result ≡ Err (NamesFault.BadName number)
         → FailsAt (parts list.now) number }
 
-    // The parts make up the list, each with a zero byte behind it.
+    // The parts make up the list, each with a zero byte after it.
     ensures listed { IsListOf (parts list.now) list.now }
 {
     let mut names = Vec::new(alloc);
@@ -54,7 +54,7 @@ pub(crate) fn names_in(alloc: Global, list: &[u8]) -> Result<Vec<String>, NamesF
     Ok(names)
 }
 
-/// Splits a list into its first part and what stands behind that.
+/// Splits a list into its first part and what stands after that.
 fn cut_first(list: &[u8]) -> (&[u8], &[u8])
     ensures parts { list.now ≢ [] → parts list.now ≡ result.0.now ∷ parts result.1.now }
     ensures shorter { list.now ≢ [] → length result.1.now < length list.now }
@@ -76,7 +76,7 @@ fn name_in(part: &[u8]) -> Option<&str>
     str::from_utf8(part).ok()
 }
 
-/// Puts a copy of the name behind the names.
+/// Puts a copy of the name after the names.
 fn add(alloc: Global, name: &str, names: &mut Vec<String>) -> Result<(), Memory>
     ensures { OnOk result (map (λ name. string_bytes name) names.new.items
         ≡ map (λ name. string_bytes name) names.old.items ++ name.now ∷ []) }

@@ -90,7 +90,8 @@ pub(crate) fn make_file_set<F: Files + Progress, O: Origins, W: Write>(
     ensures status { IfOk result (λ status. status ≤ 1) }
     ensures made { IsOk result → MakesFileSet
         (MayLink (O.gives_links set.now.origins.now) (O.stands_at set.now.origins.now))
-        set.now.folder.now set.now.plan.now set.now.picks.now (F.held files.old) (F.held files.new) }
+        set.now.folder.now set.now.plan.now set.now.picks.now
+        (F.held files.old) (F.held files.new) }
 {
     write_file_set(alloc, set, files)?;
     Ok(tell_counts(Ending::Done, set.plan, out))

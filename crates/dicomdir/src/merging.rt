@@ -39,7 +39,8 @@ pub(crate) fn run_merge<F: Files + Progress, O: Write>(
     ensures dry { making.entry.dry_run ≡ true → F.held files.new ≡ F.held files.old }
     ensures made { making.entry.dry_run ≡ false
         → DoneMerges result making.entry.names.now.choice making.entry.max_bytes []
-        (words_of sets.now) (making.entry.link ≡ true) making.entry.folder.now (F.held files.old) (F.held files.new) }
+        (words_of sets.now) (making.entry.link ≡ true) making.entry.folder.now
+        (F.held files.old) (F.held files.new) }
 {
     let directories = read_directories(alloc, sets, files)?;
     let slices = slices(alloc, &directories)?;

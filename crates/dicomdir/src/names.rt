@@ -69,12 +69,13 @@ fn set_id_of(request: &Request) -> Result<SetId, ProgramFault>
     ensures good { IsOk result → ¬ HasBadId request.now }
     ensures id { IfOk result (λ id. id ≡ unwrap_or (id_of request.now) []) }
 {
-    match request.id() {
-        None => Ok(SetId::new(b"").unwrap()),
-        Some(id) => match SetId::new(id.as_bytes()) {
-            Ok(id) => Ok(id),
-            Err(bad) => Err(ProgramFault::SetId(bad)),
-        },
+    let id = match request.id() {
+        Some(id) => id.as_bytes(),
+        None => b"",
+    };
+    match SetId::new(id) {
+        Ok(id) => Ok(id),
+        Err(bad) => Err(ProgramFault::SetId(bad)),
     }
 }
 

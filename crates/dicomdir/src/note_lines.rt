@@ -165,7 +165,7 @@ fn print_names<O: Write>(id: &[u8], count: &[u8], names: &[Key], out: &mut O) ->
     )
 }
 
-/// Gives what stands behind the ID: for `NOID` that it also stands for a patient without an ID.
+/// Gives what stands after the ID: for `NOID` that it also stands for a patient without an ID.
 fn or_none(id: &[u8]) -> &[u8] {
     if id == b"NOID".as_slice() {
         b" or none"
@@ -188,7 +188,7 @@ fn mark_before(names: &[Key], at: usize) -> &[u8] {
     if at < names.len() { b", " } else { b"" }
 }
 
-/// Gives what stands behind the tenth name where there are more.
+/// Gives what stands after the tenth name where there are more.
 fn mark_behind(names: &[Key]) -> &[u8] {
     if names.len() > 10 { b", .." } else { b"" }
 }

@@ -10,7 +10,7 @@ ghost use Rattle.dicomdir.specs.Words.{IsStatusOf, IsTaken, MakesRequested, line
 
 use crate::empty_paths::empty_path;
 use crate::index::run_index;
-use crate::inspecting::{comparison_of, run_check, run_list};
+use crate::inspecting::{comparison_of, form_of, run_check, run_list};
 use crate::line_refusal::refuse_line;
 use crate::making::Making;
 use crate::merging::{run_merge, run_withdraw};
@@ -338,6 +338,6 @@ fn run_verb<F: Files + Progress, O: Write>(
         Request::Check(check) => {
             run_check(alloc, check.set.as_str(), comparison_of(check), files, out)
         }
-        Request::List(list) => run_list(alloc, list.set.as_str(), list.long, files, out),
+        Request::List(list) => run_list(alloc, list.set.as_str(), form_of(list), files, out),
     }
 }

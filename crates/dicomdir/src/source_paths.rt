@@ -1,4 +1,4 @@
-//! The paths that a command reads: those of its line, and behind them those of its list of names.
+//! The paths that a command reads: those of its line, and after them those of its list of names.
 ghost use Rattle.std.specs.Prelude.{◌≡◌, ◌≤◌, ◌++◌, ℕ, None, IfErr, IfOk, IfSome, length};
 ghost use Rattle.dd_line.specs.Line.{words_of};
 ghost use Rattle.dd_line.specs.Requests.{read_of};
@@ -79,7 +79,7 @@ fn list_bytes<F: Files>(alloc: Global, path: &str, files: &mut F) -> Result<Vec<
     }
 }
 
-/// Lists the given paths, and behind them the names of a list.
+/// Lists the given paths, and after them the names of a list.
 fn with_listed(alloc: Global, given: &[String], list: &[u8]) -> Result<Vec<String>, Refusal>
     ensures refusal { (paths : ℕ) → IfErr result (IsOfWork paths) }
     ensures all { IfOk result (λ all. words_of all.items ≡ words_of given.now ++ parts list.now) }

@@ -13,6 +13,6 @@ pub record IsStored {F : Type 0} {P : Type 0} (files : List F) (folders : List P
 abbrev pub Names : List ℕ → List (String Global) → List (String Global) → Type 0
 Names path old new = (folder : String Global) × IsFolderOf path (string_bytes folder) × (new ≡ old ++ folder ∷ [])
 
--- the file at this path waits: behind those that waited before, or alone where these were stored
+-- the file at this path waits: after those that waited before, or alone where these were stored
 abbrev pub Waits : List ℕ → List (List ℕ) → List (List ℕ) → Type 0
 Waits path old new = (new ≡ old ++ path ∷ []) ⊎ (new ≡ path ∷ [])

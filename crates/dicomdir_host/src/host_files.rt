@@ -35,7 +35,7 @@ const NO_MORE: [i32; 2] = [24, 23];
 /// Where the system gives no more descriptors, the files that wait are stored and closed, and the call is
 /// made again.
 ///
-/// A source is a file or a folder, also behind links: a pipe, a socket or a device is taken for not
+/// A source is a file or a folder, also through links: a pipe, a socket or a device is taken for not
 /// there, since to open it could wait. A folder opens, and its read fails. What was opened is looked at again,
 /// and is taken for not there where it is not what was looked at before. A plain file whose size is said to be 0
 /// is taken for empty.
@@ -252,7 +252,7 @@ impl<'a, R: System> HostFiles<'a, R> {
         Ok(())
     }
 
-    /// Makes a folder with its parents, unless it was made last. The empty path is the current folder. A name behind
+    /// Makes a folder with its parents, unless it was made last. The empty path is the current folder. A name after
     /// the first `out_len` bytes of the path must not be a link.
     pub(crate) fn make(&mut self, path: &str, out_len: usize) -> io::Result<()>
         ensures same { self.new ≡ record self.old {

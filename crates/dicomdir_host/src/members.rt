@@ -14,9 +14,9 @@ pub(crate) struct Members {
     /// The length of the path of the file-set's folder. It is `usize::MAX`, which no path has, while no folder
     /// is kept.
     set_len: usize,
-    /// The folder as it is recorded, with the `/` behind it.
+    /// The folder as it is recorded, with the `/` after it.
     recorded: PathBuffer,
-    /// The folder as it is shown, and behind it the name that was looked up.
+    /// The folder as it is shown, and after it the name that was looked up.
     place: PathBuffer,
     /// The length of the folder in the place.
     folder_len: usize,
@@ -75,7 +75,7 @@ impl Members {
     }
 }
 
-/// Splits a path behind its last `/`.
+/// Splits a path after its last `/`.
 fn split_name(path: &str) -> (&str, &str) {
     match path.rfind('/') {
         Some(at) => path
@@ -85,7 +85,7 @@ fn split_name(path: &str) -> (&str, &str) {
     }
 }
 
-/// Splits a path below the folder `set` behind that folder and the `/` that follows it.
+/// Splits a path below the folder `set` after that folder and the `/` that follows it.
 fn split_set<'a>(set: &str, path: &'a str) -> (&'a str, &'a str) {
     let Some(below) = path.strip_prefix(set) else {
         return (path, "");

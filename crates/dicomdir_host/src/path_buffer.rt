@@ -9,7 +9,7 @@ use std::io::{self, ErrorKind};
 use std::marker::Model;
 use std::str::from_utf8;
 
-/// The most bytes of a path. The system takes 4,095 (PATH_MAX, which counts the NUL behind them).
+/// The most bytes of a path. The system takes 4,095 (PATH_MAX, which counts the NUL after them).
 const MOST: usize = 4096;
 
 /// A path that is put together, of at most 4,096 bytes.
@@ -44,7 +44,7 @@ impl PathBuffer {
         self.len
     }
 
-    /// Takes away what stands behind the first `len` bytes.
+    /// Takes away what stands after the first `len` bytes.
     pub(crate) fn truncate(&mut self, len: usize)
         ensures { self.new ≡ take len self.old }
     {

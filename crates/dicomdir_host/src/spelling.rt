@@ -7,7 +7,7 @@ ghost use Rattle.dicomdir_host.specs.Spellings.{in_small_letters, shown, spelled
 pub(crate) struct Spelling {
     /// Is it in small letters?
     pub(crate) is_small: bool,
-    /// What stands behind the letters.
+    /// What stands after the letters.
     pub(crate) ending: &'static str,
 }
 

@@ -5,8 +5,8 @@ use Rattle.dd_files.proofs.paths.file_path.Goals as goal
 
 pub loop-byte-preserved : goal.loop-byte-preserved
 loop-byte-preserved c = λ ascii.
-    path_more c.args.file.now c.loop-byte.byte-index c.slashed.result _ _ _ _ ascii c.loop-byte-test.true
-    c.slashed.ensures c.in_ok-push.ensures.ascii c.in_ok-push.ensures.bytes (c.loop-byte.invariant ascii)
+    path_more c.args.file.now c.loop-byte.byte-index c.path_char.result _ _ _ _ ascii c.loop-byte-test.true
+    c.path_char.ensures c.in_ok-push.ensures.ascii c.in_ok-push.ensures.bytes (c.loop-byte.invariant ascii)
 
 pub returns : goal.returns
 returns c = λ ascii.

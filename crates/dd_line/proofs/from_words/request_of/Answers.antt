@@ -7,24 +7,29 @@ use Rattle.dd_line.proofs.from_words.request_of.Goals as goal
 pub index_request-requires : goal.index_request-requires
 index_request-requires c =
     let met = c.in-Some-index-default in
-    entered_served (out-ArgMatches c.args.found.now).subcommand _ _ met.ensures.name met.ensures.rows Index c.requires met.is-index
+    entered_served (out-ArgMatches c.args.found.now).subcommand _ _ met.ensures.name met.ensures.rows
+    Index c.requires met.is-index
 
 pub merge_request-requires : goal.merge_request-requires
 merge_request-requires c =
     let met = c.in-Some-merge-default in
-    entered_served (out-ArgMatches c.args.found.now).subcommand _ _ met.ensures.name met.ensures.rows Merge c.requires met.is-merge
+    entered_served (out-ArgMatches c.args.found.now).subcommand _ _ met.ensures.name met.ensures.rows
+    Merge c.requires met.is-merge
 
 pub withdraw_request-requires : goal.withdraw_request-requires
 withdraw_request-requires c =
     let met = c.in-Some-withdraw-default in
-    entered_served (out-ArgMatches c.args.found.now).subcommand _ _ met.ensures.name met.ensures.rows Withdraw c.requires met.is-withdraw
+    entered_served (out-ArgMatches c.args.found.now).subcommand _ _ met.ensures.name met.ensures.rows
+    Withdraw c.requires met.is-withdraw
 
 pub check_request-requires : goal.check_request-requires
 check_request-requires c =
     let met = c.in-Some-check-default in
-    entered_served (out-ArgMatches c.args.found.now).subcommand _ _ met.ensures.name met.ensures.rows Check c.requires met.is-check
+    entered_served (out-ArgMatches c.args.found.now).subcommand _ _ met.ensures.name met.ensures.rows
+    Check c.requires met.is-check
 
 pub list_request-requires : goal.list_request-requires
 list_request-requires c =
     let met = c.in-Some-list-default in
-    entered_served (out-ArgMatches c.args.found.now).subcommand _ _ met.ensures.name met.ensures.rows ListSet c.requires met.is-list
+    entered_served (out-ArgMatches c.args.found.now).subcommand _ _ met.ensures.name met.ensures.rows
+    ListSet c.requires met.is-list

@@ -14,7 +14,7 @@ check_tree-returns-in_err-here-clause-checks g t c = λ above said.
     let p = err_from_is_err_and r c.from_residual.ensures.1 in
     let fails : r ≡ Err c.in_err-here.field-0.0 = rw (p.1, p.2) refl in
     record_ends g.F.In.Read
-    (g.F.Files.held c.args.files.now) c.args.check.folder.now c.args.check.comparison above c.args.tree.now r
+    (g.F.Files.held c.args.files.now) c.args.at.check.folder.now c.args.at.check.comparison above c.args.tree.now r
     c.check_record.result c.in_err-here.field-0.0 (g.F.Files.refusals c.args.files.now)
     (g.F.Files.refusals c.check_record.new.files) _ _ fails c.in_err-here.was
     (c.check_record.ensures.checks above below)
@@ -23,7 +23,7 @@ pub check_tree-returns-then-here-clause-checks : goal.check_tree-returns-then-he
 check_tree-returns-then-here-clause-checks g t c = λ above said.
     let below = c.under-inherited.ensures above said in
     branch_told g.F.In.Read
-    (g.F.Files.held c.args.files.now) c.args.check.folder.now c.args.check.comparison above
+    (g.F.Files.held c.args.files.now) c.args.at.check.folder.now c.args.at.check.comparison above
     (g.F.Files.held c.check_record.new.files) c.args.tree.now c.deref.result.now c.in_ok-here.here
     c.in_ok-below.below c.in_ok-here.here (g.F.Files.refusals c.args.files.now)
     (g.F.Files.refusals c.check_record.new.files) (g.F.Files.refusals c.check_trees.new.files) _ _ _
@@ -35,7 +35,7 @@ pub check_tree-returns-else-here-clause-checks : goal.check_tree-returns-else-he
 check_tree-returns-else-here-clause-checks g t c = λ above said.
     let below = c.under-inherited.ensures above said in
     branch_told g.F.In.Read
-    (g.F.Files.held c.args.files.now) c.args.check.folder.now c.args.check.comparison above
+    (g.F.Files.held c.args.files.now) c.args.at.check.folder.now c.args.at.check.comparison above
     (g.F.Files.held c.check_record.new.files) c.args.tree.now c.deref.result.now c.in_ok-here.here
     c.in_ok-below.below c.in_ok-below.below (g.F.Files.refusals c.args.files.now)
     (g.F.Files.refusals c.check_record.new.files) (g.F.Files.refusals c.check_trees.new.files) _ _ _
@@ -50,7 +50,7 @@ check_tree-returns-in_err-below-clause-checks g t c = λ above said.
     let p = err_from_is_err_and r c.from_residual-in_err-below.ensures.1 in
     let fails : r ≡ Err c.in_err-below.field-0.0 = rw (p.1, p.2) refl in
     branch_ends g.F.In.Read
-    (g.F.Files.held c.args.files.now) c.args.check.folder.now c.args.check.comparison above
+    (g.F.Files.held c.args.files.now) c.args.at.check.folder.now c.args.at.check.comparison above
     (g.F.Files.held c.check_record.new.files) c.args.tree.now c.deref.result.now r c.check_trees.result
     c.in_err-below.field-0.0 c.in_ok-here.here (g.F.Files.refusals c.args.files.now)
     (g.F.Files.refusals c.check_record.new.files) (g.F.Files.refusals c.check_trees.new.files) _ _ _
@@ -64,7 +64,7 @@ check_trees-returns-in_err-found-clause-checks g t c = λ above said.
     let p = err_from_is_err_and r c.from_residual.ensures.1 in
     let fails : r ≡ Err c.in_err-found.field-0.0 = rw (p.1, p.2) refl in
     trees_end g.F.In.Read
-    (g.F.Files.held c.args.files.now) c.args.check.folder.now c.args.check.comparison above
+    (g.F.Files.held c.args.files.now) c.args.at.check.folder.now c.args.at.check.comparison above
     (g.F.Files.held c.loop-tree.files) c.args.trees.now c.loop-tree.tree-index c.tree-item.result r
     c.check_tree.result c.in_err-found.field-0.0 c.loop-tree.found (g.F.Files.refusals c.args.files.now)
     (g.F.Files.refusals c.loop-tree.files) (g.F.Files.refusals c.check_tree.new.files) _ _ _
@@ -80,7 +80,7 @@ check_trees-loop-tree-preserved g t c =
     record {
       told = λ above said.
           more_told g.F.In.Read
-          (g.F.Files.held c.args.files.now) c.args.check.folder.now c.args.check.comparison above
+          (g.F.Files.held c.args.files.now) c.args.at.check.folder.now c.args.at.check.comparison above
           (g.F.Files.held c.loop-tree.files) c.args.trees.now c.loop-tree.tree-index c.tree-item.result
           c.in_ok-found.found c.loop-tree.found c.if-branch.found (g.F.Files.refusals c.args.files.now)
           (g.F.Files.refusals c.loop-tree.files) (g.F.Files.refusals c.check_tree.new.files) _ _ _

@@ -9,9 +9,9 @@ use Rattle.dd_report.proofs.checking.+findings.Given as goal
 
 abbrev pub invariant-check_trees-loop-tree : goal.invariant-check_trees-loop-tree
 invariant-check_trees-loop-tree g l = record {
-  told : (above : List Node) → IsInherited l.inherited above
+  told : (above : List Node) → IsInherited l.at.inherited above
       → Checks g.F.In.Read
-      (g.F.Files.held l.initial.files) l.check.folder.now l.check.comparison
+      (g.F.Files.held l.initial.files) l.at.check.folder.now l.at.check.comparison
       (standings_below above (trees_view (take l.tree-index l.trees))) (Ok l.found)
       (g.F.Files.refusals l.initial.files) (g.F.Files.refusals l.files)
       (way l.initial.lines (g.W.Write.contents l.initial.to) (g.W.Write.failures l.initial.to))

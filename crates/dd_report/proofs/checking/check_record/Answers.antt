@@ -9,7 +9,7 @@ use Rattle.dd_report.proofs.checking.check_record.Goals as goal
 pub returns-in_default-clause-checks : goal.returns-in_default-clause-checks
 returns-in_default-clause-checks g c = λ above said.
     record_cut g.F.In.Read
-    (g.F.Files.held c.args.files.now) c.args.check.folder.now c.args.check.comparison
+    (g.F.Files.held c.args.files.now) c.args.at.check.folder.now c.args.at.check.comparison
     (standing_below above (tree_view c.args.tree.now).node) (g.F.Files.refusals c.args.files.now)
     (g.F.Files.refusals c.finding_in.new.files)
     (way c.args.lines.now (g.W.Write.contents c.args.to.now) (g.W.Write.failures c.args.to.now))
@@ -19,7 +19,7 @@ pub returns-in_default-finding-clause-checks : goal.returns-in_default-finding-c
 returns-in_default-finding-clause-checks g c = λ above said.
     rw c.advance.ensures.refusals
     (record_quiet g.F.In.Read
-    (g.F.Files.held c.args.files.now) c.args.check.folder.now c.args.check.comparison
+    (g.F.Files.held c.args.files.now) c.args.at.check.folder.now c.args.at.check.comparison
     (standing_below above (tree_view c.args.tree.now).node) (g.F.Files.refusals c.args.files.now)
     (g.F.Files.refusals c.finding_in.new.files) c.in-Ok.finding
     (way c.args.lines.now (g.W.Write.contents c.args.to.now) (g.W.Write.failures c.args.to.now))
@@ -29,7 +29,7 @@ pub returns-in-Ok-tell_finding-clause-checks : goal.returns-in-Ok-tell_finding-c
 returns-in-Ok-tell_finding-clause-checks g c = λ above said.
     rw (c.hide_line.ensures.refusals ∙ c.advance.ensures.refusals)
     (record_told g.F.In.Read
-    (g.F.Files.held c.args.files.now) c.args.check.folder.now c.args.check.comparison
+    (g.F.Files.held c.args.files.now) c.args.at.check.folder.now c.args.at.check.comparison
     (standing_below above (tree_view c.args.tree.now).node) (g.F.Files.refusals c.args.files.now)
     (g.F.Files.refusals c.finding_in.new.files) c.in-Some.finding c.in-Ok.finding
     (way c.args.lines.now (g.W.Write.contents c.args.to.now) (g.W.Write.failures c.args.to.now))
@@ -40,7 +40,7 @@ pub returns-in-Err-clause-checks : goal.returns-in-Err-clause-checks
 returns-in-Err-clause-checks g c = λ above said.
     rw (c.hide_line.ensures.refusals ∙ c.advance.ensures.refusals)
     (record_unsent g.F.In.Read
-    (g.F.Files.held c.args.files.now) c.args.check.folder.now c.args.check.comparison
+    (g.F.Files.held c.args.files.now) c.args.at.check.folder.now c.args.at.check.comparison
     (standing_below above (tree_view c.args.tree.now).node) (g.F.Files.refusals c.args.files.now)
     (g.F.Files.refusals c.finding_in.new.files) c.in-Some.finding c.in-Ok.finding
     (way c.args.lines.now (g.W.Write.contents c.args.to.now) (g.W.Write.failures c.args.to.now))

@@ -1,15 +1,15 @@
 -- All lines go, and then all that waits.
 use Rattle.dd_dir.specs.ForestViews.{walk_view}
-use Rattle.dd_report.specs.Listing.{listing_text}
+use Rattle.dd_report.specs.Listing.{listing}
 use Rattle.dd_report.proofs.GoingOn.{text_sent, text_unsent}
 use Rattle.dd_report.proofs.listing.list_records.Goals as goal
 
 pub returns-clause-sent : goal.returns-clause-sent
 returns-clause-sent g c =
-    text_sent c.flush.result (listing_text (walk_view c.args.forest.now)) _ _ _ _ _ _ _ _ c.new-lines.ensures
-    c.in_ok-list_forest.ensures c.flush.ensures.sent
+    text_sent c.flush.result (listing c.args.form (walk_view c.args.forest.now)) _ _ _ _ _ _ _ _ c.new-lines.ensures
+    c.in_ok-list_all.ensures c.flush.ensures.sent
 
 pub returns-clause-unsent : goal.returns-clause-unsent
 returns-clause-unsent g c =
-    text_unsent c.flush.result (listing_text (walk_view c.args.forest.now)) _ _ _ _ _ _ _ _ c.new-lines.ensures
-    c.in_ok-list_forest.ensures c.flush.ensures.unsent
+    text_unsent c.flush.result (listing c.args.form (walk_view c.args.forest.now)) _ _ _ _ _ _ _ _ c.new-lines.ensures
+    c.in_ok-list_all.ensures c.flush.ensures.unsent

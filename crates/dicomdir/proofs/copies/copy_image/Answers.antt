@@ -14,11 +14,13 @@ returns-in-Ok-clause-made g c = λ done.
       path = start.path;
       bytes = h.given;
       place = start.place;
-      is = subst (λ (filed : Filed). IsFileAs c.args.image.now.planned.now filed h.given) (c.end_copy.ensures.planned done)
+      is = subst (λ (filed : Filed). IsFileAs c.args.image.now.planned.now filed h.given)
+          (c.end_copy.ensures.planned done)
           h.answered.0;
       made = held_published start.path h.given _ _ _ _ (rw c.in_ok-reader.ensures.kept at start.started)
           (g.met.F.Files.written_grows _ _ h.given went.stays went.holds) (c.end_copy.ensures.ended done);
     }
 
 pub returns-clause-refusal : goal.returns-clause-refusal
-returns-clause-refusal g c = c.refusal_of.ensures.work (g.O.Origins.paths c.args.image.now.origins.now) c.subject.ensures.among
+returns-clause-refusal g c =
+    c.refusal_of.ensures.work (g.O.Origins.paths c.args.image.now.origins.now) c.subject.ensures.among

@@ -9,7 +9,8 @@ use Rattle.dicomdir.proofs.index.run_index.Goals as goal
 pub returns-clause-made : goal.returns-clause-made
 returns-clause-made g c = λ makes.
     done_indexes c.make_file_set.result c.args.making.names.now.choice c.args.making.max_bytes
-    (words_of c.args.sources.now) c.args.making.folder.now _ _ c.in-Ok.noted _ (sym (length-map c.args.sources.now (λ word. string_bytes word)))
+    (words_of c.args.sources.now) c.args.making.folder.now _ _ c.in-Ok.noted _
+    (sym (length-map c.args.sources.now (λ word. string_bytes word)))
     (rw c.begin_step.ensures.kept at c.in-Ok.ensures.answers)
     (λ done. rw (
       c.deref-2.ensures.value,

@@ -6,7 +6,8 @@ use Rattle.dicomdir.proofs.merging.run_merge.Goals as goal
 
 pub returns-clause-made : goal.returns-clause-made
 returns-clause-made g c = λ makes.
-    done_merges c.write_noted.result c.args.making.names.now.choice c.args.making.max_bytes [] (words_of c.args.sets.now)
+    done_merges c.write_noted.result c.args.making.names.now.choice c.args.making.max_bytes []
+    (words_of c.args.sets.now)
     (map (λ bytes. bytes.items) c.in_ok-directories.directories.items) (c.args.making.link ≡ true)
     c.args.making.folder.now _ _ c.in-Ok.noted c.in_ok-directories.ensures.read
     (rw (c.of_bytes-limits.ensures, c.deref-2.ensures.value, c.in_ok-slices.ensures.bytes, c.deref.ensures.value) at

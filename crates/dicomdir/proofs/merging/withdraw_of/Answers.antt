@@ -12,7 +12,8 @@ returns-clause-made g c = λ makes.
     ∙ c.in_ok-directories.ensures.all ∙ c.requires in
     let set = only_one c.in_ok-slices.slices.items c.index.result.now (λ slice. slice.now) count c.index.ensures
     ∙ (rw c.deref.ensures.value at c.in_ok-slices.ensures.bytes) in
-    done_merges c.write_noted.result c.args.making.names.now.choice c.args.making.max_bytes c.args.making.names.now.withdrawn.items
+    done_merges c.write_noted.result c.args.making.names.now.choice c.args.making.max_bytes
+    c.args.making.names.now.withdrawn.items
     (words_of c.args.sets.now) (map (λ bytes. bytes.items) c.in_ok-directories.directories.items) ⊥
     c.args.making.folder.now _ _ c.in-Ok.noted c.in_ok-directories.ensures.read
     (rw (c.of_bytes-limits.ensures, c.deref-2.ensures.value, set) at c.in-Ok.ensures.merges)
