@@ -1,7 +1,7 @@
 //! Runs over the disc as it is after steps: files that are put there, and runs that are done.
 
-use crate::disc::{are_equal, disc, put_files};
-use crate::runs::end_of;
+use crate::runs::disc::{are_equal, disc, put_files};
+use crate::runs::runs::end_of;
 use dd_mem_files::MemFiles;
 use std::alloc::Global;
 use std::test::Fail;

@@ -1,6 +1,6 @@
 //! Images that are copied as files of planned versions.
 
-use crate::copies::sent_of;
+use crate::program::copies::sent_of;
 use dd_elem::SetId;
 use dd_layout::Limits;
 use dd_vectors::{

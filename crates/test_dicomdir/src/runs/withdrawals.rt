@@ -1,6 +1,6 @@
 //! Instances that are withdrawn.
 
-use crate::scripts::{leave_the_same, ran};
+use crate::runs::scripts::{leave_the_same, ran};
 use dd_vectors::{ask_all, claim_all};
 use std::alloc::Global;
 use std::test::Fail;

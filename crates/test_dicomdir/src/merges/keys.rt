@@ -1,6 +1,6 @@
 //! The keys that images have after a merge of catalogues, and after one of their directories.
 
-use crate::directories::{directories, label, slices, widest};
+use crate::merges::directories::{directories, label, slices, widest};
 use dd_dir::write_directory;
 use dd_layout::{Label, lay_out};
 use dd_vectors::{Sink, ask_all, catalogue_of, in_words};

@@ -1,7 +1,7 @@
 //! Lines with control characters that are at fault or ask for help: the parser's text shows `?` for each.
 
-use crate::disc::disc;
-use crate::runs::end_of;
+use crate::runs::disc::disc;
+use crate::runs::runs::end_of;
 use std::test::Fail;
 
 /// A line whose last word is one too many, with an escape, a control character of two bytes, a line feed and a

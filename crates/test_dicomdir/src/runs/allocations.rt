@@ -1,7 +1,7 @@
 //! Each allocation refused in turn, of each call of files in memory and of a run over them.
 
-use crate::devices::{Front, held};
-use crate::disc::{FIRST_IMAGE, are_equal, disc, disc_with};
+use crate::runs::devices::{Front, held};
+use crate::runs::disc::{FIRST_IMAGE, are_equal, disc, disc_with};
 use dd_elem::{Read, Write};
 use dd_mem_files::{MemFiles, MemReader};
 use dd_vectors::{

@@ -1,6 +1,6 @@
 //! Runs over files in memory, each with its status, what it prints, and what becomes of the files.
 
-use crate::disc::{FIRST_IMAGE, are_equal, disc, disc_with};
+use crate::runs::disc::{FIRST_IMAGE, are_equal, disc, disc_with};
 use dd_mem_files::MemFiles;
 use dd_vectors::{Sink, ask_all, claim_all, failing, push_lines, words_of};
 use dicomdir::run;

@@ -1,6 +1,6 @@
 //! File-sets that are checked against their directories.
 
-use crate::scripts::ran;
+use crate::runs::scripts::ran;
 use dd_vectors::ask_all;
 use std::test::Fail;
 

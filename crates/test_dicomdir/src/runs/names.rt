@@ -1,7 +1,7 @@
 //! Runs over paths with control characters, which lines show as `?`.
 
-use crate::disc::disc;
-use crate::runs::end_of;
+use crate::runs::disc::disc;
+use crate::runs::runs::end_of;
 use dd_vectors::ask_all;
 use std::alloc::Global;
 use std::test::Fail;

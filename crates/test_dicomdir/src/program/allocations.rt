@@ -1,9 +1,9 @@
 //! Each allocation of each call refused in turn: the call wants memory, nothing has changed, and made again it answers.
 
-use crate::copies::{DIGEST, digest_words};
-use crate::engine::index_refused;
-use crate::filings::filing_refused;
-use crate::lines::said;
+use crate::program::copies::{DIGEST, digest_words};
+use crate::program::engine::index_refused;
+use crate::program::filings::filing_refused;
+use crate::program::lines::said;
 use dd_vectors::{
     ByteSource, Sink, allocation_numbers, answered, ends_refused, question, refuse_allocation,
     require, v1, was_refused, words_of,

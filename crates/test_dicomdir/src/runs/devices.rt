@@ -1,6 +1,6 @@
 //! Runs over files of which one part fails: writes from some byte on, one call, or one reader.
 
-use crate::scripts::end_by;
+use crate::runs::scripts::end_by;
 use dd_mem_files::MemFiles;
 use dd_vectors::{ask_all, first_directory, v1};
 use std::alloc::Global;

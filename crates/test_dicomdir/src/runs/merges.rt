@@ -1,6 +1,6 @@
 //! File-sets that are merged.
 
-use crate::scripts::{leave_the_same, ran};
+use crate::runs::scripts::{leave_the_same, ran};
 use dd_vectors::{ask_all, claim_all};
 use std::test::Fail;
 

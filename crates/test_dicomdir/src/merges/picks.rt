@@ -1,6 +1,6 @@
 //! Which files a merge picks, and why there is none.
 
-use crate::directories::{directories, label, slices, widest};
+use crate::merges::directories::{directories, label, slices, widest};
 use dd_layout::{Label, Limits};
 use dd_vectors::ask_all;
 use dicomdir::{Choice, MergeFault, Merged, first_saying, merge_engine};

@@ -1,8 +1,8 @@
 //! Each allocation of a merge refused in turn: it wants memory, nothing has changed, and made again it answers.
 
-use crate::directories::{directories, label, slices, widest};
-use crate::picks::in_words;
-use crate::withdrawals::uids_of;
+use crate::merges::directories::{directories, label, slices, widest};
+use crate::merges::picks::in_words;
+use crate::merges::withdrawals::uids_of;
 use dd_elem::{SetId, Uid};
 use dd_vectors::{allocation_numbers, refuse_allocation, require, was_refused};
 use dicomdir::{Choice, MergeFault, Merged, Pick, first_saying, merge_engine, withdraw_engine};

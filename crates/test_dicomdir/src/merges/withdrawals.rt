@@ -1,7 +1,7 @@
 //! Instances that are withdrawn from a directory.
 
-use crate::directories::{directories, label};
-use crate::picks::{in_words, refused};
+use crate::merges::directories::{directories, label};
+use crate::merges::picks::{in_words, refused};
 use dd_elem::Uid;
 use dd_layout::{Label, Limits};
 use dd_vectors::ask_all;
