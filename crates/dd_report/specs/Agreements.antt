@@ -6,7 +6,9 @@ use Rattle.std.specs.Option.{option_or}
 use Rattle.std.specs.Str.{bytes_eq}
 use Rattle.dd_elem.specs.declared.tag.Tag.{Tag}
 use Rattle.dd_set.specs.Find.{find_in}
-use Rattle.dd_scan.specs.Scan.{summary_length}
+use Rattle.dd_scan.specs.Scan.{summary_length, summary_of_value}
+use Rattle.dd_scan.specs.Summaries.{summary_view}
+use Rattle.dd_scan.specs.declared.summary.Summary.{Summary}
 use Rattle.dd_part10.specs.declared.fault.FileFault.{FileFault}
 use Rattle.dd_part10.specs.declared.fault.FileFault.TheVariants.{OtherSyntax}
 use Rattle.dd_encoding.specs.Meta.{class_tag, instance_tag, transfer_tag}
@@ -23,7 +25,6 @@ use Rattle.dd_report.specs.declared.checking.Comparison.{Comparison}
 use Rattle.dd_report.specs.declared.findings.Finding.{Finding}
 use Rattle.dd_report.specs.declared.findings.Finding.TheVariants.{Mislabelled, NoFile}
 use Rattle.dd_report.specs.declared.agreements.Inherited.{Inherited}
-use Rattle.dd_report.specs.declared.agreements.Shown.{Shown}
 use Rattle.dd_report.specs.Finding.{by_digest, without_digest}
 
 -- ---- a record and those above it
@@ -153,7 +154,6 @@ pub record IsInherited (said : Inherited) (nodes : List Node) : Type 0 where
   pub study : said.study.now ≡ nearest (tag 0x0020 0x000d) nodes
   pub series : said.series.now ≡ nearest (tag 0x0020 0x000e) nodes
 
--- it shows a value: its first 1,024 bytes, and its length
-pub record Shows (shown : Shown) (value : List ℕ) : Type 0 where
-  pub front : shown.front.now ≡ take summary_length value
-  pub length : shown.length ≡ length value
+-- it is the summary of a value
+abbrev pub SumsUp : Summary → List ℕ → Type 0
+SumsUp summary value = summary_view (Some summary) ≡ summary_of_value (Some value)

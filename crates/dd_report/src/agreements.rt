@@ -14,18 +14,18 @@ ghost use Rattle.dd_layout.specs.ElementForms.{tag};
 ghost use Rattle.dd_dir.specs.ForestViews.{tree_view};
 ghost use Rattle.dd_dir.specs.Saying.{key_of};
 ghost use Rattle.dd_dir.specs.Trees.{Node};
-ghost use Rattle.dd_report.specs.Agreements.{IsInherited, Shows, agree, agreement, agreements, by_keys, compared_tags};
+ghost use Rattle.dd_report.specs.Agreements.{IsInherited, SumsUp, agree, agreement, agreements, by_keys, compared_tags};
 ghost use Rattle.dd_report.specs.Agreements.{first_wrong, mislabelled, nearest, patient_id, standing_below};
 ghost use Rattle.dd_report.specs.Agreements.{syntax_agreement};
 ghost use Rattle.dd_report.specs.Finding.{FindsBy, by_digest};
 
 use crate::findings::{Finding, digest_finding, value_in};
 use dd_dir::{Tree, digest_in};
-use dd_elem::{Key, Memory, Read, Tag, Uid, tags};
+use dd_elem::{Memory, Read, Tag, Uid, tags};
 use dd_keys::{Digested, read_digested};
 use dd_layout::table::{CLASS, INSTANCE, TRANSFER};
 use dd_part10::{self, FileFault, Scanned, StreamFault};
-use dd_scan::{Found, FoundValue, find_in};
+use dd_scan::{Found, Summary};
 use std::alloc::Global;
 
 /// The tags of a file's data set that are compared, rising.
@@ -101,63 +101,35 @@ fn value_or<'a>(tree: &Tree<'a>, tag: Tag, above: &'a [u8]) -> &'a [u8]
     }
 }
 
-/// The part of a value that is compared.
-#[derive(Clone, Copy)]
-pub(crate) struct Shown<'a> {
-    /// The first 1,024 of its bytes.
-    pub front: &'a [u8],
-    /// The number of its bytes.
-    pub length: u64,
+/// Gives the summary of the value at a tag of a data set in which these elements were found: that of no bytes
+/// where the set has no such element, or one that holds no bytes.
+fn summary_at(found: &[Found], tag: Tag) -> Summary<'_>
+    ensures { (set : Elements) → map found_hit found.now ≡ hits_of compared_tags set
+        → is_wanted compared_tags tag ≡ true → SumsUp result (key_of tag set) }
+{
+    match Summary::find(found, tag) {
+        Some(summary) => summary,
+        None => Summary::of(b""),
+    }
 }
 
-impl<'a> Shown<'a> {
-    /// Shows this value.
-    fn of(value: &'a [u8]) -> Shown<'a>
-        ensures { Shows result value.now }
-    {
-        Shown {
-            front: &value[..Key::MAX_LEN.min(value.len())],
-            length: value.len() as u64,
-        }
+/// Gives the summary of a Patient ID, with `NOID` for an empty one where this program has written the record.
+fn or_no_id(id: Summary<'_>, is_own: bool) -> Summary<'_>
+    ensures { (value : List ℕ) → SumsUp id.entry value → SumsUp result (patient_id is_own value) }
+{
+    if is_own && id.length == 0 {
+        Summary::of(NO_ID)
+    } else {
+        id
     }
+}
 
-    /// Shows the value at a tag of a data set in which these elements were found: no bytes where the set has no
-    /// such element, or one that holds no bytes.
-    fn found(found: &'a [Found], tag: Tag) -> Shown<'a>
-        ensures { (set : Elements) → map found_hit found.now ≡ hits_of compared_tags set
-            → is_wanted compared_tags tag ≡ true → Shows result (key_of tag set) }
-    {
-        let Some(found) = find_in(found, tag) else {
-            return Shown::of(b"");
-        };
-        match &found.value {
-            FoundValue::Items | FoundValue::Fragments => Shown::of(b""),
-            FoundValue::Bytes { front, length } => Shown {
-                front: front.as_slice(),
-                length: *length,
-            },
-        }
-    }
-
-    /// Shows a Patient ID, with `NOID` for an empty one where this program has written the record.
-    fn or_no_id(self, is_own: bool) -> Shown<'a>
-        ensures { (value : List ℕ) → Shows self.entry value
-            → Shows result (patient_id is_own value) }
-    {
-        if is_own && self.length == 0 {
-            Shown::of(NO_ID)
-        } else {
-            self
-        }
-    }
-
-    /// Do the values agree?
-    fn agrees(self, other: Shown<'_>) -> bool
-        ensures { (one two : List ℕ) → Shows self.entry one → Shows other.entry two
-            → result ≡ agree one two }
-    {
-        self.length == other.length && self.front == other.front
-    }
+/// Do the values agree?
+fn agree(one: Summary<'_>, other: Summary<'_>) -> bool
+    ensures { (value another : List ℕ) → SumsUp one.entry value → SumsUp other.entry another
+        → result ≡ agree value another }
+{
+    one.length == other.length && one.front == other.front
 }
 
 /// A tag of a file, and whether the value there agrees with what the records say.
@@ -167,8 +139,8 @@ type Agreement = (Tag, bool);
 fn uid_agreement(tag: Tag, uid: &Uid, recorded: &[u8]) -> Agreement
     ensures { result ≡ agreement tag uid.now recorded.now }
 {
-    let in_file = Shown::of(uid.as_bytes());
-    (tag, in_file.agrees(Shown::of(recorded)))
+    let in_file = Summary::of(uid.as_bytes());
+    (tag, agree(in_file, Summary::of(recorded)))
 }
 
 /// Compares the transfer syntax of a file with what the record says.
@@ -185,8 +157,8 @@ fn value_agreement(found: &[Found], tag: Tag, recorded: &[u8]) -> Agreement
         → is_wanted compared_tags tag ≡ true
         → result ≡ agreement tag (key_of tag set) recorded.now }
 {
-    let in_file = Shown::found(found, tag);
-    (tag, in_file.agrees(Shown::of(recorded)))
+    let in_file = summary_at(found, tag);
+    (tag, agree(in_file, Summary::of(recorded)))
 }
 
 /// Compares the Patient ID of such a data set with what the records say.
@@ -196,9 +168,9 @@ fn patient_agreement(found: &[Found], is_own: bool, recorded: &[u8]) -> Agreemen
         (patient_id is_own (key_of (tag 0x0010 0x0020) set))
         (patient_id is_own recorded.now) }
 {
-    let in_file = Shown::found(found, tags::PATIENT_ID).or_no_id(is_own);
-    let recorded = Shown::of(recorded).or_no_id(is_own);
-    (tags::PATIENT_ID, in_file.agrees(recorded))
+    let in_file = or_no_id(summary_at(found, tags::PATIENT_ID), is_own);
+    let recorded = or_no_id(Summary::of(recorded), is_own);
+    (tags::PATIENT_ID, agree(in_file, recorded))
 }
 
 /// Compares what a file says of itself with what the records say, in the order of its tags. `inherited` is what

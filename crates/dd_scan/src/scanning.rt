@@ -19,7 +19,7 @@ use std::alloc::Global;
 ///
 /// 14 Read exactly where the reader fails, and 15 TooLong exactly where it gives `limit` bytes and one
 /// more. Else the refusals are those of `parse` on what the reader gave, or lack of memory, where the
-/// reader gave a wanted element of the set itself, whole and after no check that fails. It makes at most
+/// reader gave a wanted element of the set itself, whole, and no check fails before it. It makes at most
 /// `limit` + 1 reads, and reads on to the end before it answers.
 pub fn scan<R: Read>(
     alloc: Global,
