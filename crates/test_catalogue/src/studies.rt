@@ -1,6 +1,6 @@
 //! Conflicts between the versions of a catalogue, and the keys on which they agree in harmony.
 
-use dd_catalogue::Catalogue;
+use dd_catalogue::{Catalogue, Harmony};
 use dd_vectors::{ask_all, taken, text_of};
 use dd_version::Parts;
 use std::alloc::Global;
@@ -66,4 +66,24 @@ fn harmony(alloc: Global, question: &str) -> Result<String, Fail> {
 #[test]
 fn harmonised_versions_agree(rt: HostRuntime) -> Result<(), Fail> {
     ask_all(rt.alloc(), HARMONIES, harmony)
+}
+
+/// The studies of all instances in harmony, or the two that conflict.
+fn harmony_or_conflict(alloc: Global, question: &str) -> Result<String, Fail> {
+    let catalogue = taken(alloc, question)?;
+    match catalogue.harmonise_or_conflict()? {
+        Harmony::Found(harmony) => studies(alloc, &harmony),
+        Harmony::Conflict(first, second) => Ok(format!(in alloc; "{first} {second}")?),
+    }
+}
+
+/// Catalogues with two instances that conflict, and these.
+const CONFLICTS_ALONE: &str = "\
+15 > 1.2.3.4.5 1.2.8.4.1
+6251 > 1.2.3.4.5 1.2.3.4.7";
+
+#[test]
+fn one_call_answers_harmony_or_conflict(rt: HostRuntime) -> Result<(), Fail> {
+    ask_all(rt.alloc(), HARMONIES, harmony_or_conflict)?;
+    ask_all(rt.alloc(), CONFLICTS_ALONE, harmony_or_conflict)
 }
