@@ -40,14 +40,6 @@ clean_key Study v formed = clean_uid v.study.uid formed.study.uid
 clean_key Series v formed = clean_uid v.series.uid formed.series.uid
 clean_key Image v formed = clean_uid v.instance formed.image.instance
 
--- what holds of one and of those behind it
-pub row_more : (P : PlanRecord → Type 0) (rows : List PlanRecord) (i : ℕ) (row : PlanRecord) → i < length rows
-    → row ≡ get_or rows i row → P row → AllByRecursion P (drop (i + 1) rows) → AllByRecursion P (drop i rows)
-row_more P rows i row within is holds rest =
-    let left : drop i rows ≡ row ∷ drop (i + 1) rows =
-    at_drop_more (λ rs. rs) rows i row within ∙ ap (λ (r : PlanRecord). r ∷ drop (i + 1) rows) (sym is) in
-    subst (λ (rs : List PlanRecord). AllByRecursion P rs) (sym left) (holds, rest)
-
 -- what is known once all of them were sent
 pub whole_sent : (label : Label) (versions : List Parts) (withdrawn : List (List ℕ))
     (rows : List PlanRecord) → rows ≡ records_of label versions → size label versions withdrawn < 2 ^ 32

@@ -17,6 +17,7 @@ pub mod Lifting
 pub mod ListedAlong
 pub mod ListedFirst
 pub mod ListedImages
+pub mod MeasuredRecords
 pub mod Moved
 pub mod OffsetsWithin
 pub mod OwnAnswers

@@ -1,8 +1,6 @@
 -- The text of records as the pieces that are sent.
-use Rattle.std.proofs.Common.{◌≡◌, ℕ, ◌+◌, ◌-◌, ◌<◌, ◌^◌, List, ◌∷◌, ◌++◌, length, map, drop, get_or, Some}
-use Rattle.std.proofs.Common.{sym, ap, subst, ◌∙◌, arith, length-append}
-use Rattle.std.specs.List.{AllByRecursion}
-use Rattle.std.proofs.lemmas.List.{at_drop_more}
+use Rattle.std.proofs.Common.{◌≡◌, ℕ, ◌+◌, ◌-◌, ◌<◌, ◌^◌, List, ◌∷◌, ◌++◌, length, map, get_or, Some}
+use Rattle.std.proofs.Common.{sym, ap, ◌∙◌, arith, length-append}
 use Rattle.std.proofs.lemmas.Option.{slice_get-get_or}
 use Rattle.byteorder.specs.Endian.{little_bytes}
 use Rattle.dd_version.specs.declared.parts.Parts.{Parts}
@@ -11,7 +9,7 @@ use Rattle.dd_set.specs.Single.{item_text}
 use Rattle.dd_encoding.specs.Spelling.{item_tag_text, items_text}
 use Rattle.dd_set.proofs.Counting.{part_first}
 use Rattle.dd_layout.specs.declared.record.PlanRecord.{PlanRecord}
-use Rattle.dd_layout.specs.Records.{IsRecord, record_elements, record_item}
+use Rattle.dd_layout.specs.Records.{record_elements, record_item}
 use Rattle.dd_layout.specs.Sizes.{record_size}
 use Rattle.dd_dir.specs.Directories.{elements_by, elements_for}
 use Rattle.dd_dir.proofs.RowTexts.{text_of}
@@ -42,23 +40,11 @@ second_fits one two whole sent n is fits first =
 abbrev pub records_text : List Parts → List PlanRecord → List ℕ
 records_text versions rows = items_text (items_of (map record_item (map (elements_for versions) rows)))
 
--- that of the records that are left begins with that of the next
-pub record_at : (versions : List Parts) (rows : List PlanRecord) (i : ℕ) (row : PlanRecord) → i < length rows
-    → row ≡ get_or rows i row → records_text versions (drop i rows)
-    ≡ item_text (record_item (elements_for versions row)) ++ records_text versions (drop (i + 1) rows)
-record_at versions rows i row within is =
-    let rest = drop (i + 1) rows in
-    at_drop_more (records_text versions) rows i row within
-    ∙ ap (λ (r : PlanRecord). records_text versions (r ∷ rest)) (sym is)
+-- that of records begins with that of the first
+pub text_at : (versions : List Parts) (rows : List PlanRecord) (row : PlanRecord) (rest : List PlanRecord)
+    → rows ≡ row ∷ rest → records_text versions rows
+    ≡ item_text (record_item (elements_for versions row)) ++ records_text versions rest
+text_at versions rows row rest is =
+    ap (records_text versions) is
     ∙ part_first (record_item (elements_for versions row)) (items_of (map record_item (map (elements_for versions)
     rest)))
-
--- and those that are left are valid where it is and the others are
-pub record_valid : (versions : List Parts) (rows : List PlanRecord) (i : ℕ) (row : PlanRecord) → i < length rows
-    → row ≡ get_or rows i row → IsRecord (elements_for versions row)
-    → AllByRecursion IsRecord (map (elements_for versions) (drop (i + 1) rows))
-    → AllByRecursion IsRecord (map (elements_for versions) (drop i rows))
-record_valid versions rows i row within is valid rest =
-    let left : drop i rows ≡ row ∷ drop (i + 1) rows =
-    at_drop_more (λ rs. rs) rows i row within ∙ ap (λ (r : PlanRecord). r ∷ drop (i + 1) rows) (sym is) in
-    subst (λ (rs : List PlanRecord). AllByRecursion IsRecord (map (elements_for versions) rs)) (sym left) (valid, rest)

@@ -1,6 +1,8 @@
 -- The text of the elements that the rows of a table give a record.
 use Rattle.std.proofs.Common.{◌≡◌, ℕ, ◌+◌, ◌<◌, List, [], ◌∷◌, ◌++◌, length, drop, get_or, Option, Some, None}
-use Rattle.std.proofs.Common.{refl, sym, ap, ◌∙◌, append_assoc, append-nil}
+use Rattle.std.specs.List.{AllByRecursion}
+use Rattle.std.specs.Prelude.{IfSome}
+use Rattle.std.proofs.Common.{refl, sym, ap, subst, ◌∙◌, append_assoc, append-nil}
 use Rattle.std.proofs.lemmas.List.{at_drop_more}
 use Rattle.dd_version.specs.declared.parts.Parts.{Parts}
 use Rattle.dd_encoding.specs.Elements.{Element, elements_of}
@@ -10,7 +12,8 @@ use Rattle.dd_set.proofs.Counting.{element_first}
 use Rattle.dd_layout.specs.declared.cell.Cell.{Cell}
 use Rattle.dd_layout.specs.declared.record.PlanRecord.{PlanRecord}
 use Rattle.dd_layout.specs.declared.table.Row.{Row}
-use Rattle.dd_layout.specs.Cells.{cell_element, cell_elements, row_elements, table_elements}
+use Rattle.dd_layout.specs.Cells.{IsShort, IsShortElement, cell_element, cell_elements, even_value, row_elements}
+use Rattle.dd_layout.specs.Cells.{table_elements}
 
 -- the text of elements in a row
 abbrev pub text_of : List Element → List ℕ
@@ -62,3 +65,30 @@ row_skips planned parts rows i d given within is none =
     row_at planned parts rows i d within
     ∙ ap (λ (es : List Element). text_of es ++ rows_text planned parts (drop (i + 1) rows))
     (sym is ∙ ap cell_elements none)
+
+-- ---- whether all of them are short
+
+abbrev pub AreShort : PlanRecord → Parts → List Row → Type 0
+AreShort planned parts rows =
+    AllByRecursion IsShortElement (table_elements rows planned.level planned.next planned.lower planned.file parts)
+
+rest_is : (planned : PlanRecord) (parts : Parts) (rows : List Row) (i : ℕ) (d : Row) (given : Option Cell)
+    → i < length rows → cell_elements given ≡ row_of planned parts (get_or rows i d)
+    → table_elements (drop i rows) planned.level planned.next planned.lower planned.file parts
+    ≡ cell_elements given
+    ++ table_elements (drop (i + 1) rows) planned.level planned.next planned.lower planned.file parts
+rest_is planned parts rows i d given within is =
+    at_drop_more (λ (rs : List Row). table_elements rs planned.level planned.next planned.lower planned.file parts)
+    rows i d within
+    ∙ ap (λ (es : List Element). es
+    ++ table_elements (drop (i + 1) rows) planned.level planned.next planned.lower planned.file parts) (sym is)
+
+-- the elements of the rows that are left are, where those of the others are
+pub row_short : (planned : PlanRecord) (parts : Parts) (rows : List Row) (i : ℕ) (d : Row) (given : Option Cell)
+    → i < length rows → cell_elements given ≡ row_of planned parts (get_or rows i d)
+    → IfSome given (λ cell. IsShort (even_value cell.value)) → AreShort planned parts (drop (i + 1) rows)
+    → AreShort planned parts (drop i rows)
+row_short planned parts rows i d None within is short rest =
+    subst (AllByRecursion IsShortElement) (sym (rest_is planned parts rows i d None within is)) rest
+row_short planned parts rows i d (Some cell) within is short rest =
+    subst (AllByRecursion IsShortElement) (sym (rest_is planned parts rows i d (Some cell) within is)) (short, rest)

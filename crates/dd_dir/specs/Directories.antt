@@ -1,5 +1,5 @@
 -- The bytes of a directory (PS3.3 section F.3.2, PS3.10 section 8.6).
-use Rattle.std.specs.Prelude.{◌<◌, ℕ, List, [], ◌++◌, All, length, map, Option, None, Some, slice_get, codes}
+use Rattle.std.specs.Prelude.{◌≡◌, ◌<◌, ◌+◌, ℕ, List, [], ◌∷◌, ◌++◌, All, length, map, Option, None, Some, slice_get, codes}
 use Rattle.std.specs.List.{last_or}
 use Rattle.dd_catalogue.specs.Harmony.{harmonised}
 use Rattle.dd_elem.specs.Digests.{uid_of_digest}
@@ -16,6 +16,7 @@ use Rattle.dd_layout.specs.ElementForms.{tag}
 use Rattle.dd_layout.specs.Layouts.{StandsWithin}
 use Rattle.dd_layout.specs.Plans.{at_or_none, records_of, tree}
 use Rattle.dd_layout.specs.Records.{record_elements, record_item}
+use Rattle.dd_layout.specs.Sizes.{record_size}
 use Rattle.dd_layout.specs.Tree.{children, first_child}
 use Rattle.dd_layout.specs.Withdrawals.{withdrawal_elements}
 use Rattle.sha2.specs.Sha256.{sha256}
@@ -43,6 +44,17 @@ elements_by planned (Some version) =
 
 abbrev pub elements_for : List Parts → PlanRecord → List Element
 elements_for versions planned = elements_by planned (slice_get versions planned.of)
+
+-- the offset at which a record ends that these records follow, where the last one ends at this offset
+abbrev pub end_before : ℕ → List PlanRecord → ℕ
+end_before end [] = end
+end_before end (next ∷ rows) = next.at
+
+-- each of these records has the bytes from its offset up to where it ends
+abbrev pub AreMeasured : List Parts → ℕ → List PlanRecord → Type 0
+AreMeasured versions end [] = Unit {0}
+AreMeasured versions end (planned ∷ rows) =
+    (planned.at + record_size (elements_for versions planned) ≡ end_before end rows) × AreMeasured versions end rows
 
 -- the elements of the directory of these versions, which are in harmony, and of these withdrawn UIDs
 abbrev pub directory_set : Label → List Parts → List (List ℕ) → Elements

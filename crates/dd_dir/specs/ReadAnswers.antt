@@ -17,7 +17,7 @@ use Rattle.dd_dir.specs.Slots.{AreLeft, reached}
 use Rattle.dd_dir.specs.Trees.{Trees, offsets}
 use Rattle.dd_dir.specs.Walks.{Stands, IsChain, AreApart, with, with_all, found_at, step_at, Stops}
 
--- ---- want of memory
+-- ---- refused allocations
 
 -- the fault says that an allocation was refused: here, or while the bytes were read as a file
 abbrev pub SaysMemory : DirFault → Type 0

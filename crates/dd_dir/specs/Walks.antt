@@ -1,5 +1,5 @@
 -- Following the offsets of records: the trees that they form, and where and why they form none (PS3.3 section F.3.2.2).
--- `stands` tells the elements of the item that starts at an offset, where one does.
+-- `stands` gives the elements of the item that starts at an offset, where one does.
 use Rattle.std.specs.Prelude.{◌≡◌, ◌≢◌, ◌<◌, ◌+◌, ℕ, ◌==◌, Bool, true, false, List, [], ◌∷◌, Option, Some, None}
 use Rattle.std.specs.Prelude.{Result, Ok, Err, nat_le, if◌then◌else◌}
 use Rattle.dd_encoding.specs.Elements.{Elements}

@@ -1,6 +1,6 @@
 //! Elements sent to a writer.
 
-ghost use Rattle.std.specs.Prelude.{◌+◌, ◌<◌, ◌^◌, length, map};
+ghost use Rattle.std.specs.Prelude.{◌+◌, ◌<◌, ◌^◌, IsOk, length, map};
 ghost use Rattle.std.specs.List.{AllByRecursion};
 ghost use Rattle.dd_layout.specs.Cells.{IsShort, IsShortElement, cell_element, even_value, table_elements};
 ghost use Rattle.dd_encoding.specs.Elements.{elements_of};
@@ -58,9 +58,11 @@ pub(crate) fn send_rows<W: Write>(
     requires { let text = elements_text (elements_of (table_elements rows.now
         planned.now.level planned.now.next planned.now.lower planned.now.file parts.now))
         in sent + length text < 2 ^ 64 }
-    ensures { let text = elements_text (elements_of (table_elements rows.now
+    ensures sends { let text = elements_text (elements_of (table_elements rows.now
         planned.now.level planned.now.next planned.now.lower planned.now.file parts.now))
         in SendsTo W.Write text sent result writer.old writer.new }
+    ensures short { IsOk result → AllByRecursion IsShortElement (table_elements rows.now
+        planned.now.level planned.now.next planned.now.lower planned.now.file parts.now) }
 {
     for row in rows {
         if let Some(cell) = row.cell(planned, parts) {

@@ -46,7 +46,8 @@ pub fn read_directory<'a>(alloc: Global, bytes: &'a [u8]) -> Result<Forest<'a>, 
     read_forest(alloc, bytes)
 }
 
-/// The same, told of this answer alone: that no other is possible is for `read_directory` to say.
+/// Does what `read_directory` does. What is promised here is of this answer alone; that no other is possible is a
+/// clause of `read_directory`.
 fn read_forest<'a>(alloc: Global, bytes: &'a [u8]) -> Result<Forest<'a>, DirFault>
     ensures walk { IfOk result (λ forest. IsWalk bytes.now (walk_view forest)) }
     ensures refused { IfErr result (λ fault. SaysMemory fault ⊎ Refuses bytes.now fault) }

@@ -53,24 +53,32 @@ pub fn write_directory<W: Write>(plan: &Plan, writer: &mut W) -> Result<u64, Wri
 {
     let withdrawn = plan.withdrawn();
     let records = plan.records();
-    let count = records_size(plan);
+    let end = records_end(plan);
+    let count = records_size(plan, end);
     let sent = send_opening(plan, count, writer)?;
-    let sent = send_records(records, plan.versions(), writer, sent)?;
+    let sent = send_records(records, end, plan.versions(), writer, sent)?;
     send_withdrawals(withdrawn, writer, sent)
 }
 
-/// How many bytes the records have together.
-fn records_size(plan: &Plan) -> u32
-    ensures exact { result
-        ≡ records_end plan.now.label plan.now.versions - first_offset plan.now.label }
+/// The offset at which the last record ends.
+fn records_end(plan: &Plan) -> u32
+    ensures exact { result ≡ records_end plan.now.label plan.now.versions }
     ensures small { size plan.now.label plan.now.versions plan.now.withdrawn < 2 ^ 32 }
-    ensures id { IsSetId plan.now.label.id }
-    ensures uid { IsUid plan.now.label.uid }
     ensures uids { AllByRecursion IsUid plan.now.withdrawn }
 {
     let end = u128::from(plan.size()) - withdrawals_size(plan.withdrawn());
-    let count = end - u128::from(first_offset(plan.label()));
-    count as u32
+    end as u32
+}
+
+/// How many bytes the records have together, which end at `end`.
+fn records_size(plan: &Plan, end: u32) -> u32
+    requires { end ≡ records_end plan.now.label plan.now.versions }
+    ensures exact { result
+        ≡ records_end plan.now.label plan.now.versions - first_offset plan.now.label }
+    ensures id { IsSetId plan.now.label.id }
+    ensures uid { IsUid plan.now.label.uid }
+{
+    end - first_offset(plan.label()) as u32
 }
 
 /// Sends what stands before the records, which have `count` bytes together: the head of the file, the

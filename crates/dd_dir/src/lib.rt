@@ -3,7 +3,7 @@
 //! Its one promise: the bytes that are written for a catalogue are one directory, whose offsets realise the tree
 //! of its versions, and which says each version and each withdrawn UID again; and a directory of any producer is
 //! read as the one walk that its offsets give, or refused by the first check that fails. Only where an allocation is
-//! refused is the answer want of memory instead.
+//! refused is Memory answered instead.
 #![tactic(auto)]
 
 mod buffer;

@@ -1,54 +1,71 @@
 //! Records sent to a writer.
 
-ghost use Rattle.std.specs.Prelude.{◌+◌, ◌<◌, ◌^◌, All, IsOk, length, map};
+ghost use Rattle.std.specs.Prelude.{◌≡◌, ◌+◌, ◌<◌, ◌^◌, All, IsOk, length, map};
 ghost use Rattle.std.specs.List.{AllByRecursion};
 ghost use Rattle.dd_layout.specs.Layouts.{IsSound};
 ghost use Rattle.dd_layout.specs.Records.{IsRecord, record_item};
+ghost use Rattle.dd_layout.specs.Sizes.{record_size};
 ghost use Rattle.dd_encoding.specs.Elements.{items_of};
 ghost use Rattle.dd_stream.specs.Sends.{SendsTo};
 ghost use Rattle.dd_set.specs.Single.{item_text};
 ghost use Rattle.dd_encoding.specs.Spelling.{items_text};
-ghost use Rattle.dd_dir.specs.Directories.{elements_for};
+ghost use Rattle.dd_dir.specs.Directories.{AreMeasured, elements_for, end_before};
 ghost use Rattle.dd_dir.specs.Keyed.{IsKeyed};
 
 use crate::cells::send_rows;
 use crate::well_formed::parts_of;
 use dd_elem::Write;
 use dd_encoding::{HEADER_SIZE, item_header};
-use dd_layout::{PlanRecord, record_size, rows};
+use dd_layout::{PlanRecord, rows};
 use dd_stream::{WriteFault, send};
 use dd_version::Version;
 
-/// Sends these records behind `sent` bytes.
+/// Sends these records behind `sent` bytes. In the directory they end at `end`.
 pub(crate) fn send_records<W: Write>(
-    records: &[PlanRecord],
+    mut records: &[PlanRecord],
+    end: u32,
     versions: &[Version],
     writer: &mut W,
     mut sent: u64,
 ) -> Result<u64, WriteFault>
     requires sound { All (IsSound (length versions.now)) records.now }
+    requires measured { AreMeasured versions.now end records.now }
     requires fits { let parts = map record_item (map (elements_for versions.now) records.now)
         in sent + length (items_text (items_of parts)) < 2 ^ 64 }
-    ensures sends { let parts = map record_item (map (elements_for versions.now) records.now)
+    ensures sends { let parts = map record_item (map (elements_for versions.now) records.entry.now)
         in SendsTo W.Write (items_text (items_of parts)) sent result writer.old writer.new }
     ensures valid { IsOk result → AllByRecursion IsRecord
-        (map (elements_for versions.now) records.now) }
-    ensures keyed { IsOk result → AllByRecursion (IsKeyed versions.now) records.now }
+        (map (elements_for versions.now) records.entry.now) }
+    ensures keyed { IsOk result → AllByRecursion (IsKeyed versions.now) records.entry.now }
 {
-    for planned in records {
-        sent = send_record(planned, versions, writer, sent)?;
+    while let [planned, rest @ ..] = records {
+        let size = end_before(rest, end) - planned.at;
+        sent = send_record(planned, size, versions, writer, sent)?;
+        records = rest;
     }
     Ok(sent)
 }
 
-/// Sends a record behind `sent` bytes: the header of its item and its elements.
+/// The offset at which a record ends that these records follow, which end at `end`.
+fn end_before(records: &[PlanRecord], end: u32) -> u32
+    ensures { result ≡ end_before end records.now }
+{
+    match records {
+        [next, ..] => next.at,
+        [] => end,
+    }
+}
+
+/// Sends a record of `size` bytes behind `sent` bytes: the header of its item and its elements.
 fn send_record<W: Write>(
     planned: &PlanRecord,
+    size: u32,
     versions: &[Version],
     writer: &mut W,
     sent: u64,
 ) -> Result<u64, WriteFault>
     requires sound { IsSound (length versions.now) planned.now }
+    requires measured { size ≡ record_size (elements_for versions.now planned.now) }
     requires fits { sent + length
         (item_text (record_item (elements_for versions.now planned.now))) < 2 ^ 64 }
     ensures sends { let text = item_text (record_item (elements_for versions.now planned.now))
@@ -57,7 +74,7 @@ fn send_record<W: Write>(
     ensures keyed { IsKeyed versions.now planned.now }
 {
     let parts = parts_of(&versions[planned.of]);
-    let header = item_header(record_size(planned.level, parts) as u32 - HEADER_SIZE as u32);
+    let header = item_header(size - HEADER_SIZE as u32);
     let sent = send(&header, writer, sent)?;
     send_rows(rows(planned.level), planned, parts, writer, sent)
 }

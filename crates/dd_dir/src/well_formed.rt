@@ -1,4 +1,4 @@
-//! What the types of the parts of a version say of them. Only lending a key or a UID tells it.
+//! What the types of the parts of a version say of them. It is known only where a key or a UID is lent.
 
 ghost use Rattle.std.specs.Prelude.{◌≡◌, length};
 ghost use Rattle.dd_catalogue.specs.Contents.{IsHeld};

@@ -11,6 +11,7 @@ use Rattle.dd_dir.proofs.DirectoryFiles.{directory_is_file}
 use Rattle.dd_dir.proofs.DirectoryTexts.{directory_length, directory_parts, opening_fits, records_fit, size_told}
 use Rattle.dd_dir.proofs.DirectoryTexts.{withdrawals_fit}
 use Rattle.dd_dir.proofs.KeyedRecords.{whole_sent}
+use Rattle.dd_dir.proofs.MeasuredRecords.{records_measured}
 use Rattle.dd_dir.proofs.OffsetsWithin.{within_size}
 use Rattle.dd_dir.proofs.Realised.{realises, says_itself}
 use Rattle.dd_dir.proofs.RecordTexts.{records_text}
@@ -23,7 +24,7 @@ send_opening-requires g c =
     let sound = subst (All (IsSound (length plan.versions))) c.records-records.ensures.all
     c.records-records.ensures.sound in
     opening_fits plan.label plan.versions plan.withdrawn c.records_size-count.result sound
-    c.records_size-count.ensures.small c.records_size-count.ensures.exact
+    c.records_end-end.ensures.small c.records_size-count.ensures.exact
 
 pub returns-in_err-sent-clause-sends : goal.returns-in_err-sent-clause-sends
 returns-in_err-sent-clause-sends g c =
@@ -44,7 +45,15 @@ send_records-requires-clause-fits g c =
     c.records-records.ensures.all in
     subst (λ (t : List ℕ). c.in_ok-sent.sent + length t < 2 ^ 64) (sym records)
     (records_fit plan.label plan.versions plan.withdrawn c.records_size-count.result c.in_ok-sent.sent sound
-    c.records_size-count.ensures.small c.records_size-count.ensures.exact c.in_ok-sent.ensures.ok.0)
+    c.records_end-end.ensures.small c.records_size-count.ensures.exact c.in_ok-sent.ensures.ok.0)
+
+pub send_records-requires-clause-measured : goal.send_records-requires-clause-measured
+send_records-requires-clause-measured g c =
+    let plan = c.args.plan.now in
+    let sound = subst (All (IsSound (length plan.versions))) c.records-records.ensures.all
+    c.records-records.ensures.sound in
+    rw (c.versions.ensures.all, c.records-records.ensures.all, c.records_end-end.ensures.exact)
+    (records_measured plan.label plan.versions sound)
 
 pub returns-in_err-sent-2-clause-sends : goal.returns-in_err-sent-2-clause-sends
 returns-in_err-sent-2-clause-sends g c =
@@ -63,7 +72,7 @@ pub send_withdrawals-requires-clause-small : goal.send_withdrawals-requires-clau
 send_withdrawals-requires-clause-small g c =
     let plan = c.args.plan.now in
     subst (λ (uids : List (List ℕ)). withdrawals_size uids < 2 ^ 32) (sym c.withdrawn-withdrawn.ensures.all)
-    (omega (arith, c.records_size-count.ensures.small))
+    (omega (arith, c.records_end-end.ensures.small))
 
 pub send_withdrawals-requires-clause-fits : goal.send_withdrawals-requires-clause-fits
 send_withdrawals-requires-clause-fits g c =
@@ -77,7 +86,7 @@ send_withdrawals-requires-clause-fits g c =
     subst (λ (uids : List (List ℕ)). c.in_ok-sent-2.sent + withdrawals_size uids < 2 ^ 64)
     (sym c.withdrawn-withdrawn.ensures.all)
     (withdrawals_fit plan.label plan.versions plan.withdrawn c.records_size-count.result c.in_ok-sent.sent
-    c.in_ok-sent-2.sent sound c.records_size-count.ensures.small c.records_size-count.ensures.exact
+    c.in_ok-sent-2.sent sound c.records_end-end.ensures.small c.records_size-count.ensures.exact
     c.in_ok-sent.ensures.ok.0 count)
 
 pub returns-clause-sends : goal.returns-clause-sends
@@ -106,7 +115,7 @@ pub returns-clause-file : goal.returns-clause-file
 returns-clause-file g c = λ ok.
     let plan = c.args.plan.now in
     directory_is_file plan.label plan.versions plan.withdrawn c.records-records.result.now
-    c.records-records.ensures.all c.records-records.ensures.sound c.records_size-count.ensures.small
+    c.records-records.ensures.all c.records-records.ensures.sound c.records_end-end.ensures.small
     c.records_size-count.ensures.id.short c.records_size-count.ensures.uid
     (rw c.versions.ensures.all at c.in_ok-sent-2.ensures.valid refl)
 
@@ -119,7 +128,7 @@ pub returns-clause-realised : goal.returns-clause-realised
 returns-clause-realised g c = λ ok m up is.
     let plan = c.args.plan.now in
     let sent = whole_sent plan.label plan.versions plan.withdrawn c.records-records.result.now
-    c.records-records.ensures.all c.records_size-count.ensures.small (returns-clause-file g c ok)
+    c.records-records.ensures.all c.records_end-end.ensures.small (returns-clause-file g c ok)
     c.records_size-count.ensures.id c.records-records.ensures.sound
     (rw c.versions.ensures.all at c.in_ok-sent-2.ensures.keyed refl) in
     realises plan.label plan.versions m plan.withdrawn sent up is
@@ -128,10 +137,10 @@ pub returns-clause-own : goal.returns-clause-own
 returns-clause-own g c = λ ok m up is rising.
     let plan = c.args.plan.now in
     let sent = whole_sent plan.label plan.versions plan.withdrawn c.records-records.result.now
-    c.records-records.ensures.all c.records_size-count.ensures.small (returns-clause-file g c ok)
+    c.records-records.ensures.all c.records_end-end.ensures.small (returns-clause-file g c ok)
     c.records_size-count.ensures.id c.records-records.ensures.sound
     (rw c.versions.ensures.all at c.in_ok-sent-2.ensures.keyed refl) in
-    let uids : AreRisingUids plan.withdrawn = record { each = c.records_size-count.ensures.uids; rising = rising } in
+    let uids : AreRisingUids plan.withdrawn = record { each = c.records_end-end.ensures.uids; rising = rising } in
     says_itself plan.label plan.versions m plan.withdrawn sent up uids is
 
 pub returns-in_err-sent-clause-short : goal.returns-in_err-sent-clause-short
@@ -139,18 +148,18 @@ returns-in_err-sent-clause-short g c =
     let plan = c.args.plan.now in
     let sound = subst (All (IsSound (length plan.versions))) c.records-records.ensures.all
     c.records-records.ensures.sound in
-    omega (arith, directory_length plan.label plan.versions plan.withdrawn sound, c.records_size-count.ensures.small)
+    omega (arith, directory_length plan.label plan.versions plan.withdrawn sound, c.records_end-end.ensures.small)
 
 pub returns-in_err-sent-2-clause-short : goal.returns-in_err-sent-2-clause-short
 returns-in_err-sent-2-clause-short g c =
     let plan = c.args.plan.now in
     let sound = subst (All (IsSound (length plan.versions))) c.records-records.ensures.all
     c.records-records.ensures.sound in
-    omega (arith, directory_length plan.label plan.versions plan.withdrawn sound, c.records_size-count.ensures.small)
+    omega (arith, directory_length plan.label plan.versions plan.withdrawn sound, c.records_end-end.ensures.small)
 
 pub returns-clause-short : goal.returns-clause-short
 returns-clause-short g c =
     let plan = c.args.plan.now in
     let sound = subst (All (IsSound (length plan.versions))) c.records-records.ensures.all
     c.records-records.ensures.sound in
-    omega (arith, directory_length plan.label plan.versions plan.withdrawn sound, c.records_size-count.ensures.small)
+    omega (arith, directory_length plan.label plan.versions plan.withdrawn sound, c.records_end-end.ensures.small)
