@@ -66,11 +66,15 @@ pub record Place : Type 0 where
   pub digest : List ℕ
   pub file : List ℕ
 
+-- the File ID of an image
+abbrev pub file_of : Listed → List ℕ
+file_of image = key_of (tag 0x0004 0x1500) image.own
+
 abbrev pub place_of : Listed → Place
 place_of image = record {
   uid = key_of (tag 0x0004 0x1511) image.own;
   digest = digest_of image.own;
-  file = key_of (tag 0x0004 0x1500) image.own;
+  file = file_of image;
 }
 
 abbrev pub place_view : PlaceValue → Place
@@ -78,10 +82,10 @@ place_view place = record { uid = place.uid; digest = place.digest; file = place
 
 -- ---- answers
 
--- it tells of these images their versions, and where their files are, and has these withdrawn UIDs
+-- it has of these images the versions and the File IDs, and these withdrawn UIDs
 pub record Tells (uids : List (List ℕ)) (images : List Listed) (told : Own) : Type 0 where
   pub versions : told.versions.items ≡ map version_of images
-  pub places : map place_view told.places.items ≡ map place_of images
+  pub files : map (λ file. file.now) told.files.items ≡ map file_of images
   pub withdrawn : told.withdrawn.items ≡ uids
 
 -- The answer where the records list these images, or fail by this fault: what the images give, or the fault. Memory

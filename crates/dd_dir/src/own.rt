@@ -4,7 +4,7 @@ ghost use Rattle.std.specs.Prelude.{◌≡◌, ◌≢◌, ◌⊎◌, [], map, op
 ghost use Rattle.dd_catalogue.specs.Contents.{held_of};
 ghost use Rattle.dd_dir.specs.ForestViews.{walk_view};
 ghost use Rattle.dd_dir.specs.OwnVersions.{AnswersWalk, ListsSome, NamesSome, Tells};
-ghost use Rattle.dd_dir.specs.OwnVersions.{place_of, place_view, version_of};
+ghost use Rattle.dd_dir.specs.OwnVersions.{file_of, place_of, place_view, version_of};
 ghost use Rattle.dd_dir.specs.OwnViews.{AnswersRecords, IsListed, listed_view};
 ghost use Rattle.dd_dir.specs.Withdrawn.{AreRisingUids, pieces_in, withdrawn_of};
 
@@ -37,8 +37,8 @@ pub struct Place<'a> {
 pub struct Own<'a> {
     /// The version of each.
     pub versions: Vec<Version>,
-    /// Where the file of each is.
-    pub places: Vec<Place<'a>>,
+    /// The File ID of the file of each, without padding.
+    pub files: Vec<&'a [u8]>,
     /// The SOP Instance UIDs that are withdrawn, rising.
     pub withdrawn: Vec<Uid>,
 }
@@ -48,7 +48,7 @@ impl Drop for Own<'_> {
     fn drop(self) {
         let Own {
             versions: _versions,
-            places: _places,
+            files: _files,
             withdrawn: _withdrawn,
         } = self;
     }
@@ -122,11 +122,11 @@ fn own_of_images<'a>(
         ⊎ (pieces_in (option_map (λ value. value.now) named.entry) ≢ [])) }
 {
     let versions = versions(alloc, images)?;
-    let places = places(alloc, images)?;
+    let files = files(alloc, images)?;
     let withdrawn = withdrawn_uids(alloc, named)?;
     Ok(Own {
         versions,
-        places,
+        files,
         withdrawn,
     })
 }
@@ -144,6 +144,19 @@ fn versions(alloc: Global, images: &[Listed<'_, '_>]) -> Result<Vec<Version>, Me
         versions.push(version)?;
     }
     Ok(versions)
+}
+
+/// The File IDs of the files of these images.
+fn files<'a>(alloc: Global, images: &[Listed<'_, 'a>]) -> Result<Vec<&'a [u8]>, Memory>
+    ensures all { IfOk result (λ files. map (λ file. file.now) files.items
+        ≡ map file_of (map listed_view images.now)) }
+    ensures some { OnErr result (images.now ≢ []) }
+{
+    let mut files = Vec::with_capacity(alloc, images.len())?;
+    for image in images {
+        files.push(row_value(&FILE, image.own))?;
+    }
+    Ok(files)
 }
 
 /// Where the files of these images are.

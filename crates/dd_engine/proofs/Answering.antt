@@ -185,16 +185,16 @@ skipped_more at next (Err fault ∷ answers) answer many =
 holds_more : (at : ℕ) (answers : List Answer) (answer : Answer) (old new : Sources) → length answers ≡ at
     → Holds answers old
     → new.versions.items ≡ old.versions.items ++ versions_of (accepted_from at (answer ∷ []))
-    → new.numbers.items ≡ old.numbers.items ++ map (λ source. source.0) (accepted_from at (answer ∷ []))
+    → new.origins.items ≡ old.origins.items ++ map (λ source. source.0) (accepted_from at (answer ∷ []))
     → new.skipped.items ≡ old.skipped.items ++ skipped_from at (answer ∷ [])
     → Holds (answers ++ answer ∷ []) new
-holds_more at answers answer old new many h versions numbers skips =
+holds_more at answers answer old new many h versions origins skips =
     let more = accepted_more 0 at answers answer (omega arith) in
     let last = accepted_from at (answer ∷ []) in
     record {
       versions = versions ∙ ap (λ (front : List Parts). front ++ versions_of last) h.versions
           ∙ sym (ap versions_of more ∙ map-append (λ (source : Sourced). source.1) (accepted answers) last);
-      numbers = numbers ∙ ap (λ (front : List ℕ). front ++ map (λ source. source.0) last) h.numbers
+      origins = origins ∙ ap (λ (front : List ℕ). front ++ map (λ source. source.0) last) h.origins
           ∙ sym (ap (map (λ (source : Sourced). source.0)) more
           ∙ map-append (λ (source : Sourced). source.0) (accepted answers) last);
       skips = skips ∙ ap (λ (front : List (ℕ × KeyFault)). front ++ skipped_from at (answer ∷ [])) h.skips
@@ -203,20 +203,20 @@ holds_more at answers answer old new many h versions numbers skips =
 
 pub holds_version : (at : ℕ) (answers : List Answer) (answer : Answer) (version : Parts) (old new : Sources)
     → answer ≡ Ok version → length answers ≡ at → Holds answers old
-    → new.versions.items ≡ old.versions.items ++ version ∷ [] → new.numbers.items ≡ old.numbers.items ++ at ∷ []
+    → new.versions.items ≡ old.versions.items ++ version ∷ [] → new.origins.items ≡ old.origins.items ++ at ∷ []
     → new.skipped.items ≡ old.skipped.items → Holds (answers ++ answer ∷ []) new
-holds_version at answers answer version old new is many h versions numbers skips =
+holds_version at answers answer version old new is many h versions origins skips =
     let all = skips ∙ sym (append-nil old.skipped.items) in
     subst (λ (one : Answer). Holds (answers ++ one ∷ []) new) (sym is)
-    (holds_more at answers (Ok version) old new many h versions numbers all)
+    (holds_more at answers (Ok version) old new many h versions origins all)
 
 pub holds_skipped : (at : ℕ) (answers : List Answer) (answer : Answer) (fault : KeyFault) (old new : Sources)
     → answer ≡ Err fault → length answers ≡ at → Holds answers old
-    → new.versions.items ≡ old.versions.items → new.numbers.items ≡ old.numbers.items
+    → new.versions.items ≡ old.versions.items → new.origins.items ≡ old.origins.items
     → new.skipped.items ≡ old.skipped.items ++ (at, fault) ∷ [] → Holds (answers ++ answer ∷ []) new
-holds_skipped at answers answer fault old new is many h versions numbers skips =
+holds_skipped at answers answer fault old new is many h versions origins skips =
     let all = versions ∙ sym (append-nil old.versions.items) in
-    let same = numbers ∙ sym (append-nil old.numbers.items) in
+    let same = origins ∙ sym (append-nil old.origins.items) in
     subst (λ (one : Answer). Holds (answers ++ one ∷ []) new) (sym is)
     (holds_more at answers (Err fault) old new many h all same skips)
 

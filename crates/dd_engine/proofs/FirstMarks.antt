@@ -108,7 +108,7 @@ reached marks t i k front there = by_test (nat_lt k i)
 first_at : {T : Type 0} (marks : List (Mark T)) (t : FileKey) (i : ℕ) (d : Mark T) → i < length marks
     → ((k : ℕ) → k < i → is_one (key_of (get_or marks k d)) t ≡ false)
     → is_one (key_of (get_or marks i d)) t ≡ true
-    → Some (get_or marks i d).at ≡ found (map (λ mark. mark_view mark) marks) t
+    → Some (get_or marks i d).origin ≡ found (map (λ mark. mark_view mark) marks) t
 first_at [] t i d below before here = absurd (omega arith)
 first_at (mark ∷ marks) t zero d below before here = rw here refl
 first_at (mark ∷ marks) t (suc i) d below before here =
@@ -118,7 +118,7 @@ pub first_found : {T : Type 0} (marks : List (Mark T)) (t : FileKey) (i : ℕ) �
     → filter (λ file. is_one file t) (map (λ mark. key_of mark) marks) ≢ []
     → IsPartitionPoint (λ mark. is_lt (file_cmp (key_of mark) t) ≡ true)
     (λ mark. is_lt (file_cmp (key_of mark) t) ≡ false) marks i
-    → (i < length marks) × ((d : Mark T) → Some (get_or marks i d).at ≡ found (map (λ mark. mark_view mark) marks) t)
+    → (i < length marks) × ((d : Mark T) → Some (get_or marks i d).origin ≡ found (map (λ mark. mark_view mark) marks) t)
 first_found marks t i order some point =
     let held = place_of marks t some in
     let k = held.0 in

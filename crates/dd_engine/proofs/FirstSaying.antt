@@ -19,11 +19,11 @@ use Rattle.dd_engine.proofs.PicksWithin.{AreBelow, all_numbered_below}
 
 -- there are as many picks as versions
 picks_as_versions : (listings : List SetListing) (gathered : Gathered) → GathersOf [] listings gathered
-    → length gathered.picks.items ≡ length gathered.versions.items
+    → length gathered.origins.items ≡ length gathered.versions.items
 picks_as_versions listings gathered gathers =
     let images = numbered 0 listings in
-    sym (length-map gathered.picks.items (λ pick. pick_view pick))
-    ∙ ap (λ (places : List (ℕ × List ℕ)). length places) gathers.picks
+    sym (length-map gathered.origins.items (λ pick. pick_view pick))
+    ∙ ap (λ (places : List (ℕ × List ℕ)). length places) gathers.origins
     ∙ length-map (places_in images) (λ place. place_pick place)
     ∙ length-map images (λ image. (image.0, place_of image.1))
     ∙ sym (length-map images (λ image. version_of image.1))
@@ -32,17 +32,17 @@ picks_as_versions listings gathered gathers =
 -- the pick of the first version that is filed so is that of its image
 pub first_place : (planned : Parts) (listings : List SetListing) (gathered : Gathered) (at : ℕ) (pick : Pick)
     → GathersOf [] listings gathered → IsFirstFiled planned gathered.versions.items at
-    → pick ≡ get_or gathered.picks.items at pick → IsFirstSaying planned (numbered 0 listings) (Some pick)
+    → pick ≡ get_or gathered.origins.items at pick → IsFirstSaying planned (numbered 0 listings) (Some pick)
 first_place planned listings gathered at pick gathers first read = (
   at,
   subst (λ (versions : List Parts). IsFirstFiled planned versions at) gathers.versions first,
-  ap (λ (places : List (ℕ × List ℕ)). slice_get places at) (sym gathers.picks)
-      ∙ slice_get-map (λ pick. pick_view pick) gathered.picks.items at
-      ∙ ap (option_map (λ pick. pick_view pick)) (slice_get_read gathered.picks.items (length gathered.picks.items) at
+  ap (λ (places : List (ℕ × List ℕ)). slice_get places at) (sym gathers.origins)
+      ∙ slice_get-map (λ pick. pick_view pick) gathered.origins.items at
+      ∙ ap (option_map (λ pick. pick_view pick)) (slice_get_read gathered.origins.items (length gathered.origins.items) at
       pick refl (within listings gathered at gathers first.here.within) read),
 ) where
   within : (listings : List SetListing) (gathered : Gathered) (at : ℕ) → GathersOf [] listings gathered
-      → at < length gathered.versions.items → at < length gathered.picks.items
+      → at < length gathered.versions.items → at < length gathered.origins.items
   within listings gathered at gathers below =
       let same = picks_as_versions listings gathered gathers in
       omega (arith, below, same)

@@ -1,5 +1,5 @@
--- The refusal of a plan, as a merge's. Lack of memory is none of the refusals that versions, label and limits give, so it
--- comes only where a UID or a set is given.
+-- The refusal of a plan, as a merge's. No refusal by versions, label and limits is Memory, so Memory is answered only
+-- where a UID or a set is given.
 use Rattle.std.specs.Prelude.{◌≡◌, ◌≢◌, ◌⊎◌, Bool, true, false, ℕ, List, [], ◌∷◌, nat_lt, Option, None, Some, Err}
 use Rattle.std.specs.Prelude.{if◌then◌else◌}
 use Rattle.std.proofs.Common.{refl, sym, ◌∙◌, subst, inl, inr}
@@ -72,5 +72,5 @@ pub plan_refused : (choice : Choice) (limits : Limits) (given : List (List ℕ))
     → MergesAs choice limits given listings (Err (plan_fault fault))
 plan_refused choice limits given listings c fault is (inl lacks) =
     subst (λ f. MergesAs choice limits given listings (Err (plan_fault f))) (sym lacks.0)
-    (something given listings (λ none. lacks.1 (is ∙ none)))
+    (something given listings (λ empty. lacks.1 (is ∙ empty)))
 plan_refused choice limits given listings c fault is (inr refused) = as_refused choice limits given listings c fault is refused

@@ -131,7 +131,7 @@ pub filed_is : (listings : List SetListing) (versions : List Parts) (picks : Lis
     → map (λ v. (pick_view v.0, v.1)) (zip picks versions) ≡ filed_in listings
 filed_is listings versions picks placed =
     zip_told (λ pick. pick_view pick) picks versions
-    ∙ ap₂ (λ (a : List (ℕ × List ℕ)) (b : List Parts). zip a b) placed.picks placed.versions
+    ∙ ap₂ (λ (a : List (ℕ × List ℕ)) (b : List Parts). zip a b) placed.origins placed.versions
     ∙ zip_images (numbered 0 listings)
 
 pub leaves_out : (given : List (List ℕ)) (listings : List SetListing) (versions : List Parts) (picks : List Pick)

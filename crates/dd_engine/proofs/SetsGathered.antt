@@ -1,12 +1,12 @@
 -- What is gathered of one set more, and which set is the first that fails.
 use Rattle.std.specs.Prelude.{◌≡◌, ◌≢◌, ◌<◌, ◌+◌, ℕ, suc, List, [], ◌∷◌, ◌++◌, length, map, take, get_or, Option, None, Some}
 use Rattle.std.specs.Prelude.{Ok, Err}
+use Rattle.std.specs.Borrow.{Bor}
 use Rattle.std.proofs.Common.{refl, sym, ◌∙◌, ap, ap₂, inr, subst, arith, append_assoc}
 use Rattle.std.proofs.lemmas.List.{append-nil, map-append, take_more}
 use Rattle.dd_catalogue.specs.Contents.{held_of}
-use Rattle.dd_dir.specs.declared.own.Place.{Place as PlaceValue}
 use Rattle.dd_dir.specs.Own.{Listed, own}
-use Rattle.dd_dir.specs.OwnVersions.{Place, place_of, place_view, version_of}
+use Rattle.dd_dir.specs.OwnVersions.{file_of, place_of, version_of}
 use Rattle.dd_dir.specs.Reading.{IsWalk, Refuses}
 use Rattle.dd_dir.specs.Trees.{Walk}
 use Rattle.dd_dir.specs.Withdrawn.{AreRisingUids, withdrawn_of}
@@ -139,20 +139,19 @@ versions_more before at images old new added was is told =
     (told ∙ sym (twice (λ (i : ℕ × Listed). version_of i.1) (λ image. (at, image)) images))
     ∙ sym (map-append (λ (i : ℕ × Listed). version_of i.1) before (map (λ image. (at, image)) images))
 
-pub picks_more : (before : List (ℕ × Listed)) (at : ℕ) (images : List Listed) (old new : List (ℕ × List ℕ))
-    (added : List PlaceValue) → old ≡ map place_pick (places_in before)
-    → new ≡ old ++ map (λ place. place_pick (at, place_view place)) added
-    → map (λ place. place_view place) added ≡ map place_of images
+pub origins_more : (before : List (ℕ × Listed)) (at : ℕ) (images : List Listed) (old new : List (ℕ × List ℕ))
+    (added : List (Bor (List ℕ))) → old ≡ map place_pick (places_in before)
+    → new ≡ old ++ map (λ file. (at, file.now)) added
+    → map (λ file. file.now) added ≡ map file_of images
     → new ≡ map place_pick (places_in (before ++ map (λ image. (at, image)) images))
-picks_more before at images old new added was is views =
-    let here : map (λ place. place_pick (at, place_view place)) added
-    ≡ map place_pick (places_in (map (λ image. (at, image)) images)) =
-    sym (twice (λ (p : Place). place_pick (at, p)) (λ place. place_view place) added)
-    ∙ ap (map (λ (p : Place). place_pick (at, p))) views
-    ∙ twice (λ (p : Place). place_pick (at, p)) place_of images
+origins_more before at images old new added was is files =
+    let here : map (λ file. (at, file.now)) added ≡ map place_pick (places_in (map (λ image. (at, image)) images)) =
+    sym (twice (λ (file : List ℕ). (at, file)) (λ file. file.now) added)
+    ∙ ap (map (λ (file : List ℕ). (at, file))) files
+    ∙ twice (λ (file : List ℕ). (at, file)) file_of images
     ∙ sym (twice place_pick (λ image. (at, place_of image)) images)
     ∙ ap (map place_pick) (sym (twice (λ (i : ℕ × Listed). (i.0, place_of i.1)) (λ image. (at, image)) images)) in
-    is ∙ ap (λ l. l ++ map (λ place. place_pick (at, place_view place)) added) was
+    is ∙ ap (λ l. l ++ map (λ file. (at, file.now)) added) was
     ∙ ap (λ l. map place_pick (places_in before) ++ l) here
     ∙ sym (map-append place_pick (places_in before) (places_in (map (λ image. (at, image)) images)))
     ∙ ap (map place_pick)
@@ -161,11 +160,11 @@ picks_more before at images old new added was is views =
 -- ---- what is made of what was gathered
 
 pub placed_is : (given : List (List ℕ)) (listings : List SetListing) (gathered : Gathered) (versions : List Parts)
-    (picks : List Pick) → versions ≡ gathered.versions.items → picks ≡ gathered.picks.items
+    (picks : List Pick) → versions ≡ gathered.versions.items → picks ≡ gathered.origins.items
     → GathersOf given listings gathered → ArePlaced (numbered 0 listings) versions picks
 placed_is given listings gathered versions picks all files held = record {
   versions = all ∙ held.versions;
-  picks = ap (map (λ pick. pick_view pick)) files ∙ held.picks;
+  origins = ap (map (λ pick. pick_view pick)) files ∙ held.origins;
 }
 
 pub held_is : (given : List (List ℕ)) (listings : List SetListing) (gathered : Gathered)

@@ -39,16 +39,16 @@ module _ (counts : List ℕ) (i : ℕ) (count : ℕ) where
       ≡ filter (λ set. nat_lt 0 set.1) (enumerate_from 0 (take i counts))
       → map (λ note. (note.set, note.records)) (notes ++ record { set = i; records = count } ∷ [])
       ≡ filter (λ set. nat_lt 0 set.1) (enumerate_from 0 (take (i + 1) counts))
-  set_more notes below is some was =
-      let here : filter (λ (set : ℕ × ℕ). nat_lt 0 set.1) ((i, count) ∷ []) ≡ (i, count) ∷ [] = rw some refl in
+  set_more notes below is unreached before =
+      let here : filter (λ (set : ℕ × ℕ). nat_lt 0 set.1) ((i, count) ∷ []) ≡ (i, count) ∷ [] = rw unreached refl in
       map-append (λ (note : Unreached). (note.set, note.records)) notes (record { set = i; records = count } ∷ [])
-      ∙ ap₂ (λ (a b : List (ℕ × ℕ)). a ++ b) was (sym here) ∙ sym (step below is)
+      ∙ ap₂ (λ (a b : List (ℕ × ℕ)). a ++ b) before (sym here) ∙ sym (step below is)
 
   pub set_passed : (notes : List (ℕ × ℕ)) → i < length counts → get_or counts i 0 ≡ count → nat_lt 0 count ≡ false
       → notes ≡ filter (λ set. nat_lt 0 set.1) (enumerate_from 0 (take i counts))
       → notes ≡ filter (λ set. nat_lt 0 set.1) (enumerate_from 0 (take (i + 1) counts))
-  set_passed notes below is none was =
-      let here : filter (λ (set : ℕ × ℕ). nat_lt 0 set.1) ((i, count) ∷ []) ≡ [] = rw none refl in
-      was ∙ sym (append-nil (filter (λ set. nat_lt 0 set.1) (enumerate_from 0 (take i counts))))
+  set_passed notes below is reached before =
+      let here : filter (λ (set : ℕ × ℕ). nat_lt 0 set.1) ((i, count) ∷ []) ≡ [] = rw reached refl in
+      before ∙ sym (append-nil (filter (λ set. nat_lt 0 set.1) (enumerate_from 0 (take i counts))))
       ∙ ap (λ l. filter (λ set. nat_lt 0 set.1) (enumerate_from 0 (take i counts)) ++ l) (sym here)
       ∙ sym (step below is)

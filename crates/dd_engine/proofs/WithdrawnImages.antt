@@ -110,7 +110,7 @@ pub are_withdrawn : (given : List (List ℕ)) (listings : List SetListing) (gath
     (by : List ℕ → Option ℕ) (files : List (Pick × Parts)) (notes : List (WithdrawnImage Pick))
     → GathersOf given listings gathered
     → ((uid : List ℕ) → by uid ≡ first_number (zip gathered.by.items gathered.withdrawn.items) uid)
-    → files ≡ zip gathered.picks.items gathered.versions.items
+    → files ≡ zip gathered.origins.items gathered.versions.items
     → map (λ note. (note.file, note.by, note.instance)) notes ≡ withdrawn_among by files
     → AreWithdrawn given listings notes
 are_withdrawn given listings gathered by files notes held first are is =
@@ -127,8 +127,8 @@ are_withdrawn given listings gathered by files notes held first are is =
     ∙ ap (λ (l : List (Pick × Parts)). withdrawn_among (withdrawing given listings)
     (map (λ file. (pick_view file.0, file.1)) l)) are
     ∙ ap (withdrawn_among (withdrawing given listings))
-    (filed_is listings gathered.versions.items gathered.picks.items
-    (record { versions = held.versions; picks = held.picks }))
+    (filed_is listings gathered.versions.items gathered.origins.items
+    (record { versions = held.versions; origins = held.origins }))
 
 -- where nothing is withdrawn, nothing is noted
 none_by : {T : Type 0} (files : List (T × Parts)) → [] ≡ withdrawn_among (λ _. None) files

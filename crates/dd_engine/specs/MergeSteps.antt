@@ -18,7 +18,7 @@ use Rattle.dd_engine.specs.Choosing.{refusal_for}
 use Rattle.dd_engine.specs.Merging.{AreOwn, IsForeign, IsGiven, IsMerged, IsOwn, RefusesSets, SetListing, held_in, numbered}
 use Rattle.dd_engine.specs.Merging.{pick_view, place_pick, places_in, versions_in}
 
--- ---- faults in the words of a merge: want of memory is its own
+-- ---- faults as those of a merge, which has one Memory for all
 
 abbrev pub plan_fault : PlanFault → MergeFault
 plan_fault plans.Memory = Memory
@@ -52,7 +52,7 @@ AnswersSet Gives at set (Err fault) = FailsAt at set fault
 -- these are the versions of the images, and where their files are
 pub record ArePlaced (images : List (ℕ × Listed)) (all : List Parts) (files : List Pick) : Type 0 where
   pub versions : all ≡ versions_in images
-  pub picks : map (λ pick. pick_view pick) files ≡ map (λ place. place_pick place) (places_in images)
+  pub origins : map (λ pick. pick_view pick) files ≡ map (λ place. place_pick place) (places_in images)
 
 -- a UID that is withdrawn, and the number of the set that withdraws it: None for a given one
 abbrev pub Withdrawal : Type 0
@@ -73,7 +73,7 @@ withdrawals_in given listings = map (λ uid. (None, uid)) given ++ withdrawals_f
 pub record Gathers (images : List (ℕ × Listed)) (uids : List Withdrawal) (counts : List ℕ) (gathered : Gathered)
     : Type 0 where
   pub versions : gathered.versions.items ≡ versions_in images
-  pub picks : map (λ pick. pick_view pick) gathered.picks.items ≡ map (λ place. place_pick place) (places_in images)
+  pub origins : map (λ pick. pick_view pick) gathered.origins.items ≡ map (λ place. place_pick place) (places_in images)
   pub withdrawn : gathered.withdrawn.items ≡ map (λ uid. uid.1) uids
   pub by : gathered.by.items ≡ map (λ uid. uid.0) uids
   pub unreached : gathered.unreached.items ≡ counts

@@ -66,7 +66,7 @@ key_of mark = record { instance = mark.instance.now; digest = mark.digest.now }
 
 -- where a file is, and the file
 abbrev pub mark_view : {T : Type 0} → Mark T → T × FileKey
-mark_view mark = (mark.at, key_of mark)
+mark_view mark = (mark.origin, key_of mark)
 
 -- by SOP Instance UID, then by digest
 abbrev pub file_cmp : FileKey → FileKey → Ordering

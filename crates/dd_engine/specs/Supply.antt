@@ -75,5 +75,5 @@ pub record AreAnswers (limit : ℕ) (contents : ℕ → Option (List ℕ)) (answ
 -- what was read has the versions among the answers, each with its source, and the sources without one
 pub record Holds (answers : List Answer) (read : Sources) : Type 0 where
   pub versions : read.versions.items ≡ versions_of (accepted answers)
-  pub numbers : read.numbers.items ≡ map (λ source. source.0) (accepted answers)
+  pub origins : read.origins.items ≡ map (λ source. source.0) (accepted answers)
   pub skips : read.skipped.items ≡ skipped answers

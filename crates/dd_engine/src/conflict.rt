@@ -11,43 +11,43 @@ use dd_elem::{Ordered, Uid};
 use dd_layout::PlanFault;
 use dd_version::Version;
 
-/// Finds the first place of each of the two kept versions that the fault names. The catalogue was made of these
-/// versions, and `places` has the place of each, in the same order. None where the fault does not name two versions.
+/// Finds the first origin of each of the two kept versions that the fault names. The catalogue was made of these
+/// versions, and `origins` has the origin of each, in the same order. None where the fault does not name two versions.
 pub(crate) fn conflict_of<T: Copy>(
     catalogue: &Catalogue,
     versions: &[Version],
-    places: &[T],
+    origins: &[T],
     fault: &PlanFault,
 ) -> Option<ConflictingFiles<T>>
-    ensures { IsConflictOf (λ at. at) catalogue.now.versions (zip places.now versions.now) fault.now
+    ensures { IsConflictOf (λ at. at) catalogue.now.versions (zip origins.now versions.now) fault.now
         result }
 {
     let PlanFault::Conflict(one, other) = fault else {
         return None;
     };
-    let one = kept_place(catalogue, versions, places, one)?;
-    let other = kept_place(catalogue, versions, places, other)?;
+    let one = kept_origin(catalogue, versions, origins, one)?;
+    let other = kept_origin(catalogue, versions, origins, other)?;
     Some(ConflictingFiles { one, other })
 }
 
-/// Finds the first place of the version that the catalogue keeps of this instance.
-fn kept_place<T: Copy>(
+/// Finds the first origin of the version that the catalogue keeps of this instance.
+fn kept_origin<T: Copy>(
     catalogue: &Catalogue,
     versions: &[Version],
-    places: &[T],
+    origins: &[T],
     instance: &Uid,
 ) -> Option<T>
-    ensures { result ≡ first_by (zip places.now versions.now)
+    ensures { result ≡ first_by (zip origins.now versions.now)
         (kept catalogue.now.versions instance.now) }
 {
-    first_place(versions, places, catalogue.get(instance)?)
+    first_origin(versions, origins, catalogue.get(instance)?)
 }
 
-/// Finds the first place of this version.
-fn first_place<T: Copy>(versions: &[Version], places: &[T], version: &Version) -> Option<T>
-    ensures { result ≡ first_of (zip places.now versions.now) version.now }
+/// Finds the first origin of this version.
+fn first_origin<T: Copy>(versions: &[Version], origins: &[T], version: &Version) -> Option<T>
+    ensures { result ≡ first_of (zip origins.now versions.now) version.now }
 {
-    let mut held = places.iter().zip(versions);
+    let mut held = origins.iter().zip(versions);
     match held.find(|held| held.1.compare(version).is_eq()) {
         Some(held) => Some(*held.0),
         None => None,

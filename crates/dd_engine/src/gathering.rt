@@ -4,15 +4,15 @@ ghost use Rattle.std.specs.Prelude.{◌≡◌, ◌≢◌, ◌⊎◌, ◌++◌, �
 ghost use Rattle.std.specs.Prelude.{OnOk};
 ghost use Rattle.dd_dir.specs.ReadAnswers.{SaysMemory};
 ghost use Rattle.dd_dir.specs.Own.{Listed};
-ghost use Rattle.dd_dir.specs.OwnVersions.{Tells, place_view};
+ghost use Rattle.dd_dir.specs.OwnVersions.{Tells};
 ghost use Rattle.dd_dir.specs.Reading.{Refuses};
-ghost use Rattle.dd_engine.specs.Merging.{pick_view, place_pick};
+ghost use Rattle.dd_engine.specs.Merging.{pick_view};
 ghost use Rattle.dd_engine.specs.MergeSteps.{AnswersSet, FailsAt, Gathers, GathersAll, Withdrawal};
 ghost use Rattle.dd_engine.specs.MergeSteps.{own_fault};
 
 use crate::merge::Pick;
 use crate::merge_fault::MergeFault;
-use dd_dir::{DirFault, Own, OwnFault, Place, own_of, read_directory};
+use dd_dir::{DirFault, Own, OwnFault, own_of, read_directory};
 use dd_elem::{Memory, Uid};
 use dd_version::Version;
 use std::alloc::Global;
@@ -22,8 +22,8 @@ use std::mem;
 pub(crate) struct Gathered<'a> {
     /// The versions of all images.
     pub(crate) versions: Vec<Version>,
-    /// Where their files are.
-    pub(crate) picks: Vec<Pick<'a>>,
+    /// The origin of each: its file, and the set of it.
+    pub(crate) origins: Vec<Pick<'a>>,
     /// The SOP Instance UIDs that are withdrawn: the given ones, then those of each set.
     pub(crate) withdrawn: Vec<Uid>,
     /// The number of the set that withdraws each of these. None beside a given one.
@@ -37,7 +37,7 @@ impl Drop for Gathered<'_> {
     fn drop(self) {
         let Gathered {
             versions: _versions,
-            picks: _picks,
+            origins: _origins,
             withdrawn: _withdrawn,
             by: _by,
             unreached: _unreached,
@@ -46,20 +46,6 @@ impl Drop for Gathered<'_> {
 }
 
 impl<'a> Gathered<'a> {
-    /// Gives the versions, the places of their files, and the withdrawn UIDs.
-    pub(crate) fn into_parts(self) -> (Vec<Version>, Vec<Pick<'a>>, Vec<Uid>)
-        ensures { result ≡ (self.entry.versions, self.entry.picks, self.entry.withdrawn) }
-    {
-        let Gathered {
-            versions,
-            picks,
-            withdrawn,
-            by: _by,
-            unreached: _unreached,
-        } = self;
-        (versions, picks, withdrawn)
-    }
-
     /// Gathers of no set, with these UIDs withdrawn.
     fn new(alloc: Global, given: &[Uid]) -> Result<Gathered<'a>, Memory>
         ensures all { IfOk result (Gathers [] (map (λ uid. (None, uid)) given.now) []) }
@@ -71,7 +57,7 @@ impl<'a> Gathered<'a> {
         add_numbers(&mut by, None, given)?;
         Ok(Gathered {
             versions: Vec::new(alloc),
-            picks: Vec::new(alloc),
+            origins: Vec::new(alloc),
             withdrawn,
             by,
             unreached: Vec::new(alloc),
@@ -82,9 +68,9 @@ impl<'a> Gathered<'a> {
     fn keep(&mut self, at: usize, mut own: Own<'a>, unreached: u64) -> Result<(), Memory>
         ensures versions { OnOk result
             (self.new.versions.items ≡ self.old.versions.items ++ own.entry.versions.items) }
-        ensures picks { OnOk result (map (λ pick. pick_view pick) self.new.picks.items
-            ≡ map (λ pick. pick_view pick) self.old.picks.items
-            ++ map (λ place. place_pick (at, place_view place)) own.entry.places.items) }
+        ensures origins { OnOk result (map (λ pick. pick_view pick) self.new.origins.items
+            ≡ map (λ pick. pick_view pick) self.old.origins.items
+            ++ map (λ file. (at, file.now)) own.entry.files.items) }
         ensures withdrawn { OnOk result (self.new.withdrawn.items
             ≡ self.old.withdrawn.items ++ own.entry.withdrawn.items) }
         ensures by { OnOk result (self.new.by.items
@@ -96,7 +82,7 @@ impl<'a> Gathered<'a> {
         self.versions.append(&mut own.versions)?;
         add_numbers(&mut self.by, Some(at), &own.withdrawn)?;
         append(&mut self.withdrawn, &mut own.withdrawn)?;
-        add_picks(&mut self.picks, at, &own.places)
+        add_origins(&mut self.origins, at, &own.files)
     }
 }
 
@@ -187,18 +173,15 @@ fn append(list: &mut Vec<Uid>, uids: &mut Vec<Uid>) -> Result<(), Memory>
     Ok(())
 }
 
-/// Adds where the files of these places are, of the set of this number.
-fn add_picks<'a>(to: &mut Vec<Pick<'a>>, at: usize, places: &[Place<'a>]) -> Result<(), Memory>
+/// Adds the origins that these files of the set of this number are.
+fn add_origins<'a>(to: &mut Vec<Pick<'a>>, at: usize, files: &[&'a [u8]]) -> Result<(), Memory>
     ensures { OnOk result (map (λ pick. pick_view pick) to.new.items
         ≡ map (λ pick. pick_view pick) to.old.items
-        ++ map (λ place. place_pick (at, place_view place)) places.now) }
+        ++ map (λ file. (at, file.now)) files.now) }
 {
-    to.reserve(places.len())?;
-    for place in places {
-        to.push(Pick {
-            set: at,
-            file: place.file,
-        })?;
+    to.reserve(files.len())?;
+    for file in files {
+        to.push(Pick { set: at, file })?;
     }
     Ok(())
 }

@@ -17,29 +17,29 @@ use std::alloc::Global;
 
 /// Lists the files of whose instance the catalogue keeps other bytes, in the order in which they came, each with
 /// the first file of the kept version. The files are given by their versions and, in the same order, by their
-/// places. Memory where an allocation was refused, which can't be where there are no versions.
-pub(crate) fn left_out<T: Copy>(
+/// origins. Memory where an allocation was refused, which can't be where there are no versions.
+pub(crate) fn left_out_files<T: Copy>(
     alloc: Global,
     catalogue: &Catalogue,
     versions: &[Version],
-    places: &[T],
+    origins: &[T],
 ) -> Result<Vec<LeftOut<T>>, Memory>
-    requires { AreHeld (map (λ file. file.1) (files_of (zip places.now versions.now)))
+    requires { AreHeld (map (λ file. file.1) (files_of (zip origins.now versions.now)))
         catalogue.now.versions }
     ensures all { IfOk result (λ notes.
-        AreLeftOut (λ at. at) catalogue.now.versions (zip places.now versions.now)
+        AreLeftOut (λ at. at) catalogue.now.versions (zip origins.now versions.now)
         notes.items) }
     ensures some { OnErr result (versions.now ≢ []) }
 {
     if are_kept(catalogue, versions) {
         return Ok(Vec::new(alloc));
     }
-    let marks = in_order(marks_of(alloc, versions, places)?)?;
+    let marks = in_order(marks_of(alloc, versions, origins)?)?;
     let mut notes = Vec::new(alloc);
-    for (at, version) in places.iter().zip(versions) {
+    for (origin, version) in origins.iter().zip(versions) {
         if let Some(kept) = other_of(catalogue, version) {
             notes.push(LeftOut {
-                file: *at,
+                file: *origin,
                 kept: first_mark(&marks, kept),
                 instance: version.parts().instance,
             })?;

@@ -20,32 +20,32 @@ pub(crate) struct Mark<'a, T> {
     pub(crate) instance: &'a Uid,
     /// The digest.
     pub(crate) digest: &'a [u8; 32],
-    /// Where the file is.
-    pub(crate) at: T,
+    /// The origin of the file.
+    pub(crate) origin: T,
 }
 
-/// Makes a mark for the file of each version, which is at the place that stands beside the version.
+/// Makes a mark for the file of each version, with the origin that stands beside the version.
 pub(crate) fn marks_of<'a, T: Copy>(
     alloc: Global,
     versions: &'a [Version],
-    places: &[T],
+    origins: &[T],
 ) -> Result<Vec<Mark<'a, T>>, Memory>
     ensures { IfOk result (λ marks. map (λ mark. mark_view mark) marks.items
-        ≡ files_of (zip places.now versions.now)) }
+        ≡ files_of (zip origins.now versions.now)) }
 {
     let mut marks = Vec::with_capacity(alloc, versions.len())?;
-    for (at, version) in places.iter().zip(versions) {
+    for (origin, version) in origins.iter().zip(versions) {
         let parts = version.parts();
         marks.push(Mark {
             instance: &parts.instance,
             digest: &parts.digest,
-            at: *at,
+            origin: *origin,
         })?;
     }
     Ok(marks)
 }
 
-/// Finds for each image of the plan, in the order of the records, the place of its file: of the first one where
+/// Finds for each image of the plan, in the order of the records, the origin of its file: of the first one where
 /// several of these files are the same. Memory where an allocation was refused.
 pub(crate) fn first_marks<T: Copy>(
     alloc: Global,
@@ -104,7 +104,7 @@ fn picks_among<T: Copy>(alloc: Global, plan: &Plan, marks: &[Mark<'_, T>]) -> Re
     Ok(picks)
 }
 
-/// Finds the place of the first of these files that is the file of the version.
+/// Finds the origin of the first of these files that is the file of the version.
 pub(crate) fn first_mark<T: Copy>(marks: &[Mark<'_, T>], version: &Version) -> T
     requires order { IsSorted mark_cmp marks.now }
     requires held { filter (λ file. is_one file (file_of version.now))
@@ -117,5 +117,5 @@ pub(crate) fn first_mark<T: Copy>(marks: &[Mark<'_, T>], version: &Version) -> T
         &parts.instance,
         &parts.digest,
     ).is_lt());
-    marks[first].at
+    marks[first].origin
 }

@@ -13,7 +13,7 @@ use crate::choice::{Choice, plan_for};
 use crate::conflict::conflict_of;
 use crate::engine::Indexed;
 use crate::engine_fault::EngineFault;
-use crate::left_out::left_out;
+use crate::left_out::left_out_files;
 use crate::notes::{NotedFault, Notes};
 use crate::patient_names::patient_names;
 use crate::source_picks::source_picks;
@@ -46,9 +46,9 @@ impl NotedIndex {
 }
 
 /// Does what `index_engine` does, and notes which sources are left out: of the instance of each, a version with
-/// other bytes is kept. It also notes each Patient ID that stands with more than one Patient's Name in the versions
-/// whose digest is that of the kept version of their instance. Where two kept versions conflict, the refusal names the
-/// first source of each.
+/// other bytes is kept. It also notes each Patient ID that has more than one Patient's Name, where a version counts if
+/// its digest is the one that is kept of its instance. Where two kept versions conflict, the refusal names the first
+/// source of each.
 pub fn index_with_notes<S: Supply>(
     alloc: Global,
     supply: &mut S,
@@ -97,7 +97,7 @@ fn noted_plan(
 {
     let catalogue = Catalogue::from_versions(alloc, &sources.versions)?;
     let (plan, picks, notes) = plan_and_picks(alloc, &sources, &catalogue, choice, limits)?;
-    let (_versions, _numbers, skipped) = sources.into_parts();
+    let (_versions, _origins, skipped) = sources.into_parts();
     Ok(NotedIndex {
         indexed: Indexed {
             plan,
@@ -130,8 +130,8 @@ fn plan_and_picks(
         Ok(plan) => plan,
         Err(fault) => return Err(refusal_of(sources, catalogue, fault)),
     };
-    let picks = source_picks(alloc, &plan, &sources.versions, &sources.numbers)?;
-    let left_out = left_out(alloc, catalogue, &sources.versions, &sources.numbers)?;
+    let picks = source_picks(alloc, &plan, &sources.versions, &sources.origins)?;
+    let left_out = left_out_files(alloc, catalogue, &sources.versions, &sources.origins)?;
     let names = patient_names(alloc, catalogue, &sources.versions)?;
     Ok((plan, picks, Notes { left_out, names }))
 }
@@ -147,7 +147,7 @@ fn refusal_of(
         → IsHeldBest answers catalogue.now
         → ConflictsIn answers result.fault result.conflict }
 {
-    let conflict = conflict_of(catalogue, &sources.versions, &sources.numbers, &fault);
+    let conflict = conflict_of(catalogue, &sources.versions, &sources.origins, &fault);
     NotedFault {
         fault: EngineFault::from(fault),
         conflict,

@@ -10,7 +10,7 @@ ghost use Rattle.dd_engine.specs.SetNotes.{NameSetsBelow};
 use crate::choice::{Choice, plan_for};
 use crate::conflict::conflict_of;
 use crate::gathering::{Gathered, gather_sets};
-use crate::left_out::left_out;
+use crate::left_out::left_out_files;
 use crate::merge::{Merged, Pick};
 use crate::merge_fault::MergeFault;
 use crate::notes::{NotedFault, Notes};
@@ -20,8 +20,8 @@ use crate::set_notes::{SetNotes, set_notes};
 use dd_catalogue::Catalogue;
 use dd_elem::Uid;
 use dd_layout::{Limits, PlanFault};
-use dd_version::Version;
 use std::alloc::Global;
+use std::mem;
 
 /// What a merge of directories has, with notes on files of the sets.
 #[derive(Debug, Drop)]
@@ -49,9 +49,9 @@ impl<'a> NotedMerge<'a> {
 }
 
 /// Does what `merge_engine` does, and notes which files are left out: of the instance of each, a version with
-/// other bytes is kept. It also notes each Patient ID that stands with more than one Patient's Name in the versions
-/// whose digest is that of the kept version of their instance; which sets have records that are not reached; and
-/// which images a set withdraws. Where two kept versions conflict, the refusal names the first file of each.
+/// other bytes is kept. It also notes each Patient ID that has more than one Patient's Name, where a version counts if
+/// its digest is the one that is kept of its instance; which sets have records that are not reached; and which images
+/// a set withdraws. Where two kept versions conflict, the refusal names the first file of each.
 pub fn merge_with_notes<'a>(
     alloc: Global,
     sets: &'a [&'a [u8]],
@@ -121,7 +121,7 @@ pub(crate) fn noted_sets<'a>(
 /// and the plan shares it.
 fn noted_plan<'a>(
     alloc: Global,
-    gathered: Gathered<'a>,
+    mut gathered: Gathered<'a>,
     given: &[Uid],
     choice: &Choice,
     limits: Limits,
@@ -131,9 +131,9 @@ fn noted_plan<'a>(
         → NotesMerge choice.now limits given.now listings result }
 {
     let sets = set_notes(alloc, &gathered, given)?;
-    let (versions, places, withdrawn) = gathered.into_parts();
-    let catalogue = Catalogue::from_parts(alloc, &versions, withdrawn)?;
-    match plan_and_picks(alloc, &versions, &places, &catalogue, choice, limits) {
+    let withdrawn = mem::replace(&mut gathered.withdrawn, Vec::new(alloc));
+    let catalogue = Catalogue::from_parts(alloc, &gathered.versions, withdrawn)?;
+    match plan_and_picks(alloc, &gathered, &catalogue, choice, limits) {
         Ok((merged, notes)) => Ok(NotedMerge {
             merged,
             notes,
@@ -146,44 +146,42 @@ fn noted_plan<'a>(
 /// Plans the directory of the catalogue of what was gathered, with notes.
 fn plan_and_picks<'a>(
     alloc: Global,
-    versions: &[Version],
-    places: &[Pick<'a>],
+    gathered: &Gathered<'a>,
     catalogue: &Catalogue,
     choice: &Choice,
     limits: Limits,
 ) -> Result<(Merged<'a>, Notes<Pick<'a>>), NotedFault<MergeFault, Pick<'a>>>
     requires { (given : List (List ℕ)) × (listings : List SetListing)
-        × ArePlaced (numbered 0 listings) versions.now places.now
+        × ArePlaced (numbered 0 listings) gathered.now.versions.items gathered.now.origins.items
         × (catalogue.now ≡ held_in given listings) }
     ensures { (given : List (List ℕ)) (listings : List SetListing)
-        → ArePlaced (numbered 0 listings) versions.now places.now
+        → ArePlaced (numbered 0 listings) gathered.now.versions.items gathered.now.origins.items
         → catalogue.now ≡ held_in given listings
         → PlansMerge choice.now limits given listings result }
 {
     let plan = match plan_for(alloc, catalogue, choice, limits) {
         Ok(plan) => plan,
-        Err(fault) => return Err(refusal_of(versions, places, catalogue, fault)),
+        Err(fault) => return Err(refusal_of(gathered, catalogue, fault)),
     };
-    let picks = place_picks(alloc, &plan, versions, places)?;
-    let left_out = left_out(alloc, catalogue, versions, places)?;
-    let names = patient_names(alloc, catalogue, versions)?;
+    let picks = place_picks(alloc, &plan, &gathered.versions, &gathered.origins)?;
+    let left_out = left_out_files(alloc, catalogue, &gathered.versions, &gathered.origins)?;
+    let names = patient_names(alloc, catalogue, &gathered.versions)?;
     Ok((Merged { plan, picks }, Notes { left_out, names }))
 }
 
 /// Makes the refusal of the plan, with the first file of each of the two versions that it names, if it names two.
 fn refusal_of<'a>(
-    versions: &[Version],
-    places: &[Pick<'a>],
+    gathered: &Gathered<'a>,
     catalogue: &Catalogue,
     fault: PlanFault,
 ) -> NotedFault<MergeFault, Pick<'a>>
     ensures fault { result.fault ≡ plan_fault fault }
     ensures conflict { (given : List (List ℕ)) (listings : List SetListing)
-        → ArePlaced (numbered 0 listings) versions.now places.now
+        → ArePlaced (numbered 0 listings) gathered.now.versions.items gathered.now.origins.items
         → catalogue.now ≡ held_in given listings
         → ConflictsIn given listings result.fault result.conflict }
 {
-    let conflict = conflict_of(catalogue, versions, places, &fault);
+    let conflict = conflict_of(catalogue, &gathered.versions, &gathered.origins, &fault);
     NotedFault {
         fault: MergeFault::from(fault),
         conflict,

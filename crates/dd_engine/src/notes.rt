@@ -32,8 +32,8 @@ pub struct ConflictingFiles<T> {
 pub struct Notes<T> {
     /// The files that are left out, in the order in which they came.
     pub left_out: Vec<LeftOut<T>>,
-    /// The Patient IDs that stand with more than one Patient's Name in the versions whose digest is that of the kept
-    /// version of their instance, in rising order.
+    /// The Patient IDs that have more than one Patient's Name, in rising order. A version counts where its digest is
+    /// the one that is kept of its instance.
     pub names: Vec<PatientNames>,
 }
 

@@ -16,19 +16,19 @@ use dd_layout::Plan;
 use dd_version::Version;
 use std::alloc::Global;
 
-/// Picks for each image of the plan, in the order of the records, the first of these places whose version has its
-/// SOP Instance UID and its digest. The places stand in the order of their versions. Memory where an allocation was
+/// Picks for each image of the plan, in the order of the records, the first of these origins whose version has its
+/// SOP Instance UID and its digest. The origins stand in the order of their versions. Memory where an allocation was
 /// refused, which can't be where there are no versions.
 pub(crate) fn place_picks<'a>(
     alloc: Global,
     plan: &Plan,
     versions: &[Version],
-    picks: &[Pick<'a>],
+    origins: &[Pick<'a>],
 ) -> Result<Vec<Pick<'a>>, Memory>
     requires { (images : List (ℕ × Listed)) × (uids : List (List ℕ))
         × (plan.now.versions ≡ harmonised (kept_of (versions_in images) uids))
-        × ArePlaced images versions.now picks.now }
-    ensures all { (images : List (ℕ × Listed)) → ArePlaced images versions.now picks.now
+        × ArePlaced images versions.now origins.now }
+    ensures all { (images : List (ℕ × Listed)) → ArePlaced images versions.now origins.now
         → IfOk result (λ picks.
         ArePicked (map (λ place. stands_at place) (places_in images)) plan.now.versions
         (records_of plan.now.label plan.now.versions) (map (λ pick. pick_view pick) picks.items)) }
@@ -37,6 +37,6 @@ pub(crate) fn place_picks<'a>(
     if versions.is_empty() {
         return Ok(Vec::new(alloc));
     }
-    let marks = marks_of(alloc, versions, picks)?;
+    let marks = marks_of(alloc, versions, origins)?;
     first_marks(alloc, plan, marks)
 }

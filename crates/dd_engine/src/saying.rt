@@ -24,7 +24,7 @@ pub fn first_saying<'a>(
 {
     let gathered = gather_sets(alloc, sets, &[])?;
     match first_filed(&gathered.versions, planned.parts()) {
-        Some(at) => Ok(Some(gathered.picks[at])),
+        Some(at) => Ok(Some(gathered.origins[at])),
         None => Ok(None),
     }
 }

@@ -116,24 +116,24 @@ fn withdrawn_images<'a>(
         return Ok(Vec::new(alloc));
     }
     let mentions = in_order(mentions_of(alloc, &gathered.withdrawn, &gathered.by)?)?;
-    numbered_images(alloc, &mentions, &gathered.versions, &gathered.picks)
+    numbered_images(alloc, &mentions, &gathered.versions, &gathered.origins)
 }
 
 /// Lists the files of whose instance the first of these mentions has a number, each with that number. The files are
-/// given by their versions and, in the same order, by their places. Memory where an allocation was refused.
+/// given by their versions and, in the same order, by their origins. Memory where an allocation was refused.
 fn numbered_images<T: Copy>(
     alloc: Global,
     mentions: &[Mention<'_>],
     versions: &[Version],
-    places: &[T],
+    origins: &[T],
 ) -> Result<Vec<WithdrawnImage<T>>, Memory>
     requires { IsSorted mention_cmp mentions.now }
     ensures { IfOk result (λ images. map (λ note. (note.file, note.by, note.instance)) images.items
         ≡ withdrawn_among (first_number (map (λ mention. mention_view mention) mentions.now))
-        (zip places.now versions.now)) }
+        (zip origins.now versions.now)) }
 {
     let mut images = Vec::new(alloc);
-    for (file, version) in places.iter().zip(versions) {
+    for (file, version) in origins.iter().zip(versions) {
         let instance = version.parts().instance;
         if let Some(by) = first_number(mentions, &instance) {
             images.push(WithdrawnImage {
@@ -167,8 +167,8 @@ fn unlisted_uids(alloc: Global, gathered: &Gathered<'_>, given: &[Uid]) -> Resul
     Ok(uids)
 }
 
-/// Mentions the UIDs of all images and those that the sets withdraw, without a number, and then the given UIDs, each
-/// with its place among them.
+/// Makes mentions without a number of the UIDs of all images and of those that the sets withdraw, and then mentions of
+/// the given UIDs, each with its index among them.
 fn listed_then_given<'a>(
     alloc: Global,
     gathered: &'a Gathered<'_>,

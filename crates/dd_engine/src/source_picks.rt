@@ -14,23 +14,23 @@ use dd_version::Version;
 use std::alloc::Global;
 
 /// For each image of the plan, in the order of the records, the number of the first source with its SOP
-/// Instance UID and its digest. The sources are given by their versions and, in the same order, their
-/// numbers. Memory where an allocation was refused: never where there are no versions.
+/// Instance UID and its digest. The sources are given by their versions and, in the same order, by their
+/// numbers, the origins. Memory where an allocation was refused: never where there are no versions.
 pub(crate) fn source_picks(
     alloc: Global,
     plan: &Plan,
     versions: &[Version],
-    numbers: &[usize],
+    origins: &[usize],
 ) -> Result<Vec<usize>, Memory>
-    requires { plan.now.versions ≡ harmonised (best_of_sources (zip numbers.now versions.now)) }
+    requires { plan.now.versions ≡ harmonised (best_of_sources (zip origins.now versions.now)) }
     ensures all { IfOk result (λ picks.
-        ArePicked (files_of (zip numbers.now versions.now)) plan.now.versions
+        ArePicked (files_of (zip origins.now versions.now)) plan.now.versions
         (records_of plan.now.label plan.now.versions) picks.items) }
     ensures some { OnErr result (versions.now ≢ []) }
 {
     if versions.is_empty() {
         return Ok(Vec::new(alloc));
     }
-    let marks = marks_of(alloc, versions, numbers)?;
+    let marks = marks_of(alloc, versions, origins)?;
     first_marks(alloc, plan, marks)
 }

@@ -17,8 +17,8 @@ use std::alloc::Global;
 pub(crate) struct Sources {
     /// The versions of those that have one.
     pub(crate) versions: Vec<Version>,
-    /// The number of the source of each version.
-    pub(crate) numbers: Vec<usize>,
+    /// The origin of each: the number of its source.
+    pub(crate) origins: Vec<usize>,
     /// The sources that have none, each with its fault.
     pub(crate) skipped: Vec<(usize, KeyFault)>,
 }
@@ -28,23 +28,23 @@ impl Drop for Sources {
     fn drop(self) {
         let Sources {
             versions: _versions,
-            numbers: _numbers,
+            origins: _origins,
             skipped: _skipped,
         } = self;
     }
 }
 
 impl Sources {
-    /// The versions, the numbers of their sources, and the sources that have none.
+    /// The versions, their origins, and the sources that have none.
     pub(crate) fn into_parts(self) -> (Vec<Version>, Vec<usize>, Vec<(usize, KeyFault)>)
-        ensures { result ≡ (self.versions, self.numbers, self.skipped) }
+        ensures { result ≡ (self.versions, self.origins, self.skipped) }
     {
         let Sources {
             versions,
-            numbers,
+            origins,
             skipped,
         } = self;
-        (versions, numbers, skipped)
+        (versions, origins, skipped)
     }
 
     /// Of no source.
@@ -53,7 +53,7 @@ impl Sources {
     {
         Sources {
             versions: Vec::new(alloc),
-            numbers: Vec::new(alloc),
+            origins: Vec::new(alloc),
             skipped: Vec::new(alloc),
         }
     }
@@ -67,7 +67,7 @@ impl Sources {
         match answer {
             Ok(version) => {
                 self.versions.push(version)?;
-                self.numbers.push(at)?;
+                self.origins.push(at)?;
             }
             Err(fault) => self.skipped.push((at, fault))?,
         }

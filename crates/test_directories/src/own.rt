@@ -139,10 +139,10 @@ fn files_of_directories(rt: HostRuntime) -> Result<(), Fail> {
 
 /// How many images there are, the version of each with its File ID, and the instances that are withdrawn.
 pub(crate) fn images(alloc: Global, own: &Own<'_>) -> Result<String, Fail> {
-    let count = own.places.len();
+    let count = own.files.len();
     let mut text = format!(in alloc; "{count}")?;
-    for (version, place) in own.versions.iter().zip(&own.places) {
-        let (version, file) = (in_words(alloc, version)?, str::from_utf8(place.file)?);
+    for (version, file) in own.versions.iter().zip(&own.files) {
+        let (version, file) = (in_words(alloc, version)?, str::from_utf8(file)?);
         write!(text, ", {version} {file}")?;
     }
     if !own.withdrawn.is_empty() {

@@ -7,20 +7,20 @@ use Rattle.dd_engine.specs.Picking.{file_of, mark_view}
 use Rattle.dd_engine.proofs.ImagePicks.{twice}
 use Rattle.dd_engine.proofs.marks.marks_of.Goals as goal
 
-pub loop-at-preserved : goal.loop-at-preserved
-loop-at-preserved g c =
+pub loop-origin-preserved : goal.loop-origin-preserved
+loop-origin-preserved g c =
     ap (λ l. map (λ mark. mark_view mark) l) c.in_ok-push.ensures.items
-    ∙ map-append (λ mark. mark_view mark) c.loop-at.marks.items (_ ∷ [])
-    ∙ ap (λ l. l ++ (c.in-Some.at.now, file_of c.parts-parts.result.now) ∷ []) c.loop-at.invariant
-    ∙ ap (λ v. map (λ p. (p.0.now, file_of p.1.now)) c.loop-at.yielded ++ (c.in-Some.at.now, file_of v) ∷ [])
+    ∙ map-append (λ mark. mark_view mark) c.loop-origin.marks.items (_ ∷ [])
+    ∙ ap (λ l. l ++ (c.in-Some.origin.now, file_of c.parts-parts.result.now) ∷ []) c.loop-origin.invariant
+    ∙ ap (λ v. map (λ p. (p.0.now, file_of p.1.now)) c.loop-origin.yielded ++ (c.in-Some.origin.now, file_of v) ∷ [])
     c.parts-parts.ensures.value
-    ∙ sym (map-append (λ p. (p.0.now, file_of p.1.now)) c.loop-at.yielded ((c.in-Some.at, c.in-Some.version) ∷ []))
+    ∙ sym (map-append (λ p. (p.0.now, file_of p.1.now)) c.loop-origin.yielded ((c.in-Some.origin, c.in-Some.version) ∷ []))
 
 pub returns : goal.returns
 returns g c =
-    c.loop-at.invariant
-    ∙ sym (twice (λ (p : g.row.T.Denot × Parts). (p.0, file_of p.1)) (λ p. (p.0.now, p.1.now)) c.loop-at.yielded)
+    c.loop-origin.invariant
+    ∙ sym (twice (λ (p : g.row.T.Denot × Parts). (p.0, file_of p.1)) (λ p. (p.0.now, p.1.now)) c.loop-origin.yielded)
     ∙ ap (map (λ (p : g.row.T.Denot × Parts). (p.0, file_of p.1)))
-    (YieldsList-end (YieldsList-from_zip (YieldsList-from_slice c.args.places.now cc)
+    (YieldsList-end (YieldsList-from_zip (YieldsList-from_slice c.args.origins.now cc)
     (YieldsList-from_slice c.args.versions.now cc))
-    c.loop-at.yielded _ c.loop-at.yielded_by _ c.next.new.self c.in-None.is c.next.ensures.steps).0
+    c.loop-origin.yielded _ c.loop-origin.yielded_by _ c.next.new.self c.in-None.is c.next.ensures.steps).0

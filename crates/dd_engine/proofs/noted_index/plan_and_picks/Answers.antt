@@ -12,16 +12,16 @@ pub source_picks-requires : goal.source_picks-requires
 source_picks-requires c =
     let sources = accepted c.requires.0 in
     let held = c.requires.1 in
-    let zips = zip_is sources c.deref-2.result.now c.deref.result.now (c.deref-2.ensures.value ∙ held.numbers)
+    let zips = zip_is sources c.deref-2.result.now c.deref.result.now (c.deref-2.ensures.value ∙ held.origins)
     (c.deref.ensures.value ∙ held.versions) in
     planned_versions sources _ c.args.choice.now c.args.catalogue.now.versions c.args.catalogue.now.withdrawn
     c.in-Ok.plan c.requires.2.0 zips c.in-Ok.ensures.planned
 
-pub left_out-requires : goal.left_out-requires
-left_out-requires c =
+pub left_out_files-requires : goal.left_out_files-requires
+left_out_files-requires c =
     let sources = accepted c.requires.0 in
     let held = c.requires.1 in
-    let zips = zip_is sources c.deref-4.result.now c.deref-3.result.now (c.deref-4.ensures.value ∙ held.numbers)
+    let zips = zip_is sources c.deref-4.result.now c.deref-3.result.now (c.deref-4.ensures.value ∙ held.origins)
     (c.deref-3.ensures.value ∙ held.versions) in
     sources_kept sources _ c.args.catalogue.now.versions c.requires.2.0 zips
 
@@ -29,9 +29,9 @@ pub returns-clause-planned : goal.returns-clause-planned
 returns-clause-planned c = λ answers held best.
     let sources = accepted answers in
     let choice = c.args.choice.now in
-    let picked = zip_is sources c.deref-2.result.now c.deref.result.now (c.deref-2.ensures.value ∙ held.numbers)
+    let picked = zip_is sources c.deref-2.result.now c.deref.result.now (c.deref-2.ensures.value ∙ held.origins)
     (c.deref.ensures.value ∙ held.versions) in
-    let left = zip_is sources c.deref-4.result.now c.deref-3.result.now (c.deref-4.ensures.value ∙ held.numbers)
+    let left = zip_is sources c.deref-4.result.now c.deref-3.result.now (c.deref-4.ensures.value ∙ held.origins)
     (c.deref-3.ensures.value ∙ held.versions) in
     record {
       plan = c.in-Ok.ensures.planned

@@ -11,7 +11,7 @@ plan_and_picks-requires c =
     let given = c.args.given.now in
     let gathered = c.args.gathered in
     let versions : c.deref-2.result.now ≡ gathered.versions.items = search rules in
-    let picks : c.deref-3.result.now ≡ gathered.picks.items = search rules in
+    let picks : c.deref-3.result.now ≡ gathered.origins.items = search rules in
     let held : c.in_ok-catalogue.catalogue
     ≡ held_of (record { versions = gathered.versions.items; withdrawn = gathered.withdrawn.items }) = search rules in (
       given,
@@ -25,7 +25,7 @@ returns-in-Ok c = λ listings all.
     let given = c.args.given.now in
     let gathered = c.args.gathered in
     let versions : c.deref-2.result.now ≡ gathered.versions.items = search rules in
-    let picks : c.deref-3.result.now ≡ gathered.picks.items = search rules in
+    let picks : c.deref-3.result.now ≡ gathered.origins.items = search rules in
     let held : c.in_ok-catalogue.catalogue
     ≡ held_of (record { versions = gathered.versions.items; withdrawn = gathered.withdrawn.items }) = search rules in
     let is = c.in-Ok.ensures given listings (placed_is given listings gathered _ _ versions picks all)
@@ -37,7 +37,7 @@ returns c = λ listings all.
     let given = c.args.given.now in
     let gathered = c.args.gathered in
     let versions : c.deref-2.result.now ≡ gathered.versions.items = search rules in
-    let picks : c.deref-3.result.now ≡ gathered.picks.items = search rules in
+    let picks : c.deref-3.result.now ≡ gathered.origins.items = search rules in
     let held : c.in_ok-catalogue.catalogue
     ≡ held_of (record { versions = gathered.versions.items; withdrawn = gathered.withdrawn.items }) = search rules in
     c.in-Err.ensures given listings (placed_is given listings gathered _ _ versions picks all)

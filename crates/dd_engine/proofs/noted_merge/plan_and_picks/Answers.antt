@@ -24,13 +24,13 @@ place_picks-requires c =
       c.requires.2,
     )
 
-pub left_out-requires : goal.left_out-requires
-left_out-requires c =
+pub left_out_files-requires : goal.left_out_files-requires
+left_out_files-requires c =
     let given = c.requires.0 in
     let listings = c.requires.1 in
     places_kept (numbered 0 listings) _ (given ++ withdrawn_in listings) c.args.catalogue.now.versions
     (ap (λ (d : Contents). d.versions) c.requires.3)
-    (side_by_side (numbered 0 listings) _ _ c.requires.2.versions c.requires.2.picks)
+    (side_by_side (numbered 0 listings) _ _ c.requires.2.versions c.requires.2.origins)
 
 pub returns-in-Err : goal.returns-in-Err
 returns-in-Err c = λ given listings placed is. (
@@ -52,7 +52,7 @@ returns c = λ given listings placed is.
             c.in_ok-picks.picks.items is c.in-Ok.ensures.planned
             (c.in_ok-picks.ensures.all (numbered 0 listings) placed);
       },
-      leaves_out given listings c.args.versions.now c.args.places.now c.args.catalogue.now.versions
+      leaves_out given listings c.args.gathered.now.versions.items c.args.gathered.now.origins.items c.args.catalogue.now.versions
           c.in_ok-left_out.left_out.items placed (ap (λ (d : Contents). d.versions) is) c.in_ok-left_out.ensures.all,
       subst (λ l. AreNamed l c.in_ok-names.names.items)
           (ap₂ (λ (m l : List Parts). with_kept_digest m l) (ap (λ (d : Contents). d.versions) is) placed.versions)

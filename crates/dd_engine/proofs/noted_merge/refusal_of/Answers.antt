@@ -7,5 +7,5 @@ use Rattle.dd_engine.proofs.noted_merge.refusal_of.Goals as goal
 pub returns-clause-conflict : goal.returns-clause-conflict
 returns-clause-conflict c = λ given listings placed is.
     subst (λ fault. ConflictsIn given listings fault c.conflict_of-conflict.result) (sym c.from.ensures)
-    (conflicts given listings c.args.versions.now c.args.places.now c.args.catalogue.now.versions c.args.fault
+    (conflicts given listings c.args.gathered.now.versions.items c.args.gathered.now.origins.items c.args.catalogue.now.versions c.args.fault
     c.conflict_of-conflict.result placed (ap (λ (d : Contents). d.versions) is) c.conflict_of-conflict.ensures)

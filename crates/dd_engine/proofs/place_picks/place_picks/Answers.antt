@@ -8,11 +8,11 @@ first_marks-requires c =
     let images = c.requires.0 in
     let placed = c.requires.3 in
     places_held images c.in_ok-marks.marks.items _ c.requires.1 c.args.plan.now.versions c.requires.2
-    c.in_ok-marks.ensures (side_by_side images _ _ placed.versions placed.picks)
+    c.in_ok-marks.ensures (side_by_side images _ _ placed.versions placed.origins)
 
 pub returns-clause-all : goal.returns-clause-all
 returns-clause-all c = λ images placed. IfOk-weaker c.first_marks.result _ _ (λ picks is.
     places_found images c.in_ok-marks.marks.items _ c.args.plan.now.versions
     (records_of c.args.plan.now.label c.args.plan.now.versions) picks.items c.in_ok-marks.ensures
-    (side_by_side images _ _ placed.versions placed.picks) is)
+    (side_by_side images _ _ placed.versions placed.origins) is)
     c.first_marks.ensures

@@ -35,6 +35,6 @@ pub returns : goal.returns
 returns g c =
     c.loop-file.invariant
     ∙ ap (withdrawn_among (first_number (map (λ mention. mention_view mention) c.args.mentions.now)))
-    (YieldsList-end (YieldsList-from_zip (YieldsList-from_slice c.args.places.now cc)
+    (YieldsList-end (YieldsList-from_zip (YieldsList-from_slice c.args.origins.now cc)
     (YieldsList-from_slice c.args.versions.now cc))
     c.loop-file.yielded _ c.loop-file.yielded_by _ c.next.new.self c.in-None.is c.next.ensures.steps).0

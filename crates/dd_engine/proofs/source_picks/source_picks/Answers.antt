@@ -9,12 +9,12 @@ use Rattle.dd_engine.proofs.source_picks.source_picks.Goals as goal
 pub returns-then-is_empty-clause-all : goal.returns-then-is_empty-clause-all
 returns-then-is_empty-clause-all c =
     ap (map (λ pick. Some pick)) c.new.ensures.items
-    ∙ no_picks c.args.numbers.now c.args.versions.now c.args.plan.now.versions c.args.plan.now.label (search rules)
+    ∙ no_picks c.args.origins.now c.args.versions.now c.args.plan.now.versions c.args.plan.now.label (search rules)
     c.requires
 
 pub first_marks-requires : goal.first_marks-requires
 first_marks-requires c =
-    sources_held (zip c.args.numbers.now c.args.versions.now) c.in_ok-marks.marks.items c.args.plan.now.versions
+    sources_held (zip c.args.origins.now c.args.versions.now) c.in_ok-marks.marks.items c.args.plan.now.versions
     c.requires c.in_ok-marks.ensures
 
 pub returns-clause-all : goal.returns-clause-all

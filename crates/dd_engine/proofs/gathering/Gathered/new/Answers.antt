@@ -9,7 +9,7 @@ returns-clause-all c =
     let given = c.args.given.now in
     record {
       versions = c.new.ensures.items;
-      picks = ap (map (λ pick. pick_view pick)) c.new-2.ensures.items;
+      origins = ap (map (λ pick. pick_view pick)) c.new-2.ensures.items;
       withdrawn = search rules ∙ sym (uids_numbered None given);
       by = c.in_ok-add_numbers.ensures.all
           ∙ ap (λ (l : List (Option ℕ)). l ++ map (λ _. None) given) c.in_ok-by.ensures.items
