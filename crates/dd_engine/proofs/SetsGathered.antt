@@ -167,6 +167,14 @@ placed_is given listings gathered versions picks all files held = record {
   origins = ap (map (λ pick. pick_view pick)) files ∙ held.origins;
 }
 
+-- equal lists are placed alike
+pub placed_as : (images : List (ℕ × Listed)) (all versions : List Parts) (files origins : List Pick) → versions ≡ all
+    → origins ≡ files → ArePlaced images all files → ArePlaced images versions origins
+placed_as images all versions files origins same_versions same_files placed = record {
+  versions = same_versions ∙ placed.versions;
+  origins = ap (map (λ pick. pick_view pick)) same_files ∙ placed.origins;
+}
+
 pub held_is : (given : List (List ℕ)) (listings : List SetListing) (gathered : Gathered)
     → GathersOf given listings gathered
     → held_of (record { versions = gathered.versions.items; withdrawn = gathered.withdrawn.items })

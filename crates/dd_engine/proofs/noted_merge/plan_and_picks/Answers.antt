@@ -1,16 +1,17 @@
 -- The catalogue of what was gathered is planned, and its picks are those of the plan's images.
-use Rattle.std.proofs.Common.{List, Err, ap, ap₂, refl, subst, sym, ◌∙◌, ◌++◌}
+use Rattle.std.proofs.Common.{List, Err, ap, ap₂, map, refl, subst, sym, ◌∙◌, ◌++◌}
 use Rattle.dd_catalogue.specs.Contents.{Contents}
 use Rattle.dd_version.specs.declared.parts.Parts.{Parts}
 use Rattle.dd_layout.specs.Layouts.{layout_of}
 use Rattle.dd_engine.specs.Choosing.{label_for, refusal_for}
-use Rattle.dd_engine.specs.Merging.{held_in, numbered, stands_in, withdrawn_in}
+use Rattle.dd_engine.specs.Merging.{held_in, numbered, pick_view, stands_in, withdrawn_in}
 use Rattle.dd_engine.specs.MergeSteps.{MergesAs}
 use Rattle.dd_engine.specs.PatientNames.{AreNamed, with_kept_digest}
 use Rattle.dd_engine.proofs.MergePlans.{picked_of, planned_of}
 use Rattle.dd_engine.proofs.PlacePicks.{places_kept, side_by_side}
 use Rattle.dd_engine.proofs.PlansRefused.{plan_refused}
 use Rattle.dd_engine.proofs.RecordsNoted.{leaves_out}
+use Rattle.dd_engine.proofs.SetsGathered.{placed_as}
 use Rattle.dd_engine.proofs.noted_merge.plan_and_picks.Goals as goal
 
 pub place_picks-requires : goal.place_picks-requires
@@ -21,7 +22,7 @@ place_picks-requires c =
       given ++ withdrawn_in listings,
       planned_of c.args.choice.now (held_in given listings) c.args.catalogue.now c.in-Ok.plan c.requires.3
           c.in-Ok.ensures.planned,
-      c.requires.2,
+      placed_as _ _ _ _ _ c.deref.ensures.value c.deref-2.ensures.value c.requires.2,
     )
 
 pub left_out_files-requires : goal.left_out_files-requires
@@ -30,7 +31,8 @@ left_out_files-requires c =
     let listings = c.requires.1 in
     places_kept (numbered 0 listings) _ (given ++ withdrawn_in listings) c.args.catalogue.now.versions
     (ap (λ (d : Contents). d.versions) c.requires.3)
-    (side_by_side (numbered 0 listings) _ _ c.requires.2.versions c.requires.2.origins)
+    (side_by_side (numbered 0 listings) _ _ (c.deref-3.ensures.value ∙ c.requires.2.versions)
+    (ap (map (λ pick. pick_view pick)) c.deref-4.ensures.value ∙ c.requires.2.origins))
 
 pub returns-in-Err : goal.returns-in-Err
 returns-in-Err c = λ given listings placed is. (
@@ -50,11 +52,14 @@ returns c = λ given listings placed is.
             ∙ c.in-Ok.ensures.allowed refl;
         picks = picked_of (stands_in listings) choice (held_in given listings) c.args.catalogue.now c.in-Ok.plan
             c.in_ok-picks.picks.items is c.in-Ok.ensures.planned
-            (c.in_ok-picks.ensures.all (numbered 0 listings) placed);
+            (c.in_ok-picks.ensures.all (numbered 0 listings)
+            (placed_as _ _ _ _ _ c.deref.ensures.value c.deref-2.ensures.value placed));
       },
-      leaves_out given listings c.args.gathered.now.versions.items c.args.gathered.now.origins.items c.args.catalogue.now.versions
-          c.in_ok-left_out.left_out.items placed (ap (λ (d : Contents). d.versions) is) c.in_ok-left_out.ensures.all,
+      leaves_out given listings _ _ c.args.catalogue.now.versions c.in_ok-left_out.left_out.items
+          (placed_as _ _ _ _ _ c.deref-3.ensures.value c.deref-4.ensures.value placed)
+          (ap (λ (d : Contents). d.versions) is) c.in_ok-left_out.ensures.all,
       subst (λ l. AreNamed l c.in_ok-names.names.items)
-          (ap₂ (λ (m l : List Parts). with_kept_digest m l) (ap (λ (d : Contents). d.versions) is) placed.versions)
+          (ap₂ (λ (m l : List Parts). with_kept_digest m l) (ap (λ (d : Contents). d.versions) is)
+          (c.deref-5.ensures.value ∙ placed.versions))
           c.in_ok-names.ensures.named,
     )
