@@ -59,12 +59,12 @@ keep_ends byte [] ends =
     (λ e. subst EndsUnpadded (sym (keep_other byte e)) (one_ends byte e))
     (cases_Bool (is_padding byte))
 
--- what is kept ends in no padding
+-- cleaned bytes end in no padding
 pub clean_of_ends : (bytes : List ℕ) → EndsUnpadded (clean_of bytes)
 clean_of_ends [] = λ front last is. absurd (ends_in_none front last is)
 clean_of_ends (byte ∷ bytes) = keep_ends byte (clean_of bytes) (clean_of_ends bytes)
 
--- what ends in no padding stays as it is after another byte
+-- bytes that end in no padding do so without their first byte, too
 tail_ends : (byte : ℕ) (bytes : List ℕ) → EndsUnpadded (byte ∷ bytes) → EndsUnpadded bytes
 tail_ends byte bytes ends front last is = ends (byte ∷ front) last (ap (λ (b : List ℕ). byte ∷ b) is)
 

@@ -32,7 +32,7 @@ read_piece (Err e) buf = []
 pub record Gives {S P : Type 0} (has_given : S → P → List ℕ → Type 0) (old new : S) (bytes : List ℕ) : Type 0 where
   pub then : (past : P) (before : List ℕ) → has_given old past before → has_given new past (before ++ bytes)
 
--- the same of a reader that tells all bytes that it has given
+-- the same of a reader whose states have all bytes that it has given
 abbrev pub GivesTold : {S : Type 0} → (S → List ℕ) → S → S → List ℕ → Type 0
 GivesTold told old new bytes = Gives {P = Unit {0}} (λ s _ all. all ≡ told s) old new bytes
 

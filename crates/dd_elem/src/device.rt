@@ -15,7 +15,7 @@ pub trait Read {
     // How many of these calls failed.
     ghost failures: { Self → ℕ };
 
-    // The bytes that are still to come, where the reader tells them.
+    // The bytes that are still to come, where they are known.
     ghost remaining: { Self → Option (List ℕ) };
 
     // An earlier state, from which `has_given` counts bytes. Each reader chooses its form.
@@ -49,7 +49,7 @@ pub trait Write {
     // How many of these calls failed.
     ghost failures: { Self → ℕ };
 
-    // The bytes that the writer holds, where it tells them.
+    // The bytes that the writer holds, where they are known.
     ghost contents: { Self → Option (List ℕ) };
 
     // What no write changes.

@@ -146,7 +146,7 @@ abbrev pub item_syntax : Syntax → Option Vr → Length → Option Syntax
 item_syntax syntax vr form = item_syntax_where (names_vr syntax) syntax vr form
 
 -- An element of this value representation may hold bytes. Where headers name it: of each but SQ. Where they do not:
--- where there is none.
+-- of no representation.
 abbrev pub HoldsBytesWhere : Bool → Option Vr → Type 0
 HoldsBytesWhere true (Some vr) = vr ≢ SQ
 HoldsBytesWhere true None = ⊥

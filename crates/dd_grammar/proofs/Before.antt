@@ -110,7 +110,7 @@ within_again {X} left text rest read x h =
     (λ y. Ok (y.0, here (left_after (more left (length text)) (length text)) y.1.bytes)) made
     ∙ ap (λ (l : Option ℕ). done (x, here l rest)) (left_after-more left (length text))
 
--- what a length tells ends after here
+-- where the length is defined, no byte is left after this
 abbrev pub Closes : Length → Option ℕ → List ℕ → Type 0
 Closes Defined left rest = no_byte_left left rest ≡ true
 Closes Undefined left rest = Unit {0}

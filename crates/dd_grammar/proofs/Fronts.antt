@@ -47,7 +47,7 @@ abbrev pub FailsAlike : {X Y : Type 0} → Result X SetFault → Result Y SetFau
 FailsAlike (Ok x) r = Unit {0}
 FailsAlike (Err e) r = e ≢ Truncated → r ≡ Err e
 
--- a defined length tells an end only where it encloses
+-- where the length is defined, some length encloses what is read
 abbrev pub Encloses : Length → Bool → Type 0
 Encloses Defined c = c ≡ true
 Encloses Undefined c = Unit {0}

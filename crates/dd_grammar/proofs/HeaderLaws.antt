@@ -81,7 +81,7 @@ width_at_most (Some vr) = go (is_long_of vr)
     go true = omega arith
     go false = omega arith
 
--- a length that is none of an undefined one
+-- a length that a header can hold, and that is not the undefined one
 pub within_limit : (vr : Option Vr) (n : ℕ) → n < width_limit vr → (n ≡ undefined_length → ⊥) → n < length_limit vr
 within_limit None n lt ne = omega arith
 within_limit (Some vr) n lt ne = go (is_long_of vr) lt

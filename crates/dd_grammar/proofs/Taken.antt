@@ -77,7 +77,7 @@ taken n at x fits e =
     subst (λ (y : List ℕ × At). Takes at y.0 y.1 × (length y.0 ≡ n) × AreBytes y.0)
     (ok_is (take n at.bytes, next) x b.1) (all, len, AreBytes-take n at.bytes fits)
 
--- what a length tells ends here
+-- where the length is defined, no byte is left here
 abbrev pub Ends : Length → At → Type 0
 Ends Defined at = no_byte_left at.left at.bytes ≡ true
 Ends Undefined at = Unit {0}

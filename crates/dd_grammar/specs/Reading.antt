@@ -76,12 +76,12 @@ is_item_end head = is_tag item_end_tag head
 abbrev pub is_sequence_end : List ℕ → Bool
 is_sequence_end head = is_tag sequence_end_tag head
 
--- no byte is left: of the nearest enclosing length, or of the whole where there is none
+-- no byte is left: of the nearest enclosing length, or of the whole where no length encloses
 abbrev pub no_byte_left : Option ℕ → List ℕ → Bool
 no_byte_left None bs = length bs == 0
 no_byte_left (Some left) bs = left == 0
 
--- a set or a sequence whose end its length tells is over
+-- a set or a sequence whose length says where it ends is over
 abbrev pub is_over : Length → At → Bool
 is_over Undefined at = false
 is_over Defined at = no_byte_left at.left at.bytes
@@ -94,7 +94,7 @@ there x = Ok (Some x.0, x.1)
 abbrev pub eight_at : At → Reads (Option (List ℕ))
 eight_at at = take_at 8 at >>= there
 
--- eight bytes, or the end of a set or a sequence that its length tells
+-- eight bytes, or the end of a set or a sequence whose length says where it ends
 unfoldable pub head_at : Length → At → Reads (Option (List ℕ))
 head_at form at = if is_over form at then Ok (None, at) else eight_at at
 

@@ -179,7 +179,7 @@ pub fn item_opening(form: Length, head: &[u8; HEADER_SIZE]) -> Result<Option<u32
     Ok(Some(long_in(head)))
 }
 
-/// Checks the length of a value, and tells what stands after its header, where the nearest enclosing
+/// Checks the length of a value, and answers what stands after its header, where the nearest enclosing
 /// length leaves `left` bytes (PS3.5 sections 6.2.2 and 7.5, annex A.4). 6 UndefinedLength where neither
 /// a sequence nor fragments may have an undefined one, 5 OddLength where it is odd, and 9 Overrun where
 /// it passes what is left.
@@ -228,7 +228,7 @@ pub fn fragment_length(n: u32) -> Result<u32, SetFault>
     Ok(n)
 }
 
-/// Checks the length of an item, and tells how far its set reaches, where the nearest enclosing length
+/// Checks the length of an item, and answers how far its set reaches, where the nearest enclosing length
 /// leaves `left` bytes (PS3.5 section 7.5). 5 OddLength where it is odd, and 9 Overrun where it passes
 /// what is left.
 #[tactic(auto, unfolding(crate::specs::Reading::part_at))]

@@ -47,7 +47,7 @@ key_same : (tag : Tag) (held : Option (List ℕ)) → summary_key_fault tag (sum
 key_same tag None = refl
 key_same tag (Some value) = refl
 
--- a value of more bytes than a UID may have is none
+-- a value of more bytes than a UID may have is no UID
 long_uid : (tag : Tag) (wanted : Option (List ℕ)) (value : List ℕ) → 64 < length value
     → uid_fault_of tag wanted (Some value) ≡ Some (BadKeyUid tag)
 long_uid tag wanted [] long = absurd (omega (arith, long))

@@ -19,7 +19,7 @@ use Rattle.dd_keys.specs.Table.{wanted_tags}
 use Rattle.dd_keys.specs.Values.{content_value, element_value, value_at}
 use Rattle.dd_keys.proofs.Held.{content_value-clean, value_at-clean}
 
--- ---- a list of found elements tells what their hits tell
+-- ---- a list of found elements has the summaries that their hits have
 
 hit_summary : Option Hit → Summary
 hit_summary None = cleaned [] 0
@@ -42,7 +42,7 @@ found_is tag (found ∷ founds) =
     found_step (same_tag found.tag tag) found _ (find (λ hit. same_tag hit.tag tag) (map found_hit founds))
     (found_is tag founds)
 
--- ---- the hits of a set tell its values at the wanted tags
+-- ---- the hits of a set have the summaries of its values at the wanted tags
 
 content_summary : (content : Content) → bytes_or_sequence (summary_of content) ≡ summary_of_value (content_value content)
 content_summary (bytes value) = refl
@@ -70,7 +70,7 @@ hits_tell wanted tag is (e ∷ es) =
     (find (λ e. same_tag e.tag tag) es)
     (λ same. ap (is_wanted wanted) (same_tag-is e.tag tag same) ∙ is) refl (hits_tell wanted tag is es)
 
--- a scan tells the values at the tags that it is for
+-- a scan has the summaries of the values at the tags that it is for
 pub found_tells : (wanted : List Tag) (founds : List Found) (set : Elements) → map found_hit founds ≡ hits_of wanted set
     → (tag : Tag) → is_wanted wanted tag ≡ true → summary_in tag founds ≡ summary_at tag set
 found_tells wanted founds set h tag is =

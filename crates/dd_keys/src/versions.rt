@@ -21,11 +21,13 @@ use dd_version::{Version, is_image_class};
 use sha2::{Digest, Sha256};
 use std::alloc::Global;
 
-/// The version whose file these bytes are: the keys of the data set's elements, without their padding
-/// and replaced where one is empty that a directory must have; the UIDs of group 0002; the SHA-256 of
-/// all the bytes. Otherwise the first check that fails: those of a file (PS3.10 section 7), the class
-/// of group 0002, and then those of each element in the order of tags. Or lack of memory: `File` with
-/// that of the parse, and `Memory` after all checks.
+/// Reads these bytes as a file, and gives its version. It has the keys of the data set's elements, without
+/// their padding, and replaced where one is empty that a directory must have. It has the UIDs of group
+/// 0002, and the SHA-256 of all the bytes.
+///
+/// Otherwise the answer is the first check that fails: those of a file (PS3.10 section 7), the class of
+/// group 0002, and then those of each element in the order of tags. An allocation that is refused while
+/// the bytes are parsed gives `File` with the fault of the parse, and one after all checks `Memory`.
 pub fn version_of(alloc: Global, bytes: &[u8]) -> Result<Version, KeyFault>
     ensures { Answers bytes.now result }
 {
@@ -33,13 +35,14 @@ pub fn version_of(alloc: Global, bytes: &[u8]) -> Result<Version, KeyFault>
     version_from(alloc, &file.meta, &file.set, Sha256::digest(bytes))
 }
 
-/// The version whose file a reader gives, which is read to its end as a stream: nothing of it is held but
-/// fixed buffers and the first 1,024 bytes of each element that gives a key.
+/// Reads a file from a reader to its end, as a stream, and gives its version. Nothing of the file is held but
+/// fixed buffers, and the first 1,024 bytes of each element that gives a key.
 ///
 /// `Read` where the reader fails and `FileTooLong` where it gives `limit` bytes and one more; both come
 /// before every check. Else it has read to the end, and the answer is that of `version_of` for the bytes
-/// that the reader gave. Or lack of memory: `File` with that of group 0002, or of the data set where an
-/// element of the table is there, and `Memory` after all checks. It makes at most `limit` + 1 reads.
+/// that the reader gave. It allocates for group 0002, and for the data set where an element of the table is
+/// there; where that is refused, the answer is `File` with the fault of the read. An allocation that is
+/// refused after all checks gives `Memory`. It makes at most `limit` + 1 reads.
 pub fn ingest<R: Read>(alloc: Global, reader: &mut R, limit: u64) -> Result<Version, KeyFault>
     ensures { ReadsUpTo R.Read limit reader.old reader.new
         (λ given left failures after. AnswersReader limit given left failures after result) }

@@ -115,7 +115,7 @@ count_long front n h =
     (if nat_lt max_group_length (from_le_bytes w32 a.0) then Err GroupLength else Ok (from_le_bytes w32 a.0)) n a.2 in
     omega (arith, ap length is, length-append header a.0, ltb-false (length a.0) 4 b.0)
 
--- a group length that is none
+-- where the group length is refused, so are the group and the set
 pub length_fails : (e : FileFault) (bs : List ℕ) → FailsAs is_memory e (count_in bs)
     → FailsAs is_memory e (after_length bs)
 length_fails e bs h =

@@ -36,11 +36,11 @@ IsPlain byte = is_padding byte ≡ false
 plain : (byte : ℕ) → byte ≢ 0 → byte ≢ 32 → IsPlain byte
 plain byte no_nul no_space = rw (neq_eqb byte 0 no_nul, neq_eqb byte 32 no_space) refl
 
--- a digit is none
+-- a digit is no padding
 digit_plain : (byte : ℕ) → IsDigit byte → IsPlain byte
 digit_plain byte h = plain byte (λ e. omega (arith, h.0, e)) (λ e. omega (arith, h.0, e))
 
--- there is none in components joined by `.`
+-- components joined by `.` have no padding
 joined_plain : (components : List (List ℕ)) → All IsComponent components → All IsPlain (join_with_byte 46 components)
 joined_plain [] h = All-nil IsPlain
 joined_plain (one ∷ []) h = All-weaker IsDigit IsPlain digit_plain one (All-head IsComponent one [] h).digits
@@ -52,12 +52,12 @@ joined_plain (one ∷ next ∷ more) h =
     All-append IsPlain one (46 ∷ join_with_byte 46 (next ∷ more)) first
     (All-cons IsPlain 46 (join_with_byte 46 (next ∷ more)) refl others)
 
--- a byte that is none is kept
+-- a byte that is no padding is kept
 keep_plain : (byte : ℕ) (bs : List ℕ) → IsPlain byte → keep byte bs ≡ byte ∷ bs
 keep_plain byte [] h = rw h refl
 keep_plain byte (next ∷ more) h = refl
 
--- bytes without one are kept
+-- bytes without padding are kept
 clean_plain : (bs : List ℕ) → All IsPlain bs → clean_of bs ≡ bs
 clean_plain [] h = refl
 clean_plain (byte ∷ bs) h = ap (λ (s : List ℕ). keep byte s) (clean_plain bs (All-tail IsPlain byte bs h))

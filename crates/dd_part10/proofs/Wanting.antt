@@ -1,4 +1,4 @@
--- Where reading a file wants memory.
+-- Where reading a file allocates.
 use Rattle.std.proofs.Common.{◌≡◌, List, ℕ, Result, Ok, Err, ◌∙◌}
 use Rattle.dd_encoding.specs.declared.syntax.Syntax.{Syntax}
 use Rattle.dd_encoding.specs.declared.syntax.Syntax.TheVariants.{Explicit}

@@ -1,4 +1,4 @@
--- Where reading a file wants memory: for group 0002, once all that stands before it is right, and for the data set,
+-- Where reading a file allocates: for group 0002, once all that stands before it is right, and for the data set,
 -- once all of group 0002 is. And why a file is refused that is read from a reader.
 use Rattle.std.specs.Prelude.{◌≡◌, ◌≢◌, List, ℕ, Some, Result, Ok, Err}
 use Rattle.dd_elem.specs.declared.tag.Tag.{Tag}
@@ -14,7 +14,7 @@ use Rattle.dd_grammar.specs.Reading.{◌>>=◌}
 use Rattle.dd_part10.specs.Reading.{rest_after_prefix, after_length, meta_in, file_in}
 use Rattle.dd_encoding.specs.Syntaxes.{syntax_of}
 
--- the preamble, the prefix and the group length are there, and reading the bytes that it counts wants memory
+-- the preamble, the prefix and the group length are there, and reading the bytes that it counts allocates
 pub record GroupWants (file : List ℕ) : Type 0 where
   pub group : List ℕ
   pub set : List ℕ
@@ -31,7 +31,7 @@ pub record HasHead (file : List ℕ) : Type 0 where
   pub holds : meta_in group ≡ Ok meta
   pub known : syntax_of meta.transfer ≡ Some syntax
 
--- all before the data set is right, and reading the data set wants memory
+-- all before the data set is right, and reading the data set allocates
 pub record SetWants (file : List ℕ) : Type 0 where
   pub head : HasHead file
   pub wants : WantsMemory head.syntax head.set

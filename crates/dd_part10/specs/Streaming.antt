@@ -11,7 +11,7 @@ use Rattle.dd_part10.specs.Memory.{IsRefused}
 use Rattle.dd_part10.specs.Reading.{FileParts, file_in}
 use Rattle.dd_part10.specs.Taking.{IsScanned}
 
--- the bytes are a file, which reading gives, and the scan tells it
+-- the bytes are a file, which reading gives, and the scan is of it
 pub record IsScannedOf (wanted : List Tag) (given : List ℕ) (scanned : Scanned) : Type 0 where
   pub file : FileParts
   pub is : IsFile given file.meta file.set file.set_at

@@ -31,7 +31,7 @@ abbrev pub CountTaken : Result ℕ FileFault → List ℕ → List ℕ → Type 
 CountTaken (Ok n) bytes rest = after_length bytes ≡ split_at n rest
 CountTaken (Err e) bytes rest = FailsAs is_memory e (after_length bytes)
 
--- the group length is there, and reading the bytes that it counts wants memory
+-- the group length is there, and reading the bytes that it counts allocates
 pub record MetaWants (bytes : List ℕ) : Type 0 where
   pub group : List ℕ
   pub set : List ℕ
@@ -67,12 +67,12 @@ SetTaken syntax wanted (Err e) bytes = FailsAs is_memory e (set_in syntax bytes)
 
 -- ---- a file
 
--- a scan tells this file: its meta information, and the wanted elements of its data set
+-- a scan is of this file: it has its meta information, and the wanted elements of its data set
 pub record IsScanned (wanted : List Tag) (scanned : Scanned) (file : FileParts) : Type 0 where
   pub meta : scanned.meta ≡ file.meta
   pub found : map found_hit scanned.found.items ≡ hits_of wanted file.set
 
--- a returned scan tells the file that reading the bytes gives
+-- a returned scan is of the file that reading the bytes gives
 abbrev pub FileTaken : List Tag → Result Scanned FileFault → List ℕ → Type 0
 FileTaken wanted (Ok scanned) bytes = (file : FileParts) × (file_in bytes ≡ Ok file) × IsScanned wanted scanned file
 FileTaken wanted (Err e) bytes = IsRefused wanted e bytes

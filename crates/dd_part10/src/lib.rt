@@ -4,9 +4,9 @@
 //! Its one promise: what is read as a file is one, what is one is read, and a refusal names the first
 //! check that the bytes fail. Only where an allocation is refused, while group 0002 or the data set is read
 //! and all before it is right, is the answer lack of memory instead. `read_file` makes the same checks on
-//! the bytes of a reader, and holds nothing of the data set but what was asked for; of it, it wants memory
-//! only where an element that was asked for is there. A head that is written is the head of a file with its
-//! meta information.
+//! the bytes of a reader, and holds nothing of the data set but what was asked for. It allocates for the data
+//! set only where an element that was asked for is there. A head that is written is the head of a file with
+//! its meta information.
 #![tactic(auto)]
 
 mod fault;

@@ -21,7 +21,7 @@ use Rattle.dd_encoding.specs.Spelling.{undefined_length, item_syntax, delimiter_
 use Rattle.dd_grammar.proofs.Cut.{body_at, whole_element, element_is, whole_item, item_is}
 use Rattle.dd_grammar.proofs.ReadingOn.{element_found, content_refused}
 
--- the second reading wants memory, or gives what the first one gives
+-- the second reading lacks memory, or gives what the first one gives
 abbrev pub Alike : {X : Type 0} → Result X SetFault → Result X SetFault → Type 0
 Alike r u = (u ≡ Err Memory) ⊎ (u ≡ r)
 
@@ -170,7 +170,7 @@ reader_alike zero syntax n at = inr refl
 reader_alike (suc levels) syntax n at = part_alike (set_with (item_reader levels)) (unkept_set (unkept_item levels))
     (set_alike (item_reader levels) (unkept_item levels) (reader_alike levels)) syntax n at
 
--- ---- what was read whole wants memory
+-- ---- what was read whole finds no place
 
 wanted : {X Y : Type 0} (r u : Reads (Option X)) (x : X) (end : At) (keeps : Option X × At → Reads Y) → Alike r u
     → r ≡ Ok (Some x, end) → keeps (Some x, end) ≡ Err Memory → (u >>= keeps) ≡ Err Memory

@@ -1,5 +1,5 @@
--- Where reading wants memory: the same reading where nothing has a place, in which the first item or element that was
--- read whole finds none. All else about the bytes is checked as by `Reading`.
+-- Where reading allocates: the same reading where nothing has a place, so that the first item or element that was
+-- read whole lacks memory. All else about the bytes is checked as by `Reading`.
 use Rattle.std.specs.Prelude.{◌≡◌, ◌⊎◌, ℕ, zero, suc, List, Option, Some, None, Ok, Err}
 use Rattle.dd_grammar.specs.declared.fault.SetFault.TheVariants.{TooDeep, Memory}
 use Rattle.dd_encoding.specs.declared.syntax.Length.TheVariants.{Defined}
@@ -30,15 +30,15 @@ abbrev pub unkept_item : ℕ → ItemReader
 unkept_item zero syntax n at = Err TooDeep
 unkept_item (suc levels) syntax n at = part_at (unkept_set (unkept_item levels)) syntax n at
 
--- Within an element: the reading wants memory where nothing has a place, or it gives the whole of it, as a list of
--- fragments that then finds none.
+-- Within an element: where nothing has a place the reading lacks memory, or it gives the whole of it, as a list of
+-- fragments, which then has no place.
 abbrev pub WantsContent : Reads Content → Reads Content → Type 0
 WantsContent full unkept = (unkept ≡ Err Memory) ⊎ ((c : Content) × (end : At) × (full ≡ Ok (c, end)))
 
 abbrev pub WantsElement : Reads (Option Element) → Reads (Option Element) → Type 0
 WantsElement full unkept = (unkept ≡ Err Memory) ⊎ ((e : Element) × (end : At) × (full ≡ Ok (Some e, end)))
 
--- reading the bytes wants memory: an item or an element was read whole before a check failed
+-- reading the bytes allocates: an item or an element was read whole before a check failed
 abbrev pub WantsMemory : Syntax → List ℕ → Type 0
 WantsMemory syntax bs = unkept_set (unkept_item max_levels) syntax Defined (record { left = None; bytes = bs })
     ≡ Err Memory

@@ -36,7 +36,7 @@ pub fn bytes_spell_one_set()
         → a ≡ b }
 {}
 
-/// Reading wants memory only after a whole header at least.
+/// Reading allocates only after a whole header at least.
 pub fn memory_wants_a_header()
     ensures { (syntax : Syntax) (bytes : List ℕ) → WantsMemory syntax bytes → 8 ≤ length bytes }
 {}

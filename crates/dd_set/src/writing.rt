@@ -179,7 +179,7 @@ fn set_length(set: &DataSet<'_>, form: Length, syntax: Syntax, levels: u32) -> u
     header_length(size)
 }
 
-/// The length that a header gives: the size, or that it is undefined where there is none.
+/// The length that a header gives: the size, or the undefined length where the size is not known.
 fn header_length(size: Option<u64>) -> u32
     requires { IfSome size (λ n. n < undefined_length) }
     ensures { result ≡ unwrap_or size undefined_length }

@@ -17,7 +17,7 @@ use Rattle.dd_version.specs.declared.parts.Parts.{Parts}
 abbrev pub by_bytes : {K : Type 0} → (K → List ℕ) → K → K → Ordering
 by_bytes field = on field bytes_cmp
 
--- by one order, and by another where that tells no difference
+-- by one order, and by another where that finds no difference
 infixl 20 ◌then◌
 abbrev pub ◌then◌ : {K : Type 0} → (K → K → Ordering) → (K → K → Ordering) → K → K → Ordering
 first then second = then_cmp first second

@@ -50,7 +50,7 @@ pub struct Misfit {
 }
 
 impl Version {
-    /// The version of these parts. Refused where one does not fit: where the transfer syntax is none of
+    /// Makes the version of these parts. Refused where one does not fit: where the transfer syntax is not among
     /// those that are read, the class is no image class that is taken, or
     /// study date, study time, modality, Patient ID, study ID, series number or instance number is
     /// empty.

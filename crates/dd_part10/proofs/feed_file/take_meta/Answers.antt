@@ -7,7 +7,7 @@ use Rattle.dd_part10.specs.Taking.{GroupTaken}
 use Rattle.dd_part10.proofs.Taken.{meta_without_count}
 use Rattle.dd_part10.proofs.feed_file.take_meta.Goals as goal
 
--- so many bytes of a room have that length
+-- the first `n` bytes of a larger room are `n` bytes
 front_is : (n size : ℕ) → n ≤ size → length {A = ℕ} (take n (replicate size 0)) ≡ n
 front_is n size few = length-take-le n (replicate {A = ℕ} size 0) (omega (arith, length-replicate {A = ℕ} size 0))
 
