@@ -162,7 +162,7 @@ later_quiet all m x studies series below read so within two two' none =
     sym (conflict_quiet all (rest_of m) studies series x two two'
     (λ w i. within w (subst (λ n. Member w n) (sym cons) i)) none) ∙ ap first_conflict (sym cons) ∙ so
 
--- ---- one step of a search: those that are found, and this one where it is found
+-- ---- one step of a search through a list: what was found before, and this element where it passes the test
 
 found_more : {V : Type 0} (test : V → Bool) (m : List V) (i : ℕ) (x : V) → i < length m → x ≡ get_or m i x
     → filter test (take (i + 1) m) ≡ filter test (take i m) ++ cond (test x) (x ∷ []) []

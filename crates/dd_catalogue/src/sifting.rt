@@ -86,16 +86,16 @@ fn count_met(found: &Result<usize, usize>, keys: usize) -> u64
 }
 
 /// Takes the references to values with these keys out of the list, whose order is free.
-pub(crate) fn sift_references<T: Keyed>(lent: &mut Vec<&T>, keys: &Table<Uid>)
-    ensures { map (λ value. value.now) lent.new.items
-        ≡ free T.key_of bytes_cmp keys.now (map (λ value. value.now) lent.old.items) }
+pub(crate) fn sift_references<T: Keyed>(references: &mut Vec<&T>, keys: &Table<Uid>)
+    ensures { map (λ value. value.now) references.new.items
+        ≡ free T.key_of bytes_cmp keys.now (map (λ value. value.now) references.old.items) }
 {
     let mut kept = 0;
-    for index in 0..lent.len() {
-        if !keys.has(lent[index].key()) {
-            lent.swap(kept, index);
+    for index in 0..references.len() {
+        if !keys.has(references[index].key()) {
+            references.swap(kept, index);
             kept += 1;
         }
     }
-    lent.truncate(kept);
+    references.truncate(kept);
 }

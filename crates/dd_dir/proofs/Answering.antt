@@ -88,7 +88,7 @@ all_bytes file meta set at h =
     let is : at ≡ 144 + length h.group_text = h.place in
     omega (arith, is, one, two, three, text)
 
--- ---- what it says was not told
+-- ---- a refusal of the contents
 
 pub told_refused : (file : List ℕ) (meta : Meta) (set : Elements) (at : ℕ) (fault : DirFault) → IsFile file meta set at
     → is_directory_meta meta ≡ true → TellsContents (contents_in meta.instance (take at file) set) (Err fault)
@@ -116,7 +116,7 @@ told_wanted file meta set at fault is_file class told is =
     let there = subst (λ (e : DirFault). TellsContents contents (Err e)) is told in
     (there.0, is_directory file meta set at there.0 is_file class there.1, there.2)
 
--- ---- what it says was told
+-- ---- contents that were answered
 
 pub starts_rise : (file : List ℕ) (contents : Contents) → IsDirectoryFile file contents → Rises 0 contents.starts
 starts_rise file contents is = rises_lower 144 0 contents.starts (omega arith) (contents_rise file contents is)

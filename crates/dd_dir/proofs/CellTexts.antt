@@ -42,7 +42,7 @@ cell_at cells i d within =
     at_drop_more (λ cs. elements_text (elements_of (map cell_element cs))) cells i d within
     ∙ element_first (cell_element (get_or cells i d)) (elements_of (map cell_element (drop (i + 1) cells)))
 
--- the cells behind the first one are short where all remaining cells are
+-- the cells after the first one are short where all remaining cells are
 pub rest_short : (cells : List Cell) (i : ℕ) → AllByRecursion IsShortElement (map cell_element (drop i cells))
     → AllByRecursion IsShortElement (map cell_element (drop (i + 1) cells))
 rest_short [] zero short = tt

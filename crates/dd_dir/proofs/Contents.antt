@@ -71,7 +71,7 @@ without_starts uid front set is =
     ap (λ (o : Option (List ℕ)). contents_by (beside_in uid set) (first_in set) (last_in set) o (records_in set)) none
     ∙ no_starts (beside_in uid set) (first_in set) (last_in set) (records_in set)
 
--- the places behind `by` bytes
+-- the places after `by` bytes
 moved_some : (front : List ℕ) (by : ℕ) (set : Elements) (ns : List ℕ) → length front ≡ by
     → places_in (tag 0x0004 0x1220) [] set ≡ Some ns
     → places_in (tag 0x0004 0x1220) front set ≡ Some (map (λ (n : ℕ). n + by) ns)

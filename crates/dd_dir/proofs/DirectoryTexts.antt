@@ -66,7 +66,7 @@ sizes_sum label versions (x ∷ xs) sound =
     let d = sizes_sum label versions xs sound.1 in
     omega arith
 
--- the records take what is left of the size behind the first offset
+-- the records take what is left of the size after the first offset
 pub records_length : (label : Label) (versions : List Parts)
     → All (IsSound (length versions)) (records_of label versions)
     → first_offset label
@@ -186,7 +186,7 @@ records_fit label versions withdrawn count n sound below count_is first =
     let two = length-append records rest in
     omega (arith, whole, long, one, two, below, first)
 
--- and for the elements behind them
+-- and for the elements after them
 pub withdrawals_fit : (label : Label) (versions : List Parts) (withdrawn : List (List ℕ)) (count n m : ℕ)
     → All (IsSound (length versions)) (records_of label versions) → size label versions withdrawn < 2 ^ 32
     → count ≡ records_end label versions - first_offset label → n ≡ 0 + length (opening_text label versions count)

@@ -112,7 +112,7 @@ with_all_parts [] qs seen = refl
 with_all_parts (p ∷ ps) qs seen = with_all_parts ps qs (with p seen)
 
 -- Of the chain from `first` these trees are known, and the rest is a chain from `offset`: what is known of the rest
--- tells the same of the whole.
+-- says the same of the whole.
 pub record Going (starts : List ℕ) (sets : List Elements) (first level : ℕ) (old : List (Option Elements))
     (branches : List Branch) (offset : ℕ) (now : List (Option Elements)) : Type 0 where
   pub left : AreLeft sets now

@@ -1,4 +1,4 @@
--- The slot of a start, among starts that rise: what it tells, and what is left once it is emptied.
+-- The slot of a start, among starts that rise: what it holds, and what is left once it is emptied.
 use Rattle.std.proofs.Common.{◌≡◌, ℕ, zero, suc, ◌+◌, ◌<◌, ◌≤◌, ◌==◌, Bool, true, false, List, [], ◌∷◌, length, get_or}
 use Rattle.std.proofs.Common.{Option, None, Some, Ok, Err, if◌then◌else◌, option_map, refl, sym, ap, subst, ◌∙◌}
 use Rattle.std.proofs.Common.{arith, inl, inr}
@@ -139,7 +139,7 @@ leaves low starts sets slots i rise left each within = record {
   adds = λ j q. reached_without low starts slots i rise each within q j;
 }
 
--- ---- what a search for a place tells
+-- ---- what a search for a place finds
 
 not_found : (starts : List ℕ) (p i : ℕ) → ((k : ℕ) → k < i → get_or starts k 0 < p)
     → ((k : ℕ) → i ≤ k → k < length starts → p < get_or starts k 0)

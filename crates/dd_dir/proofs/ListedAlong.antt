@@ -36,7 +36,7 @@ rows_images node (x ∷ rest) = row_images node x ++ rows_images node rest
 abbrev pub IsPassed : (Path → Node) → Path → Type 0
 IsPassed node x = fault_at (Some (level_of x)) (node x) ≡ None
 
--- what is listed behind a row of these trees
+-- what is listed after a row of these trees
 abbrev pub listed_after : (Path → Node) → Path → Grown → Result (List Listed) OwnFault
 listed_after node [] g = listed_in root g.patient
 listed_after node (a ∷ []) g = followed (listed_in (in_patient (node (a ∷ [])).set) g.study) (listed_in root g.patient)

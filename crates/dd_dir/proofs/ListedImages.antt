@@ -25,7 +25,7 @@ use Rattle.dd_dir.specs.OwnViews.{Adds, IsListed, ListsOneFirst, listed_of, list
 abbrev pub Images : Type 0
 Images = Result (List Listed) OwnFault
 
--- ---- lists one behind the other
+-- ---- lists one after the other
 
 pub followed_assoc : {A : Type 0} (x y z : Result (List A) OwnFault)
     → followed (followed x y) z ≡ followed x (followed y z)
@@ -36,7 +36,7 @@ followed_assoc (Ok xs) (Ok ys) (Ok zs) = ap (λ (s : List _). Ok s) (append_asso
 
 -- ---- answers
 
--- behind images that were added before
+-- after images that were added before
 pub adds_behind : {F : Type 0} (old mid new front : List Listed) (x : Images) (IsWanted Wants : Type 0)
     (result : Result F OwnFault) → mid ≡ old ++ front → (IsWanted → Wants) → Adds mid new x IsWanted result
     → Adds old new (followed (Ok front) x) Wants result
@@ -86,7 +86,7 @@ tree_left trees i t within is =
     at_drop_more (λ (ts : List Tree). ts) trees i t within
     ∙ ap (λ (x : Tree). x ∷ drop (i + 1) trees) (sym is)
 
--- where the next one lists an image first, so does what is left; and so where those behind it do, and it does not fail
+-- where the next one lists an image first, so does what is left; and so where those after it do, and it does not fail
 tree_first : (above : Above) (trees : List Tree) (i : ℕ) (t : Tree) → i < length trees → t ≡ get_or trees i t
     → ListsOneFirst above (tree_view t) → ListsFirst above (trees_view (drop i trees))
 tree_first above trees i t within is first =
@@ -101,7 +101,7 @@ later_first above trees i d images within e first =
 
 -- ---- the loop over trees in a row
 
--- the images of the first so many trees were added
+-- the images of the first `i` trees were added
 pub record Adding (above : Above) (trees : List Tree) (i : ℕ) (old new : List Listed) : Type 0 where
   pub front : List Listed
   pub added : new ≡ old ++ front
@@ -202,7 +202,7 @@ one_listed above lower t trees level fault listed old mid new result at_level fa
     (adds_behind old mid new listed (listed_in lower (trees_view trees)) (ListsFirst lower (trees_view trees))
     (ListsOneFirst above branch) result added wants a)
 
--- a record that fails a check, which is never for want of memory
+-- a record that fails a check, which is never a refused allocation
 no_key_memory : (at : ℕ) (o : Option Row) → option_map (λ (r : Row). RecordKey at r.tag) o ≡ Some Memory → ⊥
 no_key_memory at None e = cc
 no_key_memory at (Some r) e = cc

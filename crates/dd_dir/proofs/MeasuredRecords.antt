@@ -38,7 +38,7 @@ size_is label versions x sound =
     let there = version_there versions (least_below versions x) sound.0 in
     size_by label versions x (slice_get versions (least_below versions x)) there.0 sound.1 there.1
 
--- the offset behind these rows of the tree is that of the row that follows, or the end of all
+-- The first rows of the tree end where the next row stands, or where all records end.
 end_is : (label : Label) (versions : List Parts) (front rest : List Path) → tree versions ≡ front ++ rest
     → first_offset label + sum_by (record_size_at versions) front
     ≡ end_before (records_end label versions) (map (record_at label versions) rest)

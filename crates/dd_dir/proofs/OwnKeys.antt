@@ -1,4 +1,4 @@
--- The record of a path tells the last part of the path.
+-- The record of a path has the last part of the path as its key.
 use Rattle.std.specs.Prelude.{◌≡◌, ◌<◌, ◌+◌, ℕ, suc, true, false, List, [], ◌∷◌, length, Option, Some, slice_get}
 use Rattle.std.proofs.Common.{refl, ◌∙◌, ap, arith}
 use Rattle.dd_elem.specs.Clean.{clean_of}

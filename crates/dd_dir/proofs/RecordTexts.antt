@@ -40,7 +40,7 @@ second_fits one two whole sent n is fits first =
 abbrev pub records_text : List Parts → List PlanRecord → List ℕ
 records_text versions rows = items_text (items_of (map record_item (map (elements_for versions) rows)))
 
--- that of records begins with that of the first
+-- the text of records begins with the text of the first record
 pub text_at : (versions : List Parts) (rows : List PlanRecord) (row : PlanRecord) (rest : List PlanRecord)
     → rows ≡ row ∷ rest → records_text versions rows
     ≡ item_text (record_item (elements_for versions row)) ++ records_text versions rest

@@ -43,7 +43,7 @@ clean_of-padded pad v is = go (eqb (length v % 2) 0) where
   go true = refl
   go false = clean_of_push_padding v pad is
 
--- the keys of a patient and of a study stand behind a character set, where there is one
+-- the keys of a patient and of a study stand after a character set, where there is one
 patient_key : (next lower : ℕ) (file : Option Ranks) (parts : Parts)
     → key_of (tag 0x0010 0x0020) (elements_of (record_elements Patient next lower file parts))
     ≡ clean_of (padded 0x20 parts.patient.id)

@@ -68,7 +68,7 @@ version_says label versions x v small found =
     ap (λ (es : List Element). links_in (elements_of es)) found
     ∙ record_says (level_of x) row.next row.lower row.file v (omega (arith, next, small)) (omega (arith, lower, small))
 
--- the record of a row says what stands along the rows behind it
+-- the record of a row says what stands along the rows after it
 row_says : (label : Label) (versions : List Parts) (front : List Path) (x : Path) (rest : List Path)
     → tree versions ≡ front ++ x ∷ rest → records_end label versions < 2 ^ 32 → IsOfVersion versions x
     → links_in (node_at label versions x).set ≡ Some (links_along (node_at label versions) x rest)
@@ -161,7 +161,7 @@ none_unseen seen (p ∷ ps) h = rw (h p (inl refl)) (none_unseen seen ps (λ q i
 pub of_version : (versions : List Parts) (x : Path) → Member x (tree versions) → IsOfVersion versions x
 of_version versions x i = least_leads versions x (least_in versions x (contained x (tree versions) i))
 
--- each tells the last part of its path
+-- each has the last part of its path as its key
 own_along : (label : Label) (versions : List Parts) (rest : List Path)
     → ((x : Path) → Member x rest → Member x (tree versions)) → AllByRecursion HasLevel rest
     → AllByRecursion (IsKeyed versions) (map (record_at label versions) rest)
@@ -184,7 +184,7 @@ found_at label versions withdrawn sound x i =
     stands_found (at label versions) (λ y. (node_at label versions y).set) 0 (tree versions) x
     (offsets_rise label versions sound) i
 
--- each says what stands along the rows behind it
+-- each says what stands along the rows after it
 says_tails : (label : Label) (versions : List Parts) (withdrawn : List (List ℕ)) (front rest : List Path)
     → tree versions ≡ front ++ rest
     → records_end label versions < 2 ^ 32 → All (IsSound (length versions)) (records_of label versions)

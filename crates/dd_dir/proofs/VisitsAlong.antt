@@ -24,11 +24,11 @@ at_by node (Some x) = (node x).at
 abbrev pub visit_by : (Path → Node) → Path → Visit
 visit_by node x = record { path = x; above = at_by node (or_root (parent_of x)); node = node x }
 
--- the record tells the last part of its path
+-- the record has the last part of its path as its key
 abbrev pub IsOwn : (Path → Node) → Path → Type 0
 IsOwn node x = parent_of x ++ own_key (parent_of x) (node x).set ∷ [] ≡ x
 
--- what is visited behind a row of these trees
+-- what is visited after a row of these trees
 abbrev pub visits_after : (Path → Node) → Path → Grown → List Visit
 visits_after node [] g = visits_below [] 0 g.patient
 visits_after node (a ∷ []) g =

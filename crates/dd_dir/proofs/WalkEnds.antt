@@ -156,12 +156,12 @@ pub record Breaks (stands : ℕ → Option Elements) (p level : ℕ) (seen : See
 abbrev pub Ends : (ℕ → Option Elements) → ℕ → ℕ → Seen → Type 0
 Ends stands p level seen = Grows stands p level seen ⊎ Breaks stands p level seen
 
--- from each offset where fewer offsets than so many are unseen
+-- from each offset where fewer than `n` offsets are unseen
 abbrev pub EndsBelow : (ℕ → Option Elements) → List ℕ → ℕ → Type 0
 EndsBelow stands starts n = (p level : ℕ) (seen : Seen) → count_unseen seen starts < n → Ends stands p level seen
 
 module _ (stands : ℕ → Option Elements) (starts : List ℕ) where
-  -- behind the trees below
+  -- after the trees below
   after_below : (n : ℕ) → EndsBelow stands starts n → (p level : ℕ) (seen : Seen) (x : Elements × Links) → p ≢ 0
       → step_at stands p level seen ≡ Ok x → count_unseen (with p seen) starts < n
       → Grows stands x.1.lower (level + 1) (with p seen) → Ends stands p level seen

@@ -149,7 +149,7 @@ front_length file meta set at h =
     let is : at ≡ 144 + length h.group_text = h.place in
     (omega (arith, is), length-take-le at file (omega (arith, is, one, two, three)))
 
--- its records start behind its head, and their offsets rise
+-- its records start after its head, and their offsets rise
 pub contents_rise : (file : List ℕ) (contents : Contents) → IsDirectoryFile file contents → Rises 144 contents.starts
 contents_rise file contents h =
     let front = front_length file h.meta h.set h.at h.is_file in

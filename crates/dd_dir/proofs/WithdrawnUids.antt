@@ -22,7 +22,7 @@ use Rattle.dd_dir.specs.Withdrawn.{AreRisingUids, pieces_of, uid_in}
 abbrev pub is_below : List ℕ × List ℕ → Bool
 is_below pair = is_lt (bytes_cmp pair.0 pair.1)
 
--- each is smaller than the one behind it
+-- each is smaller than the one after it
 abbrev pub are_below : List (List ℕ) → Bool
 are_below xs = list_all is_below (zip xs (drop 1 xs))
 

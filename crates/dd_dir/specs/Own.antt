@@ -125,7 +125,7 @@ listed_at (in_series patient study series) set =
     record { patient = patient; study = study; series = series; own = set } ∷ []
 listed_at above set = []
 
--- lists one behind the other, or the first fault
+-- lists one after the other, or the first fault
 abbrev pub followed : {A : Type 0} → Result (List A) OwnFault → Result (List A) OwnFault → Result (List A) OwnFault
 followed (Err fault) more = Err fault
 followed (Ok xs) (Err fault) = Err fault

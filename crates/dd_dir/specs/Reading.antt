@@ -39,7 +39,7 @@ contents_by beside (Some first) (Some last) (Some starts) None = None
 contents_by beside (Some first) (Some last) (Some starts) (Some sets) =
     Some (record { first = first; last = last; starts = starts; sets = sets; beside = beside })
 
--- of a data set that this UID names and that stands behind the bytes `front`: none where an offset is missing or the
+-- of a data set that this UID names and that stands after the bytes `front`: none where an offset is missing or the
 -- records are no items
 unfoldable pub contents_in : List ℕ → List ℕ → Elements → Option Contents
 contents_in uid front set = contents_by (beside_in uid set) (first_in set) (last_in set)

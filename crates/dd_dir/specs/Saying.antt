@@ -101,7 +101,7 @@ first_in set = option_and_then number_of (value_of (tag 0x0004 0x1200) set)
 abbrev pub last_in : Elements → Option ℕ
 last_in set = option_and_then number_of (value_of (tag 0x0004 0x1202) set)
 
--- the File-set ID without its padding, and nothing where there is none
+-- the File-set ID without its padding, and nothing where there is no ID
 abbrev pub id_in : Elements → List ℕ
 id_in set = key_of (tag 0x0004 0x1130) set
 

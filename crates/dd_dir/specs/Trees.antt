@@ -19,7 +19,7 @@ abbrev pub offsets : Trees → List ℕ
 offsets no_trees = []
 offsets (tree node below after) = node.at ∷ (offsets below ++ offsets after)
 
--- the offset of the last of these trees, and `before` where there is none
+-- the offset of the last of these trees, and `before` where there is no tree
 abbrev pub last_offset_or : ℕ → Trees → ℕ
 last_offset_or before no_trees = before
 last_offset_or before (tree node below after) = last_offset_or node.at after

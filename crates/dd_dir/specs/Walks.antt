@@ -70,7 +70,7 @@ found_at p level false (Some set) =
 unfoldable pub step_at : (ℕ → Option Elements) → ℕ → ℕ → Seen → Result (Elements × Links) DirFault
 step_at stands p level seen = found_at p level (seen p) (stands p)
 
--- where the way breaks off: at this record, below it, or behind it and the trees below it
+-- where the way breaks off: at this record, below it, or after it and the trees below it
 pub data Way : Type 0 where
   here : Way
   down : Way → Way

@@ -14,7 +14,7 @@ use dd_layout::{Cell, PlanRecord, Row};
 use dd_stream::{WriteFault, send};
 use dd_version::Parts;
 
-/// Sends an element behind `sent` bytes: its header, its value and the padding.
+/// Sends an element after `sent` bytes: its header, its value and the padding.
 fn send_cell<W: Write>(cell: &Cell<'_>, writer: &mut W, sent: u64) -> Result<u64, WriteFault>
     requires short { IsShort (even_value cell.now.value) }
     requires fits { sent + length (element_text (cell_element cell.now)) < 2 ^ 64 }
@@ -29,7 +29,7 @@ fn send_cell<W: Write>(cell: &Cell<'_>, writer: &mut W, sent: u64) -> Result<u64
     send(padding, writer, sent)
 }
 
-/// Sends these elements behind `sent` bytes.
+/// Sends these elements after `sent` bytes.
 pub(crate) fn send_cells<W: Write>(
     cells: &[Cell<'_>],
     writer: &mut W,
@@ -47,7 +47,7 @@ pub(crate) fn send_cells<W: Write>(
     Ok(sent)
 }
 
-/// Sends the elements that these rows give a record of these parts, behind `sent` bytes.
+/// Sends the elements that these rows give a record of these parts, after `sent` bytes.
 pub(crate) fn send_rows<W: Write>(
     rows: &[Row],
     planned: &PlanRecord,

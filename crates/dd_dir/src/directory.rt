@@ -41,7 +41,7 @@ pub(crate) fn is_directory_meta(meta: &Meta) -> bool
     meta.class.as_bytes() == DIRECTORY_CLASS && meta.transfer.as_bytes() == DIRECTORY_SYNTAX
 }
 
-/// What a data set says that this UID names and that stands behind `at` bytes.
+/// What a data set says that this UID names and that stands after `at` bytes.
 #[tactic(auto, unfolding(crate::specs::Reading::contents_in))]
 pub(crate) fn directory_of<'a>(
     alloc: Global,
@@ -80,7 +80,7 @@ pub(crate) fn directory_of<'a>(
     })
 }
 
-/// The File-set ID without its padding, and nothing where there is none.
+/// The File-set ID without its padding, and nothing where there is no ID.
 fn id_of<'a>(set: &DataSet<'a>) -> &'a [u8]
     ensures { result.now ≡ id_in (set_view set.now) }
 {

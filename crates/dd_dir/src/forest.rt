@@ -9,7 +9,7 @@ use dd_set::DataSet;
 pub struct Forest<'a> {
     /// The Media Storage SOP Instance UID (0002,0003), which is the UID of the file-set.
     pub uid: Uid,
-    /// The File-set ID without its padding; empty where there is none.
+    /// The File-set ID without its padding; empty where there is no ID.
     pub id: &'a [u8],
     /// The value that names the withdrawn SOP Instance UIDs, without its padding: None where there is no
     /// such value in the block of private elements of its creator (PS3.5 section 7.8.1).

@@ -27,7 +27,7 @@ impl Message {
         }
     }
 
-    /// Adds a piece behind the others.
+    /// Adds a piece after the others.
     pub(crate) fn add(&mut self, _piece: &[u8])
         ensures { self.new.bytes ≡ self.old.bytes ++ _piece.now }
     {}

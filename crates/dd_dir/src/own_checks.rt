@@ -13,7 +13,7 @@ use dd_layout::{Field, Level, Row, rows};
 use dd_set::{DataSet, value_at};
 use dd_version::{is_image_class, is_known_syntax};
 
-/// The first check that a record of this level fails: below an image there is none.
+/// The first check that a record of this level fails: below an image no record is checked.
 pub(crate) fn fault_at(level: Option<Level>, tree: &Tree<'_>) -> Option<OwnFault>
     ensures { result ≡ fault_at level (tree_view tree.now).node }
 {

@@ -122,7 +122,7 @@ impl<'f, 'a> SeriesRecord<'f, 'a> {
     }
 }
 
-/// The value of the element of a row without its padding, and nothing where there is none.
+/// The value of the element of a row without its padding, and nothing where there is no value.
 pub(crate) fn row_value<'a>(row: &Row, set: &DataSet<'a>) -> &'a [u8]
     ensures { result.now ≡ key_of row.now.tag (set_view set.now) }
 {

@@ -20,7 +20,7 @@ use dd_layout::{PlanRecord, rows};
 use dd_stream::{WriteFault, send};
 use dd_version::Version;
 
-/// Sends these records behind `sent` bytes. In the directory they end at `end`.
+/// Sends these records after `sent` bytes. In the directory they end at `end`.
 pub(crate) fn send_records<W: Write>(
     mut records: &[PlanRecord],
     end: u32,
@@ -56,7 +56,7 @@ fn end_before(records: &[PlanRecord], end: u32) -> u32
     }
 }
 
-/// Sends a record of `size` bytes behind `sent` bytes: the header of its item and its elements.
+/// Sends a record of `size` bytes after `sent` bytes: the header of its item and its elements.
 fn send_record<W: Write>(
     planned: &PlanRecord,
     size: u32,

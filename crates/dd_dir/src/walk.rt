@@ -104,7 +104,7 @@ pub(crate) fn chain<'a>(
     Ok(trees)
 }
 
-/// The offset of the last of these trees, and 0 where there is none.
+/// The offset of the last of these trees, and 0 where there is no tree.
 pub(crate) fn last_offset(trees: &[Tree<'_>]) -> u32
     ensures { result ≡ last_offset_or 0 (trees_view trees.now) }
 {

@@ -1,4 +1,4 @@
-//! The elements with the withdrawn UIDs, sent to a writer behind the records.
+//! The elements with the withdrawn UIDs, sent to a writer after the records.
 
 ghost use Rattle.std.specs.Prelude.{◌≡◌, ◌+◌, ◌<◌, ◌^◌, ◌++◌, ℕ, List, ◌∷◌, length};
 ghost use Rattle.std.specs.List.{join_with_byte};
@@ -14,7 +14,7 @@ use dd_encoding::send_header;
 use dd_layout::{WITHDRAWN, creator_cell, withdrawn_length};
 use dd_stream::{WriteFault, send};
 
-/// Sends the elements with these withdrawn UIDs behind `sent` bytes, and nothing where no UID is withdrawn.
+/// Sends the elements with these withdrawn UIDs after `sent` bytes, and nothing where no UID is withdrawn.
 pub(crate) fn send_withdrawals<W: Write>(
     withdrawn: &[Uid],
     writer: &mut W,
@@ -34,7 +34,7 @@ pub(crate) fn send_withdrawals<W: Write>(
     send_value(withdrawn, writer, sent)
 }
 
-/// Sends the value of the element with these UIDs behind `sent` bytes: the UIDs, and a space where they
+/// Sends the value of the element with these UIDs after `sent` bytes: the UIDs, and a space where they
 /// have an odd number of bytes together (PS3.5 section 6.2).
 fn send_value<W: Write>(withdrawn: &[Uid], writer: &mut W, sent: u64) -> Result<u64, WriteFault>
     requires { sent + length (withdrawn_value withdrawn.now) < 2 ^ 64 }
@@ -52,7 +52,7 @@ fn padding(count: u64) -> &'static [u8]
     if count % 2 == 0 { b"" } else { b" " }
 }
 
-/// Sends these UIDs behind `sent` bytes, with `\` between them (PS3.5 section 6.4).
+/// Sends these UIDs after `sent` bytes, with `\` between them (PS3.5 section 6.4).
 fn send_joined<W: Write>(
     mut withdrawn: &[Uid],
     writer: &mut W,
@@ -70,7 +70,7 @@ fn send_joined<W: Write>(
     Ok(sent)
 }
 
-/// What is sent between a UID and the UIDs that follow it: `\`, or nothing behind the last UID (PS3.5 section
+/// What is sent between a UID and the UIDs that follow it: `\`, or nothing after the last UID (PS3.5 section
 /// 6.4).
 fn separator(rest: &[Uid]) -> &'static [u8]
     ensures { (uid : List ℕ) → join_with_byte 0x5c (uid ∷ rest.now)

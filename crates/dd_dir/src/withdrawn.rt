@@ -44,7 +44,7 @@ fn are_uids(value: &[u8]) -> bool
     value.split(|byte| *byte == SEPARATOR).all(is_uid)
 }
 
-/// Is each piece of the value smaller than the one behind it?
+/// Is each piece of the value smaller than the one after it?
 fn rise(value: &[u8]) -> bool
     ensures { result ≡ list_all (λ pair. is_lt (bytes_cmp pair.0 pair.1))
         (zip (pieces_of value.now) (drop 1 (pieces_of value.now))) }

@@ -44,7 +44,7 @@ not_before v t e = one_file v t ∙ apart (file_cmp v t) e where
 not_after : (v t : FileKey) → is_one v t ≡ true → is_lt (file_cmp v t) ≡ false
 not_after v t e = ap is_lt (no_difference v t e)
 
--- a file that is neither before another nor behind an equal one is that other
+-- a file that is neither before another nor after an equal one is that other
 between : (v w t : FileKey) → is_lt (file_cmp v t) ≡ false → is_lt (file_cmp w v) ≡ false → is_one w t ≡ true
     → is_one v t ≡ true
 between v w t below above same =

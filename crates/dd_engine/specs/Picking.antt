@@ -13,7 +13,7 @@ use Rattle.dd_engine.specs.declared.marks.Mark.{Mark}
 
 -- ---- files
 
--- what tells a file from others: its SOP Instance UID and its digest
+-- what distinguishes a file from others: its SOP Instance UID and its digest
 pub record FileKey : Type 0 where
   pub instance : List ℕ
   pub digest : List ℕ

@@ -167,8 +167,8 @@ fn unlisted_uids(alloc: Global, gathered: &Gathered<'_>, given: &[Uid]) -> Resul
     Ok(uids)
 }
 
-/// Makes mentions without a number of the UIDs of all images and of those that the sets withdraw, and then mentions of
-/// the given UIDs, each with its index among them.
+/// Makes a mention of each UID of an image, and of each UID that a set withdraws, all without a number. After these
+/// comes a mention of each given UID, with its index among the given ones.
 fn listed_then_given<'a>(
     alloc: Global,
     gathered: &'a Gathered<'_>,

@@ -13,7 +13,7 @@ pub record Held : Type 0 where
   -- the path of the file that is being written, where there is one
   pub current : Option (List ℕ)
 
--- the file at the path has these bytes, or there is none, and all others are as they were
+-- the file at the path has these bytes, or there is no file, and all others are as they were
 abbrev pub with_file : List ℕ → Option (List ℕ) → (List ℕ → Option (List ℕ)) → List ℕ → Option (List ℕ)
 with_file path bytes files = update bytes_eq files path bytes
 

@@ -56,7 +56,7 @@ version_read writer limit given left read_old read_new version old new h went =
       ((h.ended unread short), went),
     )
 
--- a fault that does not say memory is no want of memory
+-- a fault that does not say memory is of no refused allocation
 no_want : (set_wants : List ℕ → Type 0) (file : List ℕ) (fault : KeyFault) → ¬ SaysMemory fault
     → IsWantOfMemory set_wants file fault → ⊥
 no_want set_wants file faults.Memory silent want = silent tt

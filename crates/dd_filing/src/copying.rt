@@ -35,8 +35,8 @@ pub enum FilingFault {
 ///
 /// Refuses with Unsent where the writer fails, which then holds a first part of what the reader gave. In all
 /// other cases the writer holds all that the reader gave. Refuses with Unread where the reader fails, with
-/// Changed where it gives more than `limit` bytes, and with Memory where reading the copied bytes as a file
-/// wants memory that is refused. Makes at most `limit` + 1 reads.
+/// Changed where it gives more than `limit` bytes, and with Memory where an allocation is refused while the
+/// copied bytes are read as a file. Makes at most `limit` + 1 reads.
 pub fn copy_version<R: Read, W: Write>(
     alloc: Global,
     reader: &mut R,

@@ -171,7 +171,7 @@ none_led u [] h = tt
 none_led u (y ∷ m) h =
     (by_test (leads_to u y) (λ e. absurd (h y (inl refl) e)) (λ e. e), none_led u m (λ z i. h z (inr i)))
 
--- each path behind the first one that the front does not lead to
+-- each path after the first one that the front does not lead to
 left_behind : (u p q : Path) (paths : List Path) → leads_to u p ≡ true → path_cmp p q ≡ Less
     → leads_to u q ≡ false → Above q paths
     → (y : Path) → Member y (flat_map prefixes paths) → leads_to u y ≡ true → ⊥
@@ -201,13 +201,13 @@ walk_block u p (q ∷ paths) h above up = by_test (leads_to u q)
     block_stops u (fresh p q) (paths_from q paths) short.0 short.1 short.2 short.3
     (none_led u (fresh p q ++ paths_from q paths) (none_below u p q paths h above.0 e up.0)))
 
--- ---- of each row and those behind it: every front of the row has its block there
+-- ---- of each row and those after it: every front of the row has its block there
 
 abbrev pub AllTails : (Path → List Path → Type 0) → List Path → Type 0
 AllTails P [] = Unit {0}
 AllTails P (x ∷ rest) = P x rest × AllTails P rest
 
--- the blocks of the fronts of a row, behind it
+-- the blocks of the fronts of a row, after it
 abbrev pub HasBlocks : Path → List Path → Type 0
 HasBlocks x rest = (u : Path) → leads_to u x ≡ true → Block u rest
 

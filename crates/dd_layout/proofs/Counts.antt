@@ -61,7 +61,7 @@ part_first : (a : List ℕ) (x y : Path) → leads_to x y ≡ true → leads_to 
 part_first a x y h = let same = leads_itself (a ∷ []) in let part = and_parts (is_eq (bytes_cmp a a)) true same in
     rw part.0 h
 
--- the parent behind one part more
+-- the parent of a path that has one part more in front
 parent_behind : (a : List ℕ) (y : Path) → (part : List ℕ) × (path : Path) × (y ≡ part ∷ path)
     → parent_of (a ∷ y) ≡ a ∷ parent_of y
 parent_behind a y (part, path, is) = subst (λ (z : Path). parent_of (a ∷ z) ≡ a ∷ parent_of z) (sym is) refl

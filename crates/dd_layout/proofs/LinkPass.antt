@@ -32,7 +32,7 @@ linked_after zero rows = linked rows
 linked_after (suc n) [] = []
 linked_after (suc n) (row ∷ rows) = row ∷ linked_after n rows
 
--- what stands behind this many rows
+-- what stands in the rows after the first `n`
 abbrev pub behind_after : ℕ → List PlanRecord → Behind
 behind_after zero rows = behind_of rows
 behind_after (suc n) [] = none_behind

@@ -43,7 +43,7 @@ front_has_bytes label =
 moved_none : (from to : ℕ) → 0 < from → moved_offset from to 0 ≡ 0
 moved_none from to h = let first = lt-ltb 0 from h in rw first refl
 
--- what stands this many bytes behind the first record still does
+-- an offset `n` bytes after the first record stays `n` bytes after it
 moved_behind : (from to n : ℕ) → moved_offset from to (from + n) ≡ to + n
 moved_behind from to n = go (nat_lt (from + n) from) refl where
   go : (b : Bool) → nat_lt (from + n) from ≡ b → (if b then 0 else ((from + n) - from) + to) ≡ to + n
@@ -82,14 +82,14 @@ moved_along one other versions (x ∷ paths) =
     (map (record_at one versions) paths)) (moved_to one other versions x)
     ∙ ap (λ (l : List PlanRecord). record_at other versions x ∷ l) (moved_along one other versions paths)
 
--- within a size that both labels leave room for
+-- offsets that lie within some bytes lie within more bytes, too
 pub all_within : (most bytes : ℕ) (rows : List PlanRecord) → bytes ≤ most → All (StandsWithin bytes) rows
     → All (StandsWithin most) rows
 all_within most bytes rows h each k d i =
     let one = each k d i in
     record { at = omega (arith, one.at); next = omega (arith, one.next); lower = omega (arith, one.lower) }
 
--- the plan of one label, moved, is that of the other
+-- the plan under one label, with its offsets moved, is the plan under the other label
 pub laid_out_moved : (one other : Label) (versions : List Parts) (withdrawn : List (List ℕ))
     (rows moved : List PlanRecord) (old new : ℕ) → IsLaidOut one versions withdrawn rows old
     → moved ≡ map (moved_record (first_offset one) (first_offset other)) rows

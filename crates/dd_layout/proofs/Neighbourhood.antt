@@ -1,4 +1,4 @@
--- Each row of a tree is known from the rows before and behind it.
+-- Each row of a tree is known from the rows before and after it.
 use Rattle.std.specs.Prelude.{◌≡◌, ◌≢◌, ℕ, List, [], ◌∷◌, ◌++◌, Contains}
 use Rattle.std.specs.List.{flat_map}
 use Rattle.std.proofs.Common.{refl, sym, ◌∙◌, subst, inl, inr}

@@ -23,12 +23,12 @@ placed_to size zero at rows = rows
 placed_to size (suc n) at [] = []
 placed_to size (suc n) at (row ∷ rows) = record row { at = at } ∷ placed_to size n (at + size row) rows
 
--- the offset behind this many of these rows
+-- where the first `n` of these rows end
 abbrev pub end_of : (PlanRecord → ℕ) → ℕ → ℕ → List PlanRecord → ℕ
 end_of size zero at rows = at
 end_of size (suc n) at [] = at
 end_of size (suc n) at (row ∷ rows) = end_of size n (at + size row) rows
 
--- the offset behind these rows of the tree
+-- where these first rows of the tree end: where the next row starts
 abbrev pub end_at : Label → List Parts → List Path → ℕ
 end_at label versions front = first_offset label + sum_by (record_size_at versions) front

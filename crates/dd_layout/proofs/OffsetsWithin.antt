@@ -94,7 +94,7 @@ directory_has_bytes label versions =
     let front = directory_length label.id 0 0 [] in
     omega (arith, front)
 
--- ---- so all offsets are within the size, whatever stands behind the records
+-- ---- so all offsets are within the size, whatever stands after the records
 
 itself_not_before : (x : Path) → not (is_before x x) ≡ true
 itself_not_before x = ap (λ r. not (is_lt r)) (tied_itself path_total x)

@@ -1,4 +1,4 @@
--- What stands before and behind a row of a tree that rises: its rank, its offset, and its links, by these two lists.
+-- What stands before and after a row of a tree that rises: its rank, its offset, and its links, by these two lists.
 use Rattle.std.specs.Prelude.{◌≡◌, ◌⊎◌, ◌+◌, ◌<◌, ℕ, Bool, true, false, ◌&&◌, List, [], ◌∷◌, ◌++◌, length, find}
 use Rattle.std.specs.Prelude.{filter, sum_by}
 use Rattle.std.specs.List.{AllByRecursion}
@@ -32,7 +32,7 @@ pub all_behind : (front : List Path) (x : Path) (rest : List Path) → Rises (fr
 all_behind [] x rest up = up.0
 all_behind (y ∷ front) x rest up = all_behind front x rest up.1
 
--- ---- tests of what stands before, and of what stands behind
+-- ---- tests of what stands before, and of what stands after
 
 and_true : (b : Bool) → (b && true) ≡ b
 and_true true = refl
@@ -98,7 +98,7 @@ found_behind s x (y ∷ rest) h =
     (λ e. let both : (s y && is_before x y) ≡ true = here ∙ e in rw (both, e) refl)
     (λ e. let both : (s y && is_before x y) ≡ false = here ∙ e in rw (both, e) (found_behind s x rest h.1))
 
--- the first behind the row that passes a test
+-- the first after the row that passes a test
 pub find_after : (s : Path → Bool) (front : List Path) (x : Path) (rest : List Path) → Rises (front ++ x ∷ rest)
     → find (λ y. s y && is_before x y) (front ++ x ∷ rest) ≡ find s rest
 find_after s front x rest up =
@@ -162,7 +162,7 @@ pub parts_at : (front : List Path) (x : Path) (rest : List Path) → HaveParts (
 parts_at [] x rest h = h.0
 parts_at (y ∷ front) x rest h = parts_at front x rest h.1
 
--- ---- a row by what stands before and behind it
+-- ---- a row by what stands before and after it
 
 pub rank_is : (front : List Path) (x : Path) (rest : List Path) → Rises (front ++ x ∷ rest)
     → rank (front ++ x ∷ rest) x ≡ 1 + length (filter (λ y. are_siblings y x) front)

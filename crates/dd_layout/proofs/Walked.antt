@@ -34,7 +34,7 @@ NoneBefore p run = AllByRecursion (λ r. is_before r.1 p ≡ false) run
 
 -- ---- the walk along paths in order, where some may stand twice, gives their tree
 
--- a path gives nothing behind itself
+-- a path gives nothing after itself
 fresh_none : (p : Path) → fresh p p ≡ []
 fresh_none [] = refl
 fresh_none (x ∷ p) =
@@ -81,7 +81,7 @@ least_of x (s ∷ run) = if leads_to x s.1 then least_all x s.0 run else least_o
 abbrev pub record_of : List Standing → Path → PlanRecord
 record_of run x = bare x (least_of x run)
 
--- what leads to a path does not stand behind it
+-- what leads to a path does not stand after it
 lead_before : (u y : Path) → leads_to u y ≡ true → is_before y u ≡ false
 lead_before [] [] h = refl
 lead_before [] (b ∷ y) h = refl

@@ -1,4 +1,4 @@
--- How long the elements with the withdrawn UIDs are, and that they may stand in a set behind the records.
+-- How long the elements with the withdrawn UIDs are, and that they may stand in a set after the records.
 use Rattle.std.proofs.Common.{◌≡◌, ℕ, ◌+◌, ◌-◌, ◌%◌, ◌<◌, List, [], ◌∷◌, length, Some, refl, arith, length-append}
 use Rattle.std.proofs.Common.{sum_by}
 use Rattle.std.specs.List.{join_with_byte}
@@ -14,7 +14,7 @@ use Rattle.dd_layout.specs.Withdrawals.{withdrawal_elements, withdrawals_size, w
 use Rattle.dd_layout.proofs.Lengths.{length-padded, short_more}
 use Rattle.dd_layout.proofs.Valid.{one_valid, value_valid}
 
--- a UID and one byte behind it
+-- a UID and one byte after it
 abbrev pub closed : List ℕ → ℕ
 closed uid = length uid + 1
 
@@ -29,7 +29,7 @@ joined_length uid (next ∷ withdrawn) =
     let c = sum_by-cons closed uid (next ∷ withdrawn) in
     omega arith
 
--- of the bytes behind the UIDs the last is the padding, where there is one
+-- of the bytes after the UIDs the last is the padding, where there is one
 pub value_length : (withdrawn : List (List ℕ)) (n : ℕ) → n ≡ sum_by closed withdrawn
     → n - n % 2 ≡ length (withdrawn_value withdrawn)
 value_length [] n is = omega (arith, is)

@@ -1,4 +1,4 @@
--- The links of a record by what stands behind it, level by level.
+-- The links of a record by what stands after it, level by level.
 use Rattle.std.specs.Prelude.{ℕ}
 use Rattle.dd_layout.specs.declared.level.Level.{Level}
 use Rattle.dd_layout.specs.declared.level.Level.TheVariants.{Patient, Study, Series, Image}
@@ -17,7 +17,7 @@ lower_of Study behind = behind.series
 lower_of Series behind = behind.image
 lower_of Image behind = 0
 
--- a record of this level at this offset, and what stands behind it: it hides all of the levels below
+-- a record of this level at this offset, and what stands after it: it hides all of the levels below
 abbrev pub behind_from : Level → ℕ → Behind → Behind
 behind_from Patient at behind = record { patient = at; study = 0; series = 0; image = 0 }
 behind_from Study at behind = record { patient = behind.patient; study = at; series = 0; image = 0 }

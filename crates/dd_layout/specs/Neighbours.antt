@@ -1,4 +1,4 @@
--- What a path of a tree has is known from the paths before and behind it, by their lengths alone: so one pass along
+-- What a path of a tree has is known from the paths before and after it, by their lengths alone: so one pass along
 -- them finds each offset and rank, and one from the back each link.
 use Rattle.std.specs.Prelude.{◌≡◌, ℕ, zero, suc, ◌+◌, ◌-◌, ◌==◌, List, [], ◌∷◌, ◌++◌, length, Option, None, Some}
 use Rattle.std.specs.Prelude.{sum_by, nat_lt, if◌then◌else◌}
@@ -22,7 +22,7 @@ abbrev pub counts_after : List ℕ → List Path → List ℕ
 counts_after counts [] = counts
 counts_after counts (x ∷ paths) = counts_after (counted (length x - 1) counts) paths
 
--- the path x of a tree, the paths before it and those behind it
+-- the path x of a tree, the paths before it and those after it
 pub record IsKnown (tree front : List Path) (x : Path) (rest : List Path) : Type 0 where
   pub at : (first : ℕ) (size : Path → ℕ) → offset first size tree x ≡ first + sum_by size front
   pub ranks : ranks_along tree x ≡ counts_after [] (front ++ x ∷ [])

@@ -1,5 +1,5 @@
 -- Paths: what leads from the root of a directory down to a record (PS3.3 section F.4). A patient's path is its
--- Patient ID; a study's, a series' and an image's have their UIDs behind.
+-- Patient ID; a study's, a series' and an image's have their UIDs after it.
 use Rattle.std.specs.Prelude.{ℕ, Bool, true, false, ◌&&◌, List, [], ◌∷◌, map}
 use Rattle.std.specs.Cmp.Lexicographic.{slice_cmp}
 use Rattle.std.specs.Ordering.{is_eq, is_lt}

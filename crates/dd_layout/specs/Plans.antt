@@ -86,6 +86,6 @@ records_of label versions = map (record_at label versions) (tree versions)
 abbrev pub records_end : Label → List Parts → ℕ
 records_end label versions = first_offset label + sum_by (record_size_at versions) (tree versions)
 
--- the size of the directory, which names these withdrawn UIDs behind its records
+-- the size of the directory, which names these withdrawn UIDs after its records
 abbrev pub size : Label → List Parts → List (List ℕ) → ℕ
 size label versions withdrawn = records_end label versions + withdrawals_size withdrawn

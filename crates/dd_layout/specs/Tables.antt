@@ -53,7 +53,7 @@ series_rows =
     ∷ row (tag 0x0020 0x0011) IS holds.SeriesNumber
     ∷ []
 
--- section F.5.4: the file and what it holds, the private digest of the file behind its creator (PS3.5 section 7.8.1),
+-- section F.5.4: the file and what it holds, the private digest of the file after its creator (PS3.5 section 7.8.1),
 -- and the number
 abbrev pub image_rows : List Row
 image_rows =

@@ -1,5 +1,5 @@
 -- The elements of a directory that name the withdrawn SOP Instance UIDs (PS3.3 section C.12.1): a block of private
--- elements behind the Directory Record Sequence (PS3.5 section 7.8.1).
+-- elements after the Directory Record Sequence (PS3.5 section 7.8.1).
 use Rattle.std.specs.Prelude.{ℕ, List, [], ◌∷◌}
 use Rattle.std.specs.List.{join_with_byte}
 use Rattle.dd_elem.specs.declared.vr.Vr.TheVariants.{LO, UC}

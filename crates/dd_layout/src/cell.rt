@@ -53,7 +53,7 @@ impl CellValue<'_> {
         }
     }
 
-    /// What stands behind the bytes, so that the length is even.
+    /// What stands after the bytes, so that the length is even.
     pub fn padding(&self) -> &'static [u8]
         ensures even { bare_value self.now ++ result.now ≡ even_value self.now }
         ensures few { length result.now ≤ 1 }

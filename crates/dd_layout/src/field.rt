@@ -103,7 +103,7 @@ impl Field {
     }
 }
 
-/// The text of a File ID, which is empty where there is none.
+/// The text of a File ID, which is empty where there is no File ID.
 fn file_text(file: Option<FileId>) -> CellValue<'static>
     ensures exact { even_value result ≡ padded 0x20 (file_text file) }
     ensures short { IsShort (even_value result) }

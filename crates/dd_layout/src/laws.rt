@@ -32,7 +32,7 @@ pub fn walk_gives_the_tree()
         → paths_from [] paths ≡ tree_of paths }
 {}
 
-/// Each path of a tree is known from the paths before and behind it, by their lengths alone: its
+/// Each path of a tree is known from the paths before and after it, by their lengths alone: its
 /// offset, its ranks and its links. This states a law, and does nothing.
 pub fn rows_are_known()
     ensures { (paths : List Path) → ((path : Path) → Contains paths path → path ≢ [])

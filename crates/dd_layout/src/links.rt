@@ -10,8 +10,8 @@ ghost use Rattle.dd_layout.specs.Stages.{placed_at};
 use crate::level::Level;
 use crate::record::PlanRecord;
 
-/// What stands behind a record: the offset of the first record of each level with no record of a higher
-/// level before it, and 0 where there is none.
+/// What stands after a record: of each level the offset of the first record with no record of a higher
+/// level before it, and 0 where there is no such record.
 #[derive(Clone, Copy)]
 struct Behind {
     patient: u32,
@@ -21,7 +21,7 @@ struct Behind {
 }
 
 impl Behind {
-    /// What stands behind the last record.
+    /// What stands after the last record.
     const NONE: Behind = Behind {
         patient: 0,
         study: 0,

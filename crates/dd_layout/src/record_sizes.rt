@@ -22,7 +22,7 @@ const ITEM_HEADER: u64 = HEADER_SIZE as u64;
 
 /// How many bytes a record of this level takes: its Item tag and length, the elements that link it,
 /// and its keys. Neither its offsets nor its File ID change that. At most 11 rows of 1,036 bytes stand
-/// behind the 8 of the Item tag and length, so 12,000 are never passed.
+/// after the 8 of the Item tag and length, so 12,000 are never passed.
 pub fn record_size(level: Level, parts: &Parts) -> u64
     ensures exact { (next lower : ℕ) (file : Option Ranks) → IsFileOf level file
         → result ≡ record_size (record_elements level next lower file parts.now) }

@@ -16,7 +16,7 @@ use crate::record::PlanRecord;
 impl Plan {
     /// Gives the plan of the same catalogue under another label, within these limits. It is the plan that
     /// `lay_out` gives for that catalogue, and the fault is the one that it gives. But nothing is sorted,
-    /// harmonised or measured again, and no allocation is wanted, so the fault is never Conflict or Memory.
+    /// harmonised or measured again, and nothing is allocated, so the fault is never Conflict or Memory.
     pub fn under(self, label: &Label, limits: Limits) -> Result<Plan, PlanFault>
         ensures planned { IfOk result (λ plan. plan ≡ record self { label = label.now }) }
         ensures allowed { IsOk result → excess label.now limits self.versions self.withdrawn
@@ -58,7 +58,7 @@ fn moved_offset(offset: u32, from: u32, to: u32) -> u32
     ensures { result ≡ moved_offset from to offset }
 {
     match offset.checked_sub(from) {
-        Some(behind) => behind + to,
+        Some(distance) => distance + to,
         None => 0,
     }
 }

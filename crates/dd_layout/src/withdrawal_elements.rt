@@ -1,4 +1,4 @@
-//! The elements that name the withdrawn instances, behind the records of a directory.
+//! The elements that name the withdrawn instances, after the records of a directory.
 
 ghost use Rattle.std.specs.Prelude.{◌≡◌, ◌+◌, ◌*◌, ◌≤◌, length, sum_by};
 ghost use Rattle.std.specs.List.{AllByRecursion};
@@ -53,7 +53,7 @@ pub fn withdrawn_length(withdrawn: &[Uid]) -> u128
     length - length % 2
 }
 
-/// How many bytes these UIDs have, each with one byte behind it, so at most 65 for each.
+/// How many bytes these UIDs have, each with one byte after it, so at most 65 for each.
 fn closed_length(mut withdrawn: &[Uid]) -> u128
     ensures exact { result ≡ sum_by (λ uid. length uid + 1) withdrawn.entry.now }
     ensures few { result ≤ 65 * length withdrawn.entry.now }

@@ -74,7 +74,7 @@ pub fn failing(text: &str) -> Result<Option<u64>, Fail> {
     }
 }
 
-/// Puts what a device holds behind the text, with `|` at the end of each line.
+/// Puts what a device holds after the text, with `|` at the end of each line.
 pub fn push_lines(text: &mut String, bytes: &[u8]) -> Result<(), AllocError> {
     for byte in bytes {
         text.push(match byte {

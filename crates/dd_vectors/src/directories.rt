@@ -123,7 +123,7 @@ const OTHER_TOOL: &str = "\
 898 feff0de0 00000000
 906 feffdde0 00000000";
 
-/// The elements of a record before the offset of the first one below, and behind it.
+/// The elements of a record before the offset of the first one below, and after it.
 const RECORD: &str =
     "feff00e0 2c000000 04000014 554c 0400 00000000 04001014 5553 0200 ffff 04002014 554c 0400";
 
@@ -144,7 +144,7 @@ pub fn v3(alloc: Global) -> Result<Vec<u8>, Fail> {
     directory(alloc, OTHER_TOOL)
 }
 
-/// The directory with these rows behind those of each, or an error where a row is not in its place.
+/// The directory with these rows after those of each, or an error where a row is not in its place.
 fn directory(alloc: Global, rows: &str) -> Result<Vec<u8>, Fail> {
     let mut bytes = Vec::new(alloc);
     bytes.extend_from_slice(&[0; 128])?;
@@ -165,7 +165,7 @@ fn push_rows(alloc: Global, bytes: &mut Vec<u8>, rows: &str) -> Result<(), Fail>
     Ok(())
 }
 
-/// A directory of so many records, each below the one before.
+/// A directory of this many records, each below the one before.
 pub fn deep(alloc: Global, count: u32) -> Result<Vec<u8>, Fail> {
     let mut bytes = v2(alloc)?;
     for root in [282, 294] {

@@ -22,7 +22,7 @@ const FRONT: &str = "\
 344 0008,0030 TM '101500
 358 0008,0060 CS 'CT";
 
-/// Those behind.
+/// Its elements after those of group 0008.
 const BACK: &str = "\
 368 0010,0010 PN 'DOE^JOHN
 384 0010,0020 LO 'P1
@@ -81,7 +81,7 @@ pub fn v1_implicit(alloc: Global) -> Result<Vec<u8>, Fail> {
     Ok(bytes)
 }
 
-/// V1 in JPEG 2000, and behind it pixel data in fragments: 496 bytes.
+/// V1 in JPEG 2000, and after it pixel data in fragments: 496 bytes.
 pub fn v1_encapsulated(alloc: Global) -> Result<Vec<u8>, Fail> {
     let mut bytes = v1_with(alloc, ENCAPSULATED)?;
     push_bytes(alloc, &mut bytes, FRAGMENTS)?;
@@ -96,7 +96,7 @@ fn preamble(alloc: Global) -> Result<Vec<u8>, Fail> {
     Ok(bytes)
 }
 
-/// Puts the elements of these rows, or of the changes that have their tags, behind the bytes.
+/// Puts the elements of these rows, or of the changes that have their tags, after the bytes.
 fn push_rows(
     alloc: Global,
     bytes: &mut Vec<u8>,
@@ -139,7 +139,7 @@ pub(crate) fn element<'a>(tag: &str, changes: &'a str) -> Result<&'a str, Fail> 
     Err("V1 has no element with this tag".into())
 }
 
-/// Puts an element with this tag, value representation and value behind the bytes.
+/// Puts an element with this tag, value representation and value after the bytes.
 fn push_element(
     alloc: Global,
     bytes: &mut Vec<u8>,
@@ -155,7 +155,7 @@ fn push_element(
     Ok(())
 }
 
-/// Puts what stands between the tag and the value of an element behind the bytes.
+/// Puts what stands between the tag and the value of an element after the bytes.
 fn push_length(bytes: &mut Vec<u8>, headers: Headers, vr: &str, length: u32) -> Result<(), Fail> {
     if headers == Headers::Explicit {
         bytes.extend_from_slice(vr.as_bytes())?;

@@ -12,7 +12,7 @@ pub fn bytes_of(alloc: Global, text: &str) -> Result<Vec<u8>, Fail> {
     Ok(bytes)
 }
 
-/// Puts the bytes that the words name behind these bytes.
+/// Puts the bytes that the words name after these bytes.
 pub fn push_bytes(alloc: Global, bytes: &mut Vec<u8>, text: &str) -> Result<(), Fail> {
     for word in text.split([' ', '\n']) {
         match word.strip_prefix('\'') {

@@ -32,7 +32,7 @@ requested_empty r None h has = absurd h
 requested_empty r (Some (command, given)) h has = contains_empty (paths_of r)
     (subst (λ (paths : List Text). Contains paths []) (sym (says_parts r command given h).paths) has)
 
--- a path that is empty is the first, or one behind it
+-- a path that is empty is the first, or one after it
 empty_behind : (first : String Global) (paths : List (String Global)) (at : ℕ) → IsEmptyAt (first ∷ paths) at
     → (string_bytes first ≡ []) ⊎ ((behind : ℕ) × IsEmptyAt paths behind)
 empty_behind first paths zero is = inl (is.empty first)

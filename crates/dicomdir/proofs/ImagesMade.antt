@@ -15,7 +15,7 @@ use Rattle.dicomdir.specs.Made.{Copies, CopiesTo, MakesImages, MakesRow, MakesRo
 abbrev pub named : List PlanRecord → List PlanRecord
 named rows = filter (λ row. is_some row.file) rows
 
--- one more image was made behind others
+-- one more image was made after others
 rows_then : {P : Type 0} (From : P → List ℕ → Type 0) (folder : List ℕ) (versions : List Parts)
     (rows : List (PlanRecord × P)) (row : PlanRecord) (pick : P) (a b c : Option Held)
     → MakesRows From folder versions rows a b → MakesRow (From pick) folder versions row b c

@@ -47,7 +47,7 @@ no_zero_before list n before within = λ k d below.
     subst (λ (byte : ℕ). (byte == 0) ≡ false) (sym (get_or-take n list k d inside))
     (fails_before_first (λ byte. byte == 0) list k d (omega (arith, inside, before)))
 
--- there is a zero byte, and behind it the other parts
+-- there is a zero byte, and after it the other parts
 pub some_behind : (list : List ℕ) (at : ℕ) → Some at ≡ position (λ byte. byte == 0) list
     → parts list ≡ take at list ∷ parts (take (length list - (at + 1)) (drop (at + 1) list))
 some_behind list at is =
@@ -129,7 +129,7 @@ fails_next list names part rest behind is so_far bad =
 
 -- ---- how the parts make the list
 
--- the parts, each with a zero byte behind it, are the list, which may lack the last one
+-- the parts, each with a zero byte after it, are the list, which may lack the last one
 abbrev Makes : List (List ℕ) → List ℕ → Type 0
 Makes names list = (flat_map (λ part. part ++ 0 ∷ []) names ≡ list)
     ⊎ (flat_map (λ part. part ++ 0 ∷ []) names ≡ list ++ 0 ∷ [])

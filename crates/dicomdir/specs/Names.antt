@@ -20,7 +20,7 @@ HasBadOwnUid r = (uid : Text) × (uid_of r ≡ Some uid) × ¬ IsUid uid
 abbrev pub HasBadLabel : Request → Type 0
 HasBadLabel r = HasBadId r ⊎ HasBadOwnUid r
 
--- the label that these texts ask for: the ID is empty where there is none
+-- the label that these texts ask for: the ID is empty where there is no text of it
 abbrev pub choice_by : Option Text → Option Text → Choice
 choice_by id uid = record { id = unwrap_or id []; uid = uid }
 

@@ -63,7 +63,7 @@ fn choice_of(request: &Request) -> Result<Choice, ProgramFault>
     }
 }
 
-/// Reads the ID of the file-set that a request asks for. It is empty where there is none.
+/// Reads the ID of the file-set that a request asks for. It is empty where the request has no ID.
 fn set_id_of(request: &Request) -> Result<SetId, ProgramFault>
     ensures bad { IsErr result → HasBadId request.now }
     ensures good { IsOk result → ¬ HasBadId request.now }

@@ -1,4 +1,4 @@
-//! Each allocation of each call refused in turn: the call wants memory, nothing has changed, and made again it answers.
+//! Each allocation of each call refused in turn: the call lacks memory, nothing has changed, and made again it answers.
 
 use crate::joining::{batches, catalogues};
 use crate::studies::studies;

@@ -35,7 +35,7 @@ fn the_least_instances_that_conflict(rt: HostRuntime) -> Result<(), Fail> {
     ask_all(rt.alloc(), CONFLICTS, conflict)
 }
 
-/// Puts the instance, and the time and the description of its study, behind the text.
+/// Puts the instance, and the time and the description of its study, after the text.
 fn push_study(alloc: Global, text: &mut String, parts: &Parts) -> Result<(), Fail> {
     if !text.is_empty() {
         text.push_str(", ")?;

@@ -41,7 +41,7 @@ fn take(alloc: Global, catalogue: &mut Catalogue, version: Version) -> Result<St
     }
 }
 
-/// Puts what the catalogue holds behind the text.
+/// Puts what the catalogue holds after the text.
 fn push_held(alloc: Global, text: &mut String, catalogue: &Catalogue) -> Result<(), Fail> {
     text.push_str("holds")?;
     for (place, version) in catalogue.versions().iter().enumerate() {

@@ -1,4 +1,4 @@
-//! Each allocation of each call refused in turn: the call wants memory, nothing has changed, and made again it answers.
+//! Each allocation of each call refused in turn: the call lacks memory, nothing has changed, and made again it answers.
 
 use crate::own::{files, images, instances};
 use crate::publishing::{history, label_of, limits_of, published};
@@ -119,7 +119,7 @@ fn allocations_of_derived_uid(rt: HostRuntime) -> Result<(), Fail> {
 }
 
 /// Writes the directory of V1, of 876 bytes, to a writer without room. An allocation that is refused is a write that
-/// fails: the writer holds a front of the directory then, and what is written again comes behind it.
+/// fails: the writer holds a front of the directory then, and what is written again comes after it.
 fn write_directory_refused(alloc: Global, chosen: u32) -> Result<bool, Fail> {
     let (plan, bytes) = (first_plan(alloc)?, first_directory(alloc)?);
     let mut sink = Sink::new(alloc, None);

@@ -78,7 +78,7 @@ v3 674 ffff > 61 NoDigest 646
 one 348 0000 > 62 ForeignRecord 320
 one 402 2020 > 63 RecordKey 320 (0010,0020)";
 
-/// Puts the withdrawn instances behind the text, with `-` before each.
+/// Puts the withdrawn instances after the text, with `-` before each.
 fn push_withdrawn(text: &mut String, withdrawn: &[Uid]) -> Result<(), AllocError> {
     for uid in withdrawn {
         write!(text, " -{uid}")?;

@@ -34,7 +34,7 @@ AC 532 > 84: 0 624
 AC 624 > 246: 878 0
 AC 878 > 246: 0 0";
 
-/// The most bytes of the directory of an image, and how many it has or why there is none.
+/// The most bytes of the directory of an image, and how many it has or why there is no directory.
 const LIMITS: &str = "\
 876 > 876
 875 > 43 TooLarge
@@ -51,7 +51,7 @@ pub(crate) fn label_of(id: &str) -> Result<Label, Fail> {
     })
 }
 
-/// The limits of so many bytes, or the widest.
+/// The limits of this many bytes, or the widest.
 pub(crate) fn limits_of(bytes: &str) -> Result<Limits, Fail> {
     let bytes = if bytes.is_empty() {
         u32::MAX
@@ -61,7 +61,7 @@ pub(crate) fn limits_of(bytes: &str) -> Result<Limits, Fail> {
     Ok(Limits::new(bytes, FileId::MAX_RANK).ok_or("no limits")?)
 }
 
-/// The directory of the images with these letters and of the instances that are withdrawn, each behind a `/`, under
+/// The directory of the images with these letters and of the instances that are withdrawn, each after a `/`, under
 /// this File-set ID.
 pub(crate) fn named(alloc: Global, id: &str, letters: &str) -> Result<Vec<u8>, Fail> {
     let catalogue = catalogue_of(alloc, letters)?;

@@ -71,7 +71,7 @@ pub(crate) fn changed(alloc: Global, question: &str) -> Result<Vec<u8>, Fail> {
     Ok(bytes)
 }
 
-/// Puts a record behind the text, with those below it in its brackets.
+/// Puts a record after the text, with those below it in its brackets.
 fn push_record(text: &mut String, tree: &Tree<'_>) -> Result<(), Fail> {
     let (at, kind) = (tree.at, str::from_utf8(tree.kind)?);
     let flag = if tree.in_use { "" } else { " inactive" };
@@ -83,7 +83,7 @@ fn push_record(text: &mut String, tree: &Tree<'_>) -> Result<(), Fail> {
     Ok(())
 }
 
-/// The File-set ID and the records of a walk, a space behind each that is there.
+/// The File-set ID and the records of a walk, a space after each that is there.
 fn records(alloc: Global, forest: &Forest<'_>) -> Result<String, Fail> {
     let mut text = String::from_str(alloc, str::from_utf8(forest.id)?)?;
     if !forest.id.is_empty() {

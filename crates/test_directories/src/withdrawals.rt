@@ -10,7 +10,7 @@ use dd_vectors::{ask_all, bytes_of, catalogue_of, claim_all, images};
 use std::alloc::Global;
 use std::test::Fail;
 
-/// The images of a catalogue and the instances that are withdrawn, each behind a `/`, and what stands behind the
+/// The images of a catalogue and the instances that are withdrawn, each after a `/`, and what stands after the
 /// directory of the images then.
 const ENDS: &str = "\
 1/1.2.3.4.6 > 09001000 4c4f 0c00 'DD_FILESET_1 09000210 5543 0000 0a000000 '1.2.3.4.6_
@@ -33,7 +33,7 @@ const SENT: &str = "\
 0 917 > 12 Write there
 918 925 > 918 bytes";
 
-/// Does the directory end so, behind the directory of the images?
+/// Does the directory end so, after the directory of the images?
 fn ends_so(alloc: Global, case: &str) -> Result<bool, Fail> {
     let (words, end) = case.split_once(" > ").ok_or("no end")?;
     let (letters, _) = words.split_once('/').ok_or("no instances")?;

@@ -1,4 +1,4 @@
-//! Each allocation of each call refused in turn: the call wants memory, nothing has changed, and made again it answers.
+//! Each allocation of each call refused in turn: the call lacks memory, nothing has changed, and made again it answers.
 
 use crate::vectors::{file_named, meta_of, v1_with_private};
 use crate::{reading, streaming};
@@ -134,7 +134,7 @@ fn allocations_of_read_file_with_a_long_group(rt: HostRuntime) -> Result<(), Fai
 }
 
 /// Writes the head of V1, of 276 bytes, to a writer without room. An allocation that is refused is a write that
-/// fails: the writer holds a front of the head then, and what is written again comes behind it.
+/// fails: the writer holds a front of the head then, and what is written again comes after it.
 fn write_head_refused(alloc: Global, chosen: u32) -> Result<bool, Fail> {
     let bytes = file_named(alloc, "v1")?;
     let meta = meta_of(alloc, &bytes)?;

@@ -18,7 +18,7 @@ v2 > 320 266 1.2.840.10008.1.3.10 2.25.0 1.2.840.10008.1.2.1 5";
 
 /// Transfer syntaxes, and how they are read: the two that are not compressed; RLE, three of JPEG, two of JPEG-LS
 /// and two of JPEG 2000. The rest is not read: big endian, deflated, two more of JPEG and one of JPEG 2000, MPEG2,
-/// a part of a UID and a UID with more behind it.
+/// a part of a UID and a UID with more after it.
 const SYNTAXES: &str = "\
 1.2.840.10008.1.2.1 > Some(Explicit)
 1.2.840.10008.1.2 > Some(Implicit)

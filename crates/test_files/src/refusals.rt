@@ -7,8 +7,8 @@ use dd_vectors::{ByteSource, ask_all, v1, v1_with};
 use std::alloc::Global;
 use std::test::Fail;
 
-/// V1 cut to so many bytes: within the preamble and the prefix, within the group length, within group
-/// 0002, behind it and within the last value.
+/// V1 cut to this many bytes: within the preamble and the prefix, within the group length, within group
+/// 0002, after it and within the last value.
 const CUT: &str = "\
 0 > 21 NotPart10
 131 > 21 NotPart10
@@ -20,7 +20,7 @@ const CUT: &str = "\
 453 > 27 Set 1 Truncated
 454 > taken";
 
-/// V1 with private information in group 0002, cut to so many bytes: the length of the group, and how many bytes
+/// V1 with private information in group 0002, cut to this many bytes: the length of the group, and how many bytes
 /// that information has. The group ends at byte 1,168, and at byte 1,170.
 const CUT_LONG: &str = "\
 1167 1024 862 > 22 GroupLength
@@ -28,7 +28,7 @@ const CUT_LONG: &str = "\
 1169 1026 864 > 22 GroupLength
 1170 1026 864 > taken";
 
-/// Where V1 can be cut: behind its group 0002, and behind each element of its data set.
+/// Where V1 can be cut: after its group 0002, and after each element of its data set.
 const ENDS: &str = "276 310 328 344 358 368 384 394 408 424 434 444 454";
 
 /// V1 with other bytes from a place on: in the preamble, in the prefix, in the header of the group length

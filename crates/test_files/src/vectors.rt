@@ -27,7 +27,7 @@ pub(crate) fn v1_changed(alloc: Global, place: &str, change: &str) -> Result<Vec
     Ok(bytes)
 }
 
-/// V1 with private information behind the other elements of group 0002: its creator (0002,0100), and bytes
+/// V1 with private information after the other elements of group 0002: its creator (0002,0100), and bytes
 /// (0002,0102). The words are the length of the group, and how many these bytes are.
 pub(crate) fn v1_with_private(alloc: Global, lengths: &str) -> Result<Vec<u8>, Fail> {
     let (group, private) = lengths.split_once(' ').ok_or("no private information")?;

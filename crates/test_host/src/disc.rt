@@ -189,7 +189,7 @@ impl Disc {
         self.add(place, b"xyz")
     }
 
-    /// Puts the bytes behind those at a place.
+    /// Puts the bytes after those at a place.
     pub(crate) fn add(&mut self, place: usize, bytes: &[u8]) -> io::Result<()> {
         match self.entries.get_mut(place) {
             Some(entry) => entry.bytes.extend_from_slice(bytes)?,

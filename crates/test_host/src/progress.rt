@@ -7,7 +7,7 @@ use std::alloc::Global;
 use std::cell::RefCell;
 use std::test::Fail;
 
-// Each line has calls, and behind ` >` what they wrote to the terminal: `<` goes back to the start of the line, and
+// Each line has calls, and after ` >` what they wrote to the terminal: `<` goes back to the start of the line, and
 // `^[K` erases it from there on. `pass N` lets N milliseconds pass. After `slow N` the disc takes N milliseconds to
 // store a file.
 const CASES: &str = "\

@@ -1,4 +1,4 @@
-//! Each allocation of a layout refused in turn: it wants memory, nothing has changed, and made again it answers.
+//! Each allocation of a layout refused in turn: it lacks memory, nothing has changed, and made again it answers.
 
 use crate::plans::{label_of, plan};
 use crate::records::{PLANS, lines};

@@ -26,7 +26,7 @@ const LABELS: &str = "\
 326 0  /DISC1 > 326
 325 0  /DISC1 > 43 TooLarge";
 
-/// The size of the plan under the other label, or why there is none.
+/// The size of the plan under the other label, or why there is no plan.
 fn size_under(alloc: Global, question: &str) -> Result<String, Fail> {
     let mut words = question.split(' ');
     let bytes = words.next().ok_or("no bytes")?.parse()?;

@@ -38,7 +38,7 @@ Study > 42 TooMany Study
 Series > 42 TooMany Series
 Image > 42 TooMany Image";
 
-/// The size of the plan, or why there is none.
+/// The size of the plan, or why there is no plan.
 fn size(
     alloc: Global,
     limits: Limits,

@@ -60,7 +60,7 @@ pqr > 1.2.10 101500 ', 1.2.11 101500 ', 1.2.9 101500 '
 AC > 1.2.3.4.5 101500 'B, 1.2.3.4.6 101500 'B
 ZL > 1.2.3.4.5 101600 'A, 1.2.3.4.6 101600 'A";
 
-/// Puts the ranks in a File ID behind the text, or `-`.
+/// Puts the ranks in a File ID after the text, or `-`.
 fn push_ranks(alloc: Global, text: &mut String, record: &PlanRecord) -> Result<(), Fail> {
     let Some(file) = record.file else {
         text.push('-')?;
@@ -79,7 +79,7 @@ fn push_ranks(alloc: Global, text: &mut String, record: &PlanRecord) -> Result<(
     Ok(())
 }
 
-/// Puts a record behind the text, as a line.
+/// Puts a record after the text, as a line.
 fn push_record(alloc: Global, text: &mut String, record: &PlanRecord) -> Result<(), Fail> {
     let PlanRecord {
         level,
@@ -125,7 +125,7 @@ fn nothing_has_no_records(rt: HostRuntime) -> Result<(), Fail> {
     Ok(())
 }
 
-/// Puts the instance, and the time and the description of its study, behind the text.
+/// Puts the instance, and the time and the description of its study, after the text.
 fn push_version(alloc: Global, text: &mut String, version: &Version) -> Result<(), Fail> {
     let parts = version.parts();
     let comma = if text.is_empty() { "" } else { ", " };

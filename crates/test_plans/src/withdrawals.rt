@@ -7,7 +7,7 @@ use dd_vectors::{ask_all, catalogue_of};
 use std::alloc::Global;
 use std::test::Fail;
 
-/// The most bytes of a directory, the images of the catalogue and the instances that are withdrawn, each behind
+/// The most bytes of a directory, the images of the catalogue and the instances that are withdrawn, each after
 /// a `/`; and how many bytes the directory has, or why there is no plan.
 const SIZES: &str = "\
 4294967295 1 > 876

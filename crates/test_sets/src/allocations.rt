@@ -1,4 +1,4 @@
-//! Each allocation of each call refused in turn: the call wants memory, nothing has changed, and made again it answers.
+//! Each allocation of each call refused in turn: the call lacks memory, nothing has changed, and made again it answers.
 
 use crate::outlines::outline;
 use crate::scanning::in_words;
@@ -64,7 +64,7 @@ const FRAGMENTS: &str = "\
 encapsulated e07f1000 4f42 0000 ffffffff feff00e0 00000000 feff00e0 04000000 ff4fff51 feffdde0 00000000 > \
 (7FE0,0010) OB Fragments [] [ff4fff51]";
 
-/// A Patient ID, and what a scan tells of it.
+/// A Patient ID, and what a scan says of it.
 const SCANNED: &str = "explicit 10002000 4c4f 0200 5031 > (0010,0020); (0010,0020) 'P1 2";
 
 /// The same of one before pixel data in fragments.
@@ -129,7 +129,7 @@ fn allocations_of_parse_of_nested_items(rt: HostRuntime) -> Result<(), Fail> {
     refuse_each(rt.alloc(), Call::ParseNested)
 }
 
-/// Asks where two items start, behind another element.
+/// Asks where two items start, after another element.
 fn item_starts_refused(alloc: Global, chosen: u32) -> Result<bool, Fail> {
     let line = "explicit 08006000 4353 0200 4354 08004011 5351 0000 1a000000 feff00e0 00000000 \
                 feff00e0 0a000000 10002000 4c4f 0200 5031";
@@ -226,7 +226,7 @@ fn allocations_of_take_set(rt: HostRuntime) -> Result<(), Fail> {
 }
 
 /// Writes a set where the writer has no room. An allocation that is refused is a write that fails: the writer holds a
-/// front of the set then, and what is written again comes behind it.
+/// front of the set then, and what is written again comes after it.
 fn write_set_refused(alloc: Global, chosen: u32) -> Result<bool, Fail> {
     let (syntax, bytes) = spelled(alloc, question(ITEMS))?;
     let set = set_of(alloc, syntax, &bytes)?;
@@ -250,7 +250,7 @@ fn allocations_of_write_set(rt: HostRuntime) -> Result<(), Fail> {
     refuse_each(rt.alloc(), Call::WriteSet)
 }
 
-/// Sends a piece behind 100 bytes, to a writer without room. Where its allocation is refused it holds nothing.
+/// Sends a piece after 100 bytes, to a writer without room. Where its allocation is refused it holds nothing.
 fn send_refused(alloc: Global, chosen: u32) -> Result<bool, Fail> {
     let mut sink = Sink::new(alloc, None);
     refuse_allocation(alloc, chosen)?;

@@ -23,7 +23,7 @@ pub(crate) fn outline(alloc: Global, set: &DataSet<'_>) -> Result<String, Fail> 
     Ok(text)
 }
 
-/// The tag and the value representation of an element, behind others where there are some.
+/// The tag and the value representation of an element, after others where there are some.
 fn push_head(alloc: Global, text: &mut String, element: &Element<'_>) -> Result<(), Fail> {
     if !text.is_empty() && !text.as_str().ends_with('[') {
         text.push_str("; ")?;

@@ -10,7 +10,7 @@ use std::test::Fail;
 
 /// Data sets, and what they hold: one element in both syntaxes, none, a sequence of both forms of length,
 /// one of unknown value representation, whose items are in Implicit VR, one in Implicit VR, and two items
-/// behind another element.
+/// after another element.
 const SETS: &str = "\
 explicit 10002000 4c4f 0200 5031 > (0010,0020) LO 'P1
 implicit 10002000 02000000 5031 > (0010,0020) - 'P1
@@ -150,7 +150,7 @@ fn has_no_items(alloc: Global, syntax: Syntax, line: &str, tag: Tag) -> Result<b
     Ok(set.item_starts(alloc, syntax, tag)?.is_none())
 }
 
-/// Bytes hold no items, an absent element holds none, and nothing starts in a spelling that is none.
+/// Bytes hold no items, an absent element holds none, and nothing starts in bytes that are no spelling.
 #[test]
 fn where_no_items_start(rt: HostRuntime) -> Result<(), Fail> {
     let one = "explicit 10002000 4c4f 0200 5031";

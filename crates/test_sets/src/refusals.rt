@@ -37,7 +37,7 @@ explicit 08004011 5351 0000 12000000 feff00e0 0a000000 10002000 4c4f 0400 5031 >
 
 /// Pixel data in fragments. First a length that is odd, undefined or past the end of the bytes, other tags than that
 /// of an item, and the end of a list with a length. Then an item that ends before the mark or within a fragment, and
-/// an odd length where it ends. Last elements behind the pixel data that are out of order.
+/// an odd length where it ends. Last elements after the pixel data that are out of order.
 const FRAGMENTS: &str = "\
 encapsulated e07f1000 4f42 0000 ffffffff feff00e0 00000000 feff00e0 03000000 ff4fff51 feffdde0 00000000 > 5 OddLength
 encapsulated e07f1000 4f42 0000 ffffffff feff00e0 00000000 feff00e0 ffffffff ff4fff51 feffdde0 00000000 > \

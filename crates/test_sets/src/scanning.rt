@@ -40,8 +40,8 @@ const FAULTY: &str = "\
 /// Where the elements of the data set of V1 end.
 const ENDS: &str = "0 34 52 68 82 92 108 118 132 148 158 168 178";
 
-/// A Patient ID of so many bytes `A`, behind them so many spaces and so many `B`, and what is told of it: how
-/// many bytes are kept and end in which one, and how many there are without the padding.
+/// The numbers of `A`, of spaces and of `B` in a Patient ID, in this order, and what a scan says of it: how many
+/// bytes are kept and end in which one, and how many there are without the padding.
 const LONG: &str = "\
 1024 4 2 > 1024 A 1030
 1023 1 2 > 1024 _ 1026
@@ -72,7 +72,7 @@ explicit 10002000 4c4f 0200 50 > 1 Truncated
 explicit 08004011 5351 0000 ffffffff feffdde0 02000000 > 8 BadDelimiter
 explicit 08004011 5351 0000 08000000 feff00e0 02000000 > 9 Overrun";
 
-/// The same of pixel data in fragments: two, none at all, two before another element, and one behind one. Then two
+/// The same of pixel data in fragments: two, none at all, two before another element, and one after one. Then two
 /// in an item, where they are not found; pixel data that is bytes; and a fragment of odd length.
 const FRAGMENTS: &str = "\
 encapsulated e07f1000 4f42 0000 ffffffff feff00e0 00000000 feff00e0 04000000 ff4fff51 feffdde0 00000000 > \
@@ -88,7 +88,7 @@ feff00e0 00000000 feff00e0 04000000 ff4fff51 feffdde0 00000000 feff0de0 00000000
 encapsulated e07f1000 4f42 0000 02000000 5031 > (7FE0,0010); (7FE0,0010) 'P1 2
 encapsulated e07f1000 4f42 0000 ffffffff feff00e0 03000000 > 5 OddLength";
 
-/// What a scan tells: the first tag, and of each element that it found the tag, the front of the value
+/// What a scan says: the first tag, and of each element that it found the tag, the front of the value
 /// and the length; or its fault.
 pub(crate) fn in_words(alloc: Global, answer: Result<Scan, ScanFault>) -> Result<String, Fail> {
     let scan = match answer {
@@ -132,7 +132,7 @@ fn scans_of_one_set(rt: HostRuntime) -> Result<(), Fail> {
     ask_all(rt.alloc(), SCANS, scanned_v1)
 }
 
-/// Scans where a read gives at most so many bytes.
+/// Scans where a read gives at most this many bytes.
 fn scanned_set(alloc: Global, piece: u64, question: &str) -> Result<String, Fail> {
     let (syntax, bytes) = spelled(alloc, question)?;
     let mut reader = ByteSource::new(&bytes, piece, None);
@@ -206,7 +206,7 @@ fn a_set_cut_anywhere(rt: HostRuntime) -> Result<(), Fail> {
     Ok(())
 }
 
-/// A set of one Patient ID of so many bytes `A`, spaces and `B`.
+/// A set of one Patient ID with this many bytes `A`, spaces and `B`.
 fn padded_within(alloc: Global, line: &str) -> Result<Vec<u8>, Fail> {
     let mut value = Vec::new(alloc);
     for (word, byte) in line.split(' ').zip(b"A B") {
@@ -220,7 +220,7 @@ fn padded_within(alloc: Global, line: &str) -> Result<Vec<u8>, Fail> {
     Ok(set)
 }
 
-/// What is told of the only element of a set: how many bytes are kept, the last of them, and how many there
+/// What a scan says of the only element of a set: how many bytes are kept, the last of them, and how many there
 /// are without the padding.
 fn lengths(alloc: Global, set: &[u8]) -> Result<String, Fail> {
     let mut reader = ByteSource::new(set, 100, None);

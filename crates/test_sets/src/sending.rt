@@ -83,7 +83,7 @@ const HEADERS: &str = "\
 0008,0060 CS 65535 0 > 8 [080060004353ffff]
 0008,0060 CS 65536 0 > 13 NotWritable []";
 
-/// After how many bytes a writer fails that gets a piece of 10 bytes behind 100 others.
+/// After how many bytes a writer fails that gets a piece of 10 bytes after 100 others.
 const PIECES: &str = "\
 4 > 12 Write 104 [10002000]
 10 > 110 [100020004c4f02005031]";

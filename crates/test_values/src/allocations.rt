@@ -1,4 +1,4 @@
-//! Each allocation of each call refused in turn: the call wants memory, nothing has changed, and made again it answers.
+//! Each allocation of each call refused in turn: the call lacks memory, nothing has changed, and made again it answers.
 //! The keys and the writer are those of the tables of keys and of writers.
 
 use dd_elem::{Key, KeyRefused, Write};

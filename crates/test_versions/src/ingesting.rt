@@ -47,7 +47,7 @@ const READ: &str = "\
 32 NotImage 1.2.840.10008.5.1.4.1.1.88.11
 7 450 500 0002,0000 UL 88000000; 0002,0002 UI '1.2.840.10008.5.1.4.1.1.88.11~ > 38 Read";
 
-/// V1 and behind it (7FE0,0010) with 1,000,000 bytes of zero: how many bytes come in one read, the limit, and
+/// V1 and after it (7FE0,0010) with 1,000,000 bytes of zero: how many bytes come in one read, the limit, and
 /// the SHA-256 and the keys.
 const LARGE: &str = "\
 1 1000466 > \
@@ -158,7 +158,7 @@ fn a_reader_may_fail_at_every_byte(rt: HostRuntime) -> Result<(), Fail> {
     ask_all(rt.alloc(), UNREAD, unread)
 }
 
-/// V1 with the large element behind it: 1,000,466 bytes.
+/// V1 with the large element after it: 1,000,466 bytes.
 fn large_file(alloc: Global) -> Result<Vec<u8>, Fail> {
     let mut bytes = v1(alloc)?;
     push_bytes(alloc, &mut bytes, "e07f1000 4f57 0000 40420f00")?;

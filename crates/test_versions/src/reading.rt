@@ -5,7 +5,7 @@ use dd_vectors::{ask_all, text_of, v1, v1_encapsulated, v1_implicit, v1_with};
 use std::alloc::Global;
 use std::test::Fail;
 
-/// V1, V1 in Implicit VR, where the Study Instance UID within the sequence is none of the keys, V1 with pixel
+/// V1, V1 in Implicit VR, where the Study Instance UID within the sequence is no key, V1 with pixel
 /// data in fragments, and the SHA-256 of each.
 const DIGESTS: &str = "\
 v1 > 900e75e1c153f87b21e09f9db68aef627f2dd320eb3afb1f2574594e6c862a92
@@ -81,7 +81,7 @@ fn last_keys(parts: &Parts) -> [&[u8]; 7] {
     ]
 }
 
-/// Puts a word for each key behind the text.
+/// Puts a word for each key after the text.
 fn push_keys(alloc: Global, text: &mut String, keys: &[&[u8]]) -> Result<(), Fail> {
     for key in keys {
         if !text.is_empty() {

@@ -1,4 +1,4 @@
-//! Each allocation of a merge refused in turn: it wants memory, nothing has changed, and made again it answers.
+//! Each allocation of a merge refused in turn: it lacks memory, nothing has changed, and made again it answers.
 
 use crate::merges::directories::{directories, label, slices, widest};
 use crate::merges::picks::in_words;

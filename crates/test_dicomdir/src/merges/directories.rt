@@ -21,7 +21,7 @@ pub(crate) fn label() -> Result<Label, Fail> {
 }
 
 /// The directory with this name: `first`, `empty`, `v3`, or the letters of images with the instances that are
-/// withdrawn, each behind a `/`.
+/// withdrawn, each after a `/`.
 fn named(alloc: Global, name: &str) -> Result<Vec<u8>, Fail> {
     match name {
         "first" => first_directory(alloc),

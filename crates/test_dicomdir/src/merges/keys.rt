@@ -31,7 +31,7 @@ BD /1.2.3.4.5 > 170 'B 1.2.3.4.6
 /1.2.3.4.5 BD > 170 'B 1.2.3.4.6
 BD/1.2.3.4.5 1 > 170 'A 1.2.3.4.6";
 
-/// The versions of a plan, each told.
+/// The versions of a plan, each in words.
 fn all_told(alloc: Global, versions: &[Version]) -> Result<String, Fail> {
     let mut text = String::new(alloc);
     for version in versions {

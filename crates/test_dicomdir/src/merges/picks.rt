@@ -1,4 +1,4 @@
-//! Which files a merge picks, and why there is none.
+//! Which files a merge picks, and why it is refused.
 
 use crate::merges::directories::{directories, label, slices, widest};
 use dd_layout::{Label, Limits};
@@ -8,7 +8,7 @@ use std::alloc::Global;
 use std::test::Fail;
 
 /// The most bytes of a directory, the most records below one parent, and the directories; and the size of the
-/// directory of all, and for each image the number of its set and its File ID there, or why there is none.
+/// directory of all, and for each image the number of its set and its File ID there, or why there is no directory.
 const PICKS: &str = "\
 876 1 first first > 876 0 PT000001\\ST000001\\SE000001\\IM000001
 876 1 empty first first > 876 1 PT000001\\ST000001\\SE000001\\IM000001
@@ -83,7 +83,7 @@ fn files_are_picked_or_sets_refused(rt: HostRuntime) -> Result<(), Fail> {
     ask_all(rt.alloc(), PICKS, picked)
 }
 
-/// Directories that are merged, and behind the bar others, which are searched for the first record that says of the
+/// Directories that are merged, and after the bar others, which are searched for the first record that says of the
 /// first instance what the merge plans. The answer is the number of its set and its File ID there, `none`, or the
 /// fault of a directory.
 const FIRSTS: &str = "\
@@ -94,7 +94,7 @@ first | first,386,'ROE^JANE > 0 PT000001\\ST000001\\SE000001\\IM000001
 first | empty first,834,00 first,874,'2 first,754,'4 > none
 first | 12 first,336,40010000 > Dir 1: 55 Twice 320";
 
-/// Answers what the search finds in the directories behind the bar.
+/// Answers what the search finds in the directories after the bar.
 fn first(alloc: Global, question: &str) -> Result<String, Fail> {
     let (merged, sought) = question.split_once(" | ").ok_or("no others")?;
     let sets = directories(alloc, merged)?;

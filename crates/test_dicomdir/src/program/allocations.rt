@@ -1,4 +1,4 @@
-//! Each allocation of each call refused in turn: the call wants memory, nothing has changed, and made again it answers.
+//! Each allocation of each call refused in turn: the call lacks memory, nothing has changed, and made again it answers.
 
 use crate::program::copies::{DIGEST, digest_words};
 use crate::program::engine::index_refused;
@@ -48,7 +48,7 @@ fn refuse_each(alloc: Global, call: Call) -> Result<(), Fail> {
 }
 
 /// Copies V1 to a writer without room. An allocation that is refused is a write that fails: the writer holds a front
-/// of V1 then, and what is copied again comes behind it.
+/// of V1 then, and what is copied again comes after it.
 fn copy_image_refused(alloc: Global, chosen: u32) -> Result<bool, Fail> {
     let image = v1(alloc)?;
     let mut source = ByteSource::new(&image, 100, None);
@@ -98,7 +98,7 @@ dicomdir merge --id DISC1 set b a b --uid 2.25.1 > Merge DISC1 2.25.1 4294967295
 const WITHDRAW: &str = "\
 dicomdir withdraw --id DISC1 set a 1.2 1.3 > Withdraw DISC1 - 4294967295 set a without 1.2 1.3";
 
-/// A line with an option that is none, its status, and whether its text is for the error output.
+/// A line with an unknown option, its status, and whether its text is for the error output.
 const MISTAKE: &str = "dicomdir index --out set image.dcm > 2 true";
 
 /// Fails where the answer is not that of the case.

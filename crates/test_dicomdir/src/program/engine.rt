@@ -21,7 +21,7 @@ const INDEXES: &str = "\
 454 > skip 1: 39 FileTooLong, pick 0, 876 bytes
 453 > skip 0: 39 FileTooLong, skip 1: 39 FileTooLong, 320 bytes";
 
-/// A reader that tells how many of its reads failed.
+/// A reader that says how many of its reads failed.
 #[derive(Drop)]
 struct Reader<'a> {
     bytes: ByteSource<'a>,
@@ -146,7 +146,7 @@ fn sources_are_skipped_or_picked(rt: HostRuntime) -> Result<(), Fail> {
     ask_all(rt.alloc(), INDEXES, indexed)
 }
 
-/// Indexes both with the chosen allocation refused, and answers whether one was. Where it was the index wants memory,
+/// Indexes both with the chosen allocation refused, and answers whether one was. Where it was the index lacks memory,
 /// and made again it answers.
 pub(crate) fn index_refused(alloc: Global, chosen: u32) -> Result<bool, Fail> {
     let (image, other) = (v1(alloc)?, v1_with(alloc, OTHER)?);

@@ -84,8 +84,8 @@ fn images_are_filed_or_refused(rt: HostRuntime) -> Result<(), Fail> {
     ask_all(rt.alloc(), FILINGS, filed)
 }
 
-/// Files V1 by a writer without room. An allocation that is refused is a write that fails, or want of memory once V1
-/// was sent. What is filed again comes behind it.
+/// Files V1 by a writer without room. An allocation that is refused is a write that fails, or lack of memory once V1
+/// was sent. What is filed again comes after it.
 pub(crate) fn filing_refused(alloc: Global, chosen: u32) -> Result<bool, Fail> {
     let directory = first_directory(alloc)?;
     let sets = [directory.as_slice()];

@@ -7,8 +7,8 @@ use dicomdir::{Finding, finding_of};
 use std::alloc::Global;
 use std::test::Fail;
 
-/// The elements of records: a File ID, nothing in its place, and what is none; and V1's digest behind it, another one,
-/// one of another creator, and one that is too short.
+/// The elements of records: a File ID, nothing in its place, and what is no File ID; and V1's digest after it, another
+/// one, one of another creator, and one that is too short.
 const RECORDS: &str = "\
 named 04000015 4353 0400 'IM1_
 blank 04000015 4353 0400 '____

@@ -6,8 +6,8 @@ use std::alloc::Global;
 use std::test::Fail;
 
 /// Lines, and what they ask for: the command, the ID and the UID (`-` where none is given), the most bytes, the
-/// paths, the UIDs of images, if any, behind `without`, the list of names behind `from`, and each flag that is set
-/// behind `with`. Or, where they are refused, the exit status and whether the text is for the error output.
+/// paths, the UIDs of images, if any, after `without`, the list of names after `from`, and each flag that is set
+/// after `with`. Or, where they are refused, the exit status and whether the text is for the error output.
 const LINES: &str = "\
 dicomdir index set image.dcm > Index - - 4294967295 set image.dcm
 dicomdir index --id DISC1 --uid 2.25.1 --max-bytes 1000 set image.dcm > Index DISC1 2.25.1 1000 set image.dcm

@@ -31,7 +31,7 @@ fn lines_are_printed_as_far_as_they_go(rt: HostRuntime) -> Result<(), Fail> {
 
 /// After how many bytes a device fails to which a line of 5,000, 5,000 and 9,000 characters is printed, whether it
 /// was, and how many of its bytes the device holds. Of the first and the second there is room for one to wait, and for
-/// the third there is none.
+/// the third there is no room.
 const LONG: &str = "\
 20000 > true 19001
 19001 > true 19001

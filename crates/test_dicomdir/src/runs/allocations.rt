@@ -302,7 +302,7 @@ fn allocations_of_a_run(rt: HostRuntime) -> Result<(), Fail> {
     refuse_each(rt.alloc(), Call::Index)
 }
 
-/// Runs a line with a mistake and a control character: the status is that of a line at fault, or of want of memory.
+/// Runs a line with a mistake and a control character: the status is that of a line at fault, or of lack of memory.
 fn mistake_refused(alloc: Global, chosen: u32) -> Result<bool, Fail> {
     let mut files = disc(alloc)?;
     let words = words_of(alloc, "dicomdir list a b\u{1b}")?;

@@ -16,10 +16,10 @@ loop-index-preserved g c =
     ∙ ap not (sym (c.has.ensures ∙ ap (λ k. is_some (at (λ u. u) bytes_cmp keys k)) c.key.ensures)) in
     record {
       filters = elim c.if-not-has.branch [
-        | then-not-has w ↦ rw (w.lent-is, w.kept-is) (FiltersInPlace-more_swap c.loop-index.invariant.filters
+        | then-not-has w ↦ rw (w.references-is, w.kept-is) (FiltersInPlace-more_swap c.loop-index.invariant.filters
             (omega arith) (test ∙ ap not w.if-not-has.true) c.index.ensures
             w.swap.ensures.by_index)
-        | else-not-has w ↦ rw (w.lent-is, w.kept-is) (FiltersInPlace-more_no c.loop-index.invariant.filters
+        | else-not-has w ↦ rw (w.references-is, w.kept-is) (FiltersInPlace-more_no c.loop-index.invariant.filters
             (omega arith) (test ∙ ap not w.if-not-has.false) c.index.ensures)
       ];
       behind = elim c.if-not-has.branch [
@@ -33,4 +33,4 @@ returns g c =
     ap (λ m. map (λ value. value.now) m) (c.truncate.ensures.items
     ∙ FiltersInPlace-all c.loop-index.invariant.filters (omega arith))
     ∙ map_filter (λ value. value.now) (λ v. is_free bytes_cmp c.args.keys.now (g.T.Keyed.key_of v))
-    c.args.lent.now.items
+    c.args.references.now.items

@@ -1,4 +1,4 @@
--- Each answer stands behind those before it, and a fault comes of the first source that failed.
+-- Each answer stands after those before it, and a fault comes of the first source that failed.
 use Rattle.std.proofs.Common.{◌+◌, ◌++◌, ◌∷◌, [], ◌∙◌, refl, ap, arith}
 use Rattle.std.proofs.lemmas.List.{length_push}
 use Rattle.std.proofs.lemmas.Result.{err_from_is_err_and}

@@ -1,4 +1,4 @@
--- The image of a record more is made behind those before it.
+-- The image of a record more is made after those before it.
 use Rattle.std.proofs.Common.{arith}
 use Rattle.dicomdir.proofs.ImagesMade.{so_far_more}
 use Rattle.dicomdir.specs.Made.{MayLink}

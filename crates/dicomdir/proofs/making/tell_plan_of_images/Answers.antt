@@ -7,7 +7,7 @@ use Rattle.dicomdir.proofs.CountLines.{printed, printed_counts}
 use Rattle.dicomdir.specs.Done.{count_parts}
 use Rattle.dicomdir.proofs.making.tell_plan_of_images.Goals as goal
 
--- what stands behind the size
+-- what stands after the size
 abbrev behind : List ℕ → List (List ℕ)
 behind images = codes " bytes, " ∷ images ∷ codes " bytes of images" ∷ []
 

@@ -1,4 +1,4 @@
--- The body is empty: the borrow is opened, and closed at the message with the piece behind it. Assumes `Logic`.
+-- The body is empty: the borrow is opened, and closed at the message with the piece after it. Assumes `Logic`.
 use Rattle.std.proofs.Common.{ℕ, ◌<◌, ◌^◌, List, [], ◌∷◌, ◌++◌, length, refl, MutBor}
 use seplogic.Ra.Ura.{Ura}
 use mir.Syntax.{named}
