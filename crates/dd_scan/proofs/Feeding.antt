@@ -1,6 +1,6 @@
 -- Taking bytes of a feed, where those that were taken are known, and what may follow is not.
-use Rattle.std.proofs.Common.{◌≡◌, ◌≢◌, ◌<◌, ◌≤◌, ℕ, true, false, List, ◌++◌, length, take, Option, Some, None, Ok, Err}
-use Rattle.std.proofs.Common.{refl, sym, ◌∙◌, arith, append-nil}
+use Rattle.std.proofs.Common.{◌≡◌, ◌≢◌, ◌<◌, ◌≤◌, ℕ, true, false, List, ◌++◌, length, take, Option, Some, None, Result}
+use Rattle.std.proofs.Common.{Ok, Err, refl, sym, ◌∙◌, arith, append-nil}
 use Rattle.std.specs.Int.{w32, from_le_bytes}
 use Rattle.std.proofs.lemmas.Bool.{le-ltb, lt-ltb}
 use Rattle.std.proofs.lemmas.List.{length-append, length-take-le, nil_from_length, take_at as take_front}
@@ -13,7 +13,10 @@ use Rattle.dd_encoding.specs.declared.syntax.Syntax.{Syntax}
 use Rattle.dd_stream.specs.Feeds.{IsOver}
 use Rattle.dd_grammar.specs.Reading.{eight_at, head_at, long_length_at, opening_at, front_at, item_opening}
 use Rattle.dd_grammar.specs.Reading.{item_front_at, At, ◌>>=◌, leaves_fewer, left_after, take_at, is_over}
+use Rattle.dd_grammar.proofs.Failing.{bind_fails, fails_is}
 use Rattle.dd_grammar.proofs.Loops.{differ}
+use Rattle.dd_grammar.proofs.Steps.{bind_made}
+use Rattle.dd_scan.specs.Skips.{Finds}
 
 -- ---- a number of bytes
 
@@ -74,24 +77,28 @@ pub eight_fails : (n : ℕ) (at : At) (e : SetFault) → n ≡ 8 → take_at n a
 eight_fails n at e eight h = rw (rw eight at h) refl
 
 -- at the top: no byte, eight, or fewer
-pub top_none : (bytes rest : List ℕ) → length bytes ≡ 0 → length rest ≡ 0
-    → head_at Defined (record { left = None; bytes = bytes }) ≡ Ok (None, record { left = None; bytes = rest })
-top_none bytes rest none end =
+pub top_none : (left : Option ℕ) (bytes rest : List ℕ) → left ≡ None → length bytes ≡ 0 → length rest ≡ 0
+    → head_at Defined (record { left = left; bytes = bytes }) ≡ Ok (None, record { left = left; bytes = rest })
+top_none (Some n) bytes rest top none end = absurd cc
+top_none None bytes rest top none end =
     let over : is_over Defined (record { left = None; bytes = bytes }) ≡ true = rw none refl in
     let same : bytes ≡ rest = nil_from_length bytes none ∙ sym (nil_from_length rest end) in
     head_over Defined (record { left = None; bytes = bytes }) over ∙ rw same refl
 
-pub top_found : (head rest : List ℕ) → length head ≡ 8 → head_at Defined (record { left = None; bytes = head ++ rest })
-    ≡ Ok (Some head, record { left = None; bytes = rest })
-top_found head rest eight =
+pub top_found : (left : Option ℕ) (head rest : List ℕ) → left ≡ None → length head ≡ 8
+    → head_at Defined (record { left = left; bytes = head ++ rest })
+    ≡ Ok (Some head, record { left = left; bytes = rest })
+top_found (Some n) head rest top eight = absurd cc
+top_found None head rest top eight =
     let at : At = record { left = None; bytes = head ++ rest } in
     let more : is_over Defined at ≡ false = differ (length (head ++ rest)) 0
     (λ none. absurd (omega (arith, length-append head rest))) in
     head_more Defined at more ∙ eight_found 8 at _ head refl (take_whole 8 None head rest refl eight)
 
-pub top_fails : (bytes : List ℕ) → length bytes ≢ 0 → length bytes < 8
-    → head_at Defined (record { left = None; bytes = bytes }) ≡ Err Truncated
-top_fails bytes some few =
+pub top_fails : (left : Option ℕ) (bytes : List ℕ) → left ≡ None → length bytes ≢ 0 → length bytes < 8
+    → head_at Defined (record { left = left; bytes = bytes }) ≡ Err Truncated
+top_fails (Some n) bytes top some few = absurd cc
+top_fails None bytes top some few =
     let at : At = record { left = None; bytes = bytes } in
     head_more Defined at (differ (length bytes) 0 some) ∙ eight_fails 8 at Truncated refl
     (take_ends 8 None bytes refl few)
@@ -134,3 +141,10 @@ module _ (form : Length) (at : At) where
       → item_front_at form at ≡ (item_opening form head >>= λ length. Ok (length, end))
   unfolding item_front_at
   item_front_opens head end h = rw h refl
+
+  -- what the opening of an item says is what reading finds
+  pub item_front_found : (head : List ℕ) (end : At) (r : Result (Option ℕ) SetFault)
+      → head_at form at ≡ Ok (Some head, end) → r ≡ item_opening form head
+      → Finds (λ n. n) r (item_front_at form at) end
+  item_front_found head end (Ok length) h is = item_front_opens head end h ∙ bind_made _ _ _ (sym is)
+  item_front_found head end (Err e) h is = fails_is e _ (item_front_opens head end h ∙ bind_fails _ _ _ (sym is))

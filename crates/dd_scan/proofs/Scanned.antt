@@ -32,13 +32,13 @@ use Rattle.dd_grammar.proofs.Steps.{bind_ok, ok_is}
 -- ---- values
 
 -- a value of bytes
-pub tells_bytes : (r : Result (FoundValue × Option ℕ) SetFault) (read : Reads (List ℕ)) (rest : List ℕ)
-    → GivesSummary found_summary (λ v. summary_of (bytes v)) r read rest
-    → GivesSummary found_summary summary_of r (read >>= λ x. Ok (bytes x.0, x.1)) rest
-tells_bytes (Ok x) read rest h = (bytes h.0, h.1, rw h.2 refl)
-tells_bytes (Err e) read rest h = (
+pub tells_bytes : (r : Result FoundValue SetFault) (read : Reads (List ℕ)) (end : At)
+    → GivesSummary found_summary (λ v. summary_of (bytes v)) r read end
+    → GivesSummary found_summary summary_of r (read >>= λ x. Ok (bytes x.0, x.1)) end
+tells_bytes (Ok x) read end h = (bytes h.0, h.1, rw h.2 refl)
+tells_bytes (Err e) read end h = (
   fails_along e _ _ h.0 (λ f k. bind_fails read _ f k),
-  λ is. let there = h.1 is in (bytes there.0, there.1, rw there.2 refl),
+  λ is. let there = h.1 is in (bytes there.0, rw there.1 refl),
 )
 
 -- a value that is not bytes is a sequence or fragments
@@ -143,17 +143,18 @@ pub record ElementThere (reader : SequenceReader) (syntax : Syntax) (low : ℕ) 
       (Some entry, record { left = now; bytes = rest })
 
 pub element_there : (reader : SequenceReader) (syntax : Syntax) (low : ℕ) (left : Option ℕ) (header : Header)
-    (all : List ℕ) (after : Option ℕ) (mid rest : List ℕ)
+    (all : List ℕ) (after now : Option ℕ) (mid rest : List ℕ)
     → front_at syntax Defined low (record { left = left; bytes = all }) ≡ Ok
     (Some header, record { left = after; bytes = mid })
-    → IsThere (content_at reader syntax header (record { left = after; bytes = mid })) rest
+    → IsThere (content_at reader syntax header (record { left = after; bytes = mid }))
+    (record { left = now; bytes = rest })
     → ElementThere reader syntax low left header.tag all rest
-element_there reader syntax low left header all after mid rest h k = record {
+element_there reader syntax low left header all after now mid rest h k = record {
   entry = record { tag = header.tag; vr = header.shape.vr; content = k.0 };
   tagged = refl;
-  now = k.1;
+  now = now;
   read = element_found reader syntax Defined low (record { left = left; bytes = all }) header
-      (record { left = after; bytes = mid }) (record { left = k.1; bytes = rest }) k.0 h k.2;
+      (record { left = after; bytes = mid }) (record { left = now; bytes = rest }) k.0 h k.1;
 }
 
 -- those that were read whole, and one more

@@ -11,7 +11,7 @@ use Rattle.dd_grammar.specs.AnswersAs.{FailsAs}
 use Rattle.dd_grammar.specs.Faults.{is_memory}
 use Rattle.dd_grammar.specs.Reading.{Header, front_at, item_front_at, At, Reads, ◌>>=◌, SequenceReader, ItemReader}
 use Rattle.dd_grammar.specs.Reading.{content_at, element_at, elements_at, item_at, items_at, sequence_with, set_with}
-use Rattle.dd_scan.specs.Skips.{Skips}
+use Rattle.dd_scan.specs.Skips.{IsThere, Skips}
 use Rattle.dd_scan.proofs.Shorter.{front_shortens, item_front_shortens}
 use Rattle.dd_grammar.proofs.Failing.{bind_fails}
 use Rattle.dd_grammar.proofs.Loops.{with_items, with_elements, fails_along, items_more, items_done, items_fail}
@@ -19,10 +19,10 @@ use Rattle.dd_grammar.proofs.Loops.{elements_more, elements_done, elements_fail}
 use Rattle.dd_grammar.proofs.ReadingOn.{element_found, item_found}
 
 -- a value that is let go is let go with what it is put into
-pub skips_along : {X Y : Type 0} (view : X → Y) (r : Result (Option ℕ) SetFault) (read : Reads X) (rest : List ℕ)
-    → Skips r read rest → Skips r (read >>= λ x. Ok (view x.0, x.1)) rest
-skips_along view (Ok left) read rest h = (view h.0, rw h.1 refl)
-skips_along view (Err e) read rest h = fails_along e _ _ h (λ f k. bind_fails read _ f k)
+pub skips_along : {X Y Z : Type 0} (view : X → Y) (r : Result Z SetFault) (read : Reads X) (end : At)
+    → Skips r read end → Skips r (read >>= λ x. Ok (view x.0, x.1)) end
+skips_along view (Ok z) read end h = (view h.0, rw h.1 refl)
+skips_along view (Err e) read end h = fails_along e _ _ h (λ f k. bind_fails read _ f k)
 
 -- an element with this tag was read, and bytes with it
 pub record ElementStep (sequence : SequenceReader) (syntax : Syntax) (form : Length) (low : ℕ) (left : Option ℕ)
@@ -45,7 +45,8 @@ pub element_steps : (sequence : SequenceReader) (syntax : Syntax) (form : Length
     (header : Header) (bytes : List ℕ) (after now : Option ℕ) (mid rest : List ℕ)
     → front_at syntax form low (record { left = left; bytes = bytes }) ≡ Ok
     (Some header, record { left = after; bytes = mid })
-    → Skips (Ok now) (content_at sequence syntax header (record { left = after; bytes = mid })) rest
+    → IsThere (content_at sequence syntax header (record { left = after; bytes = mid }))
+    (record { left = now; bytes = rest })
     → length rest ≤ length mid
     → ElementStep sequence syntax form low left header.tag bytes now rest
 element_steps sequence syntax form low left header bytes after now mid rest h k few = record {
@@ -59,7 +60,8 @@ element_steps sequence syntax form low left header bytes after now mid rest h k 
 pub item_steps : (part : ItemReader) (syntax : Syntax) (form : Length) (left : Option ℕ) (n : ℕ) (bytes : List ℕ)
     (after now : Option ℕ) (mid rest : List ℕ)
     → item_front_at form (record { left = left; bytes = bytes }) ≡ Ok (Some n, record { left = after; bytes = mid })
-    → Skips (Ok now) (part syntax n (record { left = after; bytes = mid })) rest → length rest ≤ length mid
+    → IsThere (part syntax n (record { left = after; bytes = mid })) (record { left = now; bytes = rest })
+    → length rest ≤ length mid
     → ItemStep part syntax form left bytes now rest
 item_steps part syntax form left n bytes after now mid rest h k few = record {
   item = k.0;

@@ -1,46 +1,46 @@
--- What a function that reads from a feed returned, against reading in memory. The feed holds no place to stand at: what
--- the nearest enclosing length leaves is returned, and `rest` is still to come.
-use Rattle.std.specs.Prelude.{◌≡◌, ℕ, List, Option, Some, None, Bool, true, false, Result, Ok, Err}
+-- What a function that reads at a cursor returned, against reading in memory.
+use Rattle.std.specs.Prelude.{◌≡◌, Option, Some, None, Bool, true, false, Result, Ok, Err}
+use Rattle.dd_stream.specs.Feeds.{Scans}
+use Rattle.dd_stream.specs.declared.feed.Feed.{Ghosts as FeedOf}
 use Rattle.dd_grammar.specs.declared.fault.SetFault.{SetFault}
 use Rattle.dd_grammar.specs.declared.fault.SetFault.TheVariants.{Memory}
 use Rattle.dd_grammar.specs.AnswersAs.{FailsAs}
 use Rattle.dd_grammar.specs.Faults.{is_memory}
-use Rattle.dd_scan.specs.declared.feed_headers.HeaderStart.{HeaderStart}
-use Rattle.dd_grammar.specs.Reading.{Reads}
+use Rattle.dd_grammar.specs.Reading.{At, Reads}
+use Rattle.dd_scan.specs.declared.cursor.Cursor.{Cursor}
+
+-- From one state of a cursor to another its feed gave some bytes. Whatever may still come after them, what was answered
+-- is right: `answers start end` says so of where the cursor stood and where it stands.
+abbrev pub Advances : {F : Type 0} → FeedOf F → Cursor F → Cursor F → (At → At → Type 0) → Type 0
+Advances feed old new answers = Scans feed.moves feed.tells old.feed.now new.feed.now
+    (λ bytes rest. answers (record { left = old.left; bytes = bytes }) (record { left = new.left; bytes = rest }))
 
 -- a value, seen by `view`, is the one that reading gives
-abbrev pub Finds : {X Y : Type 0} → (X → Y) → Result (X × Option ℕ) SetFault → Reads Y → List ℕ → Type 0
-Finds view (Ok x) read rest = read ≡ Ok (view x.0, record { left = x.1; bytes = rest })
-Finds view (Err e) read rest = FailsAs is_memory e read
-
--- the bytes that a header begins with are those that reading gives
-abbrev pub FindsStart : Result HeaderStart SetFault → Reads (Option (List ℕ)) → List ℕ → Type 0
-FindsStart (Ok start) read rest = read ≡ Ok (start.bytes, record { left = start.left; bytes = rest })
-FindsStart (Err e) read rest = FailsAs is_memory e read
+abbrev pub Finds : {X Y : Type 0} → (X → Y) → Result X SetFault → Reads Y → At → Type 0
+Finds view (Ok x) read end = read ≡ Ok (view x, end)
+Finds view (Err e) read end = FailsAs is_memory e read
 
 -- reading gives this value
-abbrev pub Takes : {Y : Type 0} → Y → Result (Option ℕ) SetFault → Reads Y → List ℕ → Type 0
-Takes y (Ok left) read rest = read ≡ Ok (y, record { left = left; bytes = rest })
-Takes y (Err e) read rest = FailsAs is_memory e read
+abbrev pub Takes : {X Y : Type 0} → Y → Result X SetFault → Reads Y → At → Type 0
+Takes y (Ok x) read end = read ≡ Ok (y, end)
+Takes y (Err e) read end = FailsAs is_memory e read
+
+-- reading gives some value, and stops at this place
+abbrev pub IsThere : {Y : Type 0} → Reads Y → At → Type 0
+IsThere {Y} read end = (y : Y) × (read ≡ Ok (y, end))
 
 -- reading gives some value, which is skipped
-abbrev pub Skips : {Y : Type 0} → Result (Option ℕ) SetFault → Reads Y → List ℕ → Type 0
-Skips {Y} (Ok left) read rest = (y : Y) × (read ≡ Ok (y, record { left = left; bytes = rest }))
-Skips (Err e) read rest = FailsAs is_memory e read
+abbrev pub Skips : {X Y : Type 0} → Result X SetFault → Reads Y → At → Type 0
+Skips (Ok x) read end = IsThere read end
+Skips (Err e) read end = FailsAs is_memory e read
 
 -- reading gives one more, which is skipped, or the end
-abbrev pub SkipsSome : {Y : Type 0} → Result (Bool × Option ℕ) SetFault → Reads (Option Y) → List ℕ → Type 0
-SkipsSome {Y} (Ok (true, left)) read rest = (y : Y) × (read ≡ Ok (Some y, record { left = left; bytes = rest }))
-SkipsSome (Ok (false, left)) read rest = read ≡ Ok (None, record { left = left; bytes = rest })
-SkipsSome (Err e) read rest = FailsAs is_memory e read
+abbrev pub SkipsSome : {Y : Type 0} → Result Bool SetFault → Reads (Option Y) → At → Type 0
+SkipsSome {Y} (Ok true) read end = (y : Y) × (read ≡ Ok (Some y, end))
+SkipsSome (Ok false) read end = read ≡ Ok (None, end)
+SkipsSome (Err e) read end = FailsAs is_memory e read
 
--- reading gives some value
-abbrev pub IsThere : {Y : Type 0} → Reads Y → List ℕ → Type 0
-IsThere {Y} read rest = (y : Y) × (left : Option ℕ) × (read ≡ Ok (y, record { left = left; bytes = rest }))
-
--- reading gives some value, and what is returned tells it; lack of memory comes only where reading gives one
-abbrev pub GivesSummary : {X Y Z : Type 0} → (X → Z) → (Y → Z) → Result (X × Option ℕ) SetFault → Reads Y → List ℕ
-    → Type 0
-GivesSummary {X} {Y} view summary (Ok x) read rest =
-    (y : Y) × (view x.0 ≡ summary y) × (read ≡ Ok (y, record { left = x.1; bytes = rest }))
-GivesSummary view summary (Err e) read rest = FailsAs is_memory e read × (e ≡ Memory → IsThere read rest)
+-- reading gives some value, and what is returned is its summary; lack of memory comes only where reading gives one
+abbrev pub GivesSummary : {X Y Z : Type 0} → (X → Z) → (Y → Z) → Result X SetFault → Reads Y → At → Type 0
+GivesSummary {X} {Y} view summary (Ok x) read end = (y : Y) × (view x ≡ summary y) × (read ≡ Ok (y, end))
+GivesSummary view summary (Err e) read end = FailsAs is_memory e read × (e ≡ Memory → IsThere read end)

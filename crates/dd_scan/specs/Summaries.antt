@@ -17,11 +17,11 @@ bytes_or_sequence sequence = sequence
 bytes_or_sequence fragments = sequence
 bytes_or_sequence (cleaned front size) = cleaned front size
 
--- that of the value of an element that may have been found: of no bytes where none was
+-- the summary of the value of an element, or that of no bytes where there is no element
 abbrev pub summary_of_found : Option Found → Summary
 summary_of_found None = cleaned [] 0
 summary_of_found (Some found) = bytes_or_sequence (found_summary found.value)
 
--- that of the first one with a tag
+-- the summary of the value of the first element with this tag
 abbrev pub summary_in : Tag → List Found → Summary
 summary_in tag founds = summary_of_found (find (λ found. same_tag found.tag tag) founds)

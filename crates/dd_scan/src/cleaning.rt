@@ -3,12 +3,12 @@
 ghost use Rattle.std.specs.Prelude.{◌≡◌, ◌≤◌, ◌<◌, ◌+◌, ◌^◌, ◌++◌, ℕ, List, length, IfSome, IsNone};
 ghost use Rattle.dd_elem.specs.Clean.{clean_of};
 ghost use Rattle.dd_encoding.specs.Elements.{bytes as value};
-ghost use Rattle.dd_stream.specs.Feeds.{IsOver, Scans};
+ghost use Rattle.dd_stream.specs.Feeds.{IsOver};
 ghost use Rattle.dd_grammar.specs.Reading.{take_at};
 ghost use Rattle.dd_scan.specs.Scan.{found_summary, summary_of};
-ghost use Rattle.dd_scan.specs.Skips.{GivesSummary};
+ghost use Rattle.dd_scan.specs.Skips.{Advances, GivesSummary};
 
-use crate::feed_headers::take;
+use crate::cursor::Cursor;
 use crate::found::FoundValue;
 use dd_elem::{Key, clean};
 use dd_grammar::{SetFault, leaves_fewer, left_after};
@@ -28,74 +28,71 @@ const PIECE: usize = 256;
 /// Takes a value of n bytes, and keeps its front without its padding.
 pub fn take_cleaned<F: Feed>(
     alloc: Global,
-    feed: &mut F,
+    at: &mut Cursor<'_, F>,
     n: u32,
-    left: Option<u64>,
-) -> Result<(FoundValue, Option<u64>), SetFault>
-    ensures found { Scans F.moves F.tells feed.old feed.new
-        (λ bytes rest. GivesSummary found_summary (λ v. summary_of (value v)) result
-        (take_at n (record { left = left; bytes = bytes })) rest) }
-    ensures fewer { F.most feed.new ≤ F.most feed.old }
+) -> Result<FoundValue, SetFault>
+    ensures same { at.new.feed.ghost_name ≡ at.old.feed.ghost_name }
+    ensures found { Advances F.Feed at.old at.new
+        (λ start end. GivesSummary found_summary (λ v. summary_of (value v)) result
+        (take_at n start) end) }
+    ensures fewer { F.most at.new.feed.now ≤ F.most at.old.feed.now }
 {
     let length = n as usize;
     if length <= SHORT {
         let mut room = [0; SHORT];
-        take_short(alloc, feed, &mut room[..length], left)
+        take_short(alloc, at, &mut room[..length])
     } else {
-        take_long(alloc, feed, n, left)
+        take_long(alloc, at, n)
     }
 }
 
 /// Takes a value of as many bytes as there is room for, and keeps it without its padding.
 fn take_short<F: Feed>(
     alloc: Global,
-    feed: &mut F,
+    at: &mut Cursor<'_, F>,
     room: &mut [u8],
-    left: Option<u64>,
-) -> Result<(FoundValue, Option<u64>), SetFault>
+) -> Result<FoundValue, SetFault>
     requires { length room.old ≤ SHORT }
-    ensures found { Scans F.moves F.tells feed.old feed.new
-        (λ bytes rest. GivesSummary found_summary (λ v. summary_of (value v)) result
-        (take_at (length room.old) (record { left = left; bytes = bytes })) rest) }
-    ensures fewer { F.most feed.new ≤ F.most feed.old }
+    ensures same { at.new.feed.ghost_name ≡ at.old.feed.ghost_name }
+    ensures found { Advances F.Feed at.old at.new
+        (λ start end. GivesSummary found_summary (λ v. summary_of (value v)) result
+        (take_at (length room.old) start) end) }
+    ensures fewer { F.most at.new.feed.now ≤ F.most at.old.feed.now }
 {
-    let left = take(feed, room, left)?;
+    at.take(room)?;
     let cleaned = clean(room);
     let length = cleaned.len() as u64;
     let front = cleaned.to_vec(alloc)?;
-    Ok((FoundValue::Bytes { front, length }, left))
+    Ok(FoundValue::Bytes { front, length })
 }
 
 /// Takes a value of n bytes, and keeps its front without its padding.
-fn take_long<F: Feed>(
-    alloc: Global,
-    feed: &mut F,
-    n: u32,
-    left: Option<u64>,
-) -> Result<(FoundValue, Option<u64>), SetFault>
-    ensures found { Scans F.moves F.tells feed.old feed.new
-        (λ bytes rest. GivesSummary found_summary (λ v. summary_of (value v)) result
-        (take_at n (record { left = left; bytes = bytes })) rest) }
-    ensures fewer { F.most feed.new ≤ F.most feed.old }
+fn take_long<F: Feed>(alloc: Global, at: &mut Cursor<'_, F>, n: u32) -> Result<FoundValue, SetFault>
+    ensures same { at.new.feed.ghost_name ≡ at.old.feed.ghost_name }
+    ensures found { Advances F.Feed at.old at.new
+        (λ start end. GivesSummary found_summary (λ v. summary_of (value v)) result
+        (take_at n start) end) }
+    ensures fewer { F.most at.new.feed.now ≤ F.most at.old.feed.now }
 {
     let n = u64::from(n);
-    if leaves_fewer(left, n) {
+    if leaves_fewer(at.left, n) {
         return Err(SetFault::Overrun);
     }
     let mut room = [0; KEPT];
     let first = n.min(KEPT as u64) as usize;
     let front = &mut room[..first];
-    if fill(feed, front) < first {
+    if fill(at.feed, front) < first {
         return Err(SetFault::Truncated);
     }
     let passed = first as u64;
     let cleaned = clean(front).len() as u64;
-    let Some(length) = cleaned_length(feed, cleaned, passed, n) else {
+    let Some(length) = cleaned_length(at.feed, cleaned, passed, n) else {
         return Err(SetFault::Truncated);
     };
+    at.left = left_after(at.left, n);
     let kept = length.min(KEPT as u64) as usize;
     let front = front[..kept].to_vec(alloc)?;
-    Ok((FoundValue::Bytes { front, length }, left_after(left, n)))
+    Ok(FoundValue::Bytes { front, length })
 }
 
 /// Skips the bytes of a value after the first `passed` of n, and answers how many of all stay without

@@ -7,7 +7,7 @@
 #![tactic(auto)]
 
 mod cleaning;
-mod feed_headers;
+mod cursor;
 mod found;
 mod scan_fault;
 mod scanning;

@@ -1,15 +1,13 @@
-//! Skips values, items and sets of a feed, with all checks of the grammar. `left` is what the nearest
-//! enclosing length leaves.
+//! Skips values, items and sets of a feed, with all checks of the grammar.
 
-ghost use Rattle.std.specs.Prelude.{◌≢◌, ◌≤◌, ◌<◌, Err, IfOk, IsTrue};
+ghost use Rattle.std.specs.Prelude.{◌≡◌, ◌≢◌, ◌≤◌, ◌<◌, Err, IfOk, IsTrue};
 ghost use Rattle.dd_grammar.specs.declared.fault.SetFault.TheVariants.{Memory};
-ghost use Rattle.dd_stream.specs.Feeds.{Scans};
 ghost use Rattle.dd_grammar.specs.Checks.{header_view};
 ghost use Rattle.dd_grammar.specs.Reading.{item_reader, sequence_with, set_with, content_at, fragment_at};
 ghost use Rattle.dd_grammar.specs.Reading.{fragments_here};
-ghost use Rattle.dd_scan.specs.Skips.{Skips, SkipsSome};
+ghost use Rattle.dd_scan.specs.Skips.{Advances, Skips, SkipsSome};
 
-use crate::feed_headers::{front, item_front, pass};
+use crate::cursor::Cursor;
 use dd_encoding::{Length, Syntax};
 use dd_grammar::{
     Header, Reach, SetFault, Sort, fragment_length, left_after, low_after, reach_of, sort_of,
@@ -19,135 +17,140 @@ use dd_stream::Feed;
 /// Skips the value after a header.
 #[cycle(skipping)]
 pub fn skip_content<F: Feed>(
-    feed: &mut F,
+    at: &mut Cursor<'_, F>,
     levels: u32,
     syntax: Syntax,
     header: Header,
-    left: Option<u64>,
-) -> Result<Option<u64>, SetFault>
-    ensures found { Scans F.moves F.tells feed.old feed.new (λ bytes rest. Skips result
-        (content_at (sequence_with (item_reader levels)) syntax (header_view header)
-        (record { left = left; bytes = bytes })) rest) }
-    ensures fewer { F.most feed.new ≤ F.most feed.old }
+) -> Result<(), SetFault>
+    ensures same { at.new.feed.ghost_name ≡ at.old.feed.ghost_name }
+    ensures found { Advances F.Feed at.old at.new
+        (λ start end. Skips result (content_at (sequence_with (item_reader levels)) syntax
+        (header_view header) start) end) }
+    ensures fewer { F.most at.new.feed.now ≤ F.most at.old.feed.now }
     ensures memory { result ≢ Err Memory }
 {
-    match sort_of(syntax, header, left)? {
-        Sort::Bytes(n) => pass(feed, n, left),
-        Sort::Open(inner) => skip_items(feed, levels, inner, Length::Undefined, left),
+    match sort_of(syntax, header, at.left)? {
+        Sort::Bytes(n) => at.pass(n),
+        Sort::Open(inner) => skip_items(at, levels, inner, Length::Undefined),
         Sort::Closed(inner, n) => {
             let n = u64::from(n);
-            skip_items(feed, levels, inner, Length::Defined, Some(n))?;
-            Ok(left_after(left, n))
+            let after = left_after(at.left, n);
+            at.left = Some(n);
+            skip_items(at, levels, inner, Length::Defined)?;
+            at.left = after;
+            Ok(())
         }
-        Sort::Fragments => skip_fragments(feed, left),
+        Sort::Fragments => skip_fragments(at),
     }
 }
 
 /// Skips the fragments of a list, to its end.
-fn skip_fragments<F: Feed>(feed: &mut F, mut left: Option<u64>) -> Result<Option<u64>, SetFault>
-    ensures found { Scans F.moves F.tells feed.old feed.new (λ bytes rest. Skips result
-        (fragments_here (record { left = left; bytes = bytes })) rest) }
-    ensures fewer { F.most feed.new ≤ F.most feed.old }
+fn skip_fragments<F: Feed>(at: &mut Cursor<'_, F>) -> Result<(), SetFault>
+    ensures same { at.new.feed.ghost_name ≡ at.old.feed.ghost_name }
+    ensures found { Advances F.Feed at.old at.new
+        (λ start end. Skips result (fragments_here start) end) }
+    ensures fewer { F.most at.new.feed.now ≤ F.most at.old.feed.now }
     ensures memory { result ≢ Err Memory }
 {
     'fragments: loop {
-        let (more, after) = skip_fragment(feed, left)?;
-        left = after;
+        let more = skip_fragment(at)?;
         if !more {
-            return Ok(left);
+            return Ok(());
         }
     }
 }
 
 /// Skips the next fragment of a list, and answers whether there was one.
-fn skip_fragment<F: Feed>(feed: &mut F, left: Option<u64>) -> Result<(bool, Option<u64>), SetFault>
-    ensures found { Scans F.moves F.tells feed.old feed.new (λ bytes rest. SkipsSome result
-        (fragment_at (record { left = left; bytes = bytes })) rest) }
-    ensures fewer { F.most feed.new ≤ F.most feed.old }
-    ensures some { IfOk result (λ x. IsTrue x.0 → F.most feed.new < F.most feed.old) }
+fn skip_fragment<F: Feed>(at: &mut Cursor<'_, F>) -> Result<bool, SetFault>
+    ensures same { at.new.feed.ghost_name ≡ at.old.feed.ghost_name }
+    ensures found { Advances F.Feed at.old at.new
+        (λ start end. SkipsSome result (fragment_at start) end) }
+    ensures fewer { F.most at.new.feed.now ≤ F.most at.old.feed.now }
+    ensures some { IfOk result
+        (λ more. IsTrue more → F.most at.new.feed.now < F.most at.old.feed.now) }
     ensures memory { result ≢ Err Memory }
 {
-    let (length, after) = item_front(feed, Length::Undefined, left)?;
-    let Some(n) = length else {
-        return Ok((false, after));
+    let Some(n) = at.item_front(Length::Undefined)? else {
+        return Ok(false);
     };
-    let n = fragment_length(n)?;
-    Ok((true, pass(feed, n, after)?))
+    let length = fragment_length(n)?;
+    at.pass(length)?;
+    Ok(true)
 }
 
 /// Skips the elements of a set, to its end.
 #[cycle(skipping)]
 fn skip_set<F: Feed>(
-    feed: &mut F,
+    at: &mut Cursor<'_, F>,
     levels: u32,
     syntax: Syntax,
     form: Length,
-    mut left: Option<u64>,
-) -> Result<Option<u64>, SetFault>
-    ensures found { Scans F.moves F.tells feed.old feed.new (λ bytes rest. Skips result
-        (set_with (item_reader levels) syntax form (record { left = left; bytes = bytes })) rest) }
-    ensures fewer { F.most feed.new ≤ F.most feed.old }
+) -> Result<(), SetFault>
+    ensures same { at.new.feed.ghost_name ≡ at.old.feed.ghost_name }
+    ensures found { Advances F.Feed at.old at.new
+        (λ start end. Skips result (set_with (item_reader levels) syntax form start) end) }
+    ensures fewer { F.most at.new.feed.now ≤ F.most at.old.feed.now }
     ensures memory { result ≢ Err Memory }
 {
     let mut low = 0;
     'elements: loop {
-        let (header, after) = front(feed, syntax, form, low, left)?;
-        let Some(header) = header else {
-            return Ok(after);
+        let Some(header) = at.front(syntax, form, low)? else {
+            return Ok(());
         };
         low = low_after(header.tag);
-        left = skip_content(feed, levels, syntax, header, after)?;
+        skip_content(at, levels, syntax, header)?;
     }
 }
 
 /// Skips the items of a sequence, to its end.
 #[cycle(skipping)]
 fn skip_items<F: Feed>(
-    feed: &mut F,
+    at: &mut Cursor<'_, F>,
     levels: u32,
     syntax: Syntax,
     form: Length,
-    mut left: Option<u64>,
-) -> Result<Option<u64>, SetFault>
-    ensures found { Scans F.moves F.tells feed.old feed.new (λ bytes rest. Skips result
-        (sequence_with (item_reader levels) syntax form
-        (record { left = left; bytes = bytes })) rest) }
-    ensures fewer { F.most feed.new ≤ F.most feed.old }
+) -> Result<(), SetFault>
+    ensures same { at.new.feed.ghost_name ≡ at.old.feed.ghost_name }
+    ensures found { Advances F.Feed at.old at.new
+        (λ start end. Skips result (sequence_with (item_reader levels) syntax form start) end) }
+    ensures fewer { F.most at.new.feed.now ≤ F.most at.old.feed.now }
     ensures memory { result ≢ Err Memory }
 {
     'items: loop {
-        let (length, after) = item_front(feed, form, left)?;
-        let Some(n) = length else {
-            return Ok(after);
+        let Some(n) = at.item_front(form)? else {
+            return Ok(());
         };
-        left = skip_part(feed, levels, syntax, n, after)?;
+        skip_part(at, levels, syntax, n)?;
     }
 }
 
 /// Skips an item after its header, where `levels` levels may still nest.
 #[cycle(skipping)]
 fn skip_part<F: Feed>(
-    feed: &mut F,
+    at: &mut Cursor<'_, F>,
     levels: u32,
     syntax: Syntax,
     n: u32,
-    left: Option<u64>,
-) -> Result<Option<u64>, SetFault>
-    ensures found { Scans F.moves F.tells feed.old feed.new (λ bytes rest. Skips result
-        (item_reader levels syntax n (record { left = left; bytes = bytes })) rest) }
-    ensures fewer { F.most feed.new ≤ F.most feed.old }
+) -> Result<(), SetFault>
+    ensures same { at.new.feed.ghost_name ≡ at.old.feed.ghost_name }
+    ensures found { Advances F.Feed at.old at.new
+        (λ start end. Skips result (item_reader levels syntax n start) end) }
+    ensures fewer { F.most at.new.feed.now ≤ F.most at.old.feed.now }
     ensures memory { result ≢ Err Memory }
 {
     if levels == 0 {
         return Err(SetFault::TooDeep);
     }
     let inner = levels - 1;
-    match reach_of(n, left)? {
-        Reach::Open => skip_set(feed, inner, syntax, Length::Undefined, left),
+    match reach_of(n, at.left)? {
+        Reach::Open => skip_set(at, inner, syntax, Length::Undefined),
         Reach::Closed(n) => {
             let n = u64::from(n);
-            skip_set(feed, inner, syntax, Length::Defined, Some(n))?;
-            Ok(left_after(left, n))
+            let after = left_after(at.left, n);
+            at.left = Some(n);
+            skip_set(at, inner, syntax, Length::Defined)?;
+            at.left = after;
+            Ok(())
         }
     }
 }

@@ -1,15 +1,15 @@
 //! A data set of a feed, of which only summaries of wanted elements are kept.
 
-ghost use Rattle.std.specs.Prelude.{◌≡◌, ◌≤◌};
+ghost use Rattle.std.specs.Prelude.{◌≡◌, ◌≤◌, None};
 ghost use Rattle.dd_stream.specs.Feeds.{Scans};
 ghost use Rattle.dd_encoding.specs.Spelling.{max_levels};
 ghost use Rattle.dd_grammar.specs.Checks.{header_view};
 ghost use Rattle.dd_grammar.specs.Reading.{item_reader, sequence_with, content_at};
 ghost use Rattle.dd_scan.specs.Scan.{ScanGives, is_wanted, found_summary, summary_of, summary_of_sort};
-ghost use Rattle.dd_scan.specs.Skips.{GivesSummary};
+ghost use Rattle.dd_scan.specs.Skips.{Advances, GivesSummary};
 
 use crate::cleaning::take_cleaned;
-use crate::feed_headers::front;
+use crate::cursor::Cursor;
 use crate::found::{Found, FoundValue, Scan};
 use crate::skipping::skip_content;
 use dd_elem::Tag;
@@ -34,27 +34,41 @@ pub fn take_set<F: Feed>(
         (λ bytes rest. ScanGives syntax wanted.now result bytes) }
     ensures fewer { F.most feed.new ≤ F.most feed.old }
 {
+    let mut at = Cursor { feed, left: None };
+    take_elements(alloc, &mut at, syntax, wanted)
+}
+
+/// Takes the same set at a cursor that no length encloses.
+fn take_elements<F: Feed>(
+    alloc: Global,
+    at: &mut Cursor<'_, F>,
+    syntax: Syntax,
+    wanted: &[Tag],
+) -> Result<Scan, SetFault>
+    requires { at.old.left ≡ None }
+    ensures same { at.new.feed.ghost_name ≡ at.old.feed.ghost_name }
+    ensures found { Scans F.moves F.tells at.old.feed.now at.new.feed.now
+        (λ bytes rest. ScanGives syntax wanted.now result bytes) }
+    ensures fewer { F.most at.new.feed.now ≤ F.most at.old.feed.now }
+{
     let mut scan = Scan {
         first: None,
         found: Vec::new(alloc),
     };
-    let mut left = None;
     let mut low = 0;
     'elements: loop {
-        let (header, rest) = front(feed, syntax, Length::Defined, low, left)?;
-        let Some(header) = header else {
+        let Some(header) = at.front(syntax, Length::Defined, low)? else {
             return Ok(scan);
         };
         let tag = header.tag;
         low = low_after(tag);
         scan.first = Some(scan.first.unwrap_or(tag));
-        left = if is_wanted(wanted, tag) {
-            let (value, rest) = take_wanted(alloc, feed, syntax, header, rest)?;
+        if is_wanted(wanted, tag) {
+            let value = take_wanted(alloc, at, syntax, header)?;
             scan.found.push(Found { tag, value })?;
-            rest
         } else {
-            skip_content(feed, MAX_LEVELS, syntax, header, rest)?
-        };
+            skip_content(at, MAX_LEVELS, syntax, header)?;
+        }
     }
 }
 
@@ -68,24 +82,24 @@ fn is_wanted(wanted: &[Tag], tag: Tag) -> bool
 /// Takes the value after a header, and keeps its summary.
 fn take_wanted<F: Feed>(
     alloc: Global,
-    feed: &mut F,
+    at: &mut Cursor<'_, F>,
     syntax: Syntax,
     header: Header,
-    left: Option<u64>,
-) -> Result<(FoundValue, Option<u64>), SetFault>
-    ensures found { Scans F.moves F.tells feed.old feed.new
-        (λ bytes rest. GivesSummary found_summary summary_of result
-        (content_at (sequence_with (item_reader max_levels)) syntax (header_view header)
-        (record { left = left; bytes = bytes })) rest) }
-    ensures fewer { F.most feed.new ≤ F.most feed.old }
+) -> Result<FoundValue, SetFault>
+    ensures same { at.new.feed.ghost_name ≡ at.old.feed.ghost_name }
+    ensures found { Advances F.Feed at.old at.new
+        (λ start end. GivesSummary found_summary summary_of result
+        (content_at (sequence_with (item_reader max_levels)) syntax
+        (header_view header) start) end) }
+    ensures fewer { F.most at.new.feed.now ≤ F.most at.old.feed.now }
 {
-    let sort = sort_of(syntax, header, left)?;
+    let sort = sort_of(syntax, header, at.left)?;
     if let Sort::Bytes(n) = sort {
-        return take_cleaned(alloc, feed, n, left);
+        return take_cleaned(alloc, at, n);
     }
     let value = found_of_sort(sort);
-    let left = skip_content(feed, MAX_LEVELS, syntax, header, left)?;
-    Ok((value, left))
+    skip_content(at, MAX_LEVELS, syntax, header)?;
+    Ok(value)
 }
 
 /// The summary of a value of this sort, which is not bytes.

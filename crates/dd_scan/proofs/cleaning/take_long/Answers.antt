@@ -24,14 +24,14 @@ room_is room n few is = is ∙ length-take-le n zeros (omega (arith, length-repl
 
 pub returns-then-leaves_fewer-clause-found : goal.returns-then-leaves_fewer-clause-found
 returns-then-leaves_fewer-clause-found g c =
-    let fewer : leaves_fewer c.args.left c.args.n ≡ true = rw c.from-n.ensures at
+    let fewer : leaves_fewer c.args.at.now.left c.args.n ≡ true = rw c.from-n.ensures at
     (sym c.leaves_fewer.ensures ∙ c.if-leaves_fewer.true) in
     scans_none _ _ _ _ (g.met.F.Feed.stays _)
-    (λ rest t. (take_overruns c.args.n c.args.left rest fewer, λ is. absurd (cc)))
+    (λ rest t. (take_overruns c.args.n c.args.at.now.left rest fewer, λ is. absurd (cc)))
 
 pub returns-then-fill-first-clause-found : goal.returns-then-fill-first-clause-found
 returns-then-fill-first-clause-found g c =
-    let enough : leaves_fewer c.args.left c.args.n ≡ false =
+    let enough : leaves_fewer c.args.at.now.left c.args.n ≡ false =
     rw c.from-n.ensures at (sym c.leaves_fewer.ensures ∙ c.if-leaves_fewer.false) in
     let room = c.fill.new.room in
     let size : length room ≡ c.min-first.result = room_is room c.min-first.result (omega arith) c.fill.auto.room in
@@ -42,14 +42,14 @@ returns-then-fill-first-clause-found g c =
       taken = taken;
       moved = c.fill.ensures.moved;
       gives = λ rest t. (
-        take_ends c.args.n c.args.left (taken ++ rest) enough (omega (arith, over_length _ _ taken rest over t)),
+        take_ends c.args.n c.args.at.now.left (taken ++ rest) enough (omega (arith, over_length _ _ taken rest over t)),
         λ is. absurd (cc),
       );
     }
 
 pub returns-in_default-clause-found : goal.returns-in_default-clause-found
 returns-in_default-clause-found g c =
-    let enough : leaves_fewer c.args.left c.args.n ≡ false =
+    let enough : leaves_fewer c.args.at.now.left c.args.n ≡ false =
     rw c.from-n.ensures at (sym c.leaves_fewer.ensures ∙ c.if-leaves_fewer.false) in
     let room = c.fill.new.room in
     let size : length room ≡ c.min-first.result = room_is room c.min-first.result (omega arith) c.fill.auto.room in
@@ -59,10 +59,10 @@ returns-in_default-clause-found g c =
     let few = m.3 refl in
     record {
       taken = room ++ m.0;
-      moved = g.met.F.Feed.goes _ _ _ _ _ (subst (g.F.Feed.moves c.args.feed.now c.fill.new.feed) all
+      moved = g.met.F.Feed.goes _ _ _ _ _ (subst (g.F.Feed.moves c.args.at.now.feed.now c.fill.new.feed) all
           c.fill.ensures.moved) m.1;
       gives = λ rest t. (
-        take_ends c.args.n c.args.left ((room ++ m.0) ++ rest) enough
+        take_ends c.args.n c.args.at.now.left ((room ++ m.0) ++ rest) enough
             (omega (arith, length-append room m.0, over_length _ _ (room ++ m.0) rest over t)),
         λ is. absurd (cc),
       );
@@ -82,30 +82,28 @@ slice_bounds-to_vec-end g c =
 pub returns-in_err-front-clause-found : goal.returns-in_err-front-clause-found
 returns-in_err-front-clause-found g c =
     let p = err_from_is_err_and c.from_residual.result c.from_residual.ensures.1 in
-    let enough : leaves_fewer c.args.left c.args.n ≡ false =
+    let enough : leaves_fewer c.args.at.now.left c.args.n ≡ false =
     rw c.from-n.ensures at (sym c.leaves_fewer.ensures ∙ c.if-leaves_fewer.false) in
     let room = c.fill.new.room in
     let size : length room ≡ c.min-first.result = room_is room c.min-first.result (omega arith) c.fill.auto.room in
     let all : take c.fill.result room ≡ room = take_all c.fill.result room (omega arith) in
     let m = c.in-Some.ensures.moved in
     let whole : length (room ++ m.0) ≡ c.args.n = omega (arith, length-append room m.0, m.4.0) in
+    let left_is : c.left_after-at.result ≡ left_after c.args.at.now.left c.args.n = c.left_after-at.ensures
+    ∙ ap (left_after c.args.at.now.left) c.from-n.ensures in
     rw (p.1, p.2) (record {
       taken = room ++ m.0;
-      moved = g.met.F.Feed.goes _ _ _ _ _ (subst (g.F.Feed.moves c.args.feed.now c.fill.new.feed) all
+      moved = g.met.F.Feed.goes _ _ _ _ _ (subst (g.F.Feed.moves c.args.at.now.feed.now c.fill.new.feed) all
           c.fill.ensures.moved) m.1;
       gives = λ rest t. (
         tt,
-        λ is. (
-          room ++ m.0,
-          left_after c.args.left c.args.n,
-          take_whole c.args.n c.args.left (room ++ m.0) rest enough whole,
-        ),
+        λ is. (room ++ m.0, rw left_is (take_whole c.args.n c.args.at.now.left (room ++ m.0) rest enough whole)),
       );
     })
 
 pub returns-clause-found : goal.returns-clause-found
 returns-clause-found g c =
-    let enough : leaves_fewer c.args.left c.args.n ≡ false =
+    let enough : leaves_fewer c.args.at.now.left c.args.n ≡ false =
     rw c.from-n.ensures at (sym c.leaves_fewer.ensures ∙ c.if-leaves_fewer.false) in
     let room = c.fill.new.room in
     let size : length room ≡ c.min-first.result = room_is room c.min-first.result (omega arith) c.fill.auto.room in
@@ -117,14 +115,15 @@ returns-clause-found g c =
     let kept = c.in_ok-front.ensures.items_if_clones_equal (λ x y h. h) in
     let front_is = cleaned_front 1024 c.min-kept.result room m.0 (omega arith) (omega (arith, length-append room m.0))
     in
-    let left_is : c.left_after.result ≡ left_after c.args.left c.args.n = c.left_after.ensures ∙ ap (left_after c.args.left) c.from-n.ensures in
+    let left_is : c.left_after-at.result ≡ left_after c.args.at.now.left c.args.n = c.left_after-at.ensures
+    ∙ ap (left_after c.args.at.now.left) c.from-n.ensures in
     record {
       taken = room ++ m.0;
-      moved = g.met.F.Feed.goes _ _ _ _ _ (subst (g.F.Feed.moves c.args.feed.now c.fill.new.feed) all
+      moved = g.met.F.Feed.goes _ _ _ _ _ (subst (g.F.Feed.moves c.args.at.now.feed.now c.fill.new.feed) all
           c.fill.ensures.moved) m.1;
       gives = λ rest t. (
         room ++ m.0,
         same_summary _ _ _ _ (kept ∙ front_is) length_is,
-        rw left_is (take_whole c.args.n c.args.left (room ++ m.0) rest enough whole),
+        rw left_is (take_whole c.args.n c.args.at.now.left (room ++ m.0) rest enough whole),
       );
     }

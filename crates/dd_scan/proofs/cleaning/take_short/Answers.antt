@@ -20,25 +20,25 @@ returns-clause-found g c =
     let cleaned_is = c.clean-cleaned.ensures.exact in
     let most : length c.args.room.now ≤ 64 = c.requires in
     let few : length (clean_of room) ≤ 1024 = omega (arith, length-clean_of room) in
-    scans_same _ _ _ _ _ _ c.in_ok-left.ensures.found (λ all rest t fewer h. (
+    scans_same _ _ _ _ _ _ c.in_ok-take.ensures.found (λ all rest t fewer h. (
       room,
       same_summary _ _ _ _ (kept ∙ cleaned_is ∙ sym (take_all 1024 (clean_of room) few)) (ap length cleaned_is),
       rw (sym same) h,
     ))
 
-pub returns-in_err-left-clause-found : goal.returns-in_err-left-clause-found
-returns-in_err-left-clause-found g c =
+pub returns-in_err-take-clause-found : goal.returns-in_err-take-clause-found
+returns-in_err-take-clause-found g c =
     let p = err_from_is_err_and c.from_residual.result c.from_residual.ensures.1 in
     let same : length c.take.new.room ≡ length c.args.room.now = c.take.auto.room in
-    rw (p.1, p.2) (scans_same _ _ _ _ _ _ c.in_err-left.ensures.found
-    (λ all rest t few h. (rw same at h, λ is. absurd (c.in_err-left.ensures.memory (ap (λ e. Err e) is)))))
+    rw (p.1, p.2) (scans_same _ _ _ _ _ _ c.in_err-take.ensures.found
+    (λ all rest t few h. (rw same at h, λ is. absurd (c.in_err-take.ensures.memory (ap (λ e. Err e) is)))))
 
 pub returns-in_err-front-clause-found : goal.returns-in_err-front-clause-found
 returns-in_err-front-clause-found g c =
     let p = err_from_is_err_and c.from_residual-in_err-front.result c.from_residual-in_err-front.ensures.1 in
     let room = c.take.new.room in
     let same : length room ≡ length c.args.room.now = c.take.auto.room in
-    rw (p.1, p.2) (scans_same _ _ _ _ _ _ c.in_ok-left.ensures.found (λ all rest t fewer h. (
+    rw (p.1, p.2) (scans_same _ _ _ _ _ _ c.in_ok-take.ensures.found (λ all rest t fewer h. (
       tt,
-      λ is. (room, c.in_ok-left.left, rw (sym same) h),
+      λ is. (room, rw (sym same) h),
     )))

@@ -1,6 +1,6 @@
 -- The answers of the calls, put together: a header and what stands after it are an element or an item, and the loops
 -- read one after the other.
-use Rattle.std.proofs.Common.{◌≡◌, ◌∙◌, ◌-◌, suc, ap, arith}
+use Rattle.std.proofs.Common.{rules, ◌≡◌, ◌∙◌, ◌-◌, suc, ap, arith}
 use Rattle.std.proofs.lemmas.Result.{err_from_is_err_and}
 use Rattle.dd_encoding.specs.declared.syntax.Length.TheVariants.{Defined, Undefined}
 use Rattle.dd_grammar.specs.Checks.{header_view}
@@ -24,13 +24,13 @@ pub skip_content-returns-in_ok-skip_items-in-Closed-clause-found :
     goal.skip_content-returns-in_ok-skip_items-in-Closed-clause-found
 skip_content-returns-in_ok-skip_items-in-Closed-clause-found g t c =
     let sequence = sequence_with (item_reader c.args.levels) in
-    let left_is : c.left_after.result ≡ left_after c.args.left c.in-Closed.n = c.left_after.ensures
-    ∙ ap (left_after c.args.left) c.from-n.ensures in
+    let left_is : c.left_after-after.result ≡ left_after c.args.at.now.left c.in-Closed.n = c.left_after-after.ensures
+    ∙ ap (left_after c.args.at.now.left) c.from-n.ensures in
     scans_same _ _ _ _ _ _ c.in_ok-skip_items-in-Closed.ensures.found (λ bytes rest few t h.
     let is = rw c.in-Closed.is at (c.in_ok-n.ensures.exact sequence bytes) in
     let read = rw c.from-n.ensures at h.1 in (
       items Defined h.0,
-      rw left_is (is ∙ within_found c.in-Closed.n (record { left = c.args.left; bytes = bytes })
+      rw left_is (is ∙ within_found c.in-Closed.n (record { left = c.args.at.now.left; bytes = bytes })
           (sequence c.in-Closed.inner Defined) _ h.0 _ read),
     ))
 
@@ -39,57 +39,65 @@ skip_content-returns-in_ok-skip_items-in-Closed-clause-found g t c =
 pub skip_items-items-init : goal.skip_items-items-init
 skip_items-items-init g t c =
     record {
+      same = search rules;
       goes = scans_none _ _ _ _ (g.met.F.Feed.stays _) (λ rest k. items_start (item_reader c.args.levels) c.args.syntax
-          c.args.form c.args.left rest);
+          c.args.form c.args.at.now.left rest);
       fewer = omega arith;
     }
 
-pub skip_items-returns-in_err-length-clause-found : goal.skip_items-returns-in_err-length-clause-found
-skip_items-returns-in_err-length-clause-found g t c =
+pub skip_items-returns-in_err-n-clause-found : goal.skip_items-returns-in_err-n-clause-found
+skip_items-returns-in_err-n-clause-found g t c =
     let p = err_from_is_err_and c.from_residual.result c.from_residual.ensures.1 in
     rw (p.1, p.2) (scans_then _ _ g.met.F.Feed.goes g.met.F.Feed.tells_before _ _ _ _ _ _ c.items.invariant.goes
-    c.in_err-length.ensures.found
+    c.in_err-n.ensures.found
     (λ bytes mid rest few fewer go h.
-    items_stop (item_reader c.args.levels) c.args.syntax c.args.form c.args.left bytes c.items.left mid
-    c.in_err-length.field-0.0 go
+    items_stop (item_reader c.args.levels) c.args.syntax c.args.form c.args.at.now.left bytes c.items.at.left mid
+    c.in_err-n.field-0.0 go
     (item_front_stops (item_reader c.args.levels) c.args.syntax c.args.form
-    (record { left = c.items.left; bytes = mid }) c.in_err-length.field-0.0 h)))
+    (record { left = c.items.at.left; bytes = mid }) c.in_err-n.field-0.0 h)))
 
 pub skip_items-returns-in_default-clause-found : goal.skip_items-returns-in_default-clause-found
 skip_items-returns-in_default-clause-found g t c =
-    scans_then _ _ g.met.F.Feed.goes g.met.F.Feed.tells_before _ _ _ _ _ _ c.items.invariant.goes c.in_ok-length.ensures.found
+    scans_then _ _ g.met.F.Feed.goes g.met.F.Feed.tells_before _ _ _ _ _ _ c.items.invariant.goes
+    c.in_ok-n.ensures.found
     (λ bytes mid rest few fewer go h.
     let ended = item_none (item_reader c.args.levels) c.args.syntax c.args.form
-    (record { left = c.items.left; bytes = mid }) _ (rw c.in_default.is at h) in
-    (_, items_end (item_reader c.args.levels) c.args.syntax c.args.form c.args.left bytes c.items.left mid _ go ended))
+    (record { left = c.items.at.left; bytes = mid }) _ (rw c.in_default.is at h) in (
+      _,
+      items_end (item_reader c.args.levels) c.args.syntax c.args.form c.args.at.now.left bytes c.items.at.left mid _
+          go ended,
+    ))
 
-pub skip_items-returns-in_err-left-clause-found : goal.skip_items-returns-in_err-left-clause-found
-skip_items-returns-in_err-left-clause-found g t c =
-    let p = err_from_is_err_and c.from_residual-in_err-left.result c.from_residual-in_err-left.ensures.1 in
+pub skip_items-returns-in_err-skip_part-clause-found : goal.skip_items-returns-in_err-skip_part-clause-found
+skip_items-returns-in_err-skip_part-clause-found g t c =
+    let p = err_from_is_err_and c.from_residual-in_err-skip_part.result c.from_residual-in_err-skip_part.ensures.1 in
     let part = item_reader c.args.levels in
-    let e = c.in_err-left.field-0.0 in
+    let e = c.in_err-skip_part.field-0.0 in
     let one = scans_then _ _ g.met.F.Feed.goes g.met.F.Feed.tells_before _ _ _ _ _
     (λ bytes rest. FailsAs is_memory e (item_at part c.args.syntax c.args.form
-    (record { left = c.items.left; bytes = bytes })))
-    c.in_ok-length.ensures.found c.in_err-left.ensures.found
+    (record { left = c.items.at.left; bytes = bytes })))
+    c.in_ok-n.ensures.found c.in_err-skip_part.ensures.found
     (λ bytes mid rest few fewer h k. part_stops part c.args.syntax c.args.form
-    (record { left = c.items.left; bytes = bytes }) c.in-Some.n _ e (rw c.in-Some.is at h) k) in
+    (record { left = c.items.at.left; bytes = bytes }) c.in-Some.n _ e (rw c.in-Some.is at h) k) in
     rw (p.1, p.2) (scans_then _ _ g.met.F.Feed.goes g.met.F.Feed.tells_before _ _ _ _ _ _ c.items.invariant.goes one
-    (λ bytes mid rest few fewer go h. items_stop part c.args.syntax c.args.form c.args.left bytes c.items.left mid e go
+    (λ bytes mid rest few fewer go h. items_stop part c.args.syntax c.args.form c.args.at.now.left bytes c.items.at.left
+    mid e go
     h))
 
 pub skip_items-items-preserved : goal.skip_items-items-preserved
 skip_items-items-preserved g t c =
     let part = item_reader c.args.levels in
     let one = scans_then _ _ g.met.F.Feed.goes g.met.F.Feed.tells_before _ _ _ _ _
-    (λ bytes rest. ItemStep part c.args.syntax c.args.form c.items.left bytes c.in_ok-left.left rest)
-    c.in_ok-length.ensures.found c.in_ok-left.ensures.found
-    (λ bytes mid rest few fewer h k. item_steps part c.args.syntax c.args.form c.items.left c.in-Some.n bytes
-    c.in_ok-length.after c.in_ok-left.left mid rest (rw c.in-Some.is at h) k few) in
+    (λ bytes rest. ItemStep part c.args.syntax c.args.form c.items.at.left bytes c.skip_part.new.at.left rest)
+    c.in_ok-n.ensures.found c.in_ok-skip_part.ensures.found
+    (λ bytes mid rest few fewer h k. item_steps part c.args.syntax c.args.form c.items.at.left c.in-Some.n bytes
+    c.item_front.new.self.left c.skip_part.new.at.left mid rest (rw c.in-Some.is at h) k few) in
     record {
+      same = search rules;
       goes = scans_then _ _ g.met.F.Feed.goes g.met.F.Feed.tells_before _ _ _ _ _ _ c.items.invariant.goes one
-          (λ bytes mid rest few fewer go h. items_go part c.args.syntax c.args.form c.args.left bytes c.items.left mid
-          h.item c.in_ok-left.left rest go h.read h.shorter);
+          (λ bytes mid rest few fewer go h. items_go part c.args.syntax c.args.form c.args.at.now.left bytes
+          c.items.at.left mid
+          h.item c.skip_part.new.at.left rest go h.read h.shorter);
       fewer = omega arith;
     }
 
@@ -100,7 +108,11 @@ skip_part-returns-in_err-reach_of-clause-found g t c =
     let p = err_from_is_err_and c.from_residual.result c.from_residual.ensures.1 in
     let deeper : c.args.levels ≡ suc (c.args.levels - 1) = omega arith in
     rw (p.1, p.2) (scans_none _ _ _ _ (g.met.F.Feed.stays _) (λ rest k. fails_is c.in_err-reach_of.field-0.0 _
-    (deeper_is c.args.levels (c.args.levels - 1) c.args.n c.args.syntax (record { left = c.args.left; bytes = rest })
+    (deeper_is c.args.levels (c.args.levels - 1) c.args.n c.args.syntax (record {
+      left
+          = c.args.at.now.left;
+      bytes = rest;
+    })
     deeper ∙ c.in_err-reach_of.ensures.exact (set_with (item_reader (c.args.levels - 1))) c.args.syntax rest)))
 
 pub skip_part-returns-in_err-skip_set-in-Closed-clause-found :
@@ -111,7 +123,7 @@ skip_part-returns-in_err-skip_set-in-Closed-clause-found g t c =
     let deeper : c.args.levels ≡ suc (c.args.levels - 1) = omega arith in
     let set = set_with (item_reader (c.args.levels - 1)) in
     rw (p.1, p.2) (scans_same _ _ _ _ _ _ c.in_err-skip_set-in-Closed.ensures.found (λ bytes rest k few h.
-    let at : At = record { left = c.args.left; bytes = bytes } in
+    let at : At = record { left = c.args.at.now.left; bytes = bytes } in
     let is = rw c.in-Closed.is at (c.in_ok-reach_of.ensures.exact set c.args.syntax bytes) in
     fails_along c.in_err-skip_set-in-Closed.field-0.0 _ _ (rw c.from-n.ensures at h) (λ e failed.
     deeper_is c.args.levels (c.args.levels - 1) c.args.n c.args.syntax at deeper ∙ is
@@ -122,20 +134,20 @@ skip_part-returns-in-Open-clause-found g t c =
     let deeper : c.args.levels ≡ suc (c.args.levels - 1) = omega arith in
     let set = set_with (item_reader (c.args.levels - 1)) in
     scans_same _ _ _ _ _ _ c.skip_set.ensures.found (λ bytes rest k few h.
-    let at : At = record { left = c.args.left; bytes = bytes } in
+    let at : At = record { left = c.args.at.now.left; bytes = bytes } in
     let is = rw c.in-Open.is at (c.in_ok-reach_of.ensures.exact set c.args.syntax bytes) in
     rw (deeper_is c.args.levels (c.args.levels - 1) c.args.n c.args.syntax at deeper, is)
-    (skips_along (λ (s : Elements). record { length = Undefined; set = s }) _ _ rest h))
+    (skips_along (λ (s : Elements). record { length = Undefined; set = s }) _ _ _ h))
 
 pub skip_part-returns-in_ok-skip_set-in-Closed-clause-found :
     goal.skip_part-returns-in_ok-skip_set-in-Closed-clause-found
 skip_part-returns-in_ok-skip_set-in-Closed-clause-found g t c =
     let deeper : c.args.levels ≡ suc (c.args.levels - 1) = omega arith in
     let set = set_with (item_reader (c.args.levels - 1)) in
-    let left_is : c.left_after.result ≡ left_after c.args.left c.in-Closed.n = c.left_after.ensures
-    ∙ ap (left_after c.args.left) c.from-n.ensures in
+    let left_is : c.left_after-after.result ≡ left_after c.args.at.now.left c.in-Closed.n = c.left_after-after.ensures
+    ∙ ap (left_after c.args.at.now.left) c.from-n.ensures in
     scans_same _ _ _ _ _ _ c.in_ok-skip_set-in-Closed.ensures.found (λ bytes rest k few h.
-    let at : At = record { left = c.args.left; bytes = bytes } in
+    let at : At = record { left = c.args.at.now.left; bytes = bytes } in
     let is = rw c.in-Closed.is at (c.in_ok-reach_of.ensures.exact set c.args.syntax bytes) in
     let read = rw c.from-n.ensures at h.1 in (
       record { length = Defined; set = h.0 },
@@ -148,8 +160,9 @@ skip_part-returns-in_ok-skip_set-in-Closed-clause-found g t c =
 pub skip_set-elements-init : goal.skip_set-elements-init
 skip_set-elements-init g t c =
     record {
+      same = search rules;
       goes = scans_none _ _ _ _ (g.met.F.Feed.stays _) (λ rest k. elements_start (item_reader c.args.levels)
-          c.args.syntax c.args.form c.args.left rest);
+          c.args.syntax c.args.form c.args.at.now.left rest);
       fewer = omega arith;
     }
 
@@ -159,10 +172,10 @@ skip_set-returns-in_err-header-clause-found g t c =
     rw (p.1, p.2) (scans_then _ _ g.met.F.Feed.goes g.met.F.Feed.tells_before _ _ _ _ _ _ c.elements.invariant.goes
     c.in_err-header.ensures.found
     (λ bytes mid rest few fewer go h.
-    elements_stop (item_reader c.args.levels) c.args.syntax c.args.form c.args.left bytes c.elements.left mid
+    elements_stop (item_reader c.args.levels) c.args.syntax c.args.form c.args.at.now.left bytes c.elements.at.left mid
     c.elements.low c.in_err-header.field-0.0 go
     (front_stops (sequence_with (item_reader c.args.levels)) c.args.syntax c.args.form c.elements.low
-    (record { left = c.elements.left; bytes = mid }) c.in_err-header.field-0.0 h)))
+    (record { left = c.elements.at.left; bytes = mid }) c.in_err-header.field-0.0 h)))
 
 pub skip_set-returns-in_default-clause-found : goal.skip_set-returns-in_default-clause-found
 skip_set-returns-in_default-clause-found g t c =
@@ -170,43 +183,47 @@ skip_set-returns-in_default-clause-found g t c =
     c.in_ok-header.ensures.found
     (λ bytes mid rest few fewer go h.
     let ended = element_none (sequence_with (item_reader c.args.levels)) c.args.syntax c.args.form c.elements.low
-    (record { left = c.elements.left; bytes = mid }) _ (rw c.in_default.is at h) in (
+    (record { left = c.elements.at.left; bytes = mid }) _ (rw c.in_default.is at h) in (
       _,
-      elements_end (item_reader c.args.levels) c.args.syntax c.args.form c.args.left bytes c.elements.left mid
+      elements_end (item_reader c.args.levels) c.args.syntax c.args.form c.args.at.now.left bytes c.elements.at.left mid
           c.elements.low _ go ended,
     ))
 
-pub skip_set-returns-in_err-left-clause-found : goal.skip_set-returns-in_err-left-clause-found
-skip_set-returns-in_err-left-clause-found g t c =
-    let p = err_from_is_err_and c.from_residual-in_err-left.result c.from_residual-in_err-left.ensures.1 in
+pub skip_set-returns-in_err-skip_content-clause-found : goal.skip_set-returns-in_err-skip_content-clause-found
+skip_set-returns-in_err-skip_content-clause-found g t c =
+    let p = err_from_is_err_and c.from_residual-in_err-skip_content.result c.from_residual-in_err-skip_content.ensures.1
+    in
     let sequence = sequence_with (item_reader c.args.levels) in
-    let e = c.in_err-left.field-0.0 in
+    let e = c.in_err-skip_content.field-0.0 in
     let one = scans_then _ _ g.met.F.Feed.goes g.met.F.Feed.tells_before _ _ _ _ _
     (λ bytes rest. FailsAs is_memory e (element_at sequence c.args.syntax c.args.form c.elements.low
-    (record { left = c.elements.left; bytes = bytes })))
-    c.in_ok-header.ensures.found c.in_err-left.ensures.found
+    (record { left = c.elements.at.left; bytes = bytes })))
+    c.in_ok-header.ensures.found c.in_err-skip_content.ensures.found
     (λ bytes mid rest few fewer h k. content_stops sequence c.args.syntax c.args.form c.elements.low
-    (record { left = c.elements.left; bytes = bytes }) (header_view c.in-Some.header) _ e (rw c.in-Some.is at h) k)
+    (record { left = c.elements.at.left; bytes = bytes }) (header_view c.in-Some.header) _ e (rw c.in-Some.is at h) k)
     in
     rw (p.1, p.2) (scans_then _ _ g.met.F.Feed.goes g.met.F.Feed.tells_before _ _ _ _ _ _ c.elements.invariant.goes one
-    (λ bytes mid rest few fewer go h. elements_stop (item_reader c.args.levels) c.args.syntax c.args.form c.args.left
-    bytes c.elements.left mid c.elements.low e go h))
+    (λ bytes mid rest few fewer go h. elements_stop (item_reader c.args.levels) c.args.syntax c.args.form
+    c.args.at.now.left
+    bytes c.elements.at.left mid c.elements.low e go h))
 
 pub skip_set-elements-preserved : goal.skip_set-elements-preserved
 skip_set-elements-preserved g t c =
     let part = item_reader c.args.levels in
     let one = scans_then _ _ g.met.F.Feed.goes g.met.F.Feed.tells_before _ _ _ _ _
-    (λ bytes rest. ElementStep (sequence_with part) c.args.syntax c.args.form c.elements.low c.elements.left
-    c.in-Some.header.tag bytes c.in_ok-left.left rest)
-    c.in_ok-header.ensures.found c.in_ok-left.ensures.found
+    (λ bytes rest. ElementStep (sequence_with part) c.args.syntax c.args.form c.elements.low c.elements.at.left
+    c.in-Some.header.tag bytes c.skip_content.new.at.left rest)
+    c.in_ok-header.ensures.found c.in_ok-skip_content.ensures.found
     (λ bytes mid rest few fewer h k. element_steps (sequence_with part) c.args.syntax c.args.form c.elements.low
-    c.elements.left (header_view c.in-Some.header) bytes c.in_ok-header.after c.in_ok-left.left mid rest
+    c.elements.at.left (header_view c.in-Some.header) bytes c.front.new.self.left c.skip_content.new.at.left mid rest
     (rw c.in-Some.is at h) k few) in
     record {
+      same = search rules;
       goes = scans_then _ _ g.met.F.Feed.goes g.met.F.Feed.tells_before _ _ _ _ _ _ c.elements.invariant.goes one
           (λ bytes mid rest few fewer go h.
-          let next = elements_go part c.args.syntax c.args.form c.args.left bytes c.elements.left mid c.elements.low
-          h.entry c.in_ok-left.left rest go h.read h.shorter in
+          let next = elements_go part c.args.syntax c.args.form c.args.at.now.left bytes c.elements.at.left mid
+          c.elements.low
+          h.entry c.skip_content.new.at.left rest go h.read h.shorter in
           rw c.low_after-low.ensures (rw h.tagged at next));
       fewer = omega arith;
     }

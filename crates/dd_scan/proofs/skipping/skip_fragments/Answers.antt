@@ -7,7 +7,8 @@ use Rattle.dd_scan.proofs.skipping.skip_fragments.Goals as goal
 pub fragments-init : goal.fragments-init
 fragments-init g c =
     record {
-      goes = scans_none _ _ _ _ (g.met.F.Feed.stays _) (λ rest k. fragments_start c.args.left rest);
+      same = search rules;
+      goes = scans_none _ _ _ _ (g.met.F.Feed.stays _) (λ rest k. fragments_start c.args.at.now.left rest);
       fewer = omega arith;
     }
 
@@ -17,7 +18,7 @@ returns-in_err-more-clause-found g c =
     rw (p.1, p.2) (scans_then _ _ g.met.F.Feed.goes g.met.F.Feed.tells_before _ _ _ _ _ _ c.fragments.invariant.goes
     c.in_err-more.ensures.found
     (λ bytes mid rest few fewer go h.
-    fragments_stop c.args.left bytes c.fragments.left mid c.in_err-more.field-0.0 go h))
+    fragments_stop c.args.at.now.left bytes c.fragments.at.left mid c.in_err-more.field-0.0 go h))
 
 pub returns-then-not-more-clause-found : goal.returns-then-not-more-clause-found
 returns-then-not-more-clause-found g c =
@@ -26,17 +27,18 @@ returns-then-not-more-clause-found g c =
     c.in_ok-more.ensures.found
     (λ bytes mid rest few fewer go h.
     let is = rw ended at h in
-    (_, fragments_end c.args.left bytes c.fragments.left mid _ go is))
+    (_, fragments_end c.args.at.now.left bytes c.fragments.at.left mid _ go is))
 
 pub fragments-preserved : goal.fragments-preserved
 fragments-preserved g c =
     let going : c.in_ok-more.more ≡ true = search rules in
     record {
+      same = search rules;
       goes = scans_then _ _ g.met.F.Feed.goes g.met.F.Feed.tells_before _ _ _ _ _ _ c.fragments.invariant.goes
           c.in_ok-more.ensures.found
           (λ bytes mid rest few fewer go h.
           let is = rw going at h in
-          fragments_go c.args.left bytes c.fragments.left mid c.in_ok-more.after rest go
-          (fragment_steps c.fragments.left mid c.in_ok-more.after rest is.0 is.1));
+          fragments_go c.args.at.now.left bytes c.fragments.at.left mid c.skip_fragment.new.at.left rest go
+          (fragment_steps c.fragments.at.left mid c.skip_fragment.new.at.left rest is.0 is.1));
       fewer = omega arith;
     }

@@ -12,19 +12,20 @@ returns-in-Bytes-clause-found g c =
     let reader = sequence_with (item_reader max_levels) in
     scans_same _ _ _ _ _ _ c.take_cleaned.ensures.found (λ all rest t few h.
     let is = rw c.in-Bytes.is at (c.in_ok-sort.ensures.exact reader all) in
-    rw is (tells_bytes _ _ rest h))
+    rw is (tells_bytes _ _ _ h))
 
-pub returns-in_err-left-clause-found : goal.returns-in_err-left-clause-found
-returns-in_err-left-clause-found g c =
-    let p = err_from_is_err_and c.from_residual-in_err-left.result c.from_residual-in_err-left.ensures.1 in
-    rw (p.1, p.2) (scans_same _ _ _ _ _ _ c.in_err-left.ensures.found
-    (λ all rest t few h. (h, λ is. absurd (c.in_err-left.ensures.memory (ap (λ e. Err e) is)))))
+pub returns-in_err-skip_content-clause-found : goal.returns-in_err-skip_content-clause-found
+returns-in_err-skip_content-clause-found g c =
+    let p = err_from_is_err_and c.from_residual-in_err-skip_content.result c.from_residual-in_err-skip_content.ensures.1
+    in
+    rw (p.1, p.2) (scans_same _ _ _ _ _ _ c.in_err-skip_content.ensures.found
+    (λ all rest t few h. (h, λ is. absurd (c.in_err-skip_content.ensures.memory (ap (λ e. Err e) is)))))
 
 pub returns-clause-found : goal.returns-clause-found
 returns-clause-found g c =
     let reader = sequence_with (item_reader max_levels) in
-    scans_same _ _ _ _ _ _ c.in_ok-left.ensures.found (λ all rest t few h.
-    let at : At = record { left = c.args.left; bytes = all } in (
+    scans_same _ _ _ _ _ _ c.in_ok-skip_content.ensures.found (λ all rest t few h.
+    let at : At = record { left = c.args.at.now.left; bytes = all } in (
       h.0,
       c.found_of_sort-value.ensures ∙ summary_of_items reader c.in_ok-sort.sort at _ h.0 c.in_default.not-Bytes
           (sym (c.in_ok-sort.ensures.exact reader all) ∙ h.1),

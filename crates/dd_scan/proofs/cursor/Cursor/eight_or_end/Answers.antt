@@ -1,7 +1,7 @@
 use Rattle.std.proofs.Common.{◌≡◌, ◌++◌, length, take, subst, arith}
 use Rattle.std.proofs.lemmas.List.{length-append, take_all}
 use Rattle.dd_scan.proofs.Feeding.{over_length, front_length, top_none, top_found, top_fails}
-use Rattle.dd_scan.proofs.feed_headers.eight_or_end.Goals as goal
+use Rattle.dd_scan.proofs.cursor.Cursor.eight_or_end.Goals as goal
 
 pub returns-then-n-eq0-clause-found : goal.returns-then-n-eq0-clause-found
 returns-then-n-eq0-clause-found g c =
@@ -15,7 +15,8 @@ returns-then-n-eq0-clause-found g c =
       moved = c.fill-n.ensures.moved;
       gives = λ rest t.
           let whole = over_length _ _ taken rest over t in
-          top_none (taken ++ rest) rest (omega arith) (omega (arith, length-append taken rest));
+          top_none c.args.self.now.left (taken ++ rest) rest c.requires (omega arith)
+          (omega (arith, length-append taken rest));
     }
 
 pub returns-then-n-lt8-clause-found : goal.returns-then-n-lt8-clause-found
@@ -30,7 +31,7 @@ returns-then-n-lt8-clause-found g c =
       moved = c.fill-n.ensures.moved;
       gives = λ rest t.
           let whole = over_length _ _ taken rest over t in
-          top_fails (taken ++ rest) (λ none. absurd (omega arith)) (omega arith);
+          top_fails c.args.self.now.left (taken ++ rest) c.requires (λ none. absurd (omega arith)) (omega arith);
     }
 
 pub returns-clause-found : goal.returns-clause-found
@@ -40,6 +41,6 @@ returns-clause-found g c =
     let all : take c.fill-n.result room ≡ room = take_all c.fill-n.result room (omega arith) in
     record {
       taken = room;
-      moved = subst (g.F.Feed.moves c.args.feed.now c.fill-n.new.feed) all c.fill-n.ensures.moved;
-      gives = λ rest t. top_found room rest eight;
+      moved = subst (g.F.Feed.moves c.args.self.now.feed.now c.fill-n.new.feed) all c.fill-n.ensures.moved;
+      gives = λ rest t. top_found c.args.self.now.left room rest c.requires eight;
     }

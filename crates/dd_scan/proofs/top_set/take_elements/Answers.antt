@@ -1,5 +1,6 @@
 -- A header and its value are an element, and the loop reads one after the other, which it keeps or skips.
-use Rattle.std.proofs.Common.{◌≡◌, List, [], ◌∷◌, ◌++◌, ℕ, Ok, Err, None, Some, Result, ap, sym, map, refl, arith}
+use Rattle.std.proofs.Common.{rules, ◌≡◌, List, [], ◌∷◌, ◌++◌, ℕ, Ok, Err, None, Some, Result, ap, sym, map, refl}
+use Rattle.std.proofs.Common.{arith}
 use Rattle.std.proofs.lemmas.List.{map_push}
 use Rattle.std.proofs.lemmas.Result.{err_from_is_err_and}
 use Rattle.dd_encoding.specs.declared.syntax.Length.TheVariants.{Defined}
@@ -16,9 +17,10 @@ use Rattle.dd_grammar.specs.declared.fault.SetFault.TheVariants.{Memory}
 use Rattle.dd_encoding.specs.declared.syntax.Syntax.{Syntax}
 use Rattle.dd_stream.proofs.Along.{scans_none, scans_then}
 use Rattle.dd_grammar.proofs.ReadingOn.{element_none, front_stops, content_stops}
-use Rattle.dd_scan.proofs.Scanned.{ValueStep, value_steps, scan_start, scan_go, scan_past, scan_end, scan_stop, ElementThere}
+use Rattle.dd_scan.proofs.Scanned.{ValueStep, value_steps, scan_start, scan_go, scan_past, scan_end, scan_stop}
+use Rattle.dd_scan.proofs.Scanned.{ElementThere}
 use Rattle.dd_scan.proofs.Scanned.{element_there, scan_wants}
-use Rattle.dd_scan.proofs.top_set.take_set.Goals as goal
+use Rattle.dd_scan.proofs.top_set.take_elements.Goals as goal
 
 -- all of the bytes as one set
 abbrev whole : Syntax → List ℕ → Result Elements SetFault
@@ -37,7 +39,8 @@ stop_is syntax all e h = h
 
 pub elements-init : goal.elements-init
 elements-init g c = record {
-  goes = scans_none _ _ _ _ (g.met.F.Feed.stays _) (λ rest t. rw c.new.ensures.items
+  same = search rules;
+  goes = scans_none _ _ _ _ (g.met.F.Feed.stays _) (λ rest t. rw (c.new.ensures.items, c.requires)
       (scan_start c.args.wanted.now (item_reader max_levels) c.args.syntax rest));
   fewer = omega arith;
 }
@@ -49,9 +52,9 @@ returns-in_default-clause-found g c =
     c.in_ok-header.ensures.found
     (λ all mid rest few fewer go h.
     let ended = element_none (sequence_with part) c.args.syntax Defined c.elements.low
-    (record { left = c.elements.left; bytes = mid }) _ (rw c.in_default.is at h) in (
+    (record { left = c.elements.at.left; bytes = mid }) _ (rw c.in_default.is at h) in (
       elements_of go.front,
-      read_is c.args.syntax all _ (scan_end c.args.wanted.now part c.args.syntax all c.elements.left
+      read_is c.args.syntax all _ (scan_end c.args.wanted.now part c.args.syntax all c.elements.at.left
           c.elements.scan.first (map found_hit c.elements.scan.found.items) mid c.elements.low _ go ended),
       record { first = go.first_is; found = go.hits_are },
     ))
@@ -64,9 +67,9 @@ returns-in_err-header-clause-found g c =
     c.in_err-header.ensures.found
     (λ all mid rest few fewer go h. (
       stop_is c.args.syntax all c.in_err-header.field-0.0 (scan_stop c.args.wanted.now part c.args.syntax all
-          c.elements.left c.elements.scan.first (map found_hit c.elements.scan.found.items) mid c.elements.low
+          c.elements.at.left c.elements.scan.first (map found_hit c.elements.scan.found.items) mid c.elements.low
           c.in_err-header.field-0.0 go (front_stops (sequence_with part) c.args.syntax Defined c.elements.low
-          (record { left = c.elements.left; bytes = mid }) c.in_err-header.field-0.0 h)),
+          (record { left = c.elements.at.left; bytes = mid }) c.in_err-header.field-0.0 h)),
       λ is. absurd (c.in_err-header.ensures.memory (ap (λ f. Err f) is)),
     )))
 
@@ -77,64 +80,71 @@ elements-preserved g c =
     let part = item_reader max_levels in
     let header = header_view c.in-Some.header in
     let one = scans_then _ _ g.met.F.Feed.goes g.met.F.Feed.tells_before _ _ _ _ _
-    (λ all rest. ValueStep (sequence_with part) c.args.syntax c.elements.low c.elements.left header None
-    c.is_wanted.result all c.in_ok-left.left rest)
-    c.in_ok-header.ensures.found c.in_ok-left.ensures.found
-    (λ all mid rest few fewer h k. value_steps (sequence_with part) c.args.syntax c.elements.low c.elements.left header
-    None c.is_wanted.result all c.in_ok-header.rest c.in_ok-left.left mid rest k.0 (rw c.in-Some.is at h)
+    (λ all rest. ValueStep (sequence_with part) c.args.syntax c.elements.low c.elements.at.left header None
+    c.is_wanted.result all c.skip_content.new.at.left rest)
+    c.in_ok-header.ensures.found c.in_ok-skip_content.ensures.found
+    (λ all mid rest few fewer h k. value_steps (sequence_with part) c.args.syntax c.elements.low c.elements.at.left
+    header
+    None c.is_wanted.result all c.front.new.self.left c.skip_content.new.at.left mid rest k.0 (rw c.in-Some.is at h)
     (rw c.if-is_wanted.false refl) k.1 few) in
     record {
+      same = search rules;
       goes = scans_then _ _ g.met.F.Feed.goes g.met.F.Feed.tells_before _ _ _ _ _ _ c.elements.invariant.goes one
           (λ all mid rest few fewer go h.
           let step = rw c.is_wanted.ensures at h in
-          let next = scan_past c.args.wanted.now part c.args.syntax all c.elements.left c.elements.scan.first
-          (map found_hit c.elements.scan.found.items) mid c.elements.low header c.in_ok-left.left rest go step in
+          let next = scan_past c.args.wanted.now part c.args.syntax all c.elements.at.left c.elements.scan.first
+          (map found_hit c.elements.scan.found.items) mid c.elements.low header c.skip_content.new.at.left rest go step
+          in
           rw (c.low_after-low.ensures, c.unwrap_or.ensures) next);
       fewer = omega arith;
     }
 
-pub returns-in_err-left-clause-found : goal.returns-in_err-left-clause-found
-returns-in_err-left-clause-found g c =
-    let p = err_from_is_err_and c.from_residual-in_err-left.result c.from_residual-in_err-left.ensures.1 in
+pub returns-in_err-skip_content-clause-found : goal.returns-in_err-skip_content-clause-found
+returns-in_err-skip_content-clause-found g c =
+    let p = err_from_is_err_and c.from_residual-in_err-skip_content.result c.from_residual-in_err-skip_content.ensures.1
+    in
     let part = item_reader max_levels in
     let header = header_view c.in-Some.header in
-    let e = c.in_err-left.field-0.0 in
+    let e = c.in_err-skip_content.field-0.0 in
     let one = scans_then _ _ g.met.F.Feed.goes g.met.F.Feed.tells_before _ _ _ _ _
     (λ all rest. FailsAs is_memory e (element_at (sequence_with part) c.args.syntax Defined c.elements.low
-    (record { left = c.elements.left; bytes = all })))
-    c.in_ok-header.ensures.found c.in_err-left.ensures.found
+    (record { left = c.elements.at.left; bytes = all })))
+    c.in_ok-header.ensures.found c.in_err-skip_content.ensures.found
     (λ all mid rest few fewer h k. content_stops (sequence_with part) c.args.syntax Defined c.elements.low
-    (record { left = c.elements.left; bytes = all }) header _ e (rw c.in-Some.is at h) k) in
+    (record { left = c.elements.at.left; bytes = all }) header _ e (rw c.in-Some.is at h) k) in
     rw (p.1, p.2) (scans_then _ _ g.met.F.Feed.goes g.met.F.Feed.tells_before _ _ _ _ _ _ c.elements.invariant.goes one
     (λ all mid rest few fewer go h. (
-      stop_is c.args.syntax all e (scan_stop c.args.wanted.now part c.args.syntax all c.elements.left
+      stop_is c.args.syntax all e (scan_stop c.args.wanted.now part c.args.syntax all c.elements.at.left
           c.elements.scan.first (map found_hit c.elements.scan.found.items) mid c.elements.low e go h),
-      λ is. absurd (c.in_err-left.ensures.memory (ap (λ f. Err f) is)),
+      λ is. absurd (c.in_err-skip_content.ensures.memory (ap (λ f. Err f) is)),
     )))
 
 -- ---- an element that is kept
 
-pub elements-preserved-in_ok-push : goal.elements-preserved-in_ok-push
-elements-preserved-in_ok-push g c =
+pub elements-preserved-in-Continue-branch-4 : goal.elements-preserved-in-Continue-branch-4
+elements-preserved-in-Continue-branch-4 g c =
     let part = item_reader max_levels in
     let header = header_view c.in-Some.header in
     let kept : Found = record { tag = c.in-Some.header.tag; value = c.in_ok-value.value } in
     let summary = Some (found_summary c.in_ok-value.value) in
     let one = scans_then _ _ g.met.F.Feed.goes g.met.F.Feed.tells_before _ _ _ _ _
-    (λ all rest. ValueStep (sequence_with part) c.args.syntax c.elements.low c.elements.left header summary
-    c.is_wanted.result all c.in_ok-value.rest rest)
+    (λ all rest. ValueStep (sequence_with part) c.args.syntax c.elements.low c.elements.at.left header summary
+    c.is_wanted.result all c.take_wanted.new.at.left rest)
     c.in_ok-header.ensures.found c.in_ok-value.ensures.found
-    (λ all mid rest few fewer h k. value_steps (sequence_with part) c.args.syntax c.elements.low c.elements.left header
-    summary c.is_wanted.result all c.in_ok-header.rest c.in_ok-value.rest mid rest k.0 (rw c.in-Some.is at h)
+    (λ all mid rest few fewer h k. value_steps (sequence_with part) c.args.syntax c.elements.low c.elements.at.left
+    header
+    summary c.is_wanted.result all c.front.new.self.left c.take_wanted.new.at.left mid rest k.0 (rw c.in-Some.is at h)
     (rw (c.if-is_wanted.true, k.1) refl) k.2 few) in
     let pushed : map found_hit c.push.new.self.items ≡ map found_hit c.elements.scan.found.items
     ++ found_hit kept ∷ [] = rw c.in_ok-push.ensures.items (map_push _ c.elements.scan.found.items kept) in
     record {
+      same = search rules;
       goes = scans_then _ _ g.met.F.Feed.goes g.met.F.Feed.tells_before _ _ _ _ _ _ c.elements.invariant.goes one
           (λ all mid rest few fewer go h.
           let step = rw c.is_wanted.ensures at h in
-          let next = scan_go c.args.wanted.now part c.args.syntax all c.elements.left c.elements.scan.first
-          (map found_hit c.elements.scan.found.items) mid c.elements.low header summary c.in_ok-value.rest rest go
+          let next = scan_go c.args.wanted.now part c.args.syntax all c.elements.at.left c.elements.scan.first
+          (map found_hit c.elements.scan.found.items) mid c.elements.low header summary c.take_wanted.new.at.left rest
+          go
           step in
           rw (c.low_after-low.ensures, c.unwrap_or.ensures, pushed) next);
       fewer = omega arith;
@@ -148,20 +158,20 @@ returns-in_err-value-clause-found g c =
     let e = c.in_err-value.field-0.0 in
     let one = scans_then _ _ g.met.F.Feed.goes g.met.F.Feed.tells_before _ _ _ _ _
     (λ all rest. FailsAs is_memory e (element_at (sequence_with part) c.args.syntax Defined c.elements.low
-    (record { left = c.elements.left; bytes = all })) × (e ≡ Memory → ElementThere (sequence_with part) c.args.syntax
-    c.elements.low c.elements.left header.tag all rest))
+    (record { left = c.elements.at.left; bytes = all })) × (e ≡ Memory → ElementThere (sequence_with part) c.args.syntax
+    c.elements.low c.elements.at.left header.tag all rest))
     c.in_ok-header.ensures.found c.in_err-value.ensures.found
     (λ all mid rest few fewer h k. (
       content_stops (sequence_with part) c.args.syntax Defined c.elements.low
-          (record { left = c.elements.left; bytes = all }) header _ e (rw c.in-Some.is at h) k.0,
-      λ is. element_there (sequence_with part) c.args.syntax c.elements.low c.elements.left header all _ mid rest
+          (record { left = c.elements.at.left; bytes = all }) header _ e (rw c.in-Some.is at h) k.0,
+      λ is. element_there (sequence_with part) c.args.syntax c.elements.low c.elements.at.left header all _ _ mid rest
           (rw c.in-Some.is at h) (k.1 is),
     )) in
     rw (p.1, p.2) (scans_then _ _ g.met.F.Feed.goes g.met.F.Feed.tells_before _ _ _ _ _ _ c.elements.invariant.goes one
     (λ all mid rest few fewer go h. (
-      stop_is c.args.syntax all e (scan_stop c.args.wanted.now part c.args.syntax all c.elements.left
+      stop_is c.args.syntax all e (scan_stop c.args.wanted.now part c.args.syntax all c.elements.at.left
           c.elements.scan.first (map found_hit c.elements.scan.found.items) mid c.elements.low e go h.0),
-      λ is. scan_wants c.args.wanted.now part c.args.syntax all c.elements.left c.elements.scan.first
+      λ is. scan_wants c.args.wanted.now part c.args.syntax all c.elements.at.left c.elements.scan.first
           (map found_hit c.elements.scan.found.items) mid c.elements.low header.tag rest go (h.1 is)
           (rw (sym c.is_wanted.ensures, c.if-is_wanted.true) refl),
     )))
@@ -172,14 +182,14 @@ returns-in_err-push-clause-found g c =
     let part = item_reader max_levels in
     let header = header_view c.in-Some.header in
     let one = scans_then _ _ g.met.F.Feed.goes g.met.F.Feed.tells_before _ _ _ _ _
-    (λ all rest. ElementThere (sequence_with part) c.args.syntax c.elements.low c.elements.left header.tag all rest)
+    (λ all rest. ElementThere (sequence_with part) c.args.syntax c.elements.low c.elements.at.left header.tag all rest)
     c.in_ok-header.ensures.found c.in_ok-value.ensures.found
-    (λ all mid rest few fewer h k. element_there (sequence_with part) c.args.syntax c.elements.low c.elements.left
-    header all _ mid rest (rw c.in-Some.is at h) (k.0, c.in_ok-value.rest, k.2)) in
+    (λ all mid rest few fewer h k. element_there (sequence_with part) c.args.syntax c.elements.low c.elements.at.left
+    header all _ _ mid rest (rw c.in-Some.is at h) (k.0, k.2)) in
     rw (p.1, p.2) (scans_then _ _ g.met.F.Feed.goes g.met.F.Feed.tells_before _ _ _ _ _ _ c.elements.invariant.goes one
     (λ all mid rest few fewer go h. (
       tt,
-      λ is. scan_wants c.args.wanted.now part c.args.syntax all c.elements.left c.elements.scan.first
+      λ is. scan_wants c.args.wanted.now part c.args.syntax all c.elements.at.left c.elements.scan.first
           (map found_hit c.elements.scan.found.items) mid c.elements.low header.tag rest go h
           (rw (sym c.is_wanted.ensures, c.if-is_wanted.true) refl),
     )))
