@@ -1,4 +1,4 @@
--- The bytes that came stand after those that stood there.
+-- Each piece that the feed gives is put into the room after the pieces before it.
 use Rattle.std.proofs.Common.{◌≡◌, ◌≤◌, ℕ, ◌+◌, ◌-◌, ◌++◌, List, length, take, subst, sym, arith}
 use Rattle.std.proofs.Math.Seq.{take-add}
 use Rattle.std.proofs.lemmas.List.{take-append-le, drop-append-le}
