@@ -1,0 +1,4 @@
+mod Four
+mod Rounds
+mod Blocks
+mod Runs

@@ -1,0 +1,12 @@
+//! SHA-256 of four messages at once (FIPS 180-4): each word is a vector, with one lane for each message.
+//!
+//! Its one promise: each digest is the one that `sha2` gives.
+#![tactic(auto)]
+
+mod compression;
+mod constants;
+mod digest;
+mod functions;
+mod padding;
+
+pub use digest::digest4;
