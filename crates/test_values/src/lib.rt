@@ -10,6 +10,8 @@ mod answers;
 #[cfg(test)]
 mod devices;
 #[cfg(test)]
+mod digests;
+#[cfg(test)]
 mod identifiers;
 #[cfg(test)]
 mod keys;
