@@ -31,3 +31,8 @@ PartsAreLong parts = PatientIsLong parts.patient ⊎ StudyIsLong parts.study ⊎
 abbrev pub with_keys_of : Parts → Parts → Parts → Parts → Parts
 with_keys_of parts patient study series =
     record parts { patient = patient.patient; study = study.study; series = series.series }
+
+-- ---- another digest
+
+abbrev pub with_digest : Parts → List ℕ → Parts
+with_digest parts digest = record parts { digest = digest }

@@ -1,7 +1,7 @@
 //! Versions of image instances.
 
 ghost use Rattle.std.specs.Prelude.{◌≡◌, ◌↔◌, IsOk, IsErr, IfOk, IfErr};
-ghost use Rattle.dd_version.specs.Copies.{PartsAreLong, with_keys_of};
+ghost use Rattle.dd_version.specs.Copies.{PartsAreLong, with_digest, with_keys_of};
 ghost use Rattle.dd_version.specs.Fitting.{Fits, IsLeastMisfit, is_empty, least_misfit};
 
 use crate::classes::is_image_class;
@@ -72,6 +72,13 @@ impl Version {
         ensures fits { Fits self.now }
     {
         &self.parts
+    }
+
+    /// Sets the digest, and leaves all keys.
+    pub fn set_digest(&mut self, digest: [u8; 32])
+        ensures { self.new ≡ with_digest self.old digest }
+    {
+        self.parts.digest = digest;
     }
 
     /// An equal version. Memory where no more copies can share a key of more than 22 bytes.
