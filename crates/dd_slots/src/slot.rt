@@ -1,0 +1,87 @@
+//! The bytes of one file.
+
+ghost use Rattle.std.specs.Prelude.{◌≡◌, ◌↔◌, ◌++◌, ℕ, List, [], IfSome, IsNone, IsSome, if◌then◌else◌};
+ghost use Rattle.sha2.specs.Sha256.{sha256};
+ghost use Rattle.dd_slots.specs.Slots.{IsSlotOf};
+
+use sha2::{Digest, Sha256};
+use std::alloc::Global;
+
+/// The most bytes that a slot keeps.
+const MOST: usize = 8 * 1024 * 1024;
+
+/// Keeps the bytes of one file, up to 8 MiB, until they are digested. Where there are more, or memory for them is
+/// refused, it hashes them as they come.
+#[derive(Drop)]
+pub struct Slot {
+    kept: Vec<u8>,
+    hasher: Option<Sha256>,
+}
+
+impl Slot {
+    /// Makes a slot of no bytes. Takes no memory.
+    pub fn new(alloc: Global) -> Slot
+        ensures { IsSlotOf result [] }
+    {
+        Slot {
+            kept: Vec::new(alloc),
+            hasher: None,
+        }
+    }
+
+    /// Forgets the bytes, and keeps the memory for those to come.
+    pub fn clear(&mut self)
+        ensures { IsSlotOf self.new [] }
+    {
+        self.kept.clear();
+        self.hasher = None;
+    }
+
+    /// Takes the next bytes.
+    pub fn take(&mut self, piece: &[u8])
+        ensures { (bytes : List ℕ) → IsSlotOf self.old bytes → IsSlotOf self.new (bytes ++ piece.now) }
+    {
+        if let Some(hasher) = &mut self.hasher {
+            hasher.update(piece);
+            return;
+        }
+        if self.keep(piece) {
+            return;
+        }
+        let mut hasher = Sha256::new();
+        hasher.update(self.kept.as_slice());
+        hasher.update(piece);
+        self.hasher = Some(hasher);
+    }
+
+    // Keeps the next bytes, and answers whether there is room for them.
+    fn keep(&mut self, piece: &[u8]) -> bool
+        ensures kept { self.new.kept.items
+            ≡ (if result then self.old.kept.items ++ piece.now else self.old.kept.items) }
+        ensures same { self.new.hasher ≡ self.old.hasher }
+    {
+        self.kept.len().saturating_add(piece.len()) <= MOST
+            && self.kept.extend_from_slice(piece).is_ok()
+    }
+
+    /// Gives the bytes where all are kept, and None where a hasher has them.
+    pub fn bytes(&self) -> Option<&[u8]>
+        ensures kept { IsSome result ↔ IsNone self.now.hasher }
+        ensures value { (bytes : List ℕ) → IsSlotOf self.now bytes → IfSome result (λ kept. kept.now ≡ bytes) }
+    {
+        match &self.hasher {
+            Some(_) => None,
+            None => Some(self.kept.as_slice()),
+        }
+    }
+
+    /// Computes the SHA-256 (FIPS 180-4) of the bytes. Takes no memory.
+    pub fn digest(&self) -> [u8; 32]
+        ensures { (bytes : List ℕ) → IsSlotOf self.now bytes → result ≡ sha256 bytes }
+    {
+        match &self.hasher {
+            Some(hasher) => hasher.clone().unwrap().finalize(),
+            None => Sha256::digest(self.kept.as_slice()),
+        }
+    }
+}
