@@ -6,8 +6,8 @@ ghost use Rattle.dd_files.specs.Pieces.{IsPiece, piece_given};
 
 use dd_elem::Read;
 
-/// The most bytes of one read.
-pub(crate) const PIECE: usize = 64 * 1024;
+/// The most bytes of one read, and the length of the buffer for it.
+pub const PIECE: usize = 64 * 1024;
 
 /// Says why no piece was read.
 #[derive(Clone, Copy)]
