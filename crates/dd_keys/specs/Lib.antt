@@ -1,6 +1,7 @@
 pub mod Answers
 pub mod Digested
 pub mod Faults
+pub mod Kept
 pub mod RowViews
 pub mod Summaries
 pub mod Table

@@ -8,6 +8,7 @@
 
 mod digesting;
 mod fault;
+mod keeping;
 mod row_checks;
 mod row_values;
 mod rows;
@@ -18,4 +19,5 @@ pub use dd_set::value_at;
 pub use dd_version::{Misfit, Parts, PatientKeys, SeriesKeys, StudyKeys, Version, is_image_class};
 pub use digesting::{Digested, read_digested};
 pub use fault::KeyFault;
-pub use versions::{ingest, one_version, version_of};
+pub use keeping::read_kept;
+pub use versions::{ingest, ingest_kept, one_version, version_of};

@@ -7,16 +7,19 @@ ghost use Rattle.dd_encoding.specs.Syntaxes.{syntax_of};
 ghost use Rattle.dd_version.specs.declared.parts.Parts.{Parts};
 ghost use Rattle.dd_keys.specs.Answers.{Answers, AnswersReader};
 ghost use Rattle.dd_keys.specs.Faults.{first_fault};
+ghost use Rattle.dd_keys.specs.Kept.{AnswersKept};
 ghost use Rattle.dd_keys.specs.Summaries.{AreFronts, IsJudged, summary_fault, summary_parts};
 ghost use Rattle.dd_keys.specs.Versions.{IsVersion};
 
 use crate::digesting::{Digested, read_digested};
 use crate::fault::KeyFault;
+use crate::keeping::read_kept;
 use crate::row_values::RowValues;
 use crate::rows::WANTED;
 use crate::summary::Values;
 use dd_elem::Read;
 use dd_part10::{Meta, parse_file};
+use dd_slots::Slot;
 use dd_version::{Version, is_image_class};
 use sha2::{Digest, Sha256};
 use std::alloc::Global;
@@ -50,6 +53,21 @@ pub fn ingest<R: Read>(alloc: Global, reader: &mut R, limit: u64) -> Result<Vers
     let Digested { file, digest } = read_digested(alloc, reader, &WANTED, limit);
     let scanned = file?;
     version_from(alloc, &scanned.meta, &scanned.found, digest)
+}
+
+/// Reads a version as `ingest` does, with the same refusals, and leaves its digest open, which is 32 zeros until the
+/// caller sets it. All bytes that the reader gives come into the slot in place of what that had: with their SHA-256
+/// the version is the one that `ingest` answers.
+pub fn ingest_kept<R: Read>(
+    alloc: Global,
+    reader: &mut R,
+    slot: &mut Slot,
+    limit: u64,
+) -> Result<Version, KeyFault>
+    ensures { ReadsUpTo R.Read limit reader.old reader.new (AnswersKept result slot.new limit) }
+{
+    let scanned = read_kept(alloc, reader, slot, &WANTED, limit)?;
+    version_from(alloc, &scanned.meta, &scanned.found, [0; 32])
 }
 
 /// The version of a file with this meta information, these values of its data set and this digest; or the
