@@ -3,7 +3,8 @@
 use crate::reading::text_of_keys;
 use crate::refusals::with_patient_id;
 use dd_elem::Ordered;
-use dd_keys::{Version, ingest, version_of};
+use dd_keys::{KeyFault, Version, ingest, ingest_kept, version_of};
+use dd_slots::Slot;
 use dd_vectors::{ByteSource, ask_all, push_bytes, v1, v1_encapsulated, v1_with};
 use std::alloc::Global;
 use std::test::Fail;
@@ -86,13 +87,8 @@ fn file_of(alloc: Global, name: &str) -> Result<Vec<u8>, Fail> {
 }
 
 /// What the answer says: `taken` where the version is that of the bytes.
-fn outcome(
-    alloc: Global,
-    bytes: &[u8],
-    source: &mut ByteSource<'_>,
-    limit: u64,
-) -> Result<String, Fail> {
-    match ingest(alloc, source, limit) {
+fn outcome(alloc: Global, bytes: &[u8], answer: Result<Version, KeyFault>) -> Result<String, Fail> {
+    match answer {
         Ok(version) => {
             let is_same = version.compare(&version_of(alloc, bytes)?).is_eq();
             let word = if is_same { "taken" } else { "another" };
@@ -102,14 +98,34 @@ fn outcome(
     }
 }
 
-/// What becomes of such a file where such a reader gives it.
+/// Reads a version by way of a slot that had other bytes, and gives it the digest of the slot.
+fn version_by_slot(
+    alloc: Global,
+    source: &mut ByteSource<'_>,
+    limit: u64,
+) -> Result<Version, KeyFault> {
+    let mut slot = Slot::new(alloc);
+    slot.take(b"another file");
+    let mut version = ingest_kept(alloc, source, &mut slot, limit)?;
+    version.set_digest(slot.digest());
+    Ok(version)
+}
+
+/// What becomes of such a file where such a reader gives it, in one way and in the other.
 fn ingested(alloc: Global, question: &str) -> Result<String, Fail> {
     let (piece, rest) = question.split_once(' ').ok_or("no piece")?;
     let (fails, rest) = rest.split_once(' ').ok_or("no failure")?;
     let (limit, name) = rest.split_once(' ').ok_or("no file")?;
     let bytes = file_of(alloc, name)?;
-    let mut source = ByteSource::new(&bytes, piece.parse()?, Some(fails.parse()?));
-    outcome(alloc, &bytes, &mut source, limit.parse()?)
+    let (piece, fails, limit) = (piece.parse()?, fails.parse()?, limit.parse()?);
+    let mut source = ByteSource::new(&bytes, piece, Some(fails));
+    let answer = outcome(alloc, &bytes, ingest(alloc, &mut source, limit))?;
+    let mut source = ByteSource::new(&bytes, piece, Some(fails));
+    let kept = outcome(alloc, &bytes, version_by_slot(alloc, &mut source, limit))?;
+    if kept.as_str() != answer.as_str() {
+        return Ok(format!(in alloc; "{answer}, but {kept} by a slot")?);
+    }
+    Ok(answer)
 }
 
 #[test]
@@ -131,7 +147,7 @@ const UNREAD: &str = "\
 /// becomes of them.
 fn failing_at(alloc: Global, bytes: &[u8], piece: u64, fails: u64) -> Result<String, Fail> {
     let mut source = ByteSource::new(bytes, piece, Some(fails));
-    outcome(alloc, bytes, &mut source, 454)
+    outcome(alloc, bytes, ingest(alloc, &mut source, 454))
 }
 
 /// What becomes of V1 with each reader that fails within the range, or with the first of which something else does.

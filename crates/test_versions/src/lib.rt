@@ -1,5 +1,5 @@
 //! Tests of versions: read from the bytes of files, made of parts, and their order. The keys are those of
-//! the records of a directory (PS3.3 section F.5).
+//! the records of a directory (PS3.3 section F.5). Slots, which keep the bytes of files, are tested beside them.
 #![tactic(auto)]
 
 #[cfg(test)]
@@ -14,3 +14,5 @@ mod making;
 mod reading;
 #[cfg(test)]
 mod refusals;
+#[cfg(test)]
+mod slots;
