@@ -1,21 +1,20 @@
 -- Marks in the order of their files: where the first one of a file is found, and that a stable sort keeps it first.
-use Rattle.std.specs.Prelude.{◌≡◌, ◌≢◌, ◌⊎◌, ◌&&◌, ◌<◌, ◌≤◌, ℕ, zero, suc, true, false, not}
+use Rattle.std.specs.Prelude.{◌≡◌, ◌≢◌, ◌&&◌, ◌<◌, ◌≤◌, ℕ, zero, suc, true, false}
 use Rattle.std.specs.Prelude.{List, [], ◌∷◌, Some, nat_lt, length, map, filter, get_or}
 use Rattle.std.specs.Cmp.{IsTotalOrder}
 use Rattle.std.specs.List.{AllWithin}
-use Rattle.std.specs.List.Sorted.{IsPartitionPoint, IsPartitionedBy, IsSorted, IsStable, ties}
-use Rattle.std.specs.Ordering.{is_eq, is_lt, ordering_reverse, ordering_then}
+use Rattle.std.specs.List.Sorted.{IsPartitionPoint, IsPartitionedBy, IsSorted, IsStable}
+use Rattle.std.specs.Ordering.{is_eq, is_lt, ordering_then}
 use Rattle.std.specs.declared.cmp.Ordering.{Ordering}
 use Rattle.std.specs.declared.cmp.Ordering.TheVariants.{Less, Equal, Greater}
-use Rattle.std.proofs.Common.{refl, sym, ◌∙◌, ap, inl, inr, arith, ltb-true, ltb-false, true≢false}
-use Rattle.std.proofs.lemmas.Cmp.{alike_right, nat_list_cmp_total, on_total, then_total}
+use Rattle.std.proofs.Common.{refl, sym, ◌∙◌, ap, arith, ltb-true, ltb-false, true≢false}
+use Rattle.std.proofs.lemmas.Cmp.{nat_list_cmp_total, on_total, then_total}
 use Rattle.std.proofs.lemmas.List.Elements.{filter_agree}
-use Rattle.std.proofs.lemmas.List.MinMax.{ranks_by}
-use Rattle.std.proofs.lemmas.List.Sorted.{sorted_far}
-use Rattle.dd_catalogue.specs.Rising.{by_order, by_test, is_eq_Equal}
+use Rattle.dd_catalogue.specs.Rising.{by_test, is_eq_Equal}
 use Rattle.dd_elem.specs.Ordered.{bytes_cmp}
 use Rattle.dd_engine.specs.declared.marks.Mark.{Mark}
 use Rattle.dd_engine.specs.Picking.{FileKey, file_cmp, found, is_one, key_of, mark_cmp, mark_view}
+use Rattle.dd_engine.proofs.KeyOrder as keys
 
 -- ---- the order of files
 
@@ -31,56 +30,14 @@ one_file v t = both (bytes_cmp v.instance t.instance) (bytes_cmp v.digest t.dige
   both Equal b = refl
   both Greater b = refl
 
-no_difference : (v t : FileKey) → is_one v t ≡ true → file_cmp v t ≡ Equal
-no_difference v t e = is_eq_Equal (file_cmp v t) (sym (one_file v t) ∙ e)
-
-not_before : (v t : FileKey) → is_lt (file_cmp v t) ≡ true → is_one v t ≡ false
-not_before v t e = one_file v t ∙ apart (file_cmp v t) e where
-  apart : (r : Ordering) → is_lt r ≡ true → is_eq r ≡ false
-  apart Less e = refl
-  apart Equal e = cc
-  apart Greater e = refl
-
 not_after : (v t : FileKey) → is_one v t ≡ true → is_lt (file_cmp v t) ≡ false
-not_after v t e = ap is_lt (no_difference v t e)
-
--- a file that is neither before another nor after an equal one is that other
-between : (v w t : FileKey) → is_lt (file_cmp v t) ≡ false → is_lt (file_cmp w v) ≡ false → is_one w t ≡ true
-    → is_one v t ≡ true
-between v w t below above same =
-    let turned : is_lt (ordering_reverse (file_cmp v t)) ≡ false =
-    ap is_lt (sym (file_total.antisymm t v) ∙ sym (file_total.congr w t v (no_difference w t same))) ∙ above in
-    one_file v t ∙ tied (file_cmp v t) below turned
-  where
-    tied : (r : Ordering) → is_lt r ≡ false → is_lt (ordering_reverse r) ≡ false → is_eq r ≡ true
-    tied Less e f = cc
-    tied Equal e f = refl
-    tied Greater e f = cc
-
-before_too : (v w t : FileKey) → is_lt (file_cmp w v) ≡ false → is_lt (file_cmp w t) ≡ true
-    → is_lt (file_cmp v t) ≡ true
-before_too v w t behind less = by_order (file_cmp w v)
-    (λ e. cc (ap is_lt e, behind))
-    (λ e. ap is_lt (sym (file_total.congr w v t e)) ∙ less)
-    (λ e. let first : file_cmp v w ≡ Less = file_total.antisymm v w ∙ ap ordering_reverse e in
-    ap is_lt (file_total.trans v w t first (is_less (file_cmp w t) less)))
-  where
-    is_less : (r : Ordering) → is_lt r ≡ true → r ≡ Less
-    is_less Less e = refl
-    is_less Equal e = cc
-    is_less Greater e = cc
+not_after v t e = ap is_lt (is_eq_Equal (file_cmp v t) (sym (one_file v t) ∙ e))
 
 -- ---- a search among marks in that order
 
-sorted_at : {T : Type 0} (marks : List (Mark T)) → IsSorted mark_cmp marks → (i j : ℕ) (d : Mark T) → i ≤ j
-    → j < length marks → is_lt (mark_cmp (get_or marks j d) (get_or marks i d)) ≡ false
-sorted_at marks order = sorted_far (λ a b. is_lt (mark_cmp a b)) (ranks_by file_total (λ mark. key_of mark)) marks order
-
 pub parted : {T : Type 0} (marks : List (Mark T)) (t : FileKey) → IsSorted mark_cmp marks
     → IsPartitionedBy (λ mark. is_lt (file_cmp (key_of mark) t)) marks
-parted marks t order i j d up below less =
-    before_too (key_of (get_or marks i d)) (key_of (get_or marks j d)) t
-    (sorted_at marks order i j d up below) less
+parted marks t order = keys.parted (λ mark. key_of mark) file_total marks t order
 
 -- where a mark of the file is: its place, and a mark
 record IsThere {T : Type 0} (marks : List (Mark T)) (t : FileKey) (k : ℕ) : Type 0 where
@@ -127,51 +84,31 @@ first_found marks t i order some point =
     let within : i < length marks = omega (arith, near, there.within) in (
       within,
       λ d. first_at marks t i d within
-          (λ j less. not_before (key_of (get_or marks j d)) t (point.0 j d (omega arith) less))
-          (between (key_of (get_or marks i d)) (key_of (get_or marks k d)) t (point.1 i d (omega arith) within)
-          (sorted_at marks order i k d near there.within) (there.same d)),
+          (λ j less. one_file (key_of (get_or marks j d)) t
+          ∙ keys.not_before (file_cmp (key_of (get_or marks j d)) t) (point.0 j d (omega arith) less))
+          (one_file (key_of (get_or marks i d)) t
+          ∙ keys.between file_total (key_of (get_or marks i d)) (key_of (get_or marks k d)) t
+          (point.1 i d (omega arith) within)
+          (keys.sorted_at (λ mark. key_of mark) file_total marks order i k d near there.within)
+          (sym (one_file (key_of (get_or marks k d)) t) ∙ there.same d)),
     )
 
 -- ---- a stable sort in that order
 
-tied : (x y : FileKey) → (not (is_lt (file_cmp x y)) && not (is_lt (file_cmp y x))) ≡ is_eq (file_cmp y x)
-tied x y = ap (λ r. not (is_lt r) && not (is_lt (file_cmp y x))) (file_total.antisymm x y) ∙ each (file_cmp y x) where
-  each : (r : Ordering) → (not (is_lt (ordering_reverse r)) && not (is_lt r)) ≡ is_eq r
-  each Less = refl
-  each Equal = refl
-  each Greater = refl
-
 -- the marks of the file
-abbrev pub marks_of : {T : Type 0} → FileKey → List (Mark T) → List (Mark T)
+abbrev marks_of : {T : Type 0} → FileKey → List (Mark T) → List (Mark T)
 marks_of t marks = filter (λ mark. is_one (key_of mark) t) marks
 
-ties_of : {T : Type 0} (t : FileKey) (mark : Mark T) (marks : List (Mark T)) → is_one (key_of mark) t ≡ true
-    → filter (ties (λ a b. is_lt (mark_cmp a b)) mark) marks ≡ marks_of t marks
-ties_of t mark marks e =
-    filter_agree (ties (λ a b. is_lt (mark_cmp a b)) mark) (λ other. is_one (key_of other) t) (λ other.
-    tied (key_of mark) (key_of other)
-    ∙ ap is_eq (alike_right file_total (key_of mark) t (key_of other) (no_difference (key_of mark) t e))
-    ∙ sym (one_file (key_of other) t)) marks
+marks_agree : {T : Type 0} (t : FileKey) (marks : List (Mark T))
+    → marks_of t marks ≡ filter (λ mark. is_eq (file_cmp (key_of mark) t)) marks
+marks_agree t marks =
+    filter_agree (λ mark. is_one (key_of mark) t) (λ mark. is_eq (file_cmp (key_of mark) t))
+    (λ mark. one_file (key_of mark) t) marks
 
-one_or_none : {T : Type 0} (t : FileKey) (marks : List (Mark T))
-    → ((mark : Mark T) × (is_one (key_of mark) t ≡ true)) ⊎ (marks_of t marks ≡ [])
-one_or_none t [] = inr refl
-one_or_none t (mark ∷ marks) = by_test (is_one (key_of mark) t)
-    (λ e. inl (mark, e))
-    (λ e. rw e (one_or_none t marks))
-
-pub marks_stay : {T : Type 0} (xs ys : List (Mark T)) → IsStable mark_cmp xs ys → (t : FileKey)
+marks_stay : {T : Type 0} (xs ys : List (Mark T)) → IsStable mark_cmp xs ys → (t : FileKey)
     → marks_of t ys ≡ marks_of t xs
-marks_stay {T} xs ys stable t = by (one_or_none t xs) (one_or_none t ys) where
-  by_mark : (mark : Mark T) × (is_one (key_of mark) t ≡ true) → marks_of t ys ≡ marks_of t xs
-  by_mark (mark, e) = sym (ties_of t mark ys e) ∙ stable mark ∙ ties_of t mark xs e
-
-  by : ((mark : Mark T) × (is_one (key_of mark) t ≡ true)) ⊎ (marks_of t xs ≡ [])
-      → ((mark : Mark T) × (is_one (key_of mark) t ≡ true)) ⊎ (marks_of t ys ≡ [])
-      → marks_of t ys ≡ marks_of t xs
-  by (inl one) other = by_mark one
-  by (inr none) (inl one) = by_mark one
-  by (inr none) (inr other) = other ∙ sym none
+marks_stay xs ys stable t =
+    marks_agree t ys ∙ keys.elements_stay (λ mark. key_of mark) file_total xs ys stable t ∙ sym (marks_agree t xs)
 
 -- what is found is the first of the marks of the file
 first_of : {T : Type 0} (t : FileKey) (marks : List (Mark T))

@@ -7,6 +7,7 @@ mod FirstMentions
 mod FirstSaying
 mod ImagePicks
 mod KeptImages
+mod KeyOrder
 mod Lending
 mod MergePlans
 mod MergedMaps
