@@ -1,5 +1,5 @@
 //! The command `index`: makes a file-set of sources.
-ghost use Rattle.std.specs.Prelude.{◌≡◌, ◌≤◌, ℕ, IfErr, IfOk, IsErr, IsOk, false, length, true};
+ghost use Rattle.std.specs.Prelude.{◌≡◌, ◌≤◌, IfErr, IfOk, IsErr, IsOk, false, length, true};
 ghost use Rattle.dd_elem.specs.Device.{HasFailed};
 ghost use Rattle.dd_engine.specs.Indexed.{IsNamed, IsWithin};
 ghost use Rattle.dd_engine.specs.IndexNotes.{NotesSupply};
@@ -143,20 +143,13 @@ fn refuse<O: Write>(
     requires conflict { IsBelow (λ at. at) (length sources.now) noted.now.conflict }
     ensures { IsOfWork (length sources.now) result }
 {
-    if let EngineFault::Plan(fault) = &noted.fault {
-        tell_conflict(fault, &noted.conflict, sources, out);
-    }
-    refusal_of(noted.fault)
-}
-
-/// Gives the refusal of a run whose index has this fault.
-fn refusal_of(fault: EngineFault) -> Refusal
-    ensures { (sources : ℕ) → IsNamed sources fault → IsOfWork sources result }
-{
-    match fault {
+    match noted.fault {
         EngineFault::Memory => Refusal::memory(),
         EngineFault::Absent(at) => Refusal::of(Subject::Source(at), ProgramFault::Absent),
         EngineFault::Unread(at) => Refusal::of(Subject::Source(at), ProgramFault::Unread),
-        EngineFault::Plan(fault) => Refusal::general(ProgramFault::Plan(fault)),
+        EngineFault::Plan(fault) => {
+            tell_conflict(&fault, &noted.conflict, sources, out);
+            Refusal::general(ProgramFault::Plan(fault))
+        }
     }
 }

@@ -222,20 +222,13 @@ fn refuse<O: Write>(
     requires conflict { IsBelow (λ pick. pick.set) (length folders.now) noted.now.conflict }
     ensures { IsOfWork (length folders.now) result }
 {
-    if let MergeFault::Plan(fault) = &noted.fault {
-        tell_conflict(fault, &noted.conflict, folders, out);
-    }
-    refusal_of(noted.fault)
-}
-
-/// Gives the refusal of a run whose merge has this fault.
-fn refusal_of(fault: MergeFault) -> Refusal
-    ensures { (sets : ℕ) → IsNamedSet sets fault → IsOfWork sets result }
-{
-    match fault {
+    match noted.fault {
         MergeFault::Memory => Refusal::memory(),
         MergeFault::Dir(at, fault) => Refusal::of(Subject::Source(at), ProgramFault::Dir(fault)),
         MergeFault::Own(at, fault) => Refusal::of(Subject::Source(at), ProgramFault::Own(fault)),
-        MergeFault::Plan(fault) => Refusal::general(ProgramFault::Plan(fault)),
+        MergeFault::Plan(fault) => {
+            tell_conflict(&fault, &noted.conflict, folders, out);
+            Refusal::general(ProgramFault::Plan(fault))
+        }
     }
 }

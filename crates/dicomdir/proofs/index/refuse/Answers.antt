@@ -1,5 +1,0 @@
-use Rattle.std.specs.Prelude.{length}
-use Rattle.dicomdir.proofs.index.refuse.Goals as goal
-
-pub returns : goal.returns
-returns g c = c.refusal_of.ensures (length c.args.sources.now) c.requires.named
