@@ -1,14 +1,13 @@
 //! The commands `merge` and `withdraw`: make a file-set of others.
-ghost use Rattle.std.specs.Prelude.{◌≡◌, ◌↔◌, ◌<◌, ◌≤◌, ℕ, [], All, IfErr, IfOk, IsErr, IsOk, IsTrue};
+ghost use Rattle.std.specs.Prelude.{◌≡◌, ◌↔◌, ◌<◌, ◌≤◌, ℕ, [], IfErr, IfOk, IsErr, IsOk, IsTrue};
 ghost use Rattle.std.specs.Prelude.{◌∷◌, false, length, map, string_bytes, true};
 ghost use Rattle.dd_elem.specs.Device.{HasFailed};
 ghost use Rattle.dd_engine.specs.Merging.{IsNamedSet};
-ghost use Rattle.dd_engine.specs.Noting.{AreBelow, IsBelow};
-ghost use Rattle.dd_engine.specs.SetNotes.{NameSetsBelow};
+ghost use Rattle.dd_engine.specs.Noting.{IsBelow};
 ghost use Rattle.dd_line.specs.Line.{words_of};
 ghost use Rattle.dicomdir.specs.Made.{IsMemberPath, MakesFileSet, MayLink};
 ghost use Rattle.dicomdir.specs.Merges.{DoneMerges};
-ghost use Rattle.dicomdir.specs.Noted.{IsNoted};
+ghost use Rattle.dicomdir.specs.Noted.{IsNoted, NamesBelow};
 ghost use Rattle.dicomdir.specs.Refusal.{IsOfWork, IsStrict};
 
 use crate::file_set::FileSet;
@@ -129,11 +128,7 @@ fn write_noted<'a, F: Files + Progress, O: Write>(
     out: &mut O,
 ) -> Result<u8, Refusal>
     requires sets { length sets.now.directories.now ≡ length sets.now.folders.now }
-    requires named { NameSetsBelow (length sets.now.folders.now) noted.now.sets }
-    requires within { All (λ pick. pick.set < length sets.now.folders.now)
-        noted.now.merged.picks.items }
-    requires below { AreBelow (λ pick. pick.set) (length sets.now.folders.now)
-        noted.now.notes.left_out.items }
+    requires named { NamesBelow (length sets.now.folders.now) noted.now }
     ensures refusal { IfErr result (IsOfWork (length sets.now.folders.now)) }
     ensures status { IfOk result (λ status. status ≤ 1) }
     ensures dry { making.entry.dry_run ≡ true → F.held files.new ≡ F.held files.old }
@@ -179,9 +174,7 @@ fn tell_noted<O: Write>(
     folders: &[String],
     out: &mut O,
 ) -> fmt::Result
-    requires below { AreBelow (λ pick. pick.set) (length folders.now)
-        noted.now.notes.left_out.items }
-    requires named { NameSetsBelow (length folders.now) noted.now.sets }
+    requires { NamesBelow (length folders.now) noted.now }
     ensures worked { IsOk result → O.failures out.new ≡ O.failures out.old }
     ensures failed { IsErr result → HasFailed (O.failures out.old) (O.failures out.new) }
 {
