@@ -1,4 +1,4 @@
--- Texts that go on their way to a writer, one behind the other.
+-- Texts that go on their way to a writer, one after the other.
 use Rattle.std.proofs.Common.{◌≡◌, ◌∙◌, ℕ, zero, suc, List, [], ◌∷◌, ◌++◌, ◌+◌, ◌-◌, ◌<◌, ◌≤◌, Option, Result, Ok, Err}
 use Rattle.std.proofs.Common.{length}
 use Rattle.std.proofs.Common.{take, drop, get_or, refl, sym, ap, subst, arith, append_assoc, append-nil}
@@ -36,8 +36,8 @@ fails_front one two a b failed =
     subst (λ (xs : List ℕ). FailsAmid a.holds b.holds a.failures b.failures xs) (append_assoc a.waits one two)
     (fails_before (a.waits ++ one) two a.holds b.holds a.failures b.failures failed)
 
-pub fails_behind : (one two : List ℕ) (a b c : Way) → GoesOn one a b → Fails two b c → Fails (one ++ two) a c
-fails_behind one two a b c first failed =
+pub fails_next : (one two : List ℕ) (a b c : Way) → GoesOn one a b → Fails two b c → Fails (one ++ two) a c
+fails_next one two a b c first failed =
     let all : a.waits ++ (one ++ two) ≡ first.gone ++ ((b.waits ++ two) ++ []) =
     sym (append_assoc a.waits one two) ∙ ap (λ (xs : List ℕ). xs ++ two) first.parts
     ∙ append_assoc first.gone b.waits two
@@ -51,7 +51,7 @@ fails_behind one two a b c first failed =
 pub tells_then : {T E : Type 0} (r : Result T E) (one two : List ℕ) (a b c : Way)
     → GoesOn one a b → Tells r two b c → Tells r (one ++ two) a c
 tells_then (Ok done) one two a b c first second = goes_then one two a b c first second
-tells_then (Err fault) one two a b c first second = fails_behind one two a b c first second
+tells_then (Err fault) one two a b c first second = fails_next one two a b c first second
 
 -- a failure in the first text is one in both
 pub tells_more : {T E : Type 0} (r : Result T E) (one two : List ℕ) (a b : Way)
@@ -153,7 +153,7 @@ went_fails r t xs i d piece text a b c err within is whole so_far failed =
     ∙ ap (λ (ys : List ℕ). (front ++ ys) ++ flat_map t (drop (i + 1) xs)) (sym is) in
     tells_err r text a c err (subst (λ (whole : List ℕ). Fails whole a c) (sym all)
     (fails_front (front ++ piece) (flat_map t (drop (i + 1) xs)) a c
-    (fails_behind front piece a b c so_far failed)))
+    (fails_next front piece a b c so_far failed)))
 
 -- ---- texts as those of elements
 
@@ -210,7 +210,7 @@ repeat_fails r i n xs a b c err within so_far failed =
     ∙ ap (λ (ys : List ℕ). ys ++ repeat (n - (i + 1)) xs) (repeat_more i xs) in
     tells_err r (repeat n xs) a c err (subst (λ (text : List ℕ). Fails text a c) (sym all)
     (fails_front (repeat i xs ++ xs) (repeat (n - (i + 1)) xs) a c
-    (fails_behind (repeat i xs) xs a b c so_far failed)))
+    (fails_next (repeat i xs) xs a b c so_far failed)))
 
 pub repeat_goes : (i : ℕ) (xs : List ℕ) (a b c : Way) → GoesOn (repeat i xs) a b → GoesOn xs b c
     → GoesOn (repeat (i + 1) xs) a c

@@ -14,7 +14,7 @@ use Rattle.dd_report.specs.declared.known.Form.TheVariants.{Long}
 use Rattle.dd_report.specs.Listing.{branch_lines, lines_in, lines_of, long_listing, or_dash, record_line, set_line}
 use Rattle.dd_report.specs.Listing.{set_parts, totals_line, withdrawn_lines}
 use Rattle.dd_report.specs.Telling.{Fails, GoesOn, Tells, Way, shown_line}
-use Rattle.dd_report.proofs.GoingOn.{fails_behind, fails_front, one_more, tells_err, tells_then}
+use Rattle.dd_report.proofs.GoingOn.{fails_next, fails_front, one_more, tells_err, tells_then}
 
 -- ---- lines
 
@@ -72,7 +72,7 @@ withdrawn_fails r form forest trees a b c err is records failed =
     let lines = withdrawn_lines (withdrawn_of (walk_view forest)) in
     let last = totals_line (walk_view forest) in
     tells_err r (lines_in form (walk_view forest)) a c err
-    (fails_behind (lines_of form 0 (trees_view forest.trees.items)) (lines ++ last) a b c
+    (fails_next (lines_of form 0 (trees_view forest.trees.items)) (lines ++ last) a b c
     (subst (λ (ts : List Tree). GoesOn (lines_of form 0 (trees_view ts)) a b) is records)
     (fails_front lines last b c failed))
 

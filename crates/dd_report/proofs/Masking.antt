@@ -25,7 +25,7 @@ pub masked-nil : masked [] ≡ []
 unfolding masked
 masked-nil = ap (λ (cs : List ℕ). encode_utf8_all (map masked_char cs)) chars-nil
 
--- two texts, one behind the other
+-- two texts, one after the other
 pub masked-append : (one two : List ℕ) → IsUtf8 one → masked (one ++ two) ≡ masked one ++ masked two
 unfolding masked
 masked-append one two utf8 =
@@ -48,38 +48,38 @@ masked_none text utf8 none =
 
 -- ---- a control character
 
--- one, and a text behind it
-masked_control : (text behind : List ℕ) (c : ℕ) → IsUtf8 text → text ≡ encode_utf8 c ++ behind → is_control c ≡ true
-    → masked text ≡ 63 ∷ masked behind
+-- one, and a text after it
+masked_control : (text after : List ℕ) (c : ℕ) → IsUtf8 text → text ≡ encode_utf8 c ++ after → is_control c ≡ true
+    → masked text ≡ 63 ∷ masked after
 unfolding masked
-masked_control text behind c utf8 is control =
-    ap (λ (cs : List ℕ). encode_utf8_all (map masked_char cs)) (chars_past_char text behind c utf8 is)
-    ∙ rw control (ap (λ (bs : List ℕ). bs ++ masked behind) (encode_ascii 63 (lit< tt)))
+masked_control text after c utf8 is control =
+    ap (λ (cs : List ℕ). encode_utf8_all (map masked_char cs)) (chars_past_char text after c utf8 is)
+    ∙ rw control (ap (λ (bs : List ℕ). bs ++ masked after) (encode_ascii 63 (lit< tt)))
 
--- the first one, between what stands before it and behind it: `Test` holds of the tests that the pattern finds by
-pub masked_first : (Test : (ℕ → Bool) → Type 0) (text front behind part : List ℕ)
+-- the first one, between what comes before it and after it: `Test` holds of the tests that the pattern finds by
+pub masked_first : (Test : (ℕ → Bool) → Type 0) (text front after part : List ℕ)
     → IsUtf8 text → IsUtf8 part → part ≡ front → Test is_control
-    → SplitsAroundMatch (λ s found. (test : ℕ → Bool) → Test test → FindsBy test s found) text front behind
-    → masked text ≡ part ++ (63 ∷ masked behind)
-masked_first Test text front behind part utf8 part_utf8 is_part is
-    (i, j, finds, is_front, is_behind, order, front_len, behind_len) =
+    → SplitsAroundMatch (λ s found. (test : ℕ → Bool) → Test test → FindsBy test s found) text front after
+    → masked text ≡ part ++ (63 ∷ masked after)
+masked_first Test text front after part utf8 part_utf8 is_part is
+    (i, j, finds, is_front, is_after, order, front_len, after_len) =
     let found : FindsBy is_control text (Some (i, j)) = finds is_control is in
     let is_cut : part ≡ take i text = is_part ∙ is_front in
     let cut : IsUtf8 (take i text) = subst IsUtf8 is_cut part_utf8 in
     let within : i ≤ length text = omega arith in
     let rest_utf8 = IsUtf8-drop text i utf8 (IsCharBoundary-from_take text i utf8 within cut) in
-    let split : drop i text ≡ encode_utf8 found.1.0 ++ behind =
-    found.1.2.split ∙ ap (λ (xs : List ℕ). encode_utf8 found.1.0 ++ xs) (sym is_behind) in
+    let split : drop i text ≡ encode_utf8 found.1.0 ++ after =
+    found.1.2.split ∙ ap (λ (xs : List ℕ). encode_utf8 found.1.0 ++ xs) (sym is_after) in
     ap masked (sym (take-append-drop i text))
     ∙ masked-append (take i text) (drop i text) cut
     ∙ ap₂ (λ (xs ys : List ℕ). xs ++ ys) (masked_none (take i text) cut found.0 ∙ sym is_cut)
-    (masked_control (drop i text) behind found.1.0 rest_utf8 split found.1.1)
+    (masked_control (drop i text) after found.1.0 rest_utf8 split found.1.1)
 
--- what stands behind it is shorter than the text
-pub behind_shorter : (Test : (ℕ → Bool) → Type 0) (text front behind : List ℕ) → Test is_control
-    → SplitsAroundMatch (λ s found. (test : ℕ → Bool) → Test test → FindsBy test s found) text front behind
-    → length behind < length text
-behind_shorter Test text front behind is (i, j, finds, is_front, is_behind, order, front_len, behind_len) =
+-- what comes after it is shorter than the text
+pub rest_shorter : (Test : (ℕ → Bool) → Type 0) (text front after : List ℕ) → Test is_control
+    → SplitsAroundMatch (λ s found. (test : ℕ → Bool) → Test test → FindsBy test s found) text front after
+    → length after < length text
+rest_shorter Test text front after is (i, j, finds, is_front, is_after, order, front_len, after_len) =
     let found : FindsBy is_control text (Some (i, j)) = finds is_control is in
     omega (arith, found.1.2.ends, (len_utf8_bounds found.1.0).0)
 

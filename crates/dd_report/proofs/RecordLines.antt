@@ -15,7 +15,7 @@ use Rattle.dd_dir.specs.Trees.{Node}
 use Rattle.dd_report.specs.declared.known.Form.{Form}
 use Rattle.dd_report.specs.Listing.{flag_of, label_of, or_dash, record_parts, spaced, tags_in, value_parts}
 use Rattle.dd_report.specs.Telling.{Fails, GoesOn, Tells, Way, shown, shown_byte, shown_line}
-use Rattle.dd_report.proofs.GoingOn.{fails_behind, fails_front, goes_then, line_ends, line_fails}
+use Rattle.dd_report.proofs.GoingOn.{fails_next, fails_front, goes_then, line_ends, line_fails}
 
 -- ---- two rows of parts
 
@@ -34,7 +34,7 @@ second_fails : {T E : Type 0} (r : Result T E) (one two : List (List ℕ)) (a b 
 second_fails r one two a b c err first failed =
     line_fails r (one ++ two) a c err
     (subst (λ (text : List ℕ). Fails text a c) (sym (shown_append one two))
-    (fails_behind (shown (concat one)) (shown (concat two)) a b c first failed))
+    (fails_next (shown (concat one)) (shown (concat two)) a b c first failed))
 
 both_end : {T E : Type 0} (r : Result T E) (one two : List (List ℕ)) (a b c d : Way)
     → GoesOn (shown (concat one)) a b → GoesOn (shown (concat two)) b c → Tells r (10 ∷ []) c d
@@ -93,7 +93,7 @@ pub values_fail : {T E : Type 0} (r : Result T E) (form : Form) (t : Tree) (word
     → Tells r (shown_line (record_parts form (tree_view t).node)) a c
 values_fail r form t words values a b c err words_is values_is first failed =
     subst (λ (all : List (List ℕ)). Tells r (shown_line all) a c)
-    (ap₂ (λ (front behind : List (List ℕ)). front ++ behind) words_is values_is)
+    (ap₂ (λ (front after : List (List ℕ)). front ++ after) words_is values_is)
     (second_fails r words values a b c err first failed)
 
 pub record_ends : {T E : Type 0} (r : Result T E) (form : Form) (t : Tree) (words values : List (List ℕ))
@@ -102,7 +102,7 @@ pub record_ends : {T E : Type 0} (r : Result T E) (form : Form) (t : Tree) (word
     → Tells r (shown_line (record_parts form (tree_view t).node)) a d
 record_ends r form t words values a b c d words_is values_is first second end =
     subst (λ (all : List (List ℕ)). Tells r (shown_line all) a d)
-    (ap₂ (λ (front behind : List (List ℕ)). front ++ behind) words_is values_is)
+    (ap₂ (λ (front after : List (List ℕ)). front ++ after) words_is values_is)
     (both_end r words values a b c d first second end)
 
 -- ---- its values

@@ -37,10 +37,10 @@ sent_last text part a b c f g h so_far took = (
   subst (Appends a c) (sym so_far.parts) (Appends-trans a b c so_far.gone part so_far.took.1 took.1),
 )
 
--- the front of a part, behind what went before it
-front_behind : (gone part rest : List ℕ) (n : ℕ) → n < length part
+-- the front of a part, after what went before it
+front_after : (gone part rest : List ℕ) (n : ℕ) → n < length part
     → take (length gone + n) (gone ++ (part ++ rest)) ≡ gone ++ take n part
-front_behind gone part rest n within =
+front_after gone part rest n within =
     take-append-add gone (part ++ rest) n
     ∙ ap (λ (xs : List ℕ). gone ++ xs) (take-append-le n part rest (omega (arith, within)))
 
@@ -54,7 +54,7 @@ fails_more text part rest a b c f g h so_far failed =
       within = subst (λ (xs : List ℕ). length so_far.gone + n < length xs) (sym so_far.parts)
           (omega (arith, failed.within, length-append so_far.gone (part ++ rest), length-append part rest));
       front = subst (λ (xs : List ℕ). Appends a c (take (length so_far.gone + n) xs)) (sym so_far.parts)
-          (subst (Appends a c) (sym (front_behind so_far.gone part rest n failed.within))
+          (subst (Appends a c) (sym (front_after so_far.gone part rest n failed.within))
           (Appends-trans a b c so_far.gone (take n part) so_far.took.1 failed.front));
       failed = subst (λ (n : ℕ). HasFailed n h) so_far.took.0 failed.failed;
     }
@@ -122,7 +122,7 @@ line_from parts i d within utf8 =
     ∙ ap (λ (xs : List ℕ). xs ++ 10 ∷ []) (masked-append (get_or parts i d).now (joined (drop (i + 1) parts)) utf8)
     ∙ append_assoc (masked (get_or parts i d).now) (masked (joined (drop (i + 1) parts))) (10 ∷ [])
 
--- behind the last part its end
+-- after the last part its end
 line_end : (parts : List (Bor (List ℕ))) (i : ℕ) → length parts ≤ i → line_text (drop i parts) ≡ 10 ∷ []
 line_end parts i past = ap line_text (drop_all i parts past) ∙ ap (λ (xs : List ℕ). xs ++ 10 ∷ []) masked-nil
 
@@ -155,7 +155,7 @@ part_fails parts i d held a b c f g h within so_far failed utf8 =
     fails_then (line_text parts) held (masked (get_or parts i d).now) (line_text (drop (i + 1) parts)) a b c f g h
     (part_next parts i d held a b f g within utf8 so_far) failed
 
--- behind the last part the end of the line waits
+-- after the last part the end of the line waits
 pub end_next : (parts : List (Bor (List ℕ))) (i : ℕ) (held : List ℕ) (a b : Option (List ℕ)) (f g : ℕ)
     → length parts ≤ i → SentTo parts i held a b f g → Sent (line_text parts) (held ++ 10 ∷ []) a b f g
 end_next parts i held a b f g past so_far =

@@ -32,7 +32,7 @@ use Rattle.dd_report.specs.Agreements.{standings_below}
 use Rattle.dd_report.specs.Finding.{FindsBy, IsFound, NamesFile, file_in}
 use Rattle.dd_report.specs.Telling.{Fails, GoesOn, Way, shown}
 use Rattle.dd_report.specs.Text.{FailsAmid, TakesAll}
-use Rattle.dd_report.proofs.GoingOn.{all_goes, fails_behind, fails_of_none, goes_none, goes_then, none_goes}
+use Rattle.dd_report.proofs.GoingOn.{all_goes, fails_next, fails_of_none, goes_none, goes_then, none_goes}
 use Rattle.dd_report.proofs.GoingOn.{one_more, parted}
 
 -- ---- nothing is printed only where nothing is found
@@ -99,7 +99,7 @@ one_tree_more above trees i t within is =
     (sym (standings_each above (take i trees)))
     ∙ ap (λ (x : Tree). standings_below above (trees_view (take i trees)) ++ tree_standings above x) (sym is)
 
--- and of those behind
+-- and of those after it
 trees_parted : (above : List Node) (trees : List Tree) (i : ℕ) (t : Tree) → i < length trees → t ≡ get_or trees i t
     → standings_below above (trees_view trees)
     ≡ (standings_below above (trees_view (take i trees)) ++ tree_standings above t)
@@ -204,9 +204,9 @@ module _ {R : Type 0} (readers : ReadOf R) (held : Option Held) (folder : List �
   )
 
   -- the first of both lists
-  first_behind : (xs ys : List Standing) (f g h : ℕ) (one two : List ℕ) → Told xs f g one → First ys g h two
+  first_after : (xs ys : List Standing) (f g h : ℕ) (one two : List ℕ) → Told xs f g one → First ys g h two
       → First (xs ++ ys) f h (one ++ two)
-  first_behind xs ys f g h one two told first = record {
+  first_after xs ys f g h one two told first = record {
     first = xs ++ first.first;
     others = first.others;
     parts = ap (λ (zs : List Standing). xs ++ zs) first.parts ∙ sym (append_assoc xs first.first first.others);
@@ -295,7 +295,7 @@ module _ {R : Type 0} (readers : ReadOf R) (held : Option Held) (folder : List �
   ends_told xs ys zs all Memory found f g h a b c are first next =
       let all : First ((xs ++ ys) ++ zs) f h (first.0 ++ next.0) =
       first_front (xs ++ ys) zs f h (first.0 ++ next.0)
-      (first_behind xs ys f g h first.0 next.0 first.1 next.1) in (
+      (first_after xs ys f g h first.0 next.0 first.1 next.1) in (
         first.0 ++ next.0,
         subst (λ (ns : List Standing). First ns f h (first.0 ++ next.0)) (sym are) all,
         goes_then first.0 next.0 a b c first.3 next.2,
@@ -303,10 +303,10 @@ module _ {R : Type 0} (readers : ReadOf R) (held : Option Held) (folder : List �
   ends_told xs ys zs all Unsent found f g h a b c are first next =
       let all : First ((xs ++ ys) ++ zs) f h (first.0 ++ next.0) =
       first_front (xs ++ ys) zs f h (first.0 ++ next.0)
-      (first_behind xs ys f g h first.0 next.0 first.1 next.1) in (
+      (first_after xs ys f g h first.0 next.0 first.1 next.1) in (
         first.0 ++ next.0,
         subst (λ (ns : List Standing). First ns f h (first.0 ++ next.0)) (sym are) all,
-        fails_behind first.0 next.0 a b c first.3 next.2,
+        fails_next first.0 next.0 a b c first.3 next.2,
       )
 
   -- files that hold the same
@@ -421,7 +421,7 @@ module _ {R : Type 0} (readers : ReadOf R) (held : Option Held) (folder : List �
     refl,
   )
 
-  -- behind the findings the end
+  -- after the findings the end
   pub all_checked : (forest : Forest) (trees : List Tree) (found some all : Bool) (f g : ℕ) (a b c : Way)
       → trees ≡ forest.trees.items → Checked (standings_below [] (trees_view trees)) (Ok found) f g a b
       → ((findings : List ℕ) → found ≡ not (is_empty findings) → GoesOn (end_line findings (walk_view forest)) b c)
@@ -445,7 +445,7 @@ module _ {R : Type 0} (readers : ReadOf R) (held : Option Held) (folder : List �
       let end = end_line checked.0 (walk_view forest) in (
         checked.0 ++ end,
         inr (all, walk_told forest trees found some all f g checked.0 is checked.1 checked.2 refl refl),
-        fails_behind checked.0 end a b c checked.3 (failed checked.0 checked.2),
+        fails_next checked.0 end a b c checked.3 (failed checked.0 checked.2),
       )
 
   -- ---- all that waits then goes, or the writer fails in it

@@ -15,14 +15,14 @@ use Rattle.dd_dir.specs.Withdrawn.{pieces_in, pieces_of}
 use Rattle.dd_report.specs.Listing.{withdrawn_line, withdrawn_lines}
 use Rattle.dd_report.specs.Telling.{Fails, GoesOn, Tells, Way}
 use Rattle.dd_report.proofs.FirstPlaces.{first_within, none_within}
-use Rattle.dd_report.proofs.GoingOn.{fails_behind, fails_front, goes_none, goes_then, tells_err}
+use Rattle.dd_report.proofs.GoingOn.{fails_next, fails_front, goes_none, goes_then, tells_err}
 
 -- ---- the first piece
 
--- there is a separator, and behind it the other pieces
-pub some_behind : (value : List ℕ) (at : ℕ) → Some at ≡ position (λ byte. byte == 92) value
+-- there is a separator, and after it the other pieces
+pub some_after : (value : List ℕ) (at : ℕ) → Some at ≡ position (λ byte. byte == 92) value
     → pieces_of value ≡ take at value ∷ pieces_of (take (length value - (at + 1)) (drop (at + 1) value))
-some_behind value at is =
+some_after value at is =
     let found = first_within (λ byte. byte == 92) value at is in
     let rest = take_all (length value - (at + 1)) (drop (at + 1) value) (omega (arith, length-drop (at + 1) value)) in
     slice_split_first (λ byte. byte == 92) value 0 found.0
@@ -30,15 +30,15 @@ some_behind value at is =
     ∙ ap (λ (xs : List ℕ). take at value ∷ pieces_of xs) (sym rest)
 
 -- where the value has no separator, it is one piece
-pub none_behind : (value : List ℕ) → None ≡ position (λ byte. byte == 92) value → pieces_of value ≡ value ∷ []
-none_behind value is =
+pub none_after : (value : List ℕ) → None ≡ position (λ byte. byte == 92) value → pieces_of value ≡ value ∷ []
+none_after value is =
     let past = none_within (λ byte. byte == 92) value is in
     slice_split_none (λ byte. byte == 92) value
     (λ k d within. fails_before_first (λ byte. byte == 92) value k d (omega (arith, within, past)))
 
 -- ---- the pieces so far
 
--- what stands behind the pieces that went
+-- what comes after the pieces that went
 abbrev pub left : Option (Bor (List ℕ)) → List (List ℕ)
 left rest = pieces_in (option_map (λ value. value.now) rest)
 
@@ -54,12 +54,12 @@ none_went value w = record { gone = []; all = refl; went = goes_none w }
 one_line : (piece : List ℕ) → withdrawn_lines (piece ∷ []) ≡ withdrawn_line piece
 one_line piece = append-nil (withdrawn_line piece)
 
-pub piece_went : (value piece : List ℕ) (rest behind : List (List ℕ)) (a b c : Way) → rest ≡ piece ∷ behind
-    → PiecesWent value rest a b → GoesOn (withdrawn_line piece) b c → PiecesWent value behind a c
-piece_went value piece rest behind a b c is so_far next = record {
+pub piece_went : (value piece : List ℕ) (rest after : List (List ℕ)) (a b c : Way) → rest ≡ piece ∷ after
+    → PiecesWent value rest a b → GoesOn (withdrawn_line piece) b c → PiecesWent value after a c
+piece_went value piece rest after a b c is so_far next = record {
   gone = so_far.gone ++ piece ∷ [];
   all = so_far.all ∙ ap (λ (xs : List (List ℕ)). so_far.gone ++ xs) is
-      ∙ sym (append_assoc so_far.gone (piece ∷ []) behind);
+      ∙ sym (append_assoc so_far.gone (piece ∷ []) after);
   went = subst (λ (text : List ℕ). GoesOn text a c)
       (sym (flat_map-append withdrawn_line so_far.gone (piece ∷ [])
       ∙ ap (λ (xs : List ℕ). withdrawn_lines so_far.gone ++ xs) (one_line piece)))
@@ -73,14 +73,14 @@ pieces_went value rest a b none so_far =
     (sym (so_far.all ∙ ap (λ (xs : List (List ℕ)). so_far.gone ++ xs) none ∙ append-nil so_far.gone)) so_far.went
 
 -- the writer failed in the next one
-pub piece_fails : {T E : Type 0} (r : Result T E) (value piece : List ℕ) (rest behind : List (List ℕ)) (a b c : Way)
-    → IsErr r → rest ≡ piece ∷ behind → PiecesWent value rest a b → Fails (withdrawn_line piece) b c
+pub piece_fails : {T E : Type 0} (r : Result T E) (value piece : List ℕ) (rest after : List (List ℕ)) (a b c : Way)
+    → IsErr r → rest ≡ piece ∷ after → PiecesWent value rest a b → Fails (withdrawn_line piece) b c
     → Tells r (withdrawn_lines (pieces_of value)) a c
-piece_fails r value piece rest behind a b c err is so_far failed =
+piece_fails r value piece rest after a b c err is so_far failed =
     let all : withdrawn_lines (pieces_of value)
-    ≡ withdrawn_lines so_far.gone ++ (withdrawn_line piece ++ withdrawn_lines behind) =
+    ≡ withdrawn_lines so_far.gone ++ (withdrawn_line piece ++ withdrawn_lines after) =
     ap withdrawn_lines (so_far.all ∙ ap (λ (xs : List (List ℕ)). so_far.gone ++ xs) is)
-    ∙ flat_map-append withdrawn_line so_far.gone (piece ∷ behind) in
+    ∙ flat_map-append withdrawn_line so_far.gone (piece ∷ after) in
     tells_err r (withdrawn_lines (pieces_of value)) a c err (subst (λ (text : List ℕ). Fails text a c) (sym all)
-    (fails_behind (withdrawn_lines so_far.gone) (withdrawn_line piece ++ withdrawn_lines behind) a b c so_far.went
-    (fails_front (withdrawn_line piece) (withdrawn_lines behind) b c failed)))
+    (fails_next (withdrawn_lines so_far.gone) (withdrawn_line piece ++ withdrawn_lines after) a b c so_far.went
+    (fails_front (withdrawn_line piece) (withdrawn_lines after) b c failed)))

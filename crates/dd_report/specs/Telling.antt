@@ -4,6 +4,7 @@ use Rattle.std.specs.Prelude.{if◌then◌else◌}
 use Rattle.std.specs.Borrow.{Bor}
 use Rattle.std.specs.List.{concat}
 use Rattle.dd_elem.specs.declared.device.Write.{Ghosts as WriteOf}
+use Rattle.dd_report.specs.declared.line_buffer.LineBuffer.{LineBuffer}
 use Rattle.dd_report.specs.Text.{FailsAmid, Sent}
 
 -- what waits in the buffer, what the writer holds, and its count of failures
@@ -15,9 +16,9 @@ pub record Way : Type 0 where
 abbrev pub way : List ℕ → Option (List ℕ) → ℕ → Way
 way waits holds failures = record { waits = waits; holds = holds; failures = failures }
 
--- the same by the writer that the buffer is sent to
-abbrev pub way_of : {W : Type 0} → WriteOf W → List ℕ → W → Way
-way_of writer waits to = way waits (writer.contents to) (writer.failures to)
+-- the same of lines on their way to their writer
+abbrev pub way_of : {W : Type 0} → WriteOf W → LineBuffer W → Way
+way_of writer lines = way lines.waiting (writer.contents lines.to.now) (writer.failures lines.to.now)
 
 -- a text went on its way: a front of what waited and of it is sent, and the rest waits
 abbrev pub GoesOn : List ℕ → Way → Way → Type 0

@@ -97,12 +97,12 @@ pub fn check_records<F: Files + Progress, W: Write>(
     // What stays.
     ensures kept { F.held files.new ≡ F.held files.old }
 {
-    let mut lines = LineBuffer::new();
-    let checked = check_forest(check, forest, files, &mut lines, to);
+    let mut lines = LineBuffer::new(to);
+    let checked = check_forest(check, forest, files, &mut lines);
     if is_unsent(&checked) {
         return Err(CheckFault::Unsent);
     }
-    match lines.flush(to) {
+    match lines.flush() {
         Ok(()) => checked,
         Err(_) => Err(CheckFault::Unsent),
     }
@@ -120,17 +120,17 @@ fn check_forest<F: Files + Progress, W: Write>(
     check: Check<'_>,
     forest: &Forest<'_>,
     files: &mut F,
-    lines: &mut LineBuffer,
-    to: &mut W,
+    lines: &mut LineBuffer<'_, W>,
 ) -> Result<bool, CheckFault>
+    ensures same { lines.new.to.ghost_name ≡ lines.old.to.ghost_name }
     ensures checks { ChecksAll F.In.Read (F.held files.old)
         check.entry.folder.now check.entry.comparison
         (walk_view forest.now) result (F.refusals files.old) (F.refusals files.new)
-        (way_of W.Write lines.old to.old) (way_of W.Write lines.new to.new) }
+        (way_of W.Write lines.old) (way_of W.Write lines.new) }
     ensures kept { F.held files.new ≡ F.held files.old }
 {
-    let found = check_counted(check, &forest.trees, files, lines, to)?;
-    match tell_end(forest, found, lines, to) {
+    let found = check_counted(check, &forest.trees, files, lines)?;
+    match tell_end(forest, found, lines) {
         Ok(()) => Ok(found || forest.unreached > 0),
         Err(_) => Err(CheckFault::Unsent),
     }
@@ -142,14 +142,14 @@ fn check_counted<F: Files + Progress, W: Write>(
     check: Check<'_>,
     trees: &[Tree<'_>],
     files: &mut F,
-    lines: &mut LineBuffer,
-    to: &mut W,
+    lines: &mut LineBuffer<'_, W>,
 ) -> Result<bool, CheckFault>
+    ensures same { lines.new.to.ghost_name ≡ lines.old.to.ghost_name }
     ensures checks { Checks F.In.Read (F.held files.old)
         check.entry.folder.now check.entry.comparison
         (standings_below [] (trees_view trees.now)) result
         (F.refusals files.old) (F.refusals files.new)
-        (way_of W.Write lines.old to.old) (way_of W.Write lines.new to.new) }
+        (way_of W.Write lines.old) (way_of W.Write lines.new) }
     ensures kept { F.held files.new ≡ F.held files.old }
 {
     files.begin_step(Step::Reading, record_count(trees));
@@ -157,7 +157,7 @@ fn check_counted<F: Files + Progress, W: Write>(
         check,
         inherited: Inherited::at_root(),
     };
-    let checked = check_trees(at, trees, files, lines, to);
+    let checked = check_trees(at, trees, files, lines);
     files.hide_line();
     checked
 }
@@ -167,23 +167,23 @@ fn check_counted<F: Files + Progress, W: Write>(
 fn tell_end<W: Write>(
     forest: &Forest<'_>,
     found: bool,
-    lines: &mut LineBuffer,
-    to: &mut W,
+    lines: &mut LineBuffer<'_, W>,
 ) -> fmt::Result
-    ensures { (findings : List ℕ) → found ≡ not (is_empty findings)
+    ensures same { lines.new.to.ghost_name ≡ lines.old.to.ghost_name }
+    ensures written { (findings : List ℕ) → found ≡ not (is_empty findings)
         → Tells result (end_line findings (walk_view forest.now))
-        (way_of W.Write lines.old to.old) (way_of W.Write lines.new to.new) }
+        (way_of W.Write lines.old) (way_of W.Write lines.new) }
 {
     let mut number = Buffer::new();
     if forest.unreached > 0 {
         let unreached = number.format(forest.unreached).as_bytes();
-        return lines.add_line(&[b"UNREACHED ", unreached], to);
+        return lines.add_line(&[b"UNREACHED ", unreached]);
     }
     if found {
         return Ok(());
     }
     let records = number.format(record_count(&forest.trees)).as_bytes();
-    lines.add_line(&[b"OK ", records, b" records"], to)
+    lines.add_line(&[b"OK ", records, b" records"])
 }
 
 /// Checks the files of these records and of those below them. `at` has what the records above say.
@@ -192,20 +192,20 @@ fn check_trees<'t, F: Files + Progress, W: Write>(
     at: CheckAt<'_, 't>,
     trees: &[Tree<'t>],
     files: &mut F,
-    lines: &mut LineBuffer,
-    to: &mut W,
+    lines: &mut LineBuffer<'_, W>,
 ) -> Result<bool, CheckFault>
+    ensures same { lines.new.to.ghost_name ≡ lines.old.to.ghost_name }
     ensures checks { (above : List Node) → IsInherited at.entry.inherited above
         → Checks F.In.Read (F.held files.old)
         at.entry.check.folder.now at.entry.check.comparison
         (standings_below above (trees_view trees.now)) result
         (F.refusals files.old) (F.refusals files.new)
-        (way_of W.Write lines.old to.old) (way_of W.Write lines.new to.new) }
+        (way_of W.Write lines.old) (way_of W.Write lines.new) }
     ensures kept { F.held files.new ≡ F.held files.old }
 {
     let mut found = false;
     for tree in trees {
-        found = check_tree(at, tree, files, lines, to)? || found;
+        found = check_tree(at, tree, files, lines)? || found;
     }
     Ok(found)
 }
@@ -216,15 +216,15 @@ fn check_tree<'t, F: Files + Progress, W: Write>(
     at: CheckAt<'_, 't>,
     tree: &Tree<'t>,
     files: &mut F,
-    lines: &mut LineBuffer,
-    to: &mut W,
+    lines: &mut LineBuffer<'_, W>,
 ) -> Result<bool, CheckFault>
+    ensures same { lines.new.to.ghost_name ≡ lines.old.to.ghost_name }
     ensures checks { (above : List Node) → IsInherited at.entry.inherited above
         → Checks F.In.Read (F.held files.old)
         at.entry.check.folder.now at.entry.check.comparison
         (branch_standings above (tree_view tree.now)) result
         (F.refusals files.old) (F.refusals files.new)
-        (way_of W.Write lines.old to.old) (way_of W.Write lines.new to.new) }
+        (way_of W.Write lines.old) (way_of W.Write lines.new) }
     ensures kept { F.held files.new ≡ F.held files.old }
 {
     let inherited = at.inherited.under(tree);
@@ -232,8 +232,8 @@ fn check_tree<'t, F: Files + Progress, W: Write>(
         check: at.check,
         inherited,
     };
-    let here = check_record(at, tree, files, lines, to)?;
-    let below = check_trees(at, &tree.below, files, lines, to)?;
+    let here = check_record(at, tree, files, lines)?;
+    let below = check_trees(at, &tree.below, files, lines)?;
     Ok(here || below)
 }
 
@@ -242,16 +242,16 @@ fn check_record<F: Files + Progress, W: Write>(
     at: CheckAt<'_, '_>,
     tree: &Tree<'_>,
     files: &mut F,
-    lines: &mut LineBuffer,
-    to: &mut W,
+    lines: &mut LineBuffer<'_, W>,
 ) -> Result<bool, CheckFault>
+    ensures same { lines.new.to.ghost_name ≡ lines.old.to.ghost_name }
     ensures checks { (above : List Node)
         → IsInherited at.entry.inherited ((tree_view tree.now).node ∷ above)
         → Checks F.In.Read (F.held files.old)
         at.entry.check.folder.now at.entry.check.comparison
         (standing_below above (tree_view tree.now).node ∷ []) result
         (F.refusals files.old) (F.refusals files.new)
-        (way_of W.Write lines.old to.old) (way_of W.Write lines.new to.new) }
+        (way_of W.Write lines.old) (way_of W.Write lines.new) }
     ensures kept { F.held files.new ≡ F.held files.old }
 {
     let Ok(finding) = finding_in(at.check, tree, at.inherited, files) else {
@@ -262,7 +262,7 @@ fn check_record<F: Files + Progress, W: Write>(
         return Ok(false);
     };
     files.hide_line();
-    match tell_finding(tree, &finding, lines, to) {
+    match tell_finding(tree, &finding, lines) {
         Ok(()) => Ok(true),
         Err(_) => Err(CheckFault::Unsent),
     }
@@ -350,27 +350,27 @@ fn is_image(tree: &Tree<'_>) -> bool
 fn tell_finding<W: Write>(
     tree: &Tree<'_>,
     finding: &Finding,
-    lines: &mut LineBuffer,
-    to: &mut W,
+    lines: &mut LineBuffer<'_, W>,
 ) -> fmt::Result
-    ensures { Tells result (finding_line (tree_view tree.now).node (Some finding.now))
-        (way_of W.Write lines.old to.old) (way_of W.Write lines.new to.new) }
+    ensures same { lines.new.to.ghost_name ≡ lines.old.to.ghost_name }
+    ensures written { Tells result (finding_line (tree_view tree.now).node (Some finding.now))
+        (way_of W.Write lines.old) (way_of W.Write lines.new) }
 {
     match finding {
         Finding::BadId => {
             let mut at = Buffer::new();
             let at = at.format(tree.at).as_bytes();
-            lines.add_line(&[b"BADID ", at], to)
+            lines.add_line(&[b"BADID ", at])
         }
-        Finding::Missing => lines.add_line(&[b"MISSING ", file_in(tree)], to),
-        Finding::Unreadable => lines.add_line(&[b"UNREADABLE ", file_in(tree)], to),
+        Finding::Missing => lines.add_line(&[b"MISSING ", file_in(tree)]),
+        Finding::Unreadable => lines.add_line(&[b"UNREADABLE ", file_in(tree)]),
         Finding::Differs { recorded, found } => {
             let (recorded, found) = (digest_text(recorded), digest_text(found));
-            tell_digests(file_in(tree), &recorded, &found, lines, to)
+            tell_digests(file_in(tree), &recorded, &found, lines)
         }
-        Finding::Mislabelled(tag) => tell_tag(file_in(tree), *tag, lines, to),
-        Finding::NoFile(fault) => tell_fault(file_in(tree), fault, lines, to),
-        Finding::NoDigest => lines.add_line(&[b"NODIGEST ", file_in(tree)], to),
+        Finding::Mislabelled(tag) => tell_tag(file_in(tree), *tag, lines),
+        Finding::NoFile(fault) => tell_fault(file_in(tree), fault, lines),
+        Finding::NoDigest => lines.add_line(&[b"NODIGEST ", file_in(tree)]),
     }
 }
 
@@ -379,14 +379,11 @@ fn tell_digests<W: Write>(
     file: &[u8],
     recorded: &[u8; 64],
     found: &[u8; 64],
-    lines: &mut LineBuffer,
-    to: &mut W,
+    lines: &mut LineBuffer<'_, W>,
 ) -> fmt::Result
-    ensures { Tells result (shown_line (differs_parts file.now recorded.now found.now))
-        (way_of W.Write lines.old to.old) (way_of W.Write lines.new to.new) }
+    ensures same { lines.new.to.ghost_name ≡ lines.old.to.ghost_name }
+    ensures written { Tells result (shown_line (differs_parts file.now recorded.now found.now))
+        (way_of W.Write lines.old) (way_of W.Write lines.new) }
 {
-    lines.add_line(
-        &[b"DIFFERS ", file, b" ", &recorded[..], b" ", &found[..]],
-        to,
-    )
+    lines.add_line(&[b"DIFFERS ", file, b" ", &recorded[..], b" ", &found[..]])
 }

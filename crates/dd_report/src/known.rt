@@ -37,24 +37,25 @@ const OF_IMAGE: [Tag; 1] = [tags::INSTANCE_NUMBER];
 pub(crate) fn add_values<W: Write>(
     set: &DataSet<'_>,
     wanted: &[Tag],
-    lines: &mut LineBuffer,
-    to: &mut W,
+    lines: &mut LineBuffer<'_, W>,
 ) -> fmt::Result
-    ensures { Tells result (shown (concat (flat_map (value_parts (set_view set.now)) wanted.now)))
-        (way_of W.Write lines.old to.old) (way_of W.Write lines.new to.new) }
+    ensures same { lines.new.to.ghost_name ≡ lines.old.to.ghost_name }
+    ensures written { Tells result (shown (concat (flat_map (value_parts (set_view set.now)) wanted.now)))
+        (way_of W.Write lines.old) (way_of W.Write lines.new) }
 {
     for tag in wanted {
-        add_value(value_or_dash(set, *tag), lines, to)?;
+        add_value(value_or_dash(set, *tag), lines)?;
     }
     Ok(())
 }
 
 /// Adds a value after ` | `.
-fn add_value<W: Write>(value: &[u8], lines: &mut LineBuffer, to: &mut W) -> fmt::Result
-    ensures { Tells result (shown (concat (codes " | " ∷ value.now ∷ [])))
-        (way_of W.Write lines.old to.old) (way_of W.Write lines.new to.new) }
+fn add_value<W: Write>(value: &[u8], lines: &mut LineBuffer<'_, W>) -> fmt::Result
+    ensures same { lines.new.to.ghost_name ≡ lines.old.to.ghost_name }
+    ensures written { Tells result (shown (concat (codes " | " ∷ value.now ∷ [])))
+        (way_of W.Write lines.old) (way_of W.Write lines.new) }
 {
-    lines.add_parts(&[b" | ", value], to)
+    lines.add_parts(&[b" | ", value])
 }
 
 /// Gives the elements of a record of this type whose values a listing of this form shows.

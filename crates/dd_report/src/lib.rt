@@ -12,6 +12,7 @@ mod known;
 mod line_buffer;
 mod listing;
 mod text;
+mod waiting;
 mod words;
 
 pub use checking::{Check, CheckFault, Comparison, check_records};

@@ -1,169 +1,146 @@
 //! Lines on their way to a device.
-ghost use Rattle.std.specs.Prelude.{◌≡◌, ◌+◌, ◌++◌, ◌≤◌, ◌↔◌, ◌∷◌, ℕ, List, [], IsTrue, OnErr, OnOk, codes, length};
-ghost use Rattle.std.specs.Prelude.{take};
+ghost use Rattle.std.specs.Prelude.{◌≡◌, ◌++◌, ◌∷◌, [], OnErr, OnOk, codes};
 ghost use Rattle.std.specs.List.{concat, repeat};
 ghost use Rattle.dd_report.specs.Telling.{Tells, parts_of, shown, shown_byte, shown_line, way_of};
 ghost use Rattle.dd_report.specs.Text.{FailsInText, SendsFront, TakesText, masked};
 
 use crate::text::send_bytes;
+use crate::waiting::Waiting;
 use dd_elem::Write;
 use std::fmt;
-use std::marker::Model;
 
-// The most bytes that wait.
-const ROOM: usize = 8 * 1024;
-
-/// The bytes of lines that wait to be sent, so that a line, or many, are one write. They take no memory:
-/// where there are more, a front goes earlier.
+/// Lines on their way to a device. Their bytes wait for `flush`, so that a line, or many, are one write. Where
+/// there is no room for all, a front goes earlier.
 #[derive(Drop)]
-pub(crate) struct LineBuffer {
-    bytes: [u8; ROOM],
-    used: usize,
+pub(crate) struct LineBuffer<'a, W: Write> {
+    /// The bytes that wait to be sent.
+    waiting: Waiting,
+    /// The device.
+    to: &'a mut W,
 }
 
-impl Model for LineBuffer {
-    ghost use Rattle.std.specs.Prelude.{◌≤◌, ℕ, List, take};
-    ghost use Rattle.dd_report.specs.declared.line_buffer.TheConstants.{ROOM};
-
-    ghost Value = { List ℕ };
-
-    ghost view = { λ b. take b.used b.bytes };
-
-    ghost invariant = { λ b. b.used ≤ ROOM };
-}
-
-impl LineBuffer {
-    /// Of lines of which nothing is said yet.
-    pub(crate) fn new() -> LineBuffer
-        ensures { result ≡ [] }
+impl<'a, W: Write> LineBuffer<'a, W> {
+    /// Begins lines to this device.
+    pub(crate) fn new(to: &'a mut W) -> LineBuffer<'a, W>
+        ensures same { result.to.ghost_name ≡ to.entry.ghost_name }
+        ensures device { result.to.now ≡ to.old }
+        ensures empty { result.waiting ≡ [] }
     {
         LineBuffer {
-            bytes: [0; ROOM],
-            used: 0,
+            waiting: Waiting::new(),
+            to,
         }
     }
 
-    /// Adds bytes to the lines. What goes to the device by this is a front of what waited and of these, and
-    /// the rest of it waits then.
-    pub(crate) fn add<W: Write>(&mut self, more: &[u8], to: &mut W) -> fmt::Result
-        ensures sent { OnOk result
-            (SendsFront W.Write to.old to.new (self.old ++ more.now) self.new) }
-        ensures unsent { OnErr result (FailsInText W.Write to.old to.new (self.old ++ more.now)) }
-        ensures rest { W.rest to.new ≡ W.rest to.old }
+    /// Adds bytes to the lines. A front of what waited and of these goes to the device, and the rest waits then.
+    pub(crate) fn add(&mut self, more: &[u8]) -> fmt::Result
+        ensures same { self.new.to.ghost_name ≡ self.old.to.ghost_name }
+        ensures sent { OnOk result (SendsFront W.Write self.old.to.now self.new.to.now
+            (self.old.waiting ++ more.now) self.new.waiting) }
+        ensures unsent { OnErr result (FailsInText W.Write self.old.to.now self.new.to.now
+            (self.old.waiting ++ more.now)) }
+        ensures rest { W.rest self.new.to.now ≡ W.rest self.old.to.now }
     {
-        if self.has_room(more.len()) {
-            self.keep(more);
+        if self.waiting.has_room(more.len()) {
+            self.waiting.keep(more);
             return Ok(());
         }
-        self.flush(to)?;
-        if self.has_room(more.len()) {
-            self.keep(more);
+        self.flush()?;
+        if self.waiting.has_room(more.len()) {
+            self.waiting.keep(more);
             return Ok(());
         }
-        send_bytes(more, to)?;
+        send_bytes(more, self.to)?;
         Ok(())
     }
 
     /// Adds a text to the lines as `add` does, with `?` for each control character. What stands between two of
     /// them is added at once.
-    pub(crate) fn add_masked<W: Write>(&mut self, text: &str, to: &mut W) -> fmt::Result
-        ensures sent { OnOk result
-            (SendsFront W.Write to.old to.new (self.old ++ masked text.now) self.new) }
-        ensures unsent { OnErr result
-            (FailsInText W.Write to.old to.new (self.old ++ masked text.now)) }
-        ensures rest { W.rest to.new ≡ W.rest to.old }
+    pub(crate) fn add_masked(&mut self, text: &str) -> fmt::Result
+        ensures same { self.new.to.ghost_name ≡ self.old.to.ghost_name }
+        ensures sent { OnOk result (SendsFront W.Write self.old.to.now self.new.to.now
+            (self.old.waiting ++ masked text.now) self.new.waiting) }
+        ensures unsent { OnErr result (FailsInText W.Write self.old.to.now self.new.to.now
+            (self.old.waiting ++ masked text.now)) }
+        ensures rest { W.rest self.new.to.now ≡ W.rest self.old.to.now }
     {
         let mut rest = text;
-        while let Some((front, behind)) = rest.split_once(char::is_control) {
-            self.add(front.as_bytes(), to)?;
-            self.add(b"?", to)?;
-            rest = behind;
+        while let Some((front, after)) = rest.split_once(char::is_control) {
+            self.add(front.as_bytes())?;
+            self.add(b"?")?;
+            rest = after;
         }
-        self.add(rest.as_bytes(), to)
+        self.add(rest.as_bytes())
     }
 
     /// Adds two spaces for each level.
-    pub(crate) fn add_indent<W: Write>(&mut self, level: u64, to: &mut W) -> fmt::Result
-        ensures { Tells result (repeat level (codes "  "))
-            (way_of W.Write self.old to.old) (way_of W.Write self.new to.new) }
+    pub(crate) fn add_indent(&mut self, level: u64) -> fmt::Result
+        ensures same { self.new.to.ghost_name ≡ self.old.to.ghost_name }
+        ensures written { Tells result (repeat level (codes "  "))
+            (way_of W.Write self.old) (way_of W.Write self.new) }
     {
         for _ in 0..level {
-            self.add(b"  ", to)?;
+            self.add(b"  ")?;
         }
         Ok(())
     }
 
     /// Adds a line of these parts, one after the other, with `?` for each byte that does not print.
-    pub(crate) fn add_line<W: Write>(&mut self, parts: &[&[u8]], to: &mut W) -> fmt::Result
-        ensures told { Tells result (shown_line (parts_of parts.now))
-            (way_of W.Write self.old to.old) (way_of W.Write self.new to.new) }
-        ensures rest { W.rest to.new ≡ W.rest to.old }
+    pub(crate) fn add_line(&mut self, parts: &[&[u8]]) -> fmt::Result
+        ensures same { self.new.to.ghost_name ≡ self.old.to.ghost_name }
+        ensures written { Tells result (shown_line (parts_of parts.now))
+            (way_of W.Write self.old) (way_of W.Write self.new) }
+        ensures rest { W.rest self.new.to.now ≡ W.rest self.old.to.now }
     {
-        self.add_parts(parts, to)?;
-        self.add_end(to)
+        self.add_parts(parts)?;
+        self.add_end()
     }
 
     /// Adds these parts to the line, one after the other, with `?` for each byte that does not print.
-    pub(crate) fn add_parts<W: Write>(&mut self, parts: &[&[u8]], to: &mut W) -> fmt::Result
-        ensures told { Tells result (shown (concat (parts_of parts.now)))
-            (way_of W.Write self.old to.old) (way_of W.Write self.new to.new) }
-        ensures rest { W.rest to.new ≡ W.rest to.old }
+    pub(crate) fn add_parts(&mut self, parts: &[&[u8]]) -> fmt::Result
+        ensures same { self.new.to.ghost_name ≡ self.old.to.ghost_name }
+        ensures written { Tells result (shown (concat (parts_of parts.now)))
+            (way_of W.Write self.old) (way_of W.Write self.new) }
+        ensures rest { W.rest self.new.to.now ≡ W.rest self.old.to.now }
     {
         for part in parts {
-            self.add_shown(part, to)?;
+            self.add_shown(part)?;
         }
         Ok(())
     }
 
     /// Ends the line.
-    pub(crate) fn add_end<W: Write>(&mut self, to: &mut W) -> fmt::Result
-        ensures told { Tells result (10 ∷ [])
-            (way_of W.Write self.old to.old) (way_of W.Write self.new to.new) }
-        ensures rest { W.rest to.new ≡ W.rest to.old }
+    pub(crate) fn add_end(&mut self) -> fmt::Result
+        ensures same { self.new.to.ghost_name ≡ self.old.to.ghost_name }
+        ensures written { Tells result (10 ∷ []) (way_of W.Write self.old) (way_of W.Write self.new) }
+        ensures rest { W.rest self.new.to.now ≡ W.rest self.old.to.now }
     {
-        self.add(b"\n", to)
+        self.add(b"\n")
     }
 
     /// Adds bytes to the line, `?` for each that does not print.
-    fn add_shown<W: Write>(&mut self, text: &[u8], to: &mut W) -> fmt::Result
-        ensures told { Tells result (shown text.now)
-            (way_of W.Write self.old to.old) (way_of W.Write self.new to.new) }
-        ensures rest { W.rest to.new ≡ W.rest to.old }
+    fn add_shown(&mut self, text: &[u8]) -> fmt::Result
+        ensures same { self.new.to.ghost_name ≡ self.old.to.ghost_name }
+        ensures written { Tells result (shown text.now) (way_of W.Write self.old) (way_of W.Write self.new) }
+        ensures rest { W.rest self.new.to.now ≡ W.rest self.old.to.now }
     {
         for byte in text {
-            self.add(&[shown_byte(*byte)], to)?;
+            self.add(&[shown_byte(*byte)])?;
         }
         Ok(())
     }
 
     /// Sends what waits.
-    pub(crate) fn flush<W: Write>(&mut self, to: &mut W) -> fmt::Result
-        ensures sent { OnOk result (TakesText W.Write to.old to.new self.old) }
-        ensures empty { OnOk result (self.new ≡ []) }
-        ensures unsent { OnErr result (FailsInText W.Write to.old to.new self.old) }
-        ensures rest { W.rest to.new ≡ W.rest to.old }
+    pub(crate) fn flush(&mut self) -> fmt::Result
+        ensures same { self.new.to.ghost_name ≡ self.old.to.ghost_name }
+        ensures sent { OnOk result (TakesText W.Write self.old.to.now self.new.to.now self.old.waiting) }
+        ensures empty { OnOk result (self.new.waiting ≡ []) }
+        ensures unsent { OnErr result (FailsInText W.Write self.old.to.now self.new.to.now self.old.waiting) }
+        ensures rest { W.rest self.new.to.now ≡ W.rest self.old.to.now }
     {
-        send_bytes(&self.bytes[..self.used], to)?;
-        self.used = 0;
+        send_bytes(self.waiting.as_slice(), self.to)?;
+        self.waiting.clear();
         Ok(())
-    }
-
-    /// Is there room for this many more bytes?
-    fn has_room(&self, more: usize) -> bool
-        ensures { IsTrue result ↔ (length self.now + more ≤ ROOM) }
-    {
-        more <= ROOM - self.used
-    }
-
-    /// Keeps bytes after those that wait.
-    fn keep(&mut self, more: &[u8])
-        requires { length self.old + length more.now ≤ ROOM }
-        ensures { self.new ≡ self.old ++ more.now }
-    {
-        let end = self.used + more.len();
-        let all = &mut self.bytes[..];
-        all[self.used..end].copy_from_slice(more);
-        self.used = end;
     }
 }
 

@@ -33,57 +33,55 @@ pub fn list_records<W: Write>(forest: &Forest<'_>, form: Form, to: &mut W) -> fm
     ensures unsent { OnErr result
         (FailsInText W.Write to.old to.new (listing form (walk_view forest.now))) }
 {
-    let mut lines = LineBuffer::new();
-    list_all(forest, form, &mut lines, to)?;
-    lines.flush(to)
+    let mut lines = LineBuffer::new(to);
+    list_all(forest, form, &mut lines)?;
+    lines.flush()
 }
 
 /// Lists what names the file-set, in the long form, and then its records.
-fn list_all<W: Write>(
-    forest: &Forest<'_>,
-    form: Form,
-    lines: &mut LineBuffer,
-    to: &mut W,
-) -> fmt::Result
-    ensures { Tells result (listing form (walk_view forest.now))
-        (way_of W.Write lines.old to.old) (way_of W.Write lines.new to.new) }
+fn list_all<W: Write>(forest: &Forest<'_>, form: Form, lines: &mut LineBuffer<'_, W>) -> fmt::Result
+    ensures same { lines.new.to.ghost_name ≡ lines.old.to.ghost_name }
+    ensures written { Tells result (listing form (walk_view forest.now))
+        (way_of W.Write lines.old) (way_of W.Write lines.new) }
 {
     match form {
-        Form::Short => list_forest(forest, Form::Short, lines, to),
-        Form::Long => list_set(forest, lines, to),
+        Form::Short => list_forest(forest, Form::Short, lines),
+        Form::Long => list_set(forest, lines),
     }
 }
 
 /// Lists what names the file-set, and then its records in the long form.
-fn list_set<W: Write>(forest: &Forest<'_>, lines: &mut LineBuffer, to: &mut W) -> fmt::Result
-    ensures { Tells result (long_listing (walk_view forest.now))
-        (way_of W.Write lines.old to.old) (way_of W.Write lines.new to.new) }
+fn list_set<W: Write>(forest: &Forest<'_>, lines: &mut LineBuffer<'_, W>) -> fmt::Result
+    ensures same { lines.new.to.ghost_name ≡ lines.old.to.ghost_name }
+    ensures written { Tells result (long_listing (walk_view forest.now))
+        (way_of W.Write lines.old) (way_of W.Write lines.new) }
 {
-    list_names(or_dash(Some(forest.id)), forest.uid.as_bytes(), lines, to)?;
-    list_forest(forest, Form::Long, lines, to)
+    list_names(or_dash(Some(forest.id)), forest.uid.as_bytes(), lines)?;
+    list_forest(forest, Form::Long, lines)
 }
 
 /// Lists the ID and the UID of a file-set.
-fn list_names<W: Write>(id: &[u8], uid: &[u8], lines: &mut LineBuffer, to: &mut W) -> fmt::Result
-    ensures { Tells result (shown_line (set_parts id.now uid.now))
-        (way_of W.Write lines.old to.old) (way_of W.Write lines.new to.new) }
+fn list_names<W: Write>(id: &[u8], uid: &[u8], lines: &mut LineBuffer<'_, W>) -> fmt::Result
+    ensures same { lines.new.to.ghost_name ≡ lines.old.to.ghost_name }
+    ensures written { Tells result (shown_line (set_parts id.now uid.now))
+        (way_of W.Write lines.old) (way_of W.Write lines.new) }
 {
-    lines.add_line(&[b"FILE-SET ", id, b" ", uid], to)
+    lines.add_line(&[b"FILE-SET ", id, b" ", uid])
 }
 
 /// Lists the records in this form, what is withdrawn, and how many records there are.
 fn list_forest<W: Write>(
     forest: &Forest<'_>,
     form: Form,
-    lines: &mut LineBuffer,
-    to: &mut W,
+    lines: &mut LineBuffer<'_, W>,
 ) -> fmt::Result
-    ensures { Tells result (lines_in form (walk_view forest.now))
-        (way_of W.Write lines.old to.old) (way_of W.Write lines.new to.new) }
+    ensures same { lines.new.to.ghost_name ≡ lines.old.to.ghost_name }
+    ensures written { Tells result (lines_in form (walk_view forest.now))
+        (way_of W.Write lines.old) (way_of W.Write lines.new) }
 {
-    list_trees(&forest.trees, 0, form, lines, to)?;
-    list_withdrawn(forest.withdrawn, lines, to)?;
-    list_totals(forest, lines, to)
+    list_trees(&forest.trees, 0, form, lines)?;
+    list_withdrawn(forest.withdrawn, lines)?;
+    list_totals(forest, lines)
 }
 
 /// Lists these records of a level, and those below them.
@@ -92,14 +90,14 @@ fn list_trees<W: Write>(
     trees: &[Tree<'_>],
     level: u64,
     form: Form,
-    lines: &mut LineBuffer,
-    to: &mut W,
+    lines: &mut LineBuffer<'_, W>,
 ) -> fmt::Result
-    ensures { Tells result (lines_of form level (trees_view trees.now))
-        (way_of W.Write lines.old to.old) (way_of W.Write lines.new to.new) }
+    ensures same { lines.new.to.ghost_name ≡ lines.old.to.ghost_name }
+    ensures written { Tells result (lines_of form level (trees_view trees.now))
+        (way_of W.Write lines.old) (way_of W.Write lines.new) }
 {
     for tree in trees {
-        list_tree(tree, level, form, lines, to)?;
+        list_tree(tree, level, form, lines)?;
     }
     Ok(())
 }
@@ -110,14 +108,14 @@ fn list_tree<W: Write>(
     tree: &Tree<'_>,
     level: u64,
     form: Form,
-    lines: &mut LineBuffer,
-    to: &mut W,
+    lines: &mut LineBuffer<'_, W>,
 ) -> fmt::Result
-    ensures { Tells result (branch_lines form level (tree_view tree.now))
-        (way_of W.Write lines.old to.old) (way_of W.Write lines.new to.new) }
+    ensures same { lines.new.to.ghost_name ≡ lines.old.to.ghost_name }
+    ensures written { Tells result (branch_lines form level (tree_view tree.now))
+        (way_of W.Write lines.old) (way_of W.Write lines.new) }
 {
-    list_record(tree, level, form, lines, to)?;
-    list_trees(&tree.below, level.saturating_add(1), form, lines, to)
+    list_record(tree, level, form, lines)?;
+    list_trees(&tree.below, level.saturating_add(1), form, lines)
 }
 
 /// Lists this record.
@@ -125,31 +123,27 @@ fn list_record<W: Write>(
     tree: &Tree<'_>,
     level: u64,
     form: Form,
-    lines: &mut LineBuffer,
-    to: &mut W,
+    lines: &mut LineBuffer<'_, W>,
 ) -> fmt::Result
-    ensures { Tells result (record_line form level (tree_view tree.now).node)
-        (way_of W.Write lines.old to.old) (way_of W.Write lines.new to.new) }
+    ensures same { lines.new.to.ghost_name ≡ lines.old.to.ghost_name }
+    ensures written { Tells result (record_line form level (tree_view tree.now).node)
+        (way_of W.Write lines.old) (way_of W.Write lines.new) }
 {
-    lines.add_indent(level, to)?;
-    add_parts(tree, form, lines, to)
+    lines.add_indent(level)?;
+    add_parts(tree, form, lines)
 }
 
 /// Adds what this record says, and the end of the line.
-fn add_parts<W: Write>(
-    tree: &Tree<'_>,
-    form: Form,
-    lines: &mut LineBuffer,
-    to: &mut W,
-) -> fmt::Result
-    ensures { Tells result (shown_line (record_parts form (tree_view tree.now).node))
-        (way_of W.Write lines.old to.old) (way_of W.Write lines.new to.new) }
+fn add_parts<W: Write>(tree: &Tree<'_>, form: Form, lines: &mut LineBuffer<'_, W>) -> fmt::Result
+    ensures same { lines.new.to.ghost_name ≡ lines.old.to.ghost_name }
+    ensures written { Tells result (shown_line (record_parts form (tree_view tree.now).node))
+        (way_of W.Write lines.old) (way_of W.Write lines.new) }
 {
     let mut at = Buffer::new();
     let at = at.format(tree.at).as_bytes();
-    add_words(at, tree.kind, label_of(tree), flag_of(tree), lines, to)?;
-    add_values(&tree.set, tags_in(form, tree.kind), lines, to)?;
-    lines.add_end(to)
+    add_words(at, tree.kind, label_of(tree), flag_of(tree), lines)?;
+    add_values(&tree.set, tags_in(form, tree.kind), lines)?;
+    lines.add_end()
 }
 
 /// Adds these words, with spaces between the first three.
@@ -158,13 +152,13 @@ fn add_words<W: Write>(
     kind: &[u8],
     label: &[u8],
     flag: &[u8],
-    lines: &mut LineBuffer,
-    to: &mut W,
+    lines: &mut LineBuffer<'_, W>,
 ) -> fmt::Result
-    ensures { Tells result (shown (concat (spaced at.now kind.now label.now flag.now)))
-        (way_of W.Write lines.old to.old) (way_of W.Write lines.new to.new) }
+    ensures same { lines.new.to.ghost_name ≡ lines.old.to.ghost_name }
+    ensures written { Tells result (shown (concat (spaced at.now kind.now label.now flag.now)))
+        (way_of W.Write lines.old) (way_of W.Write lines.new) }
 {
-    lines.add_parts(&[at, b" ", kind, b" ", label, flag], to)
+    lines.add_parts(&[at, b" ", kind, b" ", label, flag])
 }
 
 /// What the record is known by.
@@ -214,32 +208,34 @@ fn flag_of<'t>(tree: &'t Tree<'_>) -> &'t [u8]
 }
 
 /// Lists what is withdrawn, a line for each piece of the value; no lines where the value is absent.
-fn list_withdrawn<W: Write>(value: Option<&[u8]>, lines: &mut LineBuffer, to: &mut W) -> fmt::Result
-    ensures { Tells result
+fn list_withdrawn<W: Write>(value: Option<&[u8]>, lines: &mut LineBuffer<'_, W>) -> fmt::Result
+    ensures same { lines.new.to.ghost_name ≡ lines.old.to.ghost_name }
+    ensures written { Tells result
         (withdrawn_lines (pieces_in (option_map (λ value. value.now) value.entry)))
-        (way_of W.Write lines.old to.old) (way_of W.Write lines.new to.new) }
+        (way_of W.Write lines.old) (way_of W.Write lines.new) }
 {
     match value {
         None => Ok(()),
-        Some(value) => list_pieces(value, lines, to),
+        Some(value) => list_pieces(value, lines),
     }
 }
 
 /// Lists the pieces of the value that names what is withdrawn.
-fn list_pieces<W: Write>(value: &[u8], lines: &mut LineBuffer, to: &mut W) -> fmt::Result
-    ensures { Tells result (withdrawn_lines (pieces_of value.now))
-        (way_of W.Write lines.old to.old) (way_of W.Write lines.new to.new) }
+fn list_pieces<W: Write>(value: &[u8], lines: &mut LineBuffer<'_, W>) -> fmt::Result
+    ensures same { lines.new.to.ghost_name ≡ lines.old.to.ghost_name }
+    ensures written { Tells result (withdrawn_lines (pieces_of value.now))
+        (way_of W.Write lines.old) (way_of W.Write lines.new) }
 {
     let mut rest = Some(value);
     while let Some(value) = rest {
-        let (piece, behind) = first_piece(value);
-        list_piece(piece, lines, to)?;
-        rest = behind;
+        let (piece, after) = first_piece(value);
+        list_piece(piece, lines)?;
+        rest = after;
     }
     Ok(())
 }
 
-/// The first piece of the value, and what stands after the `\` that ends it, if one does.
+/// The first piece of the value, and what comes after the `\` that ends it, if one does.
 fn first_piece(value: &[u8]) -> (&[u8], Option<&[u8]>)
     ensures { pieces_of value.now
         ≡ result.0.now ∷ pieces_in (option_map (λ rest. rest.now) result.1) }
@@ -251,22 +247,24 @@ fn first_piece(value: &[u8]) -> (&[u8], Option<&[u8]>)
 }
 
 /// Lists this piece, an empty one as `-`.
-fn list_piece<W: Write>(piece: &[u8], lines: &mut LineBuffer, to: &mut W) -> fmt::Result
-    ensures { Tells result (withdrawn_line piece.now)
-        (way_of W.Write lines.old to.old) (way_of W.Write lines.new to.new) }
+fn list_piece<W: Write>(piece: &[u8], lines: &mut LineBuffer<'_, W>) -> fmt::Result
+    ensures same { lines.new.to.ghost_name ≡ lines.old.to.ghost_name }
+    ensures written { Tells result (withdrawn_line piece.now)
+        (way_of W.Write lines.old) (way_of W.Write lines.new) }
 {
-    lines.add_line(&[b"WITHDRAWN ", or_dash(Some(piece))], to)
+    lines.add_line(&[b"WITHDRAWN ", or_dash(Some(piece))])
 }
 
 /// Lists how many records there are, and how many items no offset reaches.
-fn list_totals<W: Write>(forest: &Forest<'_>, lines: &mut LineBuffer, to: &mut W) -> fmt::Result
-    ensures { Tells result (totals_line (walk_view forest.now))
-        (way_of W.Write lines.old to.old) (way_of W.Write lines.new to.new) }
+fn list_totals<W: Write>(forest: &Forest<'_>, lines: &mut LineBuffer<'_, W>) -> fmt::Result
+    ensures same { lines.new.to.ghost_name ≡ lines.old.to.ghost_name }
+    ensures written { Tells result (totals_line (walk_view forest.now))
+        (way_of W.Write lines.old) (way_of W.Write lines.new) }
 {
     let (mut count, mut unreached) = (Buffer::new(), Buffer::new());
     let count = count.format(record_count(&forest.trees)).as_bytes();
     let unreached = unreached.format(forest.unreached).as_bytes();
-    lines.add_line(&[count, b" records, ", unreached, b" unreached"], to)
+    lines.add_line(&[count, b" records, ", unreached, b" unreached"])
 }
 
 /// How many records there are in these trees, as a count.

@@ -37,12 +37,12 @@ pub fn print_line<W: Write>(parts: &[&str], to: &mut W) -> fmt::Result
     ensures unsent { OnErr result (FailsInText W.Write to.old to.new (line_text parts.now)) }
     ensures rest { W.rest to.new ≡ W.rest to.old }
 {
-    let mut line = LineBuffer::new();
+    let mut line = LineBuffer::new(to);
     for part in parts {
-        line.add_masked(part, to)?;
+        line.add_masked(part)?;
     }
-    line.add(b"\n", to)?;
-    line.flush(to)
+    line.add(b"\n")?;
+    line.flush()
 }
 
 /// Prints the parts of a line, one after the other, and the end of the line, as `print_line` does, but byte by
@@ -53,9 +53,9 @@ pub fn show_line<W: Write>(parts: &[&[u8]], to: &mut W) -> fmt::Result
         (FailsInText W.Write to.old to.new (shown_line (parts_of parts.now))) }
     ensures rest { W.rest to.new ≡ W.rest to.old }
 {
-    let mut line = LineBuffer::new();
-    line.add_line(parts, to)?;
-    line.flush(to)
+    let mut line = LineBuffer::new(to);
+    line.add_line(parts)?;
+    line.flush()
 }
 
 /// A device that a text is printed to as it comes.

@@ -15,40 +15,38 @@ use std::fmt;
 pub(crate) fn tell_tag<W: Write>(
     file: &[u8],
     tag: Tag,
-    lines: &mut LineBuffer,
-    to: &mut W,
+    lines: &mut LineBuffer<'_, W>,
 ) -> fmt::Result
-    ensures { Tells result (shown_line (mislabelled_parts file.now (text_of tag)))
-        (way_of W.Write lines.old to.old) (way_of W.Write lines.new to.new) }
+    ensures same { lines.new.to.ghost_name ≡ lines.old.to.ghost_name }
+    ensures written { Tells result (shown_line (mislabelled_parts file.now (text_of tag)))
+        (way_of W.Write lines.old) (way_of W.Write lines.new) }
 {
-    lines.add_line(&[b"MISLABELLED ", file, b" ", &tag_text(tag)[..]], to)
+    lines.add_line(&[b"MISLABELLED ", file, b" ", &tag_text(tag)[..]])
 }
 
 /// Tells why what a record names is no DICOM file.
 pub(crate) fn tell_fault<W: Write>(
     file: &[u8],
     fault: &FileFault,
-    lines: &mut LineBuffer,
-    to: &mut W,
+    lines: &mut LineBuffer<'_, W>,
 ) -> fmt::Result
-    ensures { Tells result
+    ensures same { lines.new.to.ghost_name ≡ lines.old.to.ghost_name }
+    ensures written { Tells result
         (shown_line (mislabelled_parts file.now (codes "31 File " ++ file_words fault.now)))
-        (way_of W.Write lines.old to.old) (way_of W.Write lines.new to.new) }
+        (way_of W.Write lines.old) (way_of W.Write lines.new) }
 {
     match fault {
-        FileFault::NotPart10 => tell_words(file, b"21 NotPart10", b"", lines, to),
-        FileFault::GroupLength => tell_words(file, b"22 GroupLength", b"", lines, to),
+        FileFault::NotPart10 => tell_words(file, b"21 NotPart10", b"", lines),
+        FileFault::GroupLength => tell_words(file, b"22 GroupLength", b"", lines),
         FileFault::MetaMissing(tag) => {
-            tell_words(file, b"23 MetaMissing ", &tag_text(*tag)[..], lines, to)
+            tell_words(file, b"23 MetaMissing ", &tag_text(*tag)[..], lines)
         }
-        FileFault::MetaUid(tag) => {
-            tell_words(file, b"24 MetaUid ", &tag_text(*tag)[..], lines, to)
-        }
+        FileFault::MetaUid(tag) => { tell_words(file, b"24 MetaUid ", &tag_text(*tag)[..], lines) }
         FileFault::OtherSyntax(uid) => {
-            tell_words(file, b"25 OtherSyntax ", uid.as_bytes(), lines, to)
+            tell_words(file, b"25 OtherSyntax ", uid.as_bytes(), lines)
         }
-        FileFault::Meta(fault) => tell_words(file, b"26 Meta ", set_words(*fault), lines, to),
-        FileFault::Set(fault) => tell_words(file, b"27 Set ", set_words(*fault), lines, to),
+        FileFault::Meta(fault) => tell_words(file, b"26 Meta ", set_words(*fault), lines),
+        FileFault::Set(fault) => tell_words(file, b"27 Set ", set_words(*fault), lines),
     }
 }
 
@@ -57,14 +55,14 @@ fn tell_words<W: Write>(
     file: &[u8],
     words: &[u8],
     of: &[u8],
-    lines: &mut LineBuffer,
-    to: &mut W,
+    lines: &mut LineBuffer<'_, W>,
 ) -> fmt::Result
-    ensures { Tells result
+    ensures same { lines.new.to.ghost_name ≡ lines.old.to.ghost_name }
+    ensures written { Tells result
         (shown_line (mislabelled_parts file.now (codes "31 File " ++ (words.now ++ of.now))))
-        (way_of W.Write lines.old to.old) (way_of W.Write lines.new to.new) }
+        (way_of W.Write lines.old) (way_of W.Write lines.new) }
 {
-    lines.add_line(&[b"MISLABELLED ", file, b" ", b"31 File ", words, of], to)
+    lines.add_line(&[b"MISLABELLED ", file, b" ", b"31 File ", words, of])
 }
 
 /// The words of a fault of a data set.

@@ -1,4 +1,4 @@
--- What is found in one more tree is printed behind what was printed before.
+-- What is found in one more tree is printed after what was printed before.
 use Rattle.std.proofs.Common.{◌≡◌, ◌∙◌, ◌∷◌, Err, refl}
 use Rattle.std.specs.Prelude.{◌||◌}
 use Rattle.std.proofs.lemmas.Result.{err_from_is_err_and}
@@ -69,7 +69,7 @@ check_trees-returns-in_err-found-clause-checks g t c = λ above said.
     c.check_tree.result c.in_err-found.field-0.0 c.loop-tree.found (g.F.Files.refusals c.args.files.now)
     (g.F.Files.refusals c.loop-tree.files) (g.F.Files.refusals c.check_tree.new.files) _ _ _
     c.loop-tree-test.true c.tree-item.is c.loop-tree.invariant.kept fails c.in_err-found.was
-    (c.loop-tree.invariant.told above said) (c.check_tree.ensures.checks above said)
+    (c.loop-tree.invariant.checked above said) (c.check_tree.ensures.checks above said)
 
 pub check_trees-loop-tree-preserved : goal.check_trees-loop-tree-preserved
 check_trees-loop-tree-preserved g t c =
@@ -78,13 +78,14 @@ check_trees-loop-tree-preserved g t c =
       | check_trees-else-branch w ↦ w.found-is ∙ rw w.if-branch.false refl
     ] in
     record {
-      told = λ above said.
+      same = c.in_ok-found.ensures.same ∙ c.loop-tree.invariant.same;
+      checked = λ above said.
           more_told g.F.In.Read
           (g.F.Files.held c.args.files.now) c.args.at.check.folder.now c.args.at.check.comparison above
           (g.F.Files.held c.loop-tree.files) c.args.trees.now c.loop-tree.tree-index c.tree-item.result
           c.in_ok-found.found c.loop-tree.found c.if-branch.found (g.F.Files.refusals c.args.files.now)
           (g.F.Files.refusals c.loop-tree.files) (g.F.Files.refusals c.check_tree.new.files) _ _ _
           c.loop-tree-test.true c.tree-item.is c.loop-tree.invariant.kept both
-          (c.loop-tree.invariant.told above said) (c.in_ok-found.ensures.checks above said);
+          (c.loop-tree.invariant.checked above said) (c.in_ok-found.ensures.checks above said);
       kept = c.in_ok-found.ensures.kept ∙ c.loop-tree.invariant.kept;
     }

@@ -1,8 +1,8 @@
--- Behind the findings the end.
+-- After the findings the end.
 use Rattle.std.proofs.Common.{◌≡◌, Err, refl}
 use Rattle.std.proofs.lemmas.Result.{err_from_is_err_and}
 use Rattle.std.specs.Prelude.{not, nat_lt, ◌==◌}
-use Rattle.dd_report.specs.Telling.{way}
+use Rattle.dd_report.specs.Telling.{way_of}
 use Rattle.dd_report.proofs.ToldTrees.{all_checked, end_unsent, some_unreached, walk_ends}
 use Rattle.dd_report.proofs.checking.check_forest.Goals as goal
 
@@ -12,7 +12,7 @@ returns-then-found-clause-checks g c =
     (g.F.Files.held c.args.files.now) c.args.check.folder.now c.args.check.comparison c.args.forest.now
     c.deref.result.now c.in_ok-found.found (not (c.args.forest.now.unreached == 0)) c.in_ok-found.found
     (g.F.Files.refusals c.args.files.now) (g.F.Files.refusals c.check_counted.new.files) _ _ _ c.deref.ensures.value
-    (c.in_ok-found.ensures.checks) c.in-Ok.ensures refl (rw c.if-found.true refl)
+    (c.in_ok-found.ensures.checks) c.in-Ok.ensures.written refl (rw c.if-found.true refl)
 
 pub returns-else-found-clause-checks : goal.returns-else-found-clause-checks
 returns-else-found-clause-checks g c =
@@ -20,7 +20,7 @@ returns-else-found-clause-checks g c =
     (g.F.Files.held c.args.files.now) c.args.check.folder.now c.args.check.comparison c.args.forest.now
     c.deref.result.now c.in_ok-found.found (nat_lt 0 c.args.forest.now.unreached) _
     (g.F.Files.refusals c.args.files.now) (g.F.Files.refusals c.check_counted.new.files) _ _ _ c.deref.ensures.value
-    (c.in_ok-found.ensures.checks) c.in-Ok.ensures (some_unreached c.args.forest.now.unreached)
+    (c.in_ok-found.ensures.checks) c.in-Ok.ensures.written (some_unreached c.args.forest.now.unreached)
     (rw c.if-found.false refl)
 
 pub returns-in-Err-clause-checks : goal.returns-in-Err-clause-checks
@@ -29,11 +29,10 @@ returns-in-Err-clause-checks g c =
     (g.F.Files.held c.args.files.now) c.args.check.folder.now c.args.check.comparison
     c.args.forest.now c.deref.result.now c.in_ok-found.found (g.F.Files.refusals c.args.files.now)
     (g.F.Files.refusals c.check_counted.new.files)
-    (way c.args.lines.now (g.W.Write.contents c.args.to.now) (g.W.Write.failures c.args.to.now))
-    (way c.check_counted.new.lines (g.W.Write.contents c.check_counted.new.to)
-    (g.W.Write.failures c.check_counted.new.to))
-    (way c.tell_end.new.lines (g.W.Write.contents c.tell_end.new.to) (g.W.Write.failures c.tell_end.new.to))
-    c.deref.ensures.value (c.in_ok-found.ensures.checks) c.in-Err.ensures
+    (way_of g.W.Write c.args.lines.now)
+    (way_of g.W.Write c.check_counted.new.lines)
+    (way_of g.W.Write c.tell_end.new.lines)
+    c.deref.ensures.value (c.in_ok-found.ensures.checks) c.in-Err.ensures.written
 
 pub returns-in_err-found-clause-checks : goal.returns-in_err-found-clause-checks
 returns-in_err-found-clause-checks g c =

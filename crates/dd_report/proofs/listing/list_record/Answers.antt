@@ -1,4 +1,4 @@
--- Behind the spaces what the record says.
+-- After the spaces what the record says.
 use Rattle.std.proofs.Common.{codes}
 use Rattle.std.specs.List.{repeat}
 use Rattle.dd_dir.specs.ForestViews.{tree_view}
@@ -7,8 +7,8 @@ use Rattle.dd_report.specs.Telling.{shown_line}
 use Rattle.dd_report.proofs.GoingOn.{tells_then}
 use Rattle.dd_report.proofs.listing.list_record.Goals as goal
 
-pub returns : goal.returns
-returns g c =
+pub returns-clause-written : goal.returns-clause-written
+returns-clause-written g c =
     tells_then c.add_parts.result (repeat c.args.level (codes "  "))
-    (shown_line (record_parts c.args.form (tree_view c.args.tree.now).node)) _ _ _ c.in_ok-add_indent.ensures
-    c.add_parts.ensures
+    (shown_line (record_parts c.args.form (tree_view c.args.tree.now).node)) _ _ _ c.in_ok-add_indent.ensures.written
+    c.add_parts.ensures.written

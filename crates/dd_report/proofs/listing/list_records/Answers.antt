@@ -1,4 +1,5 @@
 -- All lines go, and then all that waits.
+use Rattle.std.proofs.Common.{rules}
 use Rattle.dd_dir.specs.ForestViews.{walk_view}
 use Rattle.dd_report.specs.Listing.{listing}
 use Rattle.dd_report.proofs.GoingOn.{text_sent, text_unsent}
@@ -6,10 +7,12 @@ use Rattle.dd_report.proofs.listing.list_records.Goals as goal
 
 pub returns-clause-sent : goal.returns-clause-sent
 returns-clause-sent g c =
-    text_sent c.flush.result (listing c.args.form (walk_view c.args.forest.now)) _ _ _ _ _ _ _ _ c.new-lines.ensures
-    c.in_ok-list_all.ensures c.flush.ensures.sent
+    let sent = text_sent c.flush.result (listing c.args.form (walk_view c.args.forest.now)) _ _ _ _ _ _ _ _
+    c.new-lines.ensures.empty c.in_ok-list_all.ensures.written c.flush.ensures.sent in
+    search (rules, sent)
 
 pub returns-clause-unsent : goal.returns-clause-unsent
 returns-clause-unsent g c =
-    text_unsent c.flush.result (listing c.args.form (walk_view c.args.forest.now)) _ _ _ _ _ _ _ _ c.new-lines.ensures
-    c.in_ok-list_all.ensures c.flush.ensures.unsent
+    let unsent = text_unsent c.flush.result (listing c.args.form (walk_view c.args.forest.now)) _ _ _ _ _ _ _ _
+    c.new-lines.ensures.empty c.in_ok-list_all.ensures.written c.flush.ensures.unsent in
+    search (rules, unsent)

@@ -5,8 +5,9 @@ use Rattle.dd_report.proofs.text.print_line.Given as goal
 
 abbrev pub invariant-loop-part : goal.invariant-loop-part
 invariant-loop-part g l = record {
-  sent : SentTo l.parts l.part-index l.line
-      (g.W.Write.contents l.initial.to) (g.W.Write.contents l.to)
-      (g.W.Write.failures l.initial.to) (g.W.Write.failures l.to);
-  stays : g.W.Write.rest l.to ≡ g.W.Write.rest l.initial.to;
+  same : l.line.to.ghost_name ≡ l.initial.line.to.ghost_name;
+  sent : SentTo l.parts l.part-index l.line.waiting
+      (g.W.Write.contents l.fn.to) (g.W.Write.contents l.line.to.now)
+      (g.W.Write.failures l.fn.to) (g.W.Write.failures l.line.to.now);
+  stays : g.W.Write.rest l.line.to.now ≡ g.W.Write.rest l.fn.to;
 }

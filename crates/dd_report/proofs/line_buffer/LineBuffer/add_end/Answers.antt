@@ -3,5 +3,5 @@ use Rattle.std.proofs.Common.{[], ◌∷◌}
 use Rattle.dd_report.proofs.GoingOn.{tells_both}
 use Rattle.dd_report.proofs.line_buffer.LineBuffer.add_end.Goals as goal
 
-pub returns-clause-told : goal.returns-clause-told
-returns-clause-told g c = tells_both c.add.result (10 ∷ []) _ _ c.add.ensures.sent c.add.ensures.unsent
+pub returns-clause-written : goal.returns-clause-written
+returns-clause-written g c = tells_both c.add.result (10 ∷ []) _ _ c.add.ensures.sent c.add.ensures.unsent

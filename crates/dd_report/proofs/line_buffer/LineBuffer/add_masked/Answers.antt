@@ -2,7 +2,7 @@
 use Rattle.std.proofs.Common.{rules, refl, sym, ◌∙◌, ◌∷◌, []}
 use Rattle.std.proofs.lemmas.Fn.{always_returns_same}
 use Rattle.dd_report.specs.Text.{masked}
-use Rattle.dd_report.proofs.Masking.{behind_shorter, masked_first, masked_none}
+use Rattle.dd_report.proofs.Masking.{rest_shorter, masked_first, masked_none}
 use Rattle.dd_report.proofs.TextLemmas.{fails_then, on_err, on_err_weaker, on_ok_weaker, rest_fails, sent_on, sent_then}
 use Rattle.dd_report.proofs.line_buffer.LineBuffer.add_masked.Goals as goal
 
@@ -10,7 +10,7 @@ pub returns-in_err-add-clause-unsent : goal.returns-in_err-add-clause-unsent
 returns-in_err-add-clause-unsent g c =
     let parts = masked_first _ _ _ _ _ c.loop-front.invariant.utf8 c.as_bytes.ensures.utf8 c.as_bytes.ensures.value
     (always_returns_same _ _ _ (λ a r f called. (search rules, refl))) c.in-Some.ensures.cases in
-    on_err _ (fails_then _ c.loop-front.self _ (63 ∷ masked c.in-Some.behind.now) _ _ _ _ _ _
+    on_err _ (fails_then _ c.loop-front.self.waiting _ (63 ∷ masked c.in-Some.after.now) _ _ _ _ _ _
     (rw parts at c.loop-front.invariant.sent) c.in_err-add.ensures.unsent)
 
 pub returns-in_err-add-2-clause-unsent : goal.returns-in_err-add-2-clause-unsent
@@ -22,11 +22,12 @@ returns-in_err-add-2-clause-unsent g c =
 
 pub loop-front-smaller : goal.loop-front-smaller
 loop-front-smaller g c =
-    behind_shorter _ _ _ _ (always_returns_same _ _ _ (λ a r f called. (search rules, refl))) c.in-Some.ensures.cases
+    rest_shorter _ _ _ _ (always_returns_same _ _ _ (λ a r f called. (search rules, refl))) c.in-Some.ensures.cases
 
 pub loop-front-preserved : goal.loop-front-preserved
 loop-front-preserved g c = record {
   utf8 = search rules;
+  same = c.in_ok-add-2.ensures.same ∙ c.in_ok-add.ensures.same ∙ c.loop-front.invariant.same;
   sent =
       let parts = masked_first _ _ _ _ _ c.loop-front.invariant.utf8 c.as_bytes.ensures.utf8 c.as_bytes.ensures.value
       (always_returns_same _ _ _ (λ a r f called. (search rules, refl))) c.in-Some.ensures.cases in

@@ -5,19 +5,20 @@ use Rattle.dd_report.specs.Telling.{shown}
 use Rattle.dd_report.proofs.GoingOn.{part_fails, shown_parts, went_all, went_more}
 use Rattle.dd_report.proofs.line_buffer.LineBuffer.add_parts.Goals as goal
 
-pub returns-in_err-add_shown-clause-told : goal.returns-in_err-add_shown-clause-told
-returns-in_err-add_shown-clause-told g c =
+pub returns-in_err-add_shown-clause-written : goal.returns-in_err-add_shown-clause-written
+returns-in_err-add_shown-clause-written g c =
     part_fails c.from_residual.result c.args.parts.now c.loop-part.part-index _ _ _ _ c.from_residual.ensures.0
-    c.loop-part-test.true c.loop-part.invariant.went c.in_err-add_shown.ensures.told
+    c.loop-part-test.true c.loop-part.invariant.went c.in_err-add_shown.ensures.written
 
 pub loop-part-preserved : goal.loop-part-preserved
 loop-part-preserved g c = record {
+  same = c.in_ok-add_shown.ensures.same ∙ c.loop-part.invariant.same;
   went = went_more (λ (part : Bor (List ℕ)). shown part.now) c.args.parts.now c.loop-part.part-index _ _ _ _ _
-      c.loop-part-test.true refl c.loop-part.invariant.went c.in_ok-add_shown.ensures.told;
+      c.loop-part-test.true refl c.loop-part.invariant.went c.in_ok-add_shown.ensures.written;
   stays = c.in_ok-add_shown.ensures.rest ∙ c.loop-part.invariant.stays;
 }
 
-pub returns-clause-told : goal.returns-clause-told
-returns-clause-told g c =
+pub returns-clause-written : goal.returns-clause-written
+returns-clause-written g c =
     went_all (λ (part : Bor (List ℕ)). shown part.now) c.args.parts.now c.loop-part.part-index _ _ _ (omega arith)
     (shown_parts c.args.parts.now) c.loop-part.invariant.went
