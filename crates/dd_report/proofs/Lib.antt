@@ -1,8 +1,10 @@
 mod Agreeing
+mod Batching
 pub mod FirstPlaces
 mod FoundValues
 mod GoingOn
 mod HexDigits
+mod Judging
 mod KeyFindings
 mod ListedLines
 pub mod Masking
