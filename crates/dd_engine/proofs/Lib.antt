@@ -25,7 +25,6 @@ mod SamePlans
 mod SameSets
 mod SetsGathered
 mod SetsNamed
-mod Settling
 mod SourcePicks
 mod SourcesNoted
 mod UnreachedSets

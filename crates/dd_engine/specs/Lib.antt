@@ -1,4 +1,3 @@
-pub mod Batches
 pub mod Choosing
 pub mod IndexNotes
 pub mod Indexed

@@ -6,7 +6,6 @@
 //! which Patient IDs have more than one Patient's Name, and the last two what `SetNotes` has.
 #![tactic(auto)]
 
-mod batch;
 mod choice;
 mod conflict;
 mod engine;

@@ -1,21 +1,15 @@
 //! The versions of all sources.
 ghost use Rattle.std.specs.Prelude.{◌≡◌, ◌↔◌, ◌+◌, ◌<◌, ◌++◌, ◌∷◌, ℕ, List, [], length};
 ghost use Rattle.std.specs.Prelude.{IsOk, IfOk, IfErr, OnOk, IsTrue};
-ghost use Rattle.sha2.specs.Sha256.{sha256};
-ghost use Rattle.dd_slots.specs.Slots.{IsSlotOf};
 ghost use Rattle.dd_elem.specs.Device.{IsLive};
-ghost use Rattle.dd_keys.specs.Kept.{digested_by};
-ghost use Rattle.dd_engine.specs.Batches.{HasRoom, HoldsOpen, IsOpenAnswer};
 ghost use Rattle.dd_engine.specs.Indexing.{Answer};
 ghost use Rattle.dd_engine.specs.Supplies.{ReadingEndsBy};
-ghost use Rattle.dd_engine.specs.Supply.{AllStay, AreAnswers, EachGrows, Holds, IsOfSource, IsUsed};
+ghost use Rattle.dd_engine.specs.Supply.{AllStay, AreAnswers, EachGrows, Holds, IsAnswer, IsOfSource, IsUsed};
 
-use crate::batch::Batch;
 use crate::engine_fault::EngineFault;
 use crate::supply::Supply;
 use dd_elem::Memory;
-use dd_keys::{KeyFault, ingest_kept};
-use dd_slots::Slot;
+use dd_keys::{KeyFault, ingest};
 use dd_version::Version;
 use std::alloc::Global;
 
@@ -64,27 +58,16 @@ impl Sources {
         }
     }
 
-    /// Keeps the answer for the next source, which is `at`. The digest of a version is open, and its bytes
-    /// are in the next slot of the batch.
-    fn keep(
-        &mut self,
-        at: usize,
-        answer: Result<Version, KeyFault>,
-        batch: &mut Batch,
-    ) -> Result<(), Memory>
-        requires { HasRoom batch.old self.old.versions.items }
-        ensures room { IsOk result → HasRoom batch.new self.new.versions.items }
-        ensures kept { OnOk result
-            ((answers : List Answer) (bytes : List ℕ) → length answers ≡ at
-            → IsSlotOf batch.old.next bytes
-            → HoldsOpen answers self.old batch.old
-            → HoldsOpen (answers ++ digested_by (sha256 bytes) answer ∷ []) self.new batch.new) }
+    /// Keeps the answer for the next source, which is `at`.
+    fn keep(&mut self, at: usize, answer: Result<Version, KeyFault>) -> Result<(), Memory>
+        ensures { OnOk result
+            ((answers : List Answer) → length answers ≡ at → Holds answers self.old
+            → Holds (answers ++ answer ∷ []) self.new) }
     {
         match answer {
             Ok(version) => {
                 self.versions.push(version)?;
                 self.origins.push(at)?;
-                batch.add(&mut self.versions);
             }
             Err(fault) => self.skipped.push((at, fault))?,
         }
@@ -126,25 +109,22 @@ pub(crate) fn read_sources<S: Supply>(
         × (S.rest supply.new ≡ S.rest supply.old) }
 {
     let mut sources = Sources::new(alloc);
-    let mut batch = Batch::new(alloc);
     for at in 0..supply.count() {
-        let answer = read_one(alloc, supply, at, &mut batch.next, limit)?;
-        sources.keep(at, answer, &mut batch)?;
+        let answer = read_one(alloc, supply, at, limit)?;
+        sources.keep(at, answer)?;
     }
-    batch.finish(&mut sources.versions);
     Ok(sources)
 }
 
-/// The version of a source, with its digest open and its bytes in the slot; or why it has none.
+/// The version of a source, or why it has none.
 fn read_one<S: Supply>(
     alloc: Global,
     supply: &mut S,
     at: usize,
-    slot: &mut Slot,
     limit: u64,
 ) -> Result<Result<Version, KeyFault>, EngineFault>
     requires { at < S.sources supply.old }
-    ensures answer { IfOk result (IsOpenAnswer limit (S.contents supply.old at) slot.new) }
+    ensures answer { IfOk result (IsAnswer limit (S.contents supply.old at)) }
     ensures live { IsOk result → IsLive (S.refusals supply.old at) (S.unread supply.old at) }
     ensures refusals { IsOk result → AllStay (S.refusals supply.old) (S.refusals supply.new) }
     ensures unread { IsOk result → AllStay (S.unread supply.old) (S.unread supply.new) }
@@ -158,7 +138,7 @@ fn read_one<S: Supply>(
     let Ok(mut reader) = supply.begin(at) else {
         return Err(EngineFault::Absent(at));
     };
-    let answer = ingest_kept(alloc, &mut reader, slot, limit);
+    let answer = ingest(alloc, &mut reader, limit);
     supply.end(at, reader);
     match answer {
         Ok(version) => Ok(Ok(version)),

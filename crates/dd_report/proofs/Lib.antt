@@ -1,10 +1,8 @@
 mod Agreeing
-mod Batching
 pub mod FirstPlaces
 mod FoundValues
 mod GoingOn
 mod HexDigits
-mod Judging
 mod KeyFindings
 mod ListedLines
 pub mod Masking

@@ -1,5 +1,4 @@
 pub mod Agreements
-pub mod Batches
 pub mod Checking
 pub mod Finding
 pub mod Listing

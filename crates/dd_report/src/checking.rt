@@ -1,30 +1,25 @@
 //! The files of a file-set, compared with its directory.
 ghost use Rattle.std.specs.Prelude.{◌≡◌, ◌↔◌, ◌∷◌, List, [], ℕ, IfOk, IsErr, IsTrue, not, true};
-ghost use Rattle.std.specs.Prelude.{◌&&◌};
-ghost use Rattle.std.specs.Option.{option_or};
 ghost use Rattle.dd_dir.specs.ForestViews.{tree_view, trees_view, walk_view};
 ghost use Rattle.dd_dir.specs.Trees.{Node};
 ghost use Rattle.dd_version.specs.Fitting.{is_empty};
-ghost use Rattle.dd_report.specs.Agreements.{IsInherited, branch_standings, by_keys, found_in, is_image};
+ghost use Rattle.dd_report.specs.Agreements.{IsInherited, branch_standings, compared_by, found_in, is_image};
 ghost use Rattle.dd_report.specs.Agreements.{standing_below, standings_below};
-ghost use Rattle.dd_report.specs.Batches.{Closes, IsReady, KeepsOpen, KeepsWaiting, Reports, judged, report_of};
 ghost use Rattle.dd_report.specs.Checking.{Checks, ChecksAll, FindsFile, TellsFirst, TellsSome, TellsWalk};
-ghost use Rattle.dd_report.specs.Checking.{end_line, most_read};
-ghost use Rattle.dd_report.specs.Finding.{FindsBy, without_digest};
-ghost use Rattle.dd_report.specs.Telling.{Tells, way_of};
+ghost use Rattle.dd_report.specs.Checking.{differs_parts, end_line, finding_line};
+ghost use Rattle.dd_report.specs.Checking.{most_read};
+ghost use Rattle.dd_report.specs.Finding.{FindsBy};
+ghost use Rattle.dd_report.specs.Telling.{Tells, shown_line, way_of};
 ghost use Rattle.dd_report.specs.Text.{FailsInText, TakesText};
 
 use crate::agreements::{Inherited, finding_by_keys};
-use crate::batch::Batch;
-use crate::findings::{
-    Finding, Judgement, finding_unopened, id_of, judge_by_digest, without_digest,
-};
+use crate::findings::{Finding, file_in, finding_by, finding_unopened, id_of, without_digest};
 use crate::line_buffer::LineBuffer;
 use crate::listing::record_count;
-use crate::telling::tell_judgement;
+use crate::words::{tell_fault, tell_tag};
 use dd_dir::{Forest, Tree};
 use dd_elem::{Memory, Read, Write};
-use dd_files::{Files, Progress, SOURCE_LIMIT, Step, file_path};
+use dd_files::{Files, Progress, SOURCE_LIMIT, Step, digest_text, file_path};
 use dd_layout::Level;
 use itoa::Buffer;
 use std::alloc::Global;
@@ -114,7 +109,7 @@ pub fn check_records<F: Files + Progress, W: Write>(
 }
 
 /// Did the output fail?
-fn is_unsent<T>(checked: &Result<T, CheckFault>) -> bool
+fn is_unsent(checked: &Result<bool, CheckFault>) -> bool
     ensures { IsTrue result ↔ (checked.now ≡ Err CheckFault.Unsent) }
 {
     matches!(checked, Err(CheckFault::Unsent))
@@ -162,38 +157,9 @@ fn check_counted<F: Files + Progress, W: Write>(
         check,
         inherited: Inherited::at_root(),
     };
-    let mut batch = Batch::new(check.alloc);
-    let checked = check_trees(at, trees, files, lines, &mut batch);
-    let found = found_at_end(checked, files, lines, &mut batch);
+    let checked = check_trees(at, trees, files, lines);
     files.hide_line();
-    found
-}
-
-/// Prints what is found of the files that are still open, unless the output failed before. Answers whether anything is
-/// found of all files.
-fn found_at_end<F: Files + Progress, W: Write>(
-    checked: Result<(), CheckFault>,
-    files: &mut F,
-    lines: &mut LineBuffer<'_, W>,
-    batch: &mut Batch<'_>,
-) -> Result<bool, CheckFault>
-    requires { IsReady batch.old }
-    ensures same { lines.new.to.ghost_name ≡ lines.old.to.ghost_name }
-    ensures found { Closes checked result (report_of W.Write lines.old batch.old)
-        (way_of W.Write lines.new) }
-    ensures kept { F.held files.new ≡ F.held files.old }
-    ensures refusals { F.refusals files.new ≡ F.refusals files.old }
-{
-    if is_unsent(&checked) {
-        return Err(CheckFault::Unsent);
-    }
-    let Ok(()) = batch.settle(files, lines) else {
-        return Err(CheckFault::Unsent);
-    };
-    match checked {
-        Ok(()) => Ok(batch.found),
-        Err(fault) => Err(fault),
-    }
+    checked
 }
 
 /// Prints how many items no offset reaches, if there are any. Else prints how many records there are, if nothing
@@ -227,23 +193,21 @@ fn check_trees<'t, F: Files + Progress, W: Write>(
     trees: &[Tree<'t>],
     files: &mut F,
     lines: &mut LineBuffer<'_, W>,
-    batch: &mut Batch<'t>,
-) -> Result<(), CheckFault>
-    requires { IsReady batch.old }
+) -> Result<bool, CheckFault>
     ensures same { lines.new.to.ghost_name ≡ lines.old.to.ghost_name }
-    ensures ready { IsReady batch.new }
     ensures checks { (above : List Node) → IsInherited at.entry.inherited above
-        → Reports F.In.Read (F.held files.old)
+        → Checks F.In.Read (F.held files.old)
         at.entry.check.folder.now at.entry.check.comparison
         (standings_below above (trees_view trees.now)) result
         (F.refusals files.old) (F.refusals files.new)
-        (report_of W.Write lines.old batch.old) (report_of W.Write lines.new batch.new) }
+        (way_of W.Write lines.old) (way_of W.Write lines.new) }
     ensures kept { F.held files.new ≡ F.held files.old }
 {
+    let mut found = false;
     for tree in trees {
-        check_tree(at, tree, files, lines, batch)?;
+        found = check_tree(at, tree, files, lines)? || found;
     }
-    Ok(())
+    Ok(found)
 }
 
 /// Checks the file of this record, and those of the records below it. `at` has what the records above say.
@@ -253,17 +217,14 @@ fn check_tree<'t, F: Files + Progress, W: Write>(
     tree: &Tree<'t>,
     files: &mut F,
     lines: &mut LineBuffer<'_, W>,
-    batch: &mut Batch<'t>,
-) -> Result<(), CheckFault>
-    requires { IsReady batch.old }
+) -> Result<bool, CheckFault>
     ensures same { lines.new.to.ghost_name ≡ lines.old.to.ghost_name }
-    ensures ready { IsReady batch.new }
     ensures checks { (above : List Node) → IsInherited at.entry.inherited above
-        → Reports F.In.Read (F.held files.old)
+        → Checks F.In.Read (F.held files.old)
         at.entry.check.folder.now at.entry.check.comparison
         (branch_standings above (tree_view tree.now)) result
         (F.refusals files.old) (F.refusals files.new)
-        (report_of W.Write lines.old batch.old) (report_of W.Write lines.new batch.new) }
+        (way_of W.Write lines.old) (way_of W.Write lines.new) }
     ensures kept { F.held files.new ≡ F.held files.old }
 {
     let inherited = at.inherited.under(tree);
@@ -271,37 +232,38 @@ fn check_tree<'t, F: Files + Progress, W: Write>(
         check: at.check,
         inherited,
     };
-    check_record(at, tree, files, lines, batch)?;
-    check_trees(at, &tree.below, files, lines, batch)
+    let here = check_record(at, tree, files, lines)?;
+    let below = check_trees(at, &tree.below, files, lines)?;
+    Ok(here || below)
 }
 
-/// Checks the file of this record, and prints what is found, or leaves it open in the batch. `at` has what it and the
-/// records above say.
-fn check_record<'t, F: Files + Progress, W: Write>(
-    at: CheckAt<'_, 't>,
-    tree: &Tree<'t>,
+/// Checks the file of this record, and prints what is found. `at` has what it and the records above say.
+fn check_record<F: Files + Progress, W: Write>(
+    at: CheckAt<'_, '_>,
+    tree: &Tree<'_>,
     files: &mut F,
     lines: &mut LineBuffer<'_, W>,
-    batch: &mut Batch<'t>,
-) -> Result<(), CheckFault>
-    requires { IsReady batch.old }
+) -> Result<bool, CheckFault>
     ensures same { lines.new.to.ghost_name ≡ lines.old.to.ghost_name }
-    ensures ready { IsReady batch.new }
     ensures checks { (above : List Node)
         → IsInherited at.entry.inherited ((tree_view tree.now).node ∷ above)
-        → Reports F.In.Read (F.held files.old)
+        → Checks F.In.Read (F.held files.old)
         at.entry.check.folder.now at.entry.check.comparison
         (standing_below above (tree_view tree.now).node ∷ []) result
         (F.refusals files.old) (F.refusals files.new)
-        (report_of W.Write lines.old batch.old) (report_of W.Write lines.new batch.new) }
+        (way_of W.Write lines.old) (way_of W.Write lines.new) }
     ensures kept { F.held files.new ≡ F.held files.old }
 {
-    let Ok(judgement) = judge(at.check, tree, at.inherited, files, batch) else {
+    let Ok(finding) = finding_in(at.check, tree, at.inherited, files) else {
         return Err(CheckFault::Memory);
     };
     files.advance();
-    match tell_judgement(tree, judgement, files, lines, batch) {
-        Ok(()) => Ok(()),
+    let Some(finding) = finding else {
+        return Ok(false);
+    };
+    files.hide_line();
+    match tell_finding(tree, &finding, lines) {
+        Ok(()) => Ok(true),
         Err(_) => Err(CheckFault::Unsent),
     }
 }
@@ -309,86 +271,72 @@ fn check_record<'t, F: Files + Progress, W: Write>(
 /// Judges the file that the record names in the folder. It is opened only where its name is a File ID, and
 /// read once. Memory where an allocation is refused. `inherited` is what the record and those above
 /// say.
-fn judge<F: Files>(
+fn finding_in<F: Files>(
     check: Check<'_>,
     tree: &Tree<'_>,
     inherited: Inherited<'_>,
     files: &mut F,
-    batch: &mut Batch<'_>,
-) -> Result<Judgement, Memory>
-    ensures found { IfOk result (λ judgement. (above : List Node)
+) -> Result<Option<Finding>, Memory>
+    ensures found { IfOk result (λ finding. (above : List Node)
         → IsInherited inherited.entry ((tree_view tree.now).node ∷ above)
         → FindsFile F.In.Read (F.held files.old)
         check.entry.folder.now check.entry.comparison
         (standing_below above (tree_view tree.now).node)
-        (F.refusals files.old) (F.refusals files.new) (judged judgement batch.new.next.slot)) }
-    ensures waits { IfOk result (λ judgement. KeepsWaiting judgement batch.new.next.slot) }
-    ensures open { KeepsOpen batch.old batch.new }
+        (F.refusals files.old) (F.refusals files.new) finding) }
 
     // Where memory ran out no call of the files was refused.
     ensures unrefused { IsErr result → F.refusals files.new ≡ F.refusals files.old }
     ensures kept { F.held files.new ≡ F.held files.old }
 {
     let Some(file) = id_of(tree) else {
-        return Ok(Judgement::Known(finding_unopened(tree)));
+        return Ok(finding_unopened(tree));
     };
     let path = file_path(check.alloc, check.folder, file)?;
     match files.member(check.folder, path.as_str()) {
-        Ok(mut reader) => judge_file(check, tree, inherited, &mut reader, batch),
-        Err(_) => Ok(Judgement::Known(finding_unopened(tree))),
+        Ok(mut reader) => finding_of_file(check, tree, inherited, &mut reader),
+        Err(_) => Ok(finding_unopened(tree)),
     }
 }
 
 /// Judges the file and its record by this comparison, by reading the file once.
-fn judge_file<R: Read>(
-    check: Check<'_>,
-    tree: &Tree<'_>,
-    inherited: Inherited<'_>,
-    reader: &mut R,
-    batch: &mut Batch<'_>,
-) -> Result<Judgement, Memory>
-    ensures found { IfOk result (λ judgement. (above : List Node)
-        → IsInherited inherited.entry ((tree_view tree.now).node ∷ above)
-        → FindsBy R.Read most_read
-        (found_in check.entry.comparison (standing_below above (tree_view tree.now).node))
-        (judged judgement batch.new.next.slot) reader.old reader.new) }
-    ensures waits { IfOk result (λ judgement. KeepsWaiting judgement batch.new.next.slot) }
-    ensures open { KeepsOpen batch.old batch.new }
-
-    // By the digest alone it takes no memory.
-    ensures memory { IsErr result → check.entry.comparison.keys ≡ true }
-{
-    if compares_keys(check, tree) {
-        let finding = finding_with_keys(check, tree, inherited, reader)?;
-        Ok(Judgement::Known(finding))
-    } else {
-        Ok(judge_by_digest(tree, check.comparison.strict, reader, batch))
-    }
-}
-
-/// Judges the file of an IMAGE record by its digest and by what it says of itself, by reading it once.
-fn finding_with_keys<R: Read>(
+fn finding_of_file<R: Read>(
     check: Check<'_>,
     tree: &Tree<'_>,
     inherited: Inherited<'_>,
     reader: &mut R,
 ) -> Result<Option<Finding>, Memory>
-    ensures { IfOk result (λ finding. (above : List Node)
+    ensures found { IfOk result (λ finding. (above : List Node)
         → IsInherited inherited.entry ((tree_view tree.now).node ∷ above)
         → FindsBy R.Read most_read
-        (λ (given : List ℕ). option_or (by_keys (standing_below above (tree_view tree.now).node) given)
-        (without_digest check.entry.comparison.strict (tree_view tree.now).node))
-        finding reader.old reader.new) }
+        (found_in check.entry.comparison (standing_below above (tree_view tree.now).node)) finding
+        reader.old reader.new) }
+
+    // By the digest alone it takes no memory.
+    ensures memory { IsErr result → check.entry.comparison.keys ≡ true }
 {
-    let compared = finding_by_keys(check.alloc, tree, inherited, reader, SOURCE_LIMIT)?;
+    let compared = finding_compared(check, tree, inherited, reader)?;
     Ok(compared.or(without_digest(tree, check.comparison.strict)))
 }
 
-/// Are the keys of its file compared?
-fn compares_keys(check: Check<'_>, tree: &Tree<'_>) -> bool
-    ensures { result ≡ (check.entry.comparison.keys && is_image (tree_view tree.now).node) }
+/// Judges the file by what is compared, by reading it once.
+fn finding_compared<R: Read>(
+    check: Check<'_>,
+    tree: &Tree<'_>,
+    inherited: Inherited<'_>,
+    reader: &mut R,
+) -> Result<Option<Finding>, Memory>
+    ensures found { IfOk result (λ finding. (above : List Node)
+        → IsInherited inherited.entry ((tree_view tree.now).node ∷ above)
+        → FindsBy R.Read most_read
+        (compared_by check.entry.comparison.keys (standing_below above (tree_view tree.now).node))
+        finding reader.old reader.new) }
+    ensures memory { IsErr result → check.entry.comparison.keys ≡ true }
 {
-    check.comparison.keys && is_image(tree)
+    if check.comparison.keys && is_image(tree) {
+        finding_by_keys(check.alloc, tree, inherited, reader, SOURCE_LIMIT)
+    } else {
+        Ok(finding_by(tree, reader, SOURCE_LIMIT))
+    }
 }
 
 /// Is it an IMAGE record?
@@ -396,4 +344,46 @@ fn is_image(tree: &Tree<'_>) -> bool
     ensures { result ≡ is_image (tree_view tree.now).node }
 {
     tree.kind == Level::Image.kind()
+}
+
+/// Prints what is found.
+fn tell_finding<W: Write>(
+    tree: &Tree<'_>,
+    finding: &Finding,
+    lines: &mut LineBuffer<'_, W>,
+) -> fmt::Result
+    ensures same { lines.new.to.ghost_name ≡ lines.old.to.ghost_name }
+    ensures written { Tells result (finding_line (tree_view tree.now).node (Some finding.now))
+        (way_of W.Write lines.old) (way_of W.Write lines.new) }
+{
+    match finding {
+        Finding::BadId => {
+            let mut at = Buffer::new();
+            let at = at.format(tree.at).as_bytes();
+            lines.add_line(&[b"BADID ", at])
+        }
+        Finding::Missing => lines.add_line(&[b"MISSING ", file_in(tree)]),
+        Finding::Unreadable => lines.add_line(&[b"UNREADABLE ", file_in(tree)]),
+        Finding::Differs { recorded, found } => {
+            let (recorded, found) = (digest_text(recorded), digest_text(found));
+            tell_digests(file_in(tree), &recorded, &found, lines)
+        }
+        Finding::Mislabelled(tag) => tell_tag(file_in(tree), *tag, lines),
+        Finding::NoFile(fault) => tell_fault(file_in(tree), fault, lines),
+        Finding::NoDigest => lines.add_line(&[b"NODIGEST ", file_in(tree)]),
+    }
+}
+
+/// Prints that a file has another digest than its record says.
+fn tell_digests<W: Write>(
+    file: &[u8],
+    recorded: &[u8; 64],
+    found: &[u8; 64],
+    lines: &mut LineBuffer<'_, W>,
+) -> fmt::Result
+    ensures same { lines.new.to.ghost_name ≡ lines.old.to.ghost_name }
+    ensures written { Tells result (shown_line (differs_parts file.now recorded.now found.now))
+        (way_of W.Write lines.old) (way_of W.Write lines.new) }
+{
+    lines.add_line(&[b"DIFFERS ", file, b" ", &recorded[..], b" ", &found[..]])
 }

@@ -1,23 +1,17 @@
 //! Judges the file that a record names.
-ghost use Rattle.std.specs.Prelude.{◌≡◌, ℕ, List, IfSome, None, Some};
-ghost use Rattle.std.specs.Option.{option_or};
+ghost use Rattle.std.specs.Prelude.{◌≡◌, IfSome, None, Some};
 ghost use Rattle.dd_elem.specs.FileIdForm.{IsFileId};
 ghost use Rattle.dd_dir.specs.ForestViews.{tree_view};
 ghost use Rattle.dd_dir.specs.Saying.{key_of};
-ghost use Rattle.dd_slots.specs.Slots.{IsSlotOf};
-ghost use Rattle.dd_report.specs.Batches.{KeepsOpen, KeepsWaiting, judged};
-ghost use Rattle.dd_report.specs.Checking.{most_read};
 ghost use Rattle.dd_report.specs.Finding.{FindsBy, FindsIn, HasFileId, IsUnread, NamesFile, by_digest, compared};
 ghost use Rattle.dd_report.specs.Finding.{file_in, without_digest};
 
-use crate::batch::Batch;
 use dd_dir::{Tree, digest_in};
 use dd_elem::{Read, Tag, is_file_id};
 use dd_files::digest_of;
 use dd_keys::value_at;
 use dd_layout::table::FILE;
 use dd_part10::FileFault;
-use dd_slots::Slot;
 
 /// Says what is wrong with the file that a record names.
 #[derive(Clone, Copy, Debug, PartialEq, Eq)]
@@ -41,15 +35,6 @@ pub enum Finding {
     NoFile(FileFault),
     /// The record has no digest to compare with that of the file.
     NoDigest,
-}
-
-/// Says what is found of a file, before its digest is computed.
-#[derive(Clone, Copy)]
-pub(crate) enum Judgement {
-    /// This is found, or nothing.
-    Known(Option<Finding>),
-    /// It differs where its bytes have another digest than this, which its record has. They wait in a slot.
-    Waits([u8; 32]),
 }
 
 /// Judges the file that a record names. Finds nothing where the record is not in use or names no file. `file`
@@ -168,42 +153,5 @@ pub(crate) fn without_digest(tree: &Tree<'_>, strict: bool) -> Option<Finding>
         Some(Finding::NoDigest)
     } else {
         None
-    }
-}
-
-/// Judges a file that is read into the next slot of the batch, by its digest alone.
-pub(crate) fn judge_by_digest<R: Read>(
-    tree: &Tree<'_>,
-    strict: bool,
-    reader: &mut R,
-    batch: &mut Batch<'_>,
-) -> Judgement
-    ensures found { FindsBy R.Read most_read
-        (λ (given : List ℕ). option_or (by_digest (tree_view tree.now).node given)
-        (without_digest strict (tree_view tree.now).node))
-        (judged result batch.new.next.slot) reader.old reader.new }
-    ensures waits { KeepsWaiting result batch.new.next.slot }
-    ensures open { KeepsOpen batch.old batch.new }
-{
-    if batch.fill(reader) {
-        judge_whole(tree, strict, &batch.next.slot)
-    } else {
-        Judgement::Known(Some(Finding::Unreadable))
-    }
-}
-
-/// Judges a file that was read whole. Its digest is left open where its record has one and the slot keeps all bytes.
-fn judge_whole(tree: &Tree<'_>, strict: bool, slot: &Slot) -> Judgement
-    ensures found { (given : List ℕ) → IsSlotOf slot.now given
-        → judged result slot.now ≡ option_or (by_digest (tree_view tree.now).node given)
-        (without_digest strict (tree_view tree.now).node) }
-    ensures waits { KeepsWaiting result slot.now }
-{
-    let Some(recorded) = digest_in(&tree.set) else {
-        return Judgement::Known(without_digest(tree, strict));
-    };
-    match slot.bytes() {
-        Some(_) => Judgement::Waits(recorded),
-        None => Judgement::Known(digest_finding(Some(recorded), slot.digest())),
     }
 }

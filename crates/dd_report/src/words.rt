@@ -1,15 +1,12 @@
 //! The words of tags and of the faults of files, as the program prints them.
 ghost use Rattle.std.specs.Prelude.{◌≡◌, ◌++◌, ◌<◌, ◌^◌, codes, true};
 ghost use Rattle.std.specs.Fmt.{digit_glyph};
-ghost use Rattle.hex.specs.Hex.{encode_lower};
 ghost use Rattle.dd_elem.specs.Tag.{four_digits, text_of};
-ghost use Rattle.dd_report.specs.Checking.{differs_parts};
 ghost use Rattle.dd_report.specs.Telling.{Tells, shown_line, way_of};
 ghost use Rattle.dd_report.specs.Words.{file_words, mislabelled_parts, set_words};
 
 use crate::line_buffer::LineBuffer;
 use dd_elem::{Tag, Write};
-use dd_files::digest_text;
 use dd_part10::FileFault;
 use dd_set::SetFault;
 use std::fmt;
@@ -119,34 +116,4 @@ fn digit(value: u16) -> u8
     } else {
         b'A' + (value - 10)
     }
-}
-
-/// Prints that a file has another digest than its record says.
-pub(crate) fn tell_differs<W: Write>(
-    file: &[u8],
-    recorded: &[u8; 32],
-    found: &[u8; 32],
-    lines: &mut LineBuffer<'_, W>,
-) -> fmt::Result
-    ensures same { lines.new.to.ghost_name ≡ lines.old.to.ghost_name }
-    ensures written { Tells result
-        (shown_line (differs_parts file.now (encode_lower recorded.now) (encode_lower found.now)))
-        (way_of W.Write lines.old) (way_of W.Write lines.new) }
-{
-    let (recorded, found) = (digest_text(recorded), digest_text(found));
-    tell_digests(file, &recorded, &found, lines)
-}
-
-/// Prints so by the texts of both digests.
-fn tell_digests<W: Write>(
-    file: &[u8],
-    recorded: &[u8; 64],
-    found: &[u8; 64],
-    lines: &mut LineBuffer<'_, W>,
-) -> fmt::Result
-    ensures same { lines.new.to.ghost_name ≡ lines.old.to.ghost_name }
-    ensures written { Tells result (shown_line (differs_parts file.now recorded.now found.now))
-        (way_of W.Write lines.old) (way_of W.Write lines.new) }
-{
-    lines.add_line(&[b"DIFFERS ", file, b" ", &recorded[..], b" ", &found[..]])
 }
