@@ -21,25 +21,21 @@ use std::cmp::Ordering;
 use std::marker::Model;
 use std::mem;
 
-/// A value that can be copied where memory is found.
 pub(crate) trait TryClone {
-    /// An equal value.
     fn try_clone(&self) -> Result<Self, Memory>
         ensures { IfOk result (λ value. value ≡ self.now) };
 }
 
-/// What became of a value that was taken.
 #[derive(Debug, Drop)]
 pub(crate) enum Taken<V> {
-    /// None with its key was there.
+    /// No value with its key was there.
     Fresh,
-    /// It is greater than this one, which was there.
+    /// The smaller value that was there.
     Displaced(V),
-    /// It is no greater than the one that is there: handed back.
+    /// The value itself: the one there is no smaller.
     Returned(V),
 }
 
-/// The greatest value of each key, rising by key.
 #[derive(Debug, Drop)]
 pub(crate) struct Table<T: Keyed + TryClone + Drop> {
     held: Vec<T>,
@@ -58,7 +54,6 @@ impl<T: Keyed + TryClone + Drop> Model for Table<T> {
 }
 
 impl<T: Keyed + TryClone + Drop> Table<T> {
-    /// The empty table.
     pub(crate) fn new(alloc: Global) -> Table<T>
         ensures { result ≡ [] }
     {
@@ -67,7 +62,6 @@ impl<T: Keyed + TryClone + Drop> Table<T> {
         }
     }
 
-    /// The table of these values, which rise by key.
     pub(crate) fn from_rising(held: Vec<T>) -> Table<T>
         requires { IsRising T.key_of bytes_cmp held.items }
         ensures { result ≡ held.items }
@@ -75,7 +69,6 @@ impl<T: Keyed + TryClone + Drop> Table<T> {
         Table { held }
     }
 
-    /// The values, rising by key.
     pub(crate) fn values(&self) -> &[T]
         ensures all { result.now ≡ self.now }
         ensures rising { IsRising T.key_of bytes_cmp self.now }
@@ -83,7 +76,6 @@ impl<T: Keyed + TryClone + Drop> Table<T> {
         self.held.as_slice()
     }
 
-    /// The value with this key.
     pub(crate) fn get(&self, key: &[u8]) -> Option<&T>
         ensures { option_copied result ≡ at T.key_of bytes_cmp self.now key.now }
     {
@@ -93,14 +85,12 @@ impl<T: Keyed + TryClone + Drop> Table<T> {
         }
     }
 
-    /// Is there a value with this key?
     pub(crate) fn has(&self, key: &[u8]) -> bool
         ensures { result ≡ is_some (at T.key_of bytes_cmp self.now key.now) }
     {
         self.index_of(key).is_ok()
     }
 
-    /// Takes out the value with this key.
     pub(crate) fn remove(&mut self, key: &[u8]) -> Option<T>
         ensures after { self.new ≡ free T.key_of bytes_cmp (key.now ∷ []) self.old }
         ensures value { result ≡ at T.key_of bytes_cmp self.old key.now }
@@ -111,7 +101,7 @@ impl<T: Keyed + TryClone + Drop> Table<T> {
         }
     }
 
-    /// Takes out the values with these keys, which rise. Answers how many pairs of keys were compared.
+    /// Removes the values with these keys, and gives how many pairs of keys were compared.
     pub(crate) fn sift(&mut self, keys: &[Uid]) -> u64
         requires { IsRising (λ uid. uid) bytes_cmp keys.now }
         ensures after { self.new ≡ free T.key_of bytes_cmp keys.now self.old }
@@ -122,12 +112,10 @@ impl<T: Keyed + TryClone + Drop> Table<T> {
         sift(&mut self.held, keys)
     }
 
-    /// What the table takes its memory from.
     pub(crate) fn allocator(&self) -> Global {
         *self.held.allocator()
     }
 
-    /// An equal table. Memory where an allocation was refused: never where it is empty.
     pub(crate) fn copy(&self) -> Result<Table<T>, Memory>
         ensures equal { IfOk result (λ table. table ≡ self.now) }
         ensures some { OnErr result (self.now ≢ []) }
@@ -137,7 +125,7 @@ impl<T: Keyed + TryClone + Drop> Table<T> {
         })
     }
 
-    /// The best of these values. Each that is kept is copied once.
+    /// Copies each value that is kept once.
     pub(crate) fn of(alloc: Global, values: Vec<&T>) -> Result<Table<T>, Memory>
         ensures { IfOk result (λ table. table
             ≡ best T.key_of bytes_cmp T.order (map (λ value. value.now) values.entry.items)) }
@@ -148,8 +136,7 @@ impl<T: Keyed + TryClone + Drop> Table<T> {
         })
     }
 
-    /// Takes copies of the other table's values. Answers how many pairs of keys were compared: no more
-    /// than both tables have values. Memory where an allocation was refused; then nothing has changed.
+    /// Takes copies of the other table's values, and gives how many pairs of keys were compared.
     pub(crate) fn merge(&mut self, other: &Table<T>) -> Result<u64, Memory>
         ensures ok { OnOk result
             (self.new ≡ best T.key_of bytes_cmp T.order (self.old ++ other.now)) }
@@ -175,9 +162,7 @@ impl<T: Keyed + TryClone + Drop> Table<T> {
         Ok(weave(own, copied, &mut self.held))
     }
 
-    /// Takes the value, where none with its key is there, or a smaller one. It is handed back where a
-    /// allocation was refused; then nothing has changed. No memory is taken where a value with the key is
-    /// there.
+    /// Hands the value back where an allocation was refused.
     pub(crate) fn take(&mut self, value: T) -> Result<Taken<T>, T>
         ensures ok { OnOk result (self.new ≡ best T.key_of bytes_cmp T.order (value ∷ self.old)) }
         ensures took { IfOk result (λ took. took
@@ -192,7 +177,6 @@ impl<T: Keyed + TryClone + Drop> Table<T> {
         }
     }
 
-    /// Puts the value at this index, which lies between the smaller and the greater keys.
     fn admit(&mut self, index: usize, value: T) -> Result<Taken<T>, T>
         requires within { index ≤ length self.old }
         requires smaller { AllWithin (λ w. bytes_cmp (T.key_of w) (T.key_of value) ≡ Less)
@@ -210,7 +194,6 @@ impl<T: Keyed + TryClone + Drop> Table<T> {
         Ok(Taken::Fresh)
     }
 
-    /// Keeps the greater of the value and the one at this index, which has its key.
     fn challenge(&mut self, index: usize, value: T) -> Taken<T>
         requires within { index < length self.old }
         requires same { HoldsAt (λ w. bytes_cmp (T.key_of w) (T.key_of value) ≡ Equal)
@@ -226,7 +209,7 @@ impl<T: Keyed + TryClone + Drop> Table<T> {
         }
     }
 
-    /// The index of the value with this key, or the one at which it would stand. The end is looked at first.
+    /// Looks at the last value first.
     fn index_of(&self, key: &[u8]) -> Result<usize, usize>
         ensures index { IsIndex T.key_of key.now self.now result }
         ensures rising { IsRising T.key_of bytes_cmp self.now }
@@ -241,7 +224,6 @@ impl<T: Keyed + TryClone + Drop> Table<T> {
         }
     }
 
-    /// The index of the value with this key, or the one at which it would stand.
     fn search(&self, key: &[u8]) -> Result<usize, usize>
         ensures { IsIndex T.key_of key.now self.now result }
     {
@@ -253,7 +235,6 @@ impl<T: Keyed + TryClone + Drop> Table<T> {
     }
 }
 
-/// Copies these values. Memory where an allocation was refused, and never where the list is empty.
 fn copies<T: TryClone + Drop>(alloc: Global, values: &[T]) -> Result<Vec<T>, Memory>
     ensures equal { IfOk result (λ copies. copies.items ≡ values.now) }
     ensures some { OnErr result (values.now ≢ []) }
@@ -268,7 +249,6 @@ fn copies<T: TryClone + Drop>(alloc: Global, values: &[T]) -> Result<Vec<T>, Mem
     Ok(copies)
 }
 
-/// Copies of the values that these references lend.
 fn copies_of_references<T: TryClone + Drop>(alloc: Global, values: &[&T]) -> Result<Vec<T>, Memory>
     ensures { IfOk result (λ copies. copies.items ≡ map (λ value. value.now) values.now) }
 {

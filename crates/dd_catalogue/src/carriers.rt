@@ -10,7 +10,6 @@ use std::alloc::Global;
 use std::cmp::Ordering;
 use std::marker::Model;
 
-/// A version as the carrier of the keys of its patient, its study or its series.
 #[derive(Drop)]
 pub(crate) struct Carrier<'a, T: Tuple> {
     version: &'a Version,
@@ -29,7 +28,6 @@ impl<'a, T: Tuple> Model for Carrier<'a, T> {
 }
 
 impl<'a, T: Tuple> Carrier<'a, T> {
-    /// Takes the version as a carrier.
     fn of(version: &'a Version) -> Carrier<'a, T>
         ensures { result ≡ version.now }
     {
@@ -39,7 +37,6 @@ impl<'a, T: Tuple> Carrier<'a, T> {
         }
     }
 
-    /// The version.
     pub(crate) fn version(&self) -> &'a Version
         ensures { result.now ≡ self.now }
     {
@@ -47,7 +44,7 @@ impl<'a, T: Tuple> Carrier<'a, T> {
     }
 }
 
-/// By the keys, then as versions.
+/// Compares the keys, then the versions.
 impl<'a, T: Tuple> Ordered for Carrier<'a, T> {
     ghost use Rattle.dd_catalogue.specs.Carriers.{carrier_cmp, carrier_total, carrier_apart};
 
@@ -64,7 +61,6 @@ impl<'a, T: Tuple> Ordered for Carrier<'a, T> {
     }
 }
 
-/// By the key of its keys.
 impl<'a, T: Tuple> Keyed for Carrier<'a, T> {
     ghost key_of = { λ version. T.key_of (T.tuple_of version) };
 
@@ -73,7 +69,6 @@ impl<'a, T: Tuple> Keyed for Carrier<'a, T> {
     }
 }
 
-/// Takes each of these versions as a carrier.
 pub(crate) fn carriers_of<'a, T: Tuple>(
     alloc: Global,
     versions: &'a [Version],

@@ -27,8 +27,8 @@ use dd_version::Version;
 use std::alloc::Global;
 use std::marker::Model;
 
-/// A catalogue of image instances: of each SOP Instance UID (PS3.3 section C.12.1) that it has taken
-/// and that is not withdrawn, the greatest version, and the UIDs that are withdrawn.
+/// Holds the greatest version of each SOP Instance UID (PS3.3 section C.12.1) that was taken and is not withdrawn,
+/// and the withdrawn UIDs.
 #[derive(Debug)]
 pub struct Catalogue {
     table: Table<Version>,
@@ -58,7 +58,7 @@ impl Drop for Catalogue {
 }
 
 impl Catalogue {
-    /// The catalogue that has taken no version and withdrawn nothing.
+    /// Makes the catalogue that has taken and withdrawn nothing.
     pub fn new(alloc: Global) -> Catalogue
         ensures { result ≡ nothing }
     {
@@ -68,7 +68,7 @@ impl Catalogue {
         }
     }
 
-    /// The best of the versions whose instances are not withdrawn. Each version that is kept is copied once.
+    /// Copies each version that is kept once.
     pub(crate) fn of(
         alloc: Global,
         versions: Vec<&Version>,
@@ -82,8 +82,7 @@ impl Catalogue {
         Catalogue::without(alloc, versions, Table::of(alloc, withdrawn)?)
     }
 
-    /// The best of the versions whose instances are not among these withdrawn UIDs, with the UIDs, which copies
-    /// of the catalogue share. Each version that is kept is copied once.
+    /// Copies each version that is kept once. Copies of the catalogue share the UIDs.
     fn without(
         alloc: Global,
         mut versions: Vec<&Version>,
@@ -100,8 +99,8 @@ impl Catalogue {
         Ok(Catalogue { table, withdrawn })
     }
 
-    /// The best of these versions, with nothing withdrawn: they are sorted once, and each that is kept is
-    /// copied once. Memory where an allocation was refused: never where there are no versions.
+    /// Makes a catalogue of the best of these versions, with nothing withdrawn. Sorts once, and copies each version
+    /// that is kept once. Memory where an allocation was refused: never where there are no versions.
     pub fn from_versions(alloc: Global, versions: &[Version]) -> Result<Catalogue, Memory>
         ensures best { IfOk result (λ catalogue. catalogue.versions ≡ best_of versions.now) }
         ensures withdrawn { IfOk result (λ catalogue. catalogue.withdrawn ≡ []) }
@@ -116,10 +115,9 @@ impl Catalogue {
         })
     }
 
-    /// Makes a catalogue of the best of the versions whose instances are not withdrawn, and of these withdrawn
-    /// UIDs. The versions are sorted once, and each that is kept is copied once. The list of UIDs is sorted in
-    /// place and kept, and copies of the catalogue share it. Memory where an allocation was refused, and never where
-    /// both lists are empty.
+    /// Makes a catalogue of the best of the versions whose instances are not withdrawn, and of these withdrawn UIDs.
+    /// Sorts once, and copies each version that is kept once. Keeps the list of UIDs, which copies of the catalogue
+    /// share. Memory where an allocation was refused, and never where both lists are empty.
     pub fn from_parts(
         alloc: Global,
         versions: &[Version],
@@ -137,28 +135,28 @@ impl Catalogue {
         Catalogue::without(alloc, references_to(alloc, versions)?, uid_table(withdrawn))
     }
 
-    /// How many instances it holds.
+    /// Counts the instances that it holds.
     pub fn len(&self) -> usize
         ensures { result ≡ length self.now.versions }
     {
         self.table.values().len()
     }
 
-    /// Does it hold no instance?
+    /// Says whether it holds no instance.
     pub fn is_empty(&self) -> bool
         ensures { result ≡ (length self.now.versions == 0) }
     {
         self.len() == 0
     }
 
-    /// The version that it keeps of this instance.
+    /// Gives the version that it keeps of this instance.
     pub fn get(&self, instance: &Uid) -> Option<&Version>
         ensures { option_copied result ≡ kept self.now.versions instance.now }
     {
         self.table.get(instance.as_bytes())
     }
 
-    /// The versions that it keeps, rising by SOP Instance UID.
+    /// Lists the versions that it keeps, rising by SOP Instance UID.
     pub fn versions(&self) -> &[Version]
         ensures all { result.now ≡ self.now.versions }
         ensures rising { IsCatalogue self.now.versions }
@@ -167,7 +165,7 @@ impl Catalogue {
         self.table.values()
     }
 
-    /// The SOP Instance UIDs that are withdrawn, rising.
+    /// Lists the withdrawn SOP Instance UIDs, rising.
     pub fn withdrawn(&self) -> &[Uid]
         ensures all { result.now ≡ self.now.withdrawn }
         ensures rising { IsRising (λ uid. uid) bytes_cmp self.now.withdrawn }
@@ -175,7 +173,6 @@ impl Catalogue {
         self.withdrawn.values()
     }
 
-    /// Is the instance withdrawn?
     fn has_withdrawn(&self, instance: &Uid) -> bool
         ensures withdrawn { result ≡ is_withdrawn self.now.withdrawn instance.now }
         ensures held { IsHeld self.now }
@@ -183,10 +180,9 @@ impl Catalogue {
         self.withdrawn.has(instance)
     }
 
-    /// Takes a version. It is kept where its instance is not withdrawn, and the catalogue has no version of
-    /// that instance, or a smaller one, which is handed back; else it is handed back itself. Refused where a
-    /// allocation was: the version is handed back and nothing has changed. No memory is taken where the instance
-    /// is held or withdrawn.
+    /// Takes a version: keeps it where its instance is not withdrawn and no version as great is held. A version that
+    /// is not kept is handed back. Refused where an allocation was: the version is handed back and nothing has
+    /// changed. No memory is taken where the instance is held or withdrawn.
     pub fn take(&mut self, version: Version) -> Result<Took, Refused>
         ensures ok { OnOk result (self.new ≡ held_of (and_version version self.old)) }
         ensures took { IfOk result (λ took. took ≡ took_of self.old version) }
@@ -206,9 +202,9 @@ impl Catalogue {
         Ok(to_took(taken))
     }
 
-    /// Withdraws an instance: no version of it is kept from now on, whatever is taken or merged. Withdrawn
-    /// UIDs that copies of the catalogue share are copied first. Memory where an allocation was refused; then
-    /// nothing has changed. No memory is taken where it is withdrawn already.
+    /// Withdraws an instance: no version of it is kept from now on, whatever is taken or merged. Withdrawn UIDs that
+    /// copies of the catalogue share are copied first. Memory where an allocation was refused, which changes nothing,
+    /// and never where it is withdrawn already.
     pub fn withdraw(&mut self, instance: Uid) -> Result<Withdrew, Memory>
         ensures ok { OnOk result (self.new ≡ held_of (and_withdrawn instance self.old)) }
         ensures withdrew { IfOk result (λ withdrew. withdrew ≡ withdrew_of self.old instance) }
@@ -222,9 +218,9 @@ impl Catalogue {
         Ok(Withdrew::New(self.table.remove(instance.as_bytes())))
     }
 
-    /// Takes copies of all versions of the other catalogue, in one walk through both, and withdraws what
-    /// it has withdrawn. Memory where an allocation was refused; then nothing has changed. No memory is taken
-    /// where the other catalogue has no version and has withdrawn nothing.
+    /// Takes copies of all versions of the other catalogue, in one walk through both, and withdraws what it has
+    /// withdrawn. Memory where an allocation was refused, which changes nothing, and never where the other has no
+    /// version and has withdrawn nothing.
     pub fn merge(&mut self, other: &Catalogue) -> Result<(), Memory>
         ensures ok { OnOk result (self.new ≡ held_of (all_of self.old other.now)) }
         ensures err { OnErr result (self.new ≡ self.old) }
@@ -235,11 +231,9 @@ impl Catalogue {
         Ok(())
     }
 
-    /// The same as `merge`. Answers how many pairs of SOP Instance UIDs were compared: for the withdrawn UIDs of
-    /// both, for the versions of both, and for the best of these versions with all withdrawn UIDs. For two lists
-    /// that is one for each UID of either that is at most the greatest of each. Where nothing is withdrawn it is
-    /// no more than both catalogues hold together, else at most twice as many as they have versions and withdrawn
-    /// UIDs. A number above `u64::MAX` is answered as `u64::MAX`.
+    /// Merges as `merge` does, and gives how many pairs of SOP Instance UIDs were compared. It compares the withdrawn
+    /// UIDs of both, the versions of both, and the best of these versions with all withdrawn UIDs. A number above
+    /// `u64::MAX` is answered as `u64::MAX`.
     pub fn merge_counted(&mut self, other: &Catalogue) -> Result<u64, Memory>
         ensures ok { OnOk result (self.new ≡ held_of (all_of self.old other.now)) }
         ensures count { IfOk result (λ count.
@@ -266,7 +260,6 @@ impl Catalogue {
         Ok(sets.saturating_add(maps).saturating_add(sifted))
     }
 
-    /// The same, where the other catalogue has withdrawn nothing.
     fn merge_versions(&mut self, other: &Catalogue) -> Result<u64, Memory>
         requires { other.now.withdrawn ≡ [] }
         ensures ok { OnOk result (self.new ≡ held_of (all_of self.old other.now)) }
@@ -285,10 +278,9 @@ impl Catalogue {
         Ok(maps.saturating_add(sifted))
     }
 
-    /// The least instance that conflicts with a greater one, and the least greater one with which it
-    /// conflicts: two versions conflict where they have one study and different Patient IDs, or one
-    /// series and different studies. Memory where an allocation was refused, and never where the catalogue
-    /// is empty.
+    /// Finds the least instance that conflicts with a greater one, and the least greater one with which it conflicts.
+    /// Two versions conflict where they have one study and different Patient IDs, or one series and different
+    /// studies. Memory where an allocation was refused, and never where the catalogue is empty.
     pub fn conflict(&self) -> Result<Option<(Uid, Uid)>, Memory>
         ensures first { IfOk result (λ pair. IsConflict self.now.versions pair) }
         ensures pair { IfOk result (λ pair. pair ≡ first_conflict self.now.versions) }
@@ -297,10 +289,9 @@ impl Catalogue {
         first_conflict(self.table.allocator(), self.versions())
     }
 
-    /// The same instances, each with the greatest keys of its patient, its study and its series among
-    /// all versions here. The keys of a patient, a study or a series are taken whole. What is withdrawn
-    /// stays withdrawn. The answer shares the withdrawn UIDs as `copy` does. Memory where an allocation was refused,
-    /// and never where the catalogue has no version and has withdrawn nothing.
+    /// Gives the same instances, each with the greatest keys of its patient, its study and its series among all
+    /// versions here, each taken whole. Shares the withdrawn UIDs as `copy` does. Memory where an allocation was
+    /// refused, and never where the catalogue has no version and has withdrawn nothing.
     pub fn harmonise(&self) -> Result<Catalogue, Memory>
         ensures agreed { IfOk result (λ catalogue.
             IsHarmonised self.now.versions catalogue.versions) }
@@ -315,8 +306,8 @@ impl Catalogue {
         Ok(Catalogue { table, withdrawn })
     }
 
-    /// Answers what `harmonise` does, where no two versions conflict, and else what `conflict` does; but the versions
-    /// are sorted once for both. Memory where an allocation was refused, and never where the catalogue has no version
+    /// Answers what `harmonise` does, where no two versions conflict, and else what `conflict` does, but sorts the
+    /// versions once for both. Memory where an allocation was refused, and never where the catalogue has no version
     /// and has withdrawn nothing.
     pub fn harmonise_or_conflict(&self) -> Result<Harmony, Memory>
         ensures harmony { IfOk result (λ harmony. IsHarmonyOf self.now harmony) }
@@ -332,9 +323,9 @@ impl Catalogue {
         }
     }
 
-    /// An equal catalogue. It shares the withdrawn UIDs of a catalogue that was made with them, and has a copy
-    /// of those of another. Memory where an allocation was refused, and never where the catalogue has no version and
-    /// has withdrawn nothing.
+    /// Makes an equal catalogue. Shares the withdrawn UIDs where the catalogue was made with them, and else copies
+    /// them. Memory where an allocation was refused, and never where the catalogue has no version and has withdrawn
+    /// nothing.
     pub fn copy(&self) -> Result<Catalogue, Memory>
         ensures same { IfOk result (λ catalogue. catalogue ≡ self.now) }
         ensures some { OnErr result (self.now ≢ nothing) }
@@ -346,7 +337,6 @@ impl Catalogue {
     }
 }
 
-/// Catalogues are equal where their versions are, and what they have withdrawn.
 impl PartialEq for Catalogue {
     ghost use Rattle.dd_catalogue.specs.Equal.{holds_same, holds_same_per};
 
@@ -366,8 +356,7 @@ fn are_same(one: &[Uid], other: &[Uid]) -> bool
     one == other
 }
 
-/// The join of two catalogues is the best of both that neither has withdrawn, and what either has
-/// withdrawn. It takes memory where the other has a version or has withdrawn a UID.
+/// Joins by `merge`, which takes memory where the other has a version or has withdrawn a UID.
 impl Join for Catalogue {
     ghost use Rattle.dd_catalogue.specs.Contents.{IsHeld};
     ghost use Rattle.dd_catalogue.specs.CatalogueJoin.{BringsSome, both, catalogue_laws};

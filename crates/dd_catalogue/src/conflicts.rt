@@ -13,8 +13,7 @@ use dd_elem::{Memory, Uid};
 use dd_version::{PatientKeys, SeriesKeys, StudyKeys, Version};
 use std::alloc::Global;
 
-/// The first version that conflicts with a later one, and the first later one with which it does.
-/// Memory where an allocation was refused: never where there are no versions.
+/// Finds the first version that conflicts with a later one, and the first later one with which it does.
 pub(crate) fn first_conflict(
     alloc: Global,
     versions: &[Version],
@@ -30,7 +29,6 @@ pub(crate) fn first_conflict(
     conflict_by(alloc, versions, &studies, &series)
 }
 
-/// The same, where these are the versions as carriers of the keys of studies and of series.
 fn conflict_by<'b, 'a>(
     alloc: Global,
     versions: &[Version],
@@ -48,8 +46,7 @@ fn conflict_by<'b, 'a>(
     Ok(conflict_among(versions, &split_studies, &split_series))
 }
 
-/// The same, where these are the studies of two patients and the series of two studies. Only a version of
-/// one of them is compared with the later ones.
+/// Compares only versions of these studies and series with the later ones.
 pub(crate) fn conflict_among<'b, 'a>(
     versions: &[Version],
     studies: &Greatest<'b, Carrier<'a, StudyKeys>>,
@@ -71,7 +68,6 @@ pub(crate) fn conflict_among<'b, 'a>(
     None
 }
 
-/// Has the version a study of two patients, or a series of two studies?
 fn is_of_two_owners<'b, 'a>(
     version: &Version,
     studies: &Greatest<'b, Carrier<'a, StudyKeys>>,
@@ -85,7 +81,6 @@ fn is_of_two_owners<'b, 'a>(
         || series.get(parts.series.uid.as_bytes()).is_some()
 }
 
-/// The version and the first of these with which it conflicts.
 fn pair_with(version: &Version, others: &[Version]) -> Option<(Uid, Uid)>
     ensures { result ≡ pair_or version.now (find (conflicts version.now) others.now) None }
 {
@@ -97,7 +92,6 @@ fn pair_with(version: &Version, others: &[Version]) -> Option<(Uid, Uid)>
     None
 }
 
-/// Do the versions have one study and different patients, or one series and different studies?
 #[tactic(auto, using(dd_elem::proofs::Sameness::same_bytes, dd_elem::proofs::Sameness::same_uid))]
 fn conflicts(one: &Version, other: &Version) -> bool
     ensures { result ≡ conflicts one.now other.now }

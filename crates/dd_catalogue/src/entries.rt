@@ -5,7 +5,6 @@ use crate::greatest::Keyed;
 use dd_elem::{Memory, Uid};
 use dd_version::Version;
 
-/// A version has its SOP Instance UID as key.
 impl Keyed for Version {
     ghost use Rattle.dd_catalogue.specs.Versions.{instance_of};
 
@@ -22,7 +21,6 @@ impl TryClone for Version {
     }
 }
 
-/// A UID has itself as key.
 impl Keyed for Uid {
     ghost key_of = { λ uid. uid };
 

@@ -12,16 +12,13 @@ use std::alloc::Global;
 use std::cmp::Ordering;
 use std::marker::Model;
 
-/// A value that has a key.
 pub(crate) trait Keyed: Ordered {
     ghost key_of: { Self → List ℕ };
 
-    /// The key.
     fn key(&self) -> &[u8]
         ensures { result.now ≡ key_of self.now };
 }
 
-/// References to the greatest value of each key, rising by key.
 #[derive(Drop)]
 pub(crate) struct Greatest<'a, T: Keyed> {
     held: Vec<&'a T>,
@@ -41,7 +38,6 @@ impl<'a, T: Keyed> Model for Greatest<'a, T> {
 }
 
 impl<'a, T: Keyed> Greatest<'a, T> {
-    /// The greatest of these values.
     pub(crate) fn of(alloc: Global, mut values: Vec<&'a T>) -> Result<Greatest<'a, T>, Memory>
         ensures { IfOk result (λ greatest. greatest
             ≡ best T.key_of bytes_cmp T.order (map (λ value. value.now) values.entry.items)) }
@@ -56,7 +52,6 @@ impl<'a, T: Keyed> Greatest<'a, T> {
         Ok(greatest)
     }
 
-    /// The greatest of the values of this list.
     pub(crate) fn among(alloc: Global, values: &'a [T]) -> Result<Greatest<'a, T>, Memory>
         ensures { IfOk result (λ greatest. greatest
             ≡ best T.key_of bytes_cmp T.order values.now) }
@@ -64,7 +59,6 @@ impl<'a, T: Keyed> Greatest<'a, T> {
         Greatest::of(alloc, references_to(alloc, values)?)
     }
 
-    /// Keeps the value, where no greater one has its key.
     fn offer(&mut self, value: &'a T) -> Result<(), Memory>
         ensures { OnOk result (self.new ≡ best T.key_of bytes_cmp T.order (value.now ∷ self.old)) }
     {
@@ -77,7 +71,6 @@ impl<'a, T: Keyed> Greatest<'a, T> {
         }
     }
 
-    /// Puts the value at this index, which lies between the smaller and the greater keys.
     fn admit(&mut self, index: usize, value: &'a T) -> Result<(), Memory>
         requires within { index ≤ length self.old }
         requires smaller { AllWithin (λ w. bytes_cmp (T.key_of w) (T.key_of value.now) ≡ Less)
@@ -90,7 +83,6 @@ impl<'a, T: Keyed> Greatest<'a, T> {
         Ok(())
     }
 
-    /// Keeps the greater of the value and the one at this index, which has its key.
     fn challenge(&mut self, index: usize, value: &'a T)
         requires within { index < length self.old }
         requires same { HoldsAt (λ w. bytes_cmp (T.key_of w) (T.key_of value.now) ≡ Equal)
@@ -102,7 +94,6 @@ impl<'a, T: Keyed> Greatest<'a, T> {
         }
     }
 
-    /// The values, rising by key.
     pub(crate) fn values(&self) -> &[&'a T]
         ensures all { map (λ value. value.now) result.now ≡ self.now }
         ensures rising { IsRising T.key_of bytes_cmp self.now }
@@ -110,7 +101,6 @@ impl<'a, T: Keyed> Greatest<'a, T> {
         self.held.as_slice()
     }
 
-    /// The value with this key.
     pub(crate) fn get(&self, key: &[u8]) -> Option<&'a T>
         ensures { option_copied result ≡ at T.key_of bytes_cmp self.now key.now }
     {
@@ -120,7 +110,7 @@ impl<'a, T: Keyed> Greatest<'a, T> {
         }
     }
 
-    /// The value with the key of this one, or else this one.
+    /// Gives the value with the key of `own`, or else `own`.
     pub(crate) fn like(&self, own: &'a T) -> &'a T
         ensures { result.now
             ≡ unwrap_or (at T.key_of bytes_cmp self.now (T.key_of own.now)) own.now }
@@ -128,7 +118,6 @@ impl<'a, T: Keyed> Greatest<'a, T> {
         self.get(own.key()).unwrap_or(own)
     }
 
-    /// The index of the value with this key, or the one at which it would stand.
     fn index_of(&self, key: &[u8]) -> Result<usize, usize>
         ensures index { IsIndex T.key_of key.now self.now result }
         ensures rising { IsRising T.key_of bytes_cmp self.now }
@@ -137,7 +126,7 @@ impl<'a, T: Keyed> Greatest<'a, T> {
     }
 }
 
-/// The index of the value with this key, or the one at which it would stand. The end is looked at first.
+/// Looks at the last value first.
 fn index_among<T: Keyed>(held: &[&T], key: &[u8]) -> Result<usize, usize>
     requires { IsRising (λ value. T.key_of value.now) bytes_cmp held.now }
     ensures { IsIndex (λ value. T.key_of value.now) key.now held.now result }
@@ -152,7 +141,6 @@ fn index_among<T: Keyed>(held: &[&T], key: &[u8]) -> Result<usize, usize>
     }
 }
 
-/// The index of the value with this key, or the one at which it would stand.
 fn search<T: Keyed>(held: &[&T], key: &[u8]) -> Result<usize, usize>
     requires { IsRising (λ value. T.key_of value.now) bytes_cmp held.now }
     ensures { IsIndex (λ value. T.key_of value.now) key.now held.now result }
@@ -164,7 +152,6 @@ fn search<T: Keyed>(held: &[&T], key: &[u8]) -> Result<usize, usize>
     )
 }
 
-/// References to these values.
 pub(crate) fn references_to<T>(alloc: Global, values: &[T]) -> Result<Vec<&T>, Memory>
     ensures { IfOk result (λ references. map (λ value. value.now) references.items ≡ values.now) }
 {

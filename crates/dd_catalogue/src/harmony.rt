@@ -20,8 +20,7 @@ use dd_elem::{Memory, Uid};
 use dd_version::{PatientKeys, SeriesKeys, StudyKeys, Version};
 use std::alloc::Global;
 
-/// The versions with the greatest keys of each patient, study and series among them. Memory where an
-/// allocation was refused: never where there are no versions.
+/// Gives each version the greatest keys of its patient, its study and its series.
 pub(crate) fn harmony_of(alloc: Global, versions: &[Version]) -> Result<Table<Version>, Memory>
     requires { IsCatalogue versions.now }
     ensures table { IfOk result (λ table. table ≡ harmonised versions.now) }
@@ -36,7 +35,6 @@ pub(crate) fn harmony_of(alloc: Global, versions: &[Version]) -> Result<Table<Ve
     harmony_among(alloc, versions, &patients, &studies, &series)
 }
 
-/// The same, where these are the versions as carriers of the keys of patients, of studies and of series.
 fn harmony_among<'b, 'a>(
     alloc: Global,
     versions: &'a [Version],
@@ -56,8 +54,7 @@ fn harmony_among<'b, 'a>(
     harmony_by(alloc, versions, &patients, &studies, &series)
 }
 
-/// The same, where no two versions conflict; else the first conflict. The order of the versions by study and
-/// that by series serve both answers.
+/// Gives the harmony, or the first conflict, and sorts the versions by study and by series once for both.
 pub(crate) fn harmony_or_conflict(
     alloc: Global,
     versions: &[Version],
@@ -78,7 +75,6 @@ pub(crate) fn harmony_or_conflict(
     harmony_or_conflict_among(alloc, versions, &patients, &studies, &series)
 }
 
-/// The same, where these are the versions as carriers of the keys of patients, of studies and of series.
 fn harmony_or_conflict_among<'b, 'a>(
     alloc: Global,
     versions: &'a [Version],
@@ -107,8 +103,6 @@ fn harmony_or_conflict_among<'b, 'a>(
     Ok(Ok(table))
 }
 
-/// The versions with the keys that these carriers of the greatest ones have of their patients, studies and
-/// series.
 fn harmony_by<'b, 'a>(
     alloc: Global,
     versions: &'a [Version],
@@ -136,7 +130,7 @@ fn harmony_by<'b, 'a>(
     Ok(Table::from_rising(held))
 }
 
-/// The version in the table that is of the same patient, study or series, or else this version.
+/// Gives the version in the table of the same patient, study or series, or else this version.
 fn version_like<'b, 'a, T: Tuple>(
     table: &Greatest<'b, Carrier<'a, T>>,
     version: &'a Version,

@@ -10,7 +10,7 @@ ghost use Rattle.dd_catalogue.specs.Harmony.{harmonised};
 ghost use Rattle.dd_catalogue.specs.Histories.{together};
 ghost use Rattle.dd_catalogue.specs.Versions.{IsCatalogue, best_of};
 
-/// What is in harmony is not changed by harmony.
+/// Harmony does not change what is in harmony.
 pub fn harmony_again_is_same()
     ensures { (m : List Parts) → harmonised (harmonised m) ≡ harmonised m }
 {}

@@ -21,10 +21,8 @@ pub enum History {
     Merge(Vec<History>),
 }
 
-/// The catalogue that a history gives: the best of all versions that were taken in it and whose
-/// instances were not withdrawn in it, and what was withdrawn. They are sorted once, however the history
-/// nests, and each version that is kept is copied once. Memory where an allocation was refused, and never where
-/// nothing was taken or withdrawn.
+/// Builds the catalogue that a history gives. Sorts once, however the history nests, and copies each version that is
+/// kept once. Memory where an allocation was refused, and never where nothing was taken or withdrawn.
 pub fn build(alloc: Global, history: &History) -> Result<Catalogue, Memory>
     ensures best { IfOk result (λ catalogue. catalogue ≡ held_of (taken history.now)) }
     ensures some { OnErr result (taken history.now ≢ nothing) }
@@ -38,8 +36,6 @@ pub fn build(alloc: Global, history: &History) -> Result<Catalogue, Memory>
     Catalogue::of(alloc, versions, withdrawn)
 }
 
-/// Adds a reference to each version that was taken, and to each UID that was withdrawn. Memory where a
-/// allocation was refused, and never where nothing was taken or withdrawn.
 fn collect<'a>(
     history: &'a History,
     versions: &mut Vec<&'a Version>,

@@ -13,14 +13,13 @@ pub trait Join {
     // is it one of the values that are joined?
     ghost is_value: { Self → Type 0 };
 
-    // what the two are joined to
     ghost joined: { Self → Self → Self };
 
     // does joining the second to the first take memory?
     ghost takes_memory: { Self → Self → Type 0 };
 
     /// Joins the other value to this one. Memory where an allocation was refused, and only where the join takes
-    /// memory; then nothing has changed. Both are values, over which the laws hold.
+    /// memory.
     fn join(&mut self, other: &Self) -> Result<(), Memory>
         ensures ok { OnOk result (self.new ≡ joined self.old other.now) }
         ensures err { OnErr result (self.new ≡ self.old) }
@@ -30,9 +29,8 @@ pub trait Join {
     ghost laws: { JoinLaws is_value joined };
 }
 
-/// Joins each of `rest` to `first`, in turn. Memory where an allocation was refused; then `first` holds its
-/// join with those before, and joining one of `rest` to that takes memory. What was joined are values, so
-/// that two answers over the same members are equal (`gather_order_is_free`).
+/// Joins each of `rest` to `first`, in turn. Memory where an allocation was refused; then `first` holds its join with
+/// those before. Two answers over the same members are equal (`gather_order_is_free`).
 pub fn gather<J: Join>(first: &mut J, rest: &[J]) -> Result<(), Memory>
     ensures ok { OnOk result (first.new ≡ fold J.joined first.old rest.now) }
     ensures err { OnErr result ((n : ℕ) × (n < length rest.now)
@@ -62,7 +60,7 @@ pub fn gather_order_is_free<J: Join>()
     ensures { GatherIsFree J.is_value J.joined }
 {}
 
-/// The join of two versions is the greater one. It takes memory where the other is greater.
+/// Joins two versions to the greater one, which takes memory where the other is greater.
 impl Join for Version {
     ghost use Rattle.dd_version.specs.Fitting.{Fits};
     ghost use Rattle.dd_version.specs.Orders.{parts_cmp};

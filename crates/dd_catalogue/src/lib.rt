@@ -1,9 +1,7 @@
-//! The catalogue of image instances: of each SOP Instance UID (PS3.3 section C.12.1) the greatest
-//! version that was taken, and the UIDs whose instances are withdrawn, of which no version is kept.
+//! The catalogue of image instances: of each SOP Instance UID (PS3.3 section C.12.1) the greatest version taken,
+//! unless the instance is withdrawn, and the UIDs of withdrawn instances.
 //!
-//! Its one promise: a catalogue is the best of the set of all versions taken whose instances are not
-//! withdrawn, with the set of all withdrawn UIDs, so that neither the order of arrival nor repeats nor
-//! merges change it.
+//! Its one promise: neither the order of arrival nor repeats nor merges change it.
 #![tactic(auto)]
 
 mod best;

@@ -12,11 +12,11 @@ use thiserror::Error;
 /// What became of a version that was taken.
 #[derive(Debug, Drop)]
 pub enum Took {
-    /// None of its instance was there.
+    /// No version of its instance was held.
     New,
-    /// It is greater than this one, which was there.
+    /// It is greater than this one, which was held.
     Replaced(Version),
-    /// It is no greater than the one that is there: handed back.
+    /// It is no greater than the version that is held: handed back.
     Kept(Version),
     /// Its instance is withdrawn: handed back.
     Withdrawn(Version),
@@ -40,7 +40,7 @@ pub enum Harmony {
     Conflict(Uid, Uid),
 }
 
-/// Want of memory: an allocation was refused.
+/// An allocation was refused.
 #[derive(Debug, Drop, Error)]
 #[error("91 Memory")]
 pub struct Refused {
@@ -48,7 +48,6 @@ pub struct Refused {
     pub back: Version,
 }
 
-/// Says what became of the version, in the words of a catalogue.
 pub(crate) fn to_took(taken: Taken<Version>) -> Took
     ensures { result ≡ as_took taken }
 {

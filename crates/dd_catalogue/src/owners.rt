@@ -12,8 +12,6 @@ use crate::tuples::Tuple;
 use dd_elem::Memory;
 use std::alloc::Global;
 
-/// A table with each study or series that is filed under two owners. The given one has of each study or series
-/// the carrier of the greatest keys.
 pub(crate) fn of_two_owners<'b, 'a, T: Tuple, O: Tuple + 'a>(
     alloc: Global,
     carriers: &'b [Carrier<'a, T>],
@@ -28,14 +26,12 @@ pub(crate) fn of_two_owners<'b, 'a, T: Tuple, O: Tuple + 'a>(
     Greatest::of(alloc, others)
 }
 
-/// The key of the patient or the study that owns the study or the series of a carrier.
 fn owner_of<'a, T: Tuple, O: Tuple + 'a>(carrier: &Carrier<'a, T>) -> &'a [u8]
     ensures { result.now ≡ O.key_of (O.tuple_of carrier.now) }
 {
     O::of(carrier.version()).key()
 }
 
-/// Those that are filed under another owner than the table says.
 fn of_another_owner<'b, 'a, T: Tuple, O: Tuple + 'a>(
     alloc: Global,
     carriers: &'b [Carrier<'a, T>],

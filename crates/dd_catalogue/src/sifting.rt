@@ -15,8 +15,7 @@ use crate::greatest::Keyed;
 use dd_elem::Uid;
 use std::cmp::Ordering;
 
-/// Takes the values with these keys out of the list, which rises, in one walk along both. Answers how many
-/// pairs of keys were compared.
+/// Walks once along both lists, and gives how many pairs of keys were compared.
 pub(crate) fn sift<T: Keyed + Drop>(held: &mut Vec<T>, keys: &[Uid]) -> u64
     requires held { IsRising T.key_of bytes_cmp held.old.items }
     requires keys { IsRising (λ uid. uid) bytes_cmp keys.now }
@@ -44,7 +43,6 @@ pub(crate) fn sift<T: Keyed + Drop>(held: &mut Vec<T>, keys: &[Uid]) -> u64
     met.saturating_add(passed as u64)
 }
 
-/// The index of the key, or the one at which it would stand, looked for from this one on.
 fn seek(keys: &[Uid], from: usize, key: &[u8]) -> Result<usize, usize>
     requires rising { IsRising (λ uid. uid) bytes_cmp keys.now }
     requires within { from ≤ length keys.now }
@@ -64,7 +62,6 @@ fn seek(keys: &[Uid], from: usize, key: &[u8]) -> Result<usize, usize>
     Err(index)
 }
 
-/// How many keys the search passed.
 fn count_passed(found: &Result<usize, usize>) -> usize
     requires { passed_by found.now < 2 ^ 64 }
     ensures { result ≡ passed_by found.now }
@@ -75,7 +72,7 @@ fn count_passed(found: &Result<usize, usize>) -> usize
     }
 }
 
-/// How many keys the search compared and did not pass.
+/// Counts the keys that the search compared and did not pass.
 fn count_met(found: &Result<usize, usize>, keys: usize) -> u64
     ensures { result ≡ met_by keys found.now }
 {
@@ -85,7 +82,6 @@ fn count_met(found: &Result<usize, usize>, keys: usize) -> u64
     }
 }
 
-/// Takes the references to values with these keys out of the list, whose order is free.
 pub(crate) fn sift_references<T: Keyed>(references: &mut Vec<&T>, keys: &Table<Uid>)
     ensures { map (λ value. value.now) references.new.items
         ≡ free T.key_of bytes_cmp keys.now (map (λ value. value.now) references.old.items) }

@@ -7,17 +7,13 @@ ghost use Rattle.dd_catalogue.specs.Harmony.{patient_of, patient_key, study_of, 
 use crate::greatest::Keyed;
 use dd_version::{PatientKeys, SeriesKeys, StudyKeys, Version};
 
-/// The keys that a version has of its patient, its study or its series.
 pub(crate) trait Tuple: Keyed {
-    // Those of a version made of these parts.
     ghost tuple_of: { Parts → Self };
 
-    /// Those of this version.
     fn of(version: &Version) -> &Self
         ensures { result.now ≡ tuple_of version.now };
 }
 
-/// A patient has its Patient ID as key.
 impl Keyed for PatientKeys {
     ghost key_of = { patient_key };
 
@@ -34,7 +30,6 @@ impl Tuple for PatientKeys {
     }
 }
 
-/// A study has its Study Instance UID as key.
 impl Keyed for StudyKeys {
     ghost key_of = { study_key };
 
@@ -51,7 +46,6 @@ impl Tuple for StudyKeys {
     }
 }
 
-/// A series has its Series Instance UID as key.
 impl Keyed for SeriesKeys {
     ghost key_of = { series_key };
 

@@ -10,8 +10,7 @@ use crate::greatest::Keyed;
 use std::cmp::Ordering;
 use std::collections::VecDeque;
 
-/// Moves the best of two lists to the end of `both`, which has room for them. Answers how many pairs of
-/// keys were compared for it.
+/// Gives how many pairs of keys were compared.
 pub(crate) fn weave<T: Keyed + Drop>(own: Vec<T>, other: Vec<T>, both: &mut Vec<T>) -> u64
     requires own { IsRising T.key_of bytes_cmp own.items }
     requires other { IsRising T.key_of bytes_cmp other.items }
@@ -33,8 +32,7 @@ pub(crate) fn weave<T: Keyed + Drop>(own: Vec<T>, other: Vec<T>, both: &mut Vec<
     count
 }
 
-/// The first value of the best of two lists, where neither is at its end: that with the smaller key, or
-/// the greater of two with one key.
+/// Takes the next value of the best of both lists, where neither is at its end.
 fn next<T: Keyed + Drop>(mine: &mut VecDeque<T>, theirs: &mut VecDeque<T>) -> Option<T>
     requires mine { IsRising T.key_of bytes_cmp mine.old.items }
     requires theirs { IsRising T.key_of bytes_cmp theirs.old.items }
@@ -57,7 +55,6 @@ fn next<T: Keyed + Drop>(mine: &mut VecDeque<T>, theirs: &mut VecDeque<T>) -> Op
     }
 }
 
-/// Moves all values to the end of `both`, which has room for them.
 fn move_all<T: Drop>(mut values: VecDeque<T>, both: &mut Vec<T>)
     requires { vec_len both.old + length values.items ≤ vec_capacity both.old }
     ensures items { both.new.items ≡ both.old.items ++ values.items }

@@ -15,14 +15,12 @@ use std::sync::Arc;
 /// A table of UIDs, alone or with copies that share its memory.
 #[derive(Debug, Drop)]
 enum Holding {
-    /// No copy shares it.
     Own(Table<Uid>),
-    /// Copies share its memory.
     Shared(Arc<Table<Uid>>),
 }
 
-/// Withdrawn UIDs, each once, rising. Copies of a list that was made to be shared share its memory, until a
-/// UID is added to one of them.
+/// Withdrawn UIDs, each once, rising. Copies of a list made by `for_sharing` share its memory, until a UID is added
+/// to one of them.
 #[derive(Debug, Drop)]
 pub(crate) struct Withdrawals {
     held: Holding,
@@ -40,14 +38,12 @@ impl Model for Withdrawals {
 }
 
 impl Withdrawals {
-    /// The empty list.
     pub(crate) fn new(alloc: Global) -> Withdrawals
         ensures { result ≡ [] }
     {
         Withdrawals::from_table(Table::new(alloc))
     }
 
-    /// The list of these UIDs, which no copy shares.
     pub(crate) fn from_table(uids: Table<Uid>) -> Withdrawals
         ensures { result ≡ uids }
     {
@@ -56,8 +52,6 @@ impl Withdrawals {
         }
     }
 
-    /// The list of these UIDs, which copies can share. Memory where an allocation was refused: never where there
-    /// are no UIDs.
     pub(crate) fn for_sharing(alloc: Global, uids: Table<Uid>) -> Result<Withdrawals, Memory>
         ensures equal { IfOk result (λ withdrawals. withdrawals ≡ uids) }
         ensures rising { IsRising (λ uid. uid) bytes_cmp uids }
@@ -71,7 +65,6 @@ impl Withdrawals {
         })
     }
 
-    /// The table of the UIDs.
     pub(crate) fn table(&self) -> &Table<Uid>
         ensures { result.now ≡ self.now }
     {
@@ -81,7 +74,6 @@ impl Withdrawals {
         }
     }
 
-    /// The UIDs, rising.
     pub(crate) fn values(&self) -> &[Uid]
         ensures all { result.now ≡ self.now }
         ensures rising { IsRising (λ uid. uid) bytes_cmp self.now }
@@ -89,15 +81,14 @@ impl Withdrawals {
         self.table().values()
     }
 
-    /// Is the UID one of them?
     pub(crate) fn has(&self, uid: &Uid) -> bool
         ensures { result ≡ is_some (at (λ uid. uid) bytes_cmp self.now uid.now) }
     {
         self.table().has(uid.as_bytes())
     }
 
-    /// An equal list, which shares the memory of this one where copies can. Memory where an allocation was refused,
-    /// or no more copies can share it: never where it is empty.
+    /// Shares the memory of this list where copies can. Memory where an allocation was refused, or no more copies can
+    /// share it.
     pub(crate) fn copy(&self) -> Result<Withdrawals, Memory>
         ensures equal { IfOk result (λ withdrawals. withdrawals ≡ self.now) }
         ensures some { OnErr result (self.now ≢ []) }
@@ -110,8 +101,7 @@ impl Withdrawals {
         }
     }
 
-    /// Adds a UID. A list that copies share is copied first. Memory where an allocation was refused; then nothing
-    /// has changed.
+    /// Copies first a list that copies share.
     pub(crate) fn add(&mut self, uid: Uid) -> Result<(), Memory>
         ensures ok { OnOk result (self.new ≡ uids_of (uid ∷ self.old)) }
         ensures err { OnErr result (self.new ≡ self.old) }
@@ -128,7 +118,6 @@ impl Withdrawals {
     }
 }
 
-/// Adds a UID to the table. Memory where an allocation was refused; then nothing has changed.
 fn add(uids: &mut Table<Uid>, uid: Uid) -> Result<(), Memory>
     ensures ok { OnOk result (uids.new ≡ uids_of (uid ∷ uids.old)) }
     ensures err { OnErr result (uids.new ≡ uids.old) }
@@ -139,7 +128,7 @@ fn add(uids: &mut Table<Uid>, uid: Uid) -> Result<(), Memory>
     }
 }
 
-/// The table of these UIDs, each once. The list is sorted in place, which takes no memory.
+/// Sorts the list in place, which takes no memory.
 pub(crate) fn uid_table(mut uids: Vec<Uid>) -> Table<Uid>
     ensures { result ≡ uids_of uids.items }
 {

@@ -1,12 +1,10 @@
-//! The two counts of a device.
 ghost use Rattle.std.specs.Prelude.{◌≡◌, ◌↔◌, IsTrue, IsOk, is_ok};
 ghost use Rattle.dd_elem.specs.Counts.{counts_after, settled};
 ghost use Rattle.dd_elem.specs.Device.{counted, IsLive};
 
 use std::io;
 
-/// How often a device was called, and how many of its calls failed. Each count stays at its last
-/// value, `u64::MAX`.
+/// The calls of a device, and how many of them failed. Each count stops at `u64::MAX`.
 #[derive(Clone, Copy, Debug, Default, PartialEq, Eq)]
 pub struct Counts {
     pub calls: u64,
@@ -14,7 +12,7 @@ pub struct Counts {
 }
 
 impl Counts {
-    /// The counts of a device that was not called yet.
+    /// Starts both counts at 0.
     pub fn new() -> Self
         ensures { result ≡ record { calls = 0; failures = 0 } }
     {
@@ -24,7 +22,7 @@ impl Counts {
         }
     }
 
-    /// Whether no count is at its last value. A device with a count there fails from then on.
+    /// Says whether no count is at `u64::MAX`. With one there, a device fails from then on.
     pub fn is_live(&self) -> bool
         ensures { IsTrue result ↔ IsLive self.now.calls self.now.failures }
     {
@@ -38,7 +36,7 @@ impl Counts {
         self.calls = self.calls.saturating_add(1);
     }
 
-    /// Counts a call, which fails where a count is at its last value: its failure is then counted, too.
+    /// Counts a call. Where a count was at `u64::MAX` it fails, and counts that failure, too.
     pub fn begin(&mut self) -> io::Result<()>
         ensures live { IsOk result ↔ IsLive self.old.calls self.old.failures }
         ensures counts { self.new ≡ counts_after self.old (is_ok result) }
@@ -59,7 +57,7 @@ impl Counts {
         self.failures = self.failures.saturating_add(1);
     }
 
-    /// Counts a failure where a call that was begun came to an error, and gives back what it came to.
+    /// Counts a failure where a begun call ended in an error, and gives back its result.
     pub fn settle<T>(&mut self, done: io::Result<T>) -> io::Result<T>
         ensures done { result ≡ done }
         ensures counts { self.new ≡ settled self.old (is_ok done) }

@@ -1,4 +1,3 @@
-//! Readers and writers that count their calls and their failures.
 ghost use Rattle.std.specs.Prelude.{◌≡◌, ℕ, List, Option, ◌<◌, IsOk, IsErr};
 ghost use Rattle.std.specs.Io.{ReadsAtMost, WritesAtMost};
 ghost use Rattle.std.specs.Io.KnownBytes.{ReadConsumes, WriteAppends};
@@ -6,13 +5,10 @@ ghost use Rattle.dd_elem.specs.Device.{counted, last_count, HasWorked, Gives, re
 
 use std::io;
 
-/// A reader that counts its calls and its failures, each up to `u64::MAX`. A call of a reader with a
-/// count there fails.
+/// A reader that counts its calls and its failures, each up to `u64::MAX`. With a count there, a call fails.
 pub trait Read {
-    // How often `read` was called.
     ghost calls: { Self → ℕ };
 
-    // How many of these calls failed.
     ghost failures: { Self → ℕ };
 
     // The bytes that are still to come, where they are known.
@@ -24,12 +20,9 @@ pub trait Read {
     // The reader has given these bytes since that state.
     ghost has_given: { Self → Past → List ℕ → Type 0 };
 
-    /// Reads at most `buf.len()` bytes to the front of `buf`, and answers how many. 0 says that the
-    /// bytes are at their end, unless `buf` is empty.
+    /// Reads bytes to the front of `buf`, and answers how many: 0 at their end, or where `buf` is empty.
     fn read(&mut self, buf: &mut [u8]) -> io::Result<usize>
         ensures bound { ReadsAtMost result buf.new }
-
-        // Each call counts, and so does each that fails. No count of one that works was at its last value.
         ensures called { calls self.new ≡ counted (calls self.old) }
         ensures live { IsOk result → calls self.old < last_count }
         ensures worked { IsOk result → HasWorked (failures self.old) (failures self.new) }
@@ -40,13 +33,11 @@ pub trait Read {
         ensures gives { Gives has_given self.old self.new (read_piece result buf.new) };
 }
 
-/// A writer that counts its calls and its failures, each up to `u64::MAX`. A call of a writer with a
-/// count there fails, and so does a call that takes nothing of a piece that is not empty.
+/// A writer that counts its calls and its failures as `Read` does. A call that takes nothing of a piece that is not
+/// empty is a failure, too.
 pub trait Write {
-    // How often `write` was called.
     ghost calls: { Self → ℕ };
 
-    // How many of these calls failed.
     ghost failures: { Self → ℕ };
 
     // The bytes that the writer holds, where they are known.
@@ -60,8 +51,6 @@ pub trait Write {
     /// Takes some bytes from the front of `bytes`, and answers how many.
     fn write(&mut self, bytes: &[u8]) -> io::Result<usize>
         ensures bound { WritesAtMost result bytes.now }
-
-        // Each call counts, and so does each that fails. No count of one that works was at its last value.
         ensures called { calls self.new ≡ counted (calls self.old) }
         ensures live { TakesSome result bytes.now → calls self.old < last_count }
         ensures worked { TakesSome result bytes.now

@@ -1,13 +1,10 @@
-//! The File IDs of the files of a file-set.
-
 ghost use Rattle.std.specs.Prelude.{◌≡◌, ◌↔◌, IsTrue, SomeIff};
 ghost use Rattle.dd_elem.specs.FileId.{AreRanks, IsRank, Ranks, ranks_of, text_of};
 
 use std::marker::Model;
 
-/// The File ID of an image of a file-set: the ranks, 1 to 999,999, of its patient, study, series and
-/// image among those of one parent. Its text has four components of 8 characters (PS3.10 section
-/// 8.2).
+/// The File ID of an image: the ranks, 1 to 999,999, of its patient, study, series and image, each within its parent.
+/// Its text has four components of 8 characters (PS3.10 section 8.2).
 #[derive(Clone, Copy, Debug, PartialEq, Eq)]
 pub struct FileId {
     patient: u32,
@@ -32,10 +29,9 @@ impl Model for FileId {
 }
 
 impl FileId {
-    /// The highest rank that its text has room for, of six digits.
     pub const MAX_RANK: u32 = 999_999;
 
-    /// The File ID of these ranks: None where one is 0 or above 999,999.
+    /// Makes the File ID of these ranks, or None where one is 0 or above 999,999.
     pub fn ranked(patient: u32, study: u32, series: u32, image: u32) -> Option<FileId>
         ensures { let ranks = ranks_of patient study series image in SomeIff result
             (AreRanks ranks) ranks }
@@ -52,7 +48,7 @@ impl FileId {
         }
     }
 
-    /// The text `PTnnnnnn\STnnnnnn\SEnnnnnn\IMnnnnnn`, each rank as six decimal digits.
+    /// Gives the text `PTnnnnnn\STnnnnnn\SEnnnnnn\IMnnnnnn`, in decimal digits.
     pub fn text(&self) -> [u8; 35]
         ensures exact { result ≡ text_of self.now }
         ensures ranked { AreRanks self.now }
@@ -66,7 +62,6 @@ impl FileId {
     }
 }
 
-/// May the number be a rank?
 fn is_rank(number: u32) -> bool
     ensures { IsTrue result ↔ IsRank number }
 {

@@ -1,9 +1,8 @@
-//! Short values that are kept in place, in an array of fixed size.
+//! Short values in arrays of fixed size, with zeros after them.
 
 ghost use Rattle.std.specs.Prelude.{◌≡◌, ◌≤◌, length};
 ghost use Rattle.dd_elem.specs.InPlace.{filled};
 
-/// The bytes, and zeros after them, for which the array has room.
 pub(crate) fn fill<const N: usize>(bytes: &[u8]) -> [u8; N]
     requires { length bytes.now ≤ N }
     ensures { result ≡ filled N bytes.now }

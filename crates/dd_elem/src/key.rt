@@ -1,5 +1,3 @@
-//! Values of elements that are kept.
-
 ghost use Rattle.std.specs.Prelude.{◌≡◌, ◌<◌, ◌↔◌, List, ℕ, length, IfOk, IsErr};
 ghost use Rattle.dd_elem.specs.Clean.{clean_of};
 ghost use Rattle.dd_elem.specs.KeyBytes.{most_in_place};
@@ -14,8 +12,8 @@ use std::cmp::Ordering;
 use std::marker::Model;
 use thiserror::Error;
 
-/// A value of an element that is kept: at most 1,024 bytes that do not end in a NUL or a space. Up to
-/// 22 bytes are held in place and take no memory; copies of a longer key share its bytes.
+/// The value of an element: at most 1,024 bytes that do not end in a NUL or a space. Up to 22 bytes are held in place
+/// without an allocation; copies of a longer key share its bytes.
 #[derive(Debug, Drop)]
 pub struct Key {
     held: KeyBytes,
@@ -33,7 +31,7 @@ impl Model for Key {
     ghost invariant = { λ key. IsKeyBytes key.held × IsKey (key_bytes_view key.held) };
 }
 
-/// No key is made of the bytes.
+/// Why no key was made.
 #[derive(Clone, Copy, Debug, PartialEq, Eq, Error)]
 pub enum KeyRefused {
     /// More than 1,024 bytes are left without padding.
@@ -45,11 +43,11 @@ pub enum KeyRefused {
 }
 
 impl Key {
-    /// How many bytes a key has at most.
+    /// The most bytes of a key.
     pub const MAX_LEN: usize = 1024;
 
-    /// The key that these bytes are without their padding (PS3.5 section 6.2). TooLong where more than
-    /// 1,024 bytes are left; Memory where an allocation was refused, which at most 22 bytes do not want.
+    /// Makes a key of the bytes without their padding (PS3.5 section 6.2). Allocates only where more than 22 bytes
+    /// are left.
     #[tactic(auto, using(crate::proofs::Keys::IsKey_from_clean_of))]
     pub fn copy_of(alloc: Global, bytes: &[u8]) -> Result<Key, KeyRefused>
         ensures value { IfOk result (λ key. key ≡ clean_of bytes.now) }
@@ -68,7 +66,7 @@ impl Key {
         }
     }
 
-    /// The bytes, without padding.
+    /// Gives the bytes, without padding.
     pub fn as_bytes(&self) -> &[u8]
         ensures value { result.now ≡ self.now }
         ensures valid { IsKey self.now }
@@ -76,8 +74,7 @@ impl Key {
         self.held.as_slice()
     }
 
-    /// An equal key. Memory where no more copies can share its bytes, which those of a key of at most 22
-    /// bytes never do.
+    /// Makes an equal key. Memory where no more copies can share its bytes, which are then more than 22.
     pub fn copy(&self) -> Result<Key, Memory>
         ensures value { IfOk result (λ key. key ≡ self.now) }
         ensures memory { IsErr result → most_in_place < length self.now }
@@ -88,7 +85,6 @@ impl Key {
     }
 }
 
-/// Keys are equal where their bytes are.
 impl PartialEq for Key {
     ghost use Rattle.std.specs.Str.{bytes_eq};
     ghost use Rattle.std.proofs.Common.{rules};
@@ -103,7 +99,7 @@ impl PartialEq for Key {
     }
 }
 
-/// The dictionary order of the bytes, in which a proper prefix is smaller.
+/// Dictionary order: a proper prefix is smaller.
 impl Ordered for Key {
     ghost use Rattle.std.proofs.lemmas.Cmp.{nat_list_cmp_total};
     ghost use Rattle.std.proofs.lemmas.Map.Lookups.{exact_bytes};

@@ -1,4 +1,4 @@
-//! Bytes that are mostly few: these are held in place, and copies of more share them.
+//! Bytes that are held in place where they are few, and otherwise shared by copies.
 
 ghost use Rattle.std.specs.Prelude.{◌≡◌, length, IfOk, IsErr, ◌<◌};
 ghost use Rattle.dd_elem.specs.KeyBytes.{IsKeyBytes, key_bytes_view, most_in_place};
@@ -8,20 +8,17 @@ use crate::memory::Memory;
 use std::alloc::Global;
 use std::sync::ArcSlice;
 
-/// How many bytes are held in place at most: with them a value has 24 bytes.
+/// The most bytes in place. With them a value has 24 bytes.
 const ROOM: usize = 22;
 
-/// Bytes, in place where they are few.
 #[derive(Debug, Drop)]
 pub(crate) enum KeyBytes {
-    /// In place: the first of these, as many as the number says.
+    /// In place: as many of the bytes as the number says.
     Short(u8, [u8; ROOM]),
-    /// In a block of memory that copies share.
     Long(ArcSlice<u8>),
 }
 
 impl KeyBytes {
-    /// A copy of these bytes. Memory where an allocation was refused, and never of at most 22 bytes.
     pub(crate) fn of(alloc: Global, bytes: &[u8]) -> Result<KeyBytes, Memory>
         ensures value { IfOk result (λ held. key_bytes_view held ≡ bytes.now) }
         ensures valid { IfOk result IsKeyBytes }
@@ -33,7 +30,6 @@ impl KeyBytes {
         Ok(KeyBytes::Short(bytes.len() as u8, fill(bytes)))
     }
 
-    /// The bytes.
     pub(crate) fn as_slice(&self) -> &[u8]
         requires { IsKeyBytes self.now }
         ensures { result.now ≡ key_bytes_view self.now }
@@ -44,7 +40,7 @@ impl KeyBytes {
         }
     }
 
-    /// Equal bytes. Memory where no more can share them, and never of at most 22 bytes.
+    /// Memory where no more copies can share the bytes.
     pub(crate) fn copy(&self) -> Result<KeyBytes, Memory>
         requires { IsKeyBytes self.now }
         ensures value { IfOk result (λ held. key_bytes_view held ≡ key_bytes_view self.now) }

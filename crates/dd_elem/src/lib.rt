@@ -1,9 +1,8 @@
-//! The values that every layer of `dicomdir` speaks of: tags, value representations, UIDs, file-set
-//! and File IDs, keys and their order, and values without their padding (PS3.5 sections 6, 7.1 and 9,
-//! PS3.10 section 8); and the devices that bytes come from and go to.
+//! The values that every layer of `dicomdir` uses (PS3.5 sections 6, 7.1 and 9, PS3.10 section 8), and the traits of
+//! readers and writers.
 //!
-//! Its one promise: a value of one of its types meets the rule of that type, and no reader or writer
-//! fails without counting it.
+//! Its one promise: a value of one of its types meets the rule of that type, and no reader or writer fails without
+//! counting it.
 #![tactic(auto)]
 
 mod characters;

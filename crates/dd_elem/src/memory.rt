@@ -1,10 +1,9 @@
-//! Lack of memory.
 ghost use Rattle.std.specs.Prelude.{◌≡◌};
 
 use std::alloc::{AllocError, AllocFailed};
 use thiserror::Error;
 
-/// Lack of memory: an allocation was refused. Fault 91.
+/// Lack of memory: an allocation was refused.
 #[derive(Clone, Copy, Debug, PartialEq, Eq, Error)]
 #[error("91 Memory")]
 pub struct Memory;

@@ -1,5 +1,3 @@
-//! Values in order.
-
 ghost use Rattle.std.specs.Prelude.{◌≡◌};
 ghost use Rattle.std.specs.Cmp.{IsTotalOrder};
 ghost use Rattle.std.specs.declared.cmp.Ordering.{Ordering};
@@ -10,11 +8,10 @@ ghost use Rattle.dd_elem.specs.Ordered.{TellsApart, bytes_cmp};
 use crate::uid::Uid;
 use std::cmp::Ordering;
 
-/// A type whose values stand in a total order, in which only equal values compare equal.
+/// A type with a total order, in which only equal values compare equal.
 pub trait Ordered {
     ghost order: { Self → Self → Ordering };
 
-    /// Does this value stand before the other, at its place or after it?
     fn compare(&self, other: &Self) -> Ordering
         ensures { result ≡ order self.now other.now };
 
@@ -23,7 +20,7 @@ pub trait Ordered {
     ghost apart: { TellsApart order };
 }
 
-/// The dictionary order of the characters, in which a proper prefix is smaller.
+/// Dictionary order: a proper prefix is smaller.
 impl Ordered for Uid {
     ghost order = { bytes_cmp };
 

@@ -1,10 +1,8 @@
-//! Values without their padding.
-
 ghost use Rattle.std.specs.Prelude.{◌≡◌};
 ghost use Rattle.dd_elem.specs.Clean.{clean_of, is_padding, IsCleanOf};
 
-/// What is left of a value without its padding: the longest prefix that does not end in a NUL or a
-/// space. Text values are padded by a trailing space, UIDs by one trailing NUL (PS3.5 section 6.2).
+/// Gives the longest prefix that does not end in a NUL or a space. Text is padded by a trailing space, a UID by one
+/// trailing NUL (PS3.5 section 6.2).
 pub fn clean(bytes: &[u8]) -> &[u8]
     ensures exact { result.now ≡ clean_of bytes.now }
     ensures longest { IsCleanOf bytes.now result.now }
@@ -18,7 +16,6 @@ pub fn clean(bytes: &[u8]) -> &[u8]
     kept
 }
 
-/// Is it a NUL or a space?
 fn is_padding(byte: u8) -> bool
     ensures { result ≡ is_padding byte }
 {

@@ -1,5 +1,3 @@
-//! The IDs of file-sets.
-
 ghost use Rattle.std.specs.Prelude.{◌≡◌, ◌↔◌, List, ℕ, length, take, IsOk, IfOk, IsTrue};
 ghost use Rattle.dd_elem.specs.InPlace.{filled, IsFilled, fields_back};
 ghost use Rattle.dd_elem.specs.SetId.{IsSetId, is_set_id, max_set_id_length};
@@ -9,7 +7,6 @@ use crate::in_place::fill;
 use std::marker::Model;
 use thiserror::Error;
 
-/// The most characters of an ID.
 const MAX_LENGTH: usize = 16;
 
 /// The ID of a file-set: 0 to 16 characters of `A` to `Z`, `0` to `9` and `_` (PS3.3 section
@@ -43,8 +40,7 @@ impl Model for SetId {
 pub struct BadSetId;
 
 impl SetId {
-    /// The ID of these characters. Refused where they are more than 16, or one of them is not `A` to
-    /// `Z`, `0` to `9` or `_` (PS3.3 section F.3.2.1).
+    /// Makes the ID of these characters. Refused where they are more than 16, or one is not allowed.
     #[tactic(auto, using(crate::proofs::SetIdForm::is_set_id_decides))]
     pub fn new(bytes: &[u8]) -> Result<SetId, BadSetId>
         ensures accepted { IsOk result ↔ IsSetId bytes.now }
@@ -60,7 +56,7 @@ impl SetId {
         })
     }
 
-    /// The characters, 0 to 16, without padding.
+    /// Gives the characters.
     #[tactic(auto, using(crate::proofs::SetIdForm::IsSetId_from_is_set_id))]
     pub fn as_bytes(&self) -> &[u8]
         ensures value { result.now ≡ self.now }
@@ -70,7 +66,6 @@ impl SetId {
     }
 }
 
-/// Are the bytes the ID of a file-set?
 fn has_form(bytes: &[u8]) -> bool
     ensures test { result ≡ is_set_id bytes.now }
     ensures form { IsTrue result ↔ IsSetId bytes.now }

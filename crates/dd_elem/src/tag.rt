@@ -1,22 +1,17 @@
-//! The tag of a data element.
-
 ghost use Rattle.std.specs.Prelude.{◌≡◌, ◌+◌, ◌*◌, ◌^◌, ◌<◌, Some};
 ghost use Rattle.dd_elem.specs.Tag.{number_of, text_of};
 
 use std::fmt;
 
-/// The tag of a data element: a group number and an element number. Tags are ordered by group, then
-/// by element (PS3.5 section 7.1).
+/// The tag of a data element. Tags are ordered by group, then by element (PS3.5 section 7.1).
 #[derive(Clone, Copy, Debug, PartialEq, Eq, PartialOrd, Ord, Hash)]
 pub struct Tag {
-    /// The group number.
     pub group: u16,
-    /// The element number within the group.
     pub element: u16,
 }
 
 impl Tag {
-    /// Both numbers as one, the group in the upper 16 bits. Tags stand in the order of these numbers.
+    /// Gives one number, with the group in the upper 16 bits. Tags are in the order of these numbers.
     pub fn number(self) -> u32
         ensures value { result ≡ number_of self }
         ensures group { self.group < 2 ^ 16 }

@@ -1,5 +1,3 @@
-//! Unique identifiers.
-
 ghost use Rattle.std.specs.Prelude.{◌≡◌, ◌≤◌, ◌↔◌, ◌++◌, List, ℕ, codes, length, take, IsOk, IfOk, IsTrue};
 ghost use Rattle.dd_elem.specs.Digests.{uid_of_digest, uuid_of, uuid_octets};
 ghost use Rattle.dd_elem.specs.Characters.{is_digit};
@@ -12,11 +10,9 @@ use itoa::Buffer;
 use std::marker::Model;
 use thiserror::Error;
 
-/// The most characters of a UID.
 const MAX_LENGTH: usize = 64;
 
-/// A unique identifier: 1 to 64 characters, which are components of digits joined by `.` (PS3.5
-/// section 9.1).
+/// A unique identifier (PS3.5 section 9.1).
 #[derive(Clone, Copy, Debug, PartialEq, Eq)]
 pub struct Uid {
     bytes: [u8; MAX_LENGTH],
@@ -45,13 +41,11 @@ impl Model for Uid {
 #[error("71 BadUid")]
 pub struct BadUid;
 
-// What a UID begins with that is a UUID.
 const PREFIX: &[u8; 5] = b"2.25.";
 
 impl Uid {
-    /// The UID of these characters. Refused where they are not 1 to 64 characters that are components
-    /// joined by `.`, each of one or more digits and with no leading `0` unless it is the one digit
-    /// `0` (PS3.5 section 9.1).
+    /// Makes the UID of these characters. Refused where they are not 1 to 64, in components of digits joined by `.`.
+    /// A component may not be empty, nor have a leading `0` before other digits (PS3.5 section 9.1).
     #[tactic(auto, using(crate::proofs::UidForm::is_uid_decides))]
     pub fn new(bytes: &[u8]) -> Result<Uid, BadUid>
         ensures accepted { IsOk result ↔ IsUid bytes.now }
@@ -67,8 +61,8 @@ impl Uid {
         })
     }
 
-    /// The UID of a digest: `2.25.` and, in decimal, the UUID of version 8 (RFC 9562) that is the first
-    /// 16 bytes but for the bits of the version and of the variant (PS3.5 section B.2).
+    /// Makes the UID of a digest: `2.25.` and, in decimal, a UUID of version 8 (RFC 9562, PS3.5 section B.2). The
+    /// UUID is the first 16 bytes but for the bits of version and variant.
     pub fn from_digest(digest: &[u8; 32]) -> Uid
         ensures value { result ≡ uid_of_digest digest.now }
         ensures valid { IsUid result }
@@ -81,7 +75,7 @@ impl Uid {
         }
     }
 
-    /// The characters, 1 to 64, without padding.
+    /// Gives the characters, 1 to 64.
     #[tactic(auto, using(crate::proofs::UidForm::IsUid_from_is_uid))]
     pub fn as_bytes(&self) -> &[u8]
         ensures value { result.now ≡ self.now }
@@ -91,14 +85,12 @@ impl Uid {
     }
 }
 
-/// The UUID of version 8 of a digest, as a number.
 fn uuid_of(digest: &[u8; 32]) -> u128
     ensures { result ≡ uuid_of digest.now }
 {
     u128::from_be_bytes(uuid_octets(digest))
 }
 
-/// The octets of the UUID of version 8 of a digest.
 fn uuid_octets(digest: &[u8; 32]) -> [u8; 16]
     ensures { result ≡ uuid_octets digest.now }
 {
@@ -109,7 +101,6 @@ fn uuid_octets(digest: &[u8; 32]) -> [u8; 16]
     octets
 }
 
-/// The bytes that hold `2.25.` and a number, and zeros after them.
 fn uid_bytes(number: &[u8]) -> [u8; MAX_LENGTH]
     requires { length number.now ≤ 59 }
     ensures { result ≡ filled max_uid_length (codes "2.25." ++ number.now) }
@@ -119,7 +110,6 @@ fn uid_bytes(number: &[u8]) -> [u8; MAX_LENGTH]
     bytes
 }
 
-/// Are the bytes a UID?
 fn has_form(bytes: &[u8]) -> bool
     ensures test { result ≡ is_uid bytes.now }
     ensures form { IsTrue result ↔ IsUid bytes.now }
@@ -127,7 +117,6 @@ fn has_form(bytes: &[u8]) -> bool
     bytes.len() <= MAX_LENGTH && bytes.split(|byte| *byte == b'.').all(is_component)
 }
 
-/// Are the bytes one component of a UID?
 fn is_component(bytes: &[u8]) -> bool
     ensures { result ≡ is_component bytes.now }
 {
@@ -138,7 +127,6 @@ fn is_component(bytes: &[u8]) -> bool
     }
 }
 
-/// Is each of the bytes a digit?
 fn are_digits(bytes: &[u8]) -> bool
     ensures { result ≡ list_all is_digit bytes.now }
 {

@@ -1,11 +1,9 @@
-//! The text of a UID.
-
 ghost use Rattle.std.specs.Prelude.{Some};
 
 use crate::uid::Uid;
 use std::{fmt, str};
 
-/// Prints the characters, without padding. It fails only where the formatter does.
+/// Prints the characters, and fails only where the formatter does.
 impl fmt::Display for Uid {
     ghost output = { λ uid. Some uid };
 

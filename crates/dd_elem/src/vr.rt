@@ -1,5 +1,3 @@
-//! The value representations.
-
 ghost use Rattle.std.specs.Prelude.{◌≡◌, ◌≢◌, IfSome, IfNone};
 ghost use Rattle.dd_elem.specs.Vr.{letters_of, is_long_of, vr_of};
 ghost use Rattle.dd_elem.specs.declared.vr.Vr.{Vr};
@@ -78,7 +76,7 @@ pub enum Vr {
 }
 
 impl Vr {
-    /// The value representation that two letters name, and None where they name none of the 34.
+    /// Gives the value representation that two letters name, or None where they name none of the 34.
     pub fn from_letters(letters: [u8; 2]) -> Option<Vr>
         ensures named { IfSome result (λ v. letters_of v ≡ letters) }
         ensures unnamed { IfNone result ((v : Vr) → letters_of v ≢ letters) }
@@ -87,7 +85,7 @@ impl Vr {
         by_letters(letters)
     }
 
-    /// The two letters that stand for it in Explicit VR.
+    /// Gives its two letters in Explicit VR.
     pub fn letters(self) -> [u8; 2]
         ensures { result ≡ letters_of self }
     {
@@ -129,8 +127,7 @@ impl Vr {
         }
     }
 
-    /// Whether its header in Explicit VR has a length of 32 bits after two reserved bytes
-    /// (PS3.5 section 7.1.2).
+    /// Says whether its header in Explicit VR has a length of 32 bits after two reserved bytes (PS3.5 section 7.1.2).
     pub fn is_long(self) -> bool
         ensures { result ≡ is_long_of self }
     {

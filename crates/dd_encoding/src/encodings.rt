@@ -1,4 +1,4 @@
-//! How the known transfer syntaxes encode a data set (PS3.5 section 10 and annex A).
+//! The encodings of the known transfer syntaxes (PS3.5 section 10 and annex A).
 
 ghost use Rattle.std.specs.Prelude.{◌≡◌};
 ghost use Rattle.dd_encoding.specs.Syntaxes.{syntax_of};
@@ -6,7 +6,6 @@ ghost use Rattle.dd_encoding.specs.Syntaxes.{syntax_of};
 use crate::syntax::Syntax;
 use dd_version::{EXPLICIT, IMPLICIT, is_encapsulated};
 
-/// Returns the syntax of the transfer syntax with this UID, and None where it is not known.
 #[tactic(auto, unfolding(crate::specs::Syntaxes::syntax_of))]
 pub(crate) fn syntax_of(uid: &[u8]) -> Option<Syntax>
     ensures { result ≡ syntax_of uid.now }

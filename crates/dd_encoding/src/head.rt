@@ -1,4 +1,4 @@
-//! The head of a file: all that stands before its data set.
+//! All that comes before the data set of a file.
 
 ghost use Rattle.std.specs.Prelude.{◌≡◌, ◌+◌, ◌++◌, ◌<◌, ◌≤◌, ◌^◌, length, IfOk, Some};
 ghost use Rattle.dd_elem.specs.Uid.{IsUid, max_uid_length};
@@ -15,28 +15,25 @@ use dd_elem::{Tag, Vr, Write};
 use dd_stream::{WriteFault, send};
 use dd_version::TRANSFER;
 
-/// The tag of the File Meta Information Version.
+/// File Meta Information Version.
 const VERSION: Tag = Tag {
     group: META_GROUP,
     element: 0x0001,
 };
 
-/// The version (PS3.10 section 7.1).
 const VERSION_VALUE: [u8; 2] = [0x00, 0x01];
 
-/// The tag of the Implementation Class UID.
 const IMPLEMENTATION: Tag = Tag {
     group: META_GROUP,
     element: 0x0012,
 };
 
-/// The Implementation Class UID of this software.
+/// Of this software.
 const IMPLEMENTATION_UID: &[u8] = b"2.25.604472133179352588043346";
 
-/// How many bytes the version has: a header with a length of 32 bits, and its value.
 const VERSION_SIZE: u32 = (LONG_HEADER_SIZE + VERSION_VALUE.len()) as u32;
 
-/// How many bytes the head of a file with this meta information has.
+/// Gives the size of the head in bytes.
 pub fn head_size(meta: &Meta) -> u64
     ensures exact { result ≡ length (head_text meta.now) }
     ensures few { result ≤ 412 }
@@ -45,9 +42,8 @@ pub fn head_size(meta: &Meta) -> u64
     GROUP_AT + u64::from(group_size(meta))
 }
 
-/// Sends the head of a file with this meta information, and answers how many bytes it has: 128 bytes
-/// of zeros, `DICM`, the group length, the version, the three UIDs and the Implementation Class UID
-/// (PS3.10 section 7.1). 12 Write where the writer failed, with how many of the bytes went before.
+/// Sends 128 zeros, `DICM`, the group length, the version, three UIDs and the Implementation Class UID (PS3.10
+/// section 7.1). Answers how many bytes; 12 Write where the writer failed, with how many went before.
 pub fn write_head<W: Write>(meta: &Meta, writer: &mut W) -> Result<u64, WriteFault>
     ensures { SendsTo W.Write (head_text meta.now) 0 result writer.old writer.new }
 {
@@ -58,7 +54,6 @@ pub fn write_head<W: Write>(meta: &Meta, writer: &mut W) -> Result<u64, WriteFau
     send_group(meta, writer, sent)
 }
 
-/// How many bytes of group 0002 stand after the group length.
 #[tactic(auto, using(crate::proofs::Heads::length_group))]
 fn group_size(meta: &Meta) -> u32
     ensures exact { result ≡ length (group_text meta.now) }
@@ -72,7 +67,6 @@ fn group_size(meta: &Meta) -> u32
         + uid_size(IMPLEMENTATION_UID)
 }
 
-/// How many bytes an element with a UID has.
 fn uid_size(uid: &[u8]) -> u32
     requires { length uid.now ≤ max_uid_length }
     ensures exact { result ≡ 8 + length (padded uid.now) }
@@ -82,7 +76,6 @@ fn uid_size(uid: &[u8]) -> u32
     size as u32
 }
 
-/// Sends what stands after the group length.
 fn send_group<W: Write>(meta: &Meta, writer: &mut W, sent: u64) -> Result<u64, WriteFault>
     requires { sent ≤ 2 ^ 8 }
     ensures { SendsTo W.Write (group_text meta.now) sent result writer.old writer.new }
@@ -91,7 +84,6 @@ fn send_group<W: Write>(meta: &Meta, writer: &mut W, sent: u64) -> Result<u64, W
     send_uids(meta, writer, sent)
 }
 
-/// Sends an element in Explicit VR with a short value.
 fn send_element<W: Write>(
     tag: Tag,
     vr: Vr,
@@ -109,7 +101,6 @@ fn send_element<W: Write>(
     send(value, writer, sent)
 }
 
-/// Sends the UIDs of group 0002.
 fn send_uids<W: Write>(meta: &Meta, writer: &mut W, sent: u64) -> Result<u64, WriteFault>
     requires { sent ≤ 2 ^ 16 }
     ensures { SendsTo W.Write (uids_text meta.now) sent result writer.old writer.new }
@@ -120,7 +111,6 @@ fn send_uids<W: Write>(meta: &Meta, writer: &mut W, sent: u64) -> Result<u64, Wr
     send_uid(IMPLEMENTATION, IMPLEMENTATION_UID, writer, sent)
 }
 
-/// Sends an element with a UID.
 fn send_uid<W: Write>(tag: Tag, uid: &[u8], writer: &mut W, sent: u64) -> Result<u64, WriteFault>
     requires short { length uid.now ≤ max_uid_length }
     requires fits { sent ≤ 2 ^ 32 }
@@ -134,7 +124,7 @@ fn send_uid<W: Write>(tag: Tag, uid: &[u8], writer: &mut W, sent: u64) -> Result
     send(padding, writer, sent)
 }
 
-/// What is put after a UID, so that its length is even (PS3.5 section 9.1).
+/// Makes the length even (PS3.5 section 9.1).
 fn padding_for(uid: &[u8]) -> &'static [u8]
     ensures exact { result.now ≡ padding_of (length uid.now) }
     ensures few { length result.now ≤ 1 }

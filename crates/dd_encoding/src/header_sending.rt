@@ -1,5 +1,3 @@
-//! Headers sent to a writer.
-
 ghost use Rattle.std.specs.Prelude.{◌≡◌, ◌+◌, ◌<◌, ◌≤◌, ◌^◌, length, Err, Some};
 ghost use Rattle.dd_encoding.specs.Spelling.{header_limit, header_text};
 ghost use Rattle.dd_stream.specs.Sends.{SendsTo};
@@ -8,9 +6,8 @@ use crate::headers::{long_header, short_header};
 use dd_elem::{Tag, Vr, Write};
 use dd_stream::{WriteFault, send};
 
-/// Sends the header of an element in Explicit VR after `sent` bytes, as `send` does (PS3.5 section
-/// 7.1.2). 13 NotWritable where the length wants more than the 16 bits that the value
-/// representation has for it; nothing is sent then.
+/// Sends a header in Explicit VR as `send` does (PS3.5 section 7.1.2). 13 NotWritable, with nothing sent, where a
+/// short header has no room for the length in its 16 bits.
 pub fn send_header<W: Write>(
     tag: Tag,
     vr: Vr,

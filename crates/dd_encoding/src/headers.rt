@@ -1,4 +1,4 @@
-//! The bytes of headers, which stand before values, items and delimiters (PS3.5 sections 7.1 and 7.5).
+//! The bytes of headers (PS3.5 sections 7.1 and 7.5).
 
 ghost use Rattle.std.specs.Prelude.{◌≡◌, ◌++◌, Some, None, true, false};
 ghost use Rattle.byteorder.specs.Endian.{little_bytes};
@@ -11,37 +11,33 @@ use dd_elem::{Tag, Vr};
 /// The group of items and delimiters, which no element has.
 pub const DELIMITER_GROUP: u16 = 0xfffe;
 
-/// How many bytes a tag has.
 pub const TAG_SIZE: usize = 4;
 
-/// How many bytes each header begins with. All but the long ones have no more.
+/// How many bytes each header begins with; only long ones have more.
 pub const HEADER_SIZE: usize = 8;
 
 /// How many bytes of length a long header has after these.
 pub const LONG_LENGTH_SIZE: usize = 4;
 
-/// How many bytes a long header has: one with a length of 32 bits after a value representation.
+/// The size of a header with a length of 32 bits after a value representation.
 pub const LONG_HEADER_SIZE: usize = HEADER_SIZE + LONG_LENGTH_SIZE;
 
-/// The tag that an item begins with (PS3.5 section 7.5).
+/// Begins an item (PS3.5 section 7.5).
 pub const ITEM: Tag = Tag {
     group: DELIMITER_GROUP,
     element: 0xe000,
 };
 
-/// The tag that ends an item whose length is undefined.
 pub const ITEM_END: Tag = Tag {
     group: DELIMITER_GROUP,
     element: 0xe00d,
 };
 
-/// The tag that ends a sequence whose length is undefined.
 pub const SEQUENCE_END: Tag = Tag {
     group: DELIMITER_GROUP,
     element: 0xe0dd,
 };
 
-/// The bytes of a tag.
 fn tag_bytes(tag: Tag) -> [u8; TAG_SIZE]
     ensures { result ≡ tag_text tag }
 {
@@ -51,7 +47,7 @@ fn tag_bytes(tag: Tag) -> [u8; TAG_SIZE]
     bytes
 }
 
-/// A tag and a length of 32 bits: a header in Implicit VR, and that of an item or a delimiter.
+/// Makes a header of a tag and a length of 32 bits: in Implicit VR, or of an item or a delimiter.
 pub fn plain_header(tag: Tag, value_length: u32) -> [u8; HEADER_SIZE]
     ensures { result ≡ header_text tag None value_length }
 {
@@ -61,14 +57,12 @@ pub fn plain_header(tag: Tag, value_length: u32) -> [u8; HEADER_SIZE]
     header
 }
 
-/// The header of an item that gives this length (PS3.5 section 7.5).
 pub fn item_header(count: u32) -> [u8; HEADER_SIZE]
     ensures { result ≡ item_tag_text ++ little_bytes 4 count }
 {
     plain_header(ITEM, count)
 }
 
-/// A header in Explicit VR with a length of 16 bits.
 pub fn short_header(tag: Tag, vr: Vr, value_length: u16) -> [u8; HEADER_SIZE]
     requires { is_long_of vr ≡ false }
     ensures { result ≡ header_text tag (Some vr) value_length }
@@ -80,7 +74,7 @@ pub fn short_header(tag: Tag, vr: Vr, value_length: u16) -> [u8; HEADER_SIZE]
     header
 }
 
-/// A header in Explicit VR with two reserved bytes and a length of 32 bits.
+/// Puts two reserved bytes before the length.
 pub fn long_header(tag: Tag, vr: Vr, value_length: u32) -> [u8; LONG_HEADER_SIZE]
     requires { is_long_of vr ≡ true }
     ensures { result ≡ header_text tag (Some vr) value_length }

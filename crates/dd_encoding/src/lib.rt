@@ -1,9 +1,8 @@
-//! How data sets and the heads of files are encoded: the elements of a data set and the bytes that spell
-//! them (PS3.5 sections 6, 7 and 10, annex A), headers, and what stands before the data set of a file
-//! (PS3.10 section 7.1). Nothing is read here.
+//! How data sets and the heads of files are encoded (PS3.5 sections 6, 7 and 10, annex A; PS3.10 section 7.1). It
+//! reads nothing.
 //!
-//! Its one promise: a header that is sent spells its tag, its value representation and its length, and a
-//! head that is sent is the one of its meta information.
+//! Its one promise: a sent header spells its tag, value representation and length, and a sent head is the one of its
+//! meta information.
 #![tactic(auto)]
 
 mod encodings;

@@ -1,5 +1,3 @@
-//! How a data set is encoded.
-
 /// A little endian transfer syntax (PS3.5 section 10.1 and annex A).
 #[derive(Clone, Copy, Debug, PartialEq, Eq, Hash)]
 pub enum Syntax {
@@ -11,11 +9,11 @@ pub enum Syntax {
     Encapsulated,
 }
 
-/// What ends a sequence or an item: its length, or a delimiter (PS3.5 section 7.5).
+/// What ends a sequence or an item (PS3.5 section 7.5).
 #[derive(Clone, Copy, Debug, PartialEq, Eq, Hash)]
 pub enum Length {
     /// The header counts the bytes.
     Defined,
-    /// The header has FFFFFFFFH in place of a length, and a delimiter stands at the end.
+    /// The header has the length FFFFFFFFH, and a delimiter stands at the end.
     Undefined,
 }

@@ -1,9 +1,6 @@
-//! Files: the trait that a program reads and writes them by, the one by which they show its progress, where files
-//! stand in a folder, and what reading one to its end gives.
+//! Files: the traits between a program and the machine, paths in a folder, and reads to the end of a file.
 //!
-//! Its promise: `copy_image`, `digest_of`, `fill_slot` and `read_whole` answer only of all that a reader gave; the
-//! first and the last say else whether the reader failed or gave more than the limit, the first also whether the
-//! writer failed, and the last whether memory was refused.
+//! Its promise: `copy_image`, `digest_of`, `fill_slot` and `read_whole` answer only for all that a reader gave.
 #![tactic(auto)]
 
 mod copy;

@@ -1,20 +1,17 @@
-//! Progress: how far a run over files is.
 ghost use Rattle.dd_files.specs.Progress.{IsUnchanged};
 
 use crate::files::Files;
 
-/// What a run is doing, as its progress shows it.
+/// Names what a run does.
 #[derive(Clone, Copy, Debug, PartialEq, Eq)]
 pub enum Step {
-    /// It reads files.
     Reading,
-    /// It copies files.
     Copying,
 }
 
-/// Files that show how far a run over them is. No call of this trait changes a file, what is being written or a count.
+/// Files that show how far a run over them is. No call changes files or counts.
 pub trait Progress: Files {
-    /// Starts to count what is done of `of` in this step, of which nothing is done yet.
+    /// Starts a step, with none of `of` done.
     fn begin_step(&mut self, step: Step, of: u64)
         ensures { IsUnchanged Self.Write Self.Files.own self.old self.new };
 
@@ -22,7 +19,7 @@ pub trait Progress: Files {
     fn advance(&mut self)
         ensures { IsUnchanged Self.Write Self.Files.own self.old self.new };
 
-    /// Erases the line of progress where one is shown. A later call may show one again.
+    /// Erases a shown line of progress. A later call may show one again.
     fn hide_line(&mut self)
         ensures { IsUnchanged Self.Write Self.Files.own self.old self.new };
 

@@ -1,5 +1,3 @@
-//! The checks of the grammar, each over what a header says and over numbers alone.
-
 ghost use Rattle.std.specs.Prelude.{◌≡◌, ◌≢◌, ◌==◌, ℕ, List, length, unwrap_or, None, Err};
 ghost use Rattle.dd_grammar.specs.declared.fault.SetFault.TheVariants.{Memory};
 ghost use Rattle.dd_grammar.specs.Checks.{header_view, opened, sorted, reached};
@@ -14,21 +12,18 @@ use crate::syntax_rules::{UNDEFINED_LENGTH, encapsulates, is_pixel_data, item_sy
 use dd_elem::{Tag, Vr};
 use dd_encoding::{DELIMITER_GROUP, HEADER_SIZE, Length, Syntax};
 
-/// The value representation and the length that a header gives (PS3.5 section 7.1.2).
+/// What a header gives after its tag (PS3.5 section 7.1.2).
 #[derive(Clone, Copy)]
 pub struct Shape {
-    /// The value representation, where the syntax names it.
+    /// Where the syntax names it.
     pub vr: Option<Vr>,
-    /// The length in bytes, or FFFFFFFFH where it is undefined.
+    /// In bytes, or FFFFFFFFH where it is undefined.
     pub length: u32,
 }
 
-/// What the header of an element says.
 #[derive(Clone, Copy)]
 pub struct Header {
-    /// The tag of the element.
     pub tag: Tag,
-    /// All else that it says.
     pub shape: Shape,
 }
 
@@ -37,13 +32,12 @@ pub struct Header {
 pub enum Opening {
     /// The set ends here.
     End,
-    /// The whole header.
     Whole(Header),
-    /// A header whose length stands in four bytes more.
+    /// The length is in the next four bytes.
     Long(Tag, Vr),
 }
 
-/// What stands after a header.
+/// What follows a header.
 #[derive(Clone, Copy)]
 pub enum Sort {
     /// A value of this length in bytes.
@@ -65,8 +59,7 @@ pub enum Reach {
     Closed(u32),
 }
 
-/// Tells whether the nearest enclosing length, which leaves `left` bytes, leaves fewer than n. It does
-/// not where no length encloses.
+/// Says whether the nearest enclosing length leaves fewer than n bytes. `left` is None where no length encloses.
 pub fn leaves_fewer(left: Option<u64>, n: u64) -> bool
     ensures { result ≡ leaves_fewer left n }
 {
@@ -76,8 +69,7 @@ pub fn leaves_fewer(left: Option<u64>, n: u64) -> bool
     }
 }
 
-/// Gives what the nearest enclosing length, which leaves `left` bytes, leaves after n of them: 0 where
-/// it leaves fewer than n, and None where no length encloses.
+/// Gives what the nearest enclosing length leaves after n bytes more: 0 where it leaves fewer.
 pub fn left_after(left: Option<u64>, n: u64) -> Option<u64>
     ensures { result ≡ left_after left n }
 {
@@ -87,8 +79,7 @@ pub fn left_after(left: Option<u64>, n: u64) -> Option<u64>
     }
 }
 
-/// Tells whether a set or a sequence of this form ends here by its length, where the nearest enclosing
-/// length leaves `left` bytes. None where it ends with the bytes (PS3.5 section 7.5).
+/// Says whether a set or a sequence of this form ends here by its length. None where it ends with the bytes.
 pub fn ends_here(form: Length, left: Option<u64>) -> Option<bool>
     ensures exact { (bytes : List ℕ) → is_over form (record { left = left; bytes = bytes })
         ≡ unwrap_or result (length bytes == 0) }
@@ -101,13 +92,8 @@ pub fn ends_here(form: Length, left: Option<u64>) -> Option<bool>
     }
 }
 
-/// Checks the first eight bytes of a header in a set of this form, and gives what they say (PS3.5
-/// sections 7.1 and 7.5). Tags below the number `low` may not follow.
-///
-/// Refused by the first of these that holds: 8 BadDelimiter where they end the set with a length other
-/// than 0, 7 UnexpectedTag where the tag is another one of group FFFE, 2 Order where its number is below
-/// `low`, 3 BadVr where two letters name no value representation, and 4 Reserved where the reserved
-/// bytes are not zero.
+/// Checks the first eight bytes of a header in a set of this form (PS3.5 sections 7.1 and 7.5). Refused by the first
+/// of 8 BadDelimiter, 7 UnexpectedTag, 2 Order where the number of the tag is below `low`, 3 BadVr and 4 Reserved.
 #[tactic(auto, unfolding(crate::specs::Reading::opening_at, crate::specs::Reading::header_at))]
 pub fn element_opening(
     syntax: Syntax,
@@ -134,7 +120,6 @@ pub fn element_opening(
     shape_opening(syntax, tag, head)
 }
 
-/// What the first eight bytes of a header with this tag say.
 #[tactic(auto, unfolding(crate::specs::Reading::shape_at))]
 fn shape_opening(syntax: Syntax, tag: Tag, head: &[u8; HEADER_SIZE]) -> Result<Opening, SetFault>
     ensures exact { (at : At) → tagged_at syntax tag head.now at ≡ opened result at }
@@ -159,9 +144,8 @@ fn shape_opening(syntax: Syntax, tag: Tag, head: &[u8; HEADER_SIZE]) -> Result<O
     Ok(Opening::Whole(Header { tag, shape }))
 }
 
-/// Checks the eight bytes that begin an item or end a sequence of this form, and gives the length of the
-/// item, or None at the end (PS3.5 section 7.5). 8 BadDelimiter where they end it with a length other
-/// than 0, and 7 UnexpectedTag where they do neither.
+/// Gives the length of the item that these eight bytes begin, or None where they end a sequence of this form (PS3.5
+/// section 7.5). 8 BadDelimiter, or 7 UnexpectedTag where they do neither.
 #[tactic(auto, unfolding(crate::specs::Reading::item_opening))]
 pub fn item_opening(form: Length, head: &[u8; HEADER_SIZE]) -> Result<Option<u32>, SetFault>
     ensures exact { result ≡ item_opening form head.now }
@@ -179,10 +163,8 @@ pub fn item_opening(form: Length, head: &[u8; HEADER_SIZE]) -> Result<Option<u32
     Ok(Some(long_in(head)))
 }
 
-/// Checks the length of a value, and answers what stands after its header, where the nearest enclosing
-/// length leaves `left` bytes (PS3.5 sections 6.2.2 and 7.5, annex A.4). 6 UndefinedLength where neither
-/// a sequence nor fragments may have an undefined one, 5 OddLength where it is odd, and 9 Overrun where
-/// it passes what is left.
+/// Gives what follows a header (PS3.5 sections 6.2.2 and 7.5, annex A.4). 6 UndefinedLength, 5 OddLength, or 9
+/// Overrun where the length is more than `left`.
 #[tactic(auto, unfolding(crate::specs::Reading::content_at))]
 pub fn sort_of(syntax: Syntax, header: Header, left: Option<u64>) -> Result<Sort, SetFault>
     ensures exact { (sequence : SequenceReader) (bytes : List ℕ)
@@ -212,8 +194,7 @@ pub fn sort_of(syntax: Syntax, header: Header, left: Option<u64>) -> Result<Sort
     }
 }
 
-/// Checks the length of a fragment, and gives it (PS3.5 annex A.4). 6 UndefinedLength where it is
-/// undefined, and 5 OddLength where it is odd.
+/// Checks the length of a fragment: 6 UndefinedLength, or 5 OddLength (PS3.5 annex A.4).
 #[tactic(auto, unfolding(crate::specs::Reading::fragment_length))]
 pub fn fragment_length(n: u32) -> Result<u32, SetFault>
     ensures exact { result ≡ fragment_length n }
@@ -228,9 +209,8 @@ pub fn fragment_length(n: u32) -> Result<u32, SetFault>
     Ok(n)
 }
 
-/// Checks the length of an item, and answers how far its set reaches, where the nearest enclosing length
-/// leaves `left` bytes (PS3.5 section 7.5). 5 OddLength where it is odd, and 9 Overrun where it passes
-/// what is left.
+/// Gives how far the set of an item of this length reaches (PS3.5 section 7.5). 5 OddLength, or 9 Overrun where it is
+/// more than `left`.
 #[tactic(auto, unfolding(crate::specs::Reading::part_at))]
 pub fn reach_of(n: u32, left: Option<u64>) -> Result<Reach, SetFault>
     ensures exact { (set : SetReader) (syntax : Syntax) (bytes : List ℕ)

@@ -1,13 +1,10 @@
-//! Why bytes are no data set.
-
 ghost use Rattle.std.specs.Prelude.{◌≡◌};
 ghost use Rattle.dd_grammar.specs.declared.fault.SetFault.TheVariants.{Memory};
 
 use std::alloc::{AllocError, AllocFailed};
 use thiserror::Error;
 
-/// The first check that bytes fail as a data set (PS3.5 sections 7.1 and 7.5, annex A.4), or want of
-/// memory.
+/// The first check that bytes fail as a data set (PS3.5 sections 7.1 and 7.5, annex A.4), or lack of memory.
 #[derive(Clone, Copy, Debug, PartialEq, Eq, Hash, Error)]
 pub enum SetFault {
     /// The bytes end within a header, a value, an item or a list of fragments.
@@ -25,12 +22,10 @@ pub enum SetFault {
     /// A length is odd.
     #[error("5 OddLength")]
     OddLength,
-    /// An undefined length stands where neither a sequence nor fragments may follow, or is that of a
-    /// fragment.
+    /// A length is undefined where neither a sequence nor fragments may follow, or for a fragment.
     #[error("6 UndefinedLength")]
     UndefinedLength,
-    /// A tag of group FFFE stands where it may not, or another one where an item or a fragment
-    /// has to begin.
+    /// A tag of group FFFE stands where it may not, or another one where an item or a fragment has to begin.
     #[error("7 UnexpectedTag")]
     UnexpectedTag,
     /// A delimiter has a length other than 0.

@@ -1,9 +1,8 @@
-//! The grammar of data sets: the definition of reading their bytes from left to right, check by check,
-//! and the checks themselves, over what a header says and over numbers alone (PS3.5 sections 6 and 7,
-//! annex A). Nothing is read here: `dd_set` reads from memory, and `dd_scan` from a stream.
+//! The definition of reading a data set from left to right, and its checks (PS3.5 sections 6 and 7, annex A). It
+//! reads no bytes itself.
 //!
-//! Its one promise: each check answers what the definition has at its place, so those who read share
-//! the checks, their order and their refusals.
+//! Its one promise: each check answers what the definition has at its place, so all who read share the checks, their
+//! order and their refusals.
 #![tactic(auto)]
 
 mod checks;

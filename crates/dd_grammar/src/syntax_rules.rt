@@ -1,5 +1,3 @@
-//! Which lengths, levels and values a transfer syntax allows.
-
 ghost use Rattle.std.specs.Prelude.{◌≡◌, ◌+◌, Some, None, true, false};
 ghost use Rattle.dd_elem.specs.Tag.{number_of};
 ghost use Rattle.dd_encoding.specs.Spelling.{names_vr, item_syntax, encapsulates, is_pixel_data};
@@ -7,13 +5,13 @@ ghost use Rattle.dd_encoding.specs.Spelling.{names_vr, item_syntax, encapsulates
 use dd_elem::{Tag, Vr};
 use dd_encoding::{Length, Syntax};
 
-/// What stands in place of a length that is not defined (PS3.5 section 7.1.2).
+/// Stands in place of a length (PS3.5 section 7.1.2).
 pub const UNDEFINED_LENGTH: u32 = 0xffff_ffff;
 
 /// How many items may stand within each other, the outermost counted.
 pub const MAX_LEVELS: u32 = 32;
 
-/// The tag of pixel data, whose value may be fragments (PS3.5 annex A.4).
+/// Its value may be fragments (PS3.5 annex A.4).
 pub const PIXEL_DATA: Tag = Tag {
     group: 0x7fe0,
     element: 0x0010,
@@ -26,8 +24,7 @@ pub fn low_after(tag: Tag) -> u64
     u64::from(tag.number()) + 1
 }
 
-/// Tells whether a header in this syntax names the value representation of its value (PS3.5 section
-/// 7.1.2).
+/// Says whether a header in this syntax names a value representation.
 pub fn names_vr(syntax: Syntax) -> bool
     ensures { result ≡ names_vr syntax }
 {
@@ -38,8 +35,8 @@ pub fn names_vr(syntax: Syntax) -> bool
     }
 }
 
-/// Gives the syntax of the items that a sequence of this form has under this value representation, or
-/// None where it may not stand there (PS3.5 sections 6.2.2 and 7.5.1).
+/// Gives the syntax of the items of a sequence of this form and value representation, or None where it may not stand
+/// there (PS3.5 sections 6.2.2 and 7.5.1).
 pub fn item_syntax(syntax: Syntax, vr: Option<Vr>, form: Length) -> Option<Syntax>
     ensures { result ≡ item_syntax syntax vr form }
 {
@@ -52,7 +49,7 @@ pub fn item_syntax(syntax: Syntax, vr: Option<Vr>, form: Length) -> Option<Synta
     }
 }
 
-/// Tells whether pixel data of this value representation may be fragments (PS3.5 annex A.4).
+/// Says whether pixel data of this value representation may be fragments.
 pub fn encapsulates(syntax: Syntax, vr: Option<Vr>) -> bool
     ensures { result ≡ encapsulates syntax vr }
 {
@@ -64,7 +61,6 @@ pub fn encapsulates(syntax: Syntax, vr: Option<Vr>) -> bool
     }
 }
 
-/// Tells whether the tag is the one of pixel data.
 pub fn is_pixel_data(tag: Tag) -> bool
     ensures { result ≡ is_pixel_data tag }
 {

@@ -77,7 +77,7 @@ fault_of (Ok file) = if is_image_class file.meta.class then table_fault file els
 abbrev pub first_fault : List ℕ → Option KeyFault
 first_fault file = fault_of (file_in file)
 
--- ---- lack of memory: where parsing the file wants it, and after all checks
+-- ---- lack of memory: where parsing the file needs it, and after all checks
 
 -- the fault says that an allocation was refused: here, or while the bytes were read as a file
 abbrev pub SaysMemory : KeyFault → Type 0
@@ -85,7 +85,7 @@ SaysMemory Memory = Unit {0}
 SaysMemory (File fault) = file_faults.SaysMemory fault
 SaysMemory fault = ⊥
 
--- It says so where memory is wanted: for group 0002 (PS3.10 section 7.1) where reading it wants some, for the data set
+-- It says so where memory is needed: for group 0002 (PS3.10 section 7.1) where reading it needs some, for the data set
 -- where `set_wants` says so, and after all checks.
 abbrev pub IsWantOfMemory : (List ℕ → Type 0) → List ℕ → KeyFault → Type 0
 IsWantOfMemory set_wants file Memory = first_fault file ≡ None

@@ -32,7 +32,7 @@ pub record AreKeys (found : RowValues) : Type 0 where
   pub series_number : IsKey found.series_number.now
   pub instance_number : IsKey found.instance_number.now
 
--- what stands for an empty value is used
+-- an empty value is replaced by the default of the row
 abbrev pub key_from : KeyRow → List ℕ → List ℕ
 key_from row value = or_other value row.when_empty
 

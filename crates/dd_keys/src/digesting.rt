@@ -1,5 +1,3 @@
-//! A reader that digests what passes, and a file that is read through one.
-
 ghost use Rattle.std.specs.Prelude.{◌≡◌, ◌⊎◌, ℕ, []};
 ghost use Rattle.sha2.specs.Hashers.{Holds256};
 ghost use Rattle.dd_elem.specs.Device.{either_fact};
@@ -12,12 +10,10 @@ use sha2::{Digest, Sha256};
 use std::alloc::Global;
 use std::io;
 
-/// A reader in front of another, which takes the SHA-256 (FIPS 180-4) of all bytes that pass.
+/// Takes the SHA-256 of all bytes that pass from a reader.
 #[derive(Drop)]
 pub(crate) struct Digesting<'r, R: Read> {
-    /// The reader.
     pub reader: &'r mut R,
-    /// The SHA-256 of what passed.
     pub hasher: Sha256,
 }
 
@@ -41,17 +37,15 @@ impl<R: Read> Read for Digesting<'_, R> {
     }
 }
 
-/// The answer of reading a file from a reader, and the digest of what the reader gave.
+/// Holds what `read_file` answers, and the SHA-256 (FIPS 180-4) of all bytes that the reader gave.
 #[derive(Debug, Drop)]
 pub struct Digested {
-    /// What the file says, or why it was not read to its end or is no file.
     pub file: Result<Scanned, StreamFault>,
-    /// The SHA-256 (FIPS 180-4) of all bytes that the reader gave.
     pub digest: [u8; 32],
 }
 
-/// Reads a file as `read_file` does, with the same answer and the same refusals, and digests all bytes that the
-/// reader gives meanwhile, whether they are a file or not. It makes at most `limit` + 1 reads.
+/// Reads a file as `read_file` does, and digests all bytes that the reader gives meanwhile, whether they are a file or
+/// not.
 pub fn read_digested<R: Read>(alloc: Global, reader: &mut R, wanted: &[Tag], limit: u64) -> Digested
     ensures { ReadsUpTo R.Read limit reader.old reader.new (IsDigested result wanted.now limit) }
 {
@@ -62,7 +56,6 @@ pub fn read_digested<R: Read>(alloc: Global, reader: &mut R, wanted: &[Tag], lim
     read_digesting(alloc, &mut digesting, wanted, limit)
 }
 
-/// Reads a file so over a reader that digests what passes, and that no byte has passed yet.
 fn read_digesting<R: Read>(
     alloc: Global,
     digesting: &mut Digesting<'_, R>,

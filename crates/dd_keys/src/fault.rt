@@ -1,5 +1,3 @@
-//! Why bytes are no file of a version.
-
 ghost use Rattle.std.specs.Prelude.{◌≡◌, ◌↔◌, IsTrue};
 ghost use Rattle.dd_keys.specs.Answers.{refusal_of};
 ghost use Rattle.dd_keys.specs.Faults.{SaysMemory};
@@ -9,23 +7,23 @@ use dd_elem::{self, Tag, Uid};
 use dd_part10::{FileFault, StreamFault};
 use thiserror::Error;
 
-/// The first check that a file fails as that of a version; or a reader's failure, too many bytes, or
-/// lack of memory.
+/// Says which check a file fails first, that its reader failed or gave too many bytes, or that an allocation was
+/// refused.
 #[derive(Clone, Copy, Debug, PartialEq, Eq, Error)]
 pub enum KeyFault {
-    /// The bytes are no file; or an allocation was refused while they were read as one.
+    /// The bytes are no file, or an allocation was refused while they were read as one.
     #[error("31 File {0}")]
     File(FileFault),
     /// The file is of this SOP class, which is no image class that is taken.
     #[error("32 NotImage {0}")]
     NotImage(Uid),
-    /// There is no element with this tag, or its value is empty.
+    /// The element with this tag is absent or empty.
     #[error("33 MissingKey {0}")]
     MissingKey(Tag),
-    /// The value of the element with this tag is no UID.
+    /// The element with this tag has a value that is no UID.
     #[error("34 BadKeyUid {0}")]
     BadKeyUid(Tag),
-    /// The value of the element with this tag has more than 1,024 bytes without its padding.
+    /// The element with this tag has more than 1,024 bytes without padding.
     #[error("35 KeyTooLong {0}")]
     KeyTooLong(Tag),
     /// The element with this tag is a sequence.
@@ -37,7 +35,7 @@ pub enum KeyFault {
     /// A read of the file failed.
     #[error("38 Read")]
     Read,
-    /// The file has more bytes than the limit.
+    /// The reader gave more bytes than the limit.
     #[error("39 FileTooLong")]
     FileTooLong,
     /// An allocation was refused after all checks.
@@ -46,7 +44,7 @@ pub enum KeyFault {
 }
 
 impl KeyFault {
-    /// Does the fault say that an allocation was refused?
+    /// Says whether an allocation was refused.
     pub fn is_want_of_memory(&self) -> bool
         ensures { IsTrue result ↔ SaysMemory self.now }
     {

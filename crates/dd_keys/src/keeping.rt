@@ -1,5 +1,3 @@
-//! A reader that puts what passes into a slot, and a file that is read through one.
-
 ghost use Rattle.std.specs.Prelude.{◌≡◌, ◌⊎◌, ℕ, []};
 ghost use Rattle.dd_slots.specs.Slots.{IsSlotOf};
 ghost use Rattle.dd_elem.specs.Device.{either_fact};
@@ -12,12 +10,10 @@ use dd_slots::Slot;
 use std::alloc::Global;
 use std::io;
 
-/// A reader in front of another, which puts all bytes that pass into a slot.
+/// Puts all bytes that pass from a reader into a slot.
 #[derive(Drop)]
 pub(crate) struct Keeping<'r, R: Read> {
-    /// The reader.
     pub reader: &'r mut R,
-    /// What passed.
     pub slot: &'r mut Slot,
 }
 
@@ -42,9 +38,8 @@ impl<R: Read> Read for Keeping<'_, R> {
     }
 }
 
-/// Reads a file as `read_file` does, with the same answer and the same refusals. All bytes that the reader gives
-/// meanwhile, whether they are a file or not, come into the slot in place of what that had. It makes at most
-/// `limit` + 1 reads.
+/// Reads a file as `read_file` does. Afterwards the slot has exactly the bytes that the reader gave, whether they are a
+/// file or not.
 pub fn read_kept<R: Read>(
     alloc: Global,
     reader: &mut R,
@@ -59,7 +54,6 @@ pub fn read_kept<R: Read>(
     read_keeping(alloc, &mut keeping, wanted, limit)
 }
 
-/// Reads a file so over a reader that keeps what passes, and that no byte has passed yet.
 fn read_keeping<R: Read>(
     alloc: Global,
     keeping: &mut Keeping<'_, R>,

@@ -1,9 +1,7 @@
-//! The version of a file: the keys by which it stands in a directory of a file-set, from its bytes in
-//! memory or from a reader.
+//! The version of a file: the keys by which it is listed in the directory of a file-set.
 //!
-//! Its one promise: what is read as the version of a file is that, and a refusal names the first check
-//! that the file fails. Where an allocation is refused, while the file is read or after all checks, the
-//! answer is lack of memory instead.
+//! Its one promise: what is read as the version of a file is that, and a refusal names the first check that the file
+//! fails, or a refused allocation.
 #![tactic(auto)]
 
 mod digesting;

@@ -1,5 +1,3 @@
-//! The rows of the table: the checks of each, and the value that passes them.
-
 ghost use Rattle.std.specs.Prelude.{◌≡◌, ◌≤◌, length, IfOk};
 ghost use Rattle.std.specs.Option.{option_copied};
 ghost use Rattle.std.specs.Result.{result_err};
@@ -18,7 +16,6 @@ use dd_part10::Meta;
 use std::alloc::Global;
 
 impl KeyRow {
-    /// The value that a data set has, or the first check of a key that it fails.
     pub fn value<'v, V: Values>(&self, values: &'v V) -> Result<&'v [u8], KeyFault>
         requires { AreFronts (V.tells values.now) }
         ensures fault { result_err result
@@ -36,7 +33,6 @@ impl KeyRow {
         }
     }
 
-    /// The key that this value is: another one where it is empty.
     pub fn key(&self, alloc: Global, value: &[u8]) -> Result<Key, Memory>
         requires valid { IsKey value.now }
         requires clean { clean_of self.now.when_empty.now ≡ self.now.when_empty.now }
@@ -51,7 +47,6 @@ impl KeyRow {
     }
 }
 
-/// The key with these bytes.
 fn keep(alloc: Global, bytes: &[u8]) -> Result<Key, Memory>
     requires { IsKey bytes.now }
     ensures { IfOk result (λ key. key ≡ bytes.now) }
@@ -63,8 +58,8 @@ fn keep(alloc: Global, bytes: &[u8]) -> Result<Key, Memory>
 }
 
 impl UidRow {
-    /// The UID that a data set gives, or the first check of it that the data set fails. A UID has at most
-    /// 64 bytes, so that neither a longer value nor its front is a UID.
+    /// The UID, or the first check that it fails. A UID has at most 64 bytes, so neither a longer value nor its front
+    /// is one.
     pub fn uid<V: Values>(&self, meta: &Meta, values: &V) -> Result<Uid, KeyFault>
         ensures fault { result_err result ≡ summary_uid_fault (uid_row_view self.now) meta.now
             (V.tells values.now self.now.tag) }
@@ -86,7 +81,6 @@ impl UidRow {
     }
 }
 
-/// The UID of group 0002 that a row has to repeat.
 fn wanted_uid(meta: &Meta, same_as: Option<MetaUid>) -> Option<&Uid>
     ensures { option_copied result ≡ wanted_uid meta.now same_as }
 {
@@ -97,7 +91,6 @@ fn wanted_uid(meta: &Meta, same_as: Option<MetaUid>) -> Option<&Uid>
     }
 }
 
-/// Is the value another UID than the one that it has to be?
 fn mismatch(tag: Tag, wanted: Option<&Uid>, value: &[u8]) -> Option<KeyFault>
     ensures { result ≡ mismatch_of tag (option_copied wanted.entry) value.now }
 {

@@ -1,5 +1,3 @@
-//! The values that the data set of a file has in the rows of the table, and the keys that they are.
-
 ghost use Rattle.std.specs.Prelude.{◌≡◌, List, ℕ, IfOk};
 ghost use Rattle.std.specs.Result.{result_err};
 ghost use Rattle.dd_keys.specs.RowViews.{AreKeys, row_parts, row_patient, row_series, row_study};
@@ -16,7 +14,7 @@ use dd_part10::Meta;
 use dd_version::{Parts, PatientKeys, SeriesKeys, StudyKeys};
 use std::alloc::Global;
 
-/// The values that a data set has in the rows of the table, each of which passes the checks of its row.
+/// The values of the rows, each of which has passed the checks of its row.
 #[derive(Clone, Copy)]
 pub(crate) struct RowValues<'v> {
     charset: &'v [u8],
@@ -35,7 +33,6 @@ pub(crate) struct RowValues<'v> {
 }
 
 impl<'v> RowValues<'v> {
-    /// The values of a data set, or the first check of the table that it fails.
     #[tactic(auto, unfolding(crate::specs::Summaries::summary_table_fault))]
     pub(crate) fn of<V: Values>(meta: &Meta, values: &'v V) -> Result<RowValues<'v>, KeyFault>
         requires fronts { AreFronts (V.tells values.now) }
@@ -76,7 +73,6 @@ impl<'v> RowValues<'v> {
         })
     }
 
-    /// The keys of the patient.
     fn patient(&self, alloc: Global) -> Result<PatientKeys, Memory>
         requires { AreKeys self.now }
         ensures { IfOk result (λ patient. patient ≡ row_patient self.now) }
@@ -88,7 +84,6 @@ impl<'v> RowValues<'v> {
         })
     }
 
-    /// The keys of the study.
     fn study(&self, alloc: Global) -> Result<StudyKeys, Memory>
         requires { AreKeys self.now }
         ensures { IfOk result (λ study. study ≡ row_study self.now) }
@@ -104,7 +99,6 @@ impl<'v> RowValues<'v> {
         })
     }
 
-    /// The keys of the series.
     fn series(&self, alloc: Global) -> Result<SeriesKeys, Memory>
         requires { AreKeys self.now }
         ensures { IfOk result (λ series. series ≡ row_series self.now) }
@@ -116,7 +110,6 @@ impl<'v> RowValues<'v> {
         })
     }
 
-    /// The parts of the version of a file with this meta information and this digest.
     pub(crate) fn parts(
         &self,
         alloc: Global,

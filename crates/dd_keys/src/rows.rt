@@ -5,31 +5,27 @@ use dd_elem::{Tag, tags};
 /// An element whose value is a key: at most 1,024 bytes without padding.
 #[derive(Clone, Copy)]
 pub(crate) struct KeyRow {
-    /// Its tag.
     pub tag: Tag,
-    /// The key where the element is not there or its value is empty.
+    /// The key where the element is absent or empty.
     pub when_empty: &'static [u8],
 }
 
 /// An element whose value is a UID, and may not be empty.
 #[derive(Clone, Copy)]
 pub(crate) struct UidRow {
-    /// Its tag.
     pub tag: Tag,
     /// The UID of group 0002 that it has to repeat.
     pub same_as: Option<MetaUid>,
 }
 
-/// A UID of group 0002.
 #[derive(Clone, Copy)]
 pub(crate) enum MetaUid {
-    /// Media Storage SOP Class UID (0002,0002).
+    /// (0002,0002)
     Class,
-    /// Media Storage SOP Instance UID (0002,0003).
+    /// (0002,0003)
     Instance,
 }
 
-/// The row of a key: its tag, and what stands for an empty value.
 macro_rules! key_row {
     ($tag:expr, $when_empty:expr) => {
         KeyRow {
@@ -39,7 +35,6 @@ macro_rules! key_row {
     };
 }
 
-/// The row of a UID: its tag, and the UID of group 0002 that it has to repeat.
 macro_rules! uid_row {
     ($tag:expr, $same_as:expr) => {
         UidRow {
@@ -49,52 +44,37 @@ macro_rules! uid_row {
     };
 }
 
-/// Specific Character Set.
 pub(crate) const CHARSET: KeyRow = key_row!(tags::SPECIFIC_CHARACTER_SET, b"");
 
-/// SOP Class UID.
 pub(crate) const CLASS: UidRow = uid_row!(tags::SOP_CLASS_UID, Some(MetaUid::Class));
 
-/// SOP Instance UID.
 pub(crate) const INSTANCE: UidRow = uid_row!(tags::SOP_INSTANCE_UID, Some(MetaUid::Instance));
 
-/// Study Date.
 pub(crate) const STUDY_DATE: KeyRow = key_row!(tags::STUDY_DATE, b"19000101");
 
-/// Study Time.
 pub(crate) const STUDY_TIME: KeyRow = key_row!(tags::STUDY_TIME, b"000000");
 
-/// Accession Number.
 pub(crate) const ACCESSION: KeyRow = key_row!(tags::ACCESSION_NUMBER, b"");
 
-/// Modality.
 pub(crate) const MODALITY: KeyRow = key_row!(tags::MODALITY, b"OT");
 
-/// Study Description.
 pub(crate) const DESCRIPTION: KeyRow = key_row!(tags::STUDY_DESCRIPTION, b"");
 
-/// Patient's Name.
 pub(crate) const PATIENT_NAME: KeyRow = key_row!(tags::PATIENT_NAME, b"");
 
-/// Patient ID.
 pub(crate) const PATIENT_ID: KeyRow = key_row!(tags::PATIENT_ID, b"NOID");
 
-/// Study Instance UID.
 pub(crate) const STUDY: UidRow = uid_row!(tags::STUDY_INSTANCE_UID, None);
 
-/// Series Instance UID.
 pub(crate) const SERIES: UidRow = uid_row!(tags::SERIES_INSTANCE_UID, None);
 
-/// Study ID.
 pub(crate) const STUDY_ID: KeyRow = key_row!(tags::STUDY_ID, b"0");
 
-/// Series Number.
 pub(crate) const SERIES_NUMBER: KeyRow = key_row!(tags::SERIES_NUMBER, b"0");
 
-/// Instance Number.
 pub(crate) const INSTANCE_NUMBER: KeyRow = key_row!(tags::INSTANCE_NUMBER, b"0");
 
-/// The tags of the rows, in their order.
+/// The tags of the rows, in order.
 pub(crate) const WANTED: [Tag; 15] = [
     tags::SPECIFIC_CHARACTER_SET,
     tags::SOP_CLASS_UID,

@@ -1,5 +1,3 @@
-//! Summaries of the values of a data set, whole in memory or scanned.
-
 ghost use Rattle.std.specs.Prelude.{◌≡◌};
 ghost use Rattle.dd_elem.specs.declared.tag.Tag.{Tag};
 ghost use Rattle.dd_scan.specs.Scan.{Summary as ValueSummary};
@@ -11,13 +9,12 @@ use dd_elem::Tag;
 use dd_scan::{Found, Summary};
 use dd_set::{DataSet, value_at};
 
-/// What gives the summaries of the values of a data set.
+/// Gives the summaries of the values of a data set, whole in memory or scanned.
 pub(crate) trait Values {
-    // The summary of the value at a tag.
     ghost tells: { Self → Tag → ValueSummary };
 
-    /// Gives the summary of the value of the first element with this tag: that of no bytes where no element
-    /// has the tag, and None where the value is a sequence or fragments.
+    /// Summarizes the value of the first element with this tag: no bytes where no element has it, and None for a
+    /// sequence or fragments.
     fn value(&self, tag: Tag) -> Option<Summary<'_>>
         ensures { summary_view result ≡ tells self.now tag };
 }

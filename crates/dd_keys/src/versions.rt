@@ -1,5 +1,3 @@
-//! Reading a version from the bytes of its file, in memory or from a reader.
-
 ghost use Rattle.std.specs.Prelude.{◌≡◌, ◌<◌, ◌^◌, ℕ, List, length, None, IsSome};
 ghost use Rattle.dd_stream.specs.Bytes.{AreBytes};
 ghost use Rattle.dd_stream.specs.Reads.{ReadsUpTo};
@@ -24,13 +22,12 @@ use dd_version::{Version, is_image_class};
 use sha2::{Digest, Sha256};
 use std::alloc::Global;
 
-/// Reads these bytes as a file, and gives its version. It has the keys of the data set's elements, without
-/// their padding, and replaced where one is empty that a directory must have. It has the UIDs of group
-/// 0002, and the SHA-256 of all the bytes.
+/// Reads these bytes as a file, and gives its version: its keys without padding, its UIDs of group 0002, and its
+/// SHA-256. A key that is empty and that a directory must have is replaced by a default.
 ///
-/// Otherwise the answer is the first check that fails: those of a file (PS3.10 section 7), the class of
-/// group 0002, and then those of each element in the order of tags. An allocation that is refused while
-/// the bytes are parsed gives `File` with the fault of the parse, and one after all checks `Memory`.
+/// Otherwise the answer is the first check that fails: those of a file (PS3.10 section 7), the class of group 0002,
+/// then those of each element in the order of tags. A refused allocation is `File` with the fault of the parse, or
+/// `Memory` after all checks.
 pub fn version_of(alloc: Global, bytes: &[u8]) -> Result<Version, KeyFault>
     ensures { Answers bytes.now result }
 {
@@ -38,14 +35,12 @@ pub fn version_of(alloc: Global, bytes: &[u8]) -> Result<Version, KeyFault>
     version_from(alloc, &file.meta, &file.set, Sha256::digest(bytes))
 }
 
-/// Reads a file from a reader to its end, as a stream, and gives its version. Nothing of the file is held but
-/// fixed buffers, and the first 1,024 bytes of each element that gives a key.
+/// Reads a file from a reader to its end, and gives its version. It holds only fixed buffers and the first 1,024 bytes
+/// of each element that gives a key.
 ///
-/// `Read` where the reader fails and `FileTooLong` where it gives `limit` bytes and one more; both come
-/// before every check. Else it has read to the end, and the answer is that of `version_of` for the bytes
-/// that the reader gave. It allocates for group 0002, and for the data set where an element of the table is
-/// there; where that is refused, the answer is `File` with the fault of the read. An allocation that is
-/// refused after all checks gives `Memory`. It makes at most `limit` + 1 reads.
+/// `Read` where the reader fails and `FileTooLong` where it gives more than `limit` bytes come before every check. Else
+/// the answer is that of `version_of` for the bytes that the reader gave. It allocates for group 0002, and for the data
+/// set where an element of the table is there; a refusal of that is `File` with the fault of the read.
 pub fn ingest<R: Read>(alloc: Global, reader: &mut R, limit: u64) -> Result<Version, KeyFault>
     ensures { ReadsUpTo R.Read limit reader.old reader.new
         (λ given left failures after. AnswersReader limit given left failures after result) }
@@ -55,9 +50,8 @@ pub fn ingest<R: Read>(alloc: Global, reader: &mut R, limit: u64) -> Result<Vers
     version_from(alloc, &scanned.meta, &scanned.found, digest)
 }
 
-/// Reads a version as `ingest` does, with the same refusals, and leaves its digest open, which is 32 zeros until the
-/// caller sets it. All bytes that the reader gives come into the slot in place of what that had: with their SHA-256
-/// the version is the one that `ingest` answers.
+/// Reads a version as `ingest` does, and leaves its digest as 32 zeros. Afterwards the slot has exactly the bytes that
+/// the reader gave: with their SHA-256 the version is what `ingest` answers.
 pub fn ingest_kept<R: Read>(
     alloc: Global,
     reader: &mut R,
@@ -70,8 +64,6 @@ pub fn ingest_kept<R: Read>(
     version_from(alloc, &scanned.meta, &scanned.found, [0; 32])
 }
 
-/// The version of a file with this meta information, these values of its data set and this digest; or the
-/// first check that fails, of its class and of the table; or lack of memory after them.
 fn version_from<V: Values>(
     alloc: Global,
     meta: &Meta,
@@ -95,8 +87,7 @@ fn version_from<V: Values>(
     }
 }
 
-/// Law: bytes of any memory are a file of a version exactly where they fail no check, and then of one
-/// version only.
+/// Law: bytes are a file of a version exactly where they fail no check, and then of one version only.
 pub fn one_version()
     ensures one { (file : List ℕ) (version other : Parts) → IsVersion file version
         → IsVersion file other

@@ -1,4 +1,4 @@
--- A walk over words with no fault calls for no help, and has a subcommand where it wants one.
+-- A walk over words with no fault calls for no help, and has a subcommand where one is required.
 use Rattle.std.proofs.Common.{◌≡◌, ◌&&◌, ℕ, Bool, true, false, not, List, [], ◌∷◌, Option, Some, None, codes, refl, ap}
 use Rattle.std.proofs.Common.{subst, length, arith}
 use Rattle.std.specs.List.{list_any}
@@ -26,7 +26,7 @@ wants_one true argument none = let e : length
     (DisplayHelpOnMissingArgumentOrSubcommand ∷ []) ≡ 0 = ap length none in omega (arith, e)
 wants_one false argument none = let e : length (MissingSubcommand ∷ []) ≡ 0 = ap length none in omega (arith, e)
 
--- a level with no fault has a subcommand where it wants one
+-- a level with no fault has a subcommand where one is required
 check_needs : (s : Shape) (rows : List Row) (has : Bool) → check_fault s rows has ≡ []
     → s.subcommand_required ≡ true → has ≡ true
 check_needs s rows true none required = refl

@@ -1,4 +1,4 @@
-//! The commands of the program, as the parser gets them.
+//! The commands, as the parser gets them.
 ghost use Rattle.std.specs.Prelude.{◌≡◌, IfOk};
 ghost use Rattle.clap.specs.Words.{kind_of};
 ghost use Rattle.dd_line.specs.Line.{HasApp, HasRule, any_paths, check_app, dicomdir_app, files0_from_name, flag};
@@ -11,7 +11,6 @@ use clap::error::ErrorKind;
 use clap::{Arg, ArgAction, Command, Error, value_parser};
 use std::alloc::{AllocError, Global};
 
-/// The version of the program.
 const VERSION: &str = "1.0.0";
 
 // The names of the options.
@@ -43,10 +42,9 @@ pub(crate) const SOURCE: &str = "source";
 
 pub(crate) const SET: &str = "set";
 
-// The name of the images, each by its SOP Instance UID.
+// Images, each by its SOP Instance UID.
 pub(crate) const INSTANCE: &str = "instance";
 
-/// Makes an option `--NAME VALUE` that may be left out.
 fn option<'a>(alloc: Global, name: &'a str, value_name: &'a str, help: &'a str) -> Arg<'a>
     ensures { HasRule (text_option name.entry.now) result }
 {
@@ -56,14 +54,12 @@ fn option<'a>(alloc: Global, name: &'a str, value_name: &'a str, help: &'a str) 
         .help(help)
 }
 
-/// Makes an option whose value is a number of `u32`.
 fn number<'a>(alloc: Global, name: &'a str, value_name: &'a str, help: &'a str) -> Arg<'a>
     ensures { HasRule (number_option name.entry.now) result }
 {
     option(alloc, name, value_name, help).value_parser(value_parser!(u32))
 }
 
-/// Makes a flag `--NAME` that may be left out.
 fn flag<'a>(alloc: Global, name: &'a str, help: &'a str) -> Arg<'a>
     ensures { HasRule (flag name.entry.now) result }
 {
@@ -83,21 +79,18 @@ fn path<'a>(alloc: Global, name: &'a str, value_name: &'a str, help: &'a str) ->
         .help(help)
 }
 
-/// Makes an argument of one or more paths, or of one or more other words.
 fn paths<'a>(alloc: Global, name: &'a str, value_name: &'a str, help: &'a str) -> Arg<'a>
     ensures { HasRule (some_paths name.entry.now) result }
 {
     path(alloc, name, value_name, help).num_args(1..)
 }
 
-/// Makes an argument of any number of paths, or none.
 fn any_paths<'a>(alloc: Global, name: &'a str, value_name: &'a str, help: &'a str) -> Arg<'a>
     ensures { HasRule (any_paths name.entry.now) result }
 {
     paths(alloc, name, value_name, help).required(false)
 }
 
-/// Makes the option that names a file of paths.
 fn files0_from<'a>(alloc: Global) -> Arg<'a>
     ensures { HasRule (text_option files0_from_name) result }
 {
@@ -109,7 +102,7 @@ fn files0_from<'a>(alloc: Global) -> Arg<'a>
     )
 }
 
-/// Makes a command with the options for the label of a directory and for its size.
+/// The options for the label of a directory and its size.
 fn labelled_command<'a>(
     alloc: Global,
     name: &'a str,
@@ -139,7 +132,7 @@ fn labelled_command<'a>(
         ))
 }
 
-/// Makes a command that writes a directory, with its options and the folder that it writes to.
+/// Adds the options of commands that write, and the folder that they write to.
 fn writing_command<'a>(
     alloc: Global,
     name: &'a str,
@@ -163,7 +156,6 @@ fn writing_command<'a>(
         ))
 }
 
-/// Makes the command `index`.
 fn index_command<'a>(alloc: Global) -> Result<Command<'a>, AllocError>
     ensures { IfOk result (HasApp index_app) }
 {
@@ -177,7 +169,6 @@ fn index_command<'a>(alloc: Global) -> Result<Command<'a>, AllocError>
     ))
 }
 
-/// Makes the command `merge`.
 fn merge_command<'a>(alloc: Global) -> Result<Command<'a>, AllocError>
     ensures { IfOk result (HasApp merge_app) }
 {
@@ -194,7 +185,6 @@ fn merge_command<'a>(alloc: Global) -> Result<Command<'a>, AllocError>
         ))
 }
 
-/// Makes the command `withdraw`.
 fn withdraw_command<'a>(alloc: Global) -> Result<Command<'a>, AllocError>
     ensures { IfOk result (HasApp withdraw_app) }
 {
@@ -215,7 +205,6 @@ fn withdraw_command<'a>(alloc: Global) -> Result<Command<'a>, AllocError>
         ))
 }
 
-/// Makes a command that reads one file-set.
 fn reading_command<'a>(
     alloc: Global,
     name: &'a str,
@@ -231,7 +220,6 @@ fn reading_command<'a>(
     ))
 }
 
-/// Makes the command `check`.
 fn check_command<'a>(alloc: Global) -> Result<Command<'a>, AllocError>
     ensures { IfOk result (HasApp check_app) }
 {
@@ -251,7 +239,6 @@ fn check_command<'a>(alloc: Global) -> Result<Command<'a>, AllocError>
         .arg(flag(alloc, QUIET, "Shows no progress"))
 }
 
-/// Makes the command `list`.
 fn list_command<'a>(alloc: Global) -> Result<Command<'a>, AllocError>
     ensures { IfOk result (HasApp list_app) }
 {
@@ -264,7 +251,7 @@ fn list_command<'a>(alloc: Global) -> Result<Command<'a>, AllocError>
     ))
 }
 
-/// Makes the error of a line that names no source.
+/// Makes the error for a line without a source.
 pub(crate) fn no_source(alloc: Global, verb: Verb) -> Result<Error, AllocError>
     ensures { IfOk result (λ e. kind_of e ≡ ErrorKind.MissingRequiredArgument) }
 {
@@ -278,7 +265,6 @@ pub(crate) fn no_source(alloc: Global, verb: Verb) -> Result<Error, AllocError>
     )
 }
 
-/// Makes the program with its commands.
 pub(crate) fn program<'a>(alloc: Global) -> Result<Command<'a>, AllocError>
     ensures { IfOk result (HasApp dicomdir_app) }
 {

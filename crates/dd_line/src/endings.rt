@@ -1,6 +1,5 @@
 //! What the help of each command ends with.
 
-/// The end of the help of the program.
 pub(crate) const PROGRAM: &str = "\
 Examples:
   dicomdir index DISC1 images/*         makes the file-set DISC1 of these files
@@ -18,7 +17,6 @@ Status:
 'dicomdir COMMAND --help' says more of a command. The manual page dicomdir(1)
 and docs/FAULTS.md explain each fault and what to do about it.";
 
-/// The end of the help of `index`.
 pub(crate) const INDEX: &str = "\
 Examples:
   dicomdir index DISC1 images/* --id DISC1
@@ -51,7 +49,6 @@ Sources:
 
 An ID has up to 16 characters of A to Z, 0 to 9 and _.";
 
-/// The end of the help of `merge`.
 pub(crate) const MERGE: &str = "\
 Example:
   dicomdir merge BOTH DISC1 DISC2
@@ -82,7 +79,6 @@ Where FILE is -, they are read from the standard input.
 
 An ID has up to 16 characters of A to Z, 0 to 9 and _.";
 
-/// The end of the help of `withdraw`.
 pub(crate) const WITHDRAW: &str = "\
 Example:
   dicomdir withdraw NEW DISC1 1.2.840.113619.2.1.5
@@ -102,7 +98,6 @@ Whatever file-set NEW is merged with, no image with these UIDs is kept.
 
 An ID has up to 16 characters of A to Z, 0 to 9 and _.";
 
-/// The end of the help of `check`.
 pub(crate) const CHECK: &str = "\
 Lines of the output:
   OK <n> records                  Each file is there and can be read. It is
@@ -124,7 +119,6 @@ has no digest to compare.
 
 The status is 0 after OK and 3 after any other line.";
 
-/// The end of the help of `list`.
 pub(crate) const LIST: &str = "\
 Each line has the offset of a record, its type, and what it is known by: its
 Patient ID, Study or Series Instance UID, or File ID. It is indented by level,

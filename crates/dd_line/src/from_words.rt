@@ -1,4 +1,3 @@
-//! The words of a command line, read as a request.
 ghost use Rattle.std.specs.Prelude.{◌≡◌, [], Some, IfErr, IfOk, MatchResult, true};
 ghost use Rattle.clap.specs.Words.{fault_of, found_of, rows_of, subcommand_of, subcommand_rows_of, takes};
 ghost use Rattle.dd_line.specs.Line.{IsRefusedFor, LacksSources, PassesTaken, RefusesByKind, RefusesMissing};
@@ -16,7 +15,6 @@ use crate::request::{
 use clap::ArgMatches;
 use std::alloc::{AllocError, Global};
 
-/// Reads how a new file-set is made.
 fn new_set_of(alloc: Global, given: &ArgMatches<'_>) -> Result<NewSet, AllocError>
     requires paths { GivesNewSet (rows_of (found_of given.now)) }
     requires flags { HasFlags (rows_of (found_of given.now)) }
@@ -33,7 +31,7 @@ fn new_set_of(alloc: Global, given: &ArgMatches<'_>) -> Result<NewSet, AllocErro
     })
 }
 
-/// Lists the sources of a command, whose paths have this name. Refused where the words give no source.
+/// Refused where the words give no source.
 fn sources_of(
     alloc: Global,
     verb: Verb,
@@ -51,7 +49,6 @@ fn sources_of(
     Ok(Sources { words, files0_from })
 }
 
-/// Reads a line of `index`.
 fn index_request(alloc: Global, given: &ArgMatches<'_>) -> Result<Request, LineFault>
     requires { IsServed Verb.Index (rows_of (found_of given.now)) }
     ensures request { IfOk result (λ request.
@@ -64,7 +61,6 @@ fn index_request(alloc: Global, given: &ArgMatches<'_>) -> Result<Request, LineF
     Ok(Request::Index(IndexRequest { new_set, sources }))
 }
 
-/// Reads a line of `merge`.
 fn merge_request(alloc: Global, given: &ArgMatches<'_>) -> Result<Request, LineFault>
     requires { IsServed Verb.Merge (rows_of (found_of given.now)) }
     ensures request { IfOk result (λ request.
@@ -82,7 +78,6 @@ fn merge_request(alloc: Global, given: &ArgMatches<'_>) -> Result<Request, LineF
     }))
 }
 
-/// Reads a line of `withdraw`.
 fn withdraw_request(alloc: Global, given: &ArgMatches<'_>) -> Result<Request, AllocError>
     requires { IsServed Verb.Withdraw (rows_of (found_of given.now)) }
     ensures { IfOk result (λ request.
@@ -95,7 +90,6 @@ fn withdraw_request(alloc: Global, given: &ArgMatches<'_>) -> Result<Request, Al
     }))
 }
 
-/// Reads a line of `check`.
 fn check_request(alloc: Global, given: &ArgMatches<'_>) -> Result<Request, AllocError>
     requires { IsServed Verb.Check (rows_of (found_of given.now)) }
     ensures { IfOk result (λ request.
@@ -109,7 +103,6 @@ fn check_request(alloc: Global, given: &ArgMatches<'_>) -> Result<Request, Alloc
     }))
 }
 
-/// Reads a line of `list`.
 fn list_request(alloc: Global, given: &ArgMatches<'_>) -> Result<Request, AllocError>
     requires { IsServed Verb.List (rows_of (found_of given.now)) }
     ensures { IfOk result (λ request.
@@ -121,7 +114,6 @@ fn list_request(alloc: Global, given: &ArgMatches<'_>) -> Result<Request, AllocE
     }))
 }
 
-/// Reads what the named command asks for.
 fn request_of(alloc: Global, found: &ArgMatches<'_>) -> Result<Request, LineFault>
     requires { NamesCommand (subcommand_rows_of found.now) }
     ensures request { IfOk result (λ request.
@@ -138,7 +130,6 @@ fn request_of(alloc: Global, found: &ArgMatches<'_>) -> Result<Request, LineFaul
     }
 }
 
-/// Parses the words.
 fn matches_of<'a>(alloc: Global, words: &'a [String]) -> Result<ArgMatches<'a>, LineFault>
     ensures found { IfOk result (λ found.
         subcommand_rows_of found ≡ subcommand_of dicomdir_app (words_of words.entry.now)) }
@@ -154,8 +145,8 @@ fn matches_of<'a>(alloc: Global, words: &'a [String]) -> Result<ArgMatches<'a>, 
 
 /// Reads what the words of a command line ask for. The first word is the program's name.
 ///
-/// A line that the program does not take, or that asks for help, is `Refused`. So is one that names no source for
-/// `index` or `merge`, by a `SRC` or `SET` or by `--files0-from`.
+/// A line that the program does not take, or that asks for help, is `Refused`. So is `index` or `merge` without a
+/// source, as a path or by `--files0-from`.
 pub fn read_request(alloc: Global, words: &[String]) -> Result<Request, LineFault>
     ensures request { IfOk result (λ request.
         IsRequested request (subcommand_of dicomdir_app (words_of words.now))) }

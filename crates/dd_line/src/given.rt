@@ -1,4 +1,3 @@
-//! The values that the parser found for an argument.
 ghost use Rattle.std.specs.Prelude.{◌≡◌, true};
 ghost use Rattle.std.specs.Prelude.{[], ◌∷◌, ◌++◌, IfOk, IsOk, option_map, string_bytes};
 ghost use Rattle.clap.specs.Takes.{is_given};
@@ -10,7 +9,7 @@ use crate::commands::MAX_BYTES;
 use clap::ArgMatches;
 use std::alloc::{AllocError, Global};
 
-/// Copies the value of an option. `None` where it is not given.
+/// None where the option is not given.
 pub(crate) fn value_of(
     alloc: Global,
     given: &ArgMatches<'_>,
@@ -25,7 +24,6 @@ pub(crate) fn value_of(
     }
 }
 
-/// Copies the path of an argument that has one.
 pub(crate) fn path_of(
     alloc: Global,
     given: &ArgMatches<'_>,
@@ -41,7 +39,6 @@ pub(crate) fn path_of(
     }
 }
 
-/// Copies the values of an argument, in their order.
 pub(crate) fn values_of(
     alloc: Global,
     given: &ArgMatches<'_>,
@@ -58,7 +55,7 @@ pub(crate) fn values_of(
     Ok(words)
 }
 
-/// Reads the number of `--max-bytes`, which is 4294967295 where it is not given.
+/// 4294967295 where `--max-bytes` is not given.
 pub(crate) fn limit_of(given: &ArgMatches<'_>) -> u32
     requires { HasLimit (rows_of (found_of given.now)) }
     ensures { IsLimit (first_of max_bytes_name (rows_of (found_of given.now))) result }
@@ -66,7 +63,6 @@ pub(crate) fn limit_of(given: &ArgMatches<'_>) -> u32
     given.get_one::<u32>(MAX_BYTES).unwrap_or(u32::MAX)
 }
 
-/// Says whether a flag is set.
 pub(crate) fn flag_of(given: &ArgMatches<'_>, name: &str) -> bool
     requires known { is_among flag_names name.now ≡ true }
     requires flags { HasFlags (rows_of (found_of given.now)) }

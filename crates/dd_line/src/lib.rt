@@ -1,7 +1,6 @@
 //! The command line of `dicomdir`.
 //!
-//! Its promise stands at `read_request`: what a line asks for is exactly what the parser's definitions find in its
-//! words. `read_words` says the same of all commands in one form.
+//! Its promise is on `read_request`: what a line asks for is exactly what the parser's definitions find in its words.
 #![tactic(auto)]
 
 mod commands;

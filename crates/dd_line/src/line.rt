@@ -1,4 +1,4 @@
-//! The command line in one form for all commands.
+//! A request in one form for all commands.
 ghost use Rattle.std.specs.Prelude.{◌≡◌, List, ◌∷◌, ◌↔◌, [], IfOk, None, false, string_bytes};
 ghost use Rattle.clap.specs.Words.{Row, Text, subcommand_of};
 ghost use Rattle.dd_line.specs.Line.{Asks, FitsCommand, IsAsked, IsReading, OnlyReads, PassesTaken, RefusesByKind};
@@ -11,59 +11,51 @@ use clap::error::ErrorKind;
 use std::alloc::{AllocError, Global};
 use thiserror::Error;
 
-/// A command of the program.
+/// Names a command of the program.
 #[derive(Clone, Copy, Debug, PartialEq, Eq)]
 pub enum Verb {
-    /// Makes a file-set of files, with copies of them and its directory: `index OUT SRC...`, where
-    /// `--files0-from FILE` may stand for SRC, or add to it.
+    /// `index OUT SRC...` makes a file-set of copies of files.
     Index,
-    /// Makes a file-set of other file-sets likewise: `merge [--link] OUT SET...`, where `--files0-from FILE` may stand
-    /// for SET, or add to it.
+    /// `merge OUT SET...` makes a file-set of other file-sets.
     Merge,
-    /// Makes such a file-set of one file-set without some of its images, for good: `withdraw OUT SET UID...`.
+    /// `withdraw OUT SET UID...` makes a file-set of one without some of its images, for good.
     Withdraw,
-    /// Compares the files of a file-set with its directory: `check [--keys] [--strict] [--quiet] SET`.
+    /// `check SET` compares the files of a file-set with its directory.
     Check,
-    /// Lists the records of a directory: `list [--long] SET`.
+    /// `list SET` lists the records of a directory.
     List,
 }
 
-/// Says what a command line asks for. `index` and `merge` have at least one path, and at least two where they have
-/// no file of names. `withdraw` has two paths, and at least one SOP Instance UID. `check` and `list` have one path
-/// alone, no ID, no UID, and 4294967295 as the most bytes.
+/// Says what a command line asks for. `index` and `merge` have at least one path, and at least two where no file of
+/// names is given. `withdraw` has two paths and at least one UID; `check` and `list` have one path. What a command has
+/// no option for is `None`, false or empty; `max_bytes` is 4294967295 then.
 #[derive(Debug, Drop)]
 pub struct Asked {
-    /// The command.
     pub verb: Verb,
-    /// The file-set's ID, as the line spells it, or `None` where it has none.
+    /// The ID of the new file-set, as the line spells it.
     pub id: Option<String>,
-    /// The file-set's UID, as the line spells it, or `None` where it has none.
+    /// The UID of the new file-set, as the line spells it.
     pub uid: Option<String>,
     /// The most bytes that the directory may have: 4294967295 where the line does not say.
     pub max_bytes: u32,
-    /// The paths of the line: the folder that the command writes to, if it writes, then the paths that it reads,
-    /// in their order.
+    /// The folder that the command writes to, if it writes, then the paths that it reads, in the order of the line.
     pub paths: Vec<String>,
-    /// The SOP Instance UIDs of the line, as it spells them, in their order. Only `withdraw` has any.
+    /// The SOP Instance UIDs to withdraw, as the line spells them, in its order.
     pub uids: Vec<String>,
-    /// Whether the flag `--keys` is set, by which `check` also compares what each file says of itself with its
-    /// record. False for every other command.
+    /// `--keys`: `check` also compares what each file says of itself with its record.
     pub keys: bool,
-    /// Whether the flag `--strict` is set, by which a command that writes is refused where it would leave something
-    /// out, and `check` also finds a file of which no digest is recorded. False for `list`.
+    /// `--strict`: a command that writes is refused where it would leave something out, and `check` also finds a file
+    /// of which no digest is recorded.
     pub strict: bool,
-    /// Whether the command says what it would make, and makes nothing: `--dry-run` of a command that writes.
-    /// False for `check` and `list`.
+    /// `--dry-run`: the command says what it would make, and makes nothing.
     pub dry_run: bool,
-    /// Whether the command shows no progress: `--quiet`. False for `list`.
+    /// `--quiet`: no progress is shown.
     pub quiet: bool,
-    /// Whether `list` also prints the names, dates, times, modalities and numbers of the records: `list --long`.
-    /// False for every other command.
+    /// `--long`: `list` also prints names, dates, times, modalities and numbers.
     pub long: bool,
-    /// Whether `merge` gives images hard links in place of copies: `merge --link`. False for every other command.
+    /// `--link`: `merge` gives images hard links in place of copies.
     pub link: bool,
-    /// The file that holds names of more sources, each ended by a zero byte: `--files0-from FILE`. `None` where the
-    /// line has none, and for every command but `index` and `merge`.
+    /// `--files0-from` of `index` and `merge`: the file that holds names of more sources, each ended by a zero byte.
     pub files0_from: Option<String>,
 }
 
@@ -73,7 +65,7 @@ pub enum LineFault {
     /// The words are no command line of the program, or ask for help. The text is for the user.
     #[error("{0}")]
     Refused(clap::Error),
-    /// Memory ran out.
+    /// An allocation was refused.
     #[error("91 Memory")]
     Memory,
 }
@@ -101,7 +93,7 @@ impl From<clap::Error> for LineFault {
     }
 }
 
-/// Makes a line that asks for a new file-set, and puts its folder before these paths.
+/// Puts the folder of the new file-set before these paths.
 fn making_line(
     alloc: Global,
     verb: Verb,
@@ -132,7 +124,6 @@ fn making_line(
     })
 }
 
-/// Makes a line of a command that takes sources.
 fn sources_line(
     alloc: Global,
     verb: Verb,
@@ -150,7 +141,6 @@ fn sources_line(
     Ok(asked)
 }
 
-/// Makes a line that asks to read a file-set.
 fn reading_line(alloc: Global, verb: Verb, set: String) -> Result<Asked, AllocError>
     ensures verb { IfOk result (λ asked. asked.verb ≡ verb) }
     ensures set { IfOk result (AsksToRead (string_bytes set)) }
@@ -176,7 +166,6 @@ fn reading_line(alloc: Global, verb: Verb, set: String) -> Result<Asked, AllocEr
     })
 }
 
-/// Says what a request asks for, in one form for all commands.
 fn line_of(alloc: Global, request: Request) -> Result<Asked, AllocError>
     ensures asked { IfOk result (λ asked. (command : Text) → (given : List Row)
         → Requests request command given → Asks asked command given) }
@@ -211,7 +200,7 @@ fn line_of(alloc: Global, request: Request) -> Result<Asked, AllocError>
     }
 }
 
-/// Reads what the words of a command line ask for, as `read_request` does, in one form for all commands.
+/// Reads a command line as `read_request` does, in one form for all commands.
 pub fn read_words(alloc: Global, words: &[String]) -> Result<Asked, LineFault>
     ensures asked { IfOk result (λ asked.
         IsAsked asked (subcommand_of dicomdir_app (words_of words.now))) }

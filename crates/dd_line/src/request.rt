@@ -1,18 +1,17 @@
-//! What a command line asks for, by its command.
 ghost use Rattle.std.specs.Prelude.{◌≡◌, ◌≤◌, None, length};
 
-/// What a command line asks for. Each command has what it needs, and nothing that it lacks.
+/// Says what a command line asks for, with the fields that its command has.
 #[derive(Debug, Drop)]
 pub enum Request {
-    /// Make a file-set of files: `index OUT SRC...`.
+    /// `index OUT SRC...`
     Index(IndexRequest),
-    /// Make a file-set of other file-sets: `merge OUT SET...`.
+    /// `merge OUT SET...`
     Merge(MergeRequest),
-    /// Make a file-set of one without some of its images: `withdraw OUT SET UID...`.
+    /// `withdraw OUT SET UID...`
     Withdraw(WithdrawRequest),
-    /// Compare the files of a file-set with its directory: `check SET`.
+    /// `check SET`
     Check(CheckRequest),
-    /// List the records of a directory: `list SET`.
+    /// `list SET`
     List(ListRequest),
 }
 
@@ -20,7 +19,7 @@ impl Request {
     ghost use Rattle.std.specs.Prelude.{option_map, string_bytes};
     ghost use Rattle.dd_line.specs.Requests.{id_of, new_set_of, uid_of};
 
-    /// Gives the file-set that it makes, if it makes one.
+    /// Gives the file-set to make, for `index`, `merge` and `withdraw`.
     pub fn new_set(&self) -> Option<&NewSet>
         ensures { new_set_of self.now ≡ option_map (λ set. set.now) result }
     {
@@ -32,7 +31,7 @@ impl Request {
         }
     }
 
-    /// Gives the ID of that file-set, as the line spells it, where it has one.
+    /// Gives the ID of that file-set, as the line spells it.
     pub fn id(&self) -> Option<&String>
         ensures { id_of self.now ≡ option_map (λ id. string_bytes id.now) result }
     {
@@ -44,7 +43,7 @@ impl Request {
         }
     }
 
-    /// Gives its UID likewise.
+    /// Gives the UID of that file-set, as the line spells it.
     pub fn uid(&self) -> Option<&String>
         ensures { uid_of self.now ≡ option_map (λ uid. string_bytes uid.now) result }
     {
@@ -62,26 +61,26 @@ impl Request {
 pub struct NewSet {
     /// The folder that it is made in.
     pub out: String,
-    /// Its ID, as the line spells it, or `None` where the line has none.
+    /// As the line spells it.
     pub id: Option<String>,
-    /// Its UID, as the line spells it, or `None` where the line has none.
+    /// As the line spells it.
     pub uid: Option<String>,
     /// The most bytes that its directory may have: 4294967295 where the line does not say.
     pub max_bytes: u32,
-    /// Whether it is not made where something would be left out: `--strict`.
+    /// `--strict`: refused where something would be left out.
     pub strict: bool,
-    /// Whether the command says what it would make, and makes nothing: `--dry-run`.
+    /// `--dry-run`: says what would be made, and makes nothing.
     pub dry_run: bool,
-    /// Whether no progress is shown: `--quiet`.
+    /// `--quiet`: no progress is shown.
     pub quiet: bool,
 }
 
-/// Lists the files or file-sets that a new file-set is made of. The line names one at least, or a file of names.
+/// Lists what a new file-set is made of: one path at least, or a file of names.
 #[derive(Debug, Drop)]
 pub struct Sources {
-    /// The paths of the line, in their order.
+    /// The paths, in the order of the line.
     pub words: Vec<String>,
-    /// The file that holds further paths, each ended by a zero byte: `--files0-from FILE`.
+    /// `--files0-from`: the file that holds further paths, each ended by a zero byte.
     pub files0_from: Option<String>,
     ghost some: { files0_from ≡ None → 1 ≤ length words.items },
 }
@@ -89,45 +88,41 @@ pub struct Sources {
 /// Asks for a file-set of files, with copies of them and its directory.
 #[derive(Debug, Drop)]
 pub struct IndexRequest {
-    /// The file-set that is made.
     pub new_set: NewSet,
-    /// The files.
     pub sources: Sources,
 }
 
 /// Asks for a file-set of other file-sets.
 #[derive(Debug, Drop)]
 pub struct MergeRequest {
-    /// The file-set that is made.
     pub new_set: NewSet,
-    /// The folders of the others.
+    /// The folders of the other file-sets.
     pub sets: Sources,
-    /// Whether images get hard links in place of copies: `--link`.
+    /// `--link`: images get hard links in place of copies.
     pub link: bool,
 }
 
 /// Asks for a file-set of one file-set, without some of its images.
 #[derive(Debug, Drop)]
 pub struct WithdrawRequest {
-    /// The file-set that is made.
     pub new_set: NewSet,
-    /// The folder of the other.
+    /// The folder of the other file-set.
     pub set: String,
-    /// The SOP Instance UIDs of the images, as the line spells them, in their order.
+    /// The SOP Instance UIDs of the images, as the line spells them, in its order.
     pub instances: Vec<String>,
     ghost some: { 1 ≤ length instances.items },
 }
 
-/// Asks for a comparison of the files of a file-set with its directory.
+/// Asks to compare the files of a file-set with its directory.
 #[derive(Debug, Drop)]
 pub struct CheckRequest {
     /// The folder of the file-set.
     pub set: String,
-    /// Whether what each image says of itself is compared with its record, too: `--keys`.
+    /// `--keys`: what each image says of itself is compared with its record, too.
     pub keys: bool,
-    /// Whether a file of which no digest is recorded is found, too: `--strict`.
+    /// `--strict`: a file of which no digest is recorded is found, too.
     pub strict: bool,
-    /// Whether no progress is shown: `--quiet`.
+    /// `--quiet`: no progress is shown.
     pub quiet: bool,
 }
 
@@ -136,6 +131,6 @@ pub struct CheckRequest {
 pub struct ListRequest {
     /// The folder of the file-set.
     pub set: String,
-    /// Whether names, dates, times, modalities and numbers are printed, too: `--long`.
+    /// `--long`: names, dates, times, modalities and numbers are printed, too.
     pub long: bool,
 }

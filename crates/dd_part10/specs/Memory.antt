@@ -42,12 +42,12 @@ pub record ScanWants (wanted : List Tag) (file : List ℕ) : Type 0 where
   pub wants : HasWanted head.syntax wanted head.set
 
 -- Why a file is refused of which only wanted elements are kept: by the first check that it fails; or by lack of memory,
--- for group 0002 where reading it wants some, and for the data set where a wanted element is there.
+-- for group 0002 where reading it allocates, and for the data set where a wanted element is there.
 abbrev pub IsRefused : List Tag → FileFault → List ℕ → Type 0
 IsRefused wanted (faults.Meta Memory) file = GroupWants file
 IsRefused wanted (faults.Set Memory) file = ScanWants wanted file
 IsRefused wanted fault file = file_in file ≡ Err fault
 
--- a step that wants no memory
+-- the result of a step is not lack of memory
 abbrev pub WantsNone : {X : Type 0} → Result X FileFault → Type 0
 WantsNone result = (result ≢ Err (faults.Meta Memory)) × (result ≢ Err (faults.Set Memory))

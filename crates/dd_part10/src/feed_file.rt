@@ -1,5 +1,3 @@
-//! A file taken from a feed.
-
 ghost use Rattle.std.specs.Prelude.{◌≢◌, ◌≤◌, length, IfOk, Err};
 ghost use Rattle.dd_grammar.specs.declared.fault.SetFault.TheVariants.{Memory};
 ghost use Rattle.dd_stream.specs.Feeds.{Scans};
@@ -19,15 +17,12 @@ use dd_scan::{Scan, take_set};
 use dd_stream::{Feed, fill};
 use std::alloc::Global;
 
-/// The most bytes of group 0002 that have room in a short one.
+/// Groups up to this size are read into a small buffer.
 const SHORT_GROUP: usize = 1024;
 
-/// Takes the file that the bytes of a feed are, all that are still to come, with every check of
-/// `parse_file` in its order. Keeps its meta information, and of each wanted element of the data set
-/// whether it is a sequence or fragments, or else the first 1,024 bytes of its value without the
-/// padding.
+/// Takes a file from a feed, to its end, with every check of `parse_file` in its order. Keeps its meta information
+/// and the wanted elements of its data set.
 pub fn take_file<F: Feed>(alloc: Global, feed: &mut F, wanted: &[Tag]) -> Result<Scanned, FileFault>
-    // Whatever was still to come, this is what was read of it, or why it is refused.
     ensures found { Scans F.moves F.tells feed.old feed.new
         (λ bytes rest. FileTaken wanted.now result bytes) }
 {
@@ -39,7 +34,6 @@ pub fn take_file<F: Feed>(alloc: Global, feed: &mut F, wanted: &[Tag]) -> Result
     })
 }
 
-/// Takes all that stands before the data set, and answers what it says and the syntax of the data set.
 fn take_head<F: Feed>(alloc: Global, feed: &mut F) -> Result<(Meta, Syntax), FileFault>
     ensures found { Scans F.moves F.tells feed.old feed.new
         (λ bytes rest. HeadTaken result bytes rest) }
@@ -51,7 +45,6 @@ fn take_head<F: Feed>(alloc: Global, feed: &mut F) -> Result<(Meta, Syntax), Fil
     Ok((meta, syntax))
 }
 
-/// Takes the preamble and the prefix.
 fn take_prefix<F: Feed>(feed: &mut F) -> Result<(), FileFault>
     ensures found { Scans F.moves F.tells feed.old feed.new
         (λ bytes rest. PrefixTaken result bytes rest) }
@@ -63,7 +56,6 @@ fn take_prefix<F: Feed>(feed: &mut F) -> Result<(), FileFault>
     Ok(())
 }
 
-/// Takes the group length, and answers its number.
 fn take_count<F: Feed>(feed: &mut F) -> Result<u32, FileFault>
     ensures found { Scans F.moves F.tells feed.old feed.new
         (λ bytes rest. CountTaken result bytes rest) }
@@ -75,7 +67,6 @@ fn take_count<F: Feed>(feed: &mut F) -> Result<u32, FileFault>
     read_count(&front[..n])
 }
 
-/// Takes group 0002, and answers the meta information.
 fn take_meta<F: Feed>(alloc: Global, feed: &mut F) -> Result<Meta, FileFault>
     ensures found { Scans F.moves F.tells feed.old feed.new
         (λ bytes rest. MetaTaken result bytes rest) }
@@ -91,7 +82,6 @@ fn take_meta<F: Feed>(alloc: Global, feed: &mut F) -> Result<Meta, FileFault>
     }
 }
 
-/// Takes as many bytes as there is room for, and answers the meta information that they spell.
 fn take_group<F: Feed>(alloc: Global, feed: &mut F, group: &mut [u8]) -> Result<Meta, FileFault>
     ensures found { Scans F.moves F.tells feed.old feed.new
         (λ bytes rest. GroupTaken (length group.old) result bytes rest) }
@@ -103,7 +93,6 @@ fn take_group<F: Feed>(alloc: Global, feed: &mut F, group: &mut [u8]) -> Result<
     read_meta(alloc, group)
 }
 
-/// Takes the data set after group 0002, to the end of the feed.
 fn take_data_set<F: Feed>(
     alloc: Global,
     feed: &mut F,

@@ -1,4 +1,4 @@
-//! Group 0002: the group length and the meta information.
+//! Group 0002 of a file.
 
 ghost use Rattle.std.specs.Prelude.{◌≡◌, ◌≢◌, ◌≤◌, Err, IfOk, length, option_map};
 ghost use Rattle.dd_grammar.specs.declared.fault.SetFault.TheVariants.{Memory};
@@ -22,18 +22,15 @@ use dd_set::{DataSet, Value, parse};
 use dd_version::TRANSFER;
 use std::alloc::Global;
 
-/// The most bytes that group 0002 may have after its group length.
+/// The most bytes of group 0002 after its group length.
 pub const MAX_GROUP_LENGTH: u32 = 65_536;
 
-/// What stands after `front`, where the bytes begin with it.
 pub fn rest_after<'a>(front: &[u8], bytes: &'a [u8]) -> Option<&'a [u8]>
     ensures { option_map (λ rest. rest.now) result ≡ rest_after front.now bytes.now }
 {
     bytes.strip_prefix(front)
 }
 
-/// The number in the group length at the front. GroupLength where none stands there, or one above
-/// 65,536.
 #[tactic(auto, unfolding(crate::specs::Reading::count_in))]
 pub fn read_count(front: &[u8]) -> Result<u32, FileFault>
     ensures exact { AnswersAs is_memory (λ n. n) result (count_in front.now) }
@@ -54,8 +51,7 @@ pub fn read_count(front: &[u8]) -> Result<u32, FileFault>
     Ok(count)
 }
 
-/// The bytes that the group length at the front counts, and the others after them. GroupLength where
-/// `read_count` says so, or there are fewer bytes.
+/// Gives the bytes that the group length at the front counts, and the others after them.
 pub fn split_group(bytes: &[u8]) -> Result<(&[u8], &[u8]), FileFault>
     ensures exact { AnswersAs is_memory (λ x. (x.0.now, x.1.now)) result (after_length bytes.now) }
     ensures memory { WantsNone result }
@@ -68,9 +64,7 @@ pub fn split_group(bytes: &[u8]) -> Result<(&[u8], &[u8]), FileFault>
     Ok(rest.split_at(count))
 }
 
-/// The meta information in the bytes that the group length counts. Meta where they are no data set or a
-/// allocation was refused, then GroupLength where an element is not of group 0002 or is a group length, then
-/// MetaMissing or MetaUid for the first of the three UIDs that is absent or no UID.
+/// Refused in this order: Meta, GroupLength, then MetaMissing or MetaUid for the first UID that fails.
 #[tactic(auto, unfolding(crate::specs::Reading::meta_in))]
 pub fn read_meta(alloc: Global, bytes: &[u8]) -> Result<Meta, FileFault>
     ensures exact { AnswersAs is_memory (λ meta. meta) result (meta_in bytes.now) }
@@ -84,7 +78,6 @@ pub fn read_meta(alloc: Global, bytes: &[u8]) -> Result<Meta, FileFault>
     uids_in(&group)
 }
 
-/// The syntax of the data set that the meta information names. OtherSyntax where no file of it is read.
 pub fn named_syntax(meta: &Meta) -> Result<Syntax, FileFault>
     ensures exact { AnswersAs is_memory (λ syntax. syntax) result (syntax_in meta.now) }
     ensures memory { WantsNone result }
@@ -95,7 +88,6 @@ pub fn named_syntax(meta: &Meta) -> Result<Syntax, FileFault>
     }
 }
 
-/// Are all elements of group 0002, and none a group length?
 fn is_alone(group: &DataSet<'_>) -> bool
     ensures { result ≡ is_alone (set_view group.now) }
 {
@@ -105,14 +97,12 @@ fn is_alone(group: &DataSet<'_>) -> bool
         .all(|element| is_meta_tag(element.tag))
 }
 
-/// Is the tag one of group 0002, and not that of the group length?
 fn is_meta_tag(tag: Tag) -> bool
     ensures { result ≡ is_meta_tag tag }
 {
     tag.group == META_GROUP && tag != GROUP_LENGTH
 }
 
-/// The three UIDs that the elements hold, or the first that is absent or no UID.
 #[tactic(auto, unfolding(crate::specs::Reading::uids_in))]
 fn uids_in(group: &DataSet<'_>) -> Result<Meta, FileFault>
     ensures exact { AnswersAs is_memory (λ meta. meta) result (uids_in (set_view group.now)) }
@@ -128,8 +118,6 @@ fn uids_in(group: &DataSet<'_>) -> Result<Meta, FileFault>
     })
 }
 
-/// The UID that the element with this tag holds. MetaMissing where there is no such element, and MetaUid
-/// where it holds items or its value without padding is no UID.
 #[tactic(auto, unfolding(crate::specs::Reading::uid_at))]
 fn uid_at(tag: Tag, group: &DataSet<'_>) -> Result<Uid, FileFault>
     ensures exact { AnswersAs is_memory (λ uid. uid) result (uid_at tag (set_view group.now)) }

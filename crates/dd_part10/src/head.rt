@@ -1,5 +1,3 @@
-//! The head of a file as the beginning of one.
-
 ghost use Rattle.std.specs.Prelude.{◌≡◌, ℕ, ◌++◌, List, length, Some};
 ghost use Rattle.dd_elem.specs.Uid.{IsUid};
 ghost use Rattle.dd_encoding.specs.Elements.{Elements};
@@ -10,8 +8,7 @@ ghost use Rattle.dd_encoding.specs.declared.meta.Meta.{Meta};
 ghost use Rattle.dd_encoding.specs.declared.syntax.Syntax.{Syntax};
 ghost use Rattle.dd_part10.specs.File.{StartsAbove, IsFile};
 
-/// A head with a data set after it is a file with its meta information and that data set. This
-/// states a law, and does nothing.
+/// States a law, and does nothing: a head with a data set after it is a file with its meta information and that set.
 pub fn head_makes_file()
     ensures { (meta : Meta) (syntax : Syntax) (set : Elements) (text : List ℕ)
         → IsUid meta.class → IsUid meta.instance → IsUid meta.transfer

@@ -1,12 +1,8 @@
-//! DICOM files: the preamble, the prefix `DICM`, group 0002 and the data set (PS3.10 section 7), in ten
-//! transfer syntaxes, eight of which have encapsulated pixel data.
+//! DICOM files (PS3.10 section 7) in the transfer syntaxes of `dd_version`.
 //!
-//! Its one promise: what is read as a file is one, what is one is read, and a refusal names the first
-//! check that the bytes fail. Only where an allocation is refused, while group 0002 or the data set is read
-//! and all before it is right, is the answer lack of memory instead. `read_file` makes the same checks on
-//! the bytes of a reader, and holds nothing of the data set but what was asked for. It allocates for the data
-//! set only where an element that was asked for is there. A head that is written is the head of a file with
-//! its meta information.
+//! Its one promise: what is read as a file is one, what is one is read, and a refusal names the first check that the
+//! bytes fail, or lack of memory. `read_file` makes the same checks on the bytes of a reader, and holds of the data
+//! set only what was asked for. A head that is written is the head of a file with its meta information.
 #![tactic(auto)]
 
 mod fault;

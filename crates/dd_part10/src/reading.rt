@@ -1,5 +1,3 @@
-//! Reading a DICOM file from its bytes.
-
 ghost use Rattle.std.specs.Prelude.{◌≡◌, ◌≢◌, ℕ, ◌<◌, ◌^◌, IfOk, Ok, Err, length};
 ghost use Rattle.dd_grammar.specs.declared.fault.SetFault.TheVariants.{Memory};
 ghost use Rattle.dd_encoding.specs.Elements.{Elements};
@@ -24,28 +22,22 @@ use dd_encoding::{GROUP_AT, META_GROUP, PREAMBLE_LENGTH, PREFIX, Syntax};
 use dd_set::{DataSet, parse};
 use std::alloc::Global;
 
-/// The DICOM file that the bytes are (PS3.10 section 7): 128 bytes of any preamble, `DICM`, the group
-/// length (0002,0000) with at most 65,536, group 0002 in Explicit VR with the UIDs of `Meta`, and a
-/// data set above group 0002 in the transfer syntax that they name. Otherwise the first check that the
-/// bytes fail, which `FileFault` names; or, where an allocation was refused, `Meta` or `Set` with
-/// `SetFault::Memory`, after all checks that come before that one.
+/// Reads a DICOM file (PS3.10 section 7): 128 bytes of any preamble, `DICM`, the group length (0002,0000) of at most
+/// 65,536, group 0002 in Explicit VR with the UIDs of `Meta`, and a data set above group 0002 in the transfer syntax
+/// that they name. Otherwise `FileFault` names the first check that the bytes fail, or lack of memory.
 pub fn parse_file<'a>(alloc: Global, bytes: &'a [u8]) -> Result<DicomFile<'a>, FileFault>
-    // What is answered is a file.
     ensures found { IfOk result (λ f. IsFile bytes.now f.meta (set_view f.set) f.set_at) }
     // A file is answered, unless memory runs out.
     ensures only { (meta : Meta) (set : Elements) (set_at : ℕ) → IsFile bytes.now meta set set_at
         → AnswersAs is_memory file_view result
         (Ok (record { meta = meta; set = set; set_at = set_at })) }
-    // A refusal for other than memory is the first check that fails.
     ensures fault { AnswersAs is_memory file_view result (file_in bytes.now) }
-    // Memory runs out only where it is wanted, after all checks that come before.
     ensures group { result ≡ Err (faults.Meta Memory) → GroupWants bytes.now }
     ensures set { result ≡ Err (faults.Set Memory) → SetWants bytes.now }
 {
     checked_file(alloc, bytes)
 }
 
-/// The file, or the first check that the bytes fail.
 #[tactic(auto, unfolding(crate::specs::Reading::file_in))]
 fn checked_file<'a>(alloc: Global, bytes: &'a [u8]) -> Result<DicomFile<'a>, FileFault>
     ensures exact { AnswersAs is_memory file_view result (file_in bytes.now) }
@@ -65,7 +57,6 @@ fn checked_file<'a>(alloc: Global, bytes: &'a [u8]) -> Result<DicomFile<'a>, Fil
     })
 }
 
-/// What stands after the preamble and the prefix. NotPart10 where they are not there.
 #[tactic(auto, unfolding(crate::specs::Reading::rest_after_prefix))]
 pub fn rest_after_prefix(bytes: &[u8]) -> Result<&[u8], FileFault>
     ensures exact { AnswersAs is_memory (λ rest. rest.now) result (rest_after_prefix bytes.now) }
@@ -81,8 +72,6 @@ pub fn rest_after_prefix(bytes: &[u8]) -> Result<&[u8], FileFault>
     }
 }
 
-/// The data set that follows group 0002. Set where the bytes spell no set or an allocation was refused, and
-/// GroupLength where it begins with group 0002 or a lower one.
 #[tactic(auto, unfolding(crate::specs::Reading::set_in))]
 fn read_set<'a>(alloc: Global, syntax: Syntax, bytes: &'a [u8]) -> Result<DataSet<'a>, FileFault>
     ensures exact { AnswersAs is_memory set_view result (set_in syntax bytes.now) }
@@ -96,7 +85,6 @@ fn read_set<'a>(alloc: Global, syntax: Syntax, bytes: &'a [u8]) -> Result<DataSe
     Ok(set)
 }
 
-/// The tag of the first element.
 fn first_tag(set: &DataSet<'_>) -> Option<Tag>
     ensures { result ≡ first_of (set_view set.now) }
 {
@@ -106,7 +94,6 @@ fn first_tag(set: &DataSet<'_>) -> Option<Tag>
     }
 }
 
-/// May a data set with this first tag follow group 0002?
 pub fn may_follow(first: Option<Tag>) -> bool
     ensures { result ≡ may_follow first }
 {

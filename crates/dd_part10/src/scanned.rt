@@ -1,13 +1,10 @@
-//! A file of which little is kept.
-
 use dd_encoding::Meta;
 use dd_scan::Found;
 
 /// What was read of a DICOM file whose data set was not kept.
 #[derive(Debug, Drop, PartialEq)]
 pub struct Scanned {
-    /// Its meta information.
     pub meta: Meta,
-    /// The wanted elements that its data set has, in the order of their tags.
+    /// The wanted elements of its data set, in the order of tags.
     pub found: Vec<Found>,
 }

@@ -1,9 +1,7 @@
-//! Why no file was read from a reader.
-
 use crate::fault::FileFault;
 use thiserror::Error;
 
-/// Why reading a file from a reader has no answer. The first two come before every check of the bytes.
+/// Why no file was read from a reader. The first two come before every check of the bytes.
 #[derive(Clone, Copy, Debug, PartialEq, Eq, Error)]
 pub enum StreamFault {
     /// The reader failed.

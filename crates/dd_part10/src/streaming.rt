@@ -1,5 +1,3 @@
-//! A file read from a reader.
-
 ghost use Rattle.std.specs.Prelude.{◌≡◌, ◌<◌, ◌^◌, [], None};
 ghost use Rattle.dd_part10.specs.Streaming.{IsFileAnswer};
 ghost use Rattle.dd_stream.specs.Reads.{ReadsUpTo};
@@ -11,15 +9,12 @@ use dd_elem::{Read, Tag};
 use dd_stream::{End, Stream, finish};
 use std::alloc::Global;
 
-/// What a scan finds in the DICOM file that the bytes of a reader are, to its end (PS3.10 section 7): its
-/// meta information, and the wanted elements of its data set, each once and in the order of tags. Of
-/// the bytes of a wanted element it keeps the first 1,024 without the padding, and of the data set
-/// nothing else.
+/// Reads a DICOM file from a reader (PS3.10 section 7). Keeps its meta information, and of the data set the wanted
+/// elements alone, each once: of their bytes the first 1,024 without padding.
 ///
-/// 14 Read exactly where the reader fails, and 15 TooLong exactly where it gives `limit` bytes and one
-/// more. Else the refusals are those of `parse_file` on what the reader gave, or lack of memory: for
-/// group 0002 where `parse_file` may want some, and for the data set where all before it is right and a
-/// wanted element is there. It makes at most `limit` + 1 reads, and reads on to the end before it answers.
+/// 14 Read if the reader fails, and 15 TooLong if it gives more than `limit` bytes. Otherwise the refusals are those
+/// of `parse_file`, but the data set needs memory only where a wanted element is there. It reads on to the end before
+/// it answers, in at most `limit` + 1 reads.
 pub fn read_file<R: Read>(
     alloc: Global,
     reader: &mut R,
@@ -32,7 +27,6 @@ pub fn read_file<R: Read>(
     read_stream(alloc, &mut stream, wanted)
 }
 
-/// The same over a stream from which nothing was read.
 fn read_stream<R: Read>(
     alloc: Global,
     stream: &mut Stream<'_, R>,

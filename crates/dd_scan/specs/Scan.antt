@@ -1,4 +1,4 @@
--- What a scan tells of a data set: its first tag, and of each wanted element of the set itself what its value is (PS3.5
+-- What a scan says of a data set: its first tag, and of each wanted element of the set itself what its value is (PS3.5
 -- sections 6.2 and 7.1).
 use Rattle.std.specs.Prelude.{◌≡◌, ℕ, zero, suc, ◌+◌, Bool, IsTrue, List, [], ◌∷◌, length, take, map}
 use Rattle.std.specs.Prelude.{filter, Option, Some, None, Result, Ok, Err}
@@ -97,12 +97,12 @@ found_summary (values.Bytes front length) = cleaned front.items length
 abbrev pub found_hit : Found → Hit
 found_hit f = record { tag = f.tag; summary = found_summary f.value }
 
--- a scan tells this set
+-- a scan is of this set
 pub record IsScan (wanted : List Tag) (scan : Scan) (set : Elements) : Type 0 where
   pub first : scan.first ≡ first_of set
   pub found : map found_hit scan.found.items ≡ hits_of wanted set
 
--- a returned scan tells the set that reading the bytes gives; lack of memory comes only where a wanted element is there
+-- a returned scan is of the set that reading the bytes gives; lack of memory comes only where a wanted element is there
 abbrev pub ScanGives : Syntax → List Tag → Result Scan SetFault → List ℕ → Type 0
 ScanGives syntax wanted (Ok scan) given = (set : Elements) × (read_all syntax given ≡ Ok set) × IsScan wanted scan set
 ScanGives syntax wanted (Err e) given =

@@ -15,7 +15,7 @@ use Rattle.dd_scan.specs.Scan.{IsScan, HasWanted}
 use Rattle.dd_encoding.specs.Spelling.{Spells}
 use Rattle.dd_stream.specs.Streams.{Ends}
 
--- the bytes spell a set, and the scan tells it
+-- the bytes spell a set, and the scan is of it
 pub record IsScanOf (syntax : Syntax) (wanted : List Tag) (given : List ℕ) (scan : Scan) : Type 0 where
   pub set : Elements
   pub spelled : Spells syntax set given

@@ -1,5 +1,3 @@
-//! Values of a feed without their padding.
-
 ghost use Rattle.std.specs.Prelude.{◌≡◌, ◌≤◌, ◌<◌, ◌+◌, ◌^◌, ◌++◌, ℕ, List, length, IfSome, IsNone};
 ghost use Rattle.dd_elem.specs.Clean.{clean_of};
 ghost use Rattle.dd_encoding.specs.Elements.{bytes as value};
@@ -15,14 +13,12 @@ use dd_grammar::{SetFault, leaves_fewer, left_after};
 use dd_stream::{Feed, fill};
 use std::alloc::Global;
 
-/// How many bytes of a value are kept: as many as a key has at most.
 const KEPT: usize = Key::MAX_LEN;
 
-/// How many bytes a short value has at most: room for as many is made for each value, and for most
-/// values this is enough.
+/// Values up to this size, as most are, are read into a small buffer.
 const SHORT: usize = 64;
 
-/// The most bytes of a value that are looked at together after those.
+/// The most bytes that are read together after the kept ones.
 const PIECE: usize = 256;
 
 /// Takes a value of n bytes, and keeps its front without its padding.
@@ -46,7 +42,6 @@ pub fn take_cleaned<F: Feed>(
     }
 }
 
-/// Takes a value of as many bytes as there is room for, and keeps it without its padding.
 fn take_short<F: Feed>(
     alloc: Global,
     at: &mut Cursor<'_, F>,
@@ -66,7 +61,6 @@ fn take_short<F: Feed>(
     Ok(FoundValue::Bytes { front, length })
 }
 
-/// Takes a value of n bytes, and keeps its front without its padding.
 fn take_long<F: Feed>(alloc: Global, at: &mut Cursor<'_, F>, n: u32) -> Result<FoundValue, SetFault>
     ensures same { at.new.feed.ghost_name ≡ at.old.feed.ghost_name }
     ensures found { Advances F.Feed at.old at.new
@@ -95,8 +89,8 @@ fn take_long<F: Feed>(alloc: Global, at: &mut Cursor<'_, F>, n: u32) -> Result<F
     Ok(FoundValue::Bytes { front, length })
 }
 
-/// Skips the bytes of a value after the first `passed` of n, and answers how many of all stay without
-/// the padding, where `cleaned` of the first do. None where the feed is over before.
+/// Skips a value of n bytes after the first `passed`, and gives its length without padding; `cleaned` is the length
+/// of that front without padding. None where the feed is over before.
 fn cleaned_length<F: Feed>(feed: &mut F, mut cleaned: u64, mut passed: u64, n: u64) -> Option<u64>
     requires { passed ≤ n }
     ensures moved { (taken : List ℕ) × F.moves feed.old feed.new taken × (passed + length taken ≤ n)
@@ -121,8 +115,7 @@ fn cleaned_length<F: Feed>(feed: &mut F, mut cleaned: u64, mut passed: u64, n: u
     Some(cleaned)
 }
 
-/// How many bytes stay without the padding of the first `passed`, of which `cleaned` stay, and this
-/// piece after them.
+/// Gives the length without padding after appending this piece; `cleaned` is that length before.
 fn cleaned_with(cleaned: u64, passed: u64, piece: &[u8]) -> u64
     requires { passed + length piece.now < 2 ^ 64 }
     ensures { (front : List ℕ) → length front ≡ passed → cleaned ≡ length (clean_of front)

@@ -1,5 +1,3 @@
-//! Headers and bytes taken from a feed.
-
 ghost use Rattle.std.specs.Prelude.{◌≡◌, ◌≢◌, ◌+◌, ◌≤◌, ◌<◌, length, IfOk, OnSome, Some, None, Err, option_map};
 ghost use Rattle.dd_grammar.specs.declared.fault.SetFault.TheVariants.{Memory};
 ghost use Rattle.dd_encoding.specs.declared.syntax.Length.TheVariants.{Defined};
@@ -17,7 +15,6 @@ use dd_stream::{Feed, fill, skip};
 /// A place in the bytes of a feed.
 #[derive(Drop)]
 pub struct Cursor<'a, F: Feed> {
-    /// The feed, which gives the bytes from here on.
     pub feed: &'a mut F,
     /// How many bytes the nearest enclosing length leaves, where there is one.
     pub left: Option<u64>,
@@ -64,7 +61,6 @@ impl<F: Feed> Cursor<'_, F> {
         Ok(())
     }
 
-    /// Takes the eight bytes that a header begins with.
     fn eight(&mut self) -> Result<[u8; HEADER_SIZE], SetFault>
         ensures same { self.new.feed.ghost_name ≡ self.old.feed.ghost_name }
         ensures found { Advances F.Feed self.old self.new
@@ -78,7 +74,6 @@ impl<F: Feed> Cursor<'_, F> {
         Ok(head)
     }
 
-    /// Takes the eight bytes that a header begins with, or None at the end of the feed.
     fn eight_or_end(&mut self) -> Result<Option<[u8; HEADER_SIZE]>, SetFault>
         requires { self.old.left ≡ None }
         ensures same { self.new.feed.ghost_name ≡ self.old.feed.ghost_name }
@@ -100,8 +95,7 @@ impl<F: Feed> Cursor<'_, F> {
         Ok(Some(head))
     }
 
-    /// Takes the eight bytes that a header begins with, or None where a set or a sequence of this form
-    /// ends by its length.
+    /// Gives None where a set or a sequence of this form ends by its length.
     fn head(&mut self, form: Length) -> Result<Option<[u8; HEADER_SIZE]>, SetFault>
         ensures same { self.new.feed.ghost_name ≡ self.old.feed.ghost_name }
         ensures found { Advances F.Feed self.old self.new
@@ -118,7 +112,6 @@ impl<F: Feed> Cursor<'_, F> {
         }
     }
 
-    /// Takes the length of a long header, after its first eight bytes.
     fn long(&mut self) -> Result<u32, SetFault>
         ensures same { self.new.feed.ghost_name ≡ self.old.feed.ghost_name }
         ensures found { Advances F.Feed self.old self.new
@@ -131,8 +124,7 @@ impl<F: Feed> Cursor<'_, F> {
         Ok(u32::from_le_bytes(length))
     }
 
-    /// Takes the next header of a set of this form, or None at the end of the set. Tags below the
-    /// number `low` may not follow.
+    /// Takes the next header of a set of this form, or None at its end. Refuses a tag whose number is below `low`.
     pub fn front(
         &mut self,
         syntax: Syntax,
@@ -163,8 +155,7 @@ impl<F: Feed> Cursor<'_, F> {
         }
     }
 
-    /// Takes the length of the next item of a sequence of this form, or None at the end of the
-    /// sequence.
+    /// Takes the length of the next item of a sequence of this form, or None at its end.
     pub fn item_front(&mut self, form: Length) -> Result<Option<u32>, SetFault>
         ensures same { self.new.feed.ghost_name ≡ self.old.feed.ghost_name }
         ensures found { Advances F.Feed self.old self.new

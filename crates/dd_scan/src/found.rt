@@ -1,5 +1,3 @@
-//! What a scan finds.
-
 ghost use Rattle.std.specs.Prelude.{◌≡◌, find};
 ghost use Rattle.std.specs.Option.{option_copied};
 ghost use Rattle.dd_grammar.specs.Lists.{same_tag};
@@ -11,20 +9,18 @@ use dd_elem::Tag;
 pub struct Scan {
     /// The tag of its first element, or None where the set is empty.
     pub first: Option<Tag>,
-    /// The wanted elements that it has, in the order of their tags.
+    /// The wanted elements, in the order of tags.
     pub found: Vec<Found>,
 }
 
 /// A wanted element.
 #[derive(Debug, PartialEq)]
 pub struct Found {
-    /// Its tag.
     pub tag: Tag,
-    /// What is known of its value.
     pub value: FoundValue,
 }
 
-// By hand, so that letting go of it is one call.
+// By hand, so that a drop is one call.
 impl Drop for Found {
     fn drop(self) {
         let Found {
@@ -41,7 +37,7 @@ pub enum FoundValue {
     Items,
     /// The element is pixel data in fragments.
     Fragments,
-    /// Of bytes without their padding (PS3.5 section 6.2) the front, and how many they are.
+    /// The value is bytes: this is what they are without padding (PS3.5 section 6.2).
     Bytes {
         /// The first 1,024 of them.
         front: Vec<u8>,
@@ -50,7 +46,6 @@ pub enum FoundValue {
     },
 }
 
-/// Finds the first of these elements with this tag.
 pub(crate) fn find_in(found: &[Found], tag: Tag) -> Option<&Found>
     ensures { option_copied result ≡ find (λ found. same_tag found.tag tag) found.now }
 {

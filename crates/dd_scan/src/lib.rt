@@ -1,9 +1,9 @@
-//! Data sets read from a stream: their elements are taken or skipped with every check of the grammar, and
-//! of the wanted ones a summary is kept (PS3.5 sections 6.2 and 7, annex A).
+//! Data sets read from a stream with every check of the grammar, of which a summary of the wanted elements is kept
+//! (PS3.5 sections 6.2 and 7, annex A).
 //!
-//! Its one promise: a scan answers what reading all that a reader gave answers, of the same set or by
-//! the same first check that fails, and holds nothing of the bytes but what was asked for. It wants
-//! memory only where an element that was asked for is there.
+//! Its one promise: a scan answers what reading all that a reader gave answers, by the same set or the same first
+//! check that fails, and holds only what was asked for. It needs memory only where an element that was asked for is
+//! there.
 #![tactic(auto)]
 
 mod cleaning;

@@ -1,5 +1,3 @@
-//! Why a scan found nothing.
-
 use dd_grammar::SetFault;
 use thiserror::Error;
 

@@ -1,5 +1,3 @@
-//! A data set scanned from a reader.
-
 ghost use Rattle.std.specs.Prelude.{◌≡◌, ◌<◌, ◌^◌, [], None};
 ghost use Rattle.dd_scan.specs.Scanning.{IsScanAnswer};
 ghost use Rattle.dd_stream.specs.Reads.{ReadsUpTo};
@@ -12,15 +10,12 @@ use dd_encoding::Syntax;
 use dd_stream::{End, Stream, finish};
 use std::alloc::Global;
 
-/// What a scan finds in the data set that the bytes of a reader spell, to its end, in this syntax (PS3.5
-/// section 7): its first tag, and the wanted elements of the set itself, each once and in the order of
-/// tags. Of the bytes of a wanted element it keeps the first 1,024 without the padding, and of all else
-/// nothing.
+/// Scans a data set from a reader (PS3.5 section 7). Keeps its first tag, and the wanted elements of the set itself,
+/// each once: of their bytes the first 1,024 without padding.
 ///
-/// 14 Read exactly where the reader fails, and 15 TooLong exactly where it gives `limit` bytes and one
-/// more. Else the refusals are those of `parse` on what the reader gave, or lack of memory, where the
-/// reader gave a wanted element of the set itself, whole, and no check fails before it. It makes at most
-/// `limit` + 1 reads, and reads on to the end before it answers.
+/// 14 Read if the reader fails, and 15 TooLong if it gives more than `limit` bytes. Otherwise the refusals are those
+/// of `parse`, but memory is needed only after a wanted element that was read whole. It reads on to the end before it
+/// answers, in at most `limit` + 1 reads.
 pub fn scan<R: Read>(
     alloc: Global,
     syntax: Syntax,
@@ -35,7 +30,6 @@ pub fn scan<R: Read>(
     scan_stream(alloc, syntax, &mut stream, wanted)
 }
 
-/// The same over a stream from which nothing was read.
 fn scan_stream<R: Read>(
     alloc: Global,
     syntax: Syntax,

@@ -44,7 +44,6 @@ pub fn skip_content<F: Feed>(
     }
 }
 
-/// Skips the fragments of a list, to its end.
 fn skip_fragments<F: Feed>(at: &mut Cursor<'_, F>) -> Result<(), SetFault>
     ensures same { at.new.feed.ghost_name ≡ at.old.feed.ghost_name }
     ensures found { Advances F.Feed at.old at.new
@@ -60,7 +59,7 @@ fn skip_fragments<F: Feed>(at: &mut Cursor<'_, F>) -> Result<(), SetFault>
     }
 }
 
-/// Skips the next fragment of a list, and answers whether there was one.
+/// Skips the next fragment, and says whether there was one.
 fn skip_fragment<F: Feed>(at: &mut Cursor<'_, F>) -> Result<bool, SetFault>
     ensures same { at.new.feed.ghost_name ≡ at.old.feed.ghost_name }
     ensures found { Advances F.Feed at.old at.new
@@ -78,7 +77,6 @@ fn skip_fragment<F: Feed>(at: &mut Cursor<'_, F>) -> Result<bool, SetFault>
     Ok(true)
 }
 
-/// Skips the elements of a set, to its end.
 #[cycle(skipping)]
 fn skip_set<F: Feed>(
     at: &mut Cursor<'_, F>,
@@ -102,7 +100,6 @@ fn skip_set<F: Feed>(
     }
 }
 
-/// Skips the items of a sequence, to its end.
 #[cycle(skipping)]
 fn skip_items<F: Feed>(
     at: &mut Cursor<'_, F>,

@@ -1,5 +1,3 @@
-//! Summaries of values of bytes.
-
 ghost use Rattle.std.specs.Prelude.{◌≡◌, Some};
 ghost use Rattle.dd_scan.specs.Scan.{summary_of_value};
 ghost use Rattle.dd_scan.specs.Summaries.{summary_view, summary_in};
@@ -17,7 +15,7 @@ pub struct Summary<'a> {
 }
 
 impl<'a> Summary<'a> {
-    /// Gives the summary of a value of these bytes.
+    /// Makes the summary of a value of these bytes.
     pub fn of(value: &'a [u8]) -> Summary<'a>
         ensures { summary_view (Some result) ≡ summary_of_value (Some value.now) }
     {
@@ -27,8 +25,8 @@ impl<'a> Summary<'a> {
         }
     }
 
-    /// Gives the summary of the value of the first of these elements with this tag: that of no bytes where
-    /// none has the tag, and None where the value is a sequence or fragments.
+    /// Gives the summary of the first of these elements with this tag, or of no bytes where none has it. None where
+    /// its value is a sequence or fragments.
     pub fn find(found: &'a [Found], tag: Tag) -> Option<Summary<'a>>
         ensures { summary_view result ≡ summary_in tag found.now }
     {

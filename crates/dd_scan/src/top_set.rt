@@ -1,5 +1,3 @@
-//! A data set of a feed, of which only summaries of wanted elements are kept.
-
 ghost use Rattle.std.specs.Prelude.{◌≡◌, ◌≤◌, None};
 ghost use Rattle.dd_stream.specs.Feeds.{Scans};
 ghost use Rattle.dd_encoding.specs.Spelling.{max_levels};
@@ -18,18 +16,14 @@ use dd_grammar::{Header, MAX_LEVELS, SetFault, Sort, low_after, sort_of};
 use dd_stream::Feed;
 use std::alloc::Global;
 
-/// Takes the data set that the bytes of a feed spell, all that are still to come, with every check of
-/// `parse` in its order. Keeps its first tag, and of each wanted element of the set itself whether it
-/// is a sequence or fragments, or else the front of its value without the padding. Wants memory only
-/// after a wanted element that was read whole.
+/// Takes a data set from a feed, to its end, with every check of `parse` in its order. Keeps its first tag and the
+/// wanted elements of the set itself. Needs memory only after a wanted element that was read whole.
 pub fn take_set<F: Feed>(
     alloc: Global,
     feed: &mut F,
     syntax: Syntax,
     wanted: &[Tag],
 ) -> Result<Scan, SetFault>
-    // Whatever was still to come, this is its scan, or its first check that fails; or memory ran
-    // out where a wanted element was read.
     ensures found { Scans F.moves F.tells feed.old feed.new
         (λ bytes rest. ScanGives syntax wanted.now result bytes) }
     ensures fewer { F.most feed.new ≤ F.most feed.old }
@@ -38,7 +32,6 @@ pub fn take_set<F: Feed>(
     take_elements(alloc, &mut at, syntax, wanted)
 }
 
-/// Takes the same set at a cursor that no length encloses.
 fn take_elements<F: Feed>(
     alloc: Global,
     at: &mut Cursor<'_, F>,
@@ -72,14 +65,12 @@ fn take_elements<F: Feed>(
     }
 }
 
-/// Whether the tag is among these.
 fn is_wanted(wanted: &[Tag], tag: Tag) -> bool
     ensures { result ≡ is_wanted wanted.now tag }
 {
     wanted.iter().any(|other| *other == tag)
 }
 
-/// Takes the value after a header, and keeps its summary.
 fn take_wanted<F: Feed>(
     alloc: Global,
     at: &mut Cursor<'_, F>,
@@ -102,7 +93,6 @@ fn take_wanted<F: Feed>(
     Ok(value)
 }
 
-/// The summary of a value of this sort, which is not bytes.
 fn found_of_sort(sort: Sort) -> FoundValue
     ensures { found_summary result ≡ summary_of_sort sort }
 {

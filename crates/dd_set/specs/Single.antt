@@ -14,7 +14,7 @@ use Rattle.dd_encoding.specs.Spelling.{closed, delimiter_group, AreElements, IsC
 abbrev pub element_text : Element → List ℕ
 element_text e = tag_text e.tag ++ content_text e.vr e.content
 
--- an item: its tag, a length and its data set, with the mark of its end where it wants one
+-- an item: its tag, a length and its data set, with the mark of its end where its form requires one
 abbrev pub item_text : Item → List ℕ
 item_text p = item_tag_text ++ (little_bytes 4 (length_of p.length (elements_text p.set))
     ++ closed p.length item_end_text (elements_text p.set))
@@ -30,7 +30,7 @@ abbrev pub IsItem : Syntax → ℕ → Item → Type 0
 IsItem syntax zero p = ⊥
 IsItem syntax (suc levels) p = AreElements syntax levels 0 p.set × FitsLong p.length (elements_text p.set)
 
--- the mark of an end, where the form wants it
+-- the mark of an end, where the form requires it
 abbrev pub mark_text : Length → List ℕ → List ℕ
 mark_text Defined mark = []
 mark_text Undefined mark = mark

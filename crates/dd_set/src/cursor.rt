@@ -20,7 +20,6 @@ pub struct Cursor<'a> {
 }
 
 impl<'a> Cursor<'a> {
-    /// Whether a set or a sequence that begins here and ends by its length has no byte left.
     fn is_over(self, form: Length) -> bool
         ensures { result ≡ is_over form (at_view self.entry) }
     {
@@ -30,7 +29,7 @@ impl<'a> Cursor<'a> {
         }
     }
 
-    /// The same place, with n bytes left.
+    /// Makes the same place, with n bytes left.
     pub fn within(self, n: u64) -> Cursor<'a>
         ensures { result ≡ record self.entry { left = Some n } }
     {
@@ -40,7 +39,7 @@ impl<'a> Cursor<'a> {
         }
     }
 
-    /// The place after the n bytes from here, which end where `inner` stands.
+    /// Makes the place after the n bytes from here, which end where `inner` stands.
     pub fn after(self, n: u64, inner: Cursor<'a>) -> Cursor<'a>
         ensures { at_view result
             ≡ record { left = left_after self.entry.left n; bytes = inner.entry.rest.now } }
@@ -81,7 +80,6 @@ impl<'a> Cursor<'a> {
         Ok((length, at))
     }
 
-    /// Takes the eight bytes that a header begins with.
     fn head(self) -> Result<([u8; HEADER_SIZE], Cursor<'a>), SetFault>
         ensures exact { take_at 8 (at_view self.entry) ≡ stepped (λ head. head) result }
         ensures shorter { IfOk result (λ x. length x.1.rest.now < length self.entry.rest.now) }

@@ -9,7 +9,7 @@ use crate::set::{DataSet, Element, Value};
 use dd_elem::{Tag, clean};
 
 impl<'a> DataSet<'a> {
-    /// Finds the first element with this tag. None where no element has it.
+    /// Finds the first element with this tag.
     pub fn find(&self, tag: Tag) -> Option<&Element<'a>>
         ensures { option_map element_view (option_copied result) ≡ find_in tag (set_view self.now) }
     {
@@ -17,8 +17,8 @@ impl<'a> DataSet<'a> {
     }
 }
 
-/// The value of the first element with this tag, without its padding: no bytes where there is no such
-/// element, and None where it is a sequence or has fragments.
+/// Gives the value of the first element with this tag, without its padding: no bytes where there is no such element,
+/// and None where it is a sequence or has fragments.
 pub fn value_at<'a>(set: &DataSet<'a>, tag: Tag) -> Option<&'a [u8]>
     ensures { option_copied result ≡ value_at tag (set_view set.now) }
 {

@@ -14,8 +14,8 @@ use dd_encoding::Length;
 use dd_grammar::{SetFault, fragment_length};
 use std::alloc::Global;
 
-/// Reads the fragments of a list, to its end. It walks the list twice, so that it takes memory once, and
-/// only for a list that is whole.
+/// Reads the fragments of a list, to its end. Walks the list twice, so that it takes memory once, and only for a list
+/// that is whole.
 pub fn fragments<'a>(alloc: Global, at: Cursor<'a>) -> Result<(Vec<&'a [u8]>, Cursor<'a>), SetFault>
     ensures exact { AnswersAs is_memory (λ x. (pieces x.0.items, at_view x.1)) result
         (fragments_here (at_view at.entry)) }
@@ -36,7 +36,6 @@ pub fn fragments<'a>(alloc: Global, at: Cursor<'a>) -> Result<(Vec<&'a [u8]>, Cu
     }
 }
 
-/// Counts the fragments of a list, to its end.
 fn count_fragments(at: Cursor<'_>) -> Result<usize, SetFault>
     ensures exact { Counts result (fragments_here (at_view at.entry)) }
     ensures memory { result ≢ Err Memory }
@@ -53,7 +52,6 @@ fn count_fragments(at: Cursor<'_>) -> Result<usize, SetFault>
     }
 }
 
-/// Reads the next fragment of a list, or None at its end.
 #[tactic(auto, unfolding(dd_grammar::specs::Reading::fragment_at))]
 fn fragment<'a>(at: Cursor<'a>) -> Result<(Option<&'a [u8]>, Cursor<'a>), SetFault>
     ensures exact { fragment_at (at_view at.entry) ≡ stepped (option_map (λ f. f.now)) result }

@@ -20,7 +20,6 @@ use dd_encoding::{Length, Syntax};
 use dd_grammar::{Header, MAX_LEVELS, Reach, SetFault, Sort, low_after, reach_of, sort_of};
 use std::alloc::Global;
 
-/// The value after a header.
 #[cycle(parser)]
 fn content<'a>(
     alloc: Global,
@@ -61,7 +60,6 @@ fn content<'a>(
     }
 }
 
-/// The elements of a set, to its end.
 #[cycle(parser)]
 fn set<'a>(
     alloc: Global,
@@ -92,7 +90,6 @@ fn set<'a>(
     }
 }
 
-/// The next item of a sequence, or None at its end.
 #[cycle(parser)]
 fn item<'a>(
     alloc: Global,
@@ -117,7 +114,6 @@ fn item<'a>(
     Ok((Some(item), at))
 }
 
-/// The items of a sequence, to its end.
 #[cycle(parser)]
 fn sequence<'a>(
     alloc: Global,
@@ -144,8 +140,7 @@ fn sequence<'a>(
     }
 }
 
-/// An item after its tag, with the length that its header gives, where `levels` levels may still
-/// nest.
+/// Reads an item after its tag, of length `n`, where `levels` levels may still nest.
 #[cycle(parser)]
 fn part<'a>(
     alloc: Global,
@@ -178,7 +173,6 @@ fn part<'a>(
     }
 }
 
-/// The whole of the bytes as one set.
 #[tactic(auto, unfolding(dd_grammar::specs::Reading::read_all))]
 fn whole_set<'a>(alloc: Global, syntax: Syntax, bytes: &'a [u8]) -> Result<DataSet<'a>, SetFault>
     ensures exact { AnswersAs is_memory set_view result (read_all syntax bytes.now) }
@@ -192,18 +186,14 @@ fn whole_set<'a>(alloc: Global, syntax: Syntax, bytes: &'a [u8]) -> Result<DataS
     Ok(set)
 }
 
-/// The data set that the bytes spell, all of them, in this syntax (PS3.5 section 7). Its values are
-/// slices of the bytes. Refused by the first check that the bytes fail, or by Memory where an allocation
-/// was refused, after the first item or element that was read whole.
+/// Reads the data set that all of the bytes spell in this syntax (PS3.5 section 7). Its values are slices of the
+/// bytes. Refused by the first check that the bytes fail, or by Memory where an allocation was refused, after the
+/// first item or element that was read whole.
 pub fn parse<'a>(alloc: Global, syntax: Syntax, bytes: &'a [u8]) -> Result<DataSet<'a>, SetFault>
-    // What is answered is spelled so, each byte of it.
     ensures found { IfOk result (λ set. Spells syntax (set_view set) bytes.now) }
-    // What is spelled so is answered, unless memory runs out.
     ensures only { (set : Elements) → Spells syntax set bytes.now
         → AnswersAs is_memory set_view result (Ok set) }
-    // A refusal is the first check that fails, unless memory ran out.
     ensures exact { AnswersAs is_memory set_view result (read_all syntax bytes.now) }
-    // Memory runs out only where it is wanted: after the first item or element.
     ensures memory { result ≡ Err Memory → WantsMemory syntax bytes.now }
 {
     whole_set(alloc, syntax, bytes)

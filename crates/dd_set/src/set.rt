@@ -8,7 +8,6 @@ use dd_encoding::Length;
 #[cycle(data_set)]
 #[derive(Debug, Drop, PartialEq)]
 pub struct DataSet<'a> {
-    /// The elements.
     pub elements: Vec<Element<'a>>,
 }
 
@@ -16,11 +15,9 @@ pub struct DataSet<'a> {
 #[cycle(data_set)]
 #[derive(Debug, Drop, PartialEq)]
 pub struct Element<'a> {
-    /// Its tag.
     pub tag: Tag,
     /// Its value representation: there in Explicit VR alone.
     pub vr: Option<Vr>,
-    /// Its value.
     pub value: Value<'a>,
 }
 
@@ -34,7 +31,6 @@ pub enum Value<'a> {
     Items {
         /// What ends it: its length, or a delimiter.
         length: Length,
-        /// Its items.
         items: Vec<Item<'a>>,
     },
     /// The fragments of encapsulated pixel data, the offset table first (PS3.5 annex A.4).
@@ -47,6 +43,5 @@ pub enum Value<'a> {
 pub struct Item<'a> {
     /// What ends it: its length, or a delimiter.
     pub length: Length,
-    /// What it holds.
     pub set: DataSet<'a>,
 }

@@ -20,10 +20,9 @@ use dd_grammar::{
 impl DataSet<'_> {
     ghost use Rattle.dd_encoding.specs.Spelling.{Spells};
 
-    /// How many bytes spell the set, and None where none do: where tags do not rise, a value
-    /// representation is wanting or stands where none may, a length is odd or has no room in its
-    /// header, items nest deeper than 32 levels, or there would be 2^64 bytes or more (PS3.5
-    /// sections 7.1 and 7.5).
+    /// Counts the bytes that spell the set. None where tags do not rise, a value representation is missing or stands
+    /// where none may, a length is odd or has no room in its header, items nest deeper than 32 levels, or there would
+    /// be 2^64 bytes or more (PS3.5 sections 7.1 and 7.5).
     pub fn size(&self, syntax: Syntax) -> Option<u64>
         ensures { let text = elements_text (set_view self.now)
             in SomeIff result (Spells syntax (set_view self.now) text) (length text) }
@@ -32,7 +31,7 @@ impl DataSet<'_> {
     }
 }
 
-/// The size of a data set, below which `levels` levels may nest.
+/// Counts the bytes of a data set, below which `levels` levels may nest.
 #[cycle(sizes)]
 pub fn set_size(set: &DataSet<'_>, syntax: Syntax, levels: u32) -> Option<u64>
     ensures { let text = elements_text (set_view set.now)
@@ -50,7 +49,7 @@ pub fn set_size(set: &DataSet<'_>, syntax: Syntax, levels: u32) -> Option<u64>
     Some(total)
 }
 
-/// The size of an element whose tag is not below the number `low`.
+/// Counts the bytes of an element whose tag is not below the number `low`.
 #[cycle(sizes)]
 pub fn element_size(element: &Element<'_>, syntax: Syntax, levels: u32, low: u64) -> Option<u64>
     ensures { let text = element_text (element_view element.now)
@@ -69,7 +68,6 @@ pub fn element_size(element: &Element<'_>, syntax: Syntax, levels: u32, low: u64
     size.checked_add(TAG_SIZE as u64)
 }
 
-/// The size of a value with what its header has after the tag.
 #[cycle(sizes)]
 fn value_size(value: &Value<'_>, vr: Option<Vr>, syntax: Syntax, levels: u32) -> Option<u64>
     ensures { let text = content_text vr (value_view value.now)
@@ -94,7 +92,6 @@ fn value_size(value: &Value<'_>, vr: Option<Vr>, syntax: Syntax, levels: u32) ->
     }
 }
 
-/// Whether an element with this tag may have this value: fragments only where it is pixel data.
 fn may_have(tag: Tag, value: &Value<'_>) -> bool
     ensures { IsTrue result ↔ MayHave tag (value_view value.now) }
 {
@@ -105,7 +102,6 @@ fn may_have(tag: Tag, value: &Value<'_>) -> bool
     }
 }
 
-/// The size of fragments.
 fn fragments_size(fragments: &[&[u8]]) -> Option<u64>
     ensures { let text = fragments_text (pieces fragments.now)
         in SomeIff result
@@ -120,7 +116,6 @@ fn fragments_size(fragments: &[&[u8]]) -> Option<u64>
     Some(total)
 }
 
-/// The size of a fragment.
 fn fragment_size(fragment: &[u8]) -> Option<u64>
     ensures { SomeIff result ((length fragment.now % 2 ≡ 0)
         × (length fragment.now < undefined_length))
@@ -133,7 +128,6 @@ fn fragment_size(fragment: &[u8]) -> Option<u64>
     Some(PLAIN_SIZE + size)
 }
 
-/// The size of a value that is bytes with what its header has after the tag.
 fn bytes_size(value: &[u8], vr: Option<Vr>, syntax: Syntax) -> Option<u64>
     ensures { let text = content_text vr (bytes value.now)
         in (levels : ℕ) → SomeIff result
@@ -147,7 +141,7 @@ fn bytes_size(value: &[u8], vr: Option<Vr>, syntax: Syntax) -> Option<u64>
     Some(shape_size(vr) + size)
 }
 
-/// The size of the items of a sequence, where `levels` levels may nest, theirs included.
+/// Counts the bytes of the items of a sequence, where `levels` levels may nest, theirs included.
 #[cycle(sizes)]
 pub fn items_size(items: &[Item<'_>], syntax: Syntax, levels: u32) -> Option<u64>
     ensures { let text = items_text (items_view items.now)
@@ -163,7 +157,7 @@ pub fn items_size(items: &[Item<'_>], syntax: Syntax, levels: u32) -> Option<u64
     Some(total)
 }
 
-/// The size of an item, where `levels` levels may nest, itself included.
+/// Counts the bytes of an item, where `levels` levels may nest, itself included.
 #[cycle(sizes)]
 pub fn item_size(item: &Item<'_>, syntax: Syntax, levels: u32) -> Option<u64>
     ensures { let text = item_text (item_view item.now)
@@ -176,8 +170,7 @@ pub fn item_size(item: &Item<'_>, syntax: Syntax, levels: u32) -> Option<u64>
     closed_size(PLAIN_SIZE, item.length, size)
 }
 
-/// The size of the contents of an item or a sequence with `front` bytes before them and the mark of
-/// their end after them, where they want one.
+/// Adds `front` bytes before the contents, and the mark of their end where the form requires one.
 fn closed_size(front: u64, form: Length, size: u64) -> Option<u64>
     requires { front ≤ 8 }
     ensures { (text mark : List ℕ) → length text ≡ size → length mark ≡ 8

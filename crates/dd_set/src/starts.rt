@@ -19,10 +19,9 @@ impl DataSet<'_> {
     ghost use Rattle.dd_encoding.specs.Spelling.{Spells};
     ghost use Rattle.dd_set.specs.Views.{set_view};
 
-    /// The places of the Item tags of the items of the element with this tag, in bytes from the
-    /// first byte that spells the set (PS3.5 section 7.5). None where nothing spells the set, where
-    /// no element has the tag and where its value is no sequence. Memory where an allocation is refused,
-    /// and so only where there is an item.
+    /// Lists the places of the Item tags of the items of the element with this tag, in bytes from the first byte that
+    /// spells the set (PS3.5 section 7.5). None where nothing spells the set, where no element has the tag and where
+    /// its value is no sequence. Memory where an allocation is refused, and so only where there is an item.
     pub fn item_starts(
         &self,
         alloc: Global,
@@ -54,7 +53,7 @@ impl DataSet<'_> {
     }
 }
 
-/// The places of the items of an element after `at` bytes, or None where its value is no sequence.
+/// None where the value is no sequence.
 fn starts_of(
     alloc: Global,
     element: &Element<'_>,
@@ -81,7 +80,6 @@ fn starts_of(
     }
 }
 
-/// The places of items after `first` bytes, or None where nothing spells them.
 fn items_starts(
     alloc: Global,
     items: &[Item<'_>],

@@ -19,9 +19,8 @@ use dd_encoding::{ITEM_END, Length, SEQUENCE_END, Syntax, item_header, plain_hea
 use dd_grammar::{MAX_LEVELS, UNDEFINED_LENGTH};
 use dd_stream::{WriteFault, send};
 
-/// Sends the bytes that spell the set, and answers how many they are. 13 NotWritable exactly where
-/// there are none, which is where `size` is None; nothing is sent then. 12 Write where the writer
-/// failed, with how many of the bytes went before.
+/// Sends the bytes that spell the set, and answers how many they are. 13 NotWritable exactly where `size` is None;
+/// nothing is sent then. 12 Write where the writer failed, with how many of the bytes went before.
 pub fn write_set<W: Write>(
     set: &DataSet<'_>,
     syntax: Syntax,
@@ -59,7 +58,6 @@ fn send_set<W: Write>(
     Ok(sent)
 }
 
-/// Sends an element.
 #[cycle(writing)]
 fn send_element<W: Write>(
     element: &Element<'_>,
@@ -88,7 +86,6 @@ fn send_element<W: Write>(
     }
 }
 
-/// Sends an element whose value is fragments.
 fn send_all_fragments<W: Write>(
     tag: Tag,
     vr: Option<Vr>,
@@ -109,7 +106,6 @@ fn send_all_fragments<W: Write>(
     send(&plain_header(SEQUENCE_END, 0), writer, sent)
 }
 
-/// Sends fragments.
 fn send_fragments<W: Write>(
     fragments: &[&[u8]],
     writer: &mut W,
@@ -126,7 +122,6 @@ fn send_fragments<W: Write>(
     Ok(sent)
 }
 
-/// Sends a fragment.
 fn send_fragment<W: Write>(fragment: &[u8], writer: &mut W, sent: u64) -> Result<u64, WriteFault>
     requires room { length fragment.now < undefined_length }
     requires fits { sent + length (fragment_text fragment.now) < 2 ^ 64 }
@@ -136,7 +131,6 @@ fn send_fragment<W: Write>(fragment: &[u8], writer: &mut W, sent: u64) -> Result
     send(fragment, writer, sent)
 }
 
-/// Sends an element whose value is bytes.
 fn send_bytes<W: Write>(
     tag: Tag,
     vr: Option<Vr>,
@@ -153,7 +147,6 @@ fn send_bytes<W: Write>(
     send(value, writer, sent)
 }
 
-/// The length that the header of a sequence gives.
 fn items_length(items: &[Item<'_>], form: Length, syntax: Syntax, levels: u32) -> u32
     requires valid { AreItems syntax levels (items_view items.now) }
     requires fits { FitsLong form (items_text (items_view items.now)) }
@@ -166,7 +159,6 @@ fn items_length(items: &[Item<'_>], form: Length, syntax: Syntax, levels: u32) -
     header_length(size)
 }
 
-/// The length that the header of an item gives.
 fn set_length(set: &DataSet<'_>, form: Length, syntax: Syntax, levels: u32) -> u32
     requires valid { AreElements syntax levels 0 (set_view set.now) }
     requires fits { FitsLong form (elements_text (set_view set.now)) }
@@ -179,7 +171,6 @@ fn set_length(set: &DataSet<'_>, form: Length, syntax: Syntax, levels: u32) -> u
     header_length(size)
 }
 
-/// The length that a header gives: the size, or the undefined length where the size is not known.
 fn header_length(size: Option<u64>) -> u32
     requires { IfSome size (λ n. n < undefined_length) }
     ensures { result ≡ unwrap_or size undefined_length }
@@ -231,7 +222,6 @@ fn send_item<W: Write>(
     send_end(item.length, ITEM_END, writer, sent)
 }
 
-/// Sends the mark of an end where the form wants one.
 fn send_end<W: Write>(form: Length, mark: Tag, writer: &mut W, sent: u64) -> Result<u64, WriteFault>
     requires { sent + length (mark_text form (header_text mark None 0)) < 2 ^ 64 }
     ensures { let text = mark_text form (header_text mark None 0)

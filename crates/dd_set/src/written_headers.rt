@@ -9,10 +9,10 @@ use dd_elem::Vr;
 use dd_encoding::{HEADER_SIZE, LONG_HEADER_SIZE, Syntax, TAG_SIZE};
 use dd_grammar::{UNDEFINED_LENGTH, names_vr};
 
-/// How many bytes a plain header has: that of an item or a delimiter.
+/// Counts the bytes of a plain header: that of an item or a delimiter.
 pub const PLAIN_SIZE: u64 = HEADER_SIZE as u64;
 
-/// Whether bytes may stand under this value representation.
+/// Says whether bytes may stand under this value representation.
 pub fn holds_bytes(syntax: Syntax, vr: Option<Vr>) -> bool
     ensures { IsTrue result ↔ HoldsBytes syntax vr }
 {
@@ -23,8 +23,8 @@ pub fn holds_bytes(syntax: Syntax, vr: Option<Vr>) -> bool
     }
 }
 
-/// The syntax of the items of a sequence that may stand under this value representation (PS3.5 sections
-/// 6.2.2 and 7.5.1).
+/// Gives the syntax of the items of a sequence that may stand under this value representation (PS3.5 sections 6.2.2
+/// and 7.5.1).
 pub fn inner_syntax(syntax: Syntax, vr: Option<Vr>) -> Syntax
     ensures { (form : Length) (inner : Syntax) → item_syntax syntax vr form ≡ Some inner
         → result ≡ inner }
@@ -35,7 +35,7 @@ pub fn inner_syntax(syntax: Syntax, vr: Option<Vr>) -> Syntax
     }
 }
 
-/// The defined lengths that a header of this value representation has room for are below this.
+/// Gives the limit below which defined lengths have room in a header of this value representation.
 pub fn length_limit(vr: Option<Vr>) -> u64
     ensures { result ≡ length_limit vr }
 {
@@ -45,7 +45,7 @@ pub fn length_limit(vr: Option<Vr>) -> u64
     }
 }
 
-/// How many bytes a header of this value representation has after the tag.
+/// Counts the bytes of a header of this value representation after the tag.
 pub fn shape_size(vr: Option<Vr>) -> u64
     ensures exact { (n : ℕ) → result ≡ length (shape_text vr n) }
     ensures few { result ≤ 8 }

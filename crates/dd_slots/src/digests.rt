@@ -1,5 +1,3 @@
-//! The digests of four slots.
-
 ghost use Rattle.std.specs.Prelude.{◌≡◌, ℕ, List};
 ghost use Rattle.sha2.specs.Sha256.{sha256};
 ghost use Rattle.dd_slots.specs.Slots.{IsSlotOf};
@@ -7,8 +5,7 @@ ghost use Rattle.dd_slots.specs.Slots.{IsSlotOf};
 use crate::slot::Slot;
 use sha256_lanes::digest4;
 
-/// Computes the SHA-256 (FIPS 180-4) of the bytes of each of four slots: side by side where all four keep them, else
-/// one by one.
+/// Computes the SHA-256 of each of four slots: side by side where all keep their bytes, else one by one.
 pub fn digest_slots(
     a: &Slot,
     b: &Slot,

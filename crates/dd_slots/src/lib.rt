@@ -1,7 +1,5 @@
-//! Slots: the bytes of files, kept until they are digested four at once.
-//!
-//! Its promise: whatever a slot takes, in any pieces, its digest is the SHA-256 (FIPS 180-4) of all of it.
-//! No call on a slot is refused, since one that cannot keep its bytes digests them as they come.
+//! Keeps the bytes of files until four are digested at once. Its promise: the digest of a slot is the SHA-256 (FIPS
+//! 180-4) of all that it took.
 #![tactic(auto)]
 
 mod digests;

@@ -1,5 +1,3 @@
-//! The bytes of one file.
-
 ghost use Rattle.std.specs.Prelude.{◌≡◌, ◌↔◌, ◌++◌, ℕ, List, [], IfSome, IsNone, IsSome, if◌then◌else◌};
 ghost use Rattle.sha2.specs.Sha256.{sha256};
 ghost use Rattle.dd_slots.specs.Slots.{IsSlotOf};
@@ -7,10 +5,9 @@ ghost use Rattle.dd_slots.specs.Slots.{IsSlotOf};
 use sha2::{Digest, Sha256};
 use std::alloc::Global;
 
-/// The most bytes that a slot keeps.
 const MOST: usize = 8 * 1024 * 1024;
 
-/// Keeps the bytes of one file, up to 8 MiB, until they are digested. Where there are more, or memory for them is
+/// Keeps the bytes of one file, up to 8 MiB, until they are digested. Where there are more, or their allocation is
 /// refused, it hashes them as they come.
 #[derive(Drop)]
 pub struct Slot {
@@ -19,7 +16,7 @@ pub struct Slot {
 }
 
 impl Slot {
-    /// Makes a slot of no bytes. Takes no memory.
+    /// Makes a slot of no bytes. Allocates nothing.
     pub fn new(alloc: Global) -> Slot
         ensures { IsSlotOf result [] }
     {
@@ -29,7 +26,7 @@ impl Slot {
         }
     }
 
-    /// Forgets the bytes, and keeps the memory for those to come.
+    /// Forgets the bytes, and keeps their memory.
     pub fn clear(&mut self)
         ensures { IsSlotOf self.new [] }
     {
@@ -54,7 +51,6 @@ impl Slot {
         self.hasher = Some(hasher);
     }
 
-    // Keeps the next bytes, and answers whether there is room for them.
     fn keep(&mut self, piece: &[u8]) -> bool
         ensures kept { self.new.kept.items
             ≡ (if result then self.old.kept.items ++ piece.now else self.old.kept.items) }
@@ -64,7 +60,7 @@ impl Slot {
             && self.kept.extend_from_slice(piece).is_ok()
     }
 
-    /// Gives the bytes where all are kept, and None where a hasher has them.
+    /// Gives the bytes. None where they were hashed as they came.
     pub fn bytes(&self) -> Option<&[u8]>
         ensures kept { IsSome result ↔ IsNone self.now.hasher }
         ensures value { (bytes : List ℕ) → IsSlotOf self.now bytes → IfSome result (λ kept. kept.now ≡ bytes) }
@@ -75,7 +71,7 @@ impl Slot {
         }
     }
 
-    /// Computes the SHA-256 (FIPS 180-4) of the bytes. Takes no memory.
+    /// Computes the SHA-256 of the bytes. Allocates nothing.
     pub fn digest(&self) -> [u8; 32]
         ensures { (bytes : List ℕ) → IsSlotOf self.now bytes → result ≡ sha256 bytes }
     {

@@ -66,7 +66,7 @@ parts_total =
 
 -- ---- values that compare equal are equal
 
--- both orders tell no difference
+-- both comparisons are equal
 pub record BothTie (a b : Ordering) : Type 0 where
   pub first : a ≡ Equal
   pub second : b ≡ Equal

@@ -1,5 +1,3 @@
-//! The SOP classes of images.
-
 ghost use Rattle.std.specs.Prelude.{◌≡◌, ◌↔◌, IsTrue, Contains};
 ghost use Rattle.std.specs.List.{list_any};
 ghost use Rattle.std.specs.Str.{bytes_eq};
@@ -7,8 +5,7 @@ ghost use Rattle.dd_version.specs.Classes.{image_classes, is_image_class};
 
 use dd_elem::Uid;
 
-/// The storage SOP classes (PS3.4 section B.5) whose files are taken: each is described by an IMAGE
-/// record (PS3.3 section F.5.4).
+/// The storage SOP classes whose files are taken: an IMAGE record describes each (PS3.3 section F.5.4).
 const IMAGE_CLASSES: [&[u8]; 23] = [
     b"1.2.840.10008.5.1.4.1.1.1", // Computed Radiography Image
     b"1.2.840.10008.5.1.4.1.1.1.1", // Digital X-Ray Image, for presentation
@@ -35,7 +32,7 @@ const IMAGE_CLASSES: [&[u8]; 23] = [
     b"1.2.840.10008.5.1.4.1.1.128", // Positron Emission Tomography Image
 ];
 
-/// Says whether files of this SOP class are taken: it is one of these storage classes of images (PS3.4 section B.5).
+/// Says whether files of this SOP class are taken (PS3.4 section B.5).
 pub fn is_image_class(class: &Uid) -> bool
     ensures form { IsTrue result ↔ Contains image_classes class.now }
     ensures test { result ≡ is_image_class class.now }
@@ -43,7 +40,6 @@ pub fn is_image_class(class: &Uid) -> bool
     is_listed(class.as_bytes())
 }
 
-/// Says whether the UID stands in the table.
 fn is_listed(class: &[u8]) -> bool
     ensures { result ≡ list_any (λ known. bytes_eq known.now class.now) IMAGE_CLASSES }
 {

@@ -1,14 +1,10 @@
-//! Compares what a version is filed by.
-
 ghost use Rattle.std.specs.Prelude.{◌↔◌, IsTrue};
 ghost use Rattle.dd_version.specs.Filing.{FiledAs};
 
 use crate::parts::Parts;
 
-/// Says whether the found version is filed as the planned one: whether digest, SOP instance, SOP class, transfer
-/// syntax, instance number, Patient ID and the UIDs of study and series are equal.
-///
-/// Other keys are not compared: a directory may have them from another image of the same patient, study or
+/// Says whether the found version is filed as the planned one: all UIDs, the digest, Instance Number and Patient ID
+/// are equal. Other keys are not compared: a directory may have them from another image of the same patient, study or
 /// series.
 pub fn is_filed_as(found: &Parts, planned: &Parts) -> bool
     ensures { IsTrue result ↔ FiledAs planned.now found.now }

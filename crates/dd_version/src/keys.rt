@@ -1,5 +1,3 @@
-//! The keys of patients, studies and series.
-
 ghost use Rattle.std.specs.Prelude.{◌≡◌, IfOk, IsErr};
 ghost use Rattle.dd_version.specs.Copies.{PatientIsLong, StudyIsLong, SeriesIsLong};
 ghost use Rattle.dd_version.specs.Orders.{patient_cmp, patient_total, patient_apart, study_cmp, study_total};
@@ -49,8 +47,7 @@ pub struct SeriesKeys {
     pub number: Key,
 }
 
-// Each drop is written by hand, as one call: a derived one is proved anew at each exit of a function that
-// owns the value.
+// By hand, each as one call: a derived drop is proved anew at each exit of a function that owns the value.
 impl Drop for PatientKeys {
     fn drop(self) {
         let PatientKeys {
@@ -86,7 +83,7 @@ impl Drop for SeriesKeys {
 }
 
 impl PatientKeys {
-    /// Equal keys. Memory where no more copies can share a key of more than 22 bytes.
+    /// Makes equal keys. Memory where no more copies can share a key of more than 22 bytes.
     pub fn copy(&self) -> Result<PatientKeys, Memory>
         ensures value { IfOk result (λ keys. keys ≡ self.now) }
         ensures memory { IsErr result → PatientIsLong self.now }
@@ -100,7 +97,7 @@ impl PatientKeys {
 }
 
 impl StudyKeys {
-    /// Equal keys. Memory where no more copies can share a key of more than 22 bytes.
+    /// Makes equal keys. Memory as for `PatientKeys`.
     pub fn copy(&self) -> Result<StudyKeys, Memory>
         ensures value { IfOk result (λ keys. keys ≡ self.now) }
         ensures memory { IsErr result → StudyIsLong self.now }
@@ -118,7 +115,7 @@ impl StudyKeys {
 }
 
 impl SeriesKeys {
-    /// Equal keys. Memory where no more copies can share a key of more than 22 bytes.
+    /// Makes equal keys. Memory as for `PatientKeys`.
     pub fn copy(&self) -> Result<SeriesKeys, Memory>
         ensures value { IfOk result (λ keys. keys ≡ self.now) }
         ensures memory { IsErr result → SeriesIsLong self.now }
@@ -131,7 +128,6 @@ impl SeriesKeys {
     }
 }
 
-/// The dictionary order of the fields.
 impl Ordered for PatientKeys {
     ghost order = { patient_cmp };
 
@@ -147,7 +143,6 @@ impl Ordered for PatientKeys {
     }
 }
 
-/// The dictionary order of the fields.
 impl Ordered for StudyKeys {
     ghost order = { study_cmp };
 
@@ -167,7 +162,6 @@ impl Ordered for StudyKeys {
     }
 }
 
-/// The dictionary order of the fields.
 impl Ordered for SeriesKeys {
     ghost order = { series_cmp };
 

@@ -1,8 +1,7 @@
-//! The versions of image instances: the keys by which an image stands in a directory of a file-set, and
-//! the order of versions. It knows no data set.
+//! Versions of image instances, and their order: the keys by which a directory lists an image.
 //!
-//! Its one promise: a version has all the keys that the records of a directory must have, and is of an
-//! image class and in a transfer syntax that are taken; and two versions that compare equal are equal.
+//! Its one promise: a version has all keys that the records of a directory must have, and an image class and a
+//! transfer syntax that are taken. Two versions that compare equal are equal.
 #![tactic(auto)]
 
 mod classes;

@@ -1,5 +1,3 @@
-//! What a version is made of.
-
 ghost use Rattle.std.specs.Prelude.{◌≡◌, IfOk, IsErr};
 ghost use Rattle.dd_version.specs.Copies.{PartsAreLong};
 ghost use Rattle.dd_version.specs.Orders.{parts_cmp, parts_total, parts_apart};
@@ -13,11 +11,8 @@ use std::cmp::Ordering;
 pub struct Parts {
     /// SHA-256 of the whole file.
     pub digest: [u8; 32],
-    /// The keys of its patient.
     pub patient: PatientKeys,
-    /// The keys of its study.
     pub study: StudyKeys,
-    /// The keys of its series.
     pub series: SeriesKeys,
     /// Instance Number (0020,0013).
     pub number: Key,
@@ -29,7 +24,7 @@ pub struct Parts {
     pub instance: Uid,
 }
 
-// By hand, so that letting go of parts is one call.
+// By hand, so that a drop is one call.
 impl Drop for Parts {
     fn drop(self) {
         let Parts {
@@ -46,7 +41,7 @@ impl Drop for Parts {
 }
 
 impl Parts {
-    /// Equal parts. Memory where no more copies can share a key of more than 22 bytes.
+    /// Makes equal parts. Memory where no more copies can share a key of more than 22 bytes.
     pub fn copy(&self) -> Result<Parts, Memory>
         ensures value { IfOk result (λ parts. parts ≡ self.now) }
         ensures memory { IsErr result → PartsAreLong self.now }
@@ -64,7 +59,6 @@ impl Parts {
     }
 }
 
-/// The dictionary order of the fields.
 impl Ordered for Parts {
     ghost order = { parts_cmp };
 

@@ -1,5 +1,3 @@
-//! The transfer syntaxes of the files that are taken.
-
 ghost use Rattle.std.specs.Prelude.{◌≡◌, ◌↔◌, IsTrue, Contains};
 ghost use Rattle.std.specs.List.{list_any};
 ghost use Rattle.std.specs.Str.{bytes_eq};
@@ -7,7 +5,7 @@ ghost use Rattle.dd_version.specs.Syntaxes.{encapsulated_syntaxes, known_syntaxe
 
 use dd_elem::{Tag, Uid};
 
-/// The tag of the Transfer Syntax UID (0002,0010).
+/// The tag of the Transfer Syntax UID.
 pub const TRANSFER: Tag = Tag {
     group: 0x0002,
     element: 0x0010,
@@ -19,7 +17,7 @@ pub const IMPLICIT: &[u8] = b"1.2.840.10008.1.2";
 /// Explicit VR Little Endian (PS3.5 annex A.2).
 pub const EXPLICIT: &[u8] = b"1.2.840.10008.1.2.1";
 
-/// The known transfer syntaxes with encapsulated pixel data (PS3.5 annex A.4).
+/// Known transfer syntaxes with encapsulated pixel data (PS3.5 annex A.4).
 const ENCAPSULATED: [&[u8]; 8] = [
     b"1.2.840.10008.1.2.5", // RLE Lossless
     b"1.2.840.10008.1.2.4.50", // JPEG Baseline
@@ -31,7 +29,7 @@ const ENCAPSULATED: [&[u8]; 8] = [
     b"1.2.840.10008.1.2.4.91", // JPEG 2000
 ];
 
-/// Says whether files in this transfer syntax are taken: it is one of these (PS3.5 section 10 and annex A).
+/// Says whether files in this transfer syntax are taken.
 pub fn is_known_syntax(transfer: &Uid) -> bool
     ensures form { IsTrue result ↔ Contains known_syntaxes transfer.now }
     ensures test { result ≡ is_known_syntax transfer.now }
@@ -46,7 +44,6 @@ pub fn is_encapsulated(uid: &[u8]) -> bool
     ENCAPSULATED.contains(&uid)
 }
 
-/// Says whether this UID names a known transfer syntax.
 fn is_known(uid: &[u8]) -> bool
     ensures { result ≡ is_known_syntax uid.now }
 {

@@ -1,5 +1,3 @@
-//! Versions of image instances.
-
 ghost use Rattle.std.specs.Prelude.{◌≡◌, ◌↔◌, IsOk, IsErr, IfOk, IfErr};
 ghost use Rattle.dd_version.specs.Copies.{PartsAreLong, with_digest, with_keys_of};
 ghost use Rattle.dd_version.specs.Fitting.{Fits, IsLeastMisfit, is_empty, least_misfit};
@@ -12,9 +10,8 @@ use std::cmp::Ordering;
 use std::marker::Model;
 use thiserror::Error;
 
-/// A version of an image instance: parts of which the keys that the records of a directory must have
-/// (PS3.3 section F.5) are not empty, whose class is one of those that are taken and whose transfer
-/// syntax is one of those that are read.
+/// A version of an image instance: parts whose class and transfer syntax are taken, and whose keys that records must
+/// have (PS3.3 section F.5) are not empty.
 #[derive(Debug)]
 pub struct Version {
     parts: Parts,
@@ -31,29 +28,25 @@ impl Model for Version {
     ghost invariant = { λ version. Fits version.parts };
 }
 
-// By hand, so that letting go of a version is one call.
+// By hand, so that a drop is one call.
 impl Drop for Version {
     fn drop(self) {
         let Version { parts: _parts } = self;
     }
 }
 
-/// Parts that are no version.
+/// Why parts are no version.
 #[derive(Debug, Drop, Error)]
 #[error("{tag} does not fit")]
 pub struct Misfit {
-    /// The least tag whose part does not fit: (0002,0010) for the transfer syntax, (0008,0016) for the
-    /// class.
+    /// The least tag whose part does not fit. (0002,0010) is the transfer syntax, (0008,0016) the class.
     pub tag: Tag,
-    /// The parts.
     pub parts: Parts,
 }
 
 impl Version {
-    /// Makes the version of these parts. Refused where one does not fit: where the transfer syntax is not among
-    /// those that are read, the class is no image class that is taken, or
-    /// study date, study time, modality, Patient ID, study ID, series number or instance number is
-    /// empty.
+    /// Makes the version of these parts. Refused where the transfer syntax or the class is not taken, or Study Date,
+    /// Study Time, Modality, Patient ID, Study ID, Series Number or Instance Number is empty.
     pub fn of(parts: Parts) -> Result<Version, Misfit>
         ensures accepted { IsOk result ↔ Fits parts }
         ensures value { IfOk result (λ version. version ≡ parts) }
@@ -66,7 +59,6 @@ impl Version {
         }
     }
 
-    /// What the version is made of.
     pub fn parts(&self) -> &Parts
         ensures value { result.now ≡ self.now }
         ensures fits { Fits self.now }
@@ -74,14 +66,13 @@ impl Version {
         &self.parts
     }
 
-    /// Sets the digest, and leaves all keys.
     pub fn set_digest(&mut self, digest: [u8; 32])
         ensures { self.new ≡ with_digest self.old digest }
     {
         self.parts.digest = digest;
     }
 
-    /// An equal version. Memory where no more copies can share a key of more than 22 bytes.
+    /// Makes an equal version. Memory where no more copies can share a key of more than 22 bytes.
     pub fn copy(&self) -> Result<Version, Memory>
         ensures value { IfOk result (λ version. version ≡ self.now) }
         ensures memory { IsErr result → PartsAreLong self.now }
@@ -90,8 +81,8 @@ impl Version {
         Ok(Version { parts })
     }
 
-    /// Copies the version, with the keys of these versions' patient, study and series in place of its own. Memory
-    /// where no more copies can share a key of more than 22 bytes.
+    /// Copies the version, with the keys of these versions' patient, study and series in place of its own. Memory as
+    /// for `copy`.
     pub fn with_keys_of(
         &self,
         patient: &Version,
@@ -118,7 +109,6 @@ impl Version {
     }
 }
 
-/// Versions are equal where their parts are.
 impl PartialEq for Version {
     ghost use Rattle.std.specs.Cmp.{partial_equiv_from_equiv};
     ghost use Rattle.std.specs.Ordering.{eq_by_cmp};
@@ -134,8 +124,6 @@ impl PartialEq for Version {
     }
 }
 
-/// The dictionary order of the parts: digest, patient, study, series, instance number, class, transfer
-/// syntax, instance.
 impl Ordered for Version {
     ghost use Rattle.dd_version.specs.Orders.{parts_cmp, parts_total, parts_apart};
 
@@ -150,7 +138,6 @@ impl Ordered for Version {
     }
 }
 
-/// The least tag whose part does not fit.
 fn least_misfit(parts: &Parts) -> Option<Tag>
     ensures { result ≡ least_misfit parts.now }
 {
@@ -168,7 +155,6 @@ fn least_misfit(parts: &Parts) -> Option<Tag>
     fitting.iter().find(|(_, fits)| !*fits).map(|(tag, _)| *tag)
 }
 
-/// Has the key no bytes?
 fn is_empty(key: &Key) -> bool
     ensures { result ≡ is_empty key.now }
 {

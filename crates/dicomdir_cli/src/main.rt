@@ -1,4 +1,4 @@
-//! The program `dicomdir`: its words, over the files and the outputs of the system.
+//! The program `dicomdir` over the files and the outputs of the system.
 #![tactic(auto)]
 
 mod word_text;
@@ -15,13 +15,12 @@ use std::os::fd::{AsRawFd, IntoRawFd};
 use std::process::ExitCode;
 use word_text::{Number, bad_word};
 
-// How many standard descriptors there are: input, output and error output.
+// The standard descriptors are 0, 1 and 2.
 const STANDARD: i32 = 3;
 
-// How many bytes of the stack a run may take, with some to spare. It takes 225 KiB at most, whatever it reads.
+// 256 KiB: a run takes at most 225 KiB of the stack, whatever it reads.
 const STACK: usize = 262_144;
 
-// Tells why there are no words, and which one is not text, and answers the status.
 fn refuse_words<E: Write>(kind: ErrorKind, bad: Option<usize>, err: &mut E) -> u8
     ensures memory { kind ≡ ErrorKind.OutOfMemory → result ≡ 1 }
     ensures text { kind ≢ ErrorKind.OutOfMemory → result ≡ 2 }
@@ -47,16 +46,16 @@ fn refuse_words<E: Write>(kind: ErrorKind, bad: Option<usize>, err: &mut E) -> u
     2
 }
 
-// Takes as much of the stack as a run may, so that the system ends a run that has less of it here, before anything is
-// made. A compiler can't leave out bytes that the system is asked to read to, and /dev/null has none.
+// Takes this much of the stack, so that the system ends a run that has less of it here, before anything is made. A
+// compiler can't leave out bytes that a read may fill; /dev/null has none.
 #[inline(never)]
 fn probe_stack<N: Read>(null: &mut N) {
     let mut room = [0; STACK];
     let _ = null.read(&mut room);
 }
 
-// Opens /dev/null for reading in place of each standard descriptor that is closed, so that no file of a run becomes
-// one of them. A write to an output that was closed still fails.
+// Opens /dev/null for reading in place of each closed standard descriptor, so that no file of a run becomes one. A
+// write to a closed output still fails.
 fn fill_standard<R: fs::Files>(rt: &R) -> io::Result<()>
 where
     R::File: AsRawFd + IntoRawFd + Read,

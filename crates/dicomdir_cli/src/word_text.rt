@@ -1,4 +1,4 @@
-//! The words of the command line that are not text.
+//! The words of the command line that are not UTF-8.
 ghost use Rattle.std.specs.Io.{WritesAtMost};
 
 use std::alloc::Global;
@@ -6,7 +6,6 @@ use std::env::{self, Env, FillError};
 use std::fmt::InlineText;
 use std::io::ErrorKind;
 
-/// The text of a number.
 pub(crate) type Number = InlineText<20>;
 
 /// One word of a command line, as a command line of its own.
@@ -36,8 +35,7 @@ impl<R: Env> Env for Word<'_, R> {
     }
 }
 
-/// The number of the first word that is not UTF-8: the program's name has 0. None where all words are, or
-/// there is no memory to look.
+/// Finds the first word that is not UTF-8; 0 is the program's name. None where all words are, or memory is refused.
 pub(crate) fn bad_word<R: Env>(words: &R, alloc: Global) -> Option<usize> {
     for at in 0..usize::MAX {
         match env::args(&(Word { words, at }, alloc)) {

@@ -1,19 +1,17 @@
-//! Looks at files, makes folders and gives hard links, again where a signal interrupts the call (EINTR).
+//! Calls of the system, made again where a signal interrupts them (EINTR).
 
 use crate::counted::TRIES;
 use std::fs::{self, Metadata, OpenFile};
 use std::io::{self, ErrorKind};
 
-/// What becomes of a symbolic link that stands at a path.
 #[derive(Clone, Copy)]
 pub(crate) enum Links {
-    /// What it leads to is meant.
+    /// What the link leads to is meant.
     Followed,
-    /// It is itself meant, and so it is no file and no folder.
+    /// The link itself is meant, and so it is no file and no folder.
     Kept,
 }
 
-/// Looks at what stands at the path.
 pub(crate) fn look<R: fs::Files>(rt: &R, path: &str, links: Links) -> io::Result<Metadata> {
     for _ in 0..TRIES {
         let answer = match links {
@@ -28,7 +26,6 @@ pub(crate) fn look<R: fs::Files>(rt: &R, path: &str, links: Links) -> io::Result
     Err(io::Error::from(ErrorKind::Interrupted))
 }
 
-/// Looks at an open file.
 pub(crate) fn look_at_open<F: OpenFile>(file: &F) -> io::Result<Metadata> {
     for _ in 0..TRIES {
         match file.metadata() {
@@ -39,7 +36,6 @@ pub(crate) fn look_at_open<F: OpenFile>(file: &F) -> io::Result<Metadata> {
     Err(io::Error::from(ErrorKind::Interrupted))
 }
 
-/// Answers whether a folder stands at the path.
 pub(crate) fn is_folder<R: fs::Files>(rt: &R, path: &str, links: Links) -> bool {
     match look(rt, path, links) {
         Ok(found) => found.is_dir(),
@@ -47,7 +43,7 @@ pub(crate) fn is_folder<R: fs::Files>(rt: &R, path: &str, links: Links) -> bool 
     }
 }
 
-/// Gives the file at a path a hard link. A name that stands there after an interrupted call counts as given.
+/// A name that is there after an interrupted call counts as given.
 pub(crate) fn link_file<R: fs::Files>(rt: &R, original: &str, name: &str) -> io::Result<()> {
     let mut is_interrupted = false;
     for _ in 0..TRIES {
@@ -62,7 +58,7 @@ pub(crate) fn link_file<R: fs::Files>(rt: &R, original: &str, name: &str) -> io:
     Err(io::Error::from(ErrorKind::Interrupted))
 }
 
-/// Makes a folder. One that stands there after an interrupted call counts as made.
+/// A folder that is there after an interrupted call counts as made.
 pub(crate) fn make_folder<R: fs::Files>(rt: &R, path: &str, links: Links) -> io::Result<()> {
     let mut is_interrupted = false;
     for _ in 0..TRIES {

@@ -1,4 +1,4 @@
-//! The files of the system as the files of a program.
+//! Implements the traits of dd_files.
 ghost use Rattle.std.specs.Prelude.{ℕ, None, refl};
 
 use crate::counted::Counted;

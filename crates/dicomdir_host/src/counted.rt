@@ -1,15 +1,12 @@
-//! A reader or writer of the system, with its counts.
 ghost use Rattle.std.specs.Prelude.{◌≡◌, None};
 ghost use Rattle.std.specs.Io.{ReadsAtMost, WritesAtMost};
 
 use dd_elem::{Counts, Read, Write};
 use std::io::{self, ErrorKind};
 
-/// A reader or writer of the system, which counts its calls and its failures. Its contract says
-/// nothing of the bytes.
+/// Counts the calls and failures of a reader or writer of the system. Its contract says nothing of the bytes.
 #[derive(Drop)]
 pub struct Counted<T: Drop> {
-    /// The reader or writer.
     pub device: T,
     counts: Counts,
 }
@@ -67,10 +64,9 @@ impl<T: io::Write + Drop> Write for Counted<T> {
     }
 }
 
-/// The most tries of a call that signals interrupt.
+/// Limits the tries of a call that signals interrupt.
 pub(crate) const TRIES: u32 = 1000;
 
-/// Makes one read, again where a signal interrupts it.
 fn read_again<T: io::Read>(reader: &mut T, buf: &mut [u8]) -> io::Result<usize>
     ensures { ReadsAtMost result buf.new }
 {
@@ -87,7 +83,7 @@ fn read_again<T: io::Read>(reader: &mut T, buf: &mut [u8]) -> io::Result<usize>
     Err(io::Error::from(ErrorKind::Interrupted))
 }
 
-/// Makes one write, again where a signal interrupts it.
+/// Writes, again where a signal interrupts.
 pub(crate) fn write_again<T: io::Write>(writer: &mut T, bytes: &[u8]) -> io::Result<usize>
     ensures { WritesAtMost result bytes.now }
 {

@@ -1,4 +1,3 @@
-//! The files of the system.
 ghost use Rattle.std.specs.Prelude.{◌≡◌, ◌↔◌, ◌⊎◌, ◌<◌, ◌++◌, ◌∷◌, [], None, Some, length, map, option_map};
 ghost use Rattle.std.specs.Prelude.{IfSome, IsErr, IsOk, IsSome, IsTrue, string_bytes};
 ghost use Rattle.dd_elem.specs.Device.{HasWorked, counted, last_count};
@@ -18,47 +17,42 @@ use dd_files::{DIRECTORY, NotDone};
 use std::alloc::Global;
 use std::io;
 
-// The most files that have ended and wait to be stored.
+// The most ended files that wait to be stored.
 const BATCH: usize = 100;
 
-// What the system says where a process, and where the system, has no more descriptors.
+// EMFILE and ENFILE: the process, or the system, has no more descriptors.
 const NO_MORE: [i32; 2] = [24, 23];
 
-/// The files of the system. What is written is gathered in a buffer. A new file never takes the place
-/// of one that is there, and takes nothing more once a write to it has failed.
+/// The files of the system, written through a buffer. A new file never takes the place of one that is there, and takes
+/// nothing more once a write to it has failed.
 ///
-/// A file that has ended stays open until it is stored. `store_batch` stores these files where 100 wait, and else
-/// puts that off. `store` stores all: these files, and the names of all files and folders that were made. Before a
-/// directory is started, which is a file named DICOMDIR, all is stored, too. What was not stored stays lost: each
-/// later `store` and `store_batch` is refused, and each start of a directory.
+/// A file that has ended stays open until it is stored. `store_batch` stores these files where 100 wait; `store` stores
+/// them and the names of all files and folders that were made. All is stored, too, before a file named DICOMDIR is
+/// started. What could not be stored stays lost: each later `store`, `store_batch` and start of a DICOMDIR is refused.
 ///
-/// Where the system gives no more descriptors, the files that wait are stored and closed, and the call is
-/// made again.
+/// Where the system gives no more descriptors, the files that wait are stored and closed, and the call is made again.
 ///
-/// A source is a file or a folder, also through links: a pipe, a socket or a device is taken for not
-/// there, since to open it could wait. A folder opens, and its read fails. What was opened is looked at again,
-/// and is taken for not there where it is not what was looked at before. A plain file whose size is said to be 0
-/// is taken for empty.
+/// A source is a file or a folder, also through links; a folder opens, and its read fails. A pipe, a socket or a device
+/// is taken for not there, since to open it could wait. So is a source that, once opened, is not what was there before.
+/// A plain file whose size is said to be 0 is taken for empty.
 ///
-/// A file of a file-set is a source that is looked up in each spelling in which systems show a disc. No link
-/// is followed below the folder of a file-set, nor below the folder that is written to.
+/// A file of a file-set is a source that is looked up in each spelling in which systems show a disc. No link is
+/// followed below the folder of a file-set, nor below the folder that is written to.
 ///
-/// A hard link is given to a plain file of a file-set, which is looked up as any file of one. A folder and a symbolic
-/// link get none. The new name is opened and compared with the file that was found. Where it is another file, the
-/// call is refused as for an absent file, and the name stays. Else it counts as a file that has ended: it stays open
-/// until it is stored, and its name is stored as each new name is.
+/// Only a plain file of a file-set gets a hard link. Where the new name turns out to be another file, the call is
+/// refused as for an absent file, and the name stays. Else it counts as a file that has ended.
 ///
-/// A list of names may be a pipe or a device, too, and `-` stands for the standard input. A call that opens or
-/// reads it may wait.
+/// A list of names may be a pipe or a device, too, and `-` is the standard input. A call that opens or reads it may
+/// wait.
 ///
-/// Progress is one line on the error output, where that is a terminal. Nothing is shown in the first half second,
-/// and a line stays for at least a tenth of a second. While files are stored one by one, it counts these. A failed
-/// write to the terminal counts as no failure.
+/// Progress is one line on the error output, where that is a terminal. It starts after half a second, and each line
+/// stays for at least a tenth of a second. While files are stored one by one, it counts these. A failed write to the
+/// terminal counts as no failure.
 pub struct HostFiles<'a, R: System> {
     pub(crate) rt: &'a R,
     pub(crate) alloc: Global,
     pub(crate) output: Counted<Output<R::File>>,
-    // The path of the file that is being written.
+    // The file that is being written.
     path: Option<String>,
     pub(crate) unstored: Unstored<R::File>,
     // The folder that was made last, and how much of its path may lead over links.
@@ -87,7 +81,7 @@ impl<R: System> Drop for HostFiles<'_, R> {
     }
 }
 
-// Is it the path of a directory: does its last name say DICOMDIR (PS3.10 section 8.6)?
+// A directory is a file named DICOMDIR (PS3.10 section 8.6).
 fn is_directory(path: &str) -> bool
     ensures { IsTrue result ↔ IsDirectoryPath path.now }
 {
@@ -97,7 +91,6 @@ fn is_directory(path: &str) -> bool
     }
 }
 
-// Did the system give no descriptor?
 fn has_no_more(error: &io::Error) -> bool {
     match error.raw_os_error() {
         Some(code) => NO_MORE.contains(&code),
@@ -106,7 +99,7 @@ fn has_no_more(error: &io::Error) -> bool {
 }
 
 impl<'a, R: System> HostFiles<'a, R> {
-    /// Makes the files of the system, of which none is being written.
+    /// Makes the files of the system; none is being written.
     pub fn new(alloc: Global, rt: &'a R) -> Self
         ensures { result.refusals ≡ 0 }
     {
@@ -124,7 +117,7 @@ impl<'a, R: System> HostFiles<'a, R> {
         }
     }
 
-    /// Answers a call, and counts it where it was refused.
+    /// Counts a call that was refused.
     pub(crate) fn answer(&mut self, is_done: bool) -> Result<(), NotDone>
         requires { IsTrue is_done → self.old.refusals < last_count }
         ensures worked { IsOk result → HasWorked self.old.refusals self.new.refusals }
@@ -138,8 +131,7 @@ impl<'a, R: System> HostFiles<'a, R> {
         Err(NotDone)
     }
 
-    /// Says whether a call with this answer is to be made again: where it got no descriptor, the files that wait are
-    /// stored and closed.
+    /// Says whether to make a call with this answer again: it got no descriptor, and files that waited are now closed.
     pub(crate) fn makes_room<T>(&mut self, answer: &io::Result<T>) -> bool
         ensures none { self.old.unstored.files.items ≡ [] → self.new.unstored ≡ self.old.unstored }
         ensures files { (self.new.unstored ≡ self.old.unstored)
@@ -159,7 +151,6 @@ impl<'a, R: System> HostFiles<'a, R> {
         }
     }
 
-    /// Opens the file or the folder at the path for reading.
     pub(crate) fn open(&mut self, path: &str) -> io::Result<Input<R::File, R::Stdin>>
         ensures same { self.new
             ≡ record self.old { unstored = self.new.unstored; progress = self.new.progress } }
@@ -172,7 +163,6 @@ impl<'a, R: System> HostFiles<'a, R> {
         answer
     }
 
-    /// Opens the file at the path below the folder `set` for reading.
     pub(crate) fn open_member(
         &mut self,
         set: &str,
@@ -192,7 +182,6 @@ impl<'a, R: System> HostFiles<'a, R> {
         answer
     }
 
-    /// Opens the list of names at the path for reading.
     pub(crate) fn open_names(&mut self, path: &str) -> io::Result<Input<R::File, R::Stdin>>
         ensures same { self.new
             ≡ record self.old { unstored = self.new.unstored; progress = self.new.progress } }
@@ -207,7 +196,6 @@ impl<'a, R: System> HostFiles<'a, R> {
         answer
     }
 
-    // Opens a new file at the path.
     fn open_new(&mut self, path: &str) -> io::Result<Output<R::File>>
         ensures none { self.old.unstored.files.items ≡ [] → self.new.unstored ≡ self.old.unstored }
         ensures folders { self.new.unstored.folders ≡ self.old.unstored.folders }
@@ -221,7 +209,7 @@ impl<'a, R: System> HostFiles<'a, R> {
         answer
     }
 
-    // Makes a folder, unless it is there. It may be a link where its path has no more than `out_len` bytes.
+    // Makes a folder, unless it is there. It may be a link if its path has at most `out_len` bytes.
     fn make_one(&mut self, path: &str, out_len: usize) -> io::Result<()>
         ensures same { self.new
             ≡ record self.old { unstored = self.new.unstored; progress = self.new.progress } }
@@ -239,7 +227,6 @@ impl<'a, R: System> HostFiles<'a, R> {
         }
     }
 
-    // Makes the folders above one, unless they are there.
     fn make_above(&mut self, path: &str, out_len: usize) -> io::Result<()>
         ensures same { self.new
             ≡ record self.old { unstored = self.new.unstored; progress = self.new.progress } }
@@ -273,9 +260,7 @@ impl<'a, R: System> HostFiles<'a, R> {
         Ok(())
     }
 
-    /// Starts a file, whose name is to be stored.
     pub(crate) fn start(&mut self, path: &str) -> io::Result<()>
-        // Before a directory all is stored, so that no name but its own waits.
         ensures directory { IsOk result → IsDirectoryPath path.now
             → (self.new.unstored.files.items ≡ []) × (self.new.unstored.lost ≡ None)
             × Names path.now [] self.new.unstored.folders.items }
@@ -300,7 +285,7 @@ impl<'a, R: System> HostFiles<'a, R> {
         Ok(())
     }
 
-    /// Ends the file that is being written, and keeps it open until it is stored.
+    /// The file stays open until it is stored.
     pub(crate) fn end(&mut self) -> io::Result<()>
         ensures ended { self.new.path ≡ None }
         ensures none { self.old.path ≡ None → IsErr result }
@@ -318,7 +303,6 @@ impl<'a, R: System> HostFiles<'a, R> {
         Ok(())
     }
 
-    /// Stores all.
     pub(crate) fn store_all(&mut self) -> io::Result<()>
         ensures stored { IsOk result
             → IsStored self.new.unstored.files.items self.new.unstored.folders.items self.new.unstored.lost }
@@ -329,7 +313,6 @@ impl<'a, R: System> HostFiles<'a, R> {
         self.unstored.store(self.rt, &mut self.progress)
     }
 
-    /// Stores the files that wait, where they are a batch.
     pub(crate) fn store_waiting(&mut self) -> io::Result<()>
         ensures batch { IsOk result → length self.new.unstored.files.items < BATCH }
         ensures lost { IsErr result ↔ IsSome self.new.unstored.lost }

@@ -1,7 +1,4 @@
-//! The files of the system for `dicomdir`: a new file never takes the place of one that is there, and
-//! takes nothing more once a write to it has failed.
-//!
-//! It also counts each call of the system that fails, but not the calls that show progress.
+//! The files of the system for `dicomdir`.
 #![tactic(auto)]
 
 mod again;

@@ -1,4 +1,3 @@
-//! Hard links to the files of file-sets.
 ghost use Rattle.std.specs.Prelude.{◌≡◌, ◌⊎◌, ◌++◌, ◌∷◌, [], map, string_bytes};
 ghost use Rattle.std.specs.Prelude.{IfOk, IsOk, IsSome};
 ghost use Rattle.std.specs.Fs.{IsFile, file_type};
@@ -16,7 +15,6 @@ use std::fs::Metadata;
 use std::io::{self, ErrorKind};
 
 impl<'a, R: System> HostFiles<'a, R> {
-    // Finds the plain file at the path below the folder `set`.
     fn plain_member(&mut self, set: &str, path: &str) -> io::Result<Metadata>
         ensures plain { IfOk result (λ seen. IsFile (file_type seen)) }
         ensures same { self.new ≡ record self.old { members = self.new.members } }
@@ -28,7 +26,6 @@ impl<'a, R: System> HostFiles<'a, R> {
         Ok(seen)
     }
 
-    // Makes room for a new name at the path, and gives its folder and the path.
     fn room_for(&mut self, path: &str) -> Result<(String, String), AllocError>
         ensures folder { IfOk result (λ both. IsFolderOf path.now (string_bytes both.0)) }
         ensures path { IfOk result (λ both. string_bytes both.1 ≡ path.now) }
@@ -42,7 +39,7 @@ impl<'a, R: System> HostFiles<'a, R> {
         Ok((folder, name))
     }
 
-    // Opens the new name at the path, where it is the file that was seen, and no symbolic link to it.
+    // Opens the new name. Refused where it is another file than was seen, or a symbolic link.
     fn open_linked(&mut self, path: &str, seen: &Metadata) -> io::Result<(R::File, Metadata)>
         ensures files { (self.new.unstored ≡ self.old.unstored)
             ⊎ (self.new.unstored.files.items ≡ []) }
@@ -60,7 +57,7 @@ impl<'a, R: System> HostFiles<'a, R> {
         answer
     }
 
-    // Remembers a new name of the file that was seen, and keeps it open until it is stored.
+    // Adds the new name to what is to be stored, and keeps the file open until then.
     fn keep_linked(&mut self, folder: String, path: String, seen: &Metadata) -> io::Result<()>
         ensures named { IsOk result
             → self.new.unstored.folders.items ≡ self.old.unstored.folders.items ++ folder ∷ [] }
@@ -80,9 +77,9 @@ impl<'a, R: System> HostFiles<'a, R> {
         Ok(())
     }
 
-    /// Gives the plain file at `from` below the folder `set` a hard link, which is to be stored. Absent where there is
-    /// no such file, or the new name can't be opened as that file. Taken where something stands at the path, and
-    /// Refused where memory or the name is refused.
+    /// Gives the plain file at `from` below `set` a hard link, which is to be stored. Absent where there is no such
+    /// file, or the new name can't be opened as that file. Taken where something is at the path, and Refused where
+    /// memory or the name is refused.
     pub(crate) fn add_link(&mut self, set: &str, from: &str, path: &str) -> Result<(), LinkFault>
         ensures named { IsOk result
             → Names path.now self.old.unstored.folders.items self.new.unstored.folders.items }

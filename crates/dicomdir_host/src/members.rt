@@ -8,22 +8,20 @@ use crate::spelling::spellings;
 use std::fs::{self, Metadata};
 use std::io::{self, ErrorKind};
 
-/// The place at which a file of a file-set was looked up last.
+/// The last look-up. Its folder is kept for the next one.
 #[derive(Drop)]
 pub(crate) struct Members {
-    /// The length of the path of the file-set's folder. It is `usize::MAX`, which no path has, while no folder
-    /// is kept.
+    /// The length of the path `set`, or `usize::MAX` while no folder is kept.
     set_len: usize,
-    /// The folder as it is recorded, with the `/` after it.
+    /// The folder as recorded, with the `/` after it.
     recorded: PathBuffer,
-    /// The folder as it is shown, and after it the name that was looked up.
+    /// The folder as shown, and after it the name that was looked up.
     place: PathBuffer,
-    /// The length of the folder in the place.
+    /// The length of the folder in `place`.
     folder_len: usize,
 }
 
 impl Members {
-    /// Makes a place at which no file was looked up yet.
     pub(crate) fn new() -> Self {
         Members {
             set_len: usize::MAX,
@@ -38,9 +36,8 @@ impl Members {
         self.place.as_str()
     }
 
-    /// Looks up the file at this path below the folder `set`, and answers what stands there. Each name below the
-    /// folder may be shown in any spelling, of which the first that is there is taken. A symbolic link counts as
-    /// not there.
+    /// Looks up the file at this path below the folder `set`. Each name below it may be shown in any spelling; the
+    /// first that is there is taken. A symbolic link counts as not there.
     pub(crate) fn find<R: fs::Files>(
         &mut self,
         rt: &R,
@@ -57,7 +54,6 @@ impl Members {
         find_name(rt, name, &mut self.place)
     }
 
-    /// Looks up the folder that is recorded so below the folder `set`.
     fn enter<R: fs::Files>(&mut self, rt: &R, set: &str, folder: &str) -> io::Result<()> {
         self.set_len = usize::MAX;
         self.recorded.truncate(0);
@@ -75,7 +71,6 @@ impl Members {
     }
 }
 
-/// Splits a path after its last `/`.
 fn split_name(path: &str) -> (&str, &str) {
     match path.rfind('/') {
         Some(at) => path
@@ -85,7 +80,7 @@ fn split_name(path: &str) -> (&str, &str) {
     }
 }
 
-/// Splits a path below the folder `set` after that folder and the `/` that follows it.
+/// Splits a path below `set` after `set` and the `/` that follows.
 fn split_set<'a>(set: &str, path: &'a str) -> (&'a str, &'a str) {
     let Some(below) = path.strip_prefix(set) else {
         return (path, "");
@@ -95,8 +90,7 @@ fn split_set<'a>(set: &str, path: &'a str) -> (&'a str, &'a str) {
     path.split_at_checked(above).unwrap_or((path, ""))
 }
 
-/// Looks up a name in the folder at this place, adds it there as it is shown, and answers what stands there. A
-/// symbolic link counts as not there.
+/// Looks up the name, and adds it to the place as it is shown.
 fn find_name<R: fs::Files>(rt: &R, name: &str, place: &mut PathBuffer) -> io::Result<Metadata>
     ensures no_link { IfOk result (λ found. ¬ IsSymlink (file_type found)) }
 {

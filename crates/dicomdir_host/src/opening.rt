@@ -1,4 +1,3 @@
-//! Files that are opened for reading.
 ghost use Rattle.std.specs.Io.{ReadsAtMost};
 
 use crate::again::{Links, look, look_at_open};
@@ -7,14 +6,11 @@ use std::fs::{self, File, Metadata};
 use std::io::{self, Read};
 use std::os::unix::fs::MetadataExt;
 
-/// What is read.
 #[derive(Drop)]
 pub enum Input<F: Read + Drop, S: Read + Drop> {
-    /// A file whose size is said to be 0.
+    /// A plain file whose size is said to be 0.
     Empty,
-    /// A file or a folder.
     File(F),
-    /// The standard input.
     Standard(S),
 }
 
@@ -30,11 +26,11 @@ impl<F: Read + Drop, S: Read + Drop> Read for Input<F, S> {
     }
 }
 
-/// Opens the file or the folder at the path, where this was seen. Refused where anything else was seen there,
-/// since to open it could wait, and where what was opened is another file or folder than was seen.
+/// Opens the file or folder that was seen. Refused where anything else was seen, since to open it could wait, and where
+/// what was opened is another one.
 ///
-/// A plain file whose size is said to be 0 is empty. A read of it is not begun: some of the system's own
-/// files say so, and a read of them waits.
+/// A plain file whose size is said to be 0 is empty, and is not read: some of the system's own files say so, and a read
+/// of them waits.
 pub(crate) fn open_seen<R: System>(
     rt: &R,
     path: &str,
@@ -50,8 +46,7 @@ pub(crate) fn open_seen<R: System>(
     Ok(Input::File(file))
 }
 
-/// Opens the file or the folder at the path, and answers what it is. Refused where it is not the one that was
-/// seen.
+/// Refused where what was opened is not what was seen.
 pub(crate) fn open_same<R: fs::Files>(
     rt: &R,
     path: &str,
@@ -65,7 +60,7 @@ pub(crate) fn open_same<R: fs::Files>(
     Ok((file, opened))
 }
 
-/// Refuses the path unless the file that was seen stands there. A symbolic link to that file is refused, too.
+/// Refuses the path unless the file that was seen is there. A symbolic link to that file is refused, too.
 pub(crate) fn require_same<R: fs::Files>(rt: &R, path: &str, seen: &Metadata) -> io::Result<()> {
     let found = look(rt, path, Links::Kept)?;
     if !is_same(seen, &found) {
@@ -74,12 +69,12 @@ pub(crate) fn require_same<R: fs::Files>(rt: &R, path: &str, seen: &Metadata) ->
     Ok(())
 }
 
-/// Opens what stands at the path: a pipe or a device, too, and a file of any size. It may wait.
+/// Opens a pipe or a device, too. It may wait.
 pub(crate) fn open_any<R: System>(rt: &R, path: &str) -> io::Result<Input<R::File, R::Stdin>> {
     Ok(Input::File(File::open(rt, path)?))
 }
 
-/// Is it the same file or folder: of one kind, on one device, with one inode?
+/// Compares the kind, the device and the inode.
 fn is_same(seen: &Metadata, opened: &Metadata) -> bool {
     seen.is_file() == opened.is_file()
         && seen.is_dir() == opened.is_dir()

@@ -1,4 +1,3 @@
-//! The file that is being written.
 ghost use Rattle.std.specs.Prelude.{◌≡◌, ◌↔◌, None, IsErr, IsTrue};
 ghost use Rattle.std.specs.Io.{WritesAtMost};
 ghost use Rattle.std.specs.Io.KnownBytes.{WriteAppends};
@@ -9,10 +8,9 @@ use std::alloc::Global;
 use std::fs::{self, OpenOptions};
 use std::io::{self, BufWriter};
 
-// The bytes that are gathered before they are written.
 const BUFFER: usize = 64 * 1024;
 
-// Did a write of the bytes fail? One that takes none of some did.
+// A write that takes none of one or more bytes has failed, too.
 fn has_failed(answer: &io::Result<usize>, bytes: &[u8]) -> bool
     ensures { IsTrue result ↔ TakesNone answer.now bytes.now }
 {
@@ -22,7 +20,7 @@ fn has_failed(answer: &io::Result<usize>, bytes: &[u8]) -> bool
     }
 }
 
-/// A file until a write to it fails. It is dropped then, so that nothing more reaches it.
+/// A file until a write to it fails; then it is dropped, so that nothing more reaches it.
 #[derive(Drop)]
 pub(crate) struct Target<F: io::Write + Drop> {
     file: Option<F>,
@@ -53,21 +51,19 @@ impl<F: io::Write + Drop> io::Write for Target<F> {
     }
 }
 
-/// The file that is being written, where there is one, with a buffer before it. It is dropped where a
-/// write fails.
+/// The file that is being written, if any, with a buffer. It is dropped where a write fails.
 #[derive(Drop)]
 pub(crate) struct Output<F: io::Write + Drop> {
     writer: Option<BufWriter<Target<F>>>,
 }
 
 impl<F: io::Write + Drop> Output<F> {
-    /// Makes an output without a file.
     pub(crate) fn new() -> Self {
         Output { writer: None }
     }
 
-    /// Writes what is left in the buffer, and gives the file, which is being written no more. Refused where no
-    /// file is being written, or a write to it has failed.
+    /// Writes the rest of the buffer, and gives the file. Refused where no file is being written, or a write has
+    /// failed.
     pub(crate) fn take(&mut self) -> io::Result<F>
         ensures lets_go { self.new.writer ≡ None }
         ensures none { self.old.writer ≡ None → IsErr result }
@@ -110,7 +106,7 @@ impl<F: io::Write + Drop> io::Write for Output<F> {
     }
 }
 
-/// Opens a new file at the path, once there is a buffer for it. Refused where the name is taken.
+/// Opens a new file, after it has a buffer. Refused where the name is taken.
 pub(crate) fn start<R: fs::Files>(
     alloc: Global,
     rt: &R,

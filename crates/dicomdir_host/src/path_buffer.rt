@@ -1,4 +1,3 @@
-//! A path that is put together without taking memory.
 ghost use Rattle.std.specs.Prelude.{◌≡◌, ◌≤◌, ◌<◌, ◌+◌, ◌++◌, ℕ, List, [], IsErr, IsOk, length, take};
 ghost use Rattle.std.specs.Prelude.{if◌then◌else◌};
 ghost use Rattle.std.specs.Str.{IsUtf8};
@@ -9,10 +8,10 @@ use std::io::{self, ErrorKind};
 use std::marker::Model;
 use std::str::from_utf8;
 
-/// The most bytes of a path. The system takes 4,095 (PATH_MAX, which counts the NUL after them).
+/// The system takes paths up to 4,095 bytes (PATH_MAX counts the NUL).
 const MOST: usize = 4096;
 
-/// A path that is put together, of at most 4,096 bytes.
+/// A path of at most 4,096 bytes, put together without an allocation.
 #[derive(Drop)]
 pub(crate) struct PathBuffer {
     bytes: [u8; MOST],
@@ -27,7 +26,6 @@ impl Model for PathBuffer {
 }
 
 impl PathBuffer {
-    /// Makes the empty path.
     pub(crate) fn new() -> Self
         ensures { result ≡ [] }
     {
@@ -37,21 +35,19 @@ impl PathBuffer {
         }
     }
 
-    /// Counts its bytes.
     pub(crate) fn len(&self) -> usize
         ensures { result ≡ length self.now }
     {
         self.len
     }
 
-    /// Takes away what stands after the first `len` bytes.
     pub(crate) fn truncate(&mut self, len: usize)
         ensures { self.new ≡ take len self.old }
     {
         self.len = self.len.min(len);
     }
 
-    /// Adds this text. Refused where the path gets too long, and then nothing has changed.
+    /// Refused where the path gets too long.
     pub(crate) fn push(&mut self, text: &str) -> io::Result<()>
         ensures ok { IsOk result → self.new ≡ self.old ++ text.now }
         ensures err { IsErr result → (self.new ≡ self.old)
@@ -60,8 +56,6 @@ impl PathBuffer {
         self.push_letters(text, false)
     }
 
-    /// Adds this text, in small letters where these are asked for. Refused where the path gets too long, and then
-    /// nothing has changed.
     fn push_letters(&mut self, text: &str, is_small: bool) -> io::Result<()>
         ensures ok { IsOk result
             → self.new ≡ self.old ++ (if is_small then in_small_letters text.now else text.now) }
@@ -81,7 +75,7 @@ impl PathBuffer {
         Ok(())
     }
 
-    /// Adds a name in this spelling. Refused where the path gets too long.
+    /// Refused where the path gets too long; then part of the name may be added.
     pub(crate) fn push_spelled(&mut self, name: &str, spelling: Spelling) -> io::Result<()>
         ensures ok { IsOk result → self.new ≡ self.old ++ spelled spelling name.now }
         ensures err { IsErr result → most_path < length self.old + length
@@ -91,7 +85,7 @@ impl PathBuffer {
         self.push(spelling.ending)
     }
 
-    /// Gives its text. Bytes that are no text give the empty one; no path is put together of such bytes.
+    /// Gives its text. Bytes that are no UTF-8 give the empty text; no path is made of such bytes.
     pub(crate) fn as_str(&self) -> &str
         ensures text { IsUtf8 self.now → result.now ≡ self.now }
         ensures none { ¬ IsUtf8 self.now → result.now ≡ [] }

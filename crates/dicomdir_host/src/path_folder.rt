@@ -1,8 +1,6 @@
-//! The folder that a path stands in.
 ghost use Rattle.std.specs.Prelude.{◌≡◌, ◌≢◌, ◌<◌, ◌≤◌, ◌-◌, length, slice_index};
 ghost use Rattle.dicomdir_host.specs.Folders.{AreSlashes, HasNoSlash, IsFolderOf};
 
-/// Finds where the slashes begin that stand before a place.
 fn slashes_before(path: &[u8], place: usize) -> usize
     requires { place ≤ length path.now }
     ensures bound { result ≤ place }
@@ -16,7 +14,6 @@ fn slashes_before(path: &[u8], place: usize) -> usize
     start
 }
 
-/// Finds where the name begins that stands before a place.
 fn name_before(path: &[u8], place: usize) -> usize
     requires { place ≤ length path.now }
     ensures bound { result ≤ place }
@@ -30,7 +27,7 @@ fn name_before(path: &[u8], place: usize) -> usize
     start
 }
 
-/// Gives the folder in which the last name of a path stands. The current folder is `.`.
+/// Gives the folder of the last name in a path. The current folder is `.`.
 pub(crate) fn folder_of(path: &str) -> &str
     ensures { IsFolderOf path.now result.now }
 {
@@ -48,7 +45,7 @@ pub(crate) fn folder_of(path: &str) -> &str
     folder
 }
 
-/// Gives what stands in the path before a `/` at this place.
+/// Gives the part of the path before a `/` at this place.
 pub(crate) fn before_slash(path: &str, at: usize) -> Option<&str> {
     match path.split_at_checked(at) {
         Some((before, rest)) if rest.starts_with('/') => Some(before),

@@ -1,19 +1,15 @@
-//! How systems show the names of a disc.
 ghost use Rattle.std.specs.Prelude.{◌≡◌, ◌++◌, ℕ, List, map};
 ghost use Rattle.dicomdir_host.specs.Spellings.{in_small_letters, shown, spelled};
 
-/// A spelling of a recorded name.
 #[derive(Clone, Copy)]
 pub(crate) struct Spelling {
-    /// Is it in small letters?
     pub(crate) is_small: bool,
-    /// What stands after the letters.
+    /// What follows the letters.
     pub(crate) ending: &'static str,
 }
 
-/// Lists the spellings in which systems show a name of a disc (ISO 9660), in the order in which they are looked
-/// up. A recorded name has no dot and no version number, and its letters are capital ones (PS3.10 section 8.2 and
-/// PS3.12).
+/// Lists the spellings in which systems show a name of a disc (ISO 9660), in the order of the look-up. A recorded name
+/// has no dot and no version number, and its letters are capital ones (PS3.10 section 8.2 and PS3.12).
 pub(crate) fn spellings() -> [Spelling; 8]
     ensures { (name : List ℕ) → map (λ spelling. spelled spelling name) result ≡ shown name }
 {
@@ -29,7 +25,6 @@ pub(crate) fn spellings() -> [Spelling; 8]
     ]
 }
 
-/// Spells a name as it is recorded, with this ending.
 fn capital(ending: &'static str) -> Spelling
     ensures { (name : List ℕ) → spelled result name ≡ name ++ ending.now }
 {
@@ -39,7 +34,6 @@ fn capital(ending: &'static str) -> Spelling
     }
 }
 
-/// Spells a name in small letters, with this ending.
 fn small(ending: &'static str) -> Spelling
     ensures { (name : List ℕ) → spelled result name ≡ in_small_letters name ++ ending.now }
 {

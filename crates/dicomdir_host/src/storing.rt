@@ -1,4 +1,3 @@
-//! What was made and is not stored yet.
 ghost use Rattle.std.specs.Prelude.{◌≡◌, ◌↔◌, ◌++◌, ◌∷◌, [], None, Some, length, string_bytes};
 ghost use Rattle.std.specs.Prelude.{IfOk, IfSome, IsErr, IsOk, IsSome};
 ghost use Rattle.dicomdir_host.specs.Storing.{IsStored};
@@ -11,21 +10,20 @@ use std::io::{self, ErrorKind};
 use std::mem;
 use std::time::Clock;
 
-/// A file that has ended, still open.
 #[derive(Drop)]
 pub(crate) struct Ended<F: Drop> {
     path: String,
     file: F,
 }
 
-/// What was made and is not stored yet: files that have ended, which stay open until then, and the names in
-/// folders. What could once not be stored is lost, and nothing takes that back.
+/// What was made and is not stored yet: files that have ended, which stay open until then, and names in folders. What
+/// could not be stored is lost for good.
 pub(crate) struct Unstored<F: Drop> {
     alloc: Global,
     files: Vec<Ended<F>>,
-    // The folders that the names stand in.
+    // The folders of the names.
     folders: Vec<String>,
-    // The first file or folder that was not stored.
+    // The first file or folder that could not be stored.
     lost: Option<String>,
 }
 
@@ -42,7 +40,6 @@ impl<F: Drop> Drop for Unstored<F> {
 }
 
 impl<F: OpenFile + Drop> Unstored<F> {
-    /// Makes an empty record of what is not stored.
     pub(crate) fn new(alloc: Global) -> Self
         ensures { IsStored result.files.items result.folders.items result.lost }
     {
@@ -54,14 +51,13 @@ impl<F: OpenFile + Drop> Unstored<F> {
         }
     }
 
-    /// Counts the files that wait.
     pub(crate) fn files_len(&self) -> usize
         ensures { result ≡ length self.now.files.items }
     {
         self.files.len()
     }
 
-    /// Gives the path of what was lost, and else of the current folder.
+    /// Gives the path of what was lost, or else the current folder.
     pub(crate) fn lost(&self) -> &str
         ensures { IfSome self.now.lost (λ path. result.now ≡ string_bytes path) }
     {
@@ -71,7 +67,7 @@ impl<F: OpenFile + Drop> Unstored<F> {
         }
     }
 
-    /// Makes room for one more file and one more folder, of which it gives the path.
+    /// Makes room for one more file and one more folder, and copies that folder's path.
     pub(crate) fn room(&mut self, folder: &str) -> Result<String, AllocError>
         ensures copied { IfOk result (λ path. string_bytes path ≡ folder.now) }
         ensures files { self.new.files.items ≡ self.old.files.items }
@@ -83,7 +79,7 @@ impl<F: OpenFile + Drop> Unstored<F> {
         String::from_str(self.alloc, folder)
     }
 
-    /// Remembers a folder in which something was made.
+    /// Adds a folder whose new names are to be stored.
     pub(crate) fn name(&mut self, folder: String) -> Result<(), AllocError>
         ensures named { IsOk result → self.new.folders.items
             ≡ self.old.folders.items ++ folder ∷ [] }
@@ -93,7 +89,6 @@ impl<F: OpenFile + Drop> Unstored<F> {
         Ok(())
     }
 
-    /// Remembers a file that has ended.
     pub(crate) fn keep(&mut self, path: String, file: F) -> Result<(), AllocError>
         ensures kept { IsOk result
             → self.new.files.items
@@ -104,7 +99,6 @@ impl<F: OpenFile + Drop> Unstored<F> {
         Ok(())
     }
 
-    // Remembers what was not stored, where nothing was so far.
     fn lose(&mut self, path: String)
         ensures first { self.old.lost ≡ None → self.new.lost ≡ Some path }
         ensures stays { IsSome self.old.lost → self.new.lost ≡ self.old.lost }
@@ -115,7 +109,6 @@ impl<F: OpenFile + Drop> Unstored<F> {
         }
     }
 
-    /// Refuses where something is lost.
     pub(crate) fn answer(&self) -> io::Result<()>
         ensures { IsOk result ↔ (self.now.lost ≡ None) }
     {
@@ -125,7 +118,7 @@ impl<F: OpenFile + Drop> Unstored<F> {
         }
     }
 
-    /// Makes the system store the files, and closes them. Shows how many are stored. Refused where something is lost.
+    /// Makes the system store the files, closes them, and shows how many are stored.
     pub(crate) fn store_files<C: Clock, W: io::Write + Drop>(
         &mut self,
         clock: &C,
@@ -150,7 +143,7 @@ impl<F: OpenFile + Drop> Unstored<F> {
         self.answer()
     }
 
-    // Makes the system store the names, each folder once.
+    // Stores each folder once.
     fn store_folders<R: fs::Files>(&mut self, rt: &R) -> io::Result<()>
         ensures none { self.new.folders.items ≡ [] }
         ensures done { IsOk result ↔ (self.new.lost ≡ None) }
@@ -168,7 +161,6 @@ impl<F: OpenFile + Drop> Unstored<F> {
         self.answer()
     }
 
-    /// Makes the system store all. Refused where something is lost.
     pub(crate) fn store<R: fs::Files + Clock, W: io::Write + Drop>(
         &mut self,
         rt: &R,
@@ -184,7 +176,7 @@ impl<F: OpenFile + Drop> Unstored<F> {
     }
 }
 
-// Opens the folder at the path for reading. Anything else is refused, since to open it could wait.
+// Refuses what is no folder, since to open it could wait.
 fn open_folder<R: fs::Files>(rt: &R, path: &str) -> io::Result<R::File> {
     if !look(rt, path, Links::Followed)?.is_dir() {
         return Err(io::Error::other("no folder"));
@@ -192,8 +184,7 @@ fn open_folder<R: fs::Files>(rt: &R, path: &str) -> io::Result<R::File> {
     File::open(rt, path)
 }
 
-// Makes the system store the names in a folder. Passes over a folder that may not be opened, and one that its
-// system can't store.
+// Passes over a folder that may not be opened, and one that its system can't store.
 fn store_folder<R: fs::Files>(rt: &R, path: &str) -> io::Result<()> {
     let folder = match open_folder(rt, path) {
         Ok(folder) => folder,

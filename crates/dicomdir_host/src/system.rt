@@ -1,5 +1,3 @@
-//! The system that a program runs on.
-
 use std::fs;
 use std::io::{self, IsTerminal};
 use std::rt::{HostRuntime, Stderr, Stdin};
@@ -7,13 +5,10 @@ use std::time::Clock;
 
 /// The system: its files, its clock, and two of the standard descriptors of the process.
 pub trait System: fs::Files + Clock {
-    /// The standard input.
     type Stdin: io::Read + Drop;
 
-    /// A terminal.
     type Terminal: io::Write + Drop;
 
-    /// Gives the standard input.
     fn standard_input(&self) -> Self::Stdin;
 
     /// Gives the error output where that is a terminal.

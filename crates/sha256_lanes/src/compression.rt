@@ -8,7 +8,7 @@ use crate::constants::K;
 use crate::functions::{add, big_sigma0, big_sigma1, ch, maj, small_sigma0, small_sigma1, splat};
 use std::simd::u32x4;
 
-/// Gives the word that begins at this byte, its high byte first.
+/// Gives the word at this byte, high byte first.
 #[inline(always)]
 fn word_of(block: &[u8], at: usize) -> u32
     requires { at + 4 ≤ length block.now }
@@ -17,7 +17,6 @@ fn word_of(block: &[u8], at: usize) -> u32
     u32::from_be_bytes([block[at], block[at + 1], block[at + 2], block[at + 3]])
 }
 
-/// Gives the words that begin at this byte of four blocks.
 #[inline(always)]
 fn words_of(b0: &[u8], b1: &[u8], b2: &[u8], b3: &[u8], at: usize) -> u32x4
     requires { (at + 4 ≤ length b0.now) × (at + 4 ≤ length b1.now)
@@ -74,7 +73,6 @@ fn round(w: &[u32x4; 64], v: [u32x4; 8], t: usize) -> [u32x4; 8]
     [first, a, b, c, fifth, e, f, g]
 }
 
-/// Makes eight rounds, from round `t` on.
 #[inline(always)]
 fn eight_rounds(w: &[u32x4; 64], v: [u32x4; 8], t: usize) -> [u32x4; 8]
     requires { t + 8 ≤ 64 }
@@ -91,7 +89,7 @@ fn eight_rounds(w: &[u32x4; 64], v: [u32x4; 8], t: usize) -> [u32x4; 8]
     round(w, v, t + 7)
 }
 
-/// Makes all rounds. They stand at constant places, which is faster than a loop.
+/// Unrolled, which is faster than a loop.
 #[inline(always)]
 fn all_rounds(w: &[u32x4; 64], h: [u32x4; 8]) -> [u32x4; 8]
     ensures { (j : ℕ) (b : List ℕ) → j < 4 → IsScheduled w.now j b

@@ -10,7 +10,6 @@ use crate::padding::{block, block_count, tail_of};
 use sha2::{Digest, Sha256};
 use std::simd::u32x4;
 
-/// Gives the initial hash value of four messages.
 fn initial_hash() -> [u32x4; 8]
     ensures { (j : ℕ) → j < 4 → lane j result ≡ initial_hash_256 }
 {
@@ -82,7 +81,7 @@ fn lanes_pay(a: &[u8], b: &[u8], c: &[u8], d: &[u8]) -> bool {
     longest * 9 < (a_count + b_count + c_count + d_count) * 5
 }
 
-/// Digests four messages at once. Each answer is the SHA-256 of the message at its place.
+/// Gives the SHA-256 of each of four messages, in their order.
 pub fn digest4(a: &[u8], b: &[u8], c: &[u8], d: &[u8]) -> ([u8; 32], [u8; 32], [u8; 32], [u8; 32])
     ensures { result ≡ (sha256 a.now, sha256 b.now, sha256 c.now, sha256 d.now) }
 {

@@ -14,7 +14,6 @@ pub(crate) fn add(a: u32x4, b: u32x4) -> u32x4
     a + b
 }
 
-/// Computes the bitwise AND of each lane.
 #[inline(always)]
 fn and(a: u32x4, b: u32x4) -> u32x4
     ensures { (j : ℕ) → j < 4 → slice_index result j ≡ bit_and (slice_index a j) (slice_index b j) }
@@ -22,7 +21,6 @@ fn and(a: u32x4, b: u32x4) -> u32x4
     a & b
 }
 
-/// Computes the bitwise XOR of each lane.
 #[inline(always)]
 fn xor(a: u32x4, b: u32x4) -> u32x4
     ensures { (j : ℕ) → j < 4 → slice_index result j ≡ bit_xor (slice_index a j) (slice_index b j) }
@@ -30,7 +28,6 @@ fn xor(a: u32x4, b: u32x4) -> u32x4
     a ^ b
 }
 
-/// Puts a word into each lane.
 #[inline(always)]
 pub(crate) fn splat(word: u32) -> u32x4
     ensures { (j : ℕ) → j < 4 → slice_index result j ≡ word }
@@ -104,7 +101,6 @@ pub(crate) fn small_sigma1(x: u32x4) -> u32x4
     xor(both, rest)
 }
 
-/// Computes the bitwise complement of each lane.
 #[inline(always)]
 fn complement(x: u32x4) -> u32x4
     ensures { (j : ℕ) → j < 4 → slice_index result j ≡ bit_not w32 (slice_index x j) }
