@@ -24,7 +24,7 @@ use Rattle.dd_dir.specs.ReadAnswers.{SaysMemory, TellsContents}
 use Rattle.dd_dir.specs.Reading.{Contents, contents_in, contents_of, is_directory_meta, IsDirectoryFile, IsWalkOf}
 use Rattle.dd_dir.specs.Reading.{IsWalk}
 use Rattle.dd_dir.specs.Reading.{RefusesOf, Refuses}
-use Rattle.dd_dir.specs.Slots.{Rises}
+use Rattle.dd_dir.specs.Pending.{Rises}
 use Rattle.dd_dir.proofs.Contents.{same_many}
 use Rattle.dd_dir.proofs.Moved.{places_many}
 use Rattle.dd_dir.proofs.Sequences.{items_in, items_in-is}

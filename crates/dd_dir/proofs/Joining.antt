@@ -10,7 +10,7 @@ use Rattle.dd_dir.specs.ForestViews.{Branch, trees_of, tree_view}
 use Rattle.dd_dir.specs.ReadAnswers.{Leaves, Fails, Joins, Follows}
 use Rattle.dd_dir.specs.Reading.{stands_in}
 use Rattle.dd_dir.specs.Saying.{Links, links_in}
-use Rattle.dd_dir.specs.Slots.{AreLeft, reached}
+use Rattle.dd_dir.specs.Pending.{AreLeft, reached}
 use Rattle.dd_dir.specs.Trees.{Trees, no_trees, tree, offsets}
 use Rattle.dd_dir.specs.Walks.{max_record_levels, node_of, IsChain, Seen, with, with_all, AreApart, shape_at, found_at}
 use Rattle.dd_dir.specs.Walks.{step_at, here, down, along, StopsBy, Stops}

@@ -1,4 +1,4 @@
--- The slot of a start, among starts that rise: what it holds, and what is left once it is emptied.
+-- The pending set of a start, among starts that rise, and what is pending once it is taken out.
 use Rattle.std.proofs.Common.{◌≡◌, ℕ, zero, suc, ◌+◌, ◌<◌, ◌≤◌, ◌==◌, Bool, true, false, List, [], ◌∷◌, length, get_or}
 use Rattle.std.proofs.Common.{Option, None, Some, Ok, Err, if◌then◌else◌, option_map, refl, sym, ap, subst, ◌∙◌}
 use Rattle.std.proofs.Common.{arith, inl, inr}
@@ -15,7 +15,7 @@ use Rattle.dd_set.specs.Views.{set_view}
 use Rattle.dd_dir.specs.declared.fault.DirFault.TheVariants.{Dangling, Twice}
 use Rattle.dd_dir.specs.ReadAnswers.{Leaves}
 use Rattle.dd_dir.specs.Reading.{stands_in}
-use Rattle.dd_dir.specs.Slots.{Rises, AreLeft, reached, count_left, slots_view}
+use Rattle.dd_dir.specs.Pending.{Rises, AreLeft, reached, count_left, pending_view}
 use Rattle.dd_dir.specs.Walks.{with, found_at}
 
 -- ---- numbers that rise
@@ -45,10 +45,10 @@ stands_none (start ∷ starts) (x ∷ sets) p none =
     let other : (p == start) ≡ false = neq_eqb p start (λ e. none 0 (omega arith) (sym e)) in
     rw other (stands_none starts sets p (λ k within. none (suc k) (omega arith)))
 
--- what is found at the start of a slot, and whether it was reached
-abbrev pub AtSlot : Option Elements → Bool → Option Elements → Type 0
-AtSlot found seen None = (x : Elements) × (found ≡ Some x) × (seen ≡ true)
-AtSlot found seen (Some held) = (found ≡ Some held) × (seen ≡ false)
+-- what stands at a start, and whether it was reached
+abbrev pub AtStart : Option Elements → Bool → Option Elements → Type 0
+AtStart found seen None = (x : Elements) × (found ≡ Some x) × (seen ≡ true)
+AtStart found seen (Some held) = (found ≡ Some held) × (seen ≡ false)
 
 pub same_start : (p : ℕ) → (p == p) ≡ true
 same_start p = search (arith)
@@ -58,35 +58,35 @@ other_start : (low : ℕ) (starts : List ℕ) (i start : ℕ) → Rises (start +
 other_start low starts i start rise within =
     neq_eqb (get_or starts i 0) start (λ e. absurd (omega (arith, rises_at (start + 1) starts i rise within)))
 
-pub at_slot : (low : ℕ) (starts : List ℕ) (sets : List Elements) (slots : List (Option Elements)) (i : ℕ)
-    → Rises low starts → AreLeft sets slots → length starts ≡ length slots → i < length starts
-    → AtSlot (stands_in starts sets (get_or starts i 0)) (reached starts slots (get_or starts i 0))
-    (get_or slots i None)
-at_slot low [] sets slots i rise left each within = absurd (omega arith)
-at_slot low (start ∷ starts) sets [] i rise left each within = absurd (omega arith)
-at_slot low (start ∷ starts) [] (slot ∷ slots) i rise left each within = absurd left
-at_slot low (start ∷ starts) (x ∷ sets) (None ∷ slots) zero rise left each within =
+pub at_start : (low : ℕ) (starts : List ℕ) (sets : List Elements) (pending : List (Option Elements)) (i : ℕ)
+    → Rises low starts → AreLeft sets pending → length starts ≡ length pending → i < length starts
+    → AtStart (stands_in starts sets (get_or starts i 0)) (reached starts pending (get_or starts i 0))
+    (get_or pending i None)
+at_start low [] sets pending i rise left each within = absurd (omega arith)
+at_start low (start ∷ starts) sets [] i rise left each within = absurd (omega arith)
+at_start low (start ∷ starts) [] (item ∷ pending) i rise left each within = absurd left
+at_start low (start ∷ starts) (x ∷ sets) (None ∷ pending) zero rise left each within =
     rw (same_start start) (x, refl, refl)
-at_slot low (start ∷ starts) (x ∷ sets) (Some held ∷ slots) zero rise left each within =
+at_start low (start ∷ starts) (x ∷ sets) (Some held ∷ pending) zero rise left each within =
     rw (same_start start) (ap (λ y. Some y) (sym left.0), refl)
-at_slot low (start ∷ starts) (x ∷ sets) (None ∷ slots) (suc i) rise left each within =
+at_start low (start ∷ starts) (x ∷ sets) (None ∷ pending) (suc i) rise left each within =
     rw (other_start low starts i start rise.1 (omega arith))
-    (at_slot (start + 1) starts sets slots i rise.1 left (omega arith) (omega arith))
-at_slot low (start ∷ starts) (x ∷ sets) (Some held ∷ slots) (suc i) rise left each within =
+    (at_start (start + 1) starts sets pending i rise.1 left (omega arith) (omega arith))
+at_start low (start ∷ starts) (x ∷ sets) (Some held ∷ pending) (suc i) rise left each within =
     rw (other_start low starts i start rise.1 (omega arith))
-    (at_slot (start + 1) starts sets slots i rise.1 left.1 (omega arith) (omega arith))
+    (at_start (start + 1) starts sets pending i rise.1 left.1 (omega arith) (omega arith))
 
--- ---- a slot is emptied
+-- ---- a set is taken out
 
-pub left_without : (sets : List Elements) (slots : List (Option Elements)) (i : ℕ) → AreLeft sets slots
-    → AreLeft sets (set slots i None)
+pub left_without : (sets : List Elements) (pending : List (Option Elements)) (i : ℕ) → AreLeft sets pending
+    → AreLeft sets (set pending i None)
 left_without [] [] i left = left
-left_without [] (slot ∷ slots) i left = absurd left
+left_without [] (item ∷ pending) i left = absurd left
 left_without (x ∷ sets) [] i left = absurd left
-left_without (x ∷ sets) (None ∷ slots) zero left = left
-left_without (x ∷ sets) (Some held ∷ slots) zero left = left.1
-left_without (x ∷ sets) (None ∷ slots) (suc i) left = left_without sets slots i left
-left_without (x ∷ sets) (Some held ∷ slots) (suc i) left = (left.0, left_without sets slots i left.1)
+left_without (x ∷ sets) (None ∷ pending) zero left = left
+left_without (x ∷ sets) (Some held ∷ pending) zero left = left.1
+left_without (x ∷ sets) (None ∷ pending) (suc i) left = left_without sets pending i left
+left_without (x ∷ sets) (Some held ∷ pending) (suc i) left = (left.0, left_without sets pending i left.1)
 
 first_here : (a : Bool) (t r : Bool) → (if a then true else r) ≡ (if a then true else (if a then t else r))
 first_here true t r = refl
@@ -103,40 +103,40 @@ swap_false : (a b r : Bool) → (a ≡ true → b ≡ false)
 swap_false true b r apart = rw (apart refl) refl
 swap_false false b r apart = refl
 
-pub reached_without : (low : ℕ) (starts : List ℕ) (slots : List (Option Elements)) (i : ℕ) → Rises low starts
-    → length starts ≡ length slots → i < length starts → (q : ℕ)
-    → reached starts (set slots i None) q ≡ with (get_or starts i 0) (reached starts slots) q
-reached_without low [] slots i rise each within q = absurd (omega arith)
+pub reached_without : (low : ℕ) (starts : List ℕ) (pending : List (Option Elements)) (i : ℕ) → Rises low starts
+    → length starts ≡ length pending → i < length starts → (q : ℕ)
+    → reached starts (set pending i None) q ≡ with (get_or starts i 0) (reached starts pending) q
+reached_without low [] pending i rise each within q = absurd (omega arith)
 reached_without low (start ∷ starts) [] i rise each within q = absurd (omega arith)
-reached_without low (start ∷ starts) (None ∷ slots) zero rise each within q =
-    first_here (q == start) true (reached starts slots q)
-reached_without low (start ∷ starts) (Some held ∷ slots) zero rise each within q =
-    first_here (q == start) false (reached starts slots q)
-reached_without low (start ∷ starts) (None ∷ slots) (suc i) rise each within q =
+reached_without low (start ∷ starts) (None ∷ pending) zero rise each within q =
+    first_here (q == start) true (reached starts pending q)
+reached_without low (start ∷ starts) (Some held ∷ pending) zero rise each within q =
+    first_here (q == start) false (reached starts pending q)
+reached_without low (start ∷ starts) (None ∷ pending) (suc i) rise each within q =
     ap (λ r. if q == start then true else r)
-    (reached_without (start + 1) starts slots i rise.1 (omega arith) (omega arith) q)
-    ∙ swap_true (q == start) (q == get_or starts i 0) (reached starts slots q)
-reached_without low (start ∷ starts) (Some held ∷ slots) (suc i) rise each within q =
+    (reached_without (start + 1) starts pending i rise.1 (omega arith) (omega arith) q)
+    ∙ swap_true (q == start) (q == get_or starts i 0) (reached starts pending q)
+reached_without low (start ∷ starts) (Some held ∷ pending) (suc i) rise each within q =
     ap (λ r. if q == start then false else r)
-    (reached_without (start + 1) starts slots i rise.1 (omega arith) (omega arith) q)
-    ∙ swap_false (q == start) (q == get_or starts i 0) (reached starts slots q)
+    (reached_without (start + 1) starts pending i rise.1 (omega arith) (omega arith) q)
+    ∙ swap_false (q == start) (q == get_or starts i 0) (reached starts pending q)
     (λ e. neq_eqb q (get_or starts i 0)
     (λ same. absurd (omega (arith, eqb-true q start e, rises_at (start + 1) starts i rise.1 (omega arith)))))
 
-pub count_without : (slots : List (Option Elements)) (i : ℕ) (held : Elements) → get_or slots i None ≡ Some held
-    → count_left slots ≡ 1 + count_left (set slots i None)
+pub count_without : (pending : List (Option Elements)) (i : ℕ) (held : Elements) → get_or pending i None ≡ Some held
+    → count_left pending ≡ 1 + count_left (set pending i None)
 count_without [] i held is = absurd (cc)
-count_without (None ∷ slots) zero held is = absurd (cc)
-count_without (Some other ∷ slots) zero held is = refl
-count_without (None ∷ slots) (suc i) held is = count_without slots i held is
-count_without (Some other ∷ slots) (suc i) held is = ap (λ n. 1 + n) (count_without slots i held is)
+count_without (None ∷ pending) zero held is = absurd (cc)
+count_without (Some other ∷ pending) zero held is = refl
+count_without (None ∷ pending) (suc i) held is = count_without pending i held is
+count_without (Some other ∷ pending) (suc i) held is = ap (λ n. 1 + n) (count_without pending i held is)
 
-pub leaves : (low : ℕ) (starts : List ℕ) (sets : List Elements) (slots : List (Option Elements)) (i : ℕ)
-    → Rises low starts → AreLeft sets slots → length starts ≡ length slots → i < length starts
-    → Leaves starts sets (get_or starts i 0) slots (set slots i None)
-leaves low starts sets slots i rise left each within = record {
-  left = left_without sets slots i left;
-  adds = λ j q. reached_without low starts slots i rise each within q j;
+pub leaves : (low : ℕ) (starts : List ℕ) (sets : List Elements) (pending : List (Option Elements)) (i : ℕ)
+    → Rises low starts → AreLeft sets pending → length starts ≡ length pending → i < length starts
+    → Leaves starts sets (get_or starts i 0) pending (set pending i None)
+leaves low starts sets pending i rise left each within = record {
+  left = left_without sets pending i left;
+  adds = λ j q. reached_without low starts pending i rise each within q j;
 }
 
 -- ---- what a search for a place finds
@@ -158,25 +158,25 @@ dangling low starts sets seen x p i level rise is position =
     rw none refl
 
 -- what stands at a start that was found
-pub at_found : (low : ℕ) (starts : List ℕ) (sets : List Elements) (slots : List (Option Elements)) (x p i : ℕ)
-    → Rises low starts → AreLeft sets slots → length starts ≡ length slots
+pub at_found : (low : ℕ) (starts : List ℕ) (sets : List Elements) (pending : List (Option Elements)) (x p i : ℕ)
+    → Rises low starts → AreLeft sets pending → length starts ≡ length pending
     → x ≡ p → IsBinarySearchResult (λ y. nat_cmp y x) starts (Ok i)
-    → AtSlot (stands_in starts sets p) (reached starts slots p) (get_or slots i None)
-    × Leaves starts sets p slots (set slots i None)
-at_found low starts sets slots x p i rise left each is position =
+    → AtStart (stands_in starts sets p) (reached starts pending p) (get_or pending i None)
+    × Leaves starts sets p pending (set pending i None)
+at_found low starts sets pending x p i rise left each is position =
     let found = searched starts x (Ok i) position (rises_sorted low starts rise) in
     let here : get_or starts i 0 ≡ p = found.1 ∙ is in (
-      subst (λ q. AtSlot (stands_in starts sets q) (reached starts slots q) (get_or slots i None)) here
-          (at_slot low starts sets slots i rise left each found.0),
-      subst (λ q. Leaves starts sets q slots (set slots i None)) here
-          (leaves low starts sets slots i rise left each found.0),
+      subst (λ q. AtStart (stands_in starts sets q) (reached starts pending q) (get_or pending i None)) here
+          (at_start low starts sets pending i rise left each found.0),
+      subst (λ q. Leaves starts sets q pending (set pending i None)) here
+          (leaves low starts sets pending i rise left each found.0),
     )
 
-pub twice : (p level : ℕ) (seen : Bool) (found : Option Elements) → AtSlot found seen None
+pub twice : (p level : ℕ) (seen : Bool) (found : Option Elements) → AtStart found seen None
     → found_at p level seen found ≡ Err (Twice p)
 twice p level seen found at = rw (at.1, at.2) refl
 
--- a slot of the code, as it is seen
-pub slot_is : (slots : List (Option DataSet)) (i : ℕ) (d : Option DataSet) → i < length slots
-    → get_or (slots_view slots) i None ≡ option_map set_view (get_or slots i d)
-slot_is slots i d within = get_or-map (λ (s : Option DataSet). option_map set_view s) slots i d None within
+-- a pending set of the code, as it is seen
+pub pending_is : (pending : List (Option DataSet)) (i : ℕ) (d : Option DataSet) → i < length pending
+    → get_or (pending_view pending) i None ≡ option_map set_view (get_or pending i d)
+pending_is pending i d within = get_or-map (λ (s : Option DataSet). option_map set_view s) pending i d None within

@@ -53,14 +53,14 @@ listed_after node (a ∷ b ∷ c ∷ x) g =
 abbrev Answer : Type 0
 Answer = Result (List Listed) OwnFault
 
-behind_none : (x : Answer) → followed (Ok []) x ≡ x
-behind_none (Ok xs) = refl
-behind_none (Err fault) = refl
+after_none : (x : Answer) → followed (Ok []) x ≡ x
+after_none (Ok xs) = refl
+after_none (Err fault) = refl
 
 passed : (f : Option OwnFault) (x y : Answer) → f ≡ None → followed (followed (unless f []) x) y ≡ followed x y
 passed f x y none =
     ap (λ (g : Option OwnFault). followed (followed (unless g []) x) y) none
-    ∙ ap (λ (r : Answer). followed r y) (behind_none x)
+    ∙ ap (λ (r : Answer). followed r y) (after_none x)
 
 patient_first : (node : Path → Node) (p : List ℕ) (g : Grown) → IsPassed node (p ∷ [])
     → listed_in root (tree (node (p ∷ [])) g.study g.patient) ≡ listed_after node (p ∷ []) g
@@ -73,13 +73,13 @@ patient_more : (node : Path → Node) (x : Path) (p : List ℕ) (g : Grown) → 
 patient_more node [] p g ok = patient_first node p g ok
 patient_more node (a ∷ []) p g ok =
     let all = listed_in root (tree (node (p ∷ [])) g.study g.patient) in
-    behind_none all ∙ patient_first node p g ok
+    after_none all ∙ patient_first node p g ok
 patient_more node (a ∷ b ∷ []) p g ok =
     let all = listed_in root (tree (node (p ∷ [])) g.study g.patient) in
-    behind_none (followed (Ok []) all) ∙ behind_none all ∙ patient_first node p g ok
+    after_none (followed (Ok []) all) ∙ after_none all ∙ patient_first node p g ok
 patient_more node (a ∷ b ∷ c ∷ x) p g ok =
     let all = listed_in root (tree (node (p ∷ [])) g.study g.patient) in
-    behind_none (followed (Ok []) (followed (Ok []) all)) ∙ behind_none (followed (Ok []) all) ∙ behind_none all
+    after_none (followed (Ok []) (followed (Ok []) all)) ∙ after_none (followed (Ok []) all) ∙ after_none all
     ∙ patient_first node p g ok
 
 study_first : (node : Path → Node) (p q : List ℕ) (g : Grown) → IsPassed node (p ∷ q ∷ [])
@@ -100,11 +100,11 @@ study_more node p q [] g ok = study_first node p q g ok
 study_more node p q (b ∷ []) g ok =
     let all = followed (listed_in (in_patient (node (p ∷ [])).set) (tree (node (p ∷ q ∷ [])) g.series g.study))
     (listed_in root g.patient) in
-    behind_none all ∙ study_first node p q g ok
+    after_none all ∙ study_first node p q g ok
 study_more node p q (b ∷ c ∷ x) g ok =
     let all = followed (listed_in (in_patient (node (p ∷ [])).set) (tree (node (p ∷ q ∷ [])) g.series g.study))
     (listed_in root g.patient) in
-    behind_none (followed (Ok []) all) ∙ behind_none all ∙ study_first node p q g ok
+    after_none (followed (Ok []) all) ∙ after_none all ∙ study_first node p q g ok
 
 series_first : (node : Path → Node) (p q r : List ℕ) (g : Grown) → IsPassed node (p ∷ q ∷ r ∷ [])
     → followed (listed_in (in_study (node (p ∷ [])).set (node (p ∷ q ∷ [])).set)
@@ -126,7 +126,7 @@ series_more node p q r [] g ok = series_first node p q r g ok
 series_more node p q r (c ∷ x) g ok =
     let all = followed (listed_in (in_study (node (p ∷ [])).set (node (p ∷ q ∷ [])).set)
     (tree (node (p ∷ q ∷ r ∷ [])) g.image g.series)) (listed_after node (p ∷ []) g) in
-    behind_none all ∙ series_first node p q r g ok
+    after_none all ∙ series_first node p q r g ok
 
 image_more : (node : Path → Node) (p q r s : List ℕ) (w : Path) (g : Grown) → IsPassed node (p ∷ q ∷ r ∷ s ∷ [])
     → listed_after node (p ∷ q ∷ r ∷ w) (grown_from Image (node (p ∷ q ∷ r ∷ s ∷ [])) g)
@@ -147,19 +147,19 @@ listed_more : (node : Path → Node) (x y : Path) (rest : List Path) → HasLeve
 listed_more node x [] rest level led ok = absurd level
 listed_more node x (p ∷ []) rest level led ok =
     let g = grown node rest in
-    patient_more node x p g ok ∙ sym (behind_none (listed_after node (p ∷ []) g))
+    patient_more node x p g ok ∙ sym (after_none (listed_after node (p ∷ []) g))
 listed_more node x (p ∷ q ∷ []) rest level led ok =
     let is = front_is (p ∷ []) x led in
     let g = grown node rest in
     subst (λ (z : Path). listed_after node z (grown node ((p ∷ q ∷ []) ∷ rest))
     ≡ followed (Ok []) (listed_after node (p ∷ q ∷ []) g)) (sym is.1)
-    (study_more node p q is.0 g ok ∙ sym (behind_none (listed_after node (p ∷ q ∷ []) g)))
+    (study_more node p q is.0 g ok ∙ sym (after_none (listed_after node (p ∷ q ∷ []) g)))
 listed_more node x (p ∷ q ∷ r ∷ []) rest level led ok =
     let is = front_is (p ∷ q ∷ []) x led in
     let g = grown node rest in
     subst (λ (z : Path). listed_after node z (grown node ((p ∷ q ∷ r ∷ []) ∷ rest))
     ≡ followed (Ok []) (listed_after node (p ∷ q ∷ r ∷ []) g)) (sym is.1)
-    (series_more node p q r is.0 g ok ∙ sym (behind_none (listed_after node (p ∷ q ∷ r ∷ []) g)))
+    (series_more node p q r is.0 g ok ∙ sym (after_none (listed_after node (p ∷ q ∷ r ∷ []) g)))
 listed_more node x (p ∷ q ∷ r ∷ s ∷ []) rest level led ok =
     let is = front_is (p ∷ q ∷ r ∷ []) x led in
     let g = grown node rest in

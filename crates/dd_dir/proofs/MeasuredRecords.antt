@@ -69,12 +69,12 @@ records_measured label versions sound =
 -- ---- the first of some records, and the others
 
 -- its size
-pub size_of_first : (versions : List Parts) (end behind : ℕ) (rows : List PlanRecord) (row : PlanRecord)
-    (rest : List PlanRecord) → rows ≡ row ∷ rest → AreMeasured versions end rows → behind ≡ end_before end rest
-    → behind ≡ row.at + record_size (elements_for versions row)
-size_of_first versions end behind rows row rest is measured behind_is =
+pub size_of_first : (versions : List Parts) (end later : ℕ) (rows : List PlanRecord) (row : PlanRecord)
+    (rest : List PlanRecord) → rows ≡ row ∷ rest → AreMeasured versions end rows → later ≡ end_before end rest
+    → later ≡ row.at + record_size (elements_for versions row)
+size_of_first versions end later rows row rest is measured later_is =
     let first = subst (AreMeasured versions end) is measured in
-    behind_is ∙ sym first.0
+    later_is ∙ sym first.0
 
 pub rest_measured : (versions : List Parts) (end : ℕ) (rows : List PlanRecord) (row : PlanRecord) (rest : List PlanRecord)
     → rows ≡ row ∷ rest → AreMeasured versions end rows → AreMeasured versions end rest

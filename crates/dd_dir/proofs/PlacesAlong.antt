@@ -39,7 +39,7 @@ use Rattle.dd_dir.specs.Reading.{stands_in}
 use Rattle.dd_dir.specs.Saying.{sets_of}
 use Rattle.dd_dir.proofs.DirectoryTexts.{one_size}
 use Rattle.dd_dir.proofs.RowTexts.{text-one}
-use Rattle.dd_dir.specs.Slots.{Rises}
+use Rattle.dd_dir.specs.Pending.{Rises}
 use Rattle.dd_dir.proofs.WalkPlaces.{places_rise, rises_lower}
 
 -- ---- the items of records

@@ -41,7 +41,7 @@ use Rattle.dd_dir.proofs.OwnKeys.{IsOfVersion, least_leads, own_is}
 use Rattle.dd_dir.proofs.PlacesAlong.{at_most, end_small, offsets_rise, places_are, sets_are, stands_found}
 use Rattle.dd_dir.proofs.RecordsSay.{record_says}
 use Rattle.dd_dir.proofs.VisitsAlong.{IsOwn, at_by, visit_by, visits_along}
-use Rattle.dd_dir.specs.Slots.{Rises}
+use Rattle.dd_dir.specs.Pending.{Rises}
 
 -- ---- what a record says
 

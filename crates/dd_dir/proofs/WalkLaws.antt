@@ -158,15 +158,15 @@ module _ (stands : ℕ → Option Elements) (empty : stands 0 ≡ None) where
   -- the trees from an offset are one
   pub chain_is_one : (f g : Trees) (p level : ℕ) → IsChain stands p level f → IsChain stands p level g → g ≡ f
   chain_is_one no_trees no_trees p level a b = refl
-  chain_is_one no_trees (tree m under behind) p level a b = absurd (not_zero p level m b.0 b.1 a)
+  chain_is_one no_trees (tree m under later) p level a b = absurd (not_zero p level m b.0 b.1 a)
   chain_is_one (tree n below after) no_trees p level a b = absurd (not_zero p level n a.0 a.1 b)
-  chain_is_one (tree n below after) (tree m under behind) p level a b =
+  chain_is_one (tree n below after) (tree m under later) p level a b =
       let links : b.0 ≡ a.0 = same_links stands p level n m a.0 b.0 a.1 b.1 in
       let node : m ≡ n = same_node stands p level n m a.0 b.0 a.1 b.1 in
       let lower : under ≡ below = chain_is_one below under a.0.lower (level + 1) a.2
       (subst (λ (s : Links). IsChain stands s.lower (level + 1) under) links b.2) in
-      let next : behind ≡ after = chain_is_one after behind a.0.next level a.3
-      (subst (λ (s : Links). IsChain stands s.next level behind) links b.3) in
+      let next : later ≡ after = chain_is_one after later a.0.next level a.3
+      (subst (λ (s : Links). IsChain stands s.next level later) links b.3) in
       cc
 
   -- trees whose offsets are apart and unseen, and a stop

@@ -20,7 +20,7 @@ use Rattle.dd_dir.specs.Reading.{Contents, contents_by, contents_in, contents_of
 use Rattle.dd_dir.specs.Reading.{stands_in, stands_of, IsDirectoryFile}
 use Rattle.dd_dir.specs.Saying.{beside_in, first_in, last_in, records_in}
 use Rattle.dd_dir.specs.Trees.{Beside}
-use Rattle.dd_dir.specs.Slots.{Rises}
+use Rattle.dd_dir.specs.Pending.{Rises}
 
 pub rises_lower : (low least : ℕ) (ps : List ℕ) → least ≤ low → Rises low ps → Rises least ps
 rises_lower low least [] le h = tt

@@ -10,7 +10,7 @@ pub mod ReadAnswers
 pub mod Reading
 pub mod Saying
 pub mod SaysItself
-pub mod Slots
+pub mod Pending
 pub mod Trees
 pub mod Visits
 pub mod Walks

@@ -13,7 +13,7 @@ use Rattle.dd_dir.specs.declared.links.Links.{Links as LinksValue}
 use Rattle.dd_dir.specs.ForestViews.{Branch, beside_view, tree_view, trees_view}
 use Rattle.dd_dir.specs.Reading.{Contents, IsDirectoryFile, stands_in}
 use Rattle.dd_dir.specs.Saying.{Links, sets_of}
-use Rattle.dd_dir.specs.Slots.{AreLeft, reached}
+use Rattle.dd_dir.specs.Pending.{AreLeft, reached}
 use Rattle.dd_dir.specs.Trees.{Trees, offsets}
 use Rattle.dd_dir.specs.Walks.{Stands, IsChain, AreApart, with, with_all, found_at, step_at, Stops}
 
@@ -53,7 +53,7 @@ abbrev pub links_view : LinksValue → Links
 links_view links =
     record { next = links.next; lower = links.lower; in_use = links.in_use; kind = links.kind.now }
 
--- the set of the record at this offset has left its slot
+-- the set of the record at this offset is pending no more
 pub record Leaves (starts : List ℕ) (sets : List Elements) (offset : ℕ) (old new : List (Option Elements)) : Type 0
   where
     pub left : AreLeft sets new
@@ -83,7 +83,7 @@ abbrev pub Fails : List ℕ → List Elements → ℕ → ℕ → List (Option E
 Fails starts sets offset level old fault =
     (fault ≡ Memory) ⊎ Stops (stands_in starts sets) offset level (reached starts old) fault
 
--- the record at this offset, with the chain below it, and the offset of the next one; all have left their slots
+-- the record at this offset, with the chain below it, and the offset of the next one; none is pending any more
 pub record Joins (starts : List ℕ) (sets : List Elements) (offset level : ℕ) (old new : List (Option Elements))
     (branch : Branch) (next : ℕ) : Type 0 where
   pub links : Links
@@ -100,7 +100,7 @@ abbrev pub IsTree : List ℕ → List Elements → ℕ → ℕ → List (Option 
 IsTree starts sets offset level old new (Ok found) = Joins starts sets offset level old new (tree_view found.0) found.1
 IsTree starts sets offset level old new (Err fault) = Fails starts sets offset level old fault
 
--- the chain from this offset, whose records have left their slots
+-- the chain from this offset, whose records are pending no more
 pub record Follows (starts : List ℕ) (sets : List Elements) (first level : ℕ) (old new : List (Option Elements))
     (trees : Trees) : Type 0 where
   pub chain : IsChain (stands_in starts sets) first level trees

@@ -14,7 +14,6 @@ pub(crate) struct Buffer {
 }
 
 impl Buffer {
-    /// Makes an empty writer with room for this many bytes. Memory where an allocation was refused.
     pub(crate) fn with_capacity(alloc: Global, capacity: usize) -> Result<Buffer, Memory>
         ensures { IfOk result (λ buffer. buffer.bytes.items ≡ []) }
     {
@@ -24,7 +23,6 @@ impl Buffer {
         })
     }
 
-    /// Gives the bytes that it took.
     pub(crate) fn into_bytes(self) -> Vec<u8>
         ensures { result.items ≡ self.bytes.items }
     {

@@ -1,4 +1,4 @@
-//! Elements sent to a writer.
+//! Elements sent to a writer, after `sent` bytes.
 
 ghost use Rattle.std.specs.Prelude.{◌+◌, ◌<◌, ◌^◌, IsOk, length, map};
 ghost use Rattle.std.specs.List.{AllByRecursion};
@@ -14,7 +14,6 @@ use dd_layout::{Cell, PlanRecord, Row};
 use dd_stream::{WriteFault, send};
 use dd_version::Parts;
 
-/// Sends an element after `sent` bytes: its header, its value and the padding.
 fn send_cell<W: Write>(cell: &Cell<'_>, writer: &mut W, sent: u64) -> Result<u64, WriteFault>
     requires short { IsShort (even_value cell.now.value) }
     requires fits { sent + length (element_text (cell_element cell.now)) < 2 ^ 64 }
@@ -29,7 +28,6 @@ fn send_cell<W: Write>(cell: &Cell<'_>, writer: &mut W, sent: u64) -> Result<u64
     send(padding, writer, sent)
 }
 
-/// Sends these elements after `sent` bytes.
 pub(crate) fn send_cells<W: Write>(
     cells: &[Cell<'_>],
     writer: &mut W,
@@ -47,7 +45,6 @@ pub(crate) fn send_cells<W: Write>(
     Ok(sent)
 }
 
-/// Sends the elements that these rows give a record of these parts, after `sent` bytes.
 pub(crate) fn send_rows<W: Write>(
     rows: &[Row],
     planned: &PlanRecord,

@@ -16,12 +16,11 @@ use dd_elem::{SetId, Uid};
 use dd_layout::{Label, Limits, Plan, PlanFault, lay_out};
 use std::alloc::Global;
 
-/// The UID under which the directory is hashed that a UID is derived from.
+/// The UID in the directory that is hashed.
 const UNNAMED: &[u8] = b"2.25.0";
 
-/// The UID of the SHA-256 of the directory of this catalogue under this ID and the UID 2.25.0. The
-/// directory is hashed as it is sent, and never held in memory. Refused as `lay_out` refuses under that
-/// label.
+/// Derives a UID from the SHA-256 of the directory of this catalogue under this ID and the UID 2.25.0. The directory
+/// is hashed as it is sent, and never held in memory. Refused as `lay_out` refuses under that label.
 pub fn derived_uid(
     alloc: Global,
     catalogue: &Catalogue,
@@ -41,9 +40,8 @@ pub fn derived_uid(
     Ok(uid_of(&plan))
 }
 
-/// Lays out the directory of this catalogue under this ID and the UID that `derived_uid` gives. The catalogue
-/// is harmonised and its versions are sorted once, for both directories. Refused as `derived_uid` refuses, and
-/// then as `lay_out` refuses under the derived UID.
+/// Lays out the directory of this catalogue under this ID and the UID that `derived_uid` gives, and harmonises and
+/// sorts its versions once. Refused as `derived_uid` refuses, and then as `lay_out` refuses under the derived UID.
 pub fn lay_out_derived(
     alloc: Global,
     catalogue: &Catalogue,
@@ -65,8 +63,8 @@ pub fn lay_out_derived(
     plan.under(&Label { id: *id, uid }, limits)
 }
 
-/// The UID of the SHA-256 of the directory of this plan. The writer that hashes fails only where the count of
-/// its calls is at its last value, and it is called at most once for each byte.
+/// The writer that hashes fails only where the count of its calls is at its last value, and it is called at most once
+/// for each byte.
 fn uid_of(plan: &Plan) -> Uid
     ensures { result ≡ uid_of_digest (sha256
         (directory_of plan.now.label plan.now.versions plan.now.withdrawn)) }
@@ -81,7 +79,6 @@ fn uid_of(plan: &Plan) -> Uid
     }
 }
 
-/// The label of a file-set with this ID that has no UID of its own.
 fn unnamed_label(id: &SetId) -> Label
     ensures { result ≡ unnamed_label id.now }
 {

@@ -10,7 +10,7 @@ use sha2::{Digest, Sha256};
 use std::io;
 use std::marker::Model;
 
-/// A writer that takes all bytes and keeps only what their SHA-256 (FIPS 180-4) wants.
+/// Takes all bytes, and keeps only what their SHA-256 (FIPS 180-4) requires.
 #[derive(Drop)]
 pub(crate) struct Digester {
     hasher: Sha256,
@@ -30,7 +30,6 @@ impl Model for Digester {
 }
 
 impl Digester {
-    /// A writer that took nothing yet.
     pub(crate) fn new() -> Digester
         ensures { result ≡ record { bytes = []; counts = record { calls = 0; failures = 0 } } }
     {
@@ -41,15 +40,13 @@ impl Digester {
         }
     }
 
-    /// A call of it failed only where the count of its calls is at its last value. This states a law, and does
-    /// nothing.
+    /// States that a call of it failed only where the count of its calls is at its last value.
     pub(crate) fn fails_late(&self)
         ensures { FailsLate self.now.counts }
     {
         let _ = &self.counts;
     }
 
-    /// The SHA-256 of the bytes that it took.
     pub(crate) fn digest(self) -> [u8; 32]
         ensures { result ≡ sha256 self.bytes }
     {
@@ -62,7 +59,7 @@ impl Digester {
     }
 }
 
-/// It fails only where a count is at its last value, so never in a program's life.
+/// Fails only where a count is at its last value, so never in a program's life.
 impl Write for Digester {
     ghost calls = { λ d. d.counts.calls };
 

@@ -9,7 +9,7 @@ ghost use Rattle.dd_dir.specs.Reading.{is_directory_meta, contents_in};
 ghost use Rattle.dd_dir.specs.Saying.{id_in, withdrawn_in};
 
 use crate::fault::DirFault;
-use crate::slots::items_of;
+use crate::pending::items_of;
 use crate::values::{clean_at, number_at};
 use dd_elem::Uid;
 use dd_layout::table::CREATOR;
@@ -21,8 +21,8 @@ use dd_part10::Meta;
 use dd_set::{DataSet, Item, Syntax, value_at};
 use std::alloc::Global;
 
-/// What a directory says: its UID, its File-set ID, the value that names its withdrawn UIDs, the offsets of the
-/// first and of the last root record, and where the items start that may be records.
+/// What a directory says. `first` and `last` are the offsets of root records, and items that may be records begin at
+/// `starts`.
 #[derive(Debug, Drop)]
 pub(crate) struct Contents<'a> {
     pub(crate) uid: Uid,
@@ -34,14 +34,14 @@ pub(crate) struct Contents<'a> {
     pub(crate) items: Vec<Item<'a>>,
 }
 
-/// Are the class and the transfer syntax those of a directory (PS3.10 section 8.6)?
+/// Compares the class and the transfer syntax with those of a directory (PS3.10 section 8.6).
 pub(crate) fn is_directory_meta(meta: &Meta) -> bool
     ensures { result ≡ is_directory_meta meta.now }
 {
     meta.class.as_bytes() == DIRECTORY_CLASS && meta.transfer.as_bytes() == DIRECTORY_SYNTAX
 }
 
-/// What a data set says that this UID names and that stands after `at` bytes.
+/// Reads a data set that stands after `at` bytes.
 #[tactic(auto, unfolding(crate::specs::Reading::contents_in))]
 pub(crate) fn directory_of<'a>(
     alloc: Global,
@@ -80,15 +80,14 @@ pub(crate) fn directory_of<'a>(
     })
 }
 
-/// The File-set ID without its padding, and nothing where there is no ID.
 fn id_of<'a>(set: &DataSet<'a>) -> &'a [u8]
     ensures { result.now ≡ id_in (set_view set.now) }
 {
     value_at(set, SET_ID).unwrap_or(&[])
 }
 
-/// The value that names the withdrawn UIDs, without its padding: None where it does not stand in the
-/// block of private elements of its creator (PS3.5 section 7.8.1), is a sequence, or is not there.
+/// None where the value does not stand in the block of private elements of its creator (PS3.5 section 7.8.1), is a
+/// sequence, or is not there.
 fn withdrawn_of<'a>(set: &DataSet<'a>) -> Option<&'a [u8]>
     ensures { option_map (λ value. value.now) result ≡ withdrawn_in (set_view set.now) }
 {
@@ -98,7 +97,6 @@ fn withdrawn_of<'a>(set: &DataSet<'a>) -> Option<&'a [u8]>
     clean_at(set, WITHDRAWN)
 }
 
-/// Adds a number of bytes to each of these offsets.
 fn shift(starts: &mut [u64], by: u64)
     requires { EachIndex starts.old (λ k. slice_index starts.old k + by < 2 ^ 64) }
     ensures { starts.new ≡ map (λ start. start + by) starts.old }

@@ -9,35 +9,29 @@ ghost use Rattle.dd_dir.specs.declared.fault.DirFault.TheVariants.{File, Memory}
 ghost use Rattle.dd_dir.specs.ForestViews.{walk_view};
 ghost use Rattle.dd_dir.specs.ReadAnswers.{HasRecords, SaysMemory, contents_view};
 ghost use Rattle.dd_dir.specs.Reading.{IsWalk, IsWalkOf, Refuses, RefusesOf};
-ghost use Rattle.dd_dir.specs.Slots.{Rises};
+ghost use Rattle.dd_dir.specs.Pending.{Rises};
 ghost use Rattle.dd_dir.specs.Trees.{Walk};
 
 use crate::directory::{Contents, directory_of, is_directory_meta};
 use crate::fault::DirFault;
 use crate::forest::Forest;
-use crate::slots::{count_left, slots_of};
+use crate::pending::{count_left, pending_of};
 use crate::walk::{chain, last_offset};
 use dd_part10::parse_file;
 use std::alloc::Global;
 
-/// The records of a directory, joined by their offsets (PS3.3 section F.3.2, PS3.10 section 8.6).
-/// Refused, in this order: File where the bytes are no DICOM file; NotDirectory where the file is no
-/// directory; RecordShape, Dangling, Twice or TooDeep at the first offset, depth first, that breaks the
-/// trees; LastRoot where the last root reached is not the one that is named. Memory, alone or within
-/// File, where an allocation was refused.
+/// Reads the records of a directory, joined by their offsets (PS3.3 section F.3.2, PS3.10 section 8.6). Refused, in
+/// this order: File where the bytes are no DICOM file; NotDirectory where the file is no directory; RecordShape,
+/// Dangling, Twice or TooDeep at the first offset, depth first, that breaks the trees; LastRoot where the last root
+/// reached is not the one that is named. Memory, alone or within File, where an allocation was refused.
 pub fn read_directory<'a>(alloc: Global, bytes: &'a [u8]) -> Result<Forest<'a>, DirFault>
-    // What is answered is the walk of the bytes.
     ensures walk { IfOk result (λ forest. IsWalk bytes.now (walk_view forest)) }
-    // A walk is answered, unless memory runs out.
     ensures only { (walk : Walk) → IsWalk bytes.now walk
         → MatchResult result (λ forest. walk_view forest ≡ walk) SaysMemory }
-    // A refusal for other than memory says why the bytes have no walk.
     ensures refused { IfErr result (λ fault. SaysMemory fault ⊎ Refuses bytes.now fault) }
-    // Bytes that have none are refused so, unless memory runs out.
     ensures refuses { (fault : DirFault) → Refuses bytes.now fault
         → IsErrAnd result (λ other. SaysMemory other ⊎ (other ≡ fault)) }
-    // Memory runs out only where it is wanted: while the bytes are read as a file, or for the records of a
-    // directory that has some.
+    // Memory runs out only while the bytes are read as a file, or for records.
     ensures group { result ≡ Err (File (file_faults.Meta set_faults.Memory))
         → GroupWants bytes.now }
     ensures set { result ≡ Err (File (file_faults.Set set_faults.Memory)) → SetWants bytes.now }
@@ -46,8 +40,7 @@ pub fn read_directory<'a>(alloc: Global, bytes: &'a [u8]) -> Result<Forest<'a>, 
     read_forest(alloc, bytes)
 }
 
-/// Does what `read_directory` does. What is promised here is of this answer alone; that no other is possible is a
-/// clause of `read_directory`.
+/// Reads as `read_directory`, which also says that no other answer is possible.
 fn read_forest<'a>(alloc: Global, bytes: &'a [u8]) -> Result<Forest<'a>, DirFault>
     ensures walk { IfOk result (λ forest. IsWalk bytes.now (walk_view forest)) }
     ensures refused { IfErr result (λ fault. SaysMemory fault ⊎ Refuses bytes.now fault) }
@@ -64,7 +57,6 @@ fn read_forest<'a>(alloc: Global, bytes: &'a [u8]) -> Result<Forest<'a>, DirFaul
     trees_of(alloc, directory)
 }
 
-/// The trees of these records.
 fn trees_of<'a>(alloc: Global, directory: Contents<'a>) -> Result<Forest<'a>, DirFault>
     requires rise { Rises 0 directory.starts.items }
     requires each { length directory.starts.items ≡ length directory.items.items }
@@ -83,8 +75,8 @@ fn trees_of<'a>(alloc: Global, directory: Contents<'a>) -> Result<Forest<'a>, Di
         starts,
         items,
     } = directory;
-    let mut slots = slots_of(alloc, items)?;
-    let trees = chain(alloc, &starts, &mut slots, first, 0)?;
+    let mut pending = pending_of(alloc, items)?;
+    let trees = chain(alloc, &starts, &mut pending, first, 0)?;
     if last_offset(&trees) != last {
         return Err(DirFault::LastRoot);
     }
@@ -93,6 +85,6 @@ fn trees_of<'a>(alloc: Global, directory: Contents<'a>) -> Result<Forest<'a>, Di
         id,
         withdrawn,
         trees,
-        unreached: count_left(&slots),
+        unreached: count_left(&pending),
     })
 }

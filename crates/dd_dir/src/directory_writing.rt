@@ -31,18 +31,14 @@ pub fn write_directory<W: Write>(plan: &Plan, writer: &mut W) -> Result<u64, Wri
     ensures sends { let text = directory_of plan.now.label plan.now.versions plan.now.withdrawn
         in SendsTo W.Write text 0 result writer.old writer.new }
 
-    // A directory has fewer than 2^32 bytes, whether or not all were sent.
     ensures short { length (directory_of plan.now.label plan.now.versions plan.now.withdrawn)
         < 2 ^ 32 }
 
-    // Where the bytes were sent whole, they are as many as the plan says, and a file of the class of directories. All
-    // offsets in them are smaller than their number.
     ensures size { IfOk result (λ n. n ≡ size plan.now.label plan.now.versions plan.now.withdrawn) }
     ensures file { IsOk result → IsDirectory plan.now.label plan.now.versions plan.now.withdrawn }
     ensures within { IfOk result (λ n. OffsetsWithin n plan.now.label plan.now.versions) }
 
-    // Where the plan's versions are a catalogue in harmony, the bytes realise its tree, and say its versions; they
-    // also say the plan's withdrawn UIDs, where these rise.
+    // Where the versions are in harmony, the bytes say them again, and the withdrawn UIDs where these rise.
     ensures realised { IsOk result → (m : List Parts) → IsCatalogue m
         → plan.now.versions ≡ harmonised m
         → Realises plan.now.label m
@@ -60,7 +56,6 @@ pub fn write_directory<W: Write>(plan: &Plan, writer: &mut W) -> Result<u64, Wri
     send_withdrawals(withdrawn, writer, sent)
 }
 
-/// The offset at which the last record ends.
 fn records_end(plan: &Plan) -> u32
     ensures exact { result ≡ records_end plan.now.label plan.now.versions }
     ensures small { size plan.now.label plan.now.versions plan.now.withdrawn < 2 ^ 32 }
@@ -70,7 +65,6 @@ fn records_end(plan: &Plan) -> u32
     end as u32
 }
 
-/// How many bytes the records have together, which end at `end`.
 fn records_size(plan: &Plan, end: u32) -> u32
     requires { end ≡ records_end plan.now.label plan.now.versions }
     ensures exact { result
@@ -81,8 +75,7 @@ fn records_size(plan: &Plan, end: u32) -> u32
     end - first_offset(plan.label()) as u32
 }
 
-/// Sends what stands before the records, which have `count` bytes together: the head of the file, the
-/// elements before the sequence of the records, and its header.
+/// Sends the head of the file, the elements before the sequence of the records, and its header.
 fn send_opening<W: Write>(plan: &Plan, count: u32, writer: &mut W) -> Result<u64, WriteFault>
     requires { length (opening_text plan.now.label plan.now.versions count) < 2 ^ 64 }
     ensures { let text = opening_text plan.now.label plan.now.versions count

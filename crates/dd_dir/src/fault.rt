@@ -9,8 +9,8 @@ use dd_part10::FileFault;
 use std::alloc::{AllocError, AllocFailed};
 use thiserror::Error;
 
-/// The first check that bytes fail where they are no directory, or where its offsets form no trees
-/// (PS3.3 section F.3.2). An offset is that of the record concerned, from the first byte of the file.
+/// Names the first check that bytes fail where they are no directory, or its offsets form no trees (PS3.3 section
+/// F.3.2). An offset is the record's, from the first byte of the file.
 #[derive(Debug, Clone, Copy, PartialEq, Eq, Error)]
 pub enum DirFault {
     /// The bytes are no DICOM file.
@@ -41,7 +41,7 @@ pub enum DirFault {
 }
 
 impl DirFault {
-    /// Does the fault say that an allocation was refused?
+    /// Says whether an allocation was refused.
     pub fn is_want_of_memory(&self) -> bool
         ensures { IsTrue result ↔ SaysMemory self.now }
     {

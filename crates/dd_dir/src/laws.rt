@@ -1,4 +1,4 @@
-//! What holds of every directory.
+//! What holds of every directory. Each function states a law, and does nothing.
 
 ghost use Rattle.std.specs.Prelude.{◌≡◌, ℕ, All, List, length};
 ghost use Rattle.dd_catalogue.specs.Contents.{SameContents, held_of};
@@ -12,30 +12,28 @@ ghost use Rattle.dd_layout.specs.Plans.{records_of, size};
 ghost use Rattle.dd_layout.specs.Worked.{four_images, unnamed};
 ghost use Rattle.dd_dir.specs.Directories.{directory, directory_of, first_root, last_root};
 
-/// A directory has as many bytes as are planned, where each record is of a version and has a File ID
-/// where it is of an image. This states a law, and does nothing.
+/// A directory has as many bytes as are planned, where each record is of a version and has a File ID where it is of
+/// an image.
 pub fn directory_is_as_long_as_planned()
     ensures { (label : Label) (versions : List Parts) (withdrawn : List (List ℕ))
         → All (IsSound (length versions)) (records_of label versions)
         → length (directory_of label versions withdrawn) ≡ size label versions withdrawn }
 {}
 
-/// The offsets of the first and the last root record of the directory of four images of two patients.
-/// This states a law, and does nothing.
+/// The directory of four images of two patients has these offsets of its first and last root record.
 pub fn four_images_have_two_roots()
     ensures first { first_root unnamed four_images ≡ 320 }
     ensures last { last_root unnamed four_images ≡ 1476 }
 {}
 
-/// A catalogue in harmony has the directory of the one that it comes from. This states a law, and does nothing.
+/// A catalogue in harmony has the directory of the one that it comes from.
 pub fn harmony_keeps_the_directory()
     ensures { (label : Label) (m : List Parts) (withdrawn : List (List ℕ))
         → directory label (harmonised m) withdrawn ≡ directory label m withdrawn }
 {}
 
-/// Histories in which the same versions were taken and the same instances withdrawn, in any order, with
-/// repeats and through any merges, have the same directory under one label, byte for byte. This states a
-/// law, and does nothing.
+/// Histories in which the same versions were taken and the same instances withdrawn, in any order, with repeats and
+/// through any merges, have the same directory under one label, byte for byte.
 pub fn same_versions_same_directory()
     ensures { (label : Label) (h g : History) → SameContents (taken h) (taken g)
         → directory label (held_of (taken h)).versions (held_of (taken h)).withdrawn

@@ -1,9 +1,9 @@
 //! Directories of file-sets, written and read (PS3.3 annex F, PS3.10 section 8).
 //!
-//! Its one promise: the bytes that are written for a catalogue are one directory, whose offsets realise the tree
-//! of its versions, and which says each version and each withdrawn UID again; and a directory of any producer is
-//! read as the one walk that its offsets give, or refused by the first check that fails. Only where an allocation is
-//! refused is Memory answered instead.
+//! Its one promise: the bytes written for a catalogue are one directory, whose offsets realise the tree of its
+//! versions, and which says each version and each withdrawn UID again. A directory of any producer is read as the one
+//! walk that its offsets give, or refused by the first check that fails. Only where an allocation is refused is
+//! Memory answered instead.
 #![tactic(auto)]
 
 mod buffer;
@@ -23,11 +23,11 @@ mod own;
 mod own_checks;
 mod own_fault;
 mod own_keys;
+mod pending;
 mod publishing;
 mod record_keys;
 mod records;
 mod roots;
-mod slots;
 mod values;
 mod walk;
 mod walk_laws;

@@ -9,20 +9,19 @@ use crate::values::{flag_at, number_at, text_at};
 use dd_layout::table::{IN_USE, KIND, LOWER, NEXT};
 use dd_set::DataSet;
 
-/// What each record begins with, as its elements say it: where others stand, its flag and its type.
+/// What each record begins with.
 #[derive(Clone, Copy, Debug)]
 pub(crate) struct Links<'a> {
     /// The offset of the next record of its level, or 0.
     pub(crate) next: u32,
     /// The offset of the first record below it, or 0.
     pub(crate) lower: u32,
-    /// Is it in use?
     pub(crate) in_use: bool,
     /// Its type without padding.
     pub(crate) kind: &'a [u8],
 }
 
-/// The links that these elements say, where all four are there and have their form (PS3.3 section F.3.2.2).
+/// Reads the links, where all four are there and have their form (PS3.3 section F.3.2.2).
 #[tactic(auto, unfolding(crate::specs::Saying::links_in))]
 pub(crate) fn links_in<'a>(set: &DataSet<'a>) -> Option<Links<'a>>
     ensures { option_map links_view result ≡ links_in (set_view set.now) }

@@ -16,32 +16,23 @@ use dd_set::DataSet;
 /// The records above a record: none at the root, and else one of each level down to an image.
 #[derive(Clone, Copy)]
 pub(crate) enum Above<'f, 'a> {
-    /// It is at the root.
     Root,
-    /// It is below this patient.
     Patient(PatientRecord<'f, 'a>),
-    /// It is below this study of the patient.
     Study(PatientRecord<'f, 'a>, StudyRecord<'f, 'a>),
-    /// It is below this series of the study of the patient.
     Series(PatientRecord<'f, 'a>, StudyRecord<'f, 'a>, SeriesRecord<'f, 'a>),
-    /// It is below an image.
     Image,
 }
 
 /// The record of an image, and those above it.
 #[derive(Clone, Copy)]
 pub(crate) struct Listed<'f, 'a> {
-    /// The PATIENT record.
     pub(crate) patient: PatientRecord<'f, 'a>,
-    /// The STUDY record.
     pub(crate) study: StudyRecord<'f, 'a>,
-    /// The SERIES record.
     pub(crate) series: SeriesRecord<'f, 'a>,
-    /// Its own record.
+    /// The IMAGE record.
     pub(crate) own: &'f DataSet<'a>,
 }
 
-/// The level of a record that stands there: None below an image.
 fn level_in(above: Above<'_, '_>) -> Option<Level>
     ensures { result ≡ level_in (above_view above.entry) }
 {
@@ -54,7 +45,6 @@ fn level_in(above: Above<'_, '_>) -> Option<Level>
     }
 }
 
-/// What is above the records below a record that stands there.
 fn above_children<'f, 'a>(above: Above<'f, 'a>, set: &'f DataSet<'a>) -> Above<'f, 'a>
     ensures { above_view result ≡ below (above_view above.entry) (set_view set.now) }
 {
@@ -66,7 +56,7 @@ fn above_children<'f, 'a>(above: Above<'f, 'a>, set: &'f DataSet<'a>) -> Above<'
     }
 }
 
-/// The image that a record lists which stands there: none but below a series.
+/// None but below a series.
 fn listed_at<'f, 'a>(above: Above<'f, 'a>, set: &'f DataSet<'a>) -> Option<Listed<'f, 'a>>
     ensures { listed_values result ≡ listed_at (above_view above.entry) (set_view set.now) }
 {
@@ -81,7 +71,7 @@ fn listed_at<'f, 'a>(above: Above<'f, 'a>, set: &'f DataSet<'a>) -> Option<Liste
     }
 }
 
-/// Adds the images of these trees, which stand there, depth first; or answers the first fault.
+/// Adds the images of these trees, depth first; or answers the first fault.
 #[cycle(listing)]
 pub(crate) fn list<'f, 'a>(
     trees: &'f [Tree<'a>],
@@ -98,7 +88,6 @@ pub(crate) fn list<'f, 'a>(
     Ok(())
 }
 
-/// Adds the images of this tree.
 #[cycle(listing)]
 fn list_one<'f, 'a>(
     tree: &'f Tree<'a>,

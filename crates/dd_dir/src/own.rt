@@ -31,8 +31,8 @@ pub struct Place<'a> {
     pub file: &'a [u8],
 }
 
-/// What a directory that is written here says of the images that it lists, in the order of their records,
-/// depth first, and which instances it withdraws.
+/// Holds what a directory that is written here says of the images that it lists, in the order of their records, depth
+/// first, and which instances it withdraws.
 #[derive(Debug)]
 pub struct Own<'a> {
     /// The version of each.
@@ -66,12 +66,11 @@ pub fn own_of<'a>(alloc: Global, forest: &Forest<'a>) -> Result<Own<'a>, OwnFaul
     Ok(own_of_images(alloc, named, &images)?)
 }
 
-/// Makes the catalogue of a directory that this crate wrote: the best of the versions of the images that it
-/// lists and does not withdraw, and the UIDs that it withdraws. Otherwise the first check that fails:
-/// BadWithdrawal, or a check of a record, depth first: the record is not in use or its type is not the one of
-/// its level, it is of an image without a digest, or the first of its elements in the order of tags is not
-/// what it must be. Memory where an allocation was refused, which wants an image before the first such record, or
-/// a withdrawn UID.
+/// Makes the catalogue of a directory that this crate wrote: the best of the versions of the images that it lists and
+/// does not withdraw, and the UIDs that it withdraws. Refused by the first check that fails: BadWithdrawal, or a
+/// check of a record, depth first. For one record ForeignRecord comes before NoDigest; RecordKey is last, at the
+/// first element in the order of tags that is not what it must be. Memory where an allocation was refused, which
+/// requires an image before the first record that fails, or a withdrawn UID.
 pub fn catalogue_of(alloc: Global, forest: &Forest<'_>) -> Result<Catalogue, OwnFault>
     ensures { AnswersWalk (walk_view forest.now) (NamesSome (walk_view forest.now))
         (λ images catalogue. catalogue ≡ held_of (record {
@@ -86,8 +85,8 @@ pub fn catalogue_of(alloc: Global, forest: &Forest<'_>) -> Result<Catalogue, Own
     Ok(Catalogue::from_parts(alloc, &versions, withdrawn)?)
 }
 
-/// Where the files of the images are that the directory lists, in the order of their records, depth first.
-/// Refused as `catalogue_of` refuses, but Memory wants an image before the first record that fails.
+/// Lists where the files of the images are, in the order of their records, depth first. Refused as `catalogue_of`
+/// refuses, but Memory requires an image before the first record that fails.
 pub fn places_of<'a>(alloc: Global, forest: &Forest<'a>) -> Result<Vec<Place<'a>>, OwnFault>
     ensures { AnswersWalk (walk_view forest.now) (ListsSome (walk_view forest.now))
         (λ images places. map place_view places.items ≡ map place_of images) result }
@@ -97,7 +96,6 @@ pub fn places_of<'a>(alloc: Global, forest: &Forest<'a>) -> Result<Vec<Place<'a>
     Ok(places(alloc, &images)?)
 }
 
-/// The images of a directory, depth first.
 fn images_of<'f, 'a>(alloc: Global, forest: &'f Forest<'a>) -> Result<Vec<Listed<'f, 'a>>, OwnFault>
     ensures { AnswersRecords (walk_view forest.now) (λ images found. map listed_view found.items
         ≡ images) result }
@@ -107,7 +105,6 @@ fn images_of<'f, 'a>(alloc: Global, forest: &'f Forest<'a>) -> Result<Vec<Listed
     Ok(images)
 }
 
-/// What is said of these images, and the UIDs that this value names.
 fn own_of_images<'a>(
     alloc: Global,
     named: Option<&'a [u8]>,
@@ -131,7 +128,6 @@ fn own_of_images<'a>(
     })
 }
 
-/// The versions of these images.
 fn versions(alloc: Global, images: &[Listed<'_, '_>]) -> Result<Vec<Version>, Memory>
     requires { All (λ image. IsListed (listed_view image)) images.now }
     ensures all { IfOk result (λ versions. versions.items
@@ -146,7 +142,6 @@ fn versions(alloc: Global, images: &[Listed<'_, '_>]) -> Result<Vec<Version>, Me
     Ok(versions)
 }
 
-/// The File IDs of the files of these images.
 fn files<'a>(alloc: Global, images: &[Listed<'_, 'a>]) -> Result<Vec<&'a [u8]>, Memory>
     ensures all { IfOk result (λ files. map (λ file. file.now) files.items
         ≡ map file_of (map listed_view images.now)) }
@@ -159,7 +154,6 @@ fn files<'a>(alloc: Global, images: &[Listed<'_, 'a>]) -> Result<Vec<&'a [u8]>, 
     Ok(files)
 }
 
-/// Where the files of these images are.
 fn places<'a>(alloc: Global, images: &[Listed<'_, 'a>]) -> Result<Vec<Place<'a>>, Memory>
     requires { All (λ image. IsListed (listed_view image)) images.now }
     ensures all { IfOk result (λ places. map place_view places.items
@@ -174,7 +168,6 @@ fn places<'a>(alloc: Global, images: &[Listed<'_, 'a>]) -> Result<Vec<Place<'a>>
     Ok(places)
 }
 
-/// Where the file of an image is.
 fn place_of<'a>(image: &Listed<'_, 'a>) -> Place<'a>
     requires { IsListed (listed_view image.now) }
     ensures { place_view result ≡ place_of (listed_view image.now) }

@@ -13,7 +13,7 @@ use dd_layout::{Field, Level, Row, rows};
 use dd_set::{DataSet, value_at};
 use dd_version::{is_image_class, is_known_syntax};
 
-/// The first check that a record of this level fails: below an image no record is checked.
+/// Gives the first check that a record of this level fails. Any record below an image is a ForeignRecord.
 pub(crate) fn fault_at(level: Option<Level>, tree: &Tree<'_>) -> Option<OwnFault>
     ensures { result ≡ fault_at level (tree_view tree.now).node }
 {
@@ -29,14 +29,12 @@ pub(crate) fn fault_at(level: Option<Level>, tree: &Tree<'_>) -> Option<OwnFault
     key_fault(tree.at, level, &tree.set)
 }
 
-/// Is the record in use, and of the type of this level?
 fn is_own(level: Level, tree: &Tree<'_>) -> bool
     ensures { result ≡ is_own level (tree_view tree.now).node }
 {
     tree.in_use && tree.kind == level.kind()
 }
 
-/// Is the record of an image without a digest?
 fn lacks_digest(level: Level, set: &DataSet<'_>) -> bool
     ensures { result ≡ lacks_digest level (set_view set.now) }
 {
@@ -46,7 +44,7 @@ fn lacks_digest(level: Level, set: &DataSet<'_>) -> bool
     }
 }
 
-/// The first element of the table of this level that is not what the record must have there.
+/// Finds the first element in the table of this level that is not what it must be.
 fn key_fault(at: u32, level: Level, set: &DataSet<'_>) -> Option<OwnFault>
     ensures { result ≡ key_fault at level (set_view set.now) }
 {
@@ -56,15 +54,12 @@ fn key_fault(at: u32, level: Level, set: &DataSet<'_>) -> Option<OwnFault>
         .map(|row| OwnFault::RecordKey(at, row.tag))
 }
 
-/// Is the element of the row a key, and not what it must be?
 fn is_bad(set: &DataSet<'_>, row: &Row) -> bool
     ensures { result ≡ is_bad (set_view set.now) row.now }
 {
     is_key(row.field) && !is_sound(row.field, value_at(set, row.tag))
 }
 
-/// Is the field a key: neither the links, the flag nor the type of a record, nor the digest of a file
-/// and its creator?
 fn is_key(field: Field) -> bool
     ensures { result ≡ is_key field }
 {
@@ -74,7 +69,7 @@ fn is_key(field: Field) -> bool
     )
 }
 
-/// Is the value no sequence, of at most 1,024 bytes, and what the field must be?
+/// Says whether the value suits the field: None, of a sequence or of fragments, suits none.
 fn is_sound(field: Field, value: Option<&[u8]>) -> bool
     ensures { result ≡ is_sound field (option_map (λ bytes. bytes.now) value.entry) }
 {
@@ -84,7 +79,6 @@ fn is_sound(field: Field, value: Option<&[u8]>) -> bool
     }
 }
 
-/// Are the bytes what the field must be?
 fn suits(field: Field, bytes: &[u8]) -> bool
     ensures { result ≡ suits field bytes.now }
 {
@@ -113,7 +107,6 @@ fn suits(field: Field, bytes: &[u8]) -> bool
     }
 }
 
-/// Are the bytes the UID of an image class that is taken?
 fn is_class(bytes: &[u8]) -> bool
     ensures { result ≡ suits Field.Class bytes.now }
 {
@@ -123,7 +116,6 @@ fn is_class(bytes: &[u8]) -> bool
     }
 }
 
-/// Are the bytes the UID of a transfer syntax that is known?
 fn is_transfer(bytes: &[u8]) -> bool
     ensures { result ≡ suits Field.Transfer bytes.now }
 {

@@ -7,14 +7,14 @@ use dd_elem::Tag;
 use std::alloc::{AllocError, AllocFailed};
 use thiserror::Error;
 
-/// Says why this crate would not have written a directory: the first check that fails, of its withdrawn UIDs
-/// or of a record, depth first. An offset says where the record starts, from the first byte of the file.
+/// Names the first check that fails where this crate did not write a directory: of its withdrawn UIDs or of a record,
+/// depth first. An offset says where the record starts, from the first byte of the file.
 #[derive(Debug, Clone, Copy, PartialEq, Eq, Error)]
 pub enum OwnFault {
     /// The IMAGE record has no digest of its file.
     #[error("61 NoDigest {0}")]
     NoDigest(u32),
-    /// The record is not in use, or its type is not the one of its level.
+    /// The record is not in use, is below an image, or its type is not the one of its level.
     #[error("62 ForeignRecord {0}")]
     ForeignRecord(u32),
     /// The element with this tag is not what the record must have there.

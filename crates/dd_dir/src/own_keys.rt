@@ -1,7 +1,7 @@
 //! The version of an image, from the records that list it.
 //!
-//! Copies of a long key share its bytes: where a key is the same as that of the image before, it is copied from
-//! there. So the keys of a record take their memory once, and not anew for each image below it.
+//! Copies of a long key share its bytes: a key that is the same as in the image before is copied from there. So the
+//! keys of a record take their memory once, and not anew for each image below it.
 
 ghost use Rattle.std.specs.Prelude.{◌≡◌, true, is_some, IfOk};
 ghost use Rattle.dd_elem.specs.Key.{IsKey};
@@ -21,7 +21,7 @@ use dd_set::DataSet;
 use dd_version::{Parts, PatientKeys, SeriesKeys, StudyKeys, Version};
 use std::alloc::Global;
 
-/// The key with these bytes: a copy of this one, where it has the same.
+/// Copies `like`, where it has these bytes.
 fn key(alloc: Global, bytes: &[u8], like: Option<&Key>) -> Result<Key, Memory>
     requires { IsKey bytes.now }
     ensures { IfOk result (λ key. key ≡ bytes.now) }
@@ -32,7 +32,6 @@ fn key(alloc: Global, bytes: &[u8], like: Option<&Key>) -> Result<Key, Memory>
     }
 }
 
-/// The key with these bytes.
 fn copy_of(alloc: Global, bytes: &[u8]) -> Result<Key, Memory>
     requires { IsKey bytes.now }
     ensures { IfOk result (λ key. key ≡ bytes.now) }
@@ -44,7 +43,6 @@ fn copy_of(alloc: Global, bytes: &[u8]) -> Result<Key, Memory>
     }
 }
 
-/// The UID that these bytes are.
 pub(crate) fn uid(bytes: &[u8]) -> Uid
     requires { is_uid bytes.now ≡ true }
     ensures { result ≡ bytes.now }
@@ -52,7 +50,6 @@ pub(crate) fn uid(bytes: &[u8]) -> Uid
     Uid::new(bytes).unwrap()
 }
 
-/// The digest of a record.
 pub(crate) fn digest(set: &DataSet<'_>) -> [u8; 32]
     requires { is_some (digest_in (set_view set.now)) ≡ true }
     ensures { result ≡ digest_of (set_view set.now) }
@@ -60,7 +57,6 @@ pub(crate) fn digest(set: &DataSet<'_>) -> [u8; 32]
     digest_in(set).unwrap()
 }
 
-/// The keys of the patient of a PATIENT record: copies of these ones, where they are the same.
 fn patient_in(
     alloc: Global,
     patient: &PatientRecord<'_, '_>,
@@ -76,7 +72,6 @@ fn patient_in(
     })
 }
 
-/// The keys of the study of a STUDY record: copies of these ones, where they are the same.
 fn study_in(
     alloc: Global,
     study: &StudyRecord<'_, '_>,
@@ -96,7 +91,6 @@ fn study_in(
     })
 }
 
-/// The keys of the series of a SERIES record: copies of these ones, where they are the same.
 fn series_in(
     alloc: Global,
     series: &SeriesRecord<'_, '_>,
@@ -112,7 +106,6 @@ fn series_in(
     })
 }
 
-/// What the records of an image say of it: its keys are copies of these ones, where they are the same.
 fn parts_of(alloc: Global, image: &Listed<'_, '_>, like: Option<&Parts>) -> Result<Parts, Memory>
     requires { IsListed (listed_view image.now) }
     ensures { IfOk result (λ parts. parts ≡ version_of (listed_view image.now)) }
@@ -133,7 +126,6 @@ fn parts_of(alloc: Global, image: &Listed<'_, '_>, like: Option<&Parts>) -> Resu
     })
 }
 
-/// The version of an image: its keys are copies of those of this other version, where they are the same.
 pub(crate) fn version_of(
     alloc: Global,
     image: &Listed<'_, '_>,

@@ -16,9 +16,9 @@ use dd_catalogue::{Catalogue, History, build};
 use dd_layout::{Label, Limits, PlanFault, lay_out};
 use std::alloc::Global;
 
-/// The bytes of the directory of these versions, in harmony, and of these withdrawn UIDs, under this label
-/// (PS3.10 section 8.6).
-/// Refused as `lay_out` refuses, and as Memory where the bytes find no room, those of an empty catalogue too.
+/// Makes the bytes of the directory of these versions, in harmony, and of these withdrawn UIDs, under this label
+/// (PS3.10 section 8.6). Refused as `lay_out` refuses, and as Memory where the allocation of the bytes was refused,
+/// even for an empty catalogue.
 pub fn publish(
     alloc: Global,
     catalogue: &Catalogue,
@@ -49,9 +49,9 @@ pub fn publish(
     }
 }
 
-/// The bytes of the directory of the best of all versions that were taken in a history and whose instances
-/// were not withdrawn in it, in harmony, and of the UIDs that were withdrawn in it, under this label.
-/// Refused as `publish` refuses that catalogue, and as Memory where the catalogue finds no room.
+/// Makes the bytes that `publish` gives for the catalogue of a history: of the best of the versions taken and not
+/// withdrawn in it, and of the UIDs withdrawn. Refused as `publish` refuses that catalogue, and as Memory where an
+/// allocation for the catalogue was refused.
 pub fn assemble(
     alloc: Global,
     history: &History,

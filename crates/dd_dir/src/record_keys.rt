@@ -1,7 +1,7 @@
-//! The records above an image, with the values of their keys.
+//! The records above an image, with the values of their keys without padding.
 //!
-//! To find a value, the elements of its record are gone through. So the values of a record are taken once, where
-//! the walk passes it, and not anew for each image below it. The time that this takes follows from the bytes of the
+//! To find a value, the elements of its record are gone through. So the values are taken once, where the walk passes
+//! the record, and not anew for each image below it. The time that this takes follows from the bytes of the
 //! directory.
 
 ghost use Rattle.std.specs.Prelude.{◌≡◌};
@@ -16,40 +16,26 @@ use dd_layout::table::{
 };
 use dd_set::{DataSet, value_at};
 
-/// A PATIENT record, and the values of its keys without their padding.
 #[derive(Clone, Copy)]
 pub(crate) struct PatientRecord<'f, 'a> {
-    /// Its elements.
     pub(crate) set: &'f DataSet<'a>,
-    /// Patient ID.
     pub(crate) id: &'a [u8],
-    /// Patient's Name.
     pub(crate) name: &'a [u8],
-    /// Specific Character Set.
     pub(crate) charset: &'a [u8],
     ghost id_is: { id.now ≡ key_of (tag 0x0010 0x0020) (set_view set.now) },
     ghost name_is: { name.now ≡ key_of (tag 0x0010 0x0010) (set_view set.now) },
     ghost charset_is: { charset.now ≡ key_of (tag 0x0008 0x0005) (set_view set.now) },
 }
 
-/// A STUDY record, and the values of its keys without their padding.
 #[derive(Clone, Copy)]
 pub(crate) struct StudyRecord<'f, 'a> {
-    /// Its elements.
     pub(crate) set: &'f DataSet<'a>,
-    /// Study Instance UID.
     pub(crate) uid: &'a [u8],
-    /// Study Date.
     pub(crate) date: &'a [u8],
-    /// Study Time.
     pub(crate) time: &'a [u8],
-    /// Accession Number.
     pub(crate) accession: &'a [u8],
-    /// Study Description.
     pub(crate) description: &'a [u8],
-    /// Study ID.
     pub(crate) id: &'a [u8],
-    /// Specific Character Set.
     pub(crate) charset: &'a [u8],
     ghost uid_is: { uid.now ≡ key_of (tag 0x0020 0x000d) (set_view set.now) },
     ghost date_is: { date.now ≡ key_of (tag 0x0008 0x0020) (set_view set.now) },
@@ -60,16 +46,11 @@ pub(crate) struct StudyRecord<'f, 'a> {
     ghost charset_is: { charset.now ≡ key_of (tag 0x0008 0x0005) (set_view set.now) },
 }
 
-/// A SERIES record, and the values of its keys without their padding.
 #[derive(Clone, Copy)]
 pub(crate) struct SeriesRecord<'f, 'a> {
-    /// Its elements.
     pub(crate) set: &'f DataSet<'a>,
-    /// Series Instance UID.
     pub(crate) uid: &'a [u8],
-    /// Modality.
     pub(crate) modality: &'a [u8],
-    /// Series Number.
     pub(crate) number: &'a [u8],
     ghost uid_is: { uid.now ≡ key_of (tag 0x0020 0x000e) (set_view set.now) },
     ghost modality_is: { modality.now ≡ key_of (tag 0x0008 0x0060) (set_view set.now) },
@@ -77,7 +58,6 @@ pub(crate) struct SeriesRecord<'f, 'a> {
 }
 
 impl<'f, 'a> PatientRecord<'f, 'a> {
-    /// The PATIENT record with these elements.
     pub(crate) fn of(set: &'f DataSet<'a>) -> Self
         ensures { result.set.now ≡ set.now }
     {
@@ -91,7 +71,6 @@ impl<'f, 'a> PatientRecord<'f, 'a> {
 }
 
 impl<'f, 'a> StudyRecord<'f, 'a> {
-    /// The STUDY record with these elements.
     pub(crate) fn of(set: &'f DataSet<'a>) -> Self
         ensures { result.set.now ≡ set.now }
     {
@@ -109,7 +88,6 @@ impl<'f, 'a> StudyRecord<'f, 'a> {
 }
 
 impl<'f, 'a> SeriesRecord<'f, 'a> {
-    /// The SERIES record with these elements.
     pub(crate) fn of(set: &'f DataSet<'a>) -> Self
         ensures { result.set.now ≡ set.now }
     {
@@ -122,7 +100,7 @@ impl<'f, 'a> SeriesRecord<'f, 'a> {
     }
 }
 
-/// The value of the element of a row without its padding, and nothing where there is no value.
+/// Gives the value without its padding, and nothing where there is no value.
 pub(crate) fn row_value<'a>(row: &Row, set: &DataSet<'a>) -> &'a [u8]
     ensures { result.now ≡ key_of row.now.tag (set_view set.now) }
 {

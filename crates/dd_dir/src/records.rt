@@ -20,7 +20,7 @@ use dd_layout::{PlanRecord, rows};
 use dd_stream::{WriteFault, send};
 use dd_version::Version;
 
-/// Sends these records after `sent` bytes. In the directory they end at `end`.
+/// Sends these records, which end at `end` in the directory.
 pub(crate) fn send_records<W: Write>(
     mut records: &[PlanRecord],
     end: u32,
@@ -46,7 +46,6 @@ pub(crate) fn send_records<W: Write>(
     Ok(sent)
 }
 
-/// The offset at which a record ends that these records follow, which end at `end`.
 fn end_before(records: &[PlanRecord], end: u32) -> u32
     ensures { result ≡ end_before end records.now }
 {
@@ -56,7 +55,7 @@ fn end_before(records: &[PlanRecord], end: u32) -> u32
     }
 }
 
-/// Sends a record of `size` bytes after `sent` bytes: the header of its item and its elements.
+/// Sends the header of its item and its elements.
 fn send_record<W: Write>(
     planned: &PlanRecord,
     size: u32,

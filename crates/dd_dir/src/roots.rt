@@ -1,4 +1,4 @@
-//! The offsets of the first and of the last root record.
+//! The offsets of the first and of the last root record, or 0 (PS3.3 section F.3.2.2).
 
 ghost use Rattle.std.specs.Prelude.{◌≡◌, List};
 ghost use Rattle.dd_version.specs.declared.parts.Parts.{Parts};
@@ -8,7 +8,6 @@ ghost use Rattle.dd_dir.specs.Directories.{first_root, last_root};
 
 use dd_layout::{Level, PlanRecord};
 
-/// The offset of the first root record, or 0 (PS3.3 section F.3.2.2).
 pub(crate) fn first_root(records: &[PlanRecord]) -> u32
     ensures { (label : Label) (versions : List Parts) → records.now ≡ records_of label versions
         → result ≡ first_root label versions }
@@ -22,7 +21,6 @@ pub(crate) fn first_root(records: &[PlanRecord]) -> u32
     }
 }
 
-/// The offset of the last root record, or 0 (PS3.3 section F.3.2.2).
 pub(crate) fn last_root(records: &[PlanRecord]) -> u32
     ensures { (label : Label) (versions : List Parts) → records.now ≡ records_of label versions
         → result ≡ last_root label versions }

@@ -10,7 +10,6 @@ use dd_layout::table::{CREATOR, DIGEST};
 use dd_layout::{FLAG_IN_USE, PRIVATE_CREATOR};
 use dd_set::{DataSet, Value, value_at};
 
-/// The value of the element with this tag, where it is there and holds bytes.
 fn value_of<'a>(set: &DataSet<'a>, tag: Tag) -> Option<&'a [u8]>
     ensures { option_map (λ value. value.now) result ≡ value_of tag (set_view set.now) }
 {
@@ -20,7 +19,7 @@ fn value_of<'a>(set: &DataSet<'a>, tag: Tag) -> Option<&'a [u8]>
     }
 }
 
-/// The number that an element holds, where it holds 4 bytes.
+/// Gives the number, where the element holds 4 bytes.
 pub(crate) fn number_at(set: &DataSet<'_>, tag: Tag) -> Option<u32>
     ensures { result ≡ option_and_then number_of (value_of tag (set_view set.now)) }
 {
@@ -34,7 +33,7 @@ fn number_of(value: &[u8]) -> Option<u32>
     Some(u32::from_le_bytes(bytes))
 }
 
-/// Whether an element holds FFFFH, where it holds 2 bytes.
+/// Says whether an element of 2 bytes holds FFFFH.
 pub(crate) fn flag_at(set: &DataSet<'_>, tag: Tag) -> Option<bool>
     ensures { result ≡ option_and_then flag_of (value_of tag (set_view set.now)) }
 {
@@ -48,7 +47,7 @@ fn flag_of(value: &[u8]) -> Option<bool>
     Some(u16::from_le_bytes(bytes) == FLAG_IN_USE)
 }
 
-/// The value of an element without its padding, where it is there and holds bytes.
+/// Gives the value without its padding, where the element holds bytes.
 pub(crate) fn clean_at<'a>(set: &DataSet<'a>, tag: Tag) -> Option<&'a [u8]>
     ensures { option_map (λ value. value.now) result
         ≡ option_map clean_of (value_of tag (set_view set.now)) }
@@ -56,7 +55,7 @@ pub(crate) fn clean_at<'a>(set: &DataSet<'a>, tag: Tag) -> Option<&'a [u8]>
     Some(clean(value_of(set, tag)?))
 }
 
-/// The text of an element without its padding, where something is left.
+/// Gives the text without its padding, where something is left.
 pub(crate) fn text_at<'a>(set: &DataSet<'a>, tag: Tag) -> Option<&'a [u8]>
     ensures { option_map (λ text. text.now) result
         ≡ option_and_then text_of (value_of tag (set_view set.now)) }
@@ -71,8 +70,8 @@ fn text_of(value: &[u8]) -> Option<&[u8]>
     if text.is_empty() { None } else { Some(text) }
 }
 
-/// The SHA-256 of the file of an IMAGE record: None where it does not stand in the block of private
-/// elements of its creator (PS3.5 section 7.8.1), is a sequence, or has not 32 bytes.
+/// Gives the SHA-256 of the file of an IMAGE record: None where it does not stand in the block of private elements of
+/// its creator (PS3.5 section 7.8.1), is a sequence, or has not 32 bytes.
 pub fn digest_in(set: &DataSet<'_>) -> Option<[u8; 32]>
     ensures { result ≡ digest_in (set_view set.now) }
 {

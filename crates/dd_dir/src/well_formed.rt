@@ -1,4 +1,4 @@
-//! What the types of the parts of a version say of them. It is known only where a key or a UID is lent.
+//! Facts that the types of keys and UIDs give, for proofs. They are known only where a key or a UID is lent.
 
 ghost use Rattle.std.specs.Prelude.{◌≡◌, length};
 ghost use Rattle.dd_catalogue.specs.Contents.{IsHeld};
@@ -11,7 +11,6 @@ use dd_catalogue::Catalogue;
 use dd_elem::{Key, Uid};
 use dd_version::{Parts, PatientKeys, SeriesKeys, StudyKeys, Version};
 
-/// What a version is made of, which is well formed.
 pub(crate) fn parts_of(version: &Version) -> &Parts
     ensures value { result.now ≡ version.now }
     ensures formed { IsWellFormed version.now }
@@ -24,14 +23,13 @@ pub(crate) fn parts_of(version: &Version) -> &Parts
     parts
 }
 
-/// The versions of a catalogue rise by instance, and its withdrawn UIDs rise. This states a law, and does nothing.
+/// States that the versions of a catalogue rise by instance, and that its withdrawn UIDs rise.
 pub(crate) fn catalogue_is_held(catalogue: &Catalogue)
     ensures { IsHeld catalogue.now }
 {
     catalogue.versions();
 }
 
-/// The keys of a patient are keys. This states a law, and does nothing.
 fn patient_is_well_formed(patient: &PatientKeys)
     ensures { IsWellFormedPatient patient.now }
 {
@@ -40,7 +38,6 @@ fn patient_is_well_formed(patient: &PatientKeys)
     key_is_valid(&patient.charset);
 }
 
-/// The keys of a study are keys and a UID. This states a law, and does nothing.
 fn study_is_well_formed(study: &StudyKeys)
     ensures { IsWellFormedStudy study.now }
 {
@@ -53,7 +50,6 @@ fn study_is_well_formed(study: &StudyKeys)
     key_is_valid(&study.charset);
 }
 
-/// The keys of a series are keys and a UID. This states a law, and does nothing.
 fn series_is_well_formed(series: &SeriesKeys)
     ensures { IsWellFormedSeries series.now }
 {
@@ -62,7 +58,6 @@ fn series_is_well_formed(series: &SeriesKeys)
     key_is_valid(&series.number);
 }
 
-/// What a version has of the image itself is a digest, a key and UIDs. This states a law, and does nothing.
 fn image_is_well_formed(parts: &Parts)
     ensures { IsWellFormedImage parts.now }
 {
@@ -73,19 +68,16 @@ fn image_is_well_formed(parts: &Parts)
     uid_is_valid(&parts.instance);
 }
 
-/// A digest has 32 bytes. This states a law, and does nothing.
 fn digest_has_32_bytes(digest: &[u8; 32])
     ensures { length digest.now ≡ 32 }
 {}
 
-/// A key is one. This states a law, and does nothing.
 fn key_is_valid(key: &Key)
     ensures { IsKey key.now }
 {
     key.as_bytes();
 }
 
-/// A UID is one. This states a law, and does nothing.
 fn uid_is_valid(uid: &Uid)
     ensures { IsUid uid.now }
 {

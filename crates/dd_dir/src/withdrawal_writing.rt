@@ -14,7 +14,7 @@ use dd_encoding::send_header;
 use dd_layout::{WITHDRAWN, creator_cell, withdrawn_length};
 use dd_stream::{WriteFault, send};
 
-/// Sends the elements with these withdrawn UIDs after `sent` bytes, and nothing where no UID is withdrawn.
+/// Sends nothing where no UID is withdrawn.
 pub(crate) fn send_withdrawals<W: Write>(
     withdrawn: &[Uid],
     writer: &mut W,
@@ -34,8 +34,7 @@ pub(crate) fn send_withdrawals<W: Write>(
     send_value(withdrawn, writer, sent)
 }
 
-/// Sends the value of the element with these UIDs after `sent` bytes: the UIDs, and a space where they
-/// have an odd number of bytes together (PS3.5 section 6.2).
+/// Sends the UIDs, and a space where they have an odd number of bytes together (PS3.5 section 6.2).
 fn send_value<W: Write>(withdrawn: &[Uid], writer: &mut W, sent: u64) -> Result<u64, WriteFault>
     requires { sent + length (withdrawn_value withdrawn.now) < 2 ^ 64 }
     ensures { let text = withdrawn_value withdrawn.now
@@ -45,14 +44,13 @@ fn send_value<W: Write>(withdrawn: &[Uid], writer: &mut W, sent: u64) -> Result<
     send(padding(end - sent), writer, end)
 }
 
-/// What makes text of `count` bytes even: a space, or nothing (PS3.5 section 6.2).
 fn padding(count: u64) -> &'static [u8]
     ensures { (text : List ℕ) → length text ≡ count → text ++ result.now ≡ padded 0x20 text }
 {
     if count % 2 == 0 { b"" } else { b" " }
 }
 
-/// Sends these UIDs after `sent` bytes, with `\` between them (PS3.5 section 6.4).
+/// Sends these UIDs with `\` between them (PS3.5 section 6.4).
 fn send_joined<W: Write>(
     mut withdrawn: &[Uid],
     writer: &mut W,
@@ -70,8 +68,6 @@ fn send_joined<W: Write>(
     Ok(sent)
 }
 
-/// What is sent between a UID and the UIDs that follow it: `\`, or nothing after the last UID (PS3.5 section
-/// 6.4).
 fn separator(rest: &[Uid]) -> &'static [u8]
     ensures { (uid : List ℕ) → join_with_byte 0x5c (uid ∷ rest.now)
         ≡ uid ++ (result.now ++ join_with_byte 0x5c rest.now) }

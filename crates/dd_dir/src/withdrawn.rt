@@ -12,11 +12,11 @@ use crate::own_fault::OwnFault;
 use dd_elem::{Memory, Uid};
 use std::alloc::Global;
 
-/// What stands between the UIDs of a value (PS3.5 section 6.4).
+/// Stands between the UIDs of a value (PS3.5 section 6.4).
 const SEPARATOR: u8 = b'\\';
 
-/// Checks the value that names the withdrawn UIDs. BadWithdrawal where a piece of it is not a UID, or where
-/// the pieces do not rise strictly. A directory without such a value passes.
+/// Refuses, as BadWithdrawal, a value with a piece that is not a UID, or with pieces that do not rise strictly. A
+/// directory without such a value passes.
 pub(crate) fn check_withdrawn(value: Option<&[u8]>) -> Result<(), OwnFault>
     ensures ok { OnOk result
         (AreRisingUids (pieces_in (option_map (λ value. value.now) value.entry))) }
@@ -30,54 +30,48 @@ pub(crate) fn check_withdrawn(value: Option<&[u8]>) -> Result<(), OwnFault>
     }
 }
 
-/// Is each piece of the value a UID, and do they rise strictly?
 fn are_rising_uids(value: &[u8]) -> bool
     ensures { IsTrue result ↔ AreRisingUids (pieces_of value.now) }
 {
     are_uids(value) && rise(value)
 }
 
-/// Is each piece of the value a UID?
 fn are_uids(value: &[u8]) -> bool
     ensures { result ≡ list_all is_uid (pieces_of value.now) }
 {
     value.split(|byte| *byte == SEPARATOR).all(is_uid)
 }
 
-/// Is each piece of the value smaller than the one after it?
 fn rise(value: &[u8]) -> bool
     ensures { result ≡ list_all (λ pair. is_lt (bytes_cmp pair.0 pair.1))
         (zip (pieces_of value.now) (drop 1 (pieces_of value.now))) }
 {
-    let behind = value.split(|byte| *byte == SEPARATOR).skip(1);
+    let later = value.split(|byte| *byte == SEPARATOR).skip(1);
     value
         .split(|byte| *byte == SEPARATOR)
-        .zip(behind)
+        .zip(later)
         .all(|pair| is_below(pair.0, pair.1))
 }
 
-/// Are the bytes a UID?
 fn is_uid(bytes: &[u8]) -> bool
     ensures { result ≡ is_uid bytes.now }
 {
     Uid::new(bytes).is_ok()
 }
 
-/// The UID that the bytes are, where they are one.
 fn uid_in(bytes: &[u8]) -> Option<Uid>
     ensures { result ≡ uid_in bytes.now }
 {
     Uid::new(bytes).ok()
 }
 
-/// Are the one bytes smaller than the other ones?
 fn is_below(one: &[u8], other: &[u8]) -> bool
     ensures { result ≡ is_lt (bytes_cmp one.now other.now) }
 {
     one.cmp(other).is_lt()
 }
 
-/// The UIDs that the pieces of the value are, and an empty list where the directory has no such value.
+/// Gives the UIDs of the value, and an empty list where the directory has no such value.
 pub(crate) fn withdrawn_uids(alloc: Global, value: Option<&[u8]>) -> Result<Vec<Uid>, Memory>
     requires { AreRisingUids (pieces_in (option_map (λ value. value.now) value)) }
     ensures all { IfOk result (λ uids. uids.items
@@ -90,7 +84,6 @@ pub(crate) fn withdrawn_uids(alloc: Global, value: Option<&[u8]>) -> Result<Vec<
     }
 }
 
-/// The pieces of the value, which are UIDs.
 fn uids_of(alloc: Global, value: &[u8]) -> Result<Vec<Uid>, Memory>
     requires { AreRisingUids (pieces_of value.now) }
     ensures all { IfOk result (λ uids. uids.items ≡ pieces_of value.now) }

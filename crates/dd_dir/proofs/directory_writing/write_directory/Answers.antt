@@ -98,10 +98,10 @@ returns-clause-sends g c =
     c.records_size-count.ensures.exact in
     let records = ap₂ (λ (vs : List Parts) (rs : List PlanRecord). records_text vs rs) c.versions.ensures.all
     c.records-records.ensures.all in
-    let behind = ap (λ (uids : List (List ℕ)). text_of (withdrawal_elements uids)) c.withdrawn-withdrawn.ensures.all in
+    let later = ap (λ (uids : List (List ℕ)). text_of (withdrawal_elements uids)) c.withdrawn-withdrawn.ensures.all in
     sends_same _ _ _ _ _ _ _ _ whole (then_sends _ _ _ _ _ _ _ _ _ _ _ c.in_ok-sent.ensures
     (then_sends _ _ _ _ _ _ _ _ _ _ _ (sends_same _ _ _ _ _ _ _ _ records c.in_ok-sent-2.ensures.sends)
-    (sends_same _ _ _ _ _ _ _ _ behind c.send_withdrawals.ensures)))
+    (sends_same _ _ _ _ _ _ _ _ later c.send_withdrawals.ensures)))
 
 pub returns-clause-size : goal.returns-clause-size
 returns-clause-size g c =

@@ -15,7 +15,7 @@ returns c =
     (YieldsList-at c.zip.ensures.first (YieldsList-from_slice_split _ (λ byte. byte == 92) c.args.value.now
     c.split-2.ensures.rest c.split-2.ensures.done c.split-2.ensures.closure (λ x b q k. search (rules, tests))))
     (YieldsList-at c.zip.ensures.second (YieldsList-from_skip 1
-    (YieldsList-at c.skip-behind.ensures.source (YieldsList-from_slice_split _ (λ byte. byte == 92) c.args.value.now
+    (YieldsList-at c.skip-later.ensures.source (YieldsList-from_slice_split _ (λ byte. byte == 92) c.args.value.now
     c.split.ensures.rest c.split.ensures.done c.split.ensures.closure (λ x b q k. search (rules, tests))))
-    c.skip-behind.ensures.count)))
+    c.skip-later.ensures.count)))
     (λ x b q k. search (rules, tests))

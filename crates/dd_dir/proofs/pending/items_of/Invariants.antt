@@ -2,7 +2,7 @@ use Rattle.std.proofs.Common.{◌≡◌}
 use Rattle.std.specs.Vec.Iter.{into_iter_items}
 use Rattle.dd_set.specs.Views.{set_view, elements_view}
 use Rattle.dd_dir.proofs.Sequences.{items_in}
-use Rattle.dd_dir.proofs.slots.items_of.Given as goal
+use Rattle.dd_dir.proofs.pending.items_of.Given as goal
 
 abbrev pub invariant-loop-element : goal.invariant-loop-element
 invariant-loop-element l =

@@ -6,7 +6,7 @@ use Rattle.dd_grammar.specs.Lists.{same_tag}
 use Rattle.dd_set.specs.Views.{set_view, elements_view, value_view}
 use Rattle.dd_dir.specs.Saying.{item_sets_of}
 use Rattle.dd_dir.proofs.Sequences.{items_in, items_in-is, first_holds}
-use Rattle.dd_dir.proofs.slots.items_of.Goals as goal
+use Rattle.dd_dir.proofs.pending.items_of.Goals as goal
 
 pub returns : goal.returns
 returns c =
