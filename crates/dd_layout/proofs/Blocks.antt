@@ -158,13 +158,13 @@ pub prefix_leads : (p q : Path) → Member q (prefixes p) → leads_to q p ≡ t
 prefix_leads [] q i = absurd i
 prefix_leads (x ∷ p) q (inl e) = subst (λ (y : Path). leads_to y (x ∷ p)
     ≡ true) e (let first = part_itself x in rw first refl)
-prefix_leads (x ∷ p) q (inr i) = behind x p (prefixes p) q (λ r j. prefix_leads p r j) i where
-  behind : (x : List ℕ) (p : Path) (m : List Path) (q : Path) → ((r : Path) → Member r m → leads_to r p ≡ true)
+prefix_leads (x ∷ p) q (inr i) = later x p (prefixes p) q (λ r j. prefix_leads p r j) i where
+  later : (x : List ℕ) (p : Path) (m : List Path) (q : Path) → ((r : Path) → Member r m → leads_to r p ≡ true)
       → Member q (map (λ r. x ∷ r) m) → leads_to q (x ∷ p) ≡ true
-  behind x p [] q h i = absurd i
-  behind x p (r ∷ m) q h (inl e) =
+  later x p [] q h i = absurd i
+  later x p (r ∷ m) q h (inl e) =
       let first = part_itself x in subst (λ (y : Path). leads_to y (x ∷ p) ≡ true) e (rw first (h r (inl refl)))
-  behind x p (r ∷ m) q h (inr i) = behind x p m q (λ s j. h s (inr j)) i
+  later x p (r ∷ m) q h (inr i) = later x p m q (λ s j. h s (inr j)) i
 
 none_led : (u : Path) (m : List Path) → ((y : Path) → Member y m → leads_to u y ≡ true → ⊥) → NoneLed u m
 none_led u [] h = tt
@@ -172,14 +172,14 @@ none_led u (y ∷ m) h =
     (by_test (leads_to u y) (λ e. absurd (h y (inl refl) e)) (λ e. e), none_led u m (λ z i. h z (inr i)))
 
 -- each path after the first one that the front does not lead to
-left_behind : (u p q : Path) (paths : List Path) → leads_to u p ≡ true → path_cmp p q ≡ Less
+left_later : (u p q : Path) (paths : List Path) → leads_to u p ≡ true → path_cmp p q ≡ Less
     → leads_to u q ≡ false → Above q paths
     → (y : Path) → Member y (flat_map prefixes paths) → leads_to u y ≡ true → ⊥
-left_behind u p q [] h e k above y i led = i
-left_behind u p q (r ∷ paths) h e k above y i led = elim (member_either y (prefixes r) (flat_map prefixes paths) i) [
+left_later u p q [] h e k above y i led = i
+left_later u p q (r ∷ paths) h e k above y i led = elim (member_either y (prefixes r) (flat_map prefixes paths) i) [
   | inl j ↦ (let there = between u p q r h (leads_on u y r led (prefix_leads r y j)) e above.0 in
       false≢true (sym k ∙ there))
-  | inr j ↦ left_behind u p q paths h e k above.1 y j led
+  | inr j ↦ left_later u p q paths h e k above.1 y j led
 ]
 
 none_below : (u p q : Path) (paths : List Path) → leads_to u p ≡ true → path_cmp p q ≡ Less → leads_to u q ≡ false
@@ -187,7 +187,7 @@ none_below : (u p q : Path) (paths : List Path) → leads_to u p ≡ true → pa
     → (y : Path) → Member y (fresh p q ++ paths_from q paths) → leads_to u y ≡ true → ⊥
 none_below u p q paths h e k above y i led = elim (member_either y (fresh p q) (paths_from q paths) i) [
   | inl j ↦ false≢true (sym k ∙ leads_on u y q led (prefix_leads q y (fresh_member p q y j)))
-  | inr j ↦ left_behind u p q paths h e k above y (row_prefix q paths y j) led
+  | inr j ↦ left_later u p q paths h e k above y (row_prefix q paths y j) led
 ]
 
 -- ---- the walk from a path gives the block of each front of it

@@ -62,9 +62,9 @@ part_first a x y h = let same = leads_itself (a ∷ []) in let part = and_parts 
     rw part.0 h
 
 -- the parent of a path that has one part more in front
-parent_behind : (a : List ℕ) (y : Path) → (part : List ℕ) × (path : Path) × (y ≡ part ∷ path)
+parent_later : (a : List ℕ) (y : Path) → (part : List ℕ) × (path : Path) × (y ≡ part ∷ path)
     → parent_of (a ∷ y) ≡ a ∷ parent_of y
-parent_behind a y (part, path, is) = subst (λ (z : Path). parent_of (a ∷ z) ≡ a ∷ parent_of z) (sym is) refl
+parent_later a y (part, path, is) = subst (λ (z : Path). parent_of (a ∷ z) ≡ a ∷ parent_of z) (sym is) refl
 
 linked_map : (a : List ℕ) (x : Path) (m : List Path) → ((y : Path) → Member y m
     → (part : List ℕ) × (path : Path) × (y ≡ part ∷ path))
@@ -72,7 +72,7 @@ linked_map : (a : List ℕ) (x : Path) (m : List Path) → ((y : Path) → Membe
 linked_map a x [] parts h = tt
 linked_map a x (y ∷ m) parts h = (
   subst (λ (u : Path). leads_to u (a ∷ x)
-      ≡ true) (sym (parent_behind a y (parts y (inl refl)))) (part_first a (parent_of y) x h.0),
+      ≡ true) (sym (parent_later a y (parts y (inl refl)))) (part_first a (parent_of y) x h.0),
   linked_map a y m (λ z i. parts z (inr i)) h.1,
 )
 
@@ -120,27 +120,27 @@ counted_map f g (a ∷ u) (a' ∷ x) b h same more last =
     let part : a ≡ a' = exact_bytes a a' (is_eq_Equal (bytes_cmp a a') both.0) in
     let rest : map (λ q. g (a ∷ q)) (prefixes (u ++ b ∷ [])) ≡ counted (length u) (map (λ q. f (a ∷ q)) (prefixes x)) =
     counted_map (λ q. f (a ∷ q)) (λ q. g (a ∷ q)) u x b both.1
-    (λ q i. same (a ∷ q) (inr (member_behind a q (prefixes u) i)))
+    (λ q i. same (a ∷ q) (inr (member_later a q (prefixes u) i)))
     (λ c w e. more c w (ap₂ (λ (d : List ℕ) (z : Path). d ∷ z) (sym part) e))
     (λ e. last (ap₂ (λ (d : List ℕ) (z : Path). d ∷ z) (sym part) e)) in
-    ap₂ (λ (n : ℕ) (l : List ℕ). n ∷ l) (same (a ∷ []) (inl refl)) (map_behind g a (prefixes (u ++ b ∷ [])) ∙ rest)
-    ∙ sym (counted_behind f a a' u x (sym part))
+    ap₂ (λ (n : ℕ) (l : List ℕ). n ∷ l) (same (a ∷ []) (inl refl)) (map_later g a (prefixes (u ++ b ∷ [])) ∙ rest)
+    ∙ sym (counted_later f a a' u x (sym part))
   where
-    member_behind : (a : List ℕ) (q : Path) (m : List Path) → Member q m → Member (a ∷ q) (map (λ r. a ∷ r) m)
-    member_behind a q [] i = absurd i
-    member_behind a q (p ∷ m) (inl e) = inl (ap (λ r. a ∷ r) e)
-    member_behind a q (p ∷ m) (inr i) = inr (member_behind a q m i)
+    member_later : (a : List ℕ) (q : Path) (m : List Path) → Member q m → Member (a ∷ q) (map (λ r. a ∷ r) m)
+    member_later a q [] i = absurd i
+    member_later a q (p ∷ m) (inl e) = inl (ap (λ r. a ∷ r) e)
+    member_later a q (p ∷ m) (inr i) = inr (member_later a q m i)
 
-    map_behind : (h : Path → ℕ) (a : List ℕ) (m : List Path) → map h (map (λ r. a ∷ r) m) ≡ map (λ r. h (a ∷ r)) m
-    map_behind h a [] = refl
-    map_behind h a (p ∷ m) = ap (λ l. h (a ∷ p) ∷ l) (map_behind h a m)
+    map_later : (h : Path → ℕ) (a : List ℕ) (m : List Path) → map h (map (λ r. a ∷ r) m) ≡ map (λ r. h (a ∷ r)) m
+    map_later h a [] = refl
+    map_later h a (p ∷ m) = ap (λ l. h (a ∷ p) ∷ l) (map_later h a m)
 
-    counted_behind : (f : Path → ℕ) (a a' : List ℕ) (u x : Path) → a' ≡ a
+    counted_later : (f : Path → ℕ) (a a' : List ℕ) (u x : Path) → a' ≡ a
         → counted (length (a ∷ u)) (map f (prefixes (a' ∷ x)))
         ≡ f (a ∷ []) ∷ counted (length u) (map (λ q. f (a ∷ q)) (prefixes x))
-    counted_behind f a a' u x e =
+    counted_later f a a' u x e =
         ap (λ (d : List ℕ). counted (length (a ∷ u)) (map f (prefixes (d ∷ x)))) e
-        ∙ ap (λ (l : List ℕ). f (a ∷ []) ∷ counted (length u) l) (map_behind f a (prefixes x))
+        ∙ ap (λ (l : List ℕ). f (a ∷ []) ∷ counted (length u) l) (map_later f a (prefixes x))
 
 -- ---- a row is its parent and one part more
 
@@ -220,14 +220,14 @@ prefix_of_more [] b q (inr i) = absurd i
 prefix_of_more (a ∷ u) b q (inl e) = inl (inl e)
 prefix_of_more (a ∷ u) b q (inr i) =
     let there = member_mapped a q (prefixes (u ++ b ∷ [])) i in
-    behind_part a u b q there.0 there.2 (prefix_of_more u b there.0 there.1)
+    later_part a u b q there.0 there.2 (prefix_of_more u b there.0 there.1)
   where
-    behind_part : (a : List ℕ) (u : Path) (b : List ℕ) (q r : Path) → (a ∷ r ≡ q)
+    later_part : (a : List ℕ) (u : Path) (b : List ℕ) (q r : Path) → (a ∷ r ≡ q)
         → Member r (prefixes u) ⊎ (r ≡ u ++ b ∷ [])
         → Member q (prefixes (a ∷ u)) ⊎ (q ≡ a ∷ (u ++ b ∷ []))
-    behind_part a u b q r is (inl j) =
+    later_part a u b q r is (inl j) =
         inl (inr (subst (λ (z : Path). Member z (map (λ s. a ∷ s) (prefixes u))) is (member_map a r (prefixes u) j)))
-    behind_part a u b q r is (inr e) = inr (sym is ∙ ap (λ z. a ∷ z) e)
+    later_part a u b q r is (inr e) = inr (sym is ∙ ap (λ z. a ∷ z) e)
 
 prefix_on : (q u x : Path) → Member q (prefixes u) → leads_to u x ≡ true → Member q (prefixes x)
 prefix_on q u x i led =

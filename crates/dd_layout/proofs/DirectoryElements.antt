@@ -72,13 +72,13 @@ items_valid (es ∷ more) valid below =
     let a = sum_by-cons record_size es more in
     (valid.0, omega arith, items_valid more valid.1 (omega arith))
 
-directory_valid : (id : List ℕ) (first last : ℕ) (parts : List Item) (behind : List Element)
+directory_valid : (id : List ℕ) (first last : ℕ) (parts : List Item) (later : List Element)
     → length id ≤ max_set_id_length → AreItems Explicit max_levels (items_of parts)
     → length (items_text (items_of parts)) < undefined_length
-    → AreElements Explicit max_levels 0x00041221 (elements_of behind)
-    → AreElements Explicit max_levels 0 (elements_of (directory_elements id first last parts ++ behind))
-directory_valid id first last parts behind few valid below rest =
-    let records : List Element = records_element parts ∷ behind in
+    → AreElements Explicit max_levels 0x00041221 (elements_of later)
+    → AreElements Explicit max_levels 0 (elements_of (directory_elements id first last parts ++ later))
+directory_valid id first last parts later few valid below rest =
+    let records : List Element = records_element parts ∷ later in
     let flag : List Element = short_element (tag 0x0004 0x1212) 0x0000 ∷ records in
     let lasts : List Element = long_element (tag 0x0004 0x1202) last ∷ flag in
     let firsts : List Element = long_element (tag 0x0004 0x1200) first ∷ lasts in

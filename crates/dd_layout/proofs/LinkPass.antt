@@ -2,29 +2,29 @@
 use Rattle.std.specs.Prelude.{ℕ, zero, suc, List, [], ◌∷◌}
 use Rattle.dd_version.specs.declared.parts.Parts.{Parts}
 use Rattle.dd_layout.specs.declared.label.Label.{Label}
-use Rattle.dd_layout.specs.declared.links.Behind.{Behind}
+use Rattle.dd_layout.specs.declared.links.Later.{Later}
 use Rattle.dd_layout.specs.declared.record.PlanRecord.{PlanRecord}
-use Rattle.dd_layout.specs.Linking.{behind_from, lower_of, next_of}
+use Rattle.dd_layout.specs.Linking.{later_from, lower_of, next_of}
 use Rattle.dd_layout.specs.Neighbours.{scan}
 use Rattle.dd_layout.specs.Paths.{Path}
 use Rattle.dd_layout.specs.Plans.{at_or_none}
 
 -- no record
-abbrev pub none_behind : Behind
-none_behind = record { patient = 0; study = 0; series = 0; image = 0 }
+abbrev pub none_later : Later
+none_later = record { patient = 0; study = 0; series = 0; image = 0 }
 
 -- what stands in these rows
-abbrev pub behind_of : List PlanRecord → Behind
-behind_of [] = none_behind
-behind_of (row ∷ rows) = behind_from row.level row.at (behind_of rows)
+abbrev pub later_of : List PlanRecord → Later
+later_of [] = none_later
+later_of (row ∷ rows) = later_from row.level row.at (later_of rows)
 
 -- the rows with their links
-abbrev pub with_links : PlanRecord → Behind → PlanRecord
-with_links row behind = record row { next = next_of row.level behind; lower = lower_of row.level behind }
+abbrev pub with_links : PlanRecord → Later → PlanRecord
+with_links row later = record row { next = next_of row.level later; lower = lower_of row.level later }
 
 abbrev pub linked : List PlanRecord → List PlanRecord
 linked [] = []
-linked (row ∷ rows) = with_links row (behind_of rows) ∷ linked rows
+linked (row ∷ rows) = with_links row (later_of rows) ∷ linked rows
 
 -- the same from the row with this place on
 abbrev pub linked_after : ℕ → List PlanRecord → List PlanRecord
@@ -33,10 +33,10 @@ linked_after (suc n) [] = []
 linked_after (suc n) (row ∷ rows) = row ∷ linked_after n rows
 
 -- what stands in the rows after the first `n`
-abbrev pub behind_after : ℕ → List PlanRecord → Behind
-behind_after zero rows = behind_of rows
-behind_after (suc n) [] = none_behind
-behind_after (suc n) (row ∷ rows) = behind_after n rows
+abbrev pub later_after : ℕ → List PlanRecord → Later
+later_after zero rows = later_of rows
+later_after (suc n) [] = none_later
+later_after (suc n) (row ∷ rows) = later_after n rows
 
 -- ---- the same by paths
 
@@ -45,8 +45,8 @@ abbrev pub found : Label → List Parts → ℕ → List Path → ℕ
 found label versions n rest = at_or_none label versions (scan n rest)
 
 -- what stands in these rows of the tree
-abbrev pub found_behind : Label → List Parts → List Path → Behind
-found_behind label versions rest = record {
+abbrev pub found_later : Label → List Parts → List Path → Later
+found_later label versions rest = record {
   patient = found label versions 1 rest;
   study = found label versions 2 rest;
   series = found label versions 3 rest;

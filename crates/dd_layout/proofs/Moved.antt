@@ -44,8 +44,8 @@ moved_none : (from to : ℕ) → 0 < from → moved_offset from to 0 ≡ 0
 moved_none from to h = let first = lt-ltb 0 from h in rw first refl
 
 -- an offset `n` bytes after the first record stays `n` bytes after it
-moved_behind : (from to n : ℕ) → moved_offset from to (from + n) ≡ to + n
-moved_behind from to n = go (nat_lt (from + n) from) refl where
+moved_later : (from to n : ℕ) → moved_offset from to (from + n) ≡ to + n
+moved_later from to n = go (nat_lt (from + n) from) refl where
   go : (b : Bool) → nat_lt (from + n) from ≡ b → (if b then 0 else ((from + n) - from) + to) ≡ to + n
   go true e = let less = ltb-true (from + n) from e in absurd (omega arith)
   go false e = omega arith
@@ -53,7 +53,7 @@ moved_behind from to n = go (nat_lt (from + n) from) refl where
 moved_at : (one other : Label) (versions : List Parts) (x : Path)
     → moved_offset (first_offset one) (first_offset other) (at one versions x) ≡ at other versions x
 moved_at one other versions x =
-    moved_behind (first_offset one) (first_offset other)
+    moved_later (first_offset one) (first_offset other)
     (sum_by (record_size_at versions) (filter (λ y. is_before y x) (tree versions)))
 
 moved_named : (one other : Label) (versions : List Parts) (x : Option Path)

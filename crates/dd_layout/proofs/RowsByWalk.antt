@@ -222,12 +222,12 @@ fresh_member (o ∷ b) (x ∷ p) q i = by_test (is_eq (bytes_cmp o x))
 abbrev OldOrFresh : Path → Path → Path → Type 0
 OldOrFresh b x q = Member q (prefixes b) ⊎ Member q (fresh b x)
 
-behind_part : (o : List ℕ) (b : Path) (x : List ℕ) (p q r : Path) → o ≡ x → (x ∷ r ≡ q) → OldOrFresh b p r
+later_part : (o : List ℕ) (b : Path) (x : List ℕ) (p q r : Path) → o ≡ x → (x ∷ r ≡ q) → OldOrFresh b p r
     → Member q (prefixes (o ∷ b)) ⊎ Member q (map (λ s. x ∷ s) (fresh b p))
-behind_part o b x p q r same is (inl j) =
+later_part o b x p q r same is (inl j) =
     let at : o ∷ r ≡ q = ap (λ (z : List ℕ). z ∷ r) same ∙ is in
     inl (inr (subst (λ (y : Path). Member y (map (λ s. o ∷ s) (prefixes b))) at (member_map o r (prefixes b) j)))
-behind_part o b x p q r same is (inr j) =
+later_part o b x p q r same is (inr j) =
     inr (subst (λ (y : Path). Member y (map (λ s. x ∷ s) (fresh b p))) is (member_map x r (fresh b p) j))
 
 one_part : (o : List ℕ) (b : Path) (x : List ℕ) (p q : Path) → o ≡ x → ((r : Path) → Member r (prefixes p)
@@ -236,7 +236,7 @@ one_part : (o : List ℕ) (b : Path) (x : List ℕ) (p q : Path) → o ≡ x →
 one_part o b x p q same more (inl e) = inl (inl (ap (λ (z : List ℕ). z ∷ []) same ∙ e))
 one_part o b x p q same more (inr i) =
     let there = member_mapped x q (prefixes p) i in
-    behind_part o b x p q there.0 same there.2 (more there.0 there.1)
+    later_part o b x p q there.0 same there.2 (more there.0 there.1)
 
 fresh_or_before : (b x q : Path) → Member q (prefixes x) → OldOrFresh b x q
 fresh_or_before b [] q i = absurd i

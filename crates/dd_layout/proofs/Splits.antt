@@ -19,18 +19,18 @@ use Rattle.dd_layout.proofs.Blocks.{leads_itself, same_path, and_parts}
 abbrev pub Before : List Path → Path → Type 0
 Before front x = AllByRecursion (λ y. path_cmp y x ≡ Less) front
 
-above_behind : (p : Path) (front : List Path) (x : Path) (rest : List Path) → Above p (front ++ x ∷ rest)
+above_later : (p : Path) (front : List Path) (x : Path) (rest : List Path) → Above p (front ++ x ∷ rest)
     → path_cmp p x ≡ Less
-above_behind p [] x rest h = h.0
-above_behind p (y ∷ front) x rest h = above_behind p front x rest h.1
+above_later p [] x rest h = h.0
+above_later p (y ∷ front) x rest h = above_later p front x rest h.1
 
 pub all_before : (front : List Path) (x : Path) (rest : List Path) → Rises (front ++ x ∷ rest) → Before front x
 all_before [] x rest up = tt
-all_before (y ∷ front) x rest up = (above_behind y front x rest up.0, all_before front x rest up.1)
+all_before (y ∷ front) x rest up = (above_later y front x rest up.0, all_before front x rest up.1)
 
-pub all_behind : (front : List Path) (x : Path) (rest : List Path) → Rises (front ++ x ∷ rest) → Above x rest
-all_behind [] x rest up = up.0
-all_behind (y ∷ front) x rest up = all_behind front x rest up.1
+pub all_later : (front : List Path) (x : Path) (rest : List Path) → Rises (front ++ x ∷ rest) → Above x rest
+all_later [] x rest up = up.0
+all_later (y ∷ front) x rest up = all_later front x rest up.1
 
 -- ---- tests of what stands before, and of what stands after
 
@@ -61,12 +61,12 @@ kept_before s x (y ∷ front) more h =
     ≡ true = here ∙ e in rw (both, e) (ap (λ l. y ∷ l) (kept_before s x front more h.1)))
     (λ e. let both : (s y && is_before y x) ≡ false = here ∙ e in rw (both, e) (kept_before s x front more h.1))
 
-none_behind : (s : Path → Bool) (x : Path) (rest : List Path) → Above x rest
+none_later : (s : Path → Bool) (x : Path) (rest : List Path) → Above x rest
     → filter (λ y. s y && is_before y x) rest ≡ []
-none_behind s x [] h = refl
-none_behind s x (y ∷ rest) h =
+none_later s x [] h = refl
+none_later s x (y ∷ rest) h =
     let here : (s y && is_before y x) ≡ false = ap (λ (b : Bool). s y && b) (not_before y x h.0) ∙ and_false (s y) in
-    rw here (none_behind s x rest h.1)
+    rw here (none_later s x rest h.1)
 
 append_none : (m n : List Path) → n ≡ [] → m ++ n ≡ m
 append_none [] n e = e
@@ -78,7 +78,7 @@ pub filter_before : (s : Path → Bool) (front : List Path) (x : Path) (rest : L
 filter_before s front x rest up =
     let here : (s x && is_before x x) ≡ false = ap (λ (b : Bool). s x && b) (not_itself x) ∙ and_false (s x) in
     let none : filter (λ y. s y && is_before y x) (x ∷ rest)
-    ≡ [] = rw here (none_behind s x rest (all_behind front x rest up)) in
+    ≡ [] = rw here (none_later s x rest (all_later front x rest up)) in
     kept_before s x front (x ∷ rest) (all_before front x rest up)
     ∙ append_none (filter s front) (filter (λ y. s y && is_before y x) (x ∷ rest)) none
 
@@ -89,14 +89,14 @@ skipped s x (y ∷ front) more h =
     let here : (s y && is_before x y) ≡ false = ap (λ (b : Bool). s y && b) (not_before x y h.0) ∙ and_false (s y) in
     rw here (skipped s x front more h.1)
 
-found_behind : (s : Path → Bool) (x : Path) (rest : List Path) → Above x rest
+found_later : (s : Path → Bool) (x : Path) (rest : List Path) → Above x rest
     → find (λ y. s y && is_before x y) rest ≡ find s rest
-found_behind s x [] h = refl
-found_behind s x (y ∷ rest) h =
+found_later s x [] h = refl
+found_later s x (y ∷ rest) h =
     let here : (s y && is_before x y) ≡ s y = ap (λ (b : Bool). s y && b) (before_less y x h.0) ∙ and_true (s y) in
     by_test (s y)
     (λ e. let both : (s y && is_before x y) ≡ true = here ∙ e in rw (both, e) refl)
-    (λ e. let both : (s y && is_before x y) ≡ false = here ∙ e in rw (both, e) (found_behind s x rest h.1))
+    (λ e. let both : (s y && is_before x y) ≡ false = here ∙ e in rw (both, e) (found_later s x rest h.1))
 
 -- the first after the row that passes a test
 pub find_after : (s : Path → Bool) (front : List Path) (x : Path) (rest : List Path) → Rises (front ++ x ∷ rest)
@@ -104,7 +104,7 @@ pub find_after : (s : Path → Bool) (front : List Path) (x : Path) (rest : List
 find_after s front x rest up =
     let here : (s x && is_before x x) ≡ false = ap (λ (b : Bool). s x && b) (not_itself x) ∙ and_false (s x) in
     skipped s x front (x ∷ rest) (all_before front x rest up)
-    ∙ rw here (found_behind s x rest (all_behind front x rest up))
+    ∙ rw here (found_later s x rest (all_later front x rest up))
 
 -- ---- a parent stands before its children
 

@@ -133,9 +133,9 @@ above_one p x [] h i = absurd i
 above_one p x (y ∷ m) h (inl e) = subst (λ (z : Path). path_cmp p z ≡ Less) e h.0
 above_one p x (y ∷ m) h (inr i) = above_one p x m h.1 i
 
-behind_is : (s : Standing) (run : List Standing) (x : Path) → path_cmp s.1 x ≡ Less
+later_is : (s : Standing) (run : List Standing) (x : Path) → path_cmp s.1 x ≡ Less
     → record_of run x ≡ record_of (s ∷ run) x
-behind_is s run x e = by_test (leads_to x s.1)
+later_is s run x e = by_test (leads_to x s.1)
     (λ h. let after = lead_before x s.1 h in let is = rw e at after in cc)
     (λ h. rw h refl)
 
@@ -149,5 +149,5 @@ walk_is_all b (s ∷ run) up =
     (same_map (record_here (s ∷ run)) (record_of (s ∷ run)) (fresh b s.1)
     (λ x i. here_is s run x (prefix_leads s.1 x (fresh_member b s.1 x i)) up))
     (walk_is_all s.1 run up.1
-    ∙ same_map (record_of run) (record_of (s ∷ run)) rows (λ x i. behind_is s run x (above_one s.1 x rows above i)))
+    ∙ same_map (record_of run) (record_of (s ∷ run)) rows (λ x i. later_is s run x (above_one s.1 x rows above i)))
     ∙ sym (map-append (record_of (s ∷ run)) (fresh b s.1) rows)

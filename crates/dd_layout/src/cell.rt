@@ -1,4 +1,4 @@
-//! An element of a record, whose value is lent.
+//! Elements of records, whose values are lent.
 
 ghost use Rattle.std.specs.Prelude.{◌≡◌, ◌++◌, ◌≤◌, ◌∷◌, [], length, if◌then◌else◌};
 ghost use Rattle.byteorder.specs.Endian.{little_bytes};
@@ -10,36 +10,33 @@ use byteorder::{ByteOrder, LittleEndian};
 use dd_elem::{Tag, Vr};
 use dd_encoding::{HEADER_SIZE, LONG_HEADER_SIZE};
 
-/// An element of a record in Explicit VR.
+/// An element in Explicit VR.
 #[derive(Clone, Copy, Debug)]
 pub struct Cell<'a> {
-    /// Its tag.
     pub tag: Tag,
-    /// Its value representation.
     pub vr: Vr,
-    /// Its value.
     pub value: CellValue<'a>,
 }
 
 /// The value of an element of a record, by how it is made even (PS3.5 section 6.2).
 #[derive(Clone, Copy, Debug)]
 pub enum CellValue<'a> {
-    /// A number of 32 bits, little endian.
+    /// 32 bits, little endian.
     Long([u8; 4]),
-    /// A number of 16 bits, little endian.
+    /// 16 bits, little endian.
     Short([u8; 2]),
-    /// Text, which a space makes even.
+    /// Text, padded with a space.
     Text(&'a [u8]),
-    /// The text of a File ID, which a space makes even.
+    /// The text of a File ID, padded with a space.
     File([u8; 35]),
-    /// A UID, which a NUL makes even.
+    /// A UID, padded with a NUL.
     Uid(&'a [u8]),
-    /// Bytes as they are.
+    /// Bytes, which are not padded.
     Bytes(&'a [u8]),
 }
 
 impl CellValue<'_> {
-    /// The bytes without padding.
+    /// Gives the bytes without padding.
     pub fn as_bytes(&self) -> &[u8]
         ensures { result.now ≡ bare_value self.now }
     {
@@ -53,7 +50,7 @@ impl CellValue<'_> {
         }
     }
 
-    /// What stands after the bytes, so that the length is even.
+    /// Gives the padding that makes the length even.
     pub fn padding(&self) -> &'static [u8]
         ensures even { bare_value self.now ++ result.now ≡ even_value self.now }
         ensures few { length result.now ≤ 1 }
@@ -72,7 +69,7 @@ impl CellValue<'_> {
 }
 
 impl Cell<'_> {
-    /// How many bytes the element has: its header, its value and the padding (PS3.5 section 7.1.2).
+    /// Counts the bytes of the header, the value and the padding (PS3.5 section 7.1.2).
     pub fn size(&self) -> u64
         ensures { result ≡ elements_size (cell_element self.now ∷ []) }
     {
@@ -81,7 +78,6 @@ impl Cell<'_> {
     }
 }
 
-/// How many bytes the header of an element has (PS3.5 section 7.1.2).
 pub(crate) fn header_size(vr: Vr) -> u64
     ensures exact { result ≡ (if is_long_of vr then 12 else 8) }
     ensures few { result ≤ 12 }
@@ -94,7 +90,6 @@ pub(crate) fn header_size(vr: Vr) -> u64
     size as u64
 }
 
-/// The value of a number of 32 bits.
 pub(crate) fn long_value(number: u32) -> CellValue<'static>
     ensures exact { even_value result ≡ little_bytes 4 number }
     ensures short { IsShort (even_value result) }

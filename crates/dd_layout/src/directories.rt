@@ -1,4 +1,4 @@
-//! What holds of every directory.
+//! What holds of every directory. Each function states a law, and does nothing.
 
 ghost use Rattle.std.specs.Prelude.{◌≡◌, ◌+◌, ◌<◌, ◌≤◌, ◌++◌, ℕ, List, All, length, map, sum_by};
 ghost use Rattle.dd_elem.specs.SetId.{max_set_id_length};
@@ -12,8 +12,8 @@ ghost use Rattle.dd_layout.specs.Records.{IsRecord, record_item};
 ghost use Rattle.dd_layout.specs.Sizes.{elements_size, record_size};
 ghost use Rattle.dd_layout.specs.Withdrawals.{withdrawal_elements, withdrawals_size};
 
-/// A directory has as many bytes as stand before its first record and its records and the elements with
-/// the withdrawn UIDs take together, whatever its offsets are. This states a law, and does nothing.
+/// A directory has as many bytes as stand before its first record, and as its records and the elements with the
+/// withdrawn UIDs take together, whatever its offsets are.
 pub fn directory_is_as_long_as_its_records()
     ensures { (label : Label) (first last : ℕ) (records : List (List Element))
         (withdrawn : List (List ℕ))
@@ -23,9 +23,8 @@ pub fn directory_is_as_long_as_its_records()
         ≡ first_offset label + sum_by record_size records + withdrawals_size withdrawn }
 {}
 
-/// The elements of a directory are a data set, where the elements of each record are one, and where the
-/// records, and the elements with the withdrawn UIDs, take fewer bytes than the mark of an undefined length.
-/// This states a law, and does nothing.
+/// The elements of a directory are a data set, where those of each record are one, and where the records, and the
+/// elements with the withdrawn UIDs, take fewer bytes than the mark of an undefined length.
 pub fn directory_is_a_data_set()
     ensures { (id : List ℕ) (first last : ℕ) (records : List (List Element))
         (withdrawn : List (List ℕ))

@@ -1,5 +1,3 @@
-//! Why a directory is not laid out.
-
 ghost use Rattle.std.specs.Prelude.{◌≡◌};
 ghost use Rattle.dd_layout.specs.declared.fault.PlanFault.TheVariants as faults;
 

@@ -1,5 +1,3 @@
-//! What the elements of records hold.
-
 ghost use Rattle.std.specs.Prelude.{◌≡◌, IfSome};
 ghost use Rattle.dd_layout.specs.Cells.{IsShort, cell_values, charset_of, charset_values, even_value, field_values};
 ghost use Rattle.dd_layout.specs.ElementForms.{padded};
@@ -30,31 +28,22 @@ pub enum Field {
     Instance,
     /// The Transfer Syntax UID of the file.
     Transfer,
-    /// The Specific Character Set of the keys of a patient or of a study; no element where it is empty.
+    /// The Specific Character Set of a patient or of a study; no element where it is empty.
     Charset,
-    /// The Patient's Name.
     PatientName,
-    /// The Patient ID.
     PatientId,
-    /// The Study Date.
     StudyDate,
-    /// The Study Time.
     StudyTime,
     /// The Accession Number.
     Accession,
     /// The Study Description.
     Description,
-    /// The Study Instance UID.
     StudyUid,
-    /// The Study ID.
     StudyId,
-    /// The Modality.
     Modality,
-    /// The Series Instance UID.
     SeriesUid,
-    /// The Series Number.
     SeriesNumber,
-    /// The creator of the block of private elements that the digest stands in.
+    /// The creator of the private block of the digest.
     Creator,
     /// The SHA-256 of the file.
     Digest,
@@ -62,14 +51,13 @@ pub enum Field {
     Number,
 }
 
-/// The flag of a record that is in use.
 pub const FLAG_IN_USE: u16 = 0xffff;
 
-/// The creator of the block of private elements that the digest stands in (PS3.5 section 7.8.1).
+/// Names the creator of the private elements that are written here (PS3.5 section 7.8.1).
 pub const PRIVATE_CREATOR: &[u8] = b"DD FILESET 1";
 
 impl Field {
-    /// What the field holds in a record of these parts, and None where there is no element.
+    /// None where the record has no such element.
     pub(crate) fn value<'a>(self, planned: &PlanRecord, parts: &'a Parts) -> Option<CellValue<'a>>
         ensures exact { cell_values result
             ≡ field_values self planned.now.level planned.now.next planned.now.lower planned.now.file parts.now }
@@ -103,7 +91,6 @@ impl Field {
     }
 }
 
-/// The text of a File ID, which is empty where there is no File ID.
 fn file_text(file: Option<FileId>) -> CellValue<'static>
     ensures exact { even_value result ≡ padded 0x20 (file_text file) }
     ensures short { IsShort (even_value result) }
@@ -114,7 +101,6 @@ fn file_text(file: Option<FileId>) -> CellValue<'static>
     }
 }
 
-/// A UID.
 fn uid(uid: &Uid) -> CellValue<'_>
     ensures exact { even_value result ≡ padded 0x00 uid.now }
     ensures short { IsShort (even_value result) }
@@ -122,7 +108,6 @@ fn uid(uid: &Uid) -> CellValue<'_>
     CellValue::Uid(uid.as_bytes())
 }
 
-/// The text of a key.
 fn text(key: &Key) -> CellValue<'_>
     ensures exact { even_value result ≡ padded 0x20 key.now }
     ensures short { IsShort (even_value result) }
@@ -130,7 +115,6 @@ fn text(key: &Key) -> CellValue<'_>
     CellValue::Text(key.as_bytes())
 }
 
-/// The character set of the keys of this level, where there is one.
 fn charset_of(level: Level, parts: &Parts) -> Option<CellValue<'_>>
     ensures exact { cell_values result ≡ charset_values (charset_of level parts.now) }
     ensures short { IfSome result (λ value. IsShort (even_value value)) }
@@ -142,7 +126,6 @@ fn charset_of(level: Level, parts: &Parts) -> Option<CellValue<'_>>
     }
 }
 
-/// A character set, where there is one.
 fn charset(key: &Key) -> Option<CellValue<'_>>
     ensures exact { cell_values result ≡ charset_values key.now }
     ensures short { IfSome result (λ value. IsShort (even_value value)) }

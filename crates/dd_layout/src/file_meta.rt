@@ -13,7 +13,7 @@ pub const DIRECTORY_CLASS: &[u8] = b"1.2.840.10008.1.3.10";
 /// Explicit VR Little Endian, in which a directory is encoded (PS3.10 section 8.6).
 pub const DIRECTORY_SYNTAX: &[u8] = b"1.2.840.10008.1.2.1";
 
-/// The meta information of the directory with this label.
+/// Makes the meta information of this label.
 pub fn directory_meta(label: &Label) -> Meta
     ensures { result ≡ meta_of label.now }
 {
@@ -24,14 +24,12 @@ pub fn directory_meta(label: &Label) -> Meta
     }
 }
 
-/// The class of directories.
 fn directory_class() -> Uid
     ensures { result ≡ directory_class }
 {
     Uid::new(DIRECTORY_CLASS).unwrap()
 }
 
-/// The transfer syntax of directories.
 fn directory_syntax() -> Uid
     ensures { result ≡ directory_syntax }
 {

@@ -13,27 +13,25 @@ use crate::label::Label;
 use dd_elem::{Tag, Vr};
 use dd_encoding::head_size;
 
-/// The tag of the File-set ID (PS3.3 section F.3.2.1).
+/// File-set ID (PS3.3 section F.3.2.1).
 pub const SET_ID: Tag = Tag {
     group: 0x0004,
     element: 0x1130,
 };
 
-/// The tag of the Offset of the First Directory Record of the Root Directory Entity (PS3.3 section
-/// F.3.2.2).
+/// Offset of the First Directory Record of the Root Directory Entity (PS3.3 section F.3.2.2).
 pub const FIRST_ROOT: Tag = Tag {
     group: 0x0004,
     element: 0x1200,
 };
 
-/// The tag of the Offset of the Last Directory Record of the Root Directory Entity (PS3.3 section
-/// F.3.2.2).
+/// Offset of the Last Directory Record of the Root Directory Entity (PS3.3 section F.3.2.2).
 pub const LAST_ROOT: Tag = Tag {
     group: 0x0004,
     element: 0x1202,
 };
 
-/// The tag of the File-set Consistency Flag (PS3.3 section F.3.2.2).
+/// File-set Consistency Flag (PS3.3 section F.3.2.2).
 const CONSISTENCY: Tag = Tag {
     group: 0x0004,
     element: 0x1212,
@@ -42,14 +40,14 @@ const CONSISTENCY: Tag = Tag {
 /// The flag of a file-set with no known inconsistencies.
 const CONSISTENT: [u8; 2] = [0, 0];
 
-/// The tag of the Directory Record Sequence, whose items are the records (PS3.3 section F.3.2.2).
+/// Directory Record Sequence, whose items are the records (PS3.3 section F.3.2.2).
 pub const RECORDS: Tag = Tag {
     group: 0x0004,
     element: 0x1220,
 };
 
-/// The elements of a directory before its records, where `first` and `last` are the offsets of the
-/// first and of the last root record, or 0 (PS3.3 sections F.3.2.1 and F.3.2.2).
+/// Makes the elements before the records, where `first` and `last` are the offsets of the first and of the last root
+/// record, or 0 (PS3.3 sections F.3.2.1 and F.3.2.2).
 pub fn front_cells(label: &Label, first: u32, last: u32) -> [Cell<'_>; 4]
     ensures exact { map cell_element result ≡ front_elements label.now.id first last }
     ensures id { IsSetId label.now.id }
@@ -62,15 +60,13 @@ pub fn front_cells(label: &Label, first: u32, last: u32) -> [Cell<'_>; 4]
     ]
 }
 
-/// An element with this tag, of this value representation and with this value.
 fn cell(tag: Tag, vr: Vr, value: CellValue<'_>) -> Cell<'_>
     ensures { result ≡ record { tag = tag; vr = vr; value = value.entry } }
 {
     Cell { tag, vr, value }
 }
 
-/// The offset of the first record, from the first byte of the file: how many bytes the head of the file
-/// and the elements before the first item have.
+/// Gives the offset of the first record, from the first byte of the file.
 pub fn first_offset(label: &Label) -> u64
     ensures exact { result ≡ first_offset label.now }
     ensures few { result ≤ 490 }
@@ -80,8 +76,7 @@ pub fn first_offset(label: &Label) -> u64
     head_size(&directory_meta(label)) + front_size(label) + header_size(Vr::SQ)
 }
 
-/// How many bytes the elements before the records have: four headers of 8, an ID of at most 16, two
-/// offsets of 4, and a flag of 2.
+/// Four headers of 8, an ID of at most 16, two offsets of 4, and a flag of 2.
 fn front_size(label: &Label) -> u64
     ensures exact { result ≡ elements_size (front_elements label.now.id 0 0) }
     ensures few { result ≤ 58 }

@@ -1,4 +1,4 @@
-//! What holds of every tree, and a worked example of a plan.
+//! What holds of every tree, and a worked example of a plan. Each function states a law, and does nothing.
 
 ghost use Rattle.std.specs.Prelude.{◌≡◌, ◌≢◌, ◌<◌, ◌∷◌, ◌++◌, ℕ, List, [], All, Contains, Option, IfSome};
 ghost use Rattle.dd_catalogue.specs.Best.{IsRising};
@@ -16,33 +16,31 @@ ghost use Rattle.dd_layout.specs.Tree.{IsTree, tree_of};
 ghost use Rattle.dd_layout.specs.Walk.{paths_from};
 ghost use Rattle.dd_layout.specs.Worked.{eleven_records, four_images, one_withdrawn, two_withdrawn, unnamed};
 
-/// All paths have a tree. This states a law, and does nothing.
+/// All paths have a tree.
 pub fn tree_is_tree()
     ensures { (paths : List Path) → IsTree paths (tree_of paths) }
 {}
 
-/// Paths have one tree. This states a law, and does nothing.
+/// Paths have one tree.
 pub fn tree_is_one()
     ensures { (paths one other : List Path) → IsTree paths one → IsTree paths other → one ≡ other }
 {}
 
-/// One walk along paths that rise gives their tree. This states a law, and does nothing.
+/// One walk along paths that rise gives their tree.
 pub fn walk_gives_the_tree()
     ensures { (paths : List Path) → IsRising (λ path. path) path_cmp paths
         → paths_from [] paths ≡ tree_of paths }
 {}
 
-/// Each path of a tree is known from the paths before and after it, by their lengths alone: its
-/// offset, its ranks and its links. This states a law, and does nothing.
+/// Each path of a tree is known from the paths before and after it, by their lengths alone: its offset, its ranks and
+/// its links.
 pub fn rows_are_known()
     ensures { (paths : List Path) → ((path : Path) → Contains paths path → path ≢ [])
         → (front : List Path) (x : Path) (rest : List Path) → tree_of paths ≡ front ++ x ∷ rest
         → IsKnown (tree_of paths) front x rest }
 {}
 
-/// The offset of each record of a directory is smaller than its size, and so is what stands for a record that may be
-/// there, as the next one, the first one below, and the first and the last root: its offset, or 0. This states a law,
-/// and does nothing.
+/// Every offset in a directory is smaller than its size, and so is 0, which stands for no record.
 pub fn offsets_are_within()
     ensures named { (label : Label) (versions : List Parts) (withdrawn : List (List ℕ))
         (x : Option Path)
@@ -52,8 +50,7 @@ pub fn offsets_are_within()
         → All (StandsWithin (size label versions withdrawn)) (records_of label versions) }
 {}
 
-/// The tree of a catalogue in harmony is the tree of the catalogue. So whether records have too many children may be
-/// asked of the catalogue itself, and only the size needs its harmony. This states a law, and does nothing.
+/// Harmony keeps the tree of a catalogue, so only the size of its directory needs the harmony.
 pub fn harmony_keeps_the_tree()
     ensures tree { (m : List Parts) → tree (harmonised m) ≡ tree m }
     ensures refusal { (label : Label) (limits : Limits) (m : List Parts) (withdrawn : List (List ℕ))
@@ -62,8 +59,7 @@ pub fn harmony_keeps_the_tree()
         (oversize limits.bytes (size label (harmonised m) withdrawn))) }
 {}
 
-/// The plan of four images of two patients: where its eleven records stand and what they name, and its size, with no
-/// withdrawn UID, with one and with two. This states a law, and does nothing.
+/// Four images of two patients have this plan, and these sizes with no, one and two withdrawn UIDs.
 pub fn four_images_are_planned()
     ensures records { records_of unnamed four_images ≡ eleven_records }
     ensures size { size unnamed four_images [] ≡ 2032 }

@@ -22,11 +22,10 @@ use dd_elem::Uid;
 use dd_version::Version;
 use std::alloc::Global;
 
-/// Lays out the directory of these versions, in harmony, and of what is withdrawn, under this label.
-/// Refused, in this order, as Conflict where two versions conflict, with the first pair; as TooMany where
-/// one record or the root has more children than the limits allow, with the topmost level of such
-/// children; as TooLarge where the file has more bytes than they allow; and as Memory where an allocation was
-/// refused, which never is where there are neither versions nor withdrawn UIDs.
+/// Lays out the directory of these versions, in harmony, and of what is withdrawn, under this label. Refused, in this
+/// order, as Conflict with the first two versions that conflict; as TooMany where a record or the root has more
+/// children than the limits allow, with the topmost level of such children; and as TooLarge where the file has more
+/// bytes. Memory where an allocation was refused, and never where there are neither versions nor withdrawn UIDs.
 pub fn lay_out(
     alloc: Global,
     catalogue: &Catalogue,
@@ -56,9 +55,7 @@ pub fn lay_out(
     Ok(Plan::of(*label, versions, records, size))
 }
 
-/// Gives the records of these versions all that they hold, and answers the size of the directory that names
-/// these withdrawn UIDs. TooMany where one parent has more children than the limits allow; else TooLarge
-/// where the file has more bytes.
+/// TooMany comes before TooLarge.
 fn fill(
     records: &mut [PlanRecord],
     versions: &[Version],
@@ -77,13 +74,13 @@ fn fill(
         return Err(PlanFault::TooMany(level));
     }
     number(records);
-    let behind = withdrawals_size(withdrawn);
-    let Some(most) = u128::from(limits.bytes).checked_sub(behind) else {
+    let withdrawals = withdrawals_size(withdrawn);
+    let Some(most) = u128::from(limits.bytes).checked_sub(withdrawals) else {
         return Err(PlanFault::TooLarge);
     };
     let Some(end) = set_offsets(records, versions, label, most as u32) else {
         return Err(PlanFault::TooLarge);
     };
     link(records);
-    Ok(end + behind as u32)
+    Ok(end + withdrawals as u32)
 }

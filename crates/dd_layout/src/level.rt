@@ -1,5 +1,3 @@
-//! The levels of records.
-
 ghost use Rattle.std.specs.Prelude.{◌≡◌, ◌≤◌, length, Some};
 ghost use Rattle.dd_layout.specs.Levels.{name_of};
 ghost use Rattle.dd_layout.specs.Records.{kind_of};
@@ -20,7 +18,7 @@ pub enum Level {
 }
 
 impl Level {
-    /// The Directory Record Type of a record of this level (PS3.3 section F.3.2.2).
+    /// Gives the Directory Record Type (PS3.3 section F.3.2.2).
     pub fn kind(self) -> &'static [u8]
         ensures exact { result.now ≡ kind_of self }
         ensures few { length result.now ≤ 7 }
@@ -34,7 +32,6 @@ impl Level {
     }
 }
 
-/// Prints the name of the level.
 impl fmt::Display for Level {
     ghost output = { λ level. Some (name_of level) };
 

@@ -1,9 +1,9 @@
-//! The plan of a directory: which records the versions of a catalogue have, what the elements of each hold, and
-//! where it stands in the file (PS3.3 section F.3 to F.5, PS3.10 section 8). No bytes are written here.
+//! The plan of a directory: which records the versions of a catalogue have, what the elements of each hold, and where
+//! it stands in the file (PS3.3 section F.3 to F.5, PS3.10 section 8). No bytes are written here.
 //!
-//! Its one promise: the records of a plan are those of the tree of its versions in harmony, each with the offset
-//! that its bytes have in the directory under that label; and what is refused has two versions in conflict, or
-//! passes a limit. Only where an allocation is refused does `lay_out` answer `PlanFault::Memory` instead.
+//! Its one promise: the records of a plan are the tree of its versions in harmony, each with the offset that its
+//! bytes have. What is refused has two versions in conflict or passes a limit, or `lay_out` answers
+//! `PlanFault::Memory`.
 #![tactic(auto)]
 
 mod cell;

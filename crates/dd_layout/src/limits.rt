@@ -1,12 +1,10 @@
-//! The limits of a directory.
-
 ghost use Rattle.std.specs.Prelude.{◌≡◌, ◌≤◌, SomeIff};
 ghost use Rattle.dd_elem.specs.FileId.{max_rank};
 
 use dd_elem::FileId;
 use std::marker::Model;
 
-/// The limits of a directory: the most bytes of the file, and the most records below one parent.
+/// Limits the bytes of the file and the records below one parent.
 #[derive(Clone, Copy, Debug, PartialEq, Eq)]
 pub struct Limits {
     pub(crate) bytes: u32,
@@ -28,8 +26,7 @@ impl Model for Limits {
 }
 
 impl Limits {
-    /// Limits of these numbers: None where `per_level` is above 999,999, the highest rank that a
-    /// File ID has room for.
+    /// Makes limits of these numbers: None where `per_level` is above 999,999, the highest rank of a File ID.
     pub fn new(bytes: u32, per_level: u32) -> Option<Limits>
         ensures { SomeIff result (per_level ≤ max_rank)
             (record { bytes = bytes; per_level = per_level }) }
@@ -40,8 +37,7 @@ impl Limits {
         Some(Limits { bytes, per_level })
     }
 
-    /// The limits of a directory of at most this many bytes, with as many records below one parent as a File ID
-    /// has ranks for.
+    /// Limits the bytes to these, and the records below one parent to the ranks of a File ID.
     pub fn of_bytes(bytes: u32) -> Limits
         ensures { result ≡ record { bytes = bytes; per_level = max_rank } }
     {

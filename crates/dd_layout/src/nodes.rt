@@ -15,11 +15,9 @@ use dd_elem::Memory;
 use dd_version::Version;
 use std::alloc::Global;
 
-/// The levels, from the root down.
 const LEVELS: [Level; 4] = [Level::Patient, Level::Study, Level::Series, Level::Image];
 
-/// The records of these versions in the order of their bytes, each with its level and the least version
-/// below it. Memory where an allocation was refused: never where there are no versions.
+/// Makes the records in the order of their bytes, each with its level and the least version below it.
 pub(crate) fn nodes(alloc: Global, versions: &[Version]) -> Result<Vec<PlanRecord>, Memory>
     ensures records { IfOk result (λ records. records.items
         ≡ map (bare_at versions.now) (tree versions.now)) }
@@ -32,7 +30,6 @@ pub(crate) fn nodes(alloc: Global, versions: &[Version]) -> Result<Vec<PlanRecor
     records_along(alloc, &placed)
 }
 
-/// The records of versions in the order of their paths, by one walk along them.
 fn records_along(alloc: Global, placed: &[Placed]) -> Result<Vec<PlanRecord>, Memory>
     ensures { IfOk result (λ records. records.items ≡ records_from [] (map standing placed.now)) }
 {
@@ -48,7 +45,6 @@ fn records_along(alloc: Global, placed: &[Placed]) -> Result<Vec<PlanRecord>, Me
     Ok(records)
 }
 
-/// How many records these versions have.
 fn record_count(placed: &[Placed]) -> usize
     ensures { result ≡ length (records_from [] (map standing placed.now)) }
 {
@@ -63,7 +59,6 @@ fn record_count(placed: &[Placed]) -> usize
     count
 }
 
-/// How many parts the version's path shares in front with that of the version before.
 fn shared_with(before: Option<&Version>, version: &Version) -> usize
     ensures exact { result ≡ shared (path_before (option_copied before.entry))
         (path_of version.now) }
@@ -75,7 +70,7 @@ fn shared_with(before: Option<&Version>, version: &Version) -> usize
     }
 }
 
-/// The records that lead to the first version, without those of the parts that are shared.
+/// Adds the records that lead to the first version, without the shared ones.
 fn push_records(
     records: &mut Vec<PlanRecord>,
     shared: usize,
@@ -100,7 +95,7 @@ fn push_records(
     Ok(())
 }
 
-/// The least index of the first version and of those that follow at once below its record of this level.
+/// Finds the least index of the first version and of those right after it below its record of this level.
 fn least_below(level: Level, first: &Placed, later: &[Placed]) -> usize
     ensures { result ≡ least_run (front_of level first.now.version.now) first.now.of
         (map standing later.now) }
@@ -119,14 +114,12 @@ fn least_below(level: Level, first: &Placed, later: &[Placed]) -> usize
     least
 }
 
-/// Is the other version below the record of this level that leads to the first?
 fn leads(level: Level, first: &Version, other: &Version) -> bool
     ensures { result ≡ leads_to (front_of level first.now) (path_of other.now) }
 {
     depth_of(level) < shared_length(first, other)
 }
 
-/// How many records stand above one of this level.
 fn depth_of(level: Level) -> usize
     ensures { result ≡ above level }
 {

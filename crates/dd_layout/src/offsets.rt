@@ -1,5 +1,3 @@
-//! The offsets of records.
-
 ghost use Rattle.std.specs.Prelude.{◌≡◌, ◌≤◌, All, map, IsSome, SomeIff};
 ghost use Rattle.dd_layout.specs.Plans.{records_end, tree};
 ghost use Rattle.dd_layout.specs.Records.{IsFileOf};
@@ -11,8 +9,7 @@ use crate::record::PlanRecord;
 use crate::record_sizes::record_size;
 use dd_version::Version;
 
-/// Gives each record its offset, and answers how many bytes there are up to the end of the last one: None
-/// where they are more than `most`.
+/// Gives each record its offset, and answers where the last one ends: None where that is above `most`.
 pub(crate) fn set_offsets(
     records: &mut [PlanRecord],
     versions: &[Version],

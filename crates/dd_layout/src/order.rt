@@ -14,13 +14,10 @@ use std::cmp::Ordering;
 /// A version and its index among the versions.
 #[derive(Clone, Copy)]
 pub(crate) struct Placed<'a> {
-    /// Its index.
     pub(crate) of: usize,
-    /// The version.
     pub(crate) version: &'a Version,
 }
 
-/// These versions with their indices, in the order of their paths.
 pub(crate) fn in_path_order<'a>(
     alloc: Global,
     versions: &'a [Version],
@@ -37,7 +34,6 @@ pub(crate) fn in_path_order<'a>(
     Ok(placed)
 }
 
-/// Which path stands first?
 fn compare_paths(one: &Placed, other: &Placed) -> Ordering
     ensures { result ≡ path_cmp (path_of one.now.version.now) (path_of other.now.version.now) }
 {
@@ -51,7 +47,7 @@ fn compare_paths(one: &Placed, other: &Placed) -> Ordering
         .then(one.instance.compare(&other.instance))
 }
 
-/// How many parts the paths of these versions share in front.
+/// Counts the parts that both paths begin with.
 pub(crate) fn shared_length(one: &Version, other: &Version) -> usize
     ensures exact { result ≡ shared (path_of one.now) (path_of other.now) }
     ensures few { result ≤ 4 }

@@ -1,5 +1,3 @@
-//! The plan of a directory.
-
 ghost use Rattle.std.specs.Prelude.{◌≡◌, All, length};
 ghost use Rattle.dd_catalogue.specs.Best.{IsRising};
 ghost use Rattle.dd_catalogue.specs.Versions.{IsCatalogue};
@@ -14,8 +12,7 @@ use dd_elem::Uid;
 use dd_version::Version;
 use std::marker::Model;
 
-/// Where each record of a directory stands, which instances are withdrawn, and how long the file is. Only
-/// `lay_out` makes one.
+/// Holds the records, the withdrawn instances and the size of a directory.
 #[derive(Debug)]
 pub struct Plan {
     label: Label,
@@ -52,7 +49,6 @@ impl Drop for Plan {
 }
 
 impl Plan {
-    /// The plan of these parts.
     pub(crate) fn of(
         label: Label,
         catalogue: Catalogue,
@@ -70,7 +66,6 @@ impl Plan {
         }
     }
 
-    /// Gives the catalogue, in harmony, the records and the size of the file.
     pub(crate) fn into_parts(self) -> (Catalogue, Vec<PlanRecord>, u32)
         ensures versions { result.0.versions ≡ self.versions }
         ensures withdrawn { result.0.withdrawn ≡ self.withdrawn }
@@ -85,14 +80,14 @@ impl Plan {
         (catalogue, records, size)
     }
 
-    /// The label that the file-set gets.
+    /// Gives the label that the file-set gets.
     pub fn label(&self) -> &Label
         ensures { result.now ≡ self.now.label }
     {
         &self.label
     }
 
-    /// The versions that the records are of, in harmony, rising by SOP Instance UID.
+    /// Lists the versions that the records are of, in harmony, rising by SOP Instance UID.
     pub fn versions(&self) -> &[Version]
         ensures all { result.now ≡ self.now.versions }
         ensures rising { IsCatalogue self.now.versions }
@@ -100,7 +95,7 @@ impl Plan {
         self.catalogue.versions()
     }
 
-    /// The SOP Instance UIDs that are withdrawn, rising.
+    /// Lists the withdrawn SOP Instance UIDs, rising.
     pub fn withdrawn(&self) -> &[Uid]
         ensures all { result.now ≡ self.now.withdrawn }
         ensures rising { IsRising (λ uid. uid) bytes_cmp self.now.withdrawn }
@@ -108,15 +103,15 @@ impl Plan {
         self.catalogue.withdrawn()
     }
 
-    /// The size of the file, in bytes.
+    /// Gives the size of the file, in bytes.
     pub fn size(&self) -> u32
         ensures { result ≡ size self.now.label self.now.versions self.now.withdrawn }
     {
         self.size
     }
 
-    /// The records, in the order of their bytes: each, then all below it, then its next sibling (PS3.3
-    /// section F.4). Each offset in them is smaller than the size of the file.
+    /// Lists the records in the order of their bytes: each, then all below it, then its next sibling (PS3.3 section
+    /// F.4).
     pub fn records(&self) -> &[PlanRecord]
         ensures all { result.now ≡ records_of self.now.label self.now.versions }
         ensures sound { All (IsSound (length self.now.versions)) result.now }

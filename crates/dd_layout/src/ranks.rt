@@ -13,7 +13,7 @@ use crate::level::Level;
 use crate::record::PlanRecord;
 use dd_elem::FileId;
 
-/// Of each level, how many records have come below the parent now.
+/// Counts the records of each level below the present parent.
 #[derive(Clone, Copy)]
 struct Counters {
     patient: u64,
@@ -23,7 +23,6 @@ struct Counters {
 }
 
 impl Counters {
-    /// Before all records.
     const NONE: Counters = Counters {
         patient: 0,
         study: 0,
@@ -31,7 +30,6 @@ impl Counters {
         image: 0,
     };
 
-    /// The counter of this level.
     fn of(self, level: Level) -> u64
         ensures { result ≡ count_of level self }
     {
@@ -43,7 +41,6 @@ impl Counters {
         }
     }
 
-    /// After one record more of this level, below which none has come yet.
     fn after(self, level: Level) -> Counters
         requires { count_of level self + 1 < 2 ^ 64 }
         ensures { result ≡ after level self }
@@ -71,8 +68,7 @@ impl Counters {
         }
     }
 
-    /// The File ID of a record of this level that was counted last: None where it is no image, or a
-    /// counter is 0 or above 999,999.
+    /// None where it is no image, or a counter is 0 or above 999,999.
     fn file(self, level: Level) -> Option<FileId>
         ensures { result ≡ counted_file level self }
     {
@@ -88,7 +84,6 @@ impl Counters {
     }
 }
 
-/// The level nearest to the root of these.
 fn topmost_of(level: Level, before: Option<Level>) -> Level
     ensures { result ≡ topmost level before }
 {
@@ -100,8 +95,7 @@ fn topmost_of(level: Level, before: Option<Level>) -> Level
     }
 }
 
-/// The topmost level of which more records than `most` stand below one parent: None where there is no such
-/// level.
+/// Finds the topmost level of which more records than `most` stand below one parent.
 pub(crate) fn crowded_level(records: &[PlanRecord], most: u32) -> Option<Level>
     ensures { (versions : List Parts) → map level_in records.now ≡ map level_of (tree versions)
         → result ≡ crowded most (tree versions) }
@@ -117,7 +111,6 @@ pub(crate) fn crowded_level(records: &[PlanRecord], most: u32) -> Option<Level>
     crowded
 }
 
-/// Gives each image its File ID, where no level is crowded.
 pub(crate) fn number(records: &mut [PlanRecord])
     ensures numbered { (versions : List Parts) (most : ℕ) → most ≤ max_rank
         → crowded most (tree versions) ≡ None

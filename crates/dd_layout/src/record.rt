@@ -1,13 +1,10 @@
-//! A record and where it stands.
-
 use crate::level::Level;
 use dd_elem::FileId;
 
-/// A record of a directory, and where it stands. Offsets count from the first byte of the file to the
-/// Item tag of a record, and 0 stands for none (PS3.3 section F.3.2.2).
+/// A record, and where it stands. Offsets count from the first byte of the file to the Item tag of a record, and 0
+/// stands for none (PS3.3 section F.3.2.2).
 #[derive(Clone, Copy, Debug, PartialEq, Eq)]
 pub struct PlanRecord {
-    /// Its level.
     pub level: Level,
     /// Its offset.
     pub at: u32,
@@ -17,6 +14,6 @@ pub struct PlanRecord {
     pub lower: u32,
     /// The File ID, of an image alone.
     pub file: Option<FileId>,
-    /// Which version it is of, as an index.
+    /// The index of its version.
     pub of: usize,
 }

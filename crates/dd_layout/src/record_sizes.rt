@@ -17,12 +17,11 @@ use dd_elem::FileId;
 use dd_encoding::HEADER_SIZE;
 use dd_version::Parts;
 
-/// The Item tag and the length before the elements of a record (PS3.5 section 7.5).
+/// The Item tag and the length (PS3.5 section 7.5).
 const ITEM_HEADER: u64 = HEADER_SIZE as u64;
 
-/// How many bytes a record of this level takes: its Item tag and length, the elements that link it,
-/// and its keys. Neither its offsets nor its File ID change that. At most 11 rows of 1,036 bytes stand
-/// after the 8 of the Item tag and length, so 12,000 are never passed.
+/// Counts the bytes of a record of this level, which neither its offsets nor its File ID change. At most 11 elements
+/// of 1,036 bytes stand after the 8 of the Item tag and length.
 pub fn record_size(level: Level, parts: &Parts) -> u64
     ensures exact { (next lower : ℕ) (file : Option Ranks) → IsFileOf level file
         → result ≡ record_size (record_elements level next lower file parts.now) }
@@ -34,7 +33,6 @@ pub fn record_size(level: Level, parts: &Parts) -> u64
     ITEM_HEADER + cells_size(rows(level), &bare_record(level), parts)
 }
 
-/// A record with no link, of the first image where it is of an image.
 fn bare_record(level: Level) -> PlanRecord
     ensures level { result.level ≡ level }
     ensures file { IsFileOf level result.file }
@@ -53,8 +51,7 @@ fn bare_record(level: Level) -> PlanRecord
     }
 }
 
-/// How many bytes the elements of these rows take: each at most 1,036, a header of 12 and a value of
-/// 1,024.
+/// Each takes at most 1,036: a header of 12 and a value of 1,024.
 fn cells_size(mut rows: &[Row], planned: &PlanRecord, parts: &Parts) -> u64
     requires { length rows.now ≤ 11 }
     ensures exact { result ≡ elements_size

@@ -17,17 +17,13 @@ use dd_version::Parts;
 /// An element of the records of a level.
 #[derive(Clone, Copy, Debug)]
 pub struct Row {
-    /// Its tag.
     pub tag: Tag,
-    /// Its value representation.
     pub vr: Vr,
-    /// What it holds.
     pub field: Field,
 }
 
 impl Row {
-    /// The element of a record of these parts, and None where it has none: where there is no character
-    /// set.
+    /// Makes the element of a record of these parts: None where there is no character set.
     pub fn cell<'a>(&self, planned: &PlanRecord, parts: &'a Parts) -> Option<Cell<'a>>
         ensures exact { cell_elements result
             ≡ row_elements self.now planned.now.level planned.now.next planned.now.lower planned.now.file parts.now }
@@ -42,7 +38,7 @@ impl Row {
     }
 }
 
-/// The elements of a record of this level, in order (PS3.3 section F.3.2.2 and annex F.5).
+/// Lists the elements of a record of this level, in order (PS3.3 section F.3.2.2 and annex F.5).
 pub fn rows(level: Level) -> &'static [Row]
     ensures exact { (next lower : ℕ) (file : Option Ranks) (parts : Parts)
         → table_elements result.now level next lower file parts
@@ -58,7 +54,6 @@ pub fn rows(level: Level) -> &'static [Row]
     }
 }
 
-/// A row: its tag, or the two numbers of it, its value representation and what it holds.
 macro_rules! row {
     ($group:literal, $element:literal, $vr:ident, $field:ident) => {
         row!(
@@ -103,22 +98,16 @@ pub const INSTANCE: Row = row!(0x0004, 0x1511, UI, Instance);
 /// Referenced Transfer Syntax UID in File.
 pub const TRANSFER: Row = row!(0x0004, 0x1512, UI, Transfer);
 
-/// Specific Character Set.
 pub const CHARSET: Row = row!(tags::SPECIFIC_CHARACTER_SET, CS, Charset);
 
-/// Study Date.
 pub const STUDY_DATE: Row = row!(tags::STUDY_DATE, DA, StudyDate);
 
-/// Study Time.
 pub const STUDY_TIME: Row = row!(tags::STUDY_TIME, TM, StudyTime);
 
-/// Accession Number.
 pub const ACCESSION: Row = row!(tags::ACCESSION_NUMBER, SH, Accession);
 
-/// Modality.
 pub const MODALITY: Row = row!(tags::MODALITY, CS, Modality);
 
-/// Study Description.
 pub const DESCRIPTION: Row = row!(tags::STUDY_DESCRIPTION, LO, Description);
 
 /// The creator of the private elements with the digest.
@@ -127,31 +116,24 @@ pub const CREATOR: Row = row!(0x0009, 0x0010, LO, Creator);
 /// The digest, a private element.
 pub const DIGEST: Row = row!(0x0009, 0x1001, OB, Digest);
 
-/// Patient's Name.
 pub const PATIENT_NAME: Row = row!(tags::PATIENT_NAME, PN, PatientName);
 
-/// Patient ID.
 pub const PATIENT_ID: Row = row!(tags::PATIENT_ID, LO, PatientId);
 
-/// Study Instance UID.
 pub const STUDY_UID: Row = row!(tags::STUDY_INSTANCE_UID, UI, StudyUid);
 
-/// Series Instance UID.
 pub const SERIES_UID: Row = row!(tags::SERIES_INSTANCE_UID, UI, SeriesUid);
 
-/// Study ID.
 pub const STUDY_ID: Row = row!(tags::STUDY_ID, SH, StudyId);
 
-/// Series Number.
 pub const SERIES_NUMBER: Row = row!(tags::SERIES_NUMBER, IS, SeriesNumber);
 
-/// Instance Number.
 pub const NUMBER: Row = row!(tags::INSTANCE_NUMBER, IS, Number);
 
-/// The elements of a PATIENT record (PS3.3 section F.5.1).
+/// PS3.3 section F.5.1.
 const PATIENT: [Row; 7] = [NEXT, IN_USE, LOWER, KIND, CHARSET, PATIENT_NAME, PATIENT_ID];
 
-/// The elements of a STUDY record (PS3.3 section F.5.2).
+/// PS3.3 section F.5.2.
 const STUDY: [Row; 11] = [
     NEXT,
     IN_USE,
@@ -166,7 +148,7 @@ const STUDY: [Row; 11] = [
     STUDY_ID,
 ];
 
-/// The elements of a SERIES record (PS3.3 section F.5.3).
+/// PS3.3 section F.5.3.
 const SERIES: [Row; 7] = [
     NEXT,
     IN_USE,
@@ -177,7 +159,7 @@ const SERIES: [Row; 7] = [
     SERIES_NUMBER,
 ];
 
-/// The elements of an IMAGE record (PS3.3 section F.5.4).
+/// PS3.3 section F.5.4.
 const IMAGE: [Row; 11] = [
     NEXT, IN_USE, LOWER, KIND, FILE, CLASS, INSTANCE, TRANSFER, CREATOR, DIGEST, NUMBER,
 ];

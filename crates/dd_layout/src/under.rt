@@ -1,4 +1,4 @@
-//! The plan of a catalogue that is laid out, under another label.
+//! Plans under another label.
 
 ghost use Rattle.std.specs.Prelude.{◌≡◌, ◌+◌, ◌-◌, ◌<◌, ◌^◌, All, None, Some, IsOk, IfOk, IfErr, map};
 ghost use Rattle.dd_layout.specs.Layouts.{StandsWithin};
@@ -14,9 +14,8 @@ use crate::ranks::crowded_level;
 use crate::record::PlanRecord;
 
 impl Plan {
-    /// Gives the plan of the same catalogue under another label, within these limits. It is the plan that
-    /// `lay_out` gives for that catalogue, and the fault is the one that it gives. But nothing is sorted,
-    /// harmonised or measured again, and nothing is allocated, so the fault is never Conflict or Memory.
+    /// Gives the plan or the fault that `lay_out` gives for the same catalogue under another label, within these
+    /// limits. The fault is never Conflict or Memory, since nothing is harmonised again or allocated.
     pub fn under(self, label: &Label, limits: Limits) -> Result<Plan, PlanFault>
         ensures planned { IfOk result (λ plan. plan ≡ record self { label = label.now }) }
         ensures allowed { IsOk result → excess label.now limits self.versions self.withdrawn
@@ -39,7 +38,6 @@ impl Plan {
     }
 }
 
-/// Moves the offsets in these records, before the first of which not `from` but `to` bytes stand now.
 fn move_records(records: &mut [PlanRecord], from: u32, to: u32)
     requires { All (StandsWithin (2 ^ 32 + from - to)) records.old }
     ensures { records.new ≡ map (moved_record from to) records.old }
@@ -51,8 +49,8 @@ fn move_records(records: &mut [PlanRecord], from: u32, to: u32)
     }
 }
 
-/// The offset of what stands at this one, where not `from` but `to` bytes stand before all records now. What is
-/// smaller than `from` names no record, and becomes 0.
+/// Moves an offset to where `to` bytes stand before the first record, not `from`. What is smaller than `from` names
+/// no record, and becomes 0.
 fn moved_offset(offset: u32, from: u32, to: u32) -> u32
     requires { offset < 2 ^ 32 + from - to }
     ensures { result ≡ moved_offset from to offset }

@@ -1,4 +1,4 @@
-//! The elements that name the withdrawn instances, after the records of a directory.
+//! The elements that name the withdrawn instances, after the records.
 
 ghost use Rattle.std.specs.Prelude.{◌≡◌, ◌+◌, ◌*◌, ◌≤◌, length, sum_by};
 ghost use Rattle.std.specs.List.{AllByRecursion};
@@ -11,14 +11,13 @@ use crate::field::PRIVATE_CREATOR;
 use crate::table::CREATOR;
 use dd_elem::{Tag, Uid, Vr};
 
-/// The tag of the withdrawn SOP Instance UIDs, a private element of `PRIVATE_CREATOR` (PS3.5 section
-/// 7.8.1).
+/// The withdrawn SOP Instance UIDs, in a private element of `PRIVATE_CREATOR` (PS3.5 section 7.8.1).
 pub const WITHDRAWN: Tag = Tag {
     group: 0x0009,
     element: 0x1002,
 };
 
-/// The creator of the block of private elements that the withdrawn UIDs stand in (PS3.5 section 7.8.1).
+/// Makes the element that names the creator of the withdrawn UIDs (PS3.5 section 7.8.1).
 pub fn creator_cell() -> Cell<'static>
     ensures exact { cell_element result ≡ creator_element }
     ensures short { IsShort (even_value result.value) }
@@ -30,7 +29,7 @@ pub fn creator_cell() -> Cell<'static>
     }
 }
 
-/// How many bytes the elements take that name these UIDs: none where no UID is withdrawn.
+/// Counts the bytes of the elements that name these UIDs: none where no UID is withdrawn.
 pub fn withdrawals_size(withdrawn: &[Uid]) -> u128
     ensures exact { result ≡ withdrawals_size withdrawn.now }
     ensures uids { AllByRecursion IsUid withdrawn.now }
@@ -42,8 +41,8 @@ pub fn withdrawals_size(withdrawn: &[Uid]) -> u128
     u128::from(headers) + withdrawn_length(withdrawn)
 }
 
-/// How many bytes the value of the element has that names these UIDs: they are joined by `\` and padded
-/// to even length (PS3.5 sections 6.2 and 6.4).
+/// Counts the bytes of the value that names these UIDs, joined by `\` and padded to even length (PS3.5 sections 6.2
+/// and 6.4).
 pub fn withdrawn_length(withdrawn: &[Uid]) -> u128
     ensures exact { result ≡ length (withdrawn_value withdrawn.now) }
     ensures few { result ≤ 65 * length withdrawn.now }
@@ -53,7 +52,7 @@ pub fn withdrawn_length(withdrawn: &[Uid]) -> u128
     length - length % 2
 }
 
-/// How many bytes these UIDs have, each with one byte after it, so at most 65 for each.
+/// Counts one byte after each UID, so at most 65 for each.
 fn closed_length(mut withdrawn: &[Uid]) -> u128
     ensures exact { result ≡ sum_by (λ uid. length uid + 1) withdrawn.entry.now }
     ensures few { result ≤ 65 * length withdrawn.entry.now }

@@ -34,7 +34,7 @@ returns-in_default-checked_sub-clause-refused c =
     let none = crowded_is (goal.at.returns-in_default-checked_sub-clause-refused c).After-crowded_level ∙ c.in_default.is in
     let bytes = c.from.ensures ∙ ap (λ (limits : Limits). limits.bytes) c.limits.view_is in
     too_large c.args.label.now c.args.limits c.args.versions.now c.args.withdrawn.now none
-    (omega (arith, bytes, c.withdrawals_size-behind.ensures.exact, c.in_default-checked_sub.ensures))
+    (omega (arith, bytes, c.withdrawals_size-withdrawals.ensures.exact, c.in_default-checked_sub.ensures))
 
 pub set_offsets-requires-clause-records : goal.set_offsets-requires-clause-records
 set_offsets-requires-clause-records c =
@@ -54,7 +54,7 @@ returns-in_default-set_offsets-clause-refused c =
     (omega (
       arith,
       bytes,
-      c.withdrawals_size-behind.ensures.exact,
+      c.withdrawals_size-withdrawals.ensures.exact,
       c.in-Some-checked_sub.ensures,
       c.in_default-set_offsets.ensures.fits,
     ))
@@ -67,7 +67,7 @@ returns-clause-allowed c = λ ok.
     (omega (
       arith,
       bytes,
-      c.withdrawals_size-behind.ensures.exact,
+      c.withdrawals_size-withdrawals.ensures.exact,
       c.in-Some-checked_sub.ensures,
       c.in-Some-set_offsets.ensures.fits.0,
     ))
@@ -83,7 +83,7 @@ returns-clause-full c =
     let linked = c.link.ensures label versions (c.in-Some-set_offsets.ensures.placed refl) in
     record {
       records = linked;
-      size = omega (arith, c.in-Some-set_offsets.ensures.fits.1, c.withdrawals_size-behind.ensures.exact);
+      size = omega (arith, c.in-Some-set_offsets.ensures.fits.1, c.withdrawals_size-withdrawals.ensures.exact);
       sound = subst (λ rows. All (IsSound (length versions)) rows) (sym linked)
           (sound label versions (subst (λ rows. All (λ row. IsFileOf row.level row.file) rows) numbered files));
     }
