@@ -1,11 +1,11 @@
 -- Files in memory, as their callers see them, and what changes them.
-use Rattle.std.specs.Prelude.{◌≡◌, ◌≢◌, ◌<◌, ℕ, List, [], ◌++◌, ◌&&◌, map, Option, Some, None, String, Vec}
-use Rattle.std.specs.Prelude.{Result, Ok, Err}
+use Rattle.std.specs.Prelude.{◌≡◌, ◌≢◌, ◌<◌, ℕ, List, [], ◌++◌, ◌&&◌, length, map, take, Option, Some, None, String, Vec}
+use Rattle.std.specs.Prelude.{Result, Ok, Err, IsOk, IfOk, OnErr}
 use Rattle.std.specs.Prelude.{string_bytes, if◌then◌else◌, Bool, true, bytes_eq, option_map}
 use Rattle.std.specs.BTreeMap.{BTreeMap}
 use Rattle.std.specs.Map.{lookup}
 use Rattle.std.specs.declared.alloc.Global.{Global}
-use Rattle.dd_elem.specs.Device.{counted, last_count}
+use Rattle.dd_elem.specs.Device.{counted, last_count, IsBeforeFail, passing}
 use Rattle.dd_elem.specs.declared.counts.Counts.{Counts}
 use Rattle.dd_mem_files.specs.declared.later.Later.{Later}
 use Rattle.dd_mem_files.specs.MemReader.{Opened}
@@ -131,6 +131,14 @@ written_of s = written (held_of s)
 -- the file that is being written is there and grows by these bytes, and all others are as they were
 abbrev pub GrowsWritten : Stored → Stored → List ℕ → Type 0
 GrowsWritten old new bytes = (path : List ℕ) × (old.current ≡ Some path) × GrowsFile old.files new.files path bytes
+
+-- A write of these bytes works only where writes are not to fail yet. How many it takes then, which the file that is
+-- being written grows by; else each file is as it was.
+pub record Adds {E : Type 0} (bytes : List ℕ) (result : Result ℕ E) (old new : Stored) : Type 0 where
+  pub room : IsOk result → IsBeforeFail old.planned.room 0
+  pub len : IfOk result (λ n. n ≡ passing old.planned.room 0 (length bytes))
+  pub ok : IfOk result (λ n. GrowsWritten old new (take n bytes))
+  pub err : OnErr result (KeepsFiles old.files new.files)
 
 -- the file with none of its bytes
 abbrev pub emptied : Option (List ℕ) → Option (List ℕ)

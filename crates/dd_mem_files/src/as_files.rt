@@ -1,4 +1,3 @@
-//! Files in memory as the files of a program.
 ghost use Rattle.std.specs.Prelude.{◌≡◌, ◌↔◌, ◌<◌, [], Err, None, Some, IsErr, IsOk, IsSome, OnErr, OnOk};
 ghost use Rattle.std.specs.Prelude.{codes, false};
 ghost use Rattle.dd_elem.specs.Device.{HasWorked, counted, last_count};
@@ -17,9 +16,8 @@ impl Files for MemFiles {
 
     ghost held = { told_of };
 
-    /// Opens a copy of the file's bytes for reading. A file that is to change has its new bytes from its second
-    /// opening on. NotThere where the call is to be refused, there is no such file, an allocation is refused or the
-    /// refusals are at their last value. The files are then as they were, and it is no opening.
+    /// Opens a copy of the file's bytes. NotThere where the call is to be refused, there is no such file, an allocation
+    /// is refused or the refusals are at their last value. That counts as no opening.
     fn source(&mut self, path: &str) -> Result<MemReader, NotThere>
         ensures may { IsOk result → MayCall self.old }
         ensures opens { OpensOrRefuses (called self.old) self.new path.now result }
@@ -33,23 +31,21 @@ impl Files for MemFiles {
         Err(NotThere)
     }
 
-    /// Opens the file at the path like `source`; its names are spelled as they are recorded. `fail_call` does not count
-    /// this call.
+    /// Opens the file at the path like `source`, its names spelled as recorded.
     fn member(&mut self, _set: &str, path: &str) -> Result<MemReader, NotThere>
         ensures { OpensOrRefuses self.old self.new path.now result }
     {
         self.open_or_refuse(path)
     }
 
-    /// Opens the file at the path like `member`, also the one at the path `-`. `fail_call` does not count this call.
+    /// Opens the file at the path like `member`, also at the path `-`.
     fn names(&mut self, path: &str) -> Result<MemReader, NotThere>
         ensures { OpensOrRefuses self.old self.new path.now result }
     {
         self.open_or_refuse(path)
     }
 
-    /// Succeeds, since every folder is there. NotDone only where the call is to be refused or the refusals are at
-    /// their last value.
+    /// Succeeds where the call may be done, since every folder is there.
     fn folder(&mut self, _path: &str) -> Result<(), NotDone>
         ensures worked { IsOk result → HasWorked self.old.refusals self.new.refusals }
         ensures refused { IsErr result → self.new.refusals ≡ counted self.old.refusals }
@@ -64,7 +60,7 @@ impl Files for MemFiles {
         Err(NotDone)
     }
 
-    /// Does the same as `folder`, since no path is a link.
+    /// Does what `folder` does, since no path is a link.
     fn folder_in(&mut self, _out: &str, path: &str) -> Result<(), NotDone>
         ensures worked { IsOk result → HasWorked self.old.refusals self.new.refusals }
         ensures refused { IsErr result → self.new.refusals ≡ counted self.old.refusals }
@@ -76,7 +72,7 @@ impl Files for MemFiles {
     }
 
     /// Starts an empty file at the path. NotDone where the call is to be refused, the path is there, an allocation is
-    /// refused or the refusals are at their last value. The files are then as they were.
+    /// refused or the refusals are at their last value.
     fn create(&mut self, path: &str) -> Result<(), NotDone>
         ensures worked { IsOk result → HasWorked self.old.refusals self.new.refusals }
         ensures refused { IsErr result → self.new.refusals ≡ counted self.old.refusals }
@@ -95,10 +91,9 @@ impl Files for MemFiles {
         Err(NotDone)
     }
 
-    /// Gives the path a copy of the bytes of the file at `from`; its names are spelled as they are recorded. Absent
-    /// where there is no such file, a copy is refused or the refusals are at their last value. Taken where the path is
-    /// there. Refused where hard links are to be refused, or an allocation is. The files are then as they were.
-    /// `fail_call` does not count this call.
+    /// Gives the path a copy of the file at `from`, its names spelled as recorded. Absent where there is no such file,
+    /// a copy is refused or the refusals are at their last value. Taken where the path is there. Refused where hard
+    /// links are to be refused, or an allocation is.
     fn link(&mut self, _set: &str, from: &str, path: &str) -> Result<(), LinkFault>
         ensures worked { IsOk result → HasWorked self.old.refusals self.new.refusals }
         ensures refused { IsErr result → self.new.refusals ≡ counted self.old.refusals }
@@ -120,8 +115,7 @@ impl Files for MemFiles {
         answer
     }
 
-    /// Ends the file that is being written. Later writes fail until the next file is started. NotDone only where
-    /// the call is to be refused or the refusals are at their last value. The file has then not ended.
+    /// Ends the file that is being written. Writes then fail until the next file is started.
     fn finish(&mut self) -> Result<(), NotDone>
         ensures worked { IsOk result → HasWorked self.old.refusals self.new.refusals }
         ensures refused { IsErr result → self.new.refusals ≡ counted self.old.refusals }
@@ -137,7 +131,7 @@ impl Files for MemFiles {
         Ok(())
     }
 
-    /// Does nothing, since all is stored when it is made. NotDone only where the refusals are at their last value.
+    /// Does nothing, since all is stored when it is made.
     fn store_batch(&mut self) -> Result<(), NotDone>
         ensures worked { IsOk result → HasWorked self.old.refusals self.new.refusals }
         ensures refused { IsErr result → self.new.refusals ≡ counted self.old.refusals }
@@ -147,7 +141,7 @@ impl Files for MemFiles {
         self.store()
     }
 
-    /// Does nothing, since all is stored when it is made. NotDone only where the refusals are at their last value.
+    /// Does nothing, since all is stored when it is made.
     fn store(&mut self) -> Result<(), NotDone>
         ensures worked { IsOk result → HasWorked self.old.refusals self.new.refusals }
         ensures refused { IsErr result → self.new.refusals ≡ counted self.old.refusals }
@@ -175,23 +169,20 @@ impl Files for MemFiles {
     ghost written_grows = { held_grows };
 }
 
+/// Shows no progress.
 impl Progress for MemFiles {
-    /// Does nothing, since no progress is shown.
     fn begin_step(&mut self, _step: Step, _of: u64)
         ensures { self.new ≡ self.old }
     {}
 
-    /// Does nothing.
     fn advance(&mut self)
         ensures { self.new ≡ self.old }
     {}
 
-    /// Does nothing.
     fn hide_line(&mut self)
         ensures { self.new ≡ self.old }
     {}
 
-    /// Does nothing.
     fn silence(&mut self)
         ensures { self.new ≡ self.old }
     {}

@@ -7,7 +7,6 @@ use dd_files::NotDone;
 use std::alloc::Global;
 use std::collections::BTreeMap;
 
-/// Gives the path these bytes. Memory where an allocation is refused, and then nothing has changed.
 pub(crate) fn set(
     alloc: Global,
     files: &mut BTreeMap<String, Vec<u8>>,
@@ -23,8 +22,7 @@ pub(crate) fn set(
     Ok(())
 }
 
-/// Adds the bytes to the end of the file at the path. NotDone where no file is at the path or its allocation
-/// is refused. The files are then as they were.
+/// Appends to a file. NotDone where no file is at the path or an allocation is refused.
 pub(crate) fn append(
     files: &mut BTreeMap<String, Vec<u8>>,
     path: &str,

@@ -1,4 +1,3 @@
-//! A change of a file in memory.
 ghost use Rattle.std.specs.Prelude.{◌≡◌, option_map, option_copied};
 ghost use Rattle.dd_mem_files.specs.MemFiles.{change_of, due, opened};
 
@@ -31,7 +30,6 @@ pub(crate) fn due_bytes<'a>(later: &'a Option<Later>, path: &str) -> Option<&'a 
     }
 }
 
-/// Counts an opening of the path.
 pub(crate) fn count_opening(later: &mut Option<Later>, path: &str)
     ensures { option_map change_of later.new ≡ opened path.now (option_map change_of later.old) }
 {

@@ -1,6 +1,4 @@
-//! Files in memory, for tests.
-//!
-//! Its promise: they are `Files` that tell what they hold, and that change only as these say.
+//! Files in memory, for tests. Its promise: they say what they hold, and change only as the trait `Files` says.
 #![tactic(auto)]
 
 mod as_files;

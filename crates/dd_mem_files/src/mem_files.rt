@@ -1,13 +1,13 @@
 //! Files in memory.
-ghost use Rattle.std.specs.Prelude.{◌≡◌, IsSome, is_ok, IfSome, ◌↔◌, [], length, None, Some, IsOk, take, false};
-ghost use Rattle.std.specs.Prelude.{Err, IsTrue, IfOk, OnOk, OnErr, option_map, option_copied, string_bytes, true};
+ghost use Rattle.std.specs.Prelude.{◌≡◌, IsSome, is_ok, IfSome, ◌↔◌, [], None, Some, IsOk, false};
+ghost use Rattle.std.specs.Prelude.{Err, IsTrue, OnOk, OnErr, option_map, option_copied, string_bytes, true};
 ghost use Rattle.std.specs.Io.{WritesAtMost};
 ghost use Rattle.std.specs.Io.KnownBytes.{WriteAppends};
 ghost use Rattle.dd_elem.specs.Counts.{counts_after};
-ghost use Rattle.dd_elem.specs.Device.{counted, IsBeforeFail, IsLive, passing};
-ghost use Rattle.dd_mem_files.specs.MemFiles.{Stored, Unwritten, listed, bytes_at, change_of, unread, unwritten};
-ghost use Rattle.dd_mem_files.specs.MemFiles.{written_of, SetsFile, GrowsWritten, MayCall, called};
-ghost use Rattle.dd_mem_files.specs.MemFiles.{KeepsFiles, Gets, LinksFile, Opens, OpensOrRefuses, due};
+ghost use Rattle.dd_elem.specs.Device.{counted, IsLive};
+ghost use Rattle.dd_mem_files.specs.MemFiles.{Adds, Stored, Unwritten, listed, bytes_at, change_of, unread, unwritten};
+ghost use Rattle.dd_mem_files.specs.MemFiles.{written_of, SetsFile, MayCall, called};
+ghost use Rattle.dd_mem_files.specs.MemFiles.{Gets, LinksFile, Opens, OpensOrRefuses, due};
 ghost use Rattle.dd_mem_files.specs.PlannedFaults.{after_write, fails_at, nothing_planned};
 
 use crate::contents::{append, set};
@@ -21,8 +21,8 @@ use std::collections::BTreeMap;
 use std::io;
 use std::marker::Model;
 
-/// Files in memory, by their paths. They keep no folders. Where a file is to change later, their contract does
-/// not say what they hold.
+/// Holds files by their paths, and no folders. Where a file is to change later, the contract does not say what the
+/// files hold.
 #[derive(Debug)]
 pub struct MemFiles {
     alloc: Global,
@@ -85,8 +85,7 @@ impl MemFiles {
         }
     }
 
-    /// Gives the path these bytes, whether it had some or not. Memory where an allocation is refused, and
-    /// then nothing has changed.
+    /// Gives the path these bytes, whether it had some or not. Memory where an allocation is refused.
     pub fn put(&mut self, path: &str, bytes: &[u8]) -> Result<(), Memory>
         ensures ok { OnOk result (SetsFile self.old.files self.new.files path.now bytes.now) }
         ensures err { OnErr result (self.new ≡ self.old) }
@@ -95,8 +94,7 @@ impl MemFiles {
         set(self.alloc, &mut self.files, path, bytes)
     }
 
-    /// Gives the path these bytes from its second opening on, counted from now. The files' contract then no longer
-    /// says what they hold. Memory where an allocation is refused, and then nothing has changed.
+    /// Gives the path these bytes from its second opening on, counted from now. Memory where an allocation is refused.
     pub fn put_later(&mut self, path: &str, bytes: &[u8]) -> Result<(), Memory>
         ensures ok { OnOk result (self.new ≡ record self.old {
           later = Some (record { path = path.now; bytes = bytes.now; is_opened = false });
@@ -120,18 +118,16 @@ impl MemFiles {
         self.planned.fail_write(after);
     }
 
-    /// Makes the files refuse the n-th of the next calls of `source`, `folder`, `folder_in`, `create` and `finish`,
-    /// counted together. The next call is number 1; with 0 no call is refused. A later `fail_call` replaces this
-    /// one.
+    /// Makes the n-th of the next calls of `source`, `folder`, `folder_in`, `create` and `finish` fail, counted
+    /// together from 1; with 0 none fails. A later `fail_call` replaces this one.
     pub fn fail_call(&mut self, n: u32)
         ensures { self.new ≡ record self.old { planned = record self.old.planned { call = n } } }
     {
         self.planned.fail_call(n);
     }
 
-    /// Makes the reader of a later opening of the path fail after `after` bytes. The next opening is number 1; with
-    /// 0 no reader fails. A later `fail_read` replaces this one. Memory where an allocation is refused, and then
-    /// nothing has changed.
+    /// Makes the reader of a later opening of the path fail after `after` bytes. The next opening is number 1; with 0
+    /// no reader fails. A later `fail_read` replaces this one. Memory where an allocation is refused.
     pub fn fail_read(&mut self, path: &str, opening: u32, after: u64) -> Result<(), Memory>
         ensures ok { OnOk result (self.new ≡ record self.old {
           planned = record self.old.planned {
@@ -162,15 +158,14 @@ impl MemFiles {
         }
     }
 
-    // Copies the bytes of the file at the path. None where no file is at the path or the copy is refused.
     fn copy(&self, path: &str) -> Option<Vec<u8>>
         ensures { IfSome result (λ copy. bytes_at self.now.files path.now ≡ Some copy.items) }
     {
         self.bytes(path)?.to_vec(self.alloc).ok()
     }
 
-    // Gives the path the bytes that it is to have at this opening, and answers a copy of them; or else this copy
-    // of its bytes. None where an allocation is refused, and then nothing has changed.
+    // Changes the file if it is to change at this opening, and gives a copy of its bytes. None where an allocation is
+    // refused.
     fn reopen(&mut self, path: &str, copy: Vec<u8>) -> Option<Vec<u8>>
         requires { bytes_at self.old.files path.now ≡ Some copy.items }
         ensures gives { IfSome result (λ copy. bytes_at self.new.files path.now ≡ Some copy.items) }
@@ -191,8 +186,7 @@ impl MemFiles {
         }
     }
 
-    /// Opens the file at the path. None where there is no such file or an allocation is refused, and then nothing has
-    /// changed.
+    /// Opens the file at the path. None where there is no such file or an allocation is refused.
     pub(crate) fn open(&mut self, path: &str) -> Option<MemReader>
         ensures gives { IfSome result (λ reader. bytes_at self.new.files path.now
             ≡ Some reader.left) }
@@ -207,8 +201,8 @@ impl MemFiles {
         Some(MemReader::new(copy, self.planned.open(path)))
     }
 
-    /// Opens the file at the path, or counts a refusal: where there is no such file, an allocation is refused or the
-    /// refusals are at their last value. The files are then as they were, and it is no opening.
+    /// Opens the file at the path, or counts a refusal: where `open` gives None or the refusals are at their last
+    /// value.
     pub(crate) fn open_or_refuse(&mut self, path: &str) -> Result<MemReader, NotThere>
         ensures { OpensOrRefuses self.old self.new path.now result }
     {
@@ -235,9 +229,7 @@ impl MemFiles {
         Ok(())
     }
 
-    /// Gives the path, which must be free, the bytes of the file at `from`. Absent where no file is at `from` or a copy
-    /// of its bytes is refused. Taken where the path is there. Refused where hard links are to be refused, or an
-    /// allocation is. The files are then as they were.
+    /// Does what `link` does, but neither checks nor counts the refusals.
     pub(crate) fn copy_to(&mut self, from: &str, path: &str) -> Result<(), LinkFault>
         ensures ok { OnOk result (LinksFile self.old.files self.new.files from.now path.now) }
         ensures may { IsOk result → self.old.planned.no_links ≡ false }
@@ -260,8 +252,6 @@ impl MemFiles {
         }
     }
 
-    /// Counts a call, and says whether it may be done: not where it is to be refused, or the refusals are at their
-    /// last value.
     pub(crate) fn count_call(&mut self) -> bool
         ensures may { IsTrue result ↔ MayCall self.old }
         ensures same { self.new ≡ called self.old }
@@ -270,21 +260,16 @@ impl MemFiles {
         !is_refused && self.refusals < u64::MAX
     }
 
-    /// Counts a refusal.
     pub(crate) fn refuse(&mut self)
         ensures { self.new ≡ record self.old { refusals = counted self.old.refusals } }
     {
         self.refusals = self.refusals.saturating_add(1);
     }
 
-    // Adds what a write takes of the bytes to the end of the file that is being written, and answers how many
-    // these are. NotDone where there is no such file, its allocation is refused or writes are to fail. The files are
-    // then as they were.
+    // Appends what a write takes of the bytes. NotDone where no file is being written, an allocation is refused or
+    // writes are to fail.
     fn append(&mut self, bytes: &[u8]) -> Result<usize, NotDone>
-        ensures room { IsOk result → IsBeforeFail self.old.planned.room 0 }
-        ensures len { IfOk result (λ n. n ≡ passing self.old.planned.room 0 (length bytes.now)) }
-        ensures ok { IfOk result (λ n. GrowsWritten self.old self.new (take n bytes.now)) }
-        ensures err { OnErr result (KeepsFiles self.old.files self.new.files) }
+        ensures adds { Adds bytes.now result self.old self.new }
         ensures same { self.new ≡ record self.old {
           files = self.new.files;
           planned = after_write self.old.planned result;
@@ -313,24 +298,16 @@ impl Write for MemFiles {
 
     ghost rest = { unwritten };
 
-    /// Adds the whole piece, or what fits before writes are to fail, to the end of the file that is being
-    /// written. Fails where writes are to fail, where there is no such file, where a count is at its last value
-    /// and where an allocation is refused. It then adds nothing.
+    /// Appends the whole piece, or what fits before writes are to fail, to the file that is being written. Fails where
+    /// writes are to fail, where there is no such file, where a count is at its last value and where an allocation is
+    /// refused.
     fn write(&mut self, bytes: &[u8]) -> io::Result<usize>
         ensures bound { WritesAtMost result bytes.now }
         ensures appends { WriteAppends (written_of self.old)
             (written_of self.new) result bytes.now }
-
-        // It works only where no count is at its last value and writes are not to fail yet, and how many bytes it
-        // takes then for the file that is being written.
         ensures live { IsOk result → IsLive self.old.counts.calls self.old.counts.failures }
-        ensures room { IsOk result → IsBeforeFail self.old.planned.room 0 }
-        ensures len { IfOk result (λ n. n ≡ passing self.old.planned.room 0 (length bytes.now)) }
-
-        // How it counts, and what stays.
+        ensures adds { Adds bytes.now result self.old self.new }
         ensures counts { self.new.counts ≡ counts_after self.old.counts (is_ok result) }
-        ensures ok { IfOk result (λ n. GrowsWritten self.old self.new (take n bytes.now)) }
-        ensures err { OnErr result (KeepsFiles self.old.files self.new.files) }
         ensures same { self.new ≡ record self.old {
           files = self.new.files;
           counts = self.new.counts;

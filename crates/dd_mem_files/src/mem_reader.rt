@@ -1,16 +1,16 @@
 //! A reader of a file in memory.
-ghost use Rattle.std.specs.Prelude.{◌≡◌, [], ◌≤◌, ◌↔◌, ◌<◌, length, take, drop, Some, IsOk, IsErr, IfOk};
+ghost use Rattle.std.specs.Prelude.{◌≡◌, [], ◌≤◌, ◌↔◌, ◌<◌, length, take, drop, Some, IsOk, IsErr};
 ghost use Rattle.std.specs.Prelude.{IsSome, IfSome};
 ghost use Rattle.std.specs.Io.{ReadsAtMost};
 ghost use Rattle.std.specs.Io.KnownBytes.{ReadConsumes};
 ghost use Rattle.dd_elem.specs.Device.{counted, last_count, HasWorked, GivesTold, IsBeforeFail, read_piece};
-ghost use Rattle.dd_mem_files.specs.MemReader.{Opened, IsReadable, after_read, next_len};
+ghost use Rattle.dd_mem_files.specs.MemReader.{Opened, Reads, next_len};
 
 use dd_elem::{Counts, Read};
 use std::io;
 use std::marker::Model;
 
-/// A reader of a file in memory. It has a copy of the file's bytes, and it may fail for good at a given place.
+/// Reads a copy of a file's bytes, and may fail for good at a given place.
 #[derive(Debug, Drop)]
 pub struct MemReader {
     bytes: Vec<u8>,
@@ -33,8 +33,7 @@ impl Model for MemReader {
 }
 
 impl MemReader {
-    /// Makes a reader of these bytes. Where `fails` is `Some(n)`, it fails for good after n bytes, before it
-    /// reports the end.
+    /// With `Some(n)` the reader fails for good after n bytes, before it reports the end.
     pub(crate) fn new(bytes: Vec<u8>, fails: Option<u64>) -> Self
         ensures { result ≡ record {
           given = [];
@@ -51,7 +50,7 @@ impl MemReader {
         }
     }
 
-    /// Says how many bytes the next read gives where no count is at its last value. None where it fails.
+    /// Says how many bytes the next read gives where no count is at its last value.
     fn next_len(&self, room: usize) -> Option<usize>
         ensures readable { IsSome result ↔ IsBeforeFail self.now.fails (length self.now.given) }
         ensures len { IfSome result (λ n. n ≡ next_len self.now room) }
@@ -78,8 +77,8 @@ impl Read for MemReader {
 
     ghost has_given = { λ s _ bytes. bytes ≡ s.given };
 
-    /// Gives the next bytes, as many as there is room for and as are left, up to the place where it fails for
-    /// good. Fails at that place, and where a count is at its last value.
+    /// Gives as many of the next bytes as fit, up to the place where it fails for good. Fails there, and where a count
+    /// is at its last value.
     fn read(&mut self, buf: &mut [u8]) -> io::Result<usize>
         ensures bound { ReadsAtMost result buf.new }
         ensures called { self.new.counts.calls ≡ counted self.old.counts.calls }
@@ -89,11 +88,7 @@ impl Read for MemReader {
             ≡ counted self.old.counts.failures }
         ensures left { ReadConsumes (Some self.old.left) (Some self.new.left) result buf.new }
         ensures gives { GivesTold (λ s. s.given) self.old self.new (read_piece result buf.new) }
-
-        // Exactly when it works, how many bytes come then, and what it is afterwards.
-        ensures readable { IsOk result ↔ IsReadable self.old }
-        ensures len { IfOk result (λ n. n ≡ next_len self.old (length buf.old)) }
-        ensures after { self.new ≡ after_read self.old result }
+        ensures reads { Reads (length buf.old) result self.old self.new }
     {
         let next = self.next_len(buf.len());
         self.counts.begin()?;

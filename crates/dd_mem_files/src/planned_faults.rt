@@ -1,4 +1,3 @@
-//! What is to fail in files in memory.
 ghost use Rattle.std.specs.Prelude.{◌≡◌, ◌↔◌, IsTrue, IsSome, IfSome, Some, option_map, string_bytes, true};
 ghost use Rattle.dd_elem.specs.Device.{IsBeforeFail, passing};
 ghost use Rattle.dd_mem_files.specs.PlannedFaults.{Planned, after_call, after_opening, after_taking, fails_at};
@@ -6,7 +5,6 @@ ghost use Rattle.dd_mem_files.specs.PlannedFaults.{counted_down, failing_reader_
 
 use std::marker::Model;
 
-/// A reader that is to fail.
 #[derive(Debug, Drop)]
 struct ReaderFault {
     path: String,
@@ -35,7 +33,6 @@ impl Model for PlannedFaults {
 }
 
 impl PlannedFaults {
-    /// Plans that nothing fails.
     pub(crate) fn new() -> Self
         ensures { result ≡ nothing_planned }
     {
@@ -47,21 +44,18 @@ impl PlannedFaults {
         }
     }
 
-    /// Makes writes fail once they have taken `after` bytes in all.
     pub(crate) fn fail_write(&mut self, after: u64)
         ensures { self.new ≡ record self.old { room = Some after } }
     {
         self.room = Some(after);
     }
 
-    /// Makes the n-th of the next calls be refused; with 0 no call is refused.
     pub(crate) fn fail_call(&mut self, n: u32)
         ensures { self.new ≡ record self.old { call = n } }
     {
         self.call = n;
     }
 
-    /// Makes the reader of this opening of the path fail after `after` bytes.
     pub(crate) fn fail_read(&mut self, path: String, opening: u32, after: u64)
         ensures { self.new ≡ record self.old {
           reader = Some (record { path = string_bytes path; opening = opening; after = after });
@@ -74,21 +68,19 @@ impl PlannedFaults {
         });
     }
 
-    /// Refuses every hard link from now on.
     pub(crate) fn refuse_links(&mut self)
         ensures { self.new ≡ record self.old { no_links = true } }
     {
         self.no_links = true;
     }
 
-    /// Says whether hard links are refused.
     pub(crate) fn refuses_links(&self) -> bool
         ensures { result ≡ self.now.no_links }
     {
         self.no_links
     }
 
-    /// Says how many bytes of a piece of this length the next write takes. None where it fails.
+    /// Says how many of `len` bytes the next write takes. None where it fails.
     pub(crate) fn taken_len(&self, len: usize) -> Option<usize>
         ensures writable { IsSome result ↔ IsBeforeFail self.now.room 0 }
         ensures len { IfSome result (λ n. n ≡ passing self.now.room 0 len) }
@@ -119,7 +111,6 @@ impl PlannedFaults {
         is_refused
     }
 
-    /// Says after how many bytes a reader that is opened at this path now is to fail.
     fn fails_at(&self, path: &str) -> Option<u64>
         ensures { result ≡ fails_at self.now.reader path.now }
     {
@@ -142,7 +133,6 @@ impl PlannedFaults {
     }
 }
 
-// Counts an opening of the path.
 fn count_down(reader: &mut Option<ReaderFault>, path: &str)
     ensures { option_map failing_reader_of reader.new
         ≡ counted_down path.now (option_map failing_reader_of reader.old) }

@@ -1,5 +1,3 @@
-//! How a reader came to its end.
-
 ghost use Rattle.std.specs.Prelude.{◌≡◌, [], List, ℕ, Some};
 ghost use Rattle.dd_stream.specs.Streams.{Moves, position_of};
 
@@ -7,7 +5,7 @@ use crate::feed::Feed;
 use crate::stream::Stream;
 use dd_elem::Read;
 
-/// How a stream came to its end.
+/// Says how a stream came to its end.
 #[derive(Clone, Copy, Debug, PartialEq, Eq)]
 pub enum End {
     /// The reader has no more bytes.
@@ -18,7 +16,7 @@ pub enum End {
     TooLong,
 }
 
-/// Reads on to the end of a stream, and answers how it came there.
+/// Reads a stream to its end, and says how it came there.
 pub fn finish<R: Read>(stream: &mut Stream<'_, R>) -> End
     ensures same { stream.new.reader.ghost_name ≡ stream.old.reader.ghost_name }
     ensures moved { (taken : List ℕ) × Moves R.Read

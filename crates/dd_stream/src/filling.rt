@@ -1,12 +1,9 @@
-//! Bytes of a feed, as many as are asked for.
-
 ghost use Rattle.std.specs.Prelude.{◌≡◌, ◌≤◌, ◌<◌, ◌+◌, ℕ, List, length, take};
 ghost use Rattle.dd_stream.specs.Feeds.{IsOver};
 
 use crate::feed::Feed;
 
-/// Fills the room from its front, and answers with how many bytes: fewer than there is room for only
-/// where the feed is at its end.
+/// Fills the room, and gives how many bytes came: fewer than fit only at the end of the feed.
 pub fn fill<F: Feed>(feed: &mut F, room: &mut [u8]) -> usize
     ensures bound { result ≤ length room.new }
     ensures moved { F.moves feed.old feed.new (take result room.new) }
@@ -24,7 +21,7 @@ pub fn fill<F: Feed>(feed: &mut F, room: &mut [u8]) -> usize
     at
 }
 
-/// Skips n bytes, and answers how many there were: fewer only where the feed is at its end.
+/// Skips n bytes, and gives how many there were: fewer only at the end of the feed.
 pub fn skip<F: Feed>(feed: &mut F, n: u64) -> u64
     ensures bound { result ≤ n }
     ensures moved { (taken : List ℕ) × (length taken ≡ result) × F.moves feed.old feed.new taken }

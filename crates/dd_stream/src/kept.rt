@@ -1,10 +1,8 @@
 //! Bytes of a reader that were read and not taken yet.
 
-ghost use Rattle.std.specs.Prelude.{◌≡◌, ◌≤◌, ◌<◌, ◌+◌, ◌++◌, [], min, length, take, drop, Some, IsSome, IfSome};
-ghost use Rattle.std.specs.Prelude.{IsNone};
-ghost use Rattle.std.specs.Io.KnownBytes.{Consumes, IsAtEnd};
-ghost use Rattle.dd_elem.specs.Device.{Gives, HasWorked, HasFailed};
+ghost use Rattle.std.specs.Prelude.{◌≡◌, ◌≤◌, ◌<◌, ◌+◌, ◌++◌, [], min, length, take, drop, IfSome, IsNone};
 ghost use Rattle.dd_stream.specs.Bytes.{AreBytes};
+ghost use Rattle.dd_stream.specs.Reads.{ReadsOnce};
 ghost use Rattle.dd_stream.specs.Streams.{came};
 
 use dd_elem::Read;
@@ -13,7 +11,6 @@ use std::marker::Model;
 /// The most bytes of one read.
 pub(crate) const PIECE: usize = 16_384;
 
-/// The bytes of the last read that were not taken yet.
 #[derive(Drop)]
 pub(crate) struct Kept {
     bytes: [u8; PIECE],
@@ -32,7 +29,6 @@ impl Model for Kept {
 }
 
 impl Kept {
-    /// No bytes.
     pub(crate) fn new() -> Kept
         ensures { result ≡ [] }
     {
@@ -43,14 +39,12 @@ impl Kept {
         }
     }
 
-    /// How many they are.
     pub(crate) fn len(&self) -> usize
         ensures { result ≡ length self.now }
     {
         self.len
     }
 
-    /// Takes as many as there are and there is room for to the front of the room, and answers how many.
     pub(crate) fn give(&mut self, room: &mut [u8]) -> usize
         ensures count { result ≡ min (length room.new) (length self.old) }
         ensures gave { self.old ≡ take result room.new ++ self.new }
@@ -62,7 +56,6 @@ impl Kept {
         n
     }
 
-    /// Skips at most n, and answers how many.
     pub(crate) fn pass(&mut self, n: u64) -> u64
         ensures count { result ≡ min n (length self.old) }
         ensures gone { self.old ≡ take result self.old ++ self.new }
@@ -73,8 +66,7 @@ impl Kept {
         n
     }
 
-    /// Has the bytes of one more read, of at most `most`, in place of the ones before. Answers
-    /// how many, or None where the reader failed.
+    /// Replaces the bytes by those of one more read. None where the reader fails.
     pub(crate) fn refill<R: Read>(&mut self, reader: &mut R, most: usize) -> Option<usize>
         requires some { 0 < most }
         requires few { most ≤ PIECE }
@@ -82,14 +74,7 @@ impl Kept {
         ensures len { IfSome result (λ n. n ≡ length self.new) }
         ensures none { IsNone result → self.new ≡ [] }
         ensures bytes { AreBytes self.new }
-
-        // What the reader gave, and how it stands.
-        ensures gave { Gives R.has_given reader.old reader.new self.new }
-        ensures known { Consumes (R.remaining reader.old) (R.remaining reader.new) self.new }
-        ensures end { result ≡ Some 0 → IsAtEnd (R.remaining reader.new) }
-        ensures called { R.calls reader.new ≤ R.calls reader.old + 1 }
-        ensures worked { IsSome result → HasWorked (R.failures reader.old) (R.failures reader.new) }
-        ensures failed { IsNone result → HasFailed (R.failures reader.old) (R.failures reader.new) }
+        ensures read { ReadsOnce R.Read most result reader.old reader.new self.new }
     {
         self.at = 0;
         self.len = 0;
@@ -99,18 +84,11 @@ impl Kept {
     }
 }
 
-/// Reads once to the front of the room, and answers how many bytes came, or None where the reader
-/// failed.
 fn read_once<R: Read>(reader: &mut R, room: &mut [u8]) -> Option<usize>
     ensures bound { IfSome result (λ n. n ≤ length room.new) }
     ensures bytes { AreBytes room.new }
-    ensures gave { Gives R.has_given reader.old reader.new (came result room.new) }
-    ensures known { Consumes (R.remaining reader.old) (R.remaining reader.new)
+    ensures read { ReadsOnce R.Read (length room.new) result reader.old reader.new
         (came result room.new) }
-    ensures end { result ≡ Some 0 → 0 < length room.new → IsAtEnd (R.remaining reader.new) }
-    ensures called { R.calls reader.new ≤ R.calls reader.old + 1 }
-    ensures worked { IsSome result → HasWorked (R.failures reader.old) (R.failures reader.new) }
-    ensures failed { IsNone result → HasFailed (R.failures reader.old) (R.failures reader.new) }
 {
     match reader.read(room) {
         Ok(n) => Some(n),

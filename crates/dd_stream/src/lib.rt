@@ -1,9 +1,7 @@
-//! Streams of bytes: a reader's bytes as a feed, which are taken or skipped piece by piece, and bytes that
-//! are sent to a writer.
+//! Gives a reader's bytes as a feed, and sends bytes to a writer.
 //!
-//! Its one promise: what is taken from a stream is what its reader gave, in order and each byte once, and
-//! no more than the limit and one byte are read; the end says whether the reader had no more, failed, or
-//! gave too much; and what is sent goes whole, or the fault counts the bytes that went.
+//! Its promise: the bytes taken from a stream are those that its reader gave, in order and each once. What is sent goes
+//! whole, or the fault counts the bytes that went.
 #![tactic(auto)]
 
 mod end;

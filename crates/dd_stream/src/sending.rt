@@ -1,13 +1,10 @@
-//! Pieces of bytes sent to a writer.
-
 ghost use Rattle.std.specs.Prelude.{◌+◌, ◌<◌, ◌^◌, length};
 ghost use Rattle.dd_stream.specs.Sends.{SendsTo};
 
 use crate::write_fault::WriteFault;
 use dd_elem::Write;
 
-/// Sends the bytes after `sent` others, and answers how many have gone then. 12 Write where the
-/// writer failed, with how many went before: `sent` and those of the piece that the writer took.
+/// Sends the bytes after `sent` others, which its answers count too. Write where the writer fails or takes nothing.
 pub fn send<W: Write>(bytes: &[u8], writer: &mut W, sent: u64) -> Result<u64, WriteFault>
     requires { sent + length bytes.now < 2 ^ 64 }
     ensures { SendsTo W.Write bytes.now sent result writer.old writer.new }

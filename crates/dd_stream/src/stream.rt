@@ -1,5 +1,3 @@
-//! The bytes of a reader as a feed.
-
 ghost use Rattle.std.specs.Prelude.{◌≡◌, ◌≤◌, [], IsSome, None};
 ghost use Rattle.std.proofs.Common.{refl, ◌∙◌};
 ghost use Rattle.dd_stream.specs.Streams.{Moves, MayCome, most_of, position_of};
@@ -10,23 +8,18 @@ use crate::feed::Feed;
 use crate::kept::{Kept, PIECE};
 use dd_elem::Read;
 
-/// The bytes of a reader as a feed: it reads them in pieces of 16 KiB, and at most its limit and one
-/// more. It is at its end where the reader is, where the reader fails, and after the one byte more;
-/// `finish` says which.
+/// Gives the bytes of a reader, read up to 16 KiB at once, as a feed. It ends where the reader ends or fails, and with
+/// the first byte past its limit; `finish` says which.
 #[derive(Drop)]
 pub struct Stream<'r, R: Read> {
-    /// The reader.
     pub(crate) reader: &'r mut R,
-    /// The bytes that it gave and that were not taken yet.
     pub(crate) kept: Kept,
-    /// How many bytes it may still give.
     pub(crate) left: u64,
-    /// How it came to its end, where it has.
     pub(crate) end: Option<End>,
 }
 
 impl<'r, R: Read> Stream<'r, R> {
-    /// A stream of this reader, of which nothing was read yet, with this limit.
+    /// Makes a stream with this limit, and reads nothing yet.
     pub fn new(reader: &'r mut R, limit: u64) -> Stream<'r, R>
         ensures same { result.reader.ghost_name ≡ reader.entry.ghost_name }
         ensures reader { result.reader.now ≡ reader.old }
@@ -42,7 +35,7 @@ impl<'r, R: Read> Stream<'r, R> {
         }
     }
 
-    /// Has some bytes to give, unless the stream is at its end.
+    /// Reads once if no bytes are kept, unless the stream has ended.
     fn refill(&mut self)
         ensures same { self.new.reader.ghost_name ≡ self.old.reader.ghost_name }
         ensures moved { Moves R.Read self.old.reader.now self.new.reader.now

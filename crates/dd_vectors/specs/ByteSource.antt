@@ -1,5 +1,6 @@
 -- A reader over bytes in memory, as its callers see it, and what a read of it does.
-use Rattle.std.specs.Prelude.{ℕ, min, List, ◌++◌, length, take, drop, Option, Result, Ok, Err, true, false}
+use Rattle.std.specs.Prelude.{◌≡◌, ◌↔◌, ℕ, min, List, ◌++◌, length, take, drop, Option, Result, Ok, Err, IsOk, IfOk}
+use Rattle.std.specs.Prelude.{true, false}
 use Rattle.dd_elem.specs.Counts.{counts_after}
 use Rattle.dd_elem.specs.Device.{IsLive, IsBeforeFail, passing}
 use Rattle.dd_elem.specs.declared.counts.Counts.{Counts}
@@ -31,3 +32,9 @@ after_read s (Ok n) = record s {
   counts = counts_after s.counts true;
 }
 after_read s (Err e) = record s { counts = counts_after s.counts false }
+
+-- A read of it with room for `room` bytes: exactly when it works, how many bytes come then, and what it is afterwards.
+pub record Reads {E : Type 0} (room : ℕ) (result : Result ℕ E) (old new : Source) : Type 0 where
+  pub readable : IsOk result ↔ IsReadable old
+  pub len : IfOk result (λ n. n ≡ next_len old room)
+  pub after : new ≡ after_read old result

@@ -1,17 +1,16 @@
 //! A reader over bytes in memory.
-ghost use Rattle.std.specs.Prelude.{◌≡◌, [], ◌≤◌, ◌↔◌, ◌<◌, ◌+◌, max, length, take, drop, Some, IsOk, IsErr, IfOk};
+ghost use Rattle.std.specs.Prelude.{◌≡◌, [], ◌≤◌, ◌↔◌, ◌<◌, ◌+◌, max, length, take, drop, Some, IsOk, IsErr};
 ghost use Rattle.std.specs.Prelude.{IsSome, IfSome};
 ghost use Rattle.std.specs.Io.{ReadsAtMost};
 ghost use Rattle.std.specs.Io.KnownBytes.{ReadConsumes};
-ghost use Rattle.dd_vectors.specs.ByteSource.{Source, IsReadable, next_len, after_read};
+ghost use Rattle.dd_vectors.specs.ByteSource.{Source, Reads, next_len};
 ghost use Rattle.dd_elem.specs.Device.{counted, last_count, HasWorked, GivesTold, IsBeforeFail, read_piece};
 
 use dd_elem::{Counts, Read};
 use std::io;
 use std::marker::Model;
 
-/// A reader over bytes in memory, which gives at most a chosen number of bytes per read and may fail for
-/// good after a chosen number.
+/// Reads bytes in memory, at most a chosen number at once, and may fail for good after a chosen number.
 #[derive(Debug, Drop)]
 pub struct ByteSource<'a> {
     bytes: &'a [u8],
@@ -36,8 +35,8 @@ impl<'a> Model for ByteSource<'a> {
 }
 
 impl<'a> ByteSource<'a> {
-    /// A reader of `bytes`, of at most `piece` bytes per read (0 counts as 1). With `fails` it fails
-    /// for good after that number of bytes, before it comes to the end.
+    /// Makes a reader of at most `piece` bytes per read; 0 counts as 1. With `fails` it fails for good after that
+    /// number of bytes, before it comes to the end.
     pub fn new(bytes: &'a [u8], piece: u64, fails: Option<u64>) -> Self
         ensures { result ≡ record {
           given = [];
@@ -56,7 +55,7 @@ impl<'a> ByteSource<'a> {
         }
     }
 
-    /// How many bytes the next read gives where no count is at its last value, or None where it fails.
+    /// Says how many bytes the next read gives where no count is at its last value.
     fn next_len(&self, room: usize) -> Option<usize>
         ensures readable { IsSome result ↔ IsBeforeFail self.now.fails (length self.now.given) }
         ensures len { IfSome result (λ n. n ≡ next_len self.now room) }
@@ -84,8 +83,8 @@ impl Read for ByteSource<'_> {
 
     ghost has_given = { λ s _ bytes. bytes ≡ s.given };
 
-    /// Gives the next bytes: as many as there is room for, as are left and as one read may give, up
-    /// to where it fails for good. It fails there, and where a count is at its last value.
+    /// Gives as many of the next bytes as fit and as one read may give, up to where it fails for good. Fails there, and
+    /// where a count is at its last value.
     fn read(&mut self, buf: &mut [u8]) -> io::Result<usize>
         ensures bound { ReadsAtMost result buf.new }
         ensures called { self.new.counts.calls ≡ counted self.old.counts.calls }
@@ -97,9 +96,7 @@ impl Read for ByteSource<'_> {
         ensures gives { GivesTold (λ s. s.given) self.old self.new (read_piece result buf.new) }
 
         // Exactly when it works, how many bytes come then, and what it is afterwards.
-        ensures readable { IsOk result ↔ IsReadable self.old }
-        ensures len { IfOk result (λ n. n ≡ next_len self.old (length buf.old)) }
-        ensures after { self.new ≡ after_read self.old result }
+        ensures reads { Reads (length buf.old) result self.old self.new }
     {
         let next = self.next_len(buf.len());
         self.counts.begin()?;

@@ -1,14 +1,13 @@
-//! Cases: a line `question > answer` each. A test asks the question anew and compares the whole line, so
-//! that a line that is wrong shows what was asked, what was wanted and what came.
+//! Cases, each a line `question > answer`. A test asks anew and compares whole lines, so that a failure shows the
+//! question and both answers.
 
 use std::alloc::{AllocError, Global};
 use std::fmt::Display;
 use std::test::Fail;
 
-/// What stands between the question and the answer.
 const ARROW: &str = " > ";
 
-/// The question of a case.
+/// Gives the question of a case.
 pub fn question(case: &str) -> &str {
     match case.split_once(ARROW) {
         Some((question, _)) => question,
@@ -16,13 +15,13 @@ pub fn question(case: &str) -> &str {
     }
 }
 
-/// The case with this answer in place of its own.
+/// Gives the case with this answer in place of its own.
 pub fn answered<T: Display>(alloc: Global, case: &str, answer: &T) -> Result<String, AllocError> {
     let question = question(case);
     format!(in alloc; "{question}{ARROW}{answer}")
 }
 
-/// Asks the question of each case, one to a line. What is found has to be the case.
+/// Asks the question of each line, and fails at the first with another answer.
 pub fn ask_all<A: Fn(Global, &str) -> Result<String, Fail>>(
     alloc: Global,
     cases: &str,
@@ -39,7 +38,7 @@ pub fn ask_all<A: Fn(Global, &str) -> Result<String, Fail>>(
     Ok(())
 }
 
-/// Claims it of each case. The separator stands between them.
+/// Fails at the first case that is not right.
 pub fn claim_all<C: Fn(Global, &str) -> Result<bool, Fail>>(
     alloc: Global,
     cases: &str,
@@ -56,7 +55,7 @@ pub fn claim_all<C: Fn(Global, &str) -> Result<bool, Fail>>(
     Ok(())
 }
 
-/// The words of a command line, where `''` stands for an empty one.
+/// Gives the words of a command line; `''` is an empty one.
 pub fn words_of(alloc: Global, line: &str) -> Result<Vec<String>, AllocError> {
     let mut words = Vec::new(alloc);
     for word in line.split(' ') {
@@ -66,7 +65,7 @@ pub fn words_of(alloc: Global, line: &str) -> Result<Vec<String>, AllocError> {
     Ok(words)
 }
 
-/// After how many bytes a device fails, or never at `-`.
+/// Reads after how many bytes a device fails: never at `-`.
 pub fn failing(text: &str) -> Result<Option<u64>, Fail> {
     match text {
         "-" => Ok(None),
@@ -74,7 +73,7 @@ pub fn failing(text: &str) -> Result<Option<u64>, Fail> {
     }
 }
 
-/// Puts what a device holds after the text, with `|` at the end of each line.
+/// Appends what a device holds, with `|` at the end of each line.
 pub fn push_lines(text: &mut String, bytes: &[u8]) -> Result<(), AllocError> {
     for byte in bytes {
         text.push(match byte {

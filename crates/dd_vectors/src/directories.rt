@@ -1,10 +1,10 @@
-//! The bytes of directories, with the place of each row.
+//! The bytes of directories, with the offset of each row.
 
 use crate::texts::{push_bytes, put_at};
 use std::alloc::Global;
 use std::test::Fail;
 
-/// What follows the preamble of each directory of the file-set `2.25.0` that has no ID.
+/// What follows the preamble in each directory of the file-set `2.25.0`, which has no ID.
 const FRONT: &str = "\
 128 4449434d
 132 02000000 554c 0400 7a000000
@@ -15,14 +15,12 @@ const FRONT: &str = "\
 228 02001200 5549 1e00 '2.25.604472133179352588043346~
 266 04003011 4353 0000";
 
-/// The rest where it holds nothing.
 const NOTHING: &str = "\
 274 04000012 554c 0400 00000000
 286 04000212 554c 0400 00000000
 298 04001212 5553 0200 0000
 308 04002012 5351 0000 00000000";
 
-/// The rest where it holds V1 alone.
 const ONE_IMAGE: &str = "\
 274 04000012 554c 0400 40010000
 286 04000212 554c 0400 40010000
@@ -67,8 +65,7 @@ const ONE_IMAGE: &str = "\
 822 09000110 4f42 0000 20000000 900e75e1c153f87b21e09f9db68aef627f2dd320eb3afb1f2574594e6c862a92
 866 20001300 4953 0200 '1_";
 
-/// The rest as another tool may write it: lengths are undefined, a record is not in use, and one is of
-/// another type.
+/// Lengths are undefined, a record is not in use, and one is of another type.
 const OTHER_TOOL: &str = "\
 274 04000012 554c 0400 40010000
 286 04000212 554c 0400 40010000
@@ -123,28 +120,28 @@ const OTHER_TOOL: &str = "\
 898 feff0de0 00000000
 906 feffdde0 00000000";
 
-/// The elements of a record before the offset of the first one below, and after it.
+/// The elements of a record up to the offset of the first one below.
 const RECORD: &str =
     "feff00e0 2c000000 04000014 554c 0400 00000000 04001014 5553 0200 ffff 04002014 554c 0400";
 
 const TYPE: &str = "04003014 4353 0200 'X_";
 
-/// V2, the directory of a file-set that holds nothing: 320 bytes.
+/// Makes V2, the directory of a file-set that holds nothing: 320 bytes.
 pub fn v2(alloc: Global) -> Result<Vec<u8>, Fail> {
     directory(alloc, NOTHING)
 }
 
-/// The directory of the file-set that has V1 alone: 876 bytes.
+/// Makes the directory of the file-set that has V1 alone: 876 bytes.
 pub fn first_directory(alloc: Global) -> Result<Vec<u8>, Fail> {
     directory(alloc, ONE_IMAGE)
 }
 
-/// V3, a directory as another tool may write it: 914 bytes.
+/// Makes V3, a directory as another tool may write it: 914 bytes.
 pub fn v3(alloc: Global) -> Result<Vec<u8>, Fail> {
     directory(alloc, OTHER_TOOL)
 }
 
-/// The directory with these rows after those of each, or an error where a row is not in its place.
+/// Fails where a row is not at its offset.
 fn directory(alloc: Global, rows: &str) -> Result<Vec<u8>, Fail> {
     let mut bytes = Vec::new(alloc);
     bytes.extend_from_slice(&[0; 128])?;
@@ -165,7 +162,7 @@ fn push_rows(alloc: Global, bytes: &mut Vec<u8>, rows: &str) -> Result<(), Fail>
     Ok(())
 }
 
-/// A directory of this many records, each below the one before.
+/// Makes a directory of this many records, each below the one before.
 pub fn deep(alloc: Global, count: u32) -> Result<Vec<u8>, Fail> {
     let mut bytes = v2(alloc)?;
     for root in [282, 294] {

@@ -1,8 +1,7 @@
-//! What the tests of all crates share: the bytes of files whose every place is known from the DICOM standard, as
-//! texts; versions and catalogues, by letters; cases as lines of text; and readers and writers over memory that fail
-//! where a test wants it.
+//! What all tests share: the bytes of files, known from the DICOM standard; versions and catalogues by letters; cases
+//! as lines of text; and readers and writers over memory that fail where a test wants it.
 //!
-//! It has no tests of its own. Each test crate names it, and beside it only the crates that it tests.
+//! Each test crate names it, and otherwise only the crates that it tests.
 #![tactic(auto)]
 
 mod allocations;

@@ -1,5 +1,3 @@
-//! Readers and tags as a question names them.
-
 use crate::byte_source::ByteSource;
 use crate::cases::failing;
 use crate::texts::tag_of;
@@ -7,8 +5,8 @@ use dd_elem::Tag;
 use std::alloc::Global;
 use std::test::Fail;
 
-/// A reader of these bytes, with the limit and the words of the wanted tags. The question has the most bytes
-/// of a read, the limit, after how many bytes the reader fails, and these words.
+/// Makes a reader of these bytes by the question: the most bytes of a read, the limit, after how many bytes the reader
+/// fails, and the wanted tags. Gives the limit and the tags too.
 pub fn reader_of<'a, 'b>(
     bytes: &'a [u8],
     question: &'b str,
@@ -20,7 +18,7 @@ pub fn reader_of<'a, 'b>(
     Ok((reader, limit.parse()?, words))
 }
 
-/// The tags that the words name, none where the text is empty.
+/// Gives the tags of these words, none where the text is empty.
 pub fn tags_of(alloc: Global, words: &str) -> Result<Vec<Tag>, Fail> {
     let mut tags = Vec::new(alloc);
     for word in words.split_terminator(' ') {

@@ -1,4 +1,3 @@
-//! A writer over memory.
 ghost use Rattle.std.specs.Prelude.{◌≡◌, ℕ, Option, [], ◌≤◌, ◌↔◌, ◌<◌, length, Some};
 ghost use Rattle.std.specs.Prelude.{IsOk, IfOk, OnOk, OnErr, IsSome, IfSome, vec_capacity, is_ok};
 ghost use Rattle.std.specs.Io.{WritesAtMost};
@@ -12,8 +11,7 @@ use std::alloc::Global;
 use std::io;
 use std::marker::Model;
 
-/// A writer over memory, which may fail for good after a chosen number of bytes. A write whose allocation is refused
-/// fails too.
+/// Writes to memory, and may fail for good after a chosen number of bytes.
 #[derive(Debug, Drop)]
 pub struct Sink {
     bytes: Vec<u8>,
@@ -33,7 +31,7 @@ impl Model for Sink {
 }
 
 impl Sink {
-    /// A writer that holds nothing yet. With `fails` it fails for good after that number of bytes.
+    /// Makes an empty writer. With `fails` it fails for good after that number of bytes.
     pub fn new(alloc: Global, fails: Option<u64>) -> Self
         ensures { result ≡ record {
           bytes = [];
@@ -52,22 +50,21 @@ impl Sink {
         }
     }
 
-    /// The bytes that it took.
+    /// Gives the bytes that were written.
     pub fn bytes(&self) -> &[u8]
         ensures { result.now ≡ self.now.bytes }
     {
         &self.bytes
     }
 
-    /// The bytes that it took.
+    /// Gives the bytes that were written.
     pub fn into_bytes(self) -> Vec<u8>
         ensures { result.items ≡ self.bytes }
     {
         self.bytes
     }
 
-    /// Makes room for `additional` bytes more, for which later writes then want no memory. Memory
-    /// where that is refused; the writer is then as it was.
+    /// Makes room for `additional` bytes more, so that their writes need no allocation. Memory where that is refused.
     pub fn reserve(&mut self, additional: usize) -> Result<(), Memory>
         ensures ok { OnOk result (HasRoom self.new additional) }
         ensures same { self.new ≡ record self.old { capacity = self.new.capacity } }
@@ -78,8 +75,7 @@ impl Sink {
         Ok(self.bytes.reserve(additional)?)
     }
 
-    /// How many bytes of a piece of length `len` the next write takes where no count is at its last value,
-    /// or None where it fails.
+    /// Says how many of `len` bytes the next write takes where no count is at its last value.
     fn taken_len(&self, len: usize) -> Option<usize>
         ensures writable { IsSome result ↔ IsBeforeFail self.now.fails (length self.now.bytes) }
         ensures len { IfSome result (λ n. n ≡ taken_len self.now len) }
@@ -104,20 +100,16 @@ impl Write for Sink {
 
     ghost rest = { λ s. s.fails };
 
-    /// Takes the whole piece, or what fits before it fails for good. It fails there, where a count is
-    /// at its last value and where an allocation is refused, and then takes nothing.
+    /// Writes the whole piece, or what fits before it fails for good. Takes nothing where it has failed, a count is at
+    /// its last value or an allocation is refused.
     fn write(&mut self, bytes: &[u8]) -> io::Result<usize>
         ensures bound { WritesAtMost result bytes.now }
         ensures appends { WriteAppends (Some self.old.bytes)
             (Some self.new.bytes) result bytes.now }
-
-        // When it works, and how many bytes it takes then.
         ensures writable { IsOk result → IsWritable self.old }
         ensures works { IsWritable self.old
             → HasRoom self.old (taken_len self.old (length bytes.now)) → IsOk result }
         ensures len { IfOk result (λ n. n ≡ taken_len self.old (length bytes.now)) }
-
-        // How it counts, and what stays.
         ensures counts { self.new.counts ≡ counts_after self.old.counts (is_ok result) }
         ensures fails { self.new.fails ≡ self.old.fails }
         ensures grows { self.old.capacity ≤ self.new.capacity }

@@ -5,7 +5,7 @@ use dd_elem::{Tag, Vr};
 use std::alloc::Global;
 use std::test::Fail;
 
-/// Group 0002 of V1: the place, the tag, the value representation and the value of each element.
+/// Group 0002 of V1: the offset, the tag, the value representation and the value of each element.
 const META: &str = "\
 132 0002,0000 UL 84000000
 144 0002,0001 OB 0001
@@ -14,7 +14,6 @@ const META: &str = "\
 210 0002,0010 UI '1.2.840.10008.1.2.1~
 238 0002,0012 UI '2.25.604472133179352588043346~";
 
-/// Its elements of group 0008.
 const FRONT: &str = "\
 276 0008,0016 UI '1.2.840.10008.5.1.4.1.1.2~
 310 0008,0018 UI '1.2.3.4.5~
@@ -22,7 +21,6 @@ const FRONT: &str = "\
 344 0008,0030 TM '101500
 358 0008,0060 CS 'CT";
 
-/// Its elements after those of group 0008.
 const BACK: &str = "\
 368 0010,0010 PN 'DOE^JOHN
 384 0010,0020 LO 'P1
@@ -35,34 +33,31 @@ const BACK: &str = "\
 /// All rows of V1: group 0002, and two parts of the data set.
 pub const SOURCE_ROWS: [&str; 3] = [META, FRONT, BACK];
 
-/// What makes V1 a file in Implicit VR: another group length and another transfer syntax.
 const IMPLICIT: &str = "0002,0000 UL 82000000; 0002,0010 UI '1.2.840.10008.1.2~";
 
-/// A sequence in Implicit VR that stands before the Patient's Name. Its item has a Study Instance UID.
+/// A sequence before the Patient's Name. Its item has a Study Instance UID.
 const SEQUENCE: &str = "08004011 ffffffff feff00e0 ffffffff 20000d00 04000000 '9.9~ \
                         feff0de0 00000000 feffdde0 00000000";
 
-/// What makes V1 a file in JPEG 2000: another group length and another transfer syntax.
 const ENCAPSULATED: &str = "0002,0000 UL 86000000; 0002,0010 UI '1.2.840.10008.1.2.4.90";
 
-/// Pixel data in two fragments: an offset table, which is empty, and four bytes.
+/// Pixel data: an empty offset table and a fragment of four bytes.
 const FRAGMENTS: &str = "e07f1000 4f42 0000 ffffffff feff00e0 00000000 feff00e0 04000000 ff4fff51 \
                          feffdde0 00000000";
 
-/// How headers are spelled.
 #[derive(Clone, Copy, PartialEq, Eq)]
 enum Headers {
     Explicit,
     Implicit,
 }
 
-/// V1: 454 bytes.
+/// Makes V1: 454 bytes.
 pub fn v1(alloc: Global) -> Result<Vec<u8>, Fail> {
     v1_with(alloc, "")
 }
 
-/// V1 with changes, between which `; ` stands: `gggg,eeee VR VALUE` in place of the element with this
-/// tag, where the value may be missing and is empty then, or `gggg,eeee absent`.
+/// Makes V1 with changes, separated by `; `: `gggg,eeee VR VALUE` for the element with this tag, where a missing value
+/// is empty, or `gggg,eeee absent`.
 pub fn v1_with(alloc: Global, changes: &str) -> Result<Vec<u8>, Fail> {
     let mut bytes = preamble(alloc)?;
     for rows in SOURCE_ROWS {
@@ -71,7 +66,7 @@ pub fn v1_with(alloc: Global, changes: &str) -> Result<Vec<u8>, Fail> {
     Ok(bytes)
 }
 
-/// V1 in Implicit VR, with the sequence: 496 bytes.
+/// Makes V1 in Implicit VR, with the sequence: 496 bytes.
 pub fn v1_implicit(alloc: Global) -> Result<Vec<u8>, Fail> {
     let mut bytes = preamble(alloc)?;
     push_rows(alloc, &mut bytes, Headers::Explicit, (META, IMPLICIT))?;
@@ -81,14 +76,13 @@ pub fn v1_implicit(alloc: Global) -> Result<Vec<u8>, Fail> {
     Ok(bytes)
 }
 
-/// V1 in JPEG 2000, and after it pixel data in fragments: 496 bytes.
+/// Makes V1 in JPEG 2000, with pixel data in fragments: 496 bytes.
 pub fn v1_encapsulated(alloc: Global) -> Result<Vec<u8>, Fail> {
     let mut bytes = v1_with(alloc, ENCAPSULATED)?;
     push_bytes(alloc, &mut bytes, FRAGMENTS)?;
     Ok(bytes)
 }
 
-/// 128 bytes of zeros, and `DICM`.
 fn preamble(alloc: Global) -> Result<Vec<u8>, Fail> {
     let mut bytes = Vec::new(alloc);
     bytes.extend_from_slice(&[0; 128])?;
@@ -96,7 +90,6 @@ fn preamble(alloc: Global) -> Result<Vec<u8>, Fail> {
     Ok(bytes)
 }
 
-/// Puts the elements of these rows, or of the changes that have their tags, after the bytes.
 fn push_rows(
     alloc: Global,
     bytes: &mut Vec<u8>,
@@ -113,7 +106,7 @@ fn push_rows(
     Ok(())
 }
 
-/// The tag of a row, and the rest of the change that has it, or else of the row.
+/// Gives the tag of a row, and the rest of the change with this tag, or else of the row.
 fn changed<'a>(row: &'a str, changes: &'a str) -> Result<(&'a str, &'a str), Fail> {
     let (tag, usual) = row.split_once(' ').ok_or("a row without words")?;
     for change in changes.split("; ") {
@@ -126,7 +119,7 @@ fn changed<'a>(row: &'a str, changes: &'a str) -> Result<(&'a str, &'a str), Fai
     Ok((tag, usual))
 }
 
-/// Gives the value representation and the value of the element with this tag in V1 with these changes.
+/// Gives the value representation and the value of this element in V1 with these changes.
 pub(crate) fn element<'a>(tag: &str, changes: &'a str) -> Result<&'a str, Fail> {
     for rows in SOURCE_ROWS {
         for row in rows.split('\n') {
@@ -139,7 +132,6 @@ pub(crate) fn element<'a>(tag: &str, changes: &'a str) -> Result<&'a str, Fail> 
     Err("V1 has no element with this tag".into())
 }
 
-/// Puts an element with this tag, value representation and value after the bytes.
 fn push_element(
     alloc: Global,
     bytes: &mut Vec<u8>,
@@ -155,7 +147,6 @@ fn push_element(
     Ok(())
 }
 
-/// Puts what stands between the tag and the value of an element after the bytes.
 fn push_length(bytes: &mut Vec<u8>, headers: Headers, vr: &str, length: u32) -> Result<(), Fail> {
     if headers == Headers::Explicit {
         bytes.extend_from_slice(vr.as_bytes())?;

@@ -1,18 +1,18 @@
-//! Bytes as text: words between spaces or line ends, each of hexadecimal digits, or of `'` and then
-//! characters, among which `_` stands for a space and `~` for a byte 00.
+//! Bytes as text: words between spaces or line ends, each of hexadecimal digits, or of `'` and then characters, where
+//! `_` is a space and `~` a byte 00.
 
 use dd_elem::Tag;
 use std::alloc::{AllocError, Global};
 use std::test::Fail;
 
-/// The bytes that the words name.
+/// Gives the bytes of the words.
 pub fn bytes_of(alloc: Global, text: &str) -> Result<Vec<u8>, Fail> {
     let mut bytes = Vec::new(alloc);
     push_bytes(alloc, &mut bytes, text)?;
     Ok(bytes)
 }
 
-/// Puts the bytes that the words name after these bytes.
+/// Appends the bytes of the words.
 pub fn push_bytes(alloc: Global, bytes: &mut Vec<u8>, text: &str) -> Result<(), Fail> {
     for word in text.split([' ', '\n']) {
         match word.strip_prefix('\'') {
@@ -34,7 +34,7 @@ fn push_characters(bytes: &mut Vec<u8>, characters: &str) -> Result<(), AllocErr
     Ok(())
 }
 
-/// The word of ASCII characters that names these bytes.
+/// Gives the word of ASCII characters for these bytes.
 pub fn text_of(alloc: Global, bytes: &[u8]) -> Result<String, AllocError> {
     let mut text = String::from_str(alloc, "'")?;
     for byte in bytes {
@@ -47,7 +47,7 @@ pub fn text_of(alloc: Global, bytes: &[u8]) -> Result<String, AllocError> {
     Ok(text)
 }
 
-/// The tag that `gggg,eeee` names.
+/// Reads a tag, `gggg,eeee`.
 pub fn tag_of(text: &str) -> Result<Tag, Fail> {
     let (group, element) = text.split_once(',').ok_or("no tag")?;
     Ok(Tag {
@@ -56,8 +56,7 @@ pub fn tag_of(text: &str) -> Result<Tag, Fail> {
     })
 }
 
-/// Puts bytes at places among these bytes: words between spaces or commas, a place and then the word that names
-/// its bytes, and so on. No words change nothing.
+/// Puts bytes at offsets: pairs of an offset and a word of bytes, between spaces or commas.
 pub fn put_words(alloc: Global, bytes: &mut [u8], words: &str) -> Result<(), Fail> {
     if words.is_empty() {
         return Ok(());
@@ -70,7 +69,7 @@ pub fn put_words(alloc: Global, bytes: &mut [u8], words: &str) -> Result<(), Fai
     Ok(())
 }
 
-/// Puts bytes at a place among these bytes.
+/// Puts bytes at an offset. Fails where they do not fit.
 pub fn put_at(bytes: &mut [u8], place: usize, new: &[u8]) -> Result<(), Fail> {
     let end = place.checked_add(new.len()).ok_or("no place")?;
     let old = bytes.get_mut(place..end).ok_or("no bytes there")?;

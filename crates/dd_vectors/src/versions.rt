@@ -1,5 +1,3 @@
-//! The versions that tests take, each with a letter.
-
 use crate::source_file::element;
 use crate::texts::{bytes_of, text_of};
 use dd_catalogue::Catalogue;
@@ -8,11 +6,10 @@ use dd_version::{Parts, PatientKeys, SeriesKeys, StudyKeys, Version};
 use std::alloc::Global;
 use std::test::Fail;
 
-/// For each letter the byte that its digest repeats, the description of the study, the instance, and then what
-/// else is not as in V1: four images of two patients; one of the first's series in another study; one of
-/// the first's study with another patient; one of another series that comes before the first's; three
-/// whose numbers have another order than their instances; and versions of the first and the second with
-/// other digests, descriptions and times, of which one description has more than 22 bytes.
+/// For each letter the byte that its digest repeats, the study description, the instance, and other changes to V1: four
+/// images of two patients; one of the first's series in another study; one of the first's study with another patient;
+/// one of a series that comes before the first's; three whose numbers have another order than their instances; and
+/// versions of the first two with other digests, descriptions (one of more than 22 bytes) and times.
 const IMAGES: &str = "\
 1 170 ' '1.2.3.4.5~
 2 170 ' '1.2.3.4.6~
@@ -38,28 +35,24 @@ x 1 'Z '1.2.3.4.5~
 y 1 'A '1.2.3.4.6~
 z 2 'B '1.2.3.4.5~";
 
-/// The SHA-256 of V1.
 const DIGEST: &str = "900e75e1c153f87b21e09f9db68aef627f2dd320eb3afb1f2574594e6c862a92";
 
-/// Gives the version of V1 itself.
+/// Gives the version of V1.
 pub fn v1_version(alloc: Global) -> Result<Version, Fail> {
     let mut parts = parts_with(alloc, "")?;
     parts.digest = bytes_of(alloc, DIGEST)?.as_slice().try_into()?;
     fitting(parts)
 }
 
-/// Gives the value of the element with this tag in V1 with these changes, without its padding.
 fn key(alloc: Global, changes: &str, tag: &str) -> Result<Key, Fail> {
     let (_vr, value) = element(tag, changes)?.split_once(' ').unwrap_or(("", "'"));
     Ok(Key::copy_of(alloc, &bytes_of(alloc, value)?)?)
 }
 
-/// Gives the UID of the element with this tag, likewise.
 fn uid(alloc: Global, changes: &str, tag: &str) -> Result<Uid, Fail> {
     Ok(Uid::new(key(alloc, changes, tag)?.as_bytes())?)
 }
 
-/// Gives the parts of V1 with these changes, with a digest of zeros.
 fn parts_with(alloc: Global, changes: &str) -> Result<Parts, Fail> {
     Ok(Parts {
         digest: [0; 32],
@@ -81,7 +74,6 @@ fn parts_with(alloc: Global, changes: &str) -> Result<Parts, Fail> {
     })
 }
 
-/// Gives the keys of the study of V1 with these changes.
 fn study_with(alloc: Global, changes: &str) -> Result<StudyKeys, Fail> {
     Ok(StudyKeys {
         uid: uid(alloc, changes, "0020,000D")?,
@@ -99,7 +91,7 @@ pub fn parts_of(version: &Version) -> Result<Parts, Fail> {
     Ok(version.parts().copy()?)
 }
 
-/// Makes the version of parts that fit.
+/// Makes the version of these parts. Fails where they do not fit.
 pub fn fitting(parts: Parts) -> Result<Version, Fail> {
     match Version::of(parts) {
         Ok(version) => Ok(version),
@@ -107,7 +99,6 @@ pub fn fitting(parts: Parts) -> Result<Version, Fail> {
     }
 }
 
-/// Makes the version of a line, from its digest on.
 fn version_with(alloc: Global, line: &str) -> Result<Version, Fail> {
     let (digest, line) = line.split_once(' ').ok_or("no digest")?;
     let (description, rest) = line.split_once(' ').ok_or("no description")?;
@@ -138,7 +129,7 @@ pub fn images(alloc: Global, letters: &str) -> Result<Vec<Version>, Fail> {
     Ok(versions)
 }
 
-/// Makes the catalogue that took the versions with these letters.
+/// Makes the catalogue of the versions with these letters.
 pub fn taken(alloc: Global, letters: &str) -> Result<Catalogue, Fail> {
     let mut catalogue = Catalogue::new(alloc);
     for letter in letters.chars() {
@@ -149,8 +140,7 @@ pub fn taken(alloc: Global, letters: &str) -> Result<Catalogue, Fail> {
     Ok(catalogue)
 }
 
-/// Makes the catalogue that took the versions with these letters, and then withdrew the instances that follow, each
-/// with a `/` before it.
+/// Makes the catalogue of the versions with these letters, and withdraws each instance that comes after a `/`.
 pub fn catalogue_of(alloc: Global, words: &str) -> Result<Catalogue, Fail> {
     let mut words = words.split('/');
     let mut catalogue = taken(alloc, words.next().unwrap_or(""))?;

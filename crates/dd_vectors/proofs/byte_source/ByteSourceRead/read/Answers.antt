@@ -1,5 +1,5 @@
 -- The bytes that a read gives are the next ones.
-use Rattle.std.proofs.Common.{◌≡◌, refl, sym, ap, ◌∙◌, ◌+◌, ◌++◌, length, drop, arith}
+use Rattle.std.proofs.Common.{◌≡◌, refl, sym, ap, ◌∙◌, ◌+◌, ◌++◌, length, drop, arith, rules}
 use Rattle.dd_vectors.specs.ByteSource.{Source}
 use Rattle.dd_vectors.proofs.Source.{drop-split, next_len-end}
 use Rattle.std.proofs.lemmas.Grind.{common_steps}
@@ -28,8 +28,12 @@ returns-in-Some-clause-gives c =
     let more = take-add c.self.inside.at c.in-Some.n c.self.inside.bytes.now in
     rw (← c.self.view_is) (record { then = λ _ before h. grind (arith, common_steps) })
 
-pub returns-in-Some-clause-after : goal.returns-in-Some-clause-after
-returns-in-Some-clause-after c =
+pub returns-in-Some-clause-reads : goal.returns-in-Some-clause-reads
+returns-in-Some-clause-reads c =
     let more = take-add c.self.inside.at c.in-Some.n c.self.inside.bytes.now in
     let split = drop-split c.self.inside.bytes.now c.self.inside.at c.in-Some.n in
-    rw (← c.self.view_is) (grind (arith, common_steps))
+    record {
+      readable = search rules;
+      len = c.in-Some.ensures.len;
+      after = rw (← c.self.view_is) (grind (arith, common_steps));
+    }
