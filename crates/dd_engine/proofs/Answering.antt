@@ -5,17 +5,23 @@ use Rattle.std.proofs.lemmas.List.{append-nil, length-append, map-append}
 use Rattle.std.proofs.lemmas.Bool.{cases_eq}
 use Rattle.std.specs.Prelude.{IfErr, IfSome, slice_get}
 use Rattle.std.specs.Io.KnownBytes.{Consumes}
+use Rattle.dd_slots.specs.declared.slot.Slot.{Slot}
 use Rattle.dd_elem.specs.Device.{HasFailed, HasWorked, IsLive, counted, last_count}
 use Rattle.dd_keys.specs.Answers.{Answers, AnswersReader}
+use Rattle.dd_keys.specs.Kept.{digested_by}
 use Rattle.dd_keys.specs.declared.fault.KeyFault.{KeyFault}
 use Rattle.dd_keys.specs.declared.fault.KeyFault.TheVariants.{FileTooLong}
+use Rattle.dd_version.specs.Copies.{with_digest}
 use Rattle.dd_version.specs.declared.parts.Parts.{Parts}
+use Rattle.dd_engine.specs.Batches.{HoldsOpen, IsOpen}
 use Rattle.dd_engine.specs.Indexing.{Answer, Sourced, accepted_from, accepted, skipped_from, versions_of}
+use Rattle.dd_engine.specs.declared.batch.Batch.{Batch}
 use Rattle.dd_engine.specs.declared.engine_fault.EngineFault.{EngineFault}
 use Rattle.dd_engine.specs.declared.engine_fault.EngineFault.TheVariants.{Memory, Absent, Unread, Plan}
 use Rattle.dd_engine.specs.declared.sources.Sources.{Sources}
 use Rattle.dd_engine.specs.Supply.{AllStay, OthersStay, StayBelow, EndsWith, added}
 use Rattle.dd_engine.specs.Supply.{AnswersSource, AreAnswers, Holds, IsAnswer, IsOfSource}
+use Rattle.dd_engine.proofs.Settling.{none_open, other_next}
 
 -- ---- the answer of a reader is that of its source
 
@@ -182,18 +188,19 @@ skipped_more at next (Err fault ∷ answers) answer many =
     ap (λ (rest : List (ℕ × KeyFault)). (at, fault) ∷ rest) (skipped_more (suc at) next answers answer (omega arith))
 
 -- what is held grows by what the answer gives
-holds_more : (at : ℕ) (answers : List Answer) (answer : Answer) (old new : Sources) → length answers ≡ at
-    → Holds answers old
-    → new.versions.items ≡ old.versions.items ++ versions_of (accepted_from at (answer ∷ []))
+holds_more : (at : ℕ) (answers : List Answer) (answer : Answer) (old new : Sources) (before after : Batch)
+    → length answers ≡ at → HoldsOpen answers old before
+    → IsOpen after new.versions.items
+    (versions_of (accepted answers) ++ versions_of (accepted_from at (answer ∷ [])))
     → new.origins.items ≡ old.origins.items ++ map (λ source. source.0) (accepted_from at (answer ∷ []))
     → new.skipped.items ≡ old.skipped.items ++ skipped_from at (answer ∷ [])
-    → Holds (answers ++ answer ∷ []) new
-holds_more at answers answer old new many h versions origins skips =
+    → HoldsOpen (answers ++ answer ∷ []) new after
+holds_more at answers answer old new before after many h versions origins skips =
     let more = accepted_more 0 at answers answer (omega arith) in
     let last = accepted_from at (answer ∷ []) in
     record {
-      versions = versions ∙ ap (λ (front : List Parts). front ++ versions_of last) h.versions
-          ∙ sym (ap versions_of more ∙ map-append (λ (source : Sourced). source.1) (accepted answers) last);
+      versions = subst (λ (closed : List Parts). IsOpen after new.versions.items closed)
+          (sym (ap versions_of more ∙ map-append (λ (source : Sourced). source.1) (accepted answers) last)) versions;
       origins = origins ∙ ap (λ (front : List ℕ). front ++ map (λ source. source.0) last) h.origins
           ∙ sym (ap (map (λ (source : Sourced). source.0)) more
           ∙ map-append (λ (source : Sourced). source.0) (accepted answers) last);
@@ -201,24 +208,57 @@ holds_more at answers answer old new many h versions origins skips =
           ∙ sym (skipped_more 0 at answers answer (omega arith));
     }
 
-pub holds_version : (at : ℕ) (answers : List Answer) (answer : Answer) (version : Parts) (old new : Sources)
-    → answer ≡ Ok version → length answers ≡ at → Holds answers old
-    → new.versions.items ≡ old.versions.items ++ version ∷ [] → new.origins.items ≡ old.origins.items ++ at ∷ []
-    → new.skipped.items ≡ old.skipped.items → Holds (answers ++ answer ∷ []) new
-holds_version at answers answer version old new is many h versions origins skips =
+pub holds_version : (at : ℕ) (answers : List Answer) (answer : Answer) (version : Parts) (digest : List ℕ)
+    (old new : Sources) (before after : Batch) → answer ≡ Ok version → length answers ≡ at
+    → HoldsOpen answers old before
+    → IsOpen after new.versions.items (versions_of (accepted answers) ++ with_digest version digest ∷ [])
+    → new.origins.items ≡ old.origins.items ++ at ∷ [] → new.skipped.items ≡ old.skipped.items
+    → HoldsOpen (answers ++ digested_by digest answer ∷ []) new after
+holds_version at answers answer version digest old new before after is many h versions origins skips =
     let all = skips ∙ sym (append-nil old.skipped.items) in
-    subst (λ (one : Answer). Holds (answers ++ one ∷ []) new) (sym is)
-    (holds_more at answers (Ok version) old new many h versions origins all)
+    subst (λ (one : Answer). HoldsOpen (answers ++ digested_by digest one ∷ []) new after) (sym is)
+    (holds_more at answers (Ok (with_digest version digest)) old new before after many h versions origins all)
 
-pub holds_skipped : (at : ℕ) (answers : List Answer) (answer : Answer) (fault : KeyFault) (old new : Sources)
-    → answer ≡ Err fault → length answers ≡ at → Holds answers old
+pub holds_skipped : (at : ℕ) (answers : List Answer) (answer : Answer) (fault : KeyFault) (digest : List ℕ)
+    (old new : Sources) (batch : Batch) → answer ≡ Err fault → length answers ≡ at → HoldsOpen answers old batch
     → new.versions.items ≡ old.versions.items → new.origins.items ≡ old.origins.items
-    → new.skipped.items ≡ old.skipped.items ++ (at, fault) ∷ [] → Holds (answers ++ answer ∷ []) new
-holds_skipped at answers answer fault old new is many h versions origins skips =
-    let all = versions ∙ sym (append-nil old.versions.items) in
+    → new.skipped.items ≡ old.skipped.items ++ (at, fault) ∷ []
+    → HoldsOpen (answers ++ digested_by digest answer ∷ []) new batch
+holds_skipped at answers answer fault digest old new batch is many h versions origins skips =
     let same = origins ∙ sym (append-nil old.origins.items) in
-    subst (λ (one : Answer). Holds (answers ++ one ∷ []) new) (sym is)
-    (holds_more at answers (Err fault) old new many h all same skips)
+    let still = subst (λ (list : List Parts). IsOpen batch list (versions_of (accepted answers))) (sym versions)
+    h.versions in
+    let all = subst (λ (closed : List Parts). IsOpen batch new.versions.items closed)
+    (sym (append-nil (versions_of (accepted answers)))) still in
+    subst (λ (one : Answer). HoldsOpen (answers ++ digested_by digest one ∷ []) new batch) (sym is)
+    (holds_more at answers (Err fault) old new batch batch many h all same skips)
+
+-- before any source, no version is open
+pub holds_first : (read : Sources) (batch : Batch) → Holds [] read → batch.used ≡ 0 → HoldsOpen [] read batch
+holds_first read batch h none = record {
+  versions = none_open batch read.versions.items [] none h.versions;
+  origins = h.origins;
+  skips = h.skips;
+}
+
+-- the slot of the next source is of no version that is held
+pub holds_next : (answers : List Answer) (read : Sources) (batch : Batch) (next : Slot) → batch.used < 4
+    → HoldsOpen answers read batch → HoldsOpen answers read (record batch { next = next })
+holds_next answers read batch next room h = record {
+  versions = other_next batch read.versions.items _ next room h.versions;
+  origins = h.origins;
+  skips = h.skips;
+}
+
+-- after all sources their digests are set
+pub holds_closed : (answers : List Answer) (old new : Sources) (batch : Batch) → HoldsOpen answers old batch
+    → new.versions.items ≡ versions_of (accepted answers) → new.origins.items ≡ old.origins.items
+    → new.skipped.items ≡ old.skipped.items → Holds answers new
+holds_closed answers old new batch h versions origins skips = record {
+  versions = versions;
+  origins = origins ∙ h.origins;
+  skips = skips ∙ h.skips;
+}
 
 -- the bytes of a source are those that it had before others were read
 pub answer_before : (limit at : ℕ) (old before : ℕ → Option (List ℕ)) (answer : Answer) → before ≡ old

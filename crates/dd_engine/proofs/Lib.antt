@@ -25,6 +25,7 @@ mod SamePlans
 mod SameSets
 mod SetsGathered
 mod SetsNamed
+mod Settling
 mod SourcePicks
 mod SourcesNoted
 mod UnreachedSets

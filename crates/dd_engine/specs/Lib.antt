@@ -1,3 +1,4 @@
+pub mod Batches
 pub mod Choosing
 pub mod IndexNotes
 pub mod Indexed

@@ -1,7 +1,7 @@
 -- Sources by number: how their counts change, and what reading all of them gives.
-use Rattle.std.specs.Prelude.{◌≡◌, ◌≢◌, ◌↔◌, ◌+◌, ◌<◌, ◌≤◌, min, ℕ, List, length, map, slice_get}
-use Rattle.std.specs.Prelude.{Option, IfSome, Err, IfErr}
-use Rattle.dd_elem.specs.Device.{counted, last_count, HasFailed}
+use Rattle.std.specs.Prelude.{◌≡◌, ◌≢◌, ◌↔◌, ◌+◌, ◌-◌, ◌<◌, ◌≤◌, min, ℕ, List, length, map, slice_get}
+use Rattle.std.specs.Prelude.{Option, IfSome, Result, Err, IfErr, IsErr, IsOk}
+use Rattle.dd_elem.specs.Device.{counted, last_count, HasFailed, IsLive}
 use Rattle.dd_keys.specs.Answers.{Answers}
 use Rattle.dd_keys.specs.declared.fault.KeyFault.{KeyFault}
 use Rattle.dd_keys.specs.declared.fault.KeyFault.TheVariants.{Read, FileTooLong}
@@ -25,7 +25,36 @@ pub record AllStay (old new : ℕ → ℕ) : Type 0 where
 pub record OthersStay (at : ℕ) (old new : ℕ → ℕ) : Type 0 where
   pub stays : (other : ℕ) → other ≢ at → new other ≡ old other
 
--- those of all sources before one are
+-- a source can be opened: there is one of this number, and no count of it is at the last value
+pub record IsOpenable (at sources : ℕ) (refusals unread reads lent : ℕ → ℕ) : Type 0 where
+  pub there : at < sources
+  pub live : IsLive (refusals at) (unread at)
+  pub lendable : IsLive (reads at) (lent at)
+
+-- What the result of an opening does to the refusals: where it is refused, and there is such a source, that source's
+-- count is one more; no other changes.
+pub record CountsRefusal {R E : Type 0} (result : Result R E) (at sources : ℕ) (old new : ℕ → ℕ) : Type 0 where
+  pub worked : IsOk result → AllStay old new
+  pub refused : IsErr result → at < sources → new at ≡ counted (old at)
+  pub others : OthersStay at old new
+
+-- what the result of an opening does to the lent readers: one more of this source is, or all are as they were
+pub record Lends {R E : Type 0} (result : Result R E) (at : ℕ) (old new : ℕ → ℕ) : Type 0 where
+  pub lent : IsOk result → new at ≡ old at + 1
+  pub unlent : IsErr result → AllStay old new
+  pub others : OthersStay at old new
+
+-- one reader of this source is lent no more, where there is such a source, and all others are as they were
+pub record TakesBack (at sources : ℕ) (old new : ℕ → ℕ) : Type 0 where
+  pub back : at < sources → new at ≡ old at - 1
+  pub others : OthersStay at old new
+
+-- the count of this source grew by `more`, where there is such a source, and no other did
+pub record AddsTo (at sources more : ℕ) (old new : ℕ → ℕ) : Type 0 where
+  pub here : at < sources → new at ≡ added (old at) more
+  pub others : OthersStay at old new
+
+-- the counts of all sources before one are as they were
 pub record StayBelow (at : ℕ) (old new : ℕ → ℕ) : Type 0 where
   pub stays : (before : ℕ) → before < at → new before ≡ old before
 

@@ -1,5 +1,3 @@
-//! Which label a file-set gets.
-
 ghost use Rattle.std.specs.Prelude.{◌≡◌, ◌≢◌, ◌⊎◌, None, Some, IfErr, IfOk, IsOk};
 ghost use Rattle.dd_catalogue.specs.Contents.{nothing};
 ghost use Rattle.dd_layout.specs.Layouts.{layout_of};
@@ -11,17 +9,17 @@ use dd_elem::{SetId, Uid};
 use dd_layout::{Label, Limits, Plan, PlanFault, lay_out};
 use std::alloc::Global;
 
-/// What is asked of the label of a file-set.
+/// The label that is asked for a file-set.
 #[derive(Clone, Copy, Debug, PartialEq, Eq)]
 pub struct Choice {
-    /// The File-set ID, which may be empty.
+    /// May be empty.
     pub id: SetId,
-    /// The UID. None asks for one that is derived from the directory.
+    /// None asks for a UID that is derived from the directory.
     pub uid: Option<Uid>,
 }
 
-/// Plans the directory of what the catalogue holds under the label that is asked for. Refused as `lay_out`
-/// refuses; where a UID is to be derived, the refusal of that comes first.
+/// Plans the directory of the catalogue under the label that is asked for. Refused as `lay_out` refuses; where a UID is
+/// to be derived, a refusal of that comes first.
 pub(crate) fn plan_for(
     alloc: Global,
     catalogue: &Catalogue,

@@ -1,5 +1,3 @@
-//! Finds the files of two versions that conflict.
-
 ghost use Rattle.std.specs.Prelude.{◌≡◌};
 ghost use Rattle.std.specs.List.{zip};
 ghost use Rattle.dd_catalogue.specs.Versions.{kept};
@@ -12,7 +10,7 @@ use dd_layout::PlanFault;
 use dd_version::Version;
 
 /// Finds the first origin of each of the two kept versions that the fault names. The catalogue was made of these
-/// versions, and `origins` has the origin of each, in the same order. None where the fault does not name two versions.
+/// versions, and `origins` has the origin of each, in the same order.
 pub(crate) fn conflict_of<T: Copy>(
     catalogue: &Catalogue,
     versions: &[Version],
@@ -30,7 +28,6 @@ pub(crate) fn conflict_of<T: Copy>(
     Some(ConflictingFiles { one, other })
 }
 
-/// Finds the first origin of the version that the catalogue keeps of this instance.
 fn kept_origin<T: Copy>(
     catalogue: &Catalogue,
     versions: &[Version],
@@ -43,7 +40,6 @@ fn kept_origin<T: Copy>(
     first_origin(versions, origins, catalogue.get(instance)?)
 }
 
-/// Finds the first origin of this version.
 fn first_origin<T: Copy>(versions: &[Version], origins: &[T], version: &Version) -> Option<T>
     ensures { result ≡ first_of (zip origins.now versions.now) version.now }
 {

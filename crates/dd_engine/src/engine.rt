@@ -1,5 +1,3 @@
-//! From sources to the plan of their directory.
-
 ghost use Rattle.std.specs.Prelude.{◌≡◌, ◌+◌, IfErr, IfOk, IsOk};
 ghost use Rattle.dd_engine.specs.Indexed.{AnswersSupply, IsNamed, IsWithin};
 ghost use Rattle.dd_engine.specs.Supplies.{IndexingEndsBy};
@@ -13,12 +11,12 @@ use dd_keys::KeyFault;
 use dd_layout::{Limits, Plan};
 use std::alloc::Global;
 
-/// What an index of sources has.
+/// The result of an index of sources.
 #[derive(Debug)]
 pub struct Indexed {
-    /// The plan of the directory of the best versions of all sources.
+    /// The plan of the best versions of all sources.
     pub plan: Plan,
-    /// The sources that have no version, by their numbers, each with its fault.
+    /// The sources without a version, by their numbers, each with its fault.
     pub skipped: Vec<(usize, KeyFault)>,
     /// For each image of the plan, in the order of its records, the first source that has its file.
     pub picks: Vec<usize>,
@@ -35,12 +33,10 @@ impl Drop for Indexed {
     }
 }
 
-/// Reads all sources, each to its end or to `file_limit` bytes and one more, and plans the directory of
-/// the best of their versions under the label that is asked for. A source without a version is skipped.
+/// Reads all sources, each to its end or to `file_limit` bytes and one more, and plans the directory of the best of
+/// their versions under the label that is asked for. A source without a version is skipped.
 ///
-/// Absent and Unread name the first source that failed: it could not be opened, or its reader failed. A Plan
-/// fault is the refusal of these versions. Memory where an allocation was refused. Each reader is ended before the
-/// answer.
+/// Absent and Unread name the first source that could not be opened or whose reader failed. Each reader is ended.
 pub fn index_engine<S: Supply>(
     alloc: Global,
     supply: &mut S,
@@ -51,18 +47,12 @@ pub fn index_engine<S: Supply>(
     ensures answers { AnswersSupply choice.now limits file_limit (S.contents supply.old)
         (S.sources supply.old) result }
     ensures within { IfOk result (IsWithin (S.sources supply.old)) }
-
-    // The source that a fault names failed, and none before it.
     ensures named { IfErr result (IsNamed (S.sources supply.old)) }
     ensures fault { IfErr result (λ fault. IndexingEndsBy S.Supply fault supply.old supply.new) }
     ensures worked { IsOk result → AllStay (S.refusals supply.old) (S.refusals supply.new)
         × AllStay (S.unread supply.old) (S.unread supply.new) }
-
-    // Each reader is ended, and of each source there are at most `file_limit` + 1 reads.
     ensures ended { AllStay (S.lent supply.old) (S.lent supply.new) }
     ensures reads { EachGrows (file_limit + 1) (S.reads supply.old) (S.reads supply.new) }
-
-    // What stays.
     ensures kept { (S.sources supply.new ≡ S.sources supply.old)
         × (S.contents supply.new ≡ S.contents supply.old)
         × (S.rest supply.new ≡ S.rest supply.old) }

@@ -1,4 +1,3 @@
-//! Why sources have no directory.
 ghost use Rattle.std.specs.Prelude.{◌≡◌};
 ghost use Rattle.dd_engine.specs.declared.engine_fault.EngineFault.TheVariants as faults;
 
@@ -6,19 +5,19 @@ use dd_elem;
 use dd_layout::PlanFault;
 use thiserror::Error;
 
-/// Why an index was not made.
+/// Says why an index was not made.
 #[derive(Clone, Copy, Debug, PartialEq, Eq, Error)]
 pub enum EngineFault {
     /// An allocation was refused.
     #[error("91 Memory")]
     Memory,
-    /// The source of this number could not be opened.
+    /// The source with this number could not be opened.
     #[error("92 Absent")]
     Absent(usize),
-    /// A read of the source of this number failed.
+    /// A read of the source with this number failed.
     #[error("93 Unread")]
     Unread(usize),
-    /// The versions have no place in a directory.
+    /// The versions have no plan, for this reason.
     #[error(transparent)]
     Plan(PlanFault),
 }
@@ -36,7 +35,6 @@ impl From<PlanFault> for EngineFault {
 
     ghost from_gives = { λ plan fault. fault ≡ as_engine plan };
 
-    /// Want of memory is the engine's own.
     fn from(fault: PlanFault) -> EngineFault {
         match fault {
             PlanFault::Memory => EngineFault::Memory,

@@ -1,5 +1,3 @@
-//! What directories list, gathered.
-
 ghost use Rattle.std.specs.Prelude.{◌≡◌, ◌≢◌, ◌⊎◌, ◌++◌, ◌∷◌, List, [], ℕ, map, None, Some, IfOk, OnErr};
 ghost use Rattle.std.specs.Prelude.{OnOk};
 ghost use Rattle.dd_dir.specs.ReadAnswers.{SaysMemory};
@@ -20,13 +18,12 @@ use std::mem;
 
 /// What sets list, in their order.
 pub(crate) struct Gathered<'a> {
-    /// The versions of all images.
     pub(crate) versions: Vec<Version>,
-    /// The origin of each: its file, and the set of it.
+    /// The origin of each version.
     pub(crate) origins: Vec<Pick<'a>>,
     /// The SOP Instance UIDs that are withdrawn: the given ones, then those of each set.
     pub(crate) withdrawn: Vec<Uid>,
-    /// The number of the set that withdraws each of these. None beside a given one.
+    /// The number of the set that withdraws each of these. None for a given one.
     pub(crate) by: Vec<Option<usize>>,
     /// How many records of each set are not reached.
     pub(crate) unreached: Vec<u64>,
@@ -46,7 +43,6 @@ impl Drop for Gathered<'_> {
 }
 
 impl<'a> Gathered<'a> {
-    /// Gathers of no set, with these UIDs withdrawn.
     fn new(alloc: Global, given: &[Uid]) -> Result<Gathered<'a>, Memory>
         ensures all { IfOk result (Gathers [] (map (λ uid. (None, uid)) given.now) []) }
         ensures some { OnErr result (given.now ≢ []) }
@@ -64,7 +60,6 @@ impl<'a> Gathered<'a> {
         })
     }
 
-    /// Adds what the set of this number lists.
     fn keep(&mut self, at: usize, mut own: Own<'a>, unreached: u64) -> Result<(), Memory>
         ensures versions { OnOk result
             (self.new.versions.items ≡ self.old.versions.items ++ own.entry.versions.items) }
@@ -86,9 +81,8 @@ impl<'a> Gathered<'a> {
     }
 }
 
-/// Gathers what all these sets list, and withdraws these UIDs as well. Refused by the first set that is not a
-/// directory as dd_dir writes one. Memory where an allocation was refused, which can't be where there are no sets and
-/// no UIDs.
+/// Gathers what all these sets list, and withdraws these UIDs as well. Refused by the first set that is not a directory
+/// as dd_dir writes one.
 pub(crate) fn gather_sets<'a>(
     alloc: Global,
     sets: &[&'a [u8]],
@@ -103,7 +97,6 @@ pub(crate) fn gather_sets<'a>(
     Ok(gathered)
 }
 
-/// Adds what this set lists, which has this number.
 fn add_set<'a>(
     alloc: Global,
     at: usize,
@@ -121,7 +114,6 @@ fn add_set<'a>(
     Ok(())
 }
 
-/// Reads what this set lists, which has this number, and counts its records that are not reached.
 fn own_set<'a>(alloc: Global, at: usize, set: &'a [u8]) -> Result<(Own<'a>, u64), MergeFault>
     ensures { AnswersSet (λ listing own. Tells listing.withdrawn listing.images own.0
         × (own.1 ≡ listing.unreached)) at set.now result }
@@ -136,7 +128,6 @@ fn own_set<'a>(alloc: Global, at: usize, set: &'a [u8]) -> Result<(Own<'a>, u64)
     }
 }
 
-/// The fault of the set of this number, as a merge's.
 fn dir_fault(at: usize, fault: DirFault) -> MergeFault
     ensures { (set : List ℕ) → SaysMemory fault ⊎ Refuses set fault → FailsAt at set result }
 {
@@ -147,7 +138,6 @@ fn dir_fault(at: usize, fault: DirFault) -> MergeFault
     }
 }
 
-/// Turns the fault of the set of this number, which is a directory, into a merge's.
 fn own_fault(at: usize, fault: OwnFault) -> MergeFault
     ensures { result ≡ own_fault at fault }
 {
@@ -157,8 +147,8 @@ fn own_fault(at: usize, fault: OwnFault) -> MergeFault
     }
 }
 
-/// Appends these UIDs to the list. Where they are more than it has, its own are moved to them, so that no long
-/// list stands twice.
+/// Appends these UIDs. If they are more than the list has, its own are moved to them, so that the longer list is not in
+/// memory twice.
 fn append(list: &mut Vec<Uid>, uids: &mut Vec<Uid>) -> Result<(), Memory>
     ensures { OnOk result (list.new.items ≡ list.old.items ++ uids.old.items) }
 {
@@ -173,7 +163,6 @@ fn append(list: &mut Vec<Uid>, uids: &mut Vec<Uid>) -> Result<(), Memory>
     Ok(())
 }
 
-/// Adds the origins that these files of the set of this number are.
 fn add_origins<'a>(to: &mut Vec<Pick<'a>>, at: usize, files: &[&'a [u8]]) -> Result<(), Memory>
     ensures { OnOk result (map (λ pick. pick_view pick) to.new.items
         ≡ map (λ pick. pick_view pick) to.old.items
@@ -186,8 +175,6 @@ fn add_origins<'a>(to: &mut Vec<Pick<'a>>, at: usize, files: &[&'a [u8]]) -> Res
     Ok(())
 }
 
-/// Adds this number once for each of these UIDs. Memory where an allocation was refused, which can't be where there are
-/// none.
 fn add_numbers(
     to: &mut Vec<Option<usize>>,
     number: Option<usize>,

@@ -1,5 +1,3 @@
-//! What holds of every index and every merge, whatever the order in which sources or sets come.
-
 ghost use Rattle.std.specs.Prelude.{◌↔◌, ℕ, List, [], Contains, Option, Result};
 ghost use Rattle.dd_version.specs.declared.parts.Parts.{Parts};
 ghost use Rattle.dd_layout.specs.Limits.{Limits};
@@ -12,8 +10,8 @@ ghost use Rattle.dd_engine.specs.Merging.{Merges};
 ghost use Rattle.dd_engine.specs.SameSets.{MergesAgree};
 ghost use Rattle.dd_engine.specs.SameVersions.{Agree, IndexesKnown, IsVersionThere};
 
-/// Sources with the same versions have one plan under one choice of a label, and so one directory, or one
-/// refusal of it. Neither their order nor how readers cut their bytes nor repeats change it.
+/// Proves that sources with the same versions have one plan under one choice of a label, or one refusal of it. Neither
+/// their order nor how readers cut their bytes nor repeats change it.
 pub fn same_versions_have_one_plan()
     ensures { (choice : Choice) (limits : Limits) (limit : ℕ) (contents other : ℕ → Option (List ℕ))
         (sources others : ℕ)
@@ -25,8 +23,8 @@ pub fn same_versions_have_one_plan()
         → Agree first second }
 {}
 
-/// Merges of the same sets have one plan under one choice of a label, and so one directory, or one refusal of it.
-/// Neither the order of the sets nor repeats change it.
+/// Proves that merges of the same sets have one plan under one choice of a label, or one refusal of it. Neither the
+/// order of the sets nor repeats change it.
 pub fn same_sets_have_one_plan()
     ensures { (choice : Choice) (limits : Limits) (sets others : List (List ℕ))
         (first second : Result Merged MergeFault)

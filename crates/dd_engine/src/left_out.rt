@@ -1,5 +1,3 @@
-//! Finds the files that are left out, since other bytes are kept of their instance.
-
 ghost use Rattle.std.specs.Prelude.{◌≡◌, ◌≢◌, [], false, true, not, None, Some, IfOk, IfSome, OnErr, map};
 ghost use Rattle.std.specs.List.{list_all, zip};
 ghost use Rattle.dd_catalogue.specs.Conflicts.{same};
@@ -15,9 +13,8 @@ use dd_elem::Memory;
 use dd_version::Version;
 use std::alloc::Global;
 
-/// Lists the files of whose instance the catalogue keeps other bytes, in the order in which they came, each with
-/// the first file of the kept version. The files are given by their versions and, in the same order, by their
-/// origins. Memory where an allocation was refused, which can't be where there are no versions.
+/// Lists the files of whose instance the catalogue keeps other bytes, in the order in which they came, each with the
+/// first file of the kept version.
 pub(crate) fn left_out_files<T: Copy>(
     alloc: Global,
     catalogue: &Catalogue,
@@ -48,7 +45,6 @@ pub(crate) fn left_out_files<T: Copy>(
     Ok(notes)
 }
 
-/// Finds the version that the catalogue keeps of this version's instance, where the two have different bytes.
 fn other_of<'a>(catalogue: &'a Catalogue, version: &Version) -> Option<&'a Version>
     ensures some { IfSome result (λ one.
         (kept catalogue.now.versions version.now.instance ≡ Some one.now)
@@ -64,7 +60,6 @@ fn other_of<'a>(catalogue: &'a Catalogue, version: &Version) -> Option<&'a Versi
     Some(kept)
 }
 
-/// Says whether there is no version among these of whose instance the catalogue keeps other bytes.
 fn are_kept(catalogue: &Catalogue, versions: &[Version]) -> bool
     ensures { result ≡ list_all (λ version. not (is_other
         (kept catalogue.now.versions version.instance) version))
@@ -73,7 +68,6 @@ fn are_kept(catalogue: &Catalogue, versions: &[Version]) -> bool
     versions.iter().all(|version| is_kept(catalogue, version))
 }
 
-/// Says whether the catalogue does not keep other bytes of this version's instance.
 fn is_kept(catalogue: &Catalogue, version: &Version) -> bool
     ensures { result ≡ not (is_other (kept catalogue.now.versions version.now.instance)
         version.now) }
@@ -81,7 +75,6 @@ fn is_kept(catalogue: &Catalogue, version: &Version) -> bool
     other_of(catalogue, version).is_none()
 }
 
-/// Says whether the catalogue keeps a version of this version's instance that has its digest.
 pub(crate) fn has_kept_digest(catalogue: &Catalogue, version: &Version) -> bool
     ensures { result ≡ is_alike (kept catalogue.now.versions version.now.instance) version.now }
 {
@@ -92,7 +85,6 @@ pub(crate) fn has_kept_digest(catalogue: &Catalogue, version: &Version) -> bool
     }
 }
 
-/// Are the digests the same?
 fn are_same(one: &[u8; 32], other: &[u8; 32]) -> bool
     ensures { result ≡ same one.now other.now }
 {

@@ -1,11 +1,8 @@
-//! The engines: from sources, or from directories, to the plan of the directory of the best versions of all
-//! their images (PS3.3 annex F); and `first_saying`, which finds the record that files an image as a plan does.
-//!
-//! What they promise stands at `index_engine`, `merge_engine`, `withdraw_engine` and `first_saying`; and at
-//! `index_with_notes`, `merge_with_notes` and `withdraw_with_notes`, which also say which files are left out and
-//! which Patient IDs have more than one Patient's Name, and the last two what `SetNotes` has.
+//! Plans the directory of the best versions of all images of sources, or of directories (PS3.3 annex F); and finds the
+//! record that files an image as a plan does.
 #![tactic(auto)]
 
+mod batch;
 mod choice;
 mod conflict;
 mod engine;

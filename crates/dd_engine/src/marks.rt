@@ -1,5 +1,3 @@
-//! Finds the first file of each image of a plan among many files.
-
 ghost use Rattle.std.specs.Prelude.{◌≡◌, ◌≢◌, [], Some, IfOk, map, filter};
 ghost use Rattle.std.specs.List.{zip};
 ghost use Rattle.std.specs.List.Sorted.{IsSorted, IsStable};
@@ -13,18 +11,13 @@ use dd_version::Version;
 use std::alloc::Global;
 use std::cmp::Ordering;
 
-/// Says where the file with this SOP Instance UID and this digest is.
 #[derive(Clone, Copy)]
 pub(crate) struct Mark<'a, T> {
-    /// The SOP Instance UID.
     pub(crate) instance: &'a Uid,
-    /// The digest.
     pub(crate) digest: &'a [u8; 32],
-    /// The origin of the file.
     pub(crate) origin: T,
 }
 
-/// Makes a mark for the file of each version, with the origin that stands beside the version.
 pub(crate) fn marks_of<'a, T: Copy>(
     alloc: Global,
     versions: &'a [Version],
@@ -46,7 +39,7 @@ pub(crate) fn marks_of<'a, T: Copy>(
 }
 
 /// Finds for each image of the plan, in the order of the records, the origin of its file: of the first one where
-/// several of these files are the same. Memory where an allocation was refused.
+/// several of these files are the same.
 pub(crate) fn first_marks<T: Copy>(
     alloc: Global,
     plan: &Plan,
@@ -61,8 +54,6 @@ pub(crate) fn first_marks<T: Copy>(
     picks_among(alloc, plan, &marks)
 }
 
-/// Puts the marks into the order of their files. Those of one file stay in their order. Memory where an allocation was
-/// refused.
 pub(crate) fn in_order<T: Copy>(mut marks: Vec<Mark<'_, T>>) -> Result<Vec<Mark<'_, T>>, Memory>
     ensures order { IfOk result (λ ordered. IsSorted mark_cmp ordered.items) }
     ensures stable { IfOk result (λ ordered. IsStable mark_cmp marks.entry.items ordered.items) }
@@ -75,7 +66,6 @@ pub(crate) fn in_order<T: Copy>(mut marks: Vec<Mark<'_, T>>) -> Result<Vec<Mark<
     Ok(marks)
 }
 
-/// Compares the file of the mark with this one: by SOP Instance UID, then by digest.
 fn compare<T>(mark: &Mark<'_, T>, instance: &Uid, digest: &[u8; 32]) -> Ordering
     ensures { result ≡ file_cmp (key_of mark.now)
         (record { instance = instance.now; digest = digest.now }) }
@@ -86,7 +76,6 @@ fn compare<T>(mark: &Mark<'_, T>, instance: &Uid, digest: &[u8; 32]) -> Ordering
         .then(own[..].cmp(&digest[..]))
 }
 
-/// Does the same with marks that are in the order of their files.
 fn picks_among<T: Copy>(alloc: Global, plan: &Plan, marks: &[Mark<'_, T>]) -> Result<Vec<T>, Memory>
     requires order { IsSorted mark_cmp marks.now }
     requires held { AreHeld (map (λ mark. key_of mark) marks.now) plan.now.versions }
@@ -104,7 +93,6 @@ fn picks_among<T: Copy>(alloc: Global, plan: &Plan, marks: &[Mark<'_, T>]) -> Re
     Ok(picks)
 }
 
-/// Finds the origin of the first of these files that is the file of the version.
 pub(crate) fn first_mark<T: Copy>(marks: &[Mark<'_, T>], version: &Version) -> T
     requires order { IsSorted mark_cmp marks.now }
     requires held { filter (λ file. is_one file (file_of version.now))

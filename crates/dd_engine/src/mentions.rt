@@ -8,16 +8,12 @@ ghost use Rattle.dd_engine.specs.Mentions.{first_number, mention_cmp, mention_vi
 use dd_elem::{Memory, Ordered, Uid};
 use std::alloc::Global;
 
-/// A UID, and a number that stands beside it.
 #[derive(Clone, Copy)]
 pub(crate) struct Mention<'a> {
-    /// The UID.
     pub(crate) uid: &'a Uid,
-    /// The number. None where the mention has none.
     pub(crate) number: Option<usize>,
 }
 
-/// Mentions each of these UIDs with the number that stands beside it. Memory where an allocation was refused.
 pub(crate) fn mentions_of<'a>(
     alloc: Global,
     uids: &'a [Uid],
@@ -36,8 +32,6 @@ pub(crate) fn mentions_of<'a>(
     Ok(mentions)
 }
 
-/// Puts the mentions into the order of their UIDs. Those of one UID stay in their order. Memory where an allocation was
-/// refused.
 pub(crate) fn in_order<'a>(mut mentions: Vec<Mention<'a>>) -> Result<Vec<Mention<'a>>, Memory>
     ensures order { IfOk result (λ ordered. IsSorted mention_cmp ordered.items) }
     ensures stable { IfOk result (λ ordered.
@@ -47,7 +41,7 @@ pub(crate) fn in_order<'a>(mut mentions: Vec<Mention<'a>>) -> Result<Vec<Mention
     Ok(mentions)
 }
 
-/// Gives the number of the first of these mentions that is of this UID. None where none is, or where that one has no
+/// Gives the number of the first of these mentions with this UID. None if there is no such mention, or it has no
 /// number.
 pub(crate) fn first_number(mentions: &[Mention<'_>], uid: &Uid) -> Option<usize>
     requires { IsSorted mention_cmp mentions.now }

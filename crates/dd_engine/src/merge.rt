@@ -1,5 +1,3 @@
-//! From directories to the plan of the directory of all their images.
-
 ghost use Rattle.std.specs.Prelude.{◌<◌, All, IfOk, List, [], length, map};
 ghost use Rattle.dd_catalogue.specs.Contents.{Contents};
 ghost use Rattle.dd_engine.specs.Merging.{Merges};
@@ -12,10 +10,10 @@ use dd_elem::Uid;
 use dd_layout::{Limits, Plan};
 use std::alloc::Global;
 
-/// What a merge of directories has.
+/// The result of a merge of directories.
 #[derive(Debug)]
 pub struct Merged<'a> {
-    /// The plan of the directory of what is kept of all sets.
+    /// The plan of what is kept of all sets.
     pub plan: Plan,
     /// For each image of the plan, in the order of its records, the first place that has its file.
     pub picks: Vec<Pick<'a>>,
@@ -40,15 +38,14 @@ impl Drop for Merged<'_> {
     }
 }
 
-/// Reads the directories of all sets, each from its bytes, and plans one directory under the label that is asked
-/// for. It has the best of the versions that they list and of which no set withdraws the instance. It names all
-/// instances that they withdraw.
+/// Reads the directories of all sets, each from its bytes, and plans one directory under the label that is asked for.
+/// It lists the best of the versions whose instance no set withdraws, and names all instances that the sets withdraw.
 ///
-/// Dir names the first set that is no directory, and Own the first that was not written here. A Plan fault is the
-/// refusal of these versions. Memory where an allocation was refused, which can't be where there are no sets. Where
-/// the sets are the directories of catalogues that agree in pairs, the plan has the images of the catalogue that
-/// joins these, whatever labels they were published under. It is the plan of that catalogue where none of them
-/// withdraws an instance of another.
+/// Dir names the first set that is no directory, and Own the first that was not written here. Memory can't come where
+/// there are no sets.
+///
+/// If the sets are the directories of catalogues that agree in pairs, the plan has the images of their join, whatever
+/// labels they were published under. It is the plan of the join where none of them withdraws an instance of another.
 pub fn merge_engine<'a>(
     alloc: Global,
     sets: &'a [&'a [u8]],
@@ -68,7 +65,6 @@ pub fn merge_engine<'a>(
     merge_sets(alloc, sets, &[], choice, limits)
 }
 
-/// Plans the directory of what all these sets list, where the given instances are withdrawn as well.
 pub(crate) fn merge_sets<'a>(
     alloc: Global,
     sets: &[&'a [u8]],

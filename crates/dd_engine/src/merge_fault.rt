@@ -1,4 +1,3 @@
-//! Why directories have no directory of all their images.
 ghost use Rattle.std.specs.Prelude.{◌≡◌};
 ghost use Rattle.dd_engine.specs.declared.merge_fault.MergeFault.TheVariants as faults;
 
@@ -7,17 +6,17 @@ use dd_elem;
 use dd_layout::PlanFault;
 use thiserror::Error;
 
-/// Why a merge was not made.
+/// Says why a merge was not made.
 #[derive(Clone, Copy, Debug, PartialEq, Eq, Error)]
 pub enum MergeFault {
-    /// The set of this number is no directory that can be read.
+    /// The set with this number is no directory that can be read.
     #[error("{1}")]
     Dir(usize, DirFault),
-    /// The directory of this number was not written here: what names its withdrawn UIDs fails its check, or a
-    /// record does.
+    /// The directory of this number was not written here: what names its withdrawn UIDs fails its check, or a record
+    /// does.
     #[error("{1}")]
     Own(usize, OwnFault),
-    /// The versions have no place in a directory.
+    /// The versions have no plan, for this reason.
     #[error(transparent)]
     Plan(PlanFault),
     /// An allocation was refused.
@@ -38,7 +37,6 @@ impl From<PlanFault> for MergeFault {
 
     ghost from_gives = { λ plan fault. fault ≡ plan_fault plan };
 
-    /// Want of memory is the merge's own.
     fn from(fault: PlanFault) -> MergeFault {
         match fault {
             PlanFault::Memory => MergeFault::Memory,

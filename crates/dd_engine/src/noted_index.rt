@@ -1,5 +1,3 @@
-//! From sources to the plan of their directory, with notes.
-
 ghost use Rattle.std.specs.Prelude.{◌≡◌, ◌+◌, List, IfErr, IfOk, IsOk, length};
 ghost use Rattle.dd_engine.specs.Indexed.{IsNamed, IsWithin, as_engine};
 ghost use Rattle.dd_engine.specs.Indexing.{Answer};
@@ -23,17 +21,16 @@ use dd_catalogue::Catalogue;
 use dd_layout::{Limits, Plan, PlanFault};
 use std::alloc::Global;
 
-/// What an index of sources has, with notes on these sources.
+/// The result of an index of sources, with notes on these.
 #[derive(Debug, Drop)]
 pub struct NotedIndex {
-    /// What the index has.
+    /// What `index_engine` gives.
     pub indexed: Indexed,
-    /// The notes on sources, each source by its number.
+    /// The notes, with each source by its number.
     pub notes: Notes<usize>,
 }
 
 impl NotedIndex {
-    /// Gives what the index has.
     pub(crate) fn into_indexed(self) -> Indexed
         ensures { result ≡ self.indexed }
     {
@@ -45,10 +42,8 @@ impl NotedIndex {
     }
 }
 
-/// Does what `index_engine` does, and notes which sources are left out: of the instance of each, a version with
-/// other bytes is kept. It also notes each Patient ID that has more than one Patient's Name, where a version counts if
-/// its digest is the one that is kept of its instance. Where two kept versions conflict, the refusal names the first
-/// source of each.
+/// Does what `index_engine` does, and makes `Notes` on the sources. Where two kept versions conflict, the refusal names
+/// the first source of each.
 pub fn index_with_notes<S: Supply>(
     alloc: Global,
     supply: &mut S,
@@ -61,8 +56,6 @@ pub fn index_with_notes<S: Supply>(
     ensures within { IfOk result (λ noted. IsWithin (S.sources supply.old) noted.indexed) }
     ensures below { IfOk result (λ noted.
         AreBelow (λ at. at) (S.sources supply.old) noted.notes.left_out.items) }
-
-    // The source that a fault names failed, and none before it.
     ensures named { IfErr result (λ noted. IsNamed (S.sources supply.old) noted.fault) }
     ensures conflict { IfErr result (λ noted. IsBelow (λ at. at) (S.sources supply.old) noted.conflict) }
     ensures found { IfErr result (λ noted. FindsBoth noted.fault noted.conflict) }
@@ -70,12 +63,8 @@ pub fn index_with_notes<S: Supply>(
         IndexingEndsBy S.Supply noted.fault supply.old supply.new) }
     ensures worked { IsOk result → AllStay (S.refusals supply.old) (S.refusals supply.new)
         × AllStay (S.unread supply.old) (S.unread supply.new) }
-
-    // Each reader is ended, and of each source there are at most `file_limit` + 1 reads.
     ensures ended { AllStay (S.lent supply.old) (S.lent supply.new) }
     ensures reads { EachGrows (file_limit + 1) (S.reads supply.old) (S.reads supply.new) }
-
-    // What stays.
     ensures kept { (S.sources supply.new ≡ S.sources supply.old)
         × (S.contents supply.new ≡ S.contents supply.old)
         × (S.rest supply.new ≡ S.rest supply.old) }
@@ -84,7 +73,6 @@ pub fn index_with_notes<S: Supply>(
     noted_plan(alloc, sources, choice, limits)
 }
 
-/// Plans the directory of the sources that were read, with notes.
 fn noted_plan(
     alloc: Global,
     sources: Sources,
@@ -108,7 +96,6 @@ fn noted_plan(
     })
 }
 
-/// Makes the plan of the catalogue of what was read, and gives the source of each of its images and the notes.
 fn plan_and_picks(
     alloc: Global,
     sources: &Sources,
@@ -136,7 +123,6 @@ fn plan_and_picks(
     Ok((plan, picks, Notes { left_out, names }))
 }
 
-/// Makes the refusal of the plan, with the first source of each of the two versions that it names, if it names two.
 fn refusal_of(
     sources: &Sources,
     catalogue: &Catalogue,

@@ -1,5 +1,3 @@
-//! From directories to the plan of the directory of all their images, with notes.
-
 ghost use Rattle.std.specs.Prelude.{◌≡◌, ◌<◌, ◌∷◌, All, IfErr, IfOk, List, [], ℕ, length, map};
 ghost use Rattle.dd_engine.specs.Merging.{IsNamedSet, SetListing, held_in, numbered};
 ghost use Rattle.dd_engine.specs.MergeNotes.{ConflictsIn, FindsBoth, NotesMerge, NotesSets, PlansMerge};
@@ -23,19 +21,18 @@ use dd_layout::{Limits, PlanFault};
 use std::alloc::Global;
 use std::mem;
 
-/// What a merge of directories has, with notes on files of the sets.
+/// The result of a merge of directories, with notes.
 #[derive(Debug, Drop)]
 pub struct NotedMerge<'a> {
-    /// What the merge has.
+    /// What `merge_engine` or `withdraw_engine` gives.
     pub merged: Merged<'a>,
     /// The notes on files of the sets.
     pub notes: Notes<Pick<'a>>,
-    /// The notes on the sets as sets.
+    /// The notes on whole sets, and on instances that are withdrawn.
     pub sets: SetNotes<'a>,
 }
 
 impl<'a> NotedMerge<'a> {
-    /// Gives what the merge has.
     pub(crate) fn into_merged(self) -> Merged<'a>
         ensures { result ≡ self.entry.merged }
     {
@@ -48,10 +45,8 @@ impl<'a> NotedMerge<'a> {
     }
 }
 
-/// Does what `merge_engine` does, and notes which files are left out: of the instance of each, a version with
-/// other bytes is kept. It also notes each Patient ID that has more than one Patient's Name, where a version counts if
-/// its digest is the one that is kept of its instance; which sets have records that are not reached; and which images
-/// a set withdraws. Where two kept versions conflict, the refusal names the first file of each.
+/// Does what `merge_engine` does, and makes `Notes` on the files of the sets and `SetNotes`. Where two kept versions
+/// conflict, the refusal names the first file of each.
 pub fn merge_with_notes<'a>(
     alloc: Global,
     sets: &'a [&'a [u8]],
@@ -72,9 +67,8 @@ pub fn merge_with_notes<'a>(
     noted_sets(alloc, sets, &[], choice, limits)
 }
 
-/// Does what `withdraw_engine` does, with the notes that `merge_with_notes` gives, and notes which of the given UIDs
-/// no record lists and the set does not withdraw. An image whose UID is given is not noted as withdrawn. The set has
-/// the number 0.
+/// Does what `withdraw_engine` does, with the notes of `merge_with_notes`, and notes which given UIDs no record lists
+/// and the set does not withdraw. An image whose UID is given is not noted as withdrawn. The set has the number 0.
 pub fn withdraw_with_notes<'a>(
     alloc: Global,
     set: &'a [u8],
@@ -94,7 +88,6 @@ pub fn withdraw_with_notes<'a>(
     noted_sets(alloc, &[set], uids, choice, limits)
 }
 
-/// Plans the directory of what all these sets list, where the given instances are withdrawn as well, with notes.
 pub(crate) fn noted_sets<'a>(
     alloc: Global,
     sets: &[&'a [u8]],
@@ -117,8 +110,7 @@ pub(crate) fn noted_sets<'a>(
     noted_plan(alloc, gathered, given, choice, limits)
 }
 
-/// Plans the directory of what was gathered of all sets, with notes. The catalogue keeps the list of withdrawn UIDs,
-/// and the plan shares it.
+/// Plans the directory of what was gathered. The catalogue and the plan share one list of withdrawn UIDs.
 fn noted_plan<'a>(
     alloc: Global,
     mut gathered: Gathered<'a>,
@@ -143,7 +135,6 @@ fn noted_plan<'a>(
     }
 }
 
-/// Plans the directory of the catalogue of what was gathered, with notes.
 fn plan_and_picks<'a>(
     alloc: Global,
     gathered: &Gathered<'a>,
@@ -169,7 +160,6 @@ fn plan_and_picks<'a>(
     Ok((Merged { plan, picks }, Notes { left_out, names }))
 }
 
-/// Makes the refusal of the plan, with the first file of each of the two versions that it names, if it names two.
 fn refusal_of<'a>(
     gathered: &Gathered<'a>,
     catalogue: &Catalogue,

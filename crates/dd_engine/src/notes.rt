@@ -1,5 +1,3 @@
-//! Notes on files, which stand beside the plan of their directory.
-
 ghost use Rattle.std.specs.Prelude.{◌≡◌, None};
 
 use crate::engine_fault::EngineFault;
@@ -10,9 +8,9 @@ use dd_elem::{self, Uid};
 /// A file that is left out, since other bytes are kept of its instance.
 #[derive(Clone, Copy, Debug)]
 pub struct LeftOut<T> {
-    /// Where the file is.
+    /// The origin of the file.
     pub file: T,
-    /// Where the first file of the kept version is.
+    /// The origin of the first file of the kept version.
     pub kept: T,
     /// The SOP Instance UID of both.
     pub instance: Uid,
@@ -21,13 +19,13 @@ pub struct LeftOut<T> {
 /// The files of two kept versions whose keys conflict.
 #[derive(Clone, Copy, Debug)]
 pub struct ConflictingFiles<T> {
-    /// Where the first file is of the version that the fault names first.
+    /// The origin of the first file of the version that the fault names first.
     pub one: T,
-    /// Where the first file of the other version is.
+    /// The origin of the first file of the other version.
     pub other: T,
 }
 
-/// Notes on files, which stand beside the plan of their directory.
+/// Notes on the files that a plan was made from.
 #[derive(Debug, Drop)]
 pub struct Notes<T> {
     /// The files that are left out, in the order in which they came.
@@ -37,7 +35,7 @@ pub struct Notes<T> {
     pub names: Vec<PatientNames>,
 }
 
-/// Why there is no plan, with the files of two versions that conflict, if that is why.
+/// A fault, with the files of two versions if these conflict.
 #[derive(Clone, Copy, Debug)]
 pub struct NotedFault<F, T> {
     /// Why there is no plan.
@@ -49,7 +47,6 @@ pub struct NotedFault<F, T> {
 impl<T> From<EngineFault> for NotedFault<EngineFault, T> {
     ghost from_gives = { λ fault noted. noted ≡ record { fault = fault; conflict = None } };
 
-    /// Gives the fault, with no conflict.
     fn from(fault: EngineFault) -> NotedFault<EngineFault, T> {
         NotedFault {
             fault,
@@ -63,7 +60,6 @@ impl<T> From<dd_elem::Memory> for NotedFault<EngineFault, T> {
 
     ghost from_gives = { λ _ noted. noted ≡ record { fault = faults.Memory; conflict = None } };
 
-    /// Gives the fault, with no conflict.
     fn from(_refused: dd_elem::Memory) -> NotedFault<EngineFault, T> {
         NotedFault {
             fault: EngineFault::Memory,
@@ -75,7 +71,6 @@ impl<T> From<dd_elem::Memory> for NotedFault<EngineFault, T> {
 impl<T> From<MergeFault> for NotedFault<MergeFault, T> {
     ghost from_gives = { λ fault noted. noted ≡ record { fault = fault; conflict = None } };
 
-    /// Gives the fault, with no conflict.
     fn from(fault: MergeFault) -> NotedFault<MergeFault, T> {
         NotedFault {
             fault,
@@ -89,7 +84,6 @@ impl<T> From<dd_elem::Memory> for NotedFault<MergeFault, T> {
 
     ghost from_gives = { λ _ noted. noted ≡ record { fault = faults.Memory; conflict = None } };
 
-    /// Gives the fault, with no conflict.
     fn from(_refused: dd_elem::Memory) -> NotedFault<MergeFault, T> {
         NotedFault {
             fault: MergeFault::Memory,

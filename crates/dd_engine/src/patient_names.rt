@@ -1,5 +1,3 @@
-//! Patient IDs with more than one Patient's Name.
-
 ghost use Rattle.std.specs.Prelude.{◌≡◌, ◌≢◌, ◌≤◌, [], ◌∷◌, ◌++◌, length, map, filter, IfOk, OnErr, OnOk};
 ghost use Rattle.std.specs.List.{prefix_len};
 ghost use Rattle.std.specs.List.Sorted.{IsStrictlySortedBy};
@@ -56,7 +54,6 @@ impl PatientNames {
     }
 }
 
-/// A Patient ID and a Patient's Name that a version has.
 #[derive(Drop)]
 struct Naming<'a> {
     id: &'a Key,
@@ -71,7 +68,6 @@ impl<'a> Model for Naming<'a> {
     ghost view = { λ naming. record { id = naming.id.now; name = naming.name.now } };
 }
 
-/// Namings are equal where their IDs and their names are.
 impl<'a> PartialEq for Naming<'a> {
     ghost use Rattle.std.specs.Cmp.{partial_equiv_from_equiv};
     ghost use Rattle.std.specs.Ordering.{eq_by_cmp};
@@ -104,9 +100,8 @@ impl<'a> Ordered for Naming<'a> {
     }
 }
 
-/// Finds the Patient IDs that stand with more than one Patient's Name in those of these versions that have the digest
-/// of the version that the catalogue keeps of their instance. The IDs rise by bytes, and the names of each fall by
-/// bytes. Memory where an allocation was refused, which can't be where there are no versions.
+/// Finds the Patient IDs with more than one Patient's Name among the versions that have the digest that the catalogue
+/// keeps of their instance. The IDs rise by bytes, and the names of each fall by bytes.
 pub(crate) fn patient_names(
     alloc: Global,
     catalogue: &Catalogue,
@@ -123,7 +118,6 @@ pub(crate) fn patient_names(
     of_several_names(alloc, &namings)
 }
 
-/// Lists the Patient ID and the Patient's Name of each version that has the digest of the one that is kept.
 fn namings_of<'a>(
     alloc: Global,
     catalogue: &Catalogue,
@@ -145,7 +139,6 @@ fn namings_of<'a>(
     Ok(namings)
 }
 
-/// Puts the namings in their order, each once.
 fn in_order<'a>(mut namings: Vec<Naming<'a>>) -> Vec<Naming<'a>>
     ensures rising { IsStrictlySortedBy naming_cmp result.items }
     ensures same { SameMembers result.items namings.entry.items }
@@ -155,7 +148,6 @@ fn in_order<'a>(mut namings: Vec<Naming<'a>>) -> Vec<Naming<'a>>
     namings
 }
 
-/// Finds the patients with more than one name among namings that stand in their order, each once.
 fn of_several_names<'a>(alloc: Global, namings: &[Naming<'a>]) -> Result<Vec<PatientNames>, Memory>
     ensures { IfOk result (λ patients. patients.items ≡ filter has_several (grouped namings.now)) }
 {
@@ -169,7 +161,6 @@ fn of_several_names<'a>(alloc: Global, namings: &[Naming<'a>]) -> Result<Vec<Pat
     Ok(patients)
 }
 
-/// Adds the patient of the first naming and of others with its ID, where there are others.
 fn add<'a>(
     alloc: Global,
     patients: &mut Vec<PatientNames>,
@@ -185,7 +176,6 @@ fn add<'a>(
     Ok(())
 }
 
-/// Counts the namings at the front that have this ID, up to the first with another one.
 fn like_len<'a>(id: &Key, namings: &[Naming<'a>]) -> usize
     ensures count { result ≡ prefix_len (has_id id.now) namings.now }
     ensures within { result ≤ length namings.now }
@@ -200,7 +190,6 @@ fn like_len<'a>(id: &Key, namings: &[Naming<'a>]) -> usize
     len
 }
 
-/// Makes the patient of the first naming and of others with its ID.
 fn patient<'a>(
     alloc: Global,
     first: &Naming<'a>,

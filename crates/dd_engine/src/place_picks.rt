@@ -1,5 +1,3 @@
-//! Picks the file of a set that each image of a directory is copied from.
-
 ghost use Rattle.std.specs.Prelude.{◌≡◌, ◌≢◌, List, [], ℕ, IfOk, OnErr, map};
 ghost use Rattle.dd_catalogue.specs.Contents.{kept_of};
 ghost use Rattle.dd_catalogue.specs.Harmony.{harmonised};
@@ -16,9 +14,8 @@ use dd_layout::Plan;
 use dd_version::Version;
 use std::alloc::Global;
 
-/// Picks for each image of the plan, in the order of the records, the first of these origins whose version has its
-/// SOP Instance UID and its digest. The origins stand in the order of their versions. Memory where an allocation was
-/// refused, which can't be where there are no versions.
+/// Picks for each image of the plan, in the order of the records, the first of these origins whose version has its SOP
+/// Instance UID and its digest. The origins stand in the order of their versions.
 pub(crate) fn place_picks<'a>(
     alloc: Global,
     plan: &Plan,

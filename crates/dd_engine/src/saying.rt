@@ -1,5 +1,3 @@
-//! Finds the record that files an image as a plan does.
-
 ghost use Rattle.std.specs.Prelude.{◌≡◌, ◌<◌, ℕ, IfOk, IfSome, None, length, map};
 ghost use Rattle.dd_engine.specs.Saying.{AnswersSaying, IsFiledAt, IsFirstFiled};
 
@@ -9,11 +7,11 @@ use crate::merge_fault::MergeFault;
 use dd_version::{Parts, Version, is_filed_as};
 use std::alloc::Global;
 
-/// Finds the first record that files an image as this version: with its digest, and with the keys that
-/// `is_filed_as` compares. Looks at all sets in order, and in each set depth first. Answers where the file of
-/// the image is. None where no record files an image so.
+/// Finds the first record that files an image as this version: with its digest, and with the keys that `is_filed_as`
+/// compares. Looks at all sets in order, and in each set depth first. Gives the file of the image, or None if there is
+/// no such record.
 ///
-/// Refuses these sets as `merge_engine` does, but with no Plan fault, since it makes no plan.
+/// Refuses these sets as `merge_engine` does, but with no Plan fault.
 pub fn first_saying<'a>(
     alloc: Global,
     sets: &[&'a [u8]],
@@ -29,7 +27,6 @@ pub fn first_saying<'a>(
     }
 }
 
-/// Finds the first of these versions that is filed as the planned one, and answers its number.
 fn first_filed(versions: &[Version], planned: &Parts) -> Option<usize>
     ensures first { IfSome result (IsFirstFiled planned.now versions.now) }
     ensures none { result ≡ None → (at : ℕ) → ¬ IsFiledAt planned.now versions.now at }

@@ -1,5 +1,3 @@
-//! Notes on file-sets as sets: which records a walk does not reach, and what is withdrawn.
-
 ghost use Rattle.std.specs.Prelude.{◌≡◌, ◌≢◌, ◌≤◌, ◌++◌, List, [], ℕ, length, nat_lt, map, filter};
 ghost use Rattle.std.specs.Prelude.{None, IfOk, OnErr};
 ghost use Rattle.std.specs.List.{enumerate_from, zip};
@@ -28,7 +26,7 @@ pub struct Unreached {
 /// An image that a set lists and a set withdraws.
 #[derive(Clone, Copy, Debug)]
 pub struct WithdrawnImage<T> {
-    /// Where its file is.
+    /// The origin of its file.
     pub file: T,
     /// The number of the first set that withdraws its instance.
     pub by: usize,
@@ -36,10 +34,10 @@ pub struct WithdrawnImage<T> {
     pub instance: Uid,
 }
 
-/// Notes on file-sets as sets, which stand beside the plan of a merge of them.
+/// Notes on the sets of a merge: which records a walk does not reach, and what is withdrawn.
 #[derive(Debug)]
 pub struct SetNotes<'a> {
-    /// The sets with records that a walk does not reach, in their order, once for each naming of a set.
+    /// The sets with records that a walk does not reach, in their order; a set that is given twice is there twice.
     pub unreached: Vec<Unreached>,
     /// The images whose instance a set withdraws, in the order of the records: set by set, depth first in each.
     /// An image whose UID is among the given ones is not listed.
@@ -59,8 +57,6 @@ impl Drop for SetNotes<'_> {
     }
 }
 
-/// Notes what was gathered of these sets as sets, where these UIDs are withdrawn as well. Memory where an allocation
-/// was refused, which can't be where there are no sets and no UIDs.
 pub(crate) fn set_notes<'a>(
     alloc: Global,
     gathered: &Gathered<'a>,
@@ -82,8 +78,6 @@ pub(crate) fn set_notes<'a>(
     })
 }
 
-/// Lists the sets with records that are not reached, by the count of these in each set. Memory where an allocation was
-/// refused, which can't be where there are no sets.
 fn unreached_sets(alloc: Global, counts: &[u64]) -> Result<Vec<Unreached>, Memory>
     ensures all { IfOk result (λ sets. map (λ note. (note.set, note.records)) sets.items
         ≡ filter (λ set. nat_lt 0 set.1) (enumerate_from 0 counts.now)) }
@@ -101,8 +95,6 @@ fn unreached_sets(alloc: Global, counts: &[u64]) -> Result<Vec<Unreached>, Memor
     Ok(sets)
 }
 
-/// Lists the images whose instance a set withdraws, but those whose UID is given, each with the first set that
-/// withdraws it. Memory where an allocation was refused, which can't be where nothing is withdrawn.
 fn withdrawn_images<'a>(
     alloc: Global,
     gathered: &Gathered<'a>,
@@ -119,8 +111,7 @@ fn withdrawn_images<'a>(
     numbered_images(alloc, &mentions, &gathered.versions, &gathered.origins)
 }
 
-/// Lists the files of whose instance the first of these mentions has a number, each with that number. The files are
-/// given by their versions and, in the same order, by their origins. Memory where an allocation was refused.
+/// Lists the files of whose instance the first of these mentions has a number, each with that number.
 fn numbered_images<T: Copy>(
     alloc: Global,
     mentions: &[Mention<'_>],
@@ -146,8 +137,6 @@ fn numbered_images<T: Copy>(
     Ok(images)
 }
 
-/// Lists the given UIDs that no image has and no set withdraws, in their order, each once. Memory where an allocation
-/// was refused, which can't be where none is given.
 fn unlisted_uids(alloc: Global, gathered: &Gathered<'_>, given: &[Uid]) -> Result<Vec<Uid>, Memory>
     requires { length given.now ≤ length gathered.now.withdrawn.items }
     ensures all { IfOk result (λ uids.
@@ -167,8 +156,8 @@ fn unlisted_uids(alloc: Global, gathered: &Gathered<'_>, given: &[Uid]) -> Resul
     Ok(uids)
 }
 
-/// Makes a mention of each UID of an image, and of each UID that a set withdraws, all without a number. After these
-/// comes a mention of each given UID, with its index among the given ones.
+/// Makes a mention without a number of each UID that an image has or a set withdraws; then one of each given UID, with
+/// its index.
 fn listed_then_given<'a>(
     alloc: Global,
     gathered: &'a Gathered<'_>,

@@ -1,5 +1,3 @@
-//! Which source each image of a directory is copied from.
-
 ghost use Rattle.std.specs.Prelude.{◌≡◌, ◌≢◌, [], IfOk, OnErr};
 ghost use Rattle.std.specs.List.{zip};
 ghost use Rattle.dd_catalogue.specs.Harmony.{harmonised};
@@ -13,9 +11,8 @@ use dd_layout::Plan;
 use dd_version::Version;
 use std::alloc::Global;
 
-/// For each image of the plan, in the order of the records, the number of the first source with its SOP
-/// Instance UID and its digest. The sources are given by their versions and, in the same order, by their
-/// numbers, the origins. Memory where an allocation was refused: never where there are no versions.
+/// Picks for each image of the plan, in the order of the records, the number of the first source with its SOP Instance
+/// UID and its digest. `origins` has the number of the source of each version.
 pub(crate) fn source_picks(
     alloc: Global,
     plan: &Plan,

@@ -1,5 +1,3 @@
-//! From a directory to the plan of the directory without some of its instances.
-
 ghost use Rattle.std.specs.Prelude.{◌<◌, ◌∷◌, All, IfOk, List, []};
 ghost use Rattle.dd_catalogue.specs.Contents.{Contents};
 ghost use Rattle.dd_engine.specs.Merging.{Merges};
@@ -12,12 +10,11 @@ use dd_elem::Uid;
 use dd_layout::Limits;
 use std::alloc::Global;
 
-/// Reads the directory of a set from its bytes, and plans the directory of what it lists with these instances
-/// withdrawn as well, under the label that is asked for. An instance may be withdrawn that the set does not
-/// list, and one that is withdrawn already.
+/// Reads the directory of a set from its bytes, and plans the directory of what it lists with these instances withdrawn
+/// as well, under the label that is asked for. The set need not list such an instance, and may withdraw it already.
 ///
-/// Refused as `merge_engine` refuses, the set being number 0. Where the set is the directory of a catalogue,
-/// the plan has the images of that catalogue with these instances withdrawn.
+/// Refused as `merge_engine` refuses, the set being number 0. Where the set is the directory of a catalogue, the plan
+/// has the images of that catalogue with these instances withdrawn.
 pub fn withdraw_engine<'a>(
     alloc: Global,
     set: &'a [u8],

@@ -3,37 +3,46 @@ use Rattle.std.proofs.Common.{◌+◌, ◌++◌, ◌∷◌, [], ◌∙◌, refl,
 use Rattle.std.proofs.lemmas.List.{length_push}
 use Rattle.std.proofs.lemmas.Result.{err_from_is_err_and}
 use borrow.Author.Count.{below_more}
-use Rattle.dd_engine.proofs.Answering.{all_later, answer_before, answers_more, ends_later, live_before}
+use Rattle.sha2.specs.Sha256.{sha256}
+use Rattle.dd_keys.specs.Kept.{digested_by}
+use Rattle.dd_engine.proofs.Answering.{all_later, answer_before, answers_more, ends_later, holds_closed}
+use Rattle.dd_engine.proofs.Answering.{holds_first, holds_next, live_before}
 use Rattle.dd_engine.proofs.Lending.{more_reads, still_later}
 use Rattle.dd_engine.proofs.sources.read_sources.Goals as goal
 
 pub loop-at-init : goal.loop-at-init
-loop-at-init g c = record {
-  answers = [];
-  many = refl;
-  right = record { each = λ _. tt };
-  held = c.new-sources.ensures;
-  refusals = record { stays = λ _. refl };
-  unread = record { stays = λ _. refl };
-  lent = record { stays = λ _. refl };
-  reads = record { grows = λ _. omega arith };
-  later = record { stays = λ _ _. refl };
-  live = λ at below. absurd (omega arith);
-  sources = refl;
-  contents = refl;
-  rest = refl;
-}
+loop-at-init g c =
+    let none = c.new-batch.ensures in
+    record {
+      answers = [];
+      many = refl;
+      right = record { each = λ _. tt };
+      room = (omega (arith, none), omega (arith, none));
+      held = holds_first _ _ c.new-sources.ensures none;
+      refusals = record { stays = λ _. refl };
+      unread = record { stays = λ _. refl };
+      lent = record { stays = λ _. refl };
+      reads = record { grows = λ _. omega arith };
+      later = record { stays = λ _ _. refl };
+      live = λ at below. absurd (omega arith);
+      sources = refl;
+      contents = refl;
+      rest = refl;
+    }
 
 pub loop-at-preserved : goal.loop-at-preserved
 loop-at-preserved g c =
     let before = c.loop-at.invariant in
     let read = c.in_ok-answer.ensures in
+    let answer = digested_by (sha256 read.answer.bytes) c.in_ok-answer.answer in
     record {
-      answers = before.answers ++ c.in_ok-answer.answer ∷ [];
-      many = length_push before.answers c.in_ok-answer.answer ∙ ap (λ n. n + 1) before.many;
-      right = answers_more c.args.limit c.loop-at.at _ before.answers c.in_ok-answer.answer before.many before.right
-          (answer_before _ _ _ _ _ before.contents read.answer);
-      held = c.in_ok-keep.ensures before.answers before.many before.held;
+      answers = before.answers ++ answer ∷ [];
+      many = length_push before.answers answer ∙ ap (λ n. n + 1) before.many;
+      right = answers_more c.args.limit c.loop-at.at _ before.answers answer before.many before.right
+          (answer_before _ _ _ _ _ before.contents read.answer.right);
+      room = c.in_ok-keep.ensures.room refl;
+      held = c.in_ok-keep.ensures.kept before.answers read.answer.bytes before.many read.answer.kept
+          (holds_next _ _ _ _ before.room.0 before.held);
       refusals = all_later _ _ _ before.refusals (read.refusals refl);
       unread = all_later _ _ _ before.unread (read.unread refl);
       lent = all_later _ _ _ before.lent read.used.ended;
@@ -79,3 +88,17 @@ returns-in_err-keep-clause-reads g c =
     let before = c.loop-at.invariant in
     let read = c.in_ok-answer.ensures in
     more_reads c.loop-at.at (c.args.limit + 1) _ _ _ before.reads before.later read.used.few read.used.others
+
+pub returns-clause-read : goal.returns-clause-read
+returns-clause-read g c =
+    let before = c.loop-at.invariant in
+    let end = c.loop-at.auto.at-end in
+    let over = c.loop-at-test.false in
+    let all = c.count-at-end.ensures in
+    let many = before.many in (
+      before.answers,
+      omega (arith, many, end, over, all),
+      before.right,
+      holds_closed before.answers c.loop-at.sources _
+          c.loop-at.batch before.held (c.finish.ensures _ before.held.versions) refl refl,
+    )

@@ -1,17 +1,19 @@
 use Rattle.std.proofs.Common.{◌≡◌, ◌<◌, ◌+◌, ℕ, List, length}
 use Rattle.dd_elem.specs.Device.{IsLive}
+use Rattle.dd_engine.specs.Batches.{HasRoom, HoldsOpen}
 use Rattle.dd_engine.specs.Indexing.{Answer}
-use Rattle.dd_engine.specs.Supply.{AllStay, AreAnswers, EachGrows, Holds}
+use Rattle.dd_engine.specs.Supply.{AllStay, AreAnswers, EachGrows}
 use Rattle.dd_engine.proofs.Lending.{StayFrom}
 use Rattle.dd_engine.proofs.sources.read_sources.Given as goal
 
--- what is held so far are the answers for the sources so far, of which none failed
+-- what is held so far has the answers for the sources so far once all digests are set, and none of these failed
 abbrev pub invariant-loop-at : goal.invariant-loop-at
 invariant-loop-at g l = record {
   answers : List Answer;
   many : length answers ≡ l.at;
   right : AreAnswers l.limit (g.S.Supply.contents l.fn.supply) answers;
-  held : Holds answers l.sources;
+  room : HasRoom l.batch l.sources.versions.items;
+  held : HoldsOpen answers l.sources l.batch;
   refusals : AllStay (g.S.Supply.refusals l.fn.supply) (g.S.Supply.refusals l.supply);
   unread : AllStay (g.S.Supply.unread l.fn.supply) (g.S.Supply.unread l.supply);
   lent : AllStay (g.S.Supply.lent l.fn.supply) (g.S.Supply.lent l.supply);

@@ -1,0 +1,105 @@
+//! Versions whose digests are open, until four are set at once.
+ghost use Rattle.std.specs.Prelude.{◌≡◌, ◌<◌, ◌≤◌, ◌+◌, ◌++◌, ◌∷◌, ℕ, List, [], length};
+ghost use Rattle.sha2.specs.Sha256.{sha256};
+ghost use Rattle.dd_slots.specs.Slots.{IsSlotOf};
+ghost use Rattle.dd_version.specs.Copies.{with_digest};
+ghost use Rattle.dd_version.specs.declared.parts.Parts.{Parts};
+ghost use Rattle.dd_engine.specs.Batches.{HasRoom, IsOpen, open_slots};
+
+use dd_slots::{Slot, digest_slots};
+use dd_version::Version;
+use std::alloc::Global;
+use std::mem;
+
+/// Keeps the bytes of the last versions that were read, whose digests are open: of at most three, or of four just
+/// before these are set.
+#[derive(Drop)]
+pub(crate) struct Batch {
+    first: Slot,
+    second: Slot,
+    third: Slot,
+    /// The slot of the source that is read next: the fourth once three versions are open.
+    pub(crate) next: Slot,
+    used: usize,
+}
+
+impl Batch {
+    pub(crate) fn new(alloc: Global) -> Batch
+        ensures { result.used ≡ 0 }
+    {
+        Batch {
+            first: Slot::new(alloc),
+            second: Slot::new(alloc),
+            third: Slot::new(alloc),
+            next: Slot::new(alloc),
+            used: 0,
+        }
+    }
+
+    /// Adds the next slot, which has the bytes of the last of these versions. At four open versions, sets their
+    /// digests.
+    pub(crate) fn add(&mut self, versions: &mut Vec<Version>)
+        requires room { self.old.used < 4 }
+        requires there { self.old.used < length versions.old.items }
+        ensures room { HasRoom self.new versions.new.items }
+        ensures added { (front closed : List Parts) (version : Parts) (bytes : List ℕ)
+            → versions.old.items ≡ front ++ version ∷ []
+            → IsSlotOf self.old.next bytes → IsOpen self.old front closed
+            → IsOpen self.new versions.new.items (closed ++ with_digest version (sha256 bytes) ∷ []) }
+    {
+        self.shift();
+        if self.used == 4 {
+            self.settle(versions);
+        }
+    }
+
+    /// Sets the digests of the last versions that are still open.
+    pub(crate) fn finish(&mut self, versions: &mut Vec<Version>)
+        requires { HasRoom self.old versions.old.items }
+        ensures { (closed : List Parts) → IsOpen self.old versions.old.items closed
+            → versions.new.items ≡ closed }
+    {
+        self.next.clear();
+        self.settle(versions);
+    }
+
+    fn shift(&mut self)
+        requires { self.old.used < 4 }
+        ensures used { self.new.used ≡ self.old.used + 1 }
+        ensures slots { open_slots self.new ≡ open_slots self.old ++ self.old.next ∷ [] }
+    {
+        match self.used {
+            0 => mem::swap(&mut self.first, &mut self.next),
+            1 => mem::swap(&mut self.second, &mut self.next),
+            2 => mem::swap(&mut self.third, &mut self.next),
+            _ => (),
+        }
+        self.used += 1;
+    }
+
+    fn settle(&mut self, versions: &mut Vec<Version>)
+        requires few { self.old.used ≤ 4 }
+        requires there { self.old.used ≤ length versions.old.items }
+        ensures used { self.new.used ≡ 0 }
+        ensures settled { (closed : List Parts) → IsOpen self.old versions.old.items closed
+            → versions.new.items ≡ closed }
+    {
+        let (a, b, c, d) = digest_slots(&self.first, &self.second, &self.third, &self.next);
+        let digests = [a, b, c, d];
+        let first = versions.len() - self.used;
+        for at in 0..self.used {
+            versions[first + at].set_digest(digests[at]);
+        }
+        self.empty();
+    }
+
+    fn empty(&mut self)
+        ensures { self.new.used ≡ 0 }
+    {
+        self.first.clear();
+        self.second.clear();
+        self.third.clear();
+        self.next.clear();
+        self.used = 0;
+    }
+}
