@@ -1,14 +1,13 @@
--- What is found of an IMAGE record whose file is no DICOM file, by the fault of reading it.
-use Rattle.std.proofs.Common.{◌≡◌, ◌∙◌, inl, ℕ, ◌+◌, ◌≤◌, false, List, ◌∷◌, Option, None, Some, Result, Ok, Err}
-use Rattle.std.proofs.Common.{refl, sym, ap, subst}
-use Rattle.std.specs.Prelude.{◌↔◌, IfOk, IsErr, OnErr, is_some}
+-- What is found of an IMAGE record, by the digest of its file and by what reading the file gives.
+use Rattle.std.proofs.Common.{◌≡◌, ◌∙◌, inl, ℕ, Bool, List, ◌∷◌, Option, None, Some, Result, Ok, Err, sym, ap, subst}
+use Rattle.std.specs.Prelude.{IfOk, OnErr}
 use Rattle.std.specs.Option.{option_or}
-use Rattle.std.specs.Io.KnownBytes.{Consumes}
 use Rattle.sha2.specs.Sha256.{sha256}
 use Rattle.dd_elem.specs.Device.{Gives}
 use Rattle.dd_elem.specs.declared.device.Read.{Ghosts as ReadOf}
 use Rattle.dd_elem.specs.declared.tag.Tag.{Tag}
 use Rattle.dd_grammar.specs.declared.fault.SetFault.TheVariants.{Memory}
+use Rattle.dd_keys.specs.Kept.{IsKept}
 use Rattle.dd_part10.specs.declared.fault.FileFault.{FileFault}
 use Rattle.dd_part10.specs.declared.fault.FileFault.TheVariants as faults
 use Rattle.dd_part10.specs.declared.scanned.Scanned.{Scanned}
@@ -18,85 +17,79 @@ use Rattle.dd_part10.specs.Faults.{SaysMemory}
 use Rattle.dd_part10.specs.Memory.{IsRefused}
 use Rattle.dd_part10.specs.Reading.{FileParts, file_in}
 use Rattle.dd_part10.specs.Streaming.{IsFileAnswer}
+use Rattle.dd_slots.specs.Slots.{IsSlotOf}
+use Rattle.dd_slots.specs.declared.slot.Slot.{Slot}
+use Rattle.dd_stream.specs.Reads.{ReadsUpTo}
 use Rattle.dd_dir.specs.Saying.{digest_in}
 use Rattle.dd_dir.specs.Trees.{Node}
 use Rattle.dd_report.specs.declared.agreements.Inherited.{Inherited}
 use Rattle.dd_report.specs.declared.findings.Finding.{Finding}
+use Rattle.dd_report.specs.declared.findings.Judgement.{Judgement}
 use Rattle.dd_report.specs.Agreements.{IsInherited, by_keys, compared_tags, mislabelled, standing_below}
-use Rattle.dd_report.specs.Finding.{FindsBy, by_digest, compared}
+use Rattle.dd_report.specs.Batches.{judged}
+use Rattle.dd_report.specs.Finding.{FindsBy, by_digest, compared, without_digest}
 
 -- a fault that does not say memory is the answer of reading the file
-refused : (wanted : List Tag) (e : FileFault) (given : List ℕ) → IsRefused wanted e given → (SaysMemory e → ⊥)
+pub refused : (wanted : List Tag) (e : FileFault) (given : List ℕ) → IsRefused wanted e given → (SaysMemory e → ⊥)
     → file_in given ≡ Err e
 refused wanted (faults.Meta Memory) given h silent = absurd (silent tt)
 refused wanted (faults.Set Memory) given h silent = absurd (silent tt)
 refused wanted e given h silent = h
 
-no_finding : (finding : Option Finding) → is_some finding ≡ false → finding ≡ None
-no_finding None is = refl
-no_finding (Some finding) is = absurd (cc)
+-- by the digest and by keys, and whether its record has a digest
+abbrev pub by_keys_of : Bool → Node → List Node → List ℕ → Option Finding
+by_keys_of strict node above given = option_or (by_keys (standing_below above node) given) (without_digest strict node)
 
--- the digest does not differ, and the bytes are no DICOM file
-by_fault : (node : Node) (above : List Node) (given digest : List ℕ) (fault : FileFault)
-    (differs finding : Option Finding) → digest ≡ sha256 given → differs ≡ compared (digest_in node.set) digest
-    → differs ≡ None
-    → file_in given ≡ Err fault → finding ≡ mislabelled (standing_below above node) (Err fault)
-    → finding ≡ by_keys (standing_below above node) given
-by_fault node above given digest fault differs finding digested is same read found =
-    let agrees : compared (digest_in node.set) (sha256 given) ≡ None =
-    ap (λ (d : List ℕ). compared (digest_in node.set) d) (sym digested) ∙ sym is ∙ same in
-    found ∙ ap (λ (r : Result FileParts FileFault). mislabelled (standing_below above node) r) (sym read)
-    ∙ ap (λ (o : Option Finding). option_or o (mislabelled (standing_below above node) (file_in given))) (sym agrees)
+module _ (strict : Bool) (node : Node) (above : List Node) (given : List ℕ) where
+  -- by what reading the file gives
+  pub by_wrong : (read : Result FileParts FileFault) (finding wrong : Option Finding) → file_in given ≡ read
+      → wrong ≡ mislabelled (standing_below above node) read
+      → finding ≡ option_or (option_or (by_digest node given) wrong) (without_digest strict node)
+      → finding ≡ by_keys_of strict node above given
+  by_wrong read finding wrong gives is found =
+      found ∙ ap (λ (o : Option Finding). option_or (option_or (by_digest node given) o) (without_digest strict node))
+      (is ∙ ap (λ (r : Result FileParts FileFault). mislabelled (standing_below above node) r) (sym gives))
 
-pub on_err : {T E : Type 0} (r : Result T E) (P : Type 0) → (IsErr r → P) → OnErr r P
-on_err (Ok value) P h = tt
-on_err (Err fault) P h = h refl
+  -- by the digest, which differs
+  pub by_differs : (digest : List ℕ) (differs : Option Finding) (finding : Finding) → digest ≡ sha256 given
+      → differs ≡ compared (digest_in node.set) digest → differs ≡ Some finding
+      → Some finding ≡ by_keys_of strict node above given
+  by_differs digest differs finding right is some =
+      ap (λ (o : Option Finding). option_or (option_or o (mislabelled (standing_below above node) (file_in given)))
+      (without_digest strict node))
+      (sym some ∙ is ∙ ap (λ (d : List ℕ). compared (digest_in node.set) d) right)
 
--- where memory ran out, the digest does not differ and memory is wanted
-pub fault_wants : {E : Type 0} (r : Result (Option Finding) E) (given digest : List ℕ) (node : Node) (fault : FileFault)
-    (answer : Result Scanned StreamFault) (differs : Option Finding) (limit : ℕ) (left : Option (List ℕ)) (old new : ℕ)
-    → IsErr r → (IsErr r ↔ SaysMemory fault) → answer ≡ Err (File fault)
-    → IsFileAnswer answer compared_tags limit given left old new → digest ≡ sha256 given
-    → differs ≡ compared (digest_in node.set) digest → is_some differs ≡ false
-    → (by_digest node given ≡ None) × SaysMemory fault × IsRefused compared_tags fault given
-fault_wants r given digest node fault answer differs limit left old new err memory is answers digested differing same =
-    let P : Result Scanned StreamFault → Type 0 = λ a. IsFileAnswer a compared_tags limit given left old new in
-    let h = subst P is answers in (
-      ap (λ (d : List ℕ). compared (digest_in node.set) d) (sym digested) ∙ sym differing ∙ no_finding differs same,
-      memory.0 err,
-      h.1,
-    )
+module _ {R : Type 0} (readers : ReadOf R) (limit : ℕ) (old new : R) (slot : Slot) (answer : Result Scanned StreamFault)
+    (fault : FileFault) (is : answer ≡ Err (File fault))
+    (read : ReadsUpTo readers limit old new (IsKept answer slot compared_tags limit)) where
+  abbrev Answer : Result Scanned StreamFault → Type 0
+  Answer a =
+      IsFileAnswer a compared_tags limit read.given (readers.remaining new) (readers.failures old)
+      (readers.failures new)
 
-module _ {R : Type 0} (readers : ReadOf R) (limit : ℕ) where
-  -- what is found of such a record
-  pub fault_found : {E : Type 0} (r : Result (Option Finding) E) (said : Inherited) (node : Node) (fault : FileFault)
-      (answer : Result Scanned StreamFault) (digest : List ℕ) (differs : Option Finding) (old new : R)
-      → IfOk r (λ finding. (above : List Node) → finding ≡ mislabelled (standing_below above node) (Err fault))
-      → (IsErr r ↔ SaysMemory fault) → answer ≡ Err (File fault) → differs ≡ compared (digest_in node.set) digest
-      → is_some differs ≡ false
-      → (given : List ℕ) → Gives readers.has_given old new given
-      → Consumes (readers.remaining old) (readers.remaining new) given
-      → IsFileAnswer answer compared_tags limit given (readers.remaining new) (readers.failures old)
-      (readers.failures new) → digest ≡ sha256 given → readers.calls new ≤ readers.calls old + limit + 1
-      → IfOk r (λ finding. (above : List Node) → IsInherited said (node ∷ above)
-      → FindsBy readers limit (by_keys (standing_below above node)) finding old new)
-  fault_found (Err e) said node fault answer digest differs old new found memory is differing same given gave known
-      answers digested reads = tt
-  fault_found (Ok finding) said node fault answer digest differs old new found memory is differing same given gave known
-      answers digested reads = λ above inherits.
-      let P : Result Scanned StreamFault → Type 0 =
-      λ a. IsFileAnswer a compared_tags limit given (readers.remaining new) (readers.failures old)
-      (readers.failures new) in
-      let h = subst P is answers in
-      let read = refused compared_tags fault given h.1 (λ says. let e = memory.1 says in absurd (cc)) in
+  -- what is found of a file that is no DICOM file
+  pub no_file_found : {E : Type 0} (r : Result Judgement E) (said : Inherited) (strict : Bool) (node : Node)
+      → IfOk r (λ judgement. (above : List Node) (given : List ℕ) → IsSlotOf slot given
+      → IsRefused compared_tags fault given → judged judgement slot ≡ by_keys_of strict node above given)
+      → IfOk r (λ judgement. (above : List Node) → IsInherited said (node ∷ above)
+      → FindsBy readers limit (λ (given : List ℕ). by_keys_of strict node above given) (judged judgement slot) old new)
+  no_file_found (Ok judgement) said strict node found = λ above inherits.
+      let h = subst (λ (a : Result Scanned StreamFault). Answer a) is read.answered.file in
       record {
-        given = given;
-        gave = gave;
-        known = known;
-        few = reads;
-        answered = inl (
-          by_fault node above given digest fault differs finding digested differing (no_finding differs same) read
-              (found above),
-          h.0,
-        );
+        given = read.given;
+        gave = read.gave;
+        known = read.known;
+        few = read.few;
+        answered = inl (found above read.given read.answered.kept h.1, h.0);
       }
+  no_file_found (Err e) said strict node found = tt
+
+  -- where memory ran out, the digest does not differ and memory is wanted
+  pub no_file_wants : {T E : Type 0} (r : Result T E) (node : Node)
+      → OnErr r (SaysMemory fault × ((given : List ℕ) → IsSlotOf slot given → by_digest node given ≡ None))
+      → OnErr r ((given : List ℕ) × (wants : FileFault) × Gives readers.has_given old new given
+      × (by_digest node given ≡ None) × SaysMemory wants × IsRefused compared_tags wants given)
+  no_file_wants (Ok done) node wants = tt
+  no_file_wants (Err e) node wants =
+      let h = subst (λ (a : Result Scanned StreamFault). Answer a) is read.answered.file in
+      (read.given, fault, read.gave, wants.1 read.given read.answered.kept, wants.0, h.1)

@@ -1,12 +1,13 @@
 mod Agreeing
+mod Batching
 pub mod FirstPlaces
 mod FoundValues
 mod GoingOn
 mod HexDigits
+mod Judging
 mod KeyFindings
 mod ListedLines
 pub mod Masking
-mod NoDigests
 mod RecordLines
 mod SentTexts
 mod TextLemmas

@@ -20,7 +20,7 @@ use Rattle.dd_files.specs.Files.{Held}
 use Rattle.dd_files.specs.Paths.{IsPathIn, id_path}
 use Rattle.dd_files.proofs.FilePaths.{id_ascii}
 use Rattle.dd_report.specs.Checking.{Checks, ChecksAll, FindsFile, FindsRead, TellsAll, TellsFirst}
-use Rattle.dd_report.specs.Checking.{TellsSome, TellsWalk, end_line, finding_line, finding_parts, is_right}
+use Rattle.dd_report.specs.Checking.{TellsSome, TellsWalk, end_line, file_line, finding_line, finding_parts, is_right}
 use Rattle.dd_report.specs.Checking.{most_read}
 use Rattle.dd_report.specs.declared.checking.Comparison.{Comparison}
 use Rattle.dd_report.specs.declared.checking.CheckFault.{CheckFault}
@@ -32,26 +32,12 @@ use Rattle.dd_report.specs.Agreements.{standings_below}
 use Rattle.dd_report.specs.Finding.{FindsBy, IsFound, NamesFile, file_in}
 use Rattle.dd_report.specs.Telling.{Fails, GoesOn, Way, shown}
 use Rattle.dd_report.specs.Text.{FailsAmid, TakesAll}
-use Rattle.dd_report.proofs.GoingOn.{all_goes, fails_next, fails_of_none, goes_none, goes_then, none_goes}
+use Rattle.dd_report.specs.Batches.{Closes, Grows, Report, Reports}
+use Rattle.dd_report.proofs.Batching.{grows_none, grows_then, not_empty}
+use Rattle.dd_report.proofs.GoingOn.{all_goes, fails_next, fails_of_none, goes_then, none_goes}
 use Rattle.dd_report.proofs.GoingOn.{one_more, parted}
 
 -- ---- nothing is printed only where nothing is found
-
-either : (one two : List ℕ) → not (is_empty (one ++ two)) ≡ (not (is_empty one) || not (is_empty two))
-either [] two = refl
-either (byte ∷ one) two = refl
-
-found_in_both : (one two : List ℕ) (here below found : Bool) → here ≡ not (is_empty one)
-    → below ≡ not (is_empty two) → found ≡ (here || below) → found ≡ not (is_empty (one ++ two))
-found_in_both one two here below found first second both =
-    both ∙ ap (λ (b : Bool). b || below) first ∙ ap (λ (b : Bool). not (is_empty one) || b) second
-    ∙ sym (either one two)
-
-pub or_comm : (a b : Bool) → (a || b) ≡ (b || a)
-or_comm true true = refl
-or_comm true false = refl
-or_comm false true = refl
-or_comm false false = refl
 
 both_not : (a b : Bool) → (not a || not b) ≡ not (a && b)
 both_not true b = refl
@@ -68,12 +54,18 @@ some_unreached zero = refl
 some_unreached (suc n) = search (arith)
 
 -- a line of a finding is not empty
-not_empty : (text : List ℕ) → true ≡ not (is_empty (text ++ 10 ∷ []))
-not_empty [] = refl
-not_empty (byte ∷ text) = refl
+pub some_line : (node : Node) (finding : Finding) → true ≡ not (is_empty (finding_line node (Some finding)))
+some_line node finding = not_empty (shown (concat (finding_parts node.at (file_in node) finding)))
 
-some_line : (node : Node) (finding : Finding) → true ≡ not (is_empty (finding_line node (Some finding)))
-some_line node finding = not_empty (shown (concat (finding_parts node finding)))
+at_same : (t : Tree) → (out-Tree t).at ≡ (tree_view t).node.at
+at_same t = search (rules, the_lemmas)
+
+-- the line of a finding, by what the record of a tree says
+pub tree_line : (t : Tree) (file : List ℕ) (finding : Option Finding) → file ≡ file_in (tree_view t).node
+    → file_line (out-Tree t).at file finding ≡ finding_line (tree_view t).node finding
+tree_line t file finding is =
+    ap (λ (at : ℕ). file_line at file finding) (at_same t)
+    ∙ ap (λ (name : List ℕ). file_line (tree_view t).node.at name finding) is
 
 -- ---- the records of trees
 
@@ -150,19 +142,19 @@ module _ {R : Type 0} (readers : ReadOf R) (held : Option Held) (folder : List �
       }
 
   -- the same of what is found wherever the record stands
-  pub file_found : {E : Type 0} (r : Result (Option Finding) E) (said : Inherited) (opened path file : List ℕ)
+  pub file_found : {A E : Type 0} (r : Result A E) (sense : A → Option Finding) (said : Inherited) (opened path file : List ℕ)
       (node : Node) (fresh left : R) (old new : ℕ)
       → file ≡ file_in node → NamesFile node → IsFileId (file_in node) → opened ≡ path
       → (All (λ (byte : ℕ). byte < 128) file → IsPathIn folder (id_path file) path)
       → IfSome held (λ files. IsSome (files.bytes_at opened) × (readers.remaining fresh ≡ files.bytes_at opened))
       → ((past : readers.Past) → readers.has_given fresh past []) → readers.calls fresh ≡ 0
       → readers.failures fresh ≡ 0 → HasWorked old new
-      → IfOk r (λ finding. (above : List Node) → IsInherited said (node ∷ above)
-      → FindsBy readers most_read (found_in comparison (standing_below above node)) finding
+      → IfOk r (λ judged. (above : List Node) → IsInherited said (node ∷ above)
+      → FindsBy readers most_read (found_in comparison (standing_below above node)) (sense judged)
       fresh left)
-      → IfOk r (λ finding. (above : List Node) → IsInherited said (node ∷ above)
-      → FindsFile readers held folder comparison (standing_below above node) old new finding)
-  file_found (Ok finding) said opened path file node fresh left old new is names id at place there first unread none
+      → IfOk r (λ judged. (above : List Node) → IsInherited said (node ∷ above)
+      → FindsFile readers held folder comparison (standing_below above node) old new (sense judged))
+  file_found (Ok judged) sense said opened path file node fresh left old new is names id at place there first unread none
       worked finds = λ above inherits. record {
         unnamed = λ unnamed. absurd (unnamed names);
         misnamed = λ _ bad. absurd (bad id);
@@ -170,11 +162,11 @@ module _ {R : Type 0} (readers : ReadOf R) (held : Option Held) (folder : List �
             let by = finds above inherits in
             inr (
               worked,
-              read_found opened path file by.given (standing_below above node) finding fresh left is id at place there
-                  first unread none by.gave by.known by.few by.answered,
+              read_found opened path file by.given (standing_below above node) (sense judged) fresh left is id at place
+                  there first unread none by.gave by.known by.few by.answered,
             );
       }
-  file_found (Err fault) said opened path file node fresh left old new is names id at place there first unread none
+  file_found (Err fault) sense said opened path file node fresh left old new is names id at place there first unread none
       worked finds = tt
 
   -- ---- records
@@ -187,6 +179,9 @@ module _ {R : Type 0} (readers : ReadOf R) (held : Option Held) (folder : List �
 
   abbrev Checked : List Standing → Result Bool CheckFault → ℕ → ℕ → Way → Way → Type 0
   Checked = Checks readers held folder comparison
+
+  abbrev Reported : {T : Type 0} → List Standing → Result T CheckFault → ℕ → ℕ → Report → Report → Type 0
+  Reported all r f g a b = Reports readers held folder comparison all r f g a b
 
   -- those of both lists
   both_told : (xs ys : List Standing) (f g h : ℕ) (one two : List ℕ) → Told xs f g one → Told ys g h two
@@ -221,13 +216,17 @@ module _ {R : Type 0} (readers : ReadOf R) (held : Option Held) (folder : List �
     told = first.told;
   }
 
-  pub none_told : (n : ℕ) (w : Way) → Checked [] (Ok false) n n w w
-  none_told n w = ([], (refl, refl), refl, goes_none w)
+  pub none_told : {T : Type 0} (done : T) (n : ℕ) (w : Report) → Reported [] (Ok done) n n w w
+  none_told done n w = ([], (refl, refl), grows_none w)
 
   -- memory ran out before anything was found of a record's file
-  pub record_cut : (standing : Standing) (f g : ℕ) (a : Way) → g ≡ f → Checked (standing ∷ []) (Err Memory) f g a a
-  record_cut standing f g a same =
-      ([], record { first = []; others = standing ∷ []; parts = refl; told = (same, refl) }, goes_none a)
+  pub record_cut : (T : Type 0) (standing : Standing) (f g : ℕ) (a b : Report) → g ≡ f → b ≡ a
+      → Reported {T = T} (standing ∷ []) (Err Memory) f g a b
+  record_cut T standing f g a b same still = (
+    [],
+    record { first = []; others = standing ∷ []; parts = refl; told = (same, refl) },
+    subst (λ (w : Report). Grows [] a w) (sym still) (grows_none a),
+  )
 
   one_told : (standing : Standing) (f g : ℕ) (finding : Option Finding)
       → FindsFile readers held folder comparison standing f g finding
@@ -241,113 +240,96 @@ module _ {R : Type 0} (readers : ReadOf R) (held : Option Held) (folder : List �
     (refl, refl),
   )
 
-  pub record_quiet : (standing : Standing) (f g : ℕ) (finding : Option Finding) (w : Way) → finding ≡ None
-      → FindsFile readers held folder comparison standing f g finding
-      → Checked (standing ∷ []) (Ok false) f g w w
-  record_quiet standing f g finding w is finds = (
-    [],
-    subst (λ (text : List ℕ). Told (standing ∷ []) f g text) (ap (finding_line standing.node) is)
-        (one_told standing f g finding finds),
-    refl,
-    goes_none w,
+  pub record_told : {T : Type 0} (done : T) (standing : Standing) (f g : ℕ) (finding : Option Finding)
+      (start a b : Report) → a ≡ start → FindsFile readers held folder comparison standing f g finding
+      → Grows (finding_line standing.node finding) a b → Reported (standing ∷ []) (Ok done) f g start b
+  record_told done standing f g finding start a b is finds grows = (
+    finding_line standing.node finding,
+    one_told standing f g finding finds,
+    subst (λ (w : Report). Grows (finding_line standing.node finding) w b) is grows,
   )
 
-  pub record_told : (standing : Standing) (f g : ℕ) (finding : Finding) (found : Option Finding) (a b : Way)
-      → found ≡ Some finding → FindsFile readers held folder comparison standing f g found
-      → GoesOn (finding_line standing.node (Some finding)) a b → Checked (standing ∷ []) (Ok true) f g a b
-  record_told standing f g finding found a b is finds goes = (
-    finding_line standing.node (Some finding),
-    subst (λ (o : Option Finding). Told (standing ∷ []) f g (finding_line standing.node o)) is
-        (one_told standing f g found finds),
-    some_line standing.node finding,
-    goes,
+  pub record_unsent : (T : Type 0) (standing : Standing) (f g : ℕ) (finding : Option Finding)
+      (start a b : Report) → a ≡ start → FindsFile readers held folder comparison standing f g finding
+      → Fails (finding_line standing.node finding) a.course b.course
+      → Reported {T = T} (standing ∷ []) (Err Unsent) f g start b
+  record_unsent T standing f g finding start a b is finds failed = (
+    finding_line standing.node finding,
+    record { first = standing ∷ []; others = []; parts = refl; told = one_told standing f g finding finds },
+    subst (λ (w : Report). Fails (finding_line standing.node finding) w.course b.course) is failed,
   )
 
-  pub record_unsent : (standing : Standing) (f g : ℕ) (finding : Finding) (found : Option Finding) (a b : Way)
-      → found ≡ Some finding → FindsFile readers held folder comparison standing f g found
-      → Fails (finding_line standing.node (Some finding)) a b → Checked (standing ∷ []) (Err Unsent) f g a b
-  record_unsent standing f g finding found a b is finds failed = (
-    finding_line standing.node (Some finding),
-    record {
-      first = standing ∷ [];
-      others = [];
-      parts = refl;
-      told = subst (λ (o : Option Finding). Told (standing ∷ []) f g (finding_line standing.node o)) is
-          (one_told standing f g found finds);
-    },
-    failed,
-  )
-
-  -- what is printed of both lists
-  then_told : (xs ys : List Standing) (one two found : Bool) (f g h : ℕ) (a b c : Way) → found ≡ (one || two)
-      → Checked xs (Ok one) f g a b → Checked ys (Ok two) g h b c → Checked (xs ++ ys) (Ok found) f h a c
-  then_told xs ys one two found f g h a b c both first second = (
+  -- what is said of both lists
+  then_told : {T : Type 0} (xs ys : List Standing) (one two done : T) (f g h : ℕ) (a b c : Report)
+      → Reported xs (Ok one) f g a b → Reported ys (Ok two) g h b c → Reported (xs ++ ys) (Ok done) f h a c
+  then_told xs ys one two done f g h a b c first second = (
     first.0 ++ second.0,
     both_told xs ys f g h first.0 second.0 first.1 second.1,
-    found_in_both first.0 second.0 one two found first.2 second.2 both,
-    goes_then first.0 second.0 a b c first.3 second.3,
+    grows_then first.0 second.0 a b c first.2 second.2,
   )
 
   -- a fault in the next of them ends the check
-  ends_told : (xs ys zs all : List Standing) (fault : CheckFault) (found : Bool) (f g h : ℕ) (a b c : Way)
-      → all ≡ (xs ++ ys) ++ zs → Checked xs (Ok found) f g a b → Checked ys (Err fault) g h b c
-      → Checked all (Err fault) f h a c
-  ends_told xs ys zs all Memory found f g h a b c are first next =
-      let all : First ((xs ++ ys) ++ zs) f h (first.0 ++ next.0) =
+  ends_told : {T : Type 0} (xs ys zs all : List Standing) (fault : CheckFault) (done : T) (f g h : ℕ) (a b c : Report)
+      → all ≡ (xs ++ ys) ++ zs → Reported xs (Ok done) f g a b → Reported {T = T} ys (Err fault) g h b c
+      → Reported {T = T} all (Err fault) f h a c
+  ends_told xs ys zs all Memory done f g h a b c are first next =
+      let some : First ((xs ++ ys) ++ zs) f h (first.0 ++ next.0) =
       first_front (xs ++ ys) zs f h (first.0 ++ next.0)
       (first_after xs ys f g h first.0 next.0 first.1 next.1) in (
         first.0 ++ next.0,
-        subst (λ (ns : List Standing). First ns f h (first.0 ++ next.0)) (sym are) all,
-        goes_then first.0 next.0 a b c first.3 next.2,
+        subst (λ (ns : List Standing). First ns f h (first.0 ++ next.0)) (sym are) some,
+        grows_then first.0 next.0 a b c first.2 next.2,
       )
-  ends_told xs ys zs all Unsent found f g h a b c are first next =
-      let all : First ((xs ++ ys) ++ zs) f h (first.0 ++ next.0) =
+  ends_told xs ys zs all Unsent done f g h a b c are first next =
+      let some : First ((xs ++ ys) ++ zs) f h (first.0 ++ next.0) =
       first_front (xs ++ ys) zs f h (first.0 ++ next.0)
       (first_after xs ys f g h first.0 next.0 first.1 next.1) in (
         first.0 ++ next.0,
-        subst (λ (ns : List Standing). First ns f h (first.0 ++ next.0)) (sym are) all,
-        fails_next first.0 next.0 a b c first.3 next.2,
+        subst (λ (ns : List Standing). First ns f h (first.0 ++ next.0)) (sym are) some,
+        fails_next first.0 next.0 a.course b.course c.course first.2.goes next.2,
       )
 
   -- files that hold the same
-  abbrev CheckedOver : Option Held → List Standing → Result Bool CheckFault → ℕ → ℕ → Way → Way → Type 0
-  CheckedOver mid = Checks readers mid folder comparison
+  abbrev ReportedOver : {T : Type 0} → Option Held → List Standing → Result T CheckFault → ℕ → ℕ → Report → Report
+      → Type 0
+  ReportedOver mid all r f g a b = Reports readers mid folder comparison all r f g a b
 
-  over : (mid : Option Held) (all : List Standing) (r : Result Bool CheckFault) (f g : ℕ) (a b : Way) → mid ≡ held
-      → CheckedOver mid all r f g a b → Checked all r f g a b
-  over mid all r f g a b same checks = subst (λ (h : Option Held). CheckedOver h all r f g a b) same checks
+  over : {T : Type 0} (mid : Option Held) (all : List Standing) (r : Result T CheckFault) (f g : ℕ) (a b : Report)
+      → mid ≡ held → ReportedOver mid all r f g a b → Reported all r f g a b
+  over mid all r f g a b same reports =
+      subst (λ (h : Option Held). Reports readers h folder comparison all r f g a b) same reports
 
   -- ---- trees
 
-  pub more_told : (above : List Node) (mid : Option Held) (trees : List Tree) (i : ℕ) (t : Tree)
-      (one found new : Bool) (f g h : ℕ) (a b c : Way) → i < length trees → t ≡ get_or trees i t → mid ≡ held
-      → new ≡ (one || found)
-      → Checked (standings_below above (trees_view (take i trees))) (Ok found) f g a b
-      → CheckedOver mid (tree_standings above t) (Ok one) g h b c
-      → Checked (standings_below above (trees_view (take (i + 1) trees))) (Ok new) f h a c
-  more_told above mid trees i t one found new f g h a b c within is same both so_far next =
-      subst (λ (ns : List Standing). Checked ns (Ok new) f h a c) (sym (one_tree_more above trees i t within is))
-      (then_told (standings_below above (trees_view (take i trees))) (tree_standings above t) found one new f g h a b c
-      (both ∙ or_comm one found) so_far (over mid (tree_standings above t) (Ok one) g h b c same next))
+  pub more_told : {T : Type 0} (above : List Node) (mid : Option Held) (trees : List Tree) (i : ℕ) (t : Tree)
+      (one so_far done : T) (f g h : ℕ) (a b c : Report) → i < length trees → t ≡ get_or trees i t → mid ≡ held
+      → Reported (standings_below above (trees_view (take i trees))) (Ok so_far) f g a b
+      → ReportedOver mid (tree_standings above t) (Ok one) g h b c
+      → Reported (standings_below above (trees_view (take (i + 1) trees))) (Ok done) f h a c
+  more_told above mid trees i t one so_far done f g h a b c within is same first next =
+      subst (λ (ns : List Standing). Reported ns (Ok done) f h a c) (sym (one_tree_more above trees i t within is))
+      (then_told (standings_below above (trees_view (take i trees))) (tree_standings above t) so_far one done f g h a b c
+      first (over mid (tree_standings above t) (Ok one) g h b c same next))
 
-  pub all_told : (above : List Node) (trees : List Tree) (i : ℕ) (found : Bool) (f g : ℕ) (a b : Way)
-      → length trees ≤ i → Checked (standings_below above (trees_view (take i trees))) (Ok found) f g a b
-      → Checked (standings_below above (trees_view trees)) (Ok found) f g a b
-  all_told above trees i found f g a b past so_far =
-      subst (λ (ts : List Tree). Checked (standings_below above (trees_view ts)) (Ok found) f g a b)
-      (take_all i trees past) so_far
+  pub all_told : {T : Type 0} (above : List Node) (trees : List Tree) (i : ℕ) (so_far done : T) (f g : ℕ) (a b : Report)
+      → length trees ≤ i → Reported (standings_below above (trees_view (take i trees))) (Ok so_far) f g a b
+      → Reported (standings_below above (trees_view trees)) (Ok done) f g a b
+  all_told above trees i so_far done f g a b past first =
+      subst (λ (ts : List Tree). Reported (standings_below above (trees_view ts)) (Ok done) f g a b)
+      (take_all i trees past) first
 
-  pub trees_end : (above : List Node) (mid : Option Held) (trees : List Tree) (i : ℕ) (t : Tree)
-      (r one : Result Bool CheckFault) (fault : CheckFault) (found : Bool) (f g h : ℕ) (a b c : Way) → i < length trees
+  pub trees_end : {T : Type 0} (above : List Node) (mid : Option Held) (trees : List Tree) (i : ℕ) (t : Tree)
+      (r one : Result T CheckFault) (fault : CheckFault) (so_far : T) (f g h : ℕ) (a b c : Report) → i < length trees
       → t ≡ get_or trees i t → mid ≡ held → r ≡ Err fault → one ≡ Err fault
-      → Checked (standings_below above (trees_view (take i trees))) (Ok found) f g a b
-      → CheckedOver mid (tree_standings above t) one g h b c
-      → Checked (standings_below above (trees_view trees)) r f h a c
-  trees_end above mid trees i t r one fault found f g h a b c within is same ends was so_far next =
-      rw ends (ends_told (standings_below above (trees_view (take i trees))) (tree_standings above t)
-      (flat_map (tree_standings above) (drop (i + 1) trees)) (standings_below above (trees_view trees)) fault found
-      f g h a b c (trees_parted above trees i t within is) so_far
-      (subst (λ (x : Result Bool CheckFault). Checked (tree_standings above t) x g h b c) was
+      → Reported (standings_below above (trees_view (take i trees))) (Ok so_far) f g a b
+      → ReportedOver mid (tree_standings above t) one g h b c
+      → Reported (standings_below above (trees_view trees)) r f h a c
+  trees_end above mid trees i t r one fault so_far f g h a b c within is same ends was first next =
+      subst (λ (x : Result _ CheckFault). Reported (standings_below above (trees_view trees)) x f h a c) (sym ends)
+      (ends_told (standings_below above (trees_view (take i trees))) (tree_standings above t)
+      (flat_map (tree_standings above) (drop (i + 1) trees)) (standings_below above (trees_view trees)) fault so_far
+      f g h a b c (trees_parted above trees i t within is) first
+      (subst (λ (x : Result _ CheckFault). Reported (tree_standings above t) x g h b c) was
       (over mid (tree_standings above t) one g h b c same next)))
 
   -- a record alone, and those below it
@@ -357,35 +339,81 @@ module _ {R : Type 0} (readers : ReadOf R) (held : Option Held) (folder : List �
   abbrev lower : List Node → Tree → Trees → List Standing
   lower above t trees = standings_below ((tree_view t).node ∷ above) trees
 
-  pub branch_told : (above : List Node) (mid : Option Held) (t : Tree) (trees : List Tree) (here below found : Bool)
-      (f g h : ℕ) (a b c : Way) → mid ≡ held → trees ≡ (out-Tree t).below.items → found ≡ (here || below)
-      → Checked (alone above t) (Ok here) f g a b
-      → CheckedOver mid (lower above t (trees_view trees)) (Ok below) g h b c
-      → Checked (tree_standings above t) (Ok found) f h a c
-  branch_told above mid t trees here below found f g h a b c same is both first rest =
-      then_told (alone above t) (lower above t (tree_view t).below) here below found f g h a b c both first
-      (subst (λ (ts : Trees). Checked (lower above t ts) (Ok below) g h b c) (ap trees_view is ∙ sym (below_is t))
-      (over mid (lower above t (trees_view trees)) (Ok below) g h b c same rest))
+  both_branches : {T : Type 0} (above : List Node) (t : Tree) (here : T) (r : Result T CheckFault) (f g h : ℕ)
+      (a b c : Report) → Reported (alone above t) (Ok here) f g a b
+      → Reported (lower above t (tree_view t).below) r g h b c → Reported (tree_standings above t) r f h a c
+  both_branches above t here (Ok done) f g h a b c first rest =
+      then_told (alone above t) (lower above t (tree_view t).below) here done done f g h a b c first rest
+  both_branches above t here (Err fault) f g h a b c first rest =
+      ends_told (alone above t) (lower above t (tree_view t).below) [] (tree_standings above t) fault here
+      f g h a b c (sym (append-nil (tree_standings above t))) first rest
 
-  pub branch_ends : (above : List Node) (mid : Option Held) (t : Tree) (trees : List Tree)
-      (r one : Result Bool CheckFault) (fault : CheckFault) (here : Bool) (f g h : ℕ) (a b c : Way) → mid ≡ held
-      → trees ≡ (out-Tree t).below.items → r ≡ Err fault → one ≡ Err fault
-      → Checked (alone above t) (Ok here) f g a b → CheckedOver mid (lower above t (trees_view trees)) one g h b c
-      → Checked (tree_standings above t) r f h a c
-  branch_ends above mid t trees r one fault here f g h a b c same is ends was first rest =
-      rw ends (ends_told (alone above t) (lower above t (tree_view t).below) [] (tree_standings above t) fault here
-      f g h a b c (sym (append-nil (tree_standings above t))) first
-      (subst (λ (ts : Trees). Checked (lower above t ts) (Err fault) g h b c) (ap trees_view is ∙ sym (below_is t))
-      (subst (λ (x : Result Bool CheckFault). Checked (lower above t (trees_view trees)) x g h b c) was
-      (over mid (lower above t (trees_view trees)) one g h b c same rest))))
+  pub branch_told : {T : Type 0} (above : List Node) (mid : Option Held) (t : Tree) (trees : List Tree) (here : T)
+      (r : Result T CheckFault) (f g h : ℕ) (a b c : Report) → mid ≡ held → trees ≡ (out-Tree t).below.items
+      → Reported (alone above t) (Ok here) f g a b
+      → ReportedOver mid (lower above t (trees_view trees)) r g h b c
+      → Reported (tree_standings above t) r f h a c
+  branch_told above mid t trees here r f g h a b c same is first rest =
+      both_branches above t here r f g h a b c first
+      (subst (λ (ts : Trees). Reported (lower above t ts) r g h b c) (ap trees_view is ∙ sym (below_is t))
+      (over mid (lower above t (trees_view trees)) r g h b c same rest))
 
-  pub record_ends : (above : List Node) (t : Tree) (r one : Result Bool CheckFault) (fault : CheckFault) (f g : ℕ)
-      (a b : Way) → r ≡ Err fault → one ≡ Err fault → Checked (alone above t) one f g a b
-      → Checked (tree_standings above t) r f g a b
-  record_ends above t r one fault f g a b ends was first =
-      rw ends (ends_told [] (alone above t) (lower above t (tree_view t).below) (tree_standings above t) fault false
-      f f g a a b refl (none_told f a)
-      (subst (λ (x : Result Bool CheckFault). Checked (alone above t) x f g a b) was first))
+  pub record_ends : {T : Type 0} (done : T) (above : List Node) (t : Tree) (r one : Result T CheckFault)
+      (fault : CheckFault) (f g : ℕ) (a b : Report) → r ≡ Err fault → one ≡ Err fault
+      → Reported (alone above t) one f g a b → Reported (tree_standings above t) r f g a b
+  record_ends done above t r one fault f g a b ends was first =
+      subst (λ (x : Result _ CheckFault). Reported (tree_standings above t) x f g a b) (sym ends)
+      (ends_told [] (alone above t) (lower above t (tree_view t).below) (tree_standings above t) fault done
+      f f g a a b refl (none_told done f a)
+      (subst (λ (x : Result _ CheckFault). Reported (alone above t) x f g a b) was first))
+
+  -- ---- all records
+
+  no_more : (text : List ℕ) (a b c : Way) → GoesOn text a b → GoesOn [] b c → GoesOn text a c
+  no_more text a b c first second =
+      subst (λ (all : List ℕ). GoesOn all a c) (append-nil text) (goes_then text [] a b c first second)
+
+  fails_after_all : (text : List ℕ) (a b c : Way) → GoesOn text a b → Fails [] b c → Fails text a c
+  fails_after_all text a b c first failed =
+      subst (λ (all : List ℕ). Fails all a c) (append-nil text) (fails_next text [] a b c first failed)
+
+  -- once the files that wait are spoken of too
+  closed : {T : Type 0} (all : List Standing) (r : Result T CheckFault) (answer : Result Bool CheckFault) (f g : ℕ)
+      (a b : Report) (c : Way) → a.found ≡ false → Reported all r f g a b → Closes r answer b c
+      → Checked all answer f g a.course c
+  closed all (Ok done) (Ok found) f g a b c none reports closes = (
+    reports.0,
+    reports.1,
+    closes.1 ∙ reports.2.found ∙ ap (λ (x : Bool). x || not (is_empty reports.0)) none,
+    no_more reports.0 a.course b.course c reports.2.goes closes.0,
+  )
+  closed all (Ok done) (Err Memory) f g a b c none reports closes = absurd closes
+  closed all (Ok done) (Err Unsent) f g a b c none reports closes = (
+    reports.0,
+    record { first = all; others = []; parts = sym (append-nil all); told = reports.1 },
+    fails_after_all reports.0 a.course b.course c reports.2.goes closes,
+  )
+  closed all (Err Memory) (Ok found) f g a b c none reports closes = absurd closes
+  closed all (Err Memory) (Err Memory) f g a b c none reports closes =
+      (reports.0, reports.1, no_more reports.0 a.course b.course c reports.2.goes closes)
+  closed all (Err Memory) (Err Unsent) f g a b c none reports closes =
+      (reports.0, reports.1, fails_after_all reports.0 a.course b.course c reports.2.goes closes)
+  closed all (Err Unsent) (Ok found) f g a b c none reports closes = absurd closes
+  closed all (Err Unsent) (Err Memory) f g a b c none reports closes = absurd closes
+  closed all (Err Unsent) (Err Unsent) f g a b c none reports closes = (
+    reports.0,
+    reports.1,
+    subst (λ (h : Option (List ℕ)). FailsAmid a.course.holds h a.course.failures c.failures (a.course.waits ++ reports.0))
+        (sym closes.0)
+        (subst (λ (n : ℕ). FailsAmid a.course.holds b.course.holds a.course.failures n (a.course.waits ++ reports.0))
+        (sym closes.1) reports.2),
+  )
+
+  pub all_closed : {T : Type 0} (all : List Standing) (r : Result T CheckFault) (answer : Result Bool CheckFault)
+      (f g : ℕ) (a b : Report) (start c : Way) → a.found ≡ false → a.course ≡ start → Reported all r f g a b
+      → Closes r answer b c → Checked all answer f g start c
+  all_closed all r answer f g a b start c none is reports closes =
+      subst (λ (w : Way). Checked all answer f g w c) is (closed all r answer f g a b c none reports closes)
 
   -- ---- a directory
 

@@ -30,19 +30,22 @@ abbrev pub differs_parts : List ℕ → List ℕ → List ℕ → List (List ℕ
 differs_parts file recorded found =
     codes "DIFFERS " ∷ file ∷ codes " " ∷ recorded ∷ codes " " ∷ found ∷ []
 
-abbrev pub finding_parts : Node → Finding → List (List ℕ)
-finding_parts node BadId = codes "BADID " ∷ decimal node.at ∷ []
-finding_parts node Missing = codes "MISSING " ∷ file_in node ∷ []
-finding_parts node Unreadable = codes "UNREADABLE " ∷ file_in node ∷ []
-finding_parts node (Differs recorded found) =
-    differs_parts (file_in node) (encode_lower recorded) (encode_lower found)
-finding_parts node (Mislabelled tag) = mislabelled_parts (file_in node) (text_of tag)
-finding_parts node (NoFile fault) = mislabelled_parts (file_in node) (codes "31 File " ++ file_words fault)
-finding_parts node NoDigest = codes "NODIGEST " ∷ file_in node ∷ []
+-- what is said of the file with this File ID, whose record stands at this offset
+abbrev pub finding_parts : ℕ → List ℕ → Finding → List (List ℕ)
+finding_parts at file BadId = codes "BADID " ∷ decimal at ∷ []
+finding_parts at file Missing = codes "MISSING " ∷ file ∷ []
+finding_parts at file Unreadable = codes "UNREADABLE " ∷ file ∷ []
+finding_parts at file (Differs recorded found) = differs_parts file (encode_lower recorded) (encode_lower found)
+finding_parts at file (Mislabelled tag) = mislabelled_parts file (text_of tag)
+finding_parts at file (NoFile fault) = mislabelled_parts file (codes "31 File " ++ file_words fault)
+finding_parts at file NoDigest = codes "NODIGEST " ∷ file ∷ []
+
+abbrev pub file_line : ℕ → List ℕ → Option Finding → List ℕ
+file_line at file None = []
+file_line at file (Some finding) = shown_line (finding_parts at file finding)
 
 abbrev pub finding_line : Node → Option Finding → List ℕ
-finding_line node None = []
-finding_line node (Some finding) = shown_line (finding_parts node finding)
+finding_line node finding = file_line node.at (file_in node) finding
 
 -- after the findings how many items no offset reaches, where there are some, and else that all is right, where
 -- nothing is found

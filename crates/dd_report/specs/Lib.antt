@@ -1,4 +1,5 @@
 pub mod Agreements
+pub mod Batches
 pub mod Checking
 pub mod Finding
 pub mod Listing

@@ -1,6 +1,6 @@
 //! Compares what a file says of itself with what the records of a directory say of it.
 ghost use Rattle.std.specs.Prelude.{◌≡◌, ◌↔◌, ◌∷◌, ℕ, List, [], Err, IfOk, IsErr, None, OnErr, find, map, true};
-ghost use Rattle.std.specs.Option.{option_copied};
+ghost use Rattle.std.specs.Option.{option_copied, option_or};
 ghost use Rattle.dd_elem.specs.Device.{Gives};
 ghost use Rattle.dd_encoding.specs.Elements.{Elements};
 ghost use Rattle.dd_grammar.specs.Lists.{same_tag};
@@ -17,16 +17,21 @@ ghost use Rattle.dd_dir.specs.Trees.{Node};
 ghost use Rattle.dd_report.specs.Agreements.{IsInherited, SumsUp, agree, agreement, agreements, by_keys, compared_tags};
 ghost use Rattle.dd_report.specs.Agreements.{first_wrong, mislabelled, nearest, patient_id, standing_below};
 ghost use Rattle.dd_report.specs.Agreements.{syntax_agreement};
-ghost use Rattle.dd_report.specs.Finding.{FindsBy, by_digest};
+ghost use Rattle.dd_slots.specs.Slots.{IsSlotOf};
+ghost use Rattle.dd_report.specs.Batches.{KeepsBytes, judged};
+ghost use Rattle.dd_report.specs.Checking.{most_read};
+ghost use Rattle.dd_report.specs.Finding.{FindsBy, by_digest, without_digest};
 
-use crate::findings::{Finding, digest_finding, value_in};
+use crate::checking::Check;
+use crate::findings::{Finding, Judgement, digest_finding, judge_whole, value_in};
 use dd_dir::{Tree, digest_in};
 use dd_elem::{Memory, Read, Tag, Uid, tags};
-use dd_keys::{Digested, read_digested};
+use dd_files::SOURCE_LIMIT;
+use dd_keys::read_kept;
 use dd_layout::table::{CLASS, INSTANCE, TRANSFER};
 use dd_part10::{self, FileFault, Scanned, StreamFault};
 use dd_scan::{Found, Summary};
-use std::alloc::Global;
+use dd_slots::Slot;
 
 /// The tags of a file's data set that are compared, rising.
 const COMPARED: [Tag; 5] = [
@@ -49,14 +54,12 @@ const FILE_INSTANCE: Tag = Tag {
     element: 0x0003,
 };
 
-/// The Patient ID in a record that this program writes, where that of the file is empty.
+/// The Patient ID that this program writes in a record where that of the file is empty.
 const NO_ID: &[u8] = b"NOID";
 
-/// The values that the records above a record say of it: for each element that of the nearest record that has
-/// it, and no bytes where no record has it.
+/// The values in the records above: for each element that of the nearest record that has it, else no bytes.
 #[derive(Clone, Copy)]
 pub(crate) struct Inherited<'a> {
-    /// Patient ID.
     pub patient_id: &'a [u8],
     /// Study Instance UID.
     pub study: &'a [u8],
@@ -65,7 +68,6 @@ pub(crate) struct Inherited<'a> {
 }
 
 impl<'a> Inherited<'a> {
-    /// Says nothing, as no record stands above a root.
     pub(crate) fn at_root() -> Inherited<'a>
         ensures { IsInherited result [] }
     {
@@ -89,7 +91,6 @@ impl<'a> Inherited<'a> {
     }
 }
 
-/// Gives the value that the record has at a tag, or the one from above where it has no such element.
 fn value_or<'a>(tree: &Tree<'a>, tag: Tag, above: &'a [u8]) -> &'a [u8]
     ensures { (nodes : List Node) → above.now ≡ nearest tag nodes
         → result.now ≡ nearest tag ((tree_view tree.now).node ∷ nodes) }
@@ -101,8 +102,7 @@ fn value_or<'a>(tree: &Tree<'a>, tag: Tag, above: &'a [u8]) -> &'a [u8]
     }
 }
 
-/// Gives the summary of the value at a tag of a data set in which these elements were found: that of no bytes
-/// where the set has no such element, or one that holds no bytes.
+/// Gives the summary of no bytes where the set has no such element, or one that holds no bytes.
 fn summary_at(found: &[Found], tag: Tag) -> Summary<'_>
     ensures { (set : Elements) → map found_hit found.now ≡ hits_of compared_tags set
         → is_wanted compared_tags tag ≡ true → SumsUp result (key_of tag set) }
@@ -113,7 +113,6 @@ fn summary_at(found: &[Found], tag: Tag) -> Summary<'_>
     }
 }
 
-/// Gives the summary of a Patient ID, with `NOID` for an empty one where this program has written the record.
 fn or_no_id(id: Summary<'_>, is_own: bool) -> Summary<'_>
     ensures { (value : List ℕ) → SumsUp id.entry value → SumsUp result (patient_id is_own value) }
 {
@@ -124,7 +123,6 @@ fn or_no_id(id: Summary<'_>, is_own: bool) -> Summary<'_>
     }
 }
 
-/// Do the values agree?
 fn agree(one: Summary<'_>, other: Summary<'_>) -> bool
     ensures { (value another : List ℕ) → SumsUp one.entry value → SumsUp other.entry another
         → result ≡ agree value another }
@@ -135,7 +133,6 @@ fn agree(one: Summary<'_>, other: Summary<'_>) -> bool
 /// A tag of a file, and whether the value there agrees with what the records say.
 type Agreement = (Tag, bool);
 
-/// Compares a UID of group 0002 with what the record says.
 fn uid_agreement(tag: Tag, uid: &Uid, recorded: &[u8]) -> Agreement
     ensures { result ≡ agreement tag uid.now recorded.now }
 {
@@ -143,7 +140,6 @@ fn uid_agreement(tag: Tag, uid: &Uid, recorded: &[u8]) -> Agreement
     (tag, agree(in_file, Summary::of(recorded)))
 }
 
-/// Compares the transfer syntax of a file with what the record says.
 fn syntax_agreement(tree: &Tree<'_>, transfer: &Uid) -> Agreement
     ensures { (above : List Node)
         → result ≡ syntax_agreement (standing_below above (tree_view tree.now).node) transfer.now }
@@ -151,7 +147,6 @@ fn syntax_agreement(tree: &Tree<'_>, transfer: &Uid) -> Agreement
     uid_agreement(dd_part10::TRANSFER, transfer, value_in(tree, TRANSFER.tag))
 }
 
-/// Compares a value of a data set in which these elements were found with what the records say.
 fn value_agreement(found: &[Found], tag: Tag, recorded: &[u8]) -> Agreement
     ensures { (set : Elements) → map found_hit found.now ≡ hits_of compared_tags set
         → is_wanted compared_tags tag ≡ true
@@ -161,7 +156,6 @@ fn value_agreement(found: &[Found], tag: Tag, recorded: &[u8]) -> Agreement
     (tag, agree(in_file, Summary::of(recorded)))
 }
 
-/// Compares the Patient ID of such a data set with what the records say.
 fn patient_agreement(found: &[Found], is_own: bool, recorded: &[u8]) -> Agreement
     ensures { (set : Elements) → map found_hit found.now ≡ hits_of compared_tags set
         → result ≡ agreement (tag 0x0010 0x0020)
@@ -173,8 +167,7 @@ fn patient_agreement(found: &[Found], is_own: bool, recorded: &[u8]) -> Agreemen
     (tags::PATIENT_ID, agree(in_file, recorded))
 }
 
-/// Compares what a file says of itself with what the records say, in the order of its tags. `inherited` is what
-/// the record and those above it say.
+/// Compares in the order of the file's tags.
 fn agreements(tree: &Tree<'_>, inherited: Inherited<'_>, scanned: &Scanned) -> [Agreement; 8]
     ensures { (above : List Node) (file : FileParts)
         → IsInherited inherited.entry ((tree_view tree.now).node ∷ above)
@@ -198,7 +191,6 @@ fn agreements(tree: &Tree<'_>, inherited: Inherited<'_>, scanned: &Scanned) -> [
     ]
 }
 
-/// Finds the first tag whose values do not agree.
 fn first_wrong(all: &[Agreement]) -> Option<Finding>
     ensures { result ≡ first_wrong all.now }
 {
@@ -207,8 +199,7 @@ fn first_wrong(all: &[Agreement]) -> Option<Finding>
         .map(|(tag, _)| Finding::Mislabelled(*tag))
 }
 
-/// Judges an IMAGE record whose file is no DICOM file, by the fault of reading it. Memory where an allocation was
-/// refused.
+/// Judges an IMAGE record whose file is no DICOM file. Memory where an allocation was refused.
 fn finding_of_fault(tree: &Tree<'_>, fault: FileFault) -> Result<Option<Finding>, Memory>
     ensures found { IfOk result (λ finding. (above : List Node)
         → finding ≡ mislabelled (standing_below above (tree_view tree.now).node) (Err fault)) }
@@ -223,33 +214,61 @@ fn finding_of_fault(tree: &Tree<'_>, fault: FileFault) -> Result<Option<Finding>
     }
 }
 
-/// Judges an IMAGE record and its file, by reading the file once. `inherited` is what the record and those
-/// above it say.
-///
-/// Memory where an allocation is refused while the file is read. It is read to its end nonetheless, and its digest
-/// does not differ.
-pub(crate) fn finding_by_keys<R: Read>(
-    alloc: Global,
+/// Judges an IMAGE record and its file, which is read once, into the slot. Where an allocation is refused meanwhile the
+/// file is read to its end nonetheless: Memory where its digest does not differ.
+pub(crate) fn judge_by_keys<R: Read>(
+    check: Check<'_>,
     tree: &Tree<'_>,
     inherited: Inherited<'_>,
     reader: &mut R,
-    limit: u64,
-) -> Result<Option<Finding>, Memory>
-    ensures found { IfOk result (λ finding. (above : List Node)
+    slot: &mut Slot,
+) -> Result<Judgement, Memory>
+    ensures found { IfOk result (λ judgement. (above : List Node)
         → IsInherited inherited.entry ((tree_view tree.now).node ∷ above)
-        → FindsBy R.Read limit
-        (by_keys (standing_below above (tree_view tree.now).node)) finding reader.old reader.new) }
+        → FindsBy R.Read most_read
+        (λ (given : List ℕ). option_or (by_keys (standing_below above (tree_view tree.now).node) given)
+        (without_digest check.entry.comparison.strict (tree_view tree.now).node))
+        (judged judgement slot.new) reader.old reader.new) }
+    ensures bytes { IfOk result (λ judgement. KeepsBytes judgement slot.new) }
     ensures memory { OnErr result ((given : List ℕ) × (fault : FileFault)
         × Gives R.has_given reader.old reader.new given
         × (by_digest (tree_view tree.now).node given ≡ None)
         × SaysMemory fault × IsRefused compared_tags fault given) }
 {
-    let Digested { file, digest } = read_digested(alloc, reader, &COMPARED, limit);
-    let differs = digest_finding(digest_in(&tree.set), digest);
-    match file {
-        Err(StreamFault::Read | StreamFault::TooLong) => Ok(Some(Finding::Unreadable)),
-        _ if differs.is_some() => Ok(differs),
-        Ok(scanned) => Ok(first_wrong(&agreements(tree, inherited, &scanned))),
-        Err(StreamFault::File(fault)) => finding_of_fault(tree, fault),
+    let strict = check.comparison.strict;
+    match read_kept(check.alloc, reader, slot, &COMPARED, SOURCE_LIMIT) {
+        Err(StreamFault::Read | StreamFault::TooLong) => {
+            Ok(Judgement::Known(Some(Finding::Unreadable)))
+        }
+        Ok(scanned) => {
+            let wrong = first_wrong(&agreements(tree, inherited, &scanned));
+            Ok(judge_whole(tree, strict, slot, wrong))
+        }
+        Err(StreamFault::File(fault)) => judge_no_file(tree, strict, slot, fault),
+    }
+}
+
+/// Gives Memory where an allocation was refused and the digest does not differ.
+fn judge_no_file(
+    tree: &Tree<'_>,
+    strict: bool,
+    slot: &Slot,
+    fault: FileFault,
+) -> Result<Judgement, Memory>
+    ensures found { IfOk result (λ judgement. (above : List Node) (given : List ℕ)
+        → IsSlotOf slot.now given → IsRefused compared_tags fault given
+        → judged judgement slot.now
+        ≡ option_or (by_keys (standing_below above (tree_view tree.now).node) given)
+        (without_digest strict (tree_view tree.now).node)) }
+    ensures bytes { IfOk result (λ judgement. KeepsBytes judgement slot.now) }
+    ensures memory { OnErr result (SaysMemory fault × ((given : List ℕ) → IsSlotOf slot.now given
+        → by_digest (tree_view tree.now).node given ≡ None)) }
+{
+    match finding_of_fault(tree, fault) {
+        Ok(wrong) => Ok(judge_whole(tree, strict, slot, wrong)),
+        Err(memory) => match digest_finding(digest_in(&tree.set), slot.digest()) {
+            Some(differs) => Ok(Judgement::Known(Some(differs))),
+            None => Err(memory),
+        },
     }
 }

@@ -1,17 +1,23 @@
 //! Judges the file that a record names.
-ghost use Rattle.std.specs.Prelude.{◌≡◌, IfSome, None, Some};
+ghost use Rattle.std.specs.Prelude.{◌≡◌, ℕ, List, IfSome, None, Some};
+ghost use Rattle.std.specs.Option.{option_or};
 ghost use Rattle.dd_elem.specs.FileIdForm.{IsFileId};
 ghost use Rattle.dd_dir.specs.ForestViews.{tree_view};
 ghost use Rattle.dd_dir.specs.Saying.{key_of};
+ghost use Rattle.dd_slots.specs.Slots.{IsSlotOf};
+ghost use Rattle.dd_report.specs.Batches.{KeepsBytes, KeepsPending, judged};
+ghost use Rattle.dd_report.specs.Checking.{most_read};
 ghost use Rattle.dd_report.specs.Finding.{FindsBy, FindsIn, HasFileId, IsUnread, NamesFile, by_digest, compared};
 ghost use Rattle.dd_report.specs.Finding.{file_in, without_digest};
 
+use crate::batch::Batch;
 use dd_dir::{Tree, digest_in};
 use dd_elem::{Read, Tag, is_file_id};
 use dd_files::digest_of;
 use dd_keys::value_at;
 use dd_layout::table::FILE;
 use dd_part10::FileFault;
+use dd_slots::Slot;
 
 /// Says what is wrong with the file that a record names.
 #[derive(Clone, Copy, Debug, PartialEq, Eq)]
@@ -24,9 +30,9 @@ pub enum Finding {
     Unreadable,
     /// It has another SHA-256 than the record says.
     Differs {
-        /// That of the record.
+        /// The digest in the record.
         recorded: [u8; 32],
-        /// That of the file.
+        /// The digest of the file.
         found: [u8; 32],
     },
     /// The value at this tag of the file is not the one that the records say.
@@ -37,11 +43,27 @@ pub enum Finding {
     NoDigest,
 }
 
+/// Says what is found of a file, before its digest is computed.
+#[derive(Clone, Copy)]
+pub(crate) enum Judgement {
+    /// This is found, or nothing.
+    Known(Option<Finding>),
+    /// Its bytes, which a slot keeps, wait for their digest.
+    Pending(Expected),
+}
+
+/// The digest that a record has of its file, and what is found where the file has it.
+#[derive(Clone, Copy)]
+pub(crate) struct Expected {
+    pub(crate) recorded: [u8; 32],
+    pub(crate) otherwise: Option<Finding>,
+}
+
 /// Judges the file that a record names. Finds nothing where the record is not in use or names no file. `file`
 /// reads it, where it could be opened; it may have `limit` bytes.
 ///
 /// It is read once, to its end, to a failure or to `limit` bytes and one more, whether the record has a
-/// digest or not; where its name is no File ID it is not read. This takes no memory.
+/// digest or not; where its name is no File ID it is not read. Allocates nothing.
 pub fn finding_of<R: Read>(tree: &Tree<'_>, file: Option<&mut R>, limit: u64) -> Option<Finding>
     ensures unnamed { ¬ NamesFile (tree_view tree.now).node → result ≡ None }
     ensures misnamed { NamesFile (tree_view tree.now).node
@@ -52,7 +74,6 @@ pub fn finding_of<R: Read>(tree: &Tree<'_>, file: Option<&mut R>, limit: u64) ->
         → FindsIn R.Read limit (tree_view tree.now).node result
         file.entry file.exit }
 
-    // Where the name is no File ID the reader is left as it came in.
     ensures unread { ¬ HasFileId (tree_view tree.now).node → IsUnread file.entry file.exit }
 {
     let Some(reader) = file else {
@@ -64,15 +85,14 @@ pub fn finding_of<R: Read>(tree: &Tree<'_>, file: Option<&mut R>, limit: u64) ->
     finding_by(tree, reader, limit)
 }
 
-/// Gives the File ID that a record has, without its padding: no bytes where it has no File ID.
+/// Gives the File ID without its padding: no bytes where the record has none.
 pub(crate) fn file_in<'t>(tree: &Tree<'t>) -> &'t [u8]
     ensures { result.now ≡ file_in (tree_view tree.now).node }
 {
     value_in(tree, FILE.tag)
 }
 
-/// Gives the value that a record has at a tag, without its padding: no bytes where it has no value there, or
-/// items.
+/// Gives the value without its padding: no bytes where the record has no value there, or items.
 pub(crate) fn value_in<'t>(tree: &Tree<'t>, tag: Tag) -> &'t [u8]
     ensures { result.now ≡ key_of tag (tree_view tree.now).node.set }
 {
@@ -82,7 +102,7 @@ pub(crate) fn value_in<'t>(tree: &Tree<'t>, tag: Tag) -> &'t [u8]
     }
 }
 
-/// Gives the File ID of the file that a record names, where it is in use and the name is a File ID.
+/// Gives the File ID where the record is in use and the name is a File ID.
 pub(crate) fn id_of<'t>(tree: &Tree<'t>) -> Option<&'t [u8]>
     ensures some { IfSome result (λ id. HasFileId (tree_view tree.now).node
         × (id.now ≡ file_in (tree_view tree.now).node)) }
@@ -96,7 +116,6 @@ pub(crate) fn id_of<'t>(tree: &Tree<'t>) -> Option<&'t [u8]>
     }
 }
 
-/// Judges a record whose file is not opened.
 pub(crate) fn finding_unopened(tree: &Tree<'_>) -> Option<Finding>
     ensures missing { HasFileId (tree_view tree.now).node → result ≡ Some Finding.Missing }
     ensures bad { NamesFile (tree_view tree.now).node
@@ -110,7 +129,7 @@ pub(crate) fn finding_unopened(tree: &Tree<'_>) -> Option<Finding>
     }
 }
 
-/// Judges a record by the name alone: `BadId` where it is in use and the name is no File ID.
+/// Gives `BadId` where the record is in use and the name is no File ID.
 fn finding_misnamed(tree: &Tree<'_>) -> Option<Finding>
     ensures bad { NamesFile (tree_view tree.now).node
         → ¬ IsFileId (file_in (tree_view tree.now).node)
@@ -124,7 +143,6 @@ fn finding_misnamed(tree: &Tree<'_>) -> Option<Finding>
     Some(Finding::BadId)
 }
 
-/// Judges the file by its digest, which is read once.
 pub(crate) fn finding_by<R: Read>(tree: &Tree<'_>, reader: &mut R, limit: u64) -> Option<Finding>
     ensures { FindsBy R.Read limit (by_digest (tree_view tree.now).node) result
         reader.old reader.new }
@@ -135,7 +153,6 @@ pub(crate) fn finding_by<R: Read>(tree: &Tree<'_>, reader: &mut R, limit: u64) -
     }
 }
 
-/// Compares the digest that the record may have with that of the file.
 pub(crate) fn digest_finding(recorded: Option<[u8; 32]>, found: [u8; 32]) -> Option<Finding>
     ensures { result ≡ compared recorded found }
 {
@@ -145,7 +162,7 @@ pub(crate) fn digest_finding(recorded: Option<[u8; 32]>, found: [u8; 32]) -> Opt
     }
 }
 
-/// Judges a record by its digest alone: `NoDigest` where a strict check asks for one and the record has none.
+/// Gives `NoDigest` where a strict check asks for a digest and the record has none.
 pub(crate) fn without_digest(tree: &Tree<'_>, strict: bool) -> Option<Finding>
     ensures { result ≡ without_digest strict (tree_view tree.now).node }
 {
@@ -153,5 +170,52 @@ pub(crate) fn without_digest(tree: &Tree<'_>, strict: bool) -> Option<Finding>
         Some(Finding::NoDigest)
     } else {
         None
+    }
+}
+
+/// Judges by digest alone a file that is read into the next slot of the batch.
+pub(crate) fn judge_by_digest<R: Read>(
+    tree: &Tree<'_>,
+    strict: bool,
+    reader: &mut R,
+    batch: &mut Batch<'_>,
+) -> Judgement
+    ensures found { FindsBy R.Read most_read
+        (λ (given : List ℕ). option_or (by_digest (tree_view tree.now).node given)
+        (without_digest strict (tree_view tree.now).node))
+        (judged result batch.new.next.slot) reader.old reader.new }
+    ensures bytes { KeepsBytes result batch.new.next.slot }
+    ensures pending { KeepsPending batch.old batch.new }
+{
+    if batch.fill(reader) {
+        judge_whole(tree, strict, &batch.next.slot, None)
+    } else {
+        Judgement::Known(Some(Finding::Unreadable))
+    }
+}
+
+/// Judges a file that was read whole. It waits for its digest where its record has one and the slot keeps all bytes.
+/// `otherwise` is found where the digests do not differ.
+pub(crate) fn judge_whole(
+    tree: &Tree<'_>,
+    strict: bool,
+    slot: &Slot,
+    otherwise: Option<Finding>,
+) -> Judgement
+    ensures found { (given : List ℕ) → IsSlotOf slot.now given
+        → judged result slot.now
+        ≡ option_or (option_or (by_digest (tree_view tree.now).node given) otherwise)
+        (without_digest strict (tree_view tree.now).node) }
+    ensures bytes { KeepsBytes result slot.now }
+{
+    let Some(recorded) = digest_in(&tree.set) else {
+        return Judgement::Known(otherwise.or(without_digest(tree, strict)));
+    };
+    match slot.bytes() {
+        Some(_) => Judgement::Pending(Expected {
+            recorded,
+            otherwise,
+        }),
+        None => Judgement::Known(digest_finding(Some(recorded), slot.digest()).or(otherwise)),
     }
 }

@@ -21,16 +21,12 @@ pub enum Form {
     Long,
 }
 
-/// The element by which a person recognises a PATIENT record.
 const OF_PATIENT: [Tag; 1] = [tags::PATIENT_NAME];
 
-/// The elements by which a person recognises a STUDY record.
 const OF_STUDY: [Tag; 3] = [tags::STUDY_DATE, tags::STUDY_TIME, tags::STUDY_DESCRIPTION];
 
-/// The elements by which a person recognises a SERIES record.
 const OF_SERIES: [Tag; 2] = [tags::MODALITY, tags::SERIES_NUMBER];
 
-/// The element by which a person recognises an IMAGE record.
 const OF_IMAGE: [Tag; 1] = [tags::INSTANCE_NUMBER];
 
 /// Adds the values of these elements, each after ` | `.
@@ -49,7 +45,6 @@ pub(crate) fn add_values<W: Write>(
     Ok(())
 }
 
-/// Adds a value after ` | `.
 fn add_value<W: Write>(value: &[u8], lines: &mut LineBuffer<'_, W>) -> fmt::Result
     ensures same { lines.new.to.ghost_name ≡ lines.old.to.ghost_name }
     ensures written { Tells result (shown (concat (codes " | " ∷ value.now ∷ [])))
@@ -58,7 +53,6 @@ fn add_value<W: Write>(value: &[u8], lines: &mut LineBuffer<'_, W>) -> fmt::Resu
     lines.add_parts(&[b" | ", value])
 }
 
-/// Gives the elements of a record of this type whose values a listing of this form shows.
 pub(crate) fn tags_in(form: Form, kind: &[u8]) -> &'static [Tag]
     ensures { result.now ≡ tags_in form kind.now }
 {
@@ -68,7 +62,6 @@ pub(crate) fn tags_in(form: Form, kind: &[u8]) -> &'static [Tag]
     }
 }
 
-/// Gives the elements by which a person recognises a record of this type.
 fn known_tags(kind: &[u8]) -> &'static [Tag]
     ensures { result.now ≡ known_tags kind.now }
 {

@@ -6,11 +6,13 @@
 #![tactic(auto)]
 
 mod agreements;
+mod batch;
 mod checking;
 mod findings;
 mod known;
 mod line_buffer;
 mod listing;
+mod telling;
 mod text;
 mod waiting;
 mod words;

@@ -9,18 +9,15 @@ use crate::waiting::Waiting;
 use dd_elem::Write;
 use std::fmt;
 
-/// Lines on their way to a device. Their bytes wait for `flush`, so that a line, or many, are one write. Where
-/// there is no room for all, a front goes earlier.
+/// Keeps the bytes of lines for `flush`, so that a line, or many, are one write. Where there is no room for all, a
+/// front goes earlier.
 #[derive(Drop)]
 pub(crate) struct LineBuffer<'a, W: Write> {
-    /// The bytes that wait to be sent.
     waiting: Waiting,
-    /// The device.
     to: &'a mut W,
 }
 
 impl<'a, W: Write> LineBuffer<'a, W> {
-    /// Begins lines to this device.
     pub(crate) fn new(to: &'a mut W) -> LineBuffer<'a, W>
         ensures same { result.to.ghost_name ≡ to.entry.ghost_name }
         ensures device { result.to.now ≡ to.old }
@@ -32,7 +29,7 @@ impl<'a, W: Write> LineBuffer<'a, W> {
         }
     }
 
-    /// Adds bytes to the lines. A front of what waited and of these goes to the device, and the rest waits then.
+    /// Sends a front of what waited and of these to the device; the rest waits then.
     pub(crate) fn add(&mut self, more: &[u8]) -> fmt::Result
         ensures same { self.new.to.ghost_name ≡ self.old.to.ghost_name }
         ensures sent { OnOk result (SendsFront W.Write self.old.to.now self.new.to.now
@@ -54,8 +51,7 @@ impl<'a, W: Write> LineBuffer<'a, W> {
         Ok(())
     }
 
-    /// Adds a text to the lines as `add` does, with `?` for each control character. What stands between two of
-    /// them is added at once.
+    /// Adds a text as `add` does, with `?` for each control character.
     pub(crate) fn add_masked(&mut self, text: &str) -> fmt::Result
         ensures same { self.new.to.ghost_name ≡ self.old.to.ghost_name }
         ensures sent { OnOk result (SendsFront W.Write self.old.to.now self.new.to.now
@@ -96,7 +92,7 @@ impl<'a, W: Write> LineBuffer<'a, W> {
         self.add_end()
     }
 
-    /// Adds these parts to the line, one after the other, with `?` for each byte that does not print.
+    /// Adds these parts to the line, with `?` for each byte that does not print.
     pub(crate) fn add_parts(&mut self, parts: &[&[u8]]) -> fmt::Result
         ensures same { self.new.to.ghost_name ≡ self.old.to.ghost_name }
         ensures written { Tells result (shown (concat (parts_of parts.now)))
@@ -109,7 +105,6 @@ impl<'a, W: Write> LineBuffer<'a, W> {
         Ok(())
     }
 
-    /// Ends the line.
     pub(crate) fn add_end(&mut self) -> fmt::Result
         ensures same { self.new.to.ghost_name ≡ self.old.to.ghost_name }
         ensures written { Tells result (10 ∷ []) (way_of W.Write self.old) (way_of W.Write self.new) }
@@ -118,7 +113,6 @@ impl<'a, W: Write> LineBuffer<'a, W> {
         self.add(b"\n")
     }
 
-    /// Adds bytes to the line, `?` for each that does not print.
     fn add_shown(&mut self, text: &[u8]) -> fmt::Result
         ensures same { self.new.to.ghost_name ≡ self.old.to.ghost_name }
         ensures written { Tells result (shown text.now) (way_of W.Write self.old) (way_of W.Write self.new) }
@@ -130,7 +124,6 @@ impl<'a, W: Write> LineBuffer<'a, W> {
         Ok(())
     }
 
-    /// Sends what waits.
     pub(crate) fn flush(&mut self) -> fmt::Result
         ensures same { self.new.to.ghost_name ≡ self.old.to.ghost_name }
         ensures sent { OnOk result (TakesText W.Write self.old.to.now self.new.to.now self.old.waiting) }
@@ -144,7 +137,7 @@ impl<'a, W: Write> LineBuffer<'a, W> {
     }
 }
 
-/// The byte as it prints: `?` for one outside 20 to 7E.
+/// Gives `?` for a byte outside 20 to 7E.
 fn shown_byte(byte: u8) -> u8
     ensures { result ≡ shown_byte byte }
 {

@@ -38,7 +38,6 @@ pub fn list_records<W: Write>(forest: &Forest<'_>, form: Form, to: &mut W) -> fm
     lines.flush()
 }
 
-/// Lists what names the file-set, in the long form, and then its records.
 fn list_all<W: Write>(forest: &Forest<'_>, form: Form, lines: &mut LineBuffer<'_, W>) -> fmt::Result
     ensures same { lines.new.to.ghost_name ≡ lines.old.to.ghost_name }
     ensures written { Tells result (listing form (walk_view forest.now))
@@ -50,7 +49,6 @@ fn list_all<W: Write>(forest: &Forest<'_>, form: Form, lines: &mut LineBuffer<'_
     }
 }
 
-/// Lists what names the file-set, and then its records in the long form.
 fn list_set<W: Write>(forest: &Forest<'_>, lines: &mut LineBuffer<'_, W>) -> fmt::Result
     ensures same { lines.new.to.ghost_name ≡ lines.old.to.ghost_name }
     ensures written { Tells result (long_listing (walk_view forest.now))
@@ -60,7 +58,6 @@ fn list_set<W: Write>(forest: &Forest<'_>, lines: &mut LineBuffer<'_, W>) -> fmt
     list_forest(forest, Form::Long, lines)
 }
 
-/// Lists the ID and the UID of a file-set.
 fn list_names<W: Write>(id: &[u8], uid: &[u8], lines: &mut LineBuffer<'_, W>) -> fmt::Result
     ensures same { lines.new.to.ghost_name ≡ lines.old.to.ghost_name }
     ensures written { Tells result (shown_line (set_parts id.now uid.now))
@@ -69,7 +66,6 @@ fn list_names<W: Write>(id: &[u8], uid: &[u8], lines: &mut LineBuffer<'_, W>) ->
     lines.add_line(&[b"FILE-SET ", id, b" ", uid])
 }
 
-/// Lists the records in this form, what is withdrawn, and how many records there are.
 fn list_forest<W: Write>(
     forest: &Forest<'_>,
     form: Form,
@@ -84,7 +80,6 @@ fn list_forest<W: Write>(
     list_totals(forest, lines)
 }
 
-/// Lists these records of a level, and those below them.
 #[cycle(lines)]
 fn list_trees<W: Write>(
     trees: &[Tree<'_>],
@@ -102,7 +97,6 @@ fn list_trees<W: Write>(
     Ok(())
 }
 
-/// Lists this record, and those below it.
 #[cycle(lines)]
 fn list_tree<W: Write>(
     tree: &Tree<'_>,
@@ -118,7 +112,6 @@ fn list_tree<W: Write>(
     list_trees(&tree.below, level.saturating_add(1), form, lines)
 }
 
-/// Lists this record.
 fn list_record<W: Write>(
     tree: &Tree<'_>,
     level: u64,
@@ -133,7 +126,6 @@ fn list_record<W: Write>(
     add_parts(tree, form, lines)
 }
 
-/// Adds what this record says, and the end of the line.
 fn add_parts<W: Write>(tree: &Tree<'_>, form: Form, lines: &mut LineBuffer<'_, W>) -> fmt::Result
     ensures same { lines.new.to.ghost_name ≡ lines.old.to.ghost_name }
     ensures written { Tells result (shown_line (record_parts form (tree_view tree.now).node))
@@ -161,7 +153,6 @@ fn add_words<W: Write>(
     lines.add_parts(&[at, b" ", kind, b" ", label, flag])
 }
 
-/// What the record is known by.
 fn label_of<'t>(tree: &'t Tree<'_>) -> &'t [u8]
     ensures { result.now ≡ label_of (tree_view tree.now).node }
 {
@@ -175,7 +166,6 @@ pub(crate) fn value_or_dash<'t>(set: &'t DataSet<'_>, tag: Tag) -> &'t [u8]
     or_dash(value_at(set, tag))
 }
 
-/// The value, or `-` where it is absent or empty.
 fn or_dash<'v>(value: Option<&'v [u8]>) -> &'v [u8]
     ensures { result.now ≡ or_dash (option_map (λ value. value.now) value.entry) }
 {
@@ -185,7 +175,6 @@ fn or_dash<'v>(value: Option<&'v [u8]>) -> &'v [u8]
     }
 }
 
-/// The element that records of this type are known by.
 fn label_tag(kind: &[u8]) -> Tag
     ensures { result ≡ label_tag kind.now }
 {
@@ -200,14 +189,14 @@ fn label_tag(kind: &[u8]) -> Tag
     }
 }
 
-/// How a record is marked that is not in use.
+/// Gives the mark of a record that is not in use.
 fn flag_of<'t>(tree: &'t Tree<'_>) -> &'t [u8]
     ensures { result.now ≡ flag_of (tree_view tree.now).node }
 {
     if tree.in_use { b"" } else { b" inactive" }
 }
 
-/// Lists what is withdrawn, a line for each piece of the value; no lines where the value is absent.
+/// Lists a line for each piece of the value; no lines where the value is absent.
 fn list_withdrawn<W: Write>(value: Option<&[u8]>, lines: &mut LineBuffer<'_, W>) -> fmt::Result
     ensures same { lines.new.to.ghost_name ≡ lines.old.to.ghost_name }
     ensures written { Tells result
@@ -220,7 +209,6 @@ fn list_withdrawn<W: Write>(value: Option<&[u8]>, lines: &mut LineBuffer<'_, W>)
     }
 }
 
-/// Lists the pieces of the value that names what is withdrawn.
 fn list_pieces<W: Write>(value: &[u8], lines: &mut LineBuffer<'_, W>) -> fmt::Result
     ensures same { lines.new.to.ghost_name ≡ lines.old.to.ghost_name }
     ensures written { Tells result (withdrawn_lines (pieces_of value.now))
@@ -255,7 +243,6 @@ fn list_piece<W: Write>(piece: &[u8], lines: &mut LineBuffer<'_, W>) -> fmt::Res
     lines.add_line(&[b"WITHDRAWN ", or_dash(Some(piece))])
 }
 
-/// Lists how many records there are, and how many items no offset reaches.
 fn list_totals<W: Write>(forest: &Forest<'_>, lines: &mut LineBuffer<'_, W>) -> fmt::Result
     ensures same { lines.new.to.ghost_name ≡ lines.old.to.ghost_name }
     ensures written { Tells result (totals_line (walk_view forest.now))
@@ -279,7 +266,6 @@ pub(crate) fn record_count(trees: &[Tree<'_>]) -> u64
     count
 }
 
-/// How many records there are in this tree, as a count.
 #[cycle(counts)]
 fn count_of(tree: &Tree<'_>) -> u64
     ensures { result ≡ counted (record_count (tree_view tree.now).below) }

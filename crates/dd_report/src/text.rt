@@ -17,7 +17,6 @@ pub fn send_text<W: Write>(text: &str, to: &mut W) -> fmt::Result
     send_bytes(text.as_bytes(), to)
 }
 
-/// Sends bytes, all of them or up to where the writer fails.
 pub(crate) fn send_bytes<W: Write>(bytes: &[u8], to: &mut W) -> fmt::Result
     ensures sent { OnOk result (TakesText W.Write to.old to.new bytes.now) }
     ensures unsent { OnErr result (FailsInText W.Write to.old to.new bytes.now) }
@@ -45,8 +44,7 @@ pub fn print_line<W: Write>(parts: &[&str], to: &mut W) -> fmt::Result
     line.flush()
 }
 
-/// Prints the parts of a line, one after the other, and the end of the line, as `print_line` does, but byte by
-/// byte: each byte of a part outside 20 to 7E prints as `?`.
+/// Prints a line as `print_line` does, but byte by byte: each byte of a part outside 20 to 7E prints as `?`.
 pub fn show_line<W: Write>(parts: &[&[u8]], to: &mut W) -> fmt::Result
     ensures sent { OnOk result (TakesText W.Write to.old to.new (shown_line (parts_of parts.now))) }
     ensures unsent { OnErr result
@@ -66,7 +64,6 @@ pub struct Text<'a, W: Write> {
 }
 
 impl<W: Write> fmt::Write for Text<'_, W> {
-    /// Sends the bytes of a text, as `send_text` does.
     fn write_str(&mut self, text: &str) -> fmt::Result {
         send_text(text, self.to)
     }

@@ -6,7 +6,7 @@ use std::marker::Model;
 // The most bytes that wait.
 const ROOM: usize = 8 * 1024;
 
-/// The bytes that wait to be sent. They take no memory.
+/// Allocates nothing.
 #[derive(Drop)]
 pub(crate) struct Waiting {
     bytes: [u8; ROOM],
@@ -25,7 +25,6 @@ impl Model for Waiting {
 }
 
 impl Waiting {
-    /// Holds no bytes.
     pub(crate) fn new() -> Waiting
         ensures { result ≡ [] }
     {
@@ -35,21 +34,18 @@ impl Waiting {
         }
     }
 
-    /// Gives the bytes that wait.
     pub(crate) fn as_slice(&self) -> &[u8]
         ensures { result.now ≡ self.now }
     {
         &self.bytes[..self.used]
     }
 
-    /// Is there room for this many more bytes?
     pub(crate) fn has_room(&self, more: usize) -> bool
         ensures { IsTrue result ↔ (length self.now + more ≤ ROOM) }
     {
         more <= ROOM - self.used
     }
 
-    /// Appends bytes to the waiting ones.
     pub(crate) fn keep(&mut self, more: &[u8])
         requires { length self.old + length more.now ≤ ROOM }
         ensures { self.new ≡ self.old ++ more.now }
@@ -60,7 +56,6 @@ impl Waiting {
         self.used = end;
     }
 
-    /// Forgets the bytes, which were sent.
     pub(crate) fn clear(&mut self)
         ensures { self.new ≡ [] }
     {

@@ -1,17 +1,19 @@
 //! The words of tags and of the faults of files, as the program prints them.
 ghost use Rattle.std.specs.Prelude.{◌≡◌, ◌++◌, ◌<◌, ◌^◌, codes, true};
 ghost use Rattle.std.specs.Fmt.{digit_glyph};
+ghost use Rattle.hex.specs.Hex.{encode_lower};
 ghost use Rattle.dd_elem.specs.Tag.{four_digits, text_of};
+ghost use Rattle.dd_report.specs.Checking.{differs_parts};
 ghost use Rattle.dd_report.specs.Telling.{Tells, shown_line, way_of};
 ghost use Rattle.dd_report.specs.Words.{file_words, mislabelled_parts, set_words};
 
 use crate::line_buffer::LineBuffer;
 use dd_elem::{Tag, Write};
+use dd_files::digest_text;
 use dd_part10::FileFault;
 use dd_set::SetFault;
 use std::fmt;
 
-/// Tells the tag of a file whose value is not the one that the records say.
 pub(crate) fn tell_tag<W: Write>(
     file: &[u8],
     tag: Tag,
@@ -24,7 +26,6 @@ pub(crate) fn tell_tag<W: Write>(
     lines.add_line(&[b"MISLABELLED ", file, b" ", &tag_text(tag)[..]])
 }
 
-/// Tells why what a record names is no DICOM file.
 pub(crate) fn tell_fault<W: Write>(
     file: &[u8],
     fault: &FileFault,
@@ -50,7 +51,6 @@ pub(crate) fn tell_fault<W: Write>(
     }
 }
 
-/// Tells these words and what they are of.
 fn tell_words<W: Write>(
     file: &[u8],
     words: &[u8],
@@ -65,7 +65,6 @@ fn tell_words<W: Write>(
     lines.add_line(&[b"MISLABELLED ", file, b" ", b"31 File ", words, of])
 }
 
-/// The words of a fault of a data set.
 fn set_words(fault: SetFault) -> &'static [u8]
     ensures { result.now ≡ set_words fault }
 {
@@ -84,7 +83,6 @@ fn set_words(fault: SetFault) -> &'static [u8]
     }
 }
 
-/// The text of a tag.
 fn tag_text(tag: Tag) -> [u8; 11]
     ensures { result ≡ text_of tag }
 {
@@ -93,7 +91,6 @@ fn tag_text(tag: Tag) -> [u8; 11]
     [b'(', a, b, c, d, b',', e, f, g, h, b')']
 }
 
-/// The four hexadecimal digits of a number, in upper case.
 fn four_digits(number: u16) -> [u8; 4]
     ensures { result ≡ four_digits number }
 {
@@ -105,7 +102,6 @@ fn four_digits(number: u16) -> [u8; 4]
     ]
 }
 
-/// A hexadecimal digit, in upper case.
 fn digit(value: u16) -> u8
     requires { value < 16 }
     ensures { result ≡ digit_glyph true value }
@@ -116,4 +112,32 @@ fn digit(value: u16) -> u8
     } else {
         b'A' + (value - 10)
     }
+}
+
+pub(crate) fn tell_differs<W: Write>(
+    file: &[u8],
+    recorded: &[u8; 32],
+    found: &[u8; 32],
+    lines: &mut LineBuffer<'_, W>,
+) -> fmt::Result
+    ensures same { lines.new.to.ghost_name ≡ lines.old.to.ghost_name }
+    ensures written { Tells result
+        (shown_line (differs_parts file.now (encode_lower recorded.now) (encode_lower found.now)))
+        (way_of W.Write lines.old) (way_of W.Write lines.new) }
+{
+    let (recorded, found) = (digest_text(recorded), digest_text(found));
+    tell_digests(file, &recorded, &found, lines)
+}
+
+fn tell_digests<W: Write>(
+    file: &[u8],
+    recorded: &[u8; 64],
+    found: &[u8; 64],
+    lines: &mut LineBuffer<'_, W>,
+) -> fmt::Result
+    ensures same { lines.new.to.ghost_name ≡ lines.old.to.ghost_name }
+    ensures written { Tells result (shown_line (differs_parts file.now recorded.now found.now))
+        (way_of W.Write lines.old) (way_of W.Write lines.new) }
+{
+    lines.add_line(&[b"DIFFERS ", file, b" ", &recorded[..], b" ", &found[..]])
 }

@@ -1,48 +1,53 @@
--- Nothing is printed where nothing is found.
+-- What is judged of the file comes to the report.
 use Rattle.std.proofs.Common.{◌∙◌, refl}
 use Rattle.dd_dir.specs.ForestViews.{tree_view}
 use Rattle.dd_report.specs.Agreements.{standing_below}
-use Rattle.dd_report.specs.Telling.{way_of}
-use Rattle.dd_report.proofs.ToldTrees.{record_cut, record_quiet, record_told, record_unsent}
+use Rattle.dd_report.specs.Batches.{judged, report_of}
+use Rattle.dd_report.proofs.Batching.{ready_same, report_same}
+use Rattle.dd_report.proofs.ToldTrees.{record_cut, record_told, record_unsent}
 use Rattle.dd_report.proofs.checking.check_record.Goals as goal
+
+pub tell_judgement-requires-clause-ready : goal.tell_judgement-requires-clause-ready
+tell_judgement-requires-clause-ready g c =
+    ready_same c.args.batch.now c.judge.new.batch c.requires c.in-Ok.ensures.pending
+
+pub returns-in_default-clause-ready : goal.returns-in_default-clause-ready
+returns-in_default-clause-ready g c =
+    ready_same c.args.batch.now c.judge.new.batch c.requires c.in_default.ensures.pending
 
 pub returns-in_default-clause-checks : goal.returns-in_default-clause-checks
 returns-in_default-clause-checks g c = λ above said.
     record_cut g.F.In.Read
-    (g.F.Files.held c.args.files.now) c.args.at.check.folder.now c.args.at.check.comparison
+    (g.F.Files.held c.args.files.now) c.args.at.check.folder.now c.args.at.check.comparison (Unit {0})
     (standing_below above (tree_view c.args.tree.now).node) (g.F.Files.refusals c.args.files.now)
-    (g.F.Files.refusals c.finding_in.new.files)
-    (way_of g.W.Write c.args.lines.now)
+    (g.F.Files.refusals c.judge.new.files)
+    (report_of g.W.Write c.args.lines.now c.args.batch.now)
+    (report_of g.W.Write c.args.lines.now c.judge.new.batch)
     (c.in_default.ensures.unrefused refl)
+    (report_same g.W.Write c.args.lines.now c.args.batch.now c.judge.new.batch c.requires.0 c.in_default.ensures.pending)
 
-pub returns-in_default-finding-clause-checks : goal.returns-in_default-finding-clause-checks
-returns-in_default-finding-clause-checks g c = λ above said.
-    rw c.advance.ensures.refusals
-    (record_quiet g.F.In.Read
-    (g.F.Files.held c.args.files.now) c.args.at.check.folder.now c.args.at.check.comparison
-    (standing_below above (tree_view c.args.tree.now).node) (g.F.Files.refusals c.args.files.now)
-    (g.F.Files.refusals c.finding_in.new.files) c.in-Ok.finding
-    (way_of g.W.Write c.args.lines.now)
-    c.in_default-finding.is (c.in-Ok.ensures.found above said))
-
-pub returns-in-Ok-tell_finding-clause-checks : goal.returns-in-Ok-tell_finding-clause-checks
-returns-in-Ok-tell_finding-clause-checks g c = λ above said.
-    rw (c.hide_line.ensures.refusals ∙ c.advance.ensures.refusals)
+pub returns-in-Ok-tell_judgement-clause-checks : goal.returns-in-Ok-tell_judgement-clause-checks
+returns-in-Ok-tell_judgement-clause-checks g c = λ above said.
+    rw (c.in-Ok-tell_judgement.ensures.refusals ∙ c.advance.ensures.refusals)
     (record_told g.F.In.Read
-    (g.F.Files.held c.args.files.now) c.args.at.check.folder.now c.args.at.check.comparison
+    (g.F.Files.held c.args.files.now) c.args.at.check.folder.now c.args.at.check.comparison (tt {0})
     (standing_below above (tree_view c.args.tree.now).node) (g.F.Files.refusals c.args.files.now)
-    (g.F.Files.refusals c.finding_in.new.files) c.in-Some.finding c.in-Ok.finding
-    (way_of g.W.Write c.args.lines.now)
-    (way_of g.W.Write c.tell_finding.new.lines)
-    c.in-Some.is (c.in-Ok.ensures.found above said) c.in-Ok-tell_finding.ensures.written)
+    (g.F.Files.refusals c.judge.new.files) (judged c.in-Ok.judgement c.judge.new.batch.next.slot)
+    (report_of g.W.Write c.args.lines.now c.args.batch.now)
+    (report_of g.W.Write c.args.lines.now c.judge.new.batch)
+    (report_of g.W.Write c.tell_judgement.new.lines c.tell_judgement.new.batch)
+    (report_same g.W.Write c.args.lines.now c.args.batch.now c.judge.new.batch c.requires.0 c.in-Ok.ensures.pending)
+    (c.in-Ok.ensures.found above said) c.in-Ok-tell_judgement.ensures.told)
 
 pub returns-in-Err-clause-checks : goal.returns-in-Err-clause-checks
 returns-in-Err-clause-checks g c = λ above said.
-    rw (c.hide_line.ensures.refusals ∙ c.advance.ensures.refusals)
+    rw (c.in-Err.ensures.refusals ∙ c.advance.ensures.refusals)
     (record_unsent g.F.In.Read
-    (g.F.Files.held c.args.files.now) c.args.at.check.folder.now c.args.at.check.comparison
+    (g.F.Files.held c.args.files.now) c.args.at.check.folder.now c.args.at.check.comparison (Unit {0})
     (standing_below above (tree_view c.args.tree.now).node) (g.F.Files.refusals c.args.files.now)
-    (g.F.Files.refusals c.finding_in.new.files) c.in-Some.finding c.in-Ok.finding
-    (way_of g.W.Write c.args.lines.now)
-    (way_of g.W.Write c.tell_finding.new.lines)
-    c.in-Some.is (c.in-Ok.ensures.found above said) c.in-Err.ensures.written)
+    (g.F.Files.refusals c.judge.new.files) (judged c.in-Ok.judgement c.judge.new.batch.next.slot)
+    (report_of g.W.Write c.args.lines.now c.args.batch.now)
+    (report_of g.W.Write c.args.lines.now c.judge.new.batch)
+    (report_of g.W.Write c.tell_judgement.new.lines c.tell_judgement.new.batch)
+    (report_same g.W.Write c.args.lines.now c.args.batch.now c.judge.new.batch c.requires.0 c.in-Ok.ensures.pending)
+    (c.in-Ok.ensures.found above said) c.in-Err.ensures.told)
