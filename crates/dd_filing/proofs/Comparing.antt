@@ -8,7 +8,7 @@ use Rattle.dd_filing.specs.declared.agreeing.Filed.TheVariants.{AsPlanned, Other
 use Rattle.dd_filing.specs.Filing.{IsCopyOfVersion, IsFileAs, IsFiled, IsVersionAs, IsVersionOrNone}
 
 -- a file is what its version is, since it has one version at most
-version_as : (planned version : Parts) (filed : Filed) (file : List ℕ)
+pub version_as : (planned version : Parts) (filed : Filed) (file : List ℕ)
     → ((file : List ℕ) (one other : Parts) → IsVersion file one → IsVersion file other → one ≡ other)
     → IsVersion file version → IsVersionAs planned filed version → IsFileAs planned filed file
 version_as planned version AsPlanned file one is same = (version, (is, same))

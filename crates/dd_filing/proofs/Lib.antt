@@ -1,4 +1,5 @@
 mod Comparing
 mod Copied
+mod Digested
 mod Passing
 mod Sending

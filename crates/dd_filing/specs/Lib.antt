@@ -1,3 +1,4 @@
+pub mod Ahead
 pub mod CopySteps
 pub mod Filing
 pub mod Sent

@@ -1,5 +1,3 @@
-//! Compares the version of a copied file with the planned one.
-
 ghost use Rattle.std.specs.Prelude.{◌≡◌, ℕ, List};
 ghost use Rattle.dd_version.specs.declared.parts.Parts.{Parts};
 ghost use Rattle.dd_filing.specs.Filing.{IsFileAs, IsVersionAs};
@@ -14,13 +12,11 @@ pub enum Filed {
     AsPlanned,
     /// The file is of a version with another digest.
     OtherVersion,
-    /// The file is of a version with the planned digest, and a key that is compared differs; or it is of
-    /// no version, whatever its digest.
+    /// The file is of a version with the planned digest where a compared key differs, or of no version.
     Mislabelled,
 }
 
 impl Filed {
-    /// Says what a file of the found version is, compared with the planned version.
     pub(crate) fn of(found: &Parts, planned: &Parts) -> Filed
         ensures { IsVersionAs planned.now result found.now }
     {
@@ -34,7 +30,7 @@ impl Filed {
     }
 }
 
-/// Law: compared with a planned version, a file is one of these only.
+/// Proves that a file compares with a planned version in one way only.
 pub fn one_filed()
     ensures { (planned : Parts) (file : List ℕ) (filed other : Filed) → IsFileAs planned filed file
         → IsFileAs planned other file → filed ≡ other }

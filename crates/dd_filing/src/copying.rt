@@ -1,5 +1,3 @@
-//! Copies an image, and reads it as a version in the same pass.
-
 ghost use Rattle.std.specs.Prelude.{◌≡◌, None};
 ghost use Rattle.dd_filing.specs.CopySteps.{IsCopyAnswer, IsFilingFault};
 ghost use Rattle.dd_filing.specs.Filing.{IsCopyOfVersion, IsFiled};
@@ -25,18 +23,16 @@ pub enum FilingFault {
     /// The writer failed.
     #[error("96 Unsent")]
     Unsent,
-    /// The reader gave more bytes than the limit, so the image is not what it was.
+    /// The reader gave more bytes than the limit, so the image has changed.
     #[error("97 Changed")]
     Changed,
 }
 
-/// Copies what a reader gives to its end, at most `limit` bytes, and answers the version whose file the bytes
-/// are. None where they are a file of no version.
+/// Copies what a reader gives to its end, at most `limit` bytes, and gives the version whose file the bytes are, or
+/// None.
 ///
-/// Refuses with Unsent where the writer fails, which then holds a first part of what the reader gave. In all
-/// other cases the writer holds all that the reader gave. Refuses with Unread where the reader fails, with
-/// Changed where it gives more than `limit` bytes, and with Memory where an allocation is refused while the
-/// copied bytes are read as a file. Makes at most `limit` + 1 reads.
+/// After Unsent the writer holds a first part of what the reader gave, and else all of it. Makes at most `limit` + 1
+/// reads.
 pub fn copy_version<R: Read, W: Write>(
     alloc: Global,
     reader: &mut R,
@@ -54,7 +50,6 @@ pub fn copy_version<R: Read, W: Write>(
     copy_through(alloc, &mut tee, limit)
 }
 
-/// Copies as `copy_version` does, through a tee of which no write has failed.
 fn copy_through<R: Read, W: Write>(
     alloc: Global,
     tee: &mut Tee<'_, R, W>,
@@ -73,7 +68,6 @@ fn copy_through<R: Read, W: Write>(
     }
 }
 
-/// Turns the answer of reading a version into the answer of its copy, where no write failed.
 fn copy_answer(answer: Result<Version, KeyFault>) -> Result<Option<Version>, FilingFault>
     ensures { IsCopyAnswer answer result }
 {
@@ -86,8 +80,6 @@ fn copy_answer(answer: Result<Version, KeyFault>) -> Result<Option<Version>, Fil
     }
 }
 
-/// Turns a fault of reading a version into the refusal of its copy, where no write failed. None where the bytes
-/// were read to their end, and are no file of a version.
 fn filing_fault(fault: &KeyFault) -> Option<FilingFault>
     ensures { IsFilingFault fault.now result }
 {
@@ -104,8 +96,7 @@ fn filing_fault(fault: &KeyFault) -> Option<FilingFault>
     }
 }
 
-/// Copies what a reader gives to its end, at most `limit` bytes, and says whether the copy is a file of the
-/// planned version. Refuses as `copy_version` does.
+/// Copies as `copy_version` does, and compares the copy with the planned version.
 pub fn file_image<R: Read, W: Write>(
     alloc: Global,
     reader: &mut R,

@@ -1,13 +1,12 @@
-//! Copies an image file and reads it as a version in the same pass. Its one promise: an answer about a copy
-//! is true of all the bytes that the reader gave, and the writer took them all.
-//!
-//! A refusal says why there is no answer: memory was refused, the reader failed, the writer failed, or the
-//! reader gave more than the limit.
+//! Copies image files and reads them as versions in the same pass. An answer about a copy is true of all the bytes
+//! that the reader gave, and the writer took them all.
 #![tactic(auto)]
 
 mod agreeing;
 mod copying;
+mod files_ahead;
 mod tee;
 
 pub use agreeing::{Filed, one_filed};
 pub use copying::{FilingFault, copy_version, file_image};
+pub use files_ahead::{Ahead, FILES_AHEAD, FileAhead, FilesAhead};

@@ -1,5 +1,3 @@
-//! A reader that sends to a writer what passes.
-
 ghost use Rattle.std.specs.Prelude.{◌≡◌, ◌⊎◌, ℕ, List, Option};
 ghost use Rattle.dd_elem.specs.Device.{either_fact};
 ghost use Rattle.dd_elem.specs.declared.counts.Counts.{Counts};
@@ -10,15 +8,12 @@ use dd_elem::{Read, Write};
 use dd_stream::send;
 use std::io;
 
-/// Reads from a reader, and sends what that gives to a writer. Once a write has failed, each later read of the
-/// tee fails, and it calls neither of the two again.
+/// Sends to a writer what a reader gives. Once a write has failed, each later read fails and calls neither of them.
 #[derive(Drop)]
 pub(crate) struct Tee<'a, R: Read, W: Write> {
-    /// The reader.
     pub reader: &'a mut R,
-    /// The writer.
     pub writer: &'a mut W,
-    /// The number of reads since a write failed, where one has failed.
+    /// How often the tee was read after a write failed.
     pub late: Option<u64>,
 }
 

@@ -3,7 +3,7 @@ use Rattle.std.specs.Prelude.{◌≡◌, ◌≤◌, ◌⊎◌, ℕ, List, [], Op
 use Rattle.clap.specs.Words.{Row, Text, subcommand_of, takes}
 use Rattle.dd_files.specs.Files.{Held}
 use Rattle.dd_line.specs.Line.{OnlyReads, dicomdir_app, words_of}
-use Rattle.dd_line.specs.Requests.{folder_of, is_dry, links, verb_of}
+use Rattle.dd_line.specs.Requests.{RequestsBadName, folder_of, is_dry, links, verb_of}
 use Rattle.dd_line.specs.declared.request.Request.{Request}
 use Rattle.dd_line.specs.declared.line.Verb.{Verb}
 use Rattle.dd_line.specs.declared.line.Verb.TheVariants.{Check}
@@ -20,6 +20,15 @@ line_of words = subcommand_of dicomdir_app (words_of words)
 -- a status that a command of this kind may end with, once its line is read
 abbrev pub IsStatusOf : Verb → ℕ → Type 0
 IsStatusOf verb status = (status ≤ 1) ⊎ ((status ≡ 3) × (verb ≡ Check))
+
+-- a status that a run of this request may end with
+pub record IsRequestStatus (request : Request) (status : ℕ) : Type 0 where
+  pub most : status ≤ 3
+  -- only `check` finds something
+  pub findings : status ≡ 3 → verb_of request ≡ Check
+  -- the line is at fault only where it gives an ID or a UID of the wrong form, and the work of such a line is never done
+  pub bad : status ≡ 2 → RequestsBadName request
+  pub good : status ≡ 0 → ¬ RequestsBadName request
 
 -- unless the command only reads or only plans, some file-set was made in the folder of the request, with hard links only
 -- where it asks for them

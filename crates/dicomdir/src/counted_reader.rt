@@ -1,4 +1,3 @@
-//! A reader whose failures are counted anew.
 ghost use Rattle.std.specs.Prelude.{◌≡◌};
 
 use dd_elem::{Counts, Read};
@@ -13,7 +12,6 @@ pub(crate) struct CountedReader<R: Read + Drop> {
 }
 
 impl<R: Read + Drop> CountedReader<R> {
-    /// The reader, not called yet.
     pub(crate) fn new(reader: R) -> Self
         ensures { result ≡ record { reader = reader; counts = record { calls = 0; failures = 0 }; bytes = 0 } }
     {
@@ -24,14 +22,13 @@ impl<R: Read + Drop> CountedReader<R> {
         }
     }
 
-    /// How often it was called, and how many of these reads failed.
     pub(crate) fn counts(&self) -> Counts
         ensures { result ≡ self.now.counts }
     {
         self.counts
     }
 
-    /// How many bytes it gave, up to `u64::MAX`.
+    /// Gives how many bytes were read, up to `u64::MAX`.
     pub(crate) fn bytes(&self) -> u64
         ensures { result ≡ self.now.bytes }
     {
@@ -50,7 +47,7 @@ impl<R: Read + Drop> Read for CountedReader<R> {
 
     ghost has_given = { λ s past bytes. R.has_given s.reader past bytes };
 
-    /// Reads as the reader does. It fails, too, where a count is at its last value.
+    /// Reads as the reader does, but also fails where a count is at its last value.
     fn read(&mut self, buf: &mut [u8]) -> io::Result<usize> {
         self.counts.begin()?;
         let done = self.reader.read(buf);

@@ -1,4 +1,3 @@
-//! Paths of the command line that are empty.
 ghost use Rattle.std.specs.Prelude.{◌≡◌, ◌<◌, ℕ, [], None, Some, IfSome, length, string_bytes};
 ghost use Rattle.dicomdir.specs.EmptyPaths.{IsEmptyAt, IsFirstEmpty};
 ghost use Rattle.dicomdir.specs.Refusal.{IsOfWork};
@@ -6,7 +5,6 @@ ghost use Rattle.dicomdir.specs.Refusal.{IsOfWork};
 use crate::refusal::{ProgramFault, Refusal, Subject};
 use dd_line::NewSet;
 
-/// The number of the first path that is empty.
 pub(crate) fn first_empty(paths: &[String]) -> Option<usize>
     ensures empty { IfSome result (IsEmptyAt paths.now) }
     ensures first { IfSome result (λ at.
@@ -21,8 +19,8 @@ pub(crate) fn first_empty(paths: &[String]) -> Option<usize>
     None
 }
 
-/// Says why a request is refused that has an empty path: the folder of the new file-set, or else the first of
-/// these paths, which it reads.
+/// Gives the refusal of a request with an empty path: of the folder of the new file-set, or else of the first of these
+/// paths.
 pub(crate) fn empty_path(new_set: Option<&NewSet>, sources: &[String]) -> Option<Refusal>
     ensures folder { IfSome new_set.entry (λ set. string_bytes set.now.out ≡ []
         → result ≡ Some (record { subject = Subject.Folder; fault = ProgramFault.Folder })) }

@@ -1,4 +1,3 @@
-//! A file-set in its folder: its images and its directory.
 ghost use Rattle.std.specs.Prelude.{◌≡◌, ℕ, All, IfErr, IsErr, IsOk, option_map};
 ghost use Rattle.dd_dir.specs.Directories.{directory_of};
 ghost use Rattle.dd_elem.specs.Device.{counted, HasFailed};
@@ -14,21 +13,16 @@ use dd_files::{DIRECTORY, Files, Progress, path_in};
 use dd_layout::Plan;
 use std::alloc::Global;
 
-/// What a file-set is made of.
 #[derive(Drop)]
 pub(crate) struct FileSet<'a, O: Origins> {
-    /// The folder that it is made in.
     pub(crate) folder: &'a str,
-    /// The plan of its images and its directory.
     pub(crate) plan: &'a Plan,
-    /// The files that images are made of.
     pub(crate) origins: &'a O,
     /// The file of each image, in the order of the plan.
     pub(crate) picks: &'a [O::Pick],
 }
 
-/// Refuses a folder whose directory can be opened, also where the system shows it under another spelling of its
-/// name.
+/// Refuses a folder whose directory can be opened, also where the system shows it under another spelling of its name.
 pub(crate) fn refuse_taken<F: Files>(
     alloc: Global,
     folder: &str,
@@ -44,9 +38,8 @@ pub(crate) fn refuse_taken<F: Files>(
     Ok(())
 }
 
-/// Makes each image of the plan in the folder, of the file that is picked, and then writes the directory
-/// there. All that was made is stored before the directory is made, and the directory once it has ended. Progress
-/// is shown until all is stored.
+/// Makes each image of the plan in the folder, from the file that is picked, and then writes the directory. All is
+/// stored before the directory is begun, and the directory once it has ended. Progress is shown until then.
 pub(crate) fn write_file_set<F: Files + Progress, O: Origins>(
     alloc: Global,
     set: &FileSet<'_, O>,
@@ -55,7 +48,7 @@ pub(crate) fn write_file_set<F: Files + Progress, O: Origins>(
     requires { All (O.has set.now.origins.now) set.now.picks.now }
     ensures refusal { IfErr result (IsOfWork (O.paths set.now.origins.now)) }
 
-    // Where the files tell what they hold, an image was made for each pick, and then the directory.
+    // Where the files say what they hold, an image was made for each pick, and then the directory.
     ensures made { IsOk result
         → MakesFileSet
         (MayLink (O.gives_links set.now.origins.now) (O.stands_at set.now.origins.now))
@@ -77,7 +70,6 @@ pub(crate) fn write_file_set<F: Files + Progress, O: Origins>(
     Ok(())
 }
 
-/// Has all stored that was made.
 fn store<F: Files>(files: &mut F) -> Result<(), Refusal>
     ensures refused { IsErr result → F.refusals files.new ≡ counted (F.refusals files.old) }
     ensures fault { IfErr result (λ refusal.
@@ -90,13 +82,9 @@ fn store<F: Files>(files: &mut F) -> Result<(), Refusal>
     }
 }
 
-/// Starts the directory at this path, writes it and ends it. Create where it could not be started, Unsent
-/// where a write failed or its end.
 #[tactic(auto, using(crate::proofs::Publishing::held_published))]
 fn make_directory<F: Files>(path: &str, plan: &Plan, files: &mut F) -> Result<(), ProgramFault>
     ensures line { IfErr result (λ fault. ¬ IsBadLine fault) }
-
-    // Where the files tell what they hold, the file at that path is the directory, and no other file changed.
     ensures holds { IsOk result → F.held files.new
         ≡ option_map
         (published path.now (directory_of plan.now.label plan.now.versions plan.now.withdrawn))
@@ -107,7 +95,6 @@ fn make_directory<F: Files>(path: &str, plan: &Plan, files: &mut F) -> Result<()
     finish_directory(files)
 }
 
-/// Starts the directory.
 fn start_directory<F: Files>(path: &str, files: &mut F) -> Result<(), ProgramFault>
     ensures refused { IsErr result → F.refusals files.new ≡ counted (F.refusals files.old) }
     ensures fault { IfErr result (λ fault. fault ≡ ProgramFault.Create) }
@@ -120,7 +107,6 @@ fn start_directory<F: Files>(path: &str, files: &mut F) -> Result<(), ProgramFau
     }
 }
 
-/// Writes the directory.
 fn send_directory<F: Files>(plan: &Plan, files: &mut F) -> Result<(), ProgramFault>
     ensures unsent { IsErr result
         → HasFailed (F.Write.failures files.old) (F.Write.failures files.new) }
@@ -135,7 +121,6 @@ fn send_directory<F: Files>(plan: &Plan, files: &mut F) -> Result<(), ProgramFau
     }
 }
 
-/// Ends the directory.
 fn finish_directory<F: Files>(files: &mut F) -> Result<(), ProgramFault>
     ensures refused { IsErr result → F.refusals files.new ≡ counted (F.refusals files.old) }
     ensures fault { IfErr result (λ fault. fault ≡ ProgramFault.Unsent) }

@@ -9,7 +9,6 @@ use crate::source_counts::SourceCounts;
 use dd_engine::Supply;
 use dd_files::{Files, NotThere, Progress};
 
-/// Files that are read as sources, by their paths.
 pub(crate) struct FileSupply<'a, F: Files> {
     files: &'a mut F,
     paths: &'a [String],

@@ -1,4 +1,3 @@
-//! The command `index`: makes a file-set of sources.
 ghost use Rattle.std.specs.Prelude.{◌≡◌, ◌≤◌, IfErr, IfOk, IsErr, IsOk, false, length, true};
 ghost use Rattle.dd_elem.specs.Device.{HasFailed};
 ghost use Rattle.dd_engine.specs.Indexed.{IsNamed, IsWithin};
@@ -25,10 +24,9 @@ use dd_layout::Limits;
 use std::alloc::Global;
 use std::fmt;
 
-/// Runs `index`: reads all sources, prints what is skipped and what is noted, and makes the file-set of the
-/// others, or prints what would be made.
+/// Runs `index`: reads all sources, prints what is skipped and what is noted, and makes the file-set of the others, or
+/// prints what would be made.
 pub(crate) fn run_index<F: Files + Progress, O: Write>(
-    alloc: Global,
     making: Making<'_>,
     sources: &[String],
     files: &mut F,
@@ -41,9 +39,9 @@ pub(crate) fn run_index<F: Files + Progress, O: Write>(
         → DoneIndexes result making.entry.names.now.choice making.entry.max_bytes
         (words_of sources.now) making.entry.folder.now (F.held files.old) (F.held files.new) }
 {
-    let mut counts = counts_of(alloc, sources.len())?;
+    let mut counts = counts_of(making.alloc, sources.len())?;
     files.begin_step(Step::Reading, sources.len() as u64);
-    let answer = index_files(alloc, making, sources, &mut counts, files);
+    let answer = index_files(making, sources, &mut counts, files);
     files.hide_line();
     let noted = match answer {
         Ok(noted) => noted,
@@ -65,11 +63,9 @@ pub(crate) fn run_index<F: Files + Progress, O: Write>(
         origins: &SourceFiles { paths: sources },
         picks: &indexed.picks,
     };
-    make_file_set(alloc, &set, files, out)
+    make_file_set(making.alloc, &set, files, out)
 }
 
-/// Prints which sources are skipped, which are left out, and which Patient IDs have more than one name. It fails
-/// only where the output failed.
 fn tell_noted<O: Write>(noted: &NotedIndex, sources: &[String], out: &mut O) -> fmt::Result
     requires within { IsWithin (length sources.now) noted.now.indexed }
     requires below { AreBelow (λ at. at) (length sources.now) noted.now.notes.left_out.items }
@@ -81,7 +77,6 @@ fn tell_noted<O: Write>(noted: &NotedIndex, sources: &[String], out: &mut O) -> 
     tell_names(&noted.notes.names, out)
 }
 
-/// Adds up the bytes of these sources, up to `u64::MAX`.
 fn bytes_of(picks: &[usize], counts: &[SourceCounts]) -> u64 {
     let mut bytes = 0u64;
     for at in picks {
@@ -92,9 +87,7 @@ fn bytes_of(picks: &[usize], counts: &[SourceCounts]) -> u64 {
     bytes
 }
 
-/// Reads these files as sources, each with its counts, and plans the directory of their versions.
 fn index_files<F: Files + Progress>(
-    alloc: Global,
     making: Making<'_>,
     sources: &[String],
     counts: &mut [SourceCounts],
@@ -114,7 +107,7 @@ fn index_files<F: Files + Progress>(
     let mut supply = FileSupply::new(files, sources, counts);
     let limits = Limits::of_bytes(making.max_bytes);
     index_with_notes(
-        alloc,
+        making.alloc,
         &mut supply,
         &making.names.choice,
         limits,
@@ -122,7 +115,6 @@ fn index_files<F: Files + Progress>(
     )
 }
 
-/// The counts of a number of sources.
 fn counts_of(alloc: Global, sources: usize) -> Result<Vec<SourceCounts>, Memory>
     ensures { IfOk result (λ counts. length counts.items ≡ sources) }
 {
@@ -133,7 +125,7 @@ fn counts_of(alloc: Global, sources: usize) -> Result<Vec<SourceCounts>, Memory>
     Ok(counts)
 }
 
-/// Prints which sources have the two instances that conflict, if the plan is refused for two, and gives the refusal.
+/// Gives the refusal. Where two instances conflict, prints first which sources have them.
 fn refuse<O: Write>(
     sources: &[String],
     noted: &NotedFault<EngineFault, usize>,

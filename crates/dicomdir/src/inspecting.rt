@@ -12,8 +12,6 @@ use dd_line::{CheckRequest, ListRequest};
 use dd_report::{Check, CheckFault, Comparison, Form, check_records, list_records, print_line};
 use std::alloc::Global;
 
-/// Gives the comparison that `check` makes: of keys, too, where the line has `--keys`, and one that finds records
-/// without a digest where it has `--strict`.
 pub(crate) fn comparison_of(check: &CheckRequest) -> Comparison
     ensures keys { result.keys ≡ check.now.keys }
     ensures strict { result.strict ≡ check.now.strict }
@@ -24,14 +22,12 @@ pub(crate) fn comparison_of(check: &CheckRequest) -> Comparison
     }
 }
 
-/// Gives the form that `list` prints: the long one where the line has `--long`.
 pub(crate) fn form_of(list: &ListRequest) -> Form
     ensures { (result ≡ Form.Long) ↔ (list.now.long ≡ true) }
 {
     if list.long { Form::Long } else { Form::Short }
 }
 
-/// Runs `check` on the file-set in this folder.
 pub(crate) fn run_check<F: Files + Progress, O: Write>(
     alloc: Global,
     folder: &str,
@@ -62,7 +58,7 @@ pub(crate) fn run_check<F: Files + Progress, O: Write>(
     }
 }
 
-/// Prints why a directory can't be read, as a finding, and answers the status.
+/// Prints why a directory can't be read, as a finding, and gives the status.
 fn tell_broken<O: Write>(fault: &DirFault, out: &mut O) -> u8
     ensures status { (result ≡ 1) ⊎ (result ≡ 3) }
     ensures failed { result ≡ 1 → HasFailed (O.failures out.old) (O.failures out.new) }
@@ -74,7 +70,6 @@ fn tell_broken<O: Write>(fault: &DirFault, out: &mut O) -> u8
     }
 }
 
-/// Runs `list` on the file-set in this folder, in this form.
 pub(crate) fn run_list<F: Files, O: Write>(
     alloc: Global,
     folder: &str,

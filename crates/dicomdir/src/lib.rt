@@ -1,7 +1,7 @@
-//! The program `dicomdir`, over any files and outputs: the file-set that it makes of sources or of other
-//! file-sets (PS3.3 annex F, PS3.10 section 8), and its libraries, under one name.
+//! The program `dicomdir`, over any files and outputs: makes a file-set from sources or from other file-sets (PS3.3
+//! annex F, PS3.10 section 8). Re-exports its libraries.
 //!
-//! What it promises itself stands at `run`.
+//! `run` has its contract.
 #![tactic(auto)]
 
 mod copies;
@@ -10,9 +10,11 @@ mod empty_paths;
 mod file_set;
 mod file_supply;
 mod image_path;
+mod images;
 mod index;
 mod inspecting;
 mod line_refusal;
+mod links;
 mod listed_names;
 mod making;
 mod masked_words;

@@ -1,4 +1,3 @@
-//! Prints why a command line is refused, or the help that it asks for.
 ghost use Rattle.std.specs.Prelude.{◌≡◌, ◌≤◌, true};
 ghost use Rattle.dicomdir.specs.Mistakes.{IsMistake};
 
@@ -10,8 +9,8 @@ use dd_report::Text;
 use std::alloc::Global;
 use std::fmt;
 
-/// Prints why these words are refused, or the help that they ask for, and answers the status. A control
-/// character of a word is printed as `?`.
+/// Prints why these words are refused, or the help that they ask for, and gives the status. A control character of a
+/// word is printed as `?`.
 pub(crate) fn refuse_line<O: Write, E: Write>(
     alloc: Global,
     words: &[String],
@@ -38,8 +37,8 @@ pub(crate) fn refuse_line<O: Write, E: Write>(
     }
 }
 
-/// Prints the parser's text for these words with `?` in place of each control character, and answers the
-/// status: 1 where an allocation was refused. `mistake` says whether the words themselves have a mistake.
+/// Prints the parser's text for these words with `?` in place of each control character, and gives the status: 1 where
+/// an allocation was refused. `mistake` says whether the words themselves have a mistake.
 fn refuse_masked<O: Write, E: Write>(
     alloc: Global,
     words: &[String],
@@ -64,8 +63,8 @@ fn refuse_masked<O: Write, E: Write>(
     }
 }
 
-/// Prints the parser's text, and answers the status. A mistake goes to the error output, with status 2. Help goes
-/// to the output, with status 0, or 1 where the output failed.
+/// Prints the parser's text, and gives the status. A mistake goes to the error output, with status 2. Help goes to the
+/// output, with status 0, or 1 where the output failed.
 fn tell_parser<O: Write, E: Write>(
     error: &clap::Error,
     mistake: bool,

@@ -1,4 +1,3 @@
-//! Reads lists of names in which a zero byte ends each name.
 ghost use Rattle.std.specs.Prelude.{◌≡◌, ◌≢◌, ◌<◌, ◌++◌, ℕ, [], ◌∷◌, None, Err, length, map, string_bytes};
 ghost use Rattle.std.specs.Prelude.{IfOk, IfSome, IsOk, OnOk};
 ghost use Rattle.dicomdir.specs.ListedNames.{AreNames, FailsAt, IsListOf, IsName, parts};
@@ -8,7 +7,6 @@ use dd_elem::Memory;
 use std::alloc::Global;
 use std::str;
 
-/// Why a list gives no names.
 #[derive(Debug, Drop)]
 pub(crate) enum NamesFault {
     /// An allocation was refused.
@@ -25,17 +23,14 @@ impl From<Memory> for NamesFault {
     }
 }
 
-/// Reads the names of a list. A zero byte ends each name, but the last one may end with the list. BadName has the
-/// number of the first name that is empty or not UTF-8, and number 1 where there is no name. Memory where an allocation
-/// was refused. Each name is copied once.
+/// Reads the names of a list. A zero byte ends each name, but the last one may end with the list. A list without names
+/// is BadName 1. Each name is copied once.
 pub(crate) fn names_in(alloc: Global, list: &[u8]) -> Result<Vec<String>, NamesFault>
     ensures names { IfOk result (λ names.
         map (λ name. string_bytes name) names.items ≡ parts list.now) }
     ensures good { IsOk result → AreNames (parts list.now) }
     ensures bad { (number : ℕ) → result ≡ Err (NamesFault.BadName number)
         → FailsAt (parts list.now) number }
-
-    // The parts make up the list, each with a zero byte after it.
     ensures listed { IsListOf (parts list.now) list.now }
 {
     let mut names = Vec::new(alloc);
@@ -54,7 +49,6 @@ pub(crate) fn names_in(alloc: Global, list: &[u8]) -> Result<Vec<String>, NamesF
     Ok(names)
 }
 
-/// Splits a list into its first part and what stands after that.
 fn cut_first(list: &[u8]) -> (&[u8], &[u8])
     ensures parts { list.now ≢ [] → parts list.now ≡ result.0.now ∷ parts result.1.now }
     ensures shorter { list.now ≢ [] → length result.1.now < length list.now }
@@ -65,7 +59,6 @@ fn cut_first(list: &[u8]) -> (&[u8], &[u8])
     }
 }
 
-/// Reads the part as a name. None where it is empty or not UTF-8.
 fn name_in(part: &[u8]) -> Option<&str>
     ensures name { IfSome result (λ name. (name.now ≡ part.now) × IsName part.now) }
     ensures none { result ≡ None → ¬ IsName part.now }
@@ -76,7 +69,6 @@ fn name_in(part: &[u8]) -> Option<&str>
     str::from_utf8(part).ok()
 }
 
-/// Puts a copy of the name after the names.
 fn add(alloc: Global, name: &str, names: &mut Vec<String>) -> Result<(), Memory>
     ensures { OnOk result (map (λ name. string_bytes name) names.new.items
         ≡ map (λ name. string_bytes name) names.old.items ++ name.now ∷ []) }

@@ -1,4 +1,3 @@
-//! How a command makes its file-set, and the last line that it prints.
 ghost use Rattle.std.specs.Prelude.{◌≡◌, ◌≤◌, ◌⊎◌, All, IfErr, IfOk, IsOk, length, string_bytes};
 ghost use Rattle.dd_elem.specs.Device.{HasFailed};
 ghost use Rattle.dd_layout.specs.Plans.{size};
@@ -22,13 +21,12 @@ use std::alloc::Global;
 /// How a command makes its file-set.
 #[derive(Clone, Copy)]
 pub(crate) struct Making<'a> {
-    /// The folder that it is made in.
+    pub(crate) alloc: Global,
     pub(crate) folder: &'a str,
-    /// The names that the command line gives: its label, and the instances that are withdrawn.
     pub(crate) names: &'a Names,
     /// The most bytes that its directory may have.
     pub(crate) max_bytes: u32,
-    /// Whether the run is refused where a line SKIP or NOTE was printed.
+    /// Whether a line SKIP or NOTE refuses the run.
     pub(crate) strict: bool,
     /// Whether nothing is made, and the last line says what would be made.
     pub(crate) dry_run: bool,
@@ -37,8 +35,7 @@ pub(crate) struct Making<'a> {
 }
 
 impl<'a> Making<'a> {
-    /// Says how this file-set is made, by these names, with hard links or without.
-    pub(crate) fn of(new_set: &'a NewSet, names: &'a Names, link: bool) -> Making<'a>
+    pub(crate) fn of(alloc: Global, new_set: &'a NewSet, names: &'a Names, link: bool) -> Making<'a>
         ensures folder { result.folder.now ≡ string_bytes new_set.now.out }
         ensures names { result.names.now ≡ names.now }
         ensures limit { result.max_bytes ≡ new_set.now.max_bytes }
@@ -47,6 +44,7 @@ impl<'a> Making<'a> {
         ensures link { result.link ≡ link }
     {
         Making {
+            alloc,
             folder: new_set.out.as_str(),
             names,
             max_bytes: new_set.max_bytes,
@@ -67,7 +65,6 @@ pub(crate) enum Ending {
 }
 
 impl Ending {
-    /// Gives the word that the line begins with.
     fn word(self) -> &'static str
         ensures { result.now ≡ word_of self }
     {
@@ -78,7 +75,7 @@ impl Ending {
     }
 }
 
-/// Makes this file-set, prints that, and answers the status: 1 where the output failed.
+/// Makes this file-set, prints that, and gives the status: 1 where the output failed.
 pub(crate) fn make_file_set<F: Files + Progress, O: Origins, W: Write>(
     alloc: Global,
     set: &FileSet<'_, O>,
@@ -97,8 +94,8 @@ pub(crate) fn make_file_set<F: Files + Progress, O: Origins, W: Write>(
     Ok(tell_counts(Ending::Done, set.plan, out))
 }
 
-/// Prints the last line: how many images the file-set has, and the size of its directory. Answers the status: 1
-/// where the output failed.
+/// Prints the last line: how many images the file-set has, and the size of its directory. Gives the status: 1 where the
+/// output failed.
 pub(crate) fn tell_counts<O: Write>(ending: Ending, plan: &Plan, out: &mut O) -> u8
     ensures status { (result ≡ 0) ⊎ (result ≡ 1) }
     ensures done { result ≡ 0 → TakesText O.Write out.old out.new (ending_text ending
@@ -114,8 +111,7 @@ pub(crate) fn tell_counts<O: Write>(ending: Ending, plan: &Plan, out: &mut O) ->
     }
 }
 
-/// Prints what would be made, with the number of bytes of all images. Answers the status: 1 where the output
-/// failed.
+/// Prints what would be made, with the number of bytes of all images. Gives the status: 1 where the output failed.
 pub(crate) fn tell_plan_of_images<O: Write>(plan: &Plan, images: u64, out: &mut O) -> u8
     ensures status { (result ≡ 0) ⊎ (result ≡ 1) }
     ensures done { result ≡ 0 → TakesText O.Write out.old out.new

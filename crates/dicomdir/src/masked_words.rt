@@ -1,4 +1,3 @@
-//! The words of a command line as they are shown.
 ghost use Rattle.std.specs.Prelude.{◌≡◌, IfOk, false, map, string_bytes};
 ghost use Rattle.std.specs.List.{list_any};
 ghost use Rattle.dd_report.specs.Text.{masked, masked_char};
@@ -7,26 +6,22 @@ ghost use Rattle.dicomdir.specs.MaskedWords.{has_control};
 use dd_elem::Memory;
 use std::alloc::Global;
 
-/// Does one of the words have a control character?
 pub(crate) fn have_control(words: &[String]) -> bool
     ensures { result ≡ list_any (λ word. has_control (string_bytes word)) words.now }
 {
     words.iter().any(|word| has_control(word.as_str()))
 }
 
-/// Does the text have a control character?
 fn has_control(text: &str) -> bool
     ensures { result ≡ has_control text.now }
 {
     text.chars().any(char::is_control)
 }
 
-/// Copies the words, with `?` for each control character. Memory where an allocation is refused.
+/// Copies the words, with `?` for each control character.
 pub(crate) fn mask_words(alloc: Global, words: &[String]) -> Result<Vec<String>, Memory>
     ensures masked { IfOk result (λ shown. map (λ word. string_bytes word) shown.items
         ≡ map (λ word. masked (string_bytes word)) words.now) }
-
-    // So no word has a control character.
     ensures clear { IfOk result (λ shown.
         list_any (λ word. has_control (string_bytes word)) shown.items ≡ false) }
 {
@@ -37,7 +32,6 @@ pub(crate) fn mask_words(alloc: Global, words: &[String]) -> Result<Vec<String>,
     Ok(shown)
 }
 
-/// Copies a text, with `?` for each control character. Memory where an allocation is refused.
 fn mask(alloc: Global, text: &str) -> Result<String, Memory>
     ensures masked { IfOk result (λ shown. string_bytes shown ≡ masked text.now) }
     ensures clear { IfOk result (λ shown. has_control (string_bytes shown) ≡ false) }
@@ -45,7 +39,6 @@ fn mask(alloc: Global, text: &str) -> Result<String, Memory>
     Ok(text.chars().map(masked_char).collect(alloc)?)
 }
 
-/// Gives the character, or `?` for a control character.
 fn masked_char(c: char) -> char
     ensures { result ≡ masked_char c }
 {

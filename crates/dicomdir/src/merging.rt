@@ -27,7 +27,6 @@ use std::{fmt, slice};
 /// Runs `merge`: reads the directories of all these file-sets, prints what is noted, and makes a file-set of their
 /// images, or prints what would be made.
 pub(crate) fn run_merge<F: Files + Progress, O: Write>(
-    alloc: Global,
     making: Making<'_>,
     sets: &[String],
     files: &mut F,
@@ -41,10 +40,10 @@ pub(crate) fn run_merge<F: Files + Progress, O: Write>(
         (words_of sets.now) (making.entry.link ≡ true) making.entry.folder.now
         (F.held files.old) (F.held files.new) }
 {
-    let directories = read_directories(alloc, sets, files)?;
-    let slices = slices(alloc, &directories)?;
+    let directories = read_directories(making.alloc, sets, files)?;
+    let slices = slices(making.alloc, &directories)?;
     let limits = Limits::of_bytes(making.max_bytes);
-    let noted = match merge_with_notes(alloc, &slices, &making.names.choice, limits) {
+    let noted = match merge_with_notes(making.alloc, &slices, &making.names.choice, limits) {
         Ok(noted) => noted,
         Err(fault) => return Err(refuse(sets, &fault, out)),
     };
@@ -53,13 +52,12 @@ pub(crate) fn run_merge<F: Files + Progress, O: Write>(
         directories: &slices,
         link: making.link,
     };
-    write_noted(alloc, making, &origins, &noted, files, out)
+    write_noted(making, &origins, &noted, files, out)
 }
 
 /// Runs `withdraw` on this file-set: makes a file-set of all its images but the ones that the line withdraws, or
 /// prints what would be made.
 pub(crate) fn run_withdraw<F: Files + Progress, O: Write>(
-    alloc: Global,
     making: Making<'_>,
     set: &String,
     files: &mut F,
@@ -73,15 +71,13 @@ pub(crate) fn run_withdraw<F: Files + Progress, O: Write>(
         making.entry.names.now.withdrawn.items (string_bytes set.now ∷ []) ⊥ making.entry.folder.now
         (F.held files.old) (F.held files.new) }
 {
-    match withdraw_of(alloc, making, slice::from_ref(set), files, out) {
+    match withdraw_of(making, slice::from_ref(set), files, out) {
         Ok(status) => Ok(status),
         Err(refusal) => Err(refusal),
     }
 }
 
-/// Runs `withdraw` on this one file-set.
 fn withdraw_of<F: Files + Progress, O: Write>(
-    alloc: Global,
     making: Making<'_>,
     sets: &[String],
     files: &mut F,
@@ -96,11 +92,11 @@ fn withdraw_of<F: Files + Progress, O: Write>(
         making.entry.names.now.withdrawn.items (words_of sets.now) ⊥ making.entry.folder.now
         (F.held files.old) (F.held files.new) }
 {
-    let directories = read_directories(alloc, sets, files)?;
-    let slices = slices(alloc, &directories)?;
+    let directories = read_directories(making.alloc, sets, files)?;
+    let slices = slices(making.alloc, &directories)?;
     let limits = Limits::of_bytes(making.max_bytes);
     let noted = match withdraw_with_notes(
-        alloc,
+        making.alloc,
         slices[0],
         &making.names.withdrawn,
         &making.names.choice,
@@ -114,13 +110,12 @@ fn withdraw_of<F: Files + Progress, O: Write>(
         directories: &slices,
         link: false,
     };
-    write_noted(alloc, making, &origins, &noted, files, out)
+    write_noted(making, &origins, &noted, files, out)
 }
 
 /// Prints what is noted of these file-sets, and then makes what was planned of them, or prints what would be made.
 /// Answers the status.
 fn write_noted<'a, F: Files + Progress, O: Write>(
-    alloc: Global,
     making: Making<'_>,
     sets: &SetFiles<'_, 'a>,
     noted: &NotedMerge<'a>,
@@ -154,10 +149,9 @@ fn write_noted<'a, F: Files + Progress, O: Write>(
         origins: sets,
         picks: &noted.merged.picks,
     };
-    make_file_set(alloc, &set, files, out)
+    make_file_set(making.alloc, &set, files, out)
 }
 
-/// Says whether there is a note on these file-sets.
 fn is_noted(noted: &NotedMerge<'_>) -> bool
     ensures { IsTrue result ↔ IsNoted noted.now }
 {
@@ -192,7 +186,6 @@ fn tell_noted<O: Write>(
     tell_names(&notes.names, out)
 }
 
-/// The bytes of all directories.
 pub(crate) fn slices<'a>(alloc: Global, all: &'a [Vec<u8>]) -> Result<Vec<&'a [u8]>, Memory>
     ensures count { IfOk result (λ slices. length slices.items ≡ length all.now) }
     ensures bytes { IfOk result (λ slices.

@@ -1,4 +1,3 @@
-//! The names that a command line gives.
 ghost use Rattle.std.specs.Prelude.{◌≡◌, [], IfErr, IfOk, IsErr, IsOk, string_bytes, unwrap_or};
 ghost use Rattle.dd_elem.specs.Uid.{IsUid};
 ghost use Rattle.dd_line.specs.Line.{words_of};
@@ -12,17 +11,15 @@ use dd_engine::Choice;
 use dd_line::Request;
 use std::alloc::Global;
 
-/// The names of a command line.
+/// The label and the UIDs that a command line gives.
 #[derive(Debug, Drop)]
 pub(crate) struct Names {
-    /// The label of the file-set that is made.
     pub(crate) choice: Choice,
-    /// The instances that are withdrawn.
     pub(crate) withdrawn: Vec<Uid>,
 }
 
-/// Reads the names that a request spells: the ID, then the UID, then the UIDs to withdraw, in their order.
-/// Refused by the first name of the wrong form, or as Memory where an allocation was refused.
+/// Reads the names of a request: the ID, then the UID, then the UIDs to withdraw, in their order. Refused by the first
+/// name of the wrong form, or as Memory where an allocation was refused.
 pub(crate) fn names_of(alloc: Global, request: &Request) -> Result<Names, ProgramFault>
     ensures bad { IfErr result (λ fault. IsBadLine fault → RequestsBadName request.now) }
     ensures good { IsOk result → ¬ RequestsBadName request.now }
@@ -36,7 +33,6 @@ pub(crate) fn names_of(alloc: Global, request: &Request) -> Result<Names, Progra
     Ok(Names { choice, withdrawn })
 }
 
-/// Gives the UIDs that a request withdraws.
 fn instances_in(request: &Request) -> &[String]
     ensures { result.now ≡ instances_of request.now }
 {
@@ -46,7 +42,6 @@ fn instances_in(request: &Request) -> &[String]
     }
 }
 
-/// Reads the label that a request asks for: the ID, then the UID.
 fn choice_of(request: &Request) -> Result<Choice, ProgramFault>
     ensures bad { IsErr result → HasBadLabel request.now }
     ensures good { IsOk result → ¬ HasBadLabel request.now }
@@ -63,7 +58,6 @@ fn choice_of(request: &Request) -> Result<Choice, ProgramFault>
     }
 }
 
-/// Reads the ID of the file-set that a request asks for. It is empty where the request has no ID.
 fn set_id_of(request: &Request) -> Result<SetId, ProgramFault>
     ensures bad { IsErr result → HasBadId request.now }
     ensures good { IsOk result → ¬ HasBadId request.now }
@@ -79,7 +73,6 @@ fn set_id_of(request: &Request) -> Result<SetId, ProgramFault>
     }
 }
 
-/// Reads the UID of the file-set that a request asks for, where it has one.
 fn own_uid_of(request: &Request) -> Result<Option<Uid>, ProgramFault>
     ensures bad { IsErr result → HasBadOwnUid request.now }
     ensures good { IsOk result → ¬ HasBadOwnUid request.now }
@@ -94,7 +87,6 @@ fn own_uid_of(request: &Request) -> Result<Option<Uid>, ProgramFault>
     }
 }
 
-/// Reads these UIDs. Refused by the first text that is not a UID, or as Memory where an allocation was refused.
 fn uids_of(alloc: Global, mut texts: &[String]) -> Result<Vec<Uid>, ProgramFault>
     ensures bad { IfErr result (λ fault. IsBadLine fault → HasBadUid texts.entry.now) }
     ensures good { IsOk result → ¬ HasBadUid texts.entry.now }
@@ -111,7 +103,6 @@ fn uids_of(alloc: Global, mut texts: &[String]) -> Result<Vec<Uid>, ProgramFault
     Ok(uids)
 }
 
-/// Reads a UID.
 fn uid_from(text: &String) -> Result<Uid, ProgramFault>
     ensures bad { IsErr result → ¬ IsUid (string_bytes text.now) }
     ensures good { IsOk result → IsUid (string_bytes text.now) }

@@ -1,4 +1,4 @@
-//! What a command says of its sources before it makes anything.
+//! Prints what a command says of its sources before it makes anything.
 ghost use Rattle.std.specs.Prelude.{◌≡◌, ◌↔◌, ◌<◌, ℕ, All, IfErr, IsErr, IsOk, IsTrue, length, true};
 ghost use Rattle.dd_elem.specs.Device.{HasFailed};
 ghost use Rattle.dd_engine.specs.Noting.{AreBelow, IsBelow};
@@ -18,7 +18,7 @@ use std::fmt::{self, InlineText};
 /// The text of a UID: it has at most 64 characters (PS3.5 section 9.1).
 pub(crate) type UidText = InlineText<64>;
 
-/// Prints each source that is skipped, and why. It fails only where the output failed.
+/// Prints each source that is skipped, and why.
 pub(crate) fn tell_skipped<O: Write>(
     skipped: &[(usize, KeyFault)],
     sources: &[String],
@@ -36,8 +36,7 @@ pub(crate) fn tell_skipped<O: Write>(
     Ok(())
 }
 
-/// Prints each file that is left out, and which one is kept. The sources, or the folders of the file-sets, are
-/// these. It fails only where the output failed.
+/// Prints each file that is left out, and which one is kept. `paths` are the sources, or the folders of the file-sets.
 pub(crate) fn tell_left_out<T: ShownFile, O: Write>(
     left_out: &[LeftOut<T>],
     paths: &[String],
@@ -55,7 +54,6 @@ pub(crate) fn tell_left_out<T: ShownFile, O: Write>(
     Ok(())
 }
 
-/// Prints that a file is left out, since another file of its instance is kept.
 fn tell_left_out_for<O: Write>(
     file: ShownPath<'_>,
     kept: ShownPath<'_>,
@@ -75,7 +73,6 @@ fn tell_left_out_for<O: Write>(
     )
 }
 
-/// Prints the line of a file that is left out, with the parts of both paths and the UID that both files have.
 fn print_left_out<O: Write>(
     file: (&str, &str, &str),
     kept: (&str, &str, &str),
@@ -105,7 +102,7 @@ fn print_left_out<O: Write>(
     )
 }
 
-/// Prints the Patient IDs that have more than one name. It fails only where the output failed.
+/// Prints the Patient IDs that have more than one name.
 pub(crate) fn tell_names<O: Write>(patients: &[PatientNames], out: &mut O) -> fmt::Result
     ensures worked { IsOk result → O.failures out.new ≡ O.failures out.old }
     ensures failed { IsErr result → HasFailed (O.failures out.old) (O.failures out.new) }
@@ -116,7 +113,7 @@ pub(crate) fn tell_names<O: Write>(patients: &[PatientNames], out: &mut O) -> fm
     Ok(())
 }
 
-/// Prints the names of a patient, at most ten of them.
+/// Prints the line of a patient, with at most ten names.
 fn tell_names_of<O: Write>(patient: &PatientNames, out: &mut O) -> fmt::Result
     ensures worked { IsOk result → O.failures out.new ≡ O.failures out.old }
     ensures failed { IsErr result → HasFailed (O.failures out.old) (O.failures out.new) }
@@ -127,7 +124,6 @@ fn tell_names_of<O: Write>(patient: &PatientNames, out: &mut O) -> fmt::Result
     print_names(patient.id().as_bytes(), count.as_bytes(), names, out)
 }
 
-/// Prints the line of a Patient ID with this number of names.
 fn print_names<O: Write>(id: &[u8], count: &[u8], names: &[Key], out: &mut O) -> fmt::Result
     ensures worked { IsOk result → O.failures out.new ≡ O.failures out.old }
     ensures failed { IsErr result → HasFailed (O.failures out.old) (O.failures out.new) }
@@ -165,7 +161,7 @@ fn print_names<O: Write>(id: &[u8], count: &[u8], names: &[Key], out: &mut O) ->
     )
 }
 
-/// Gives what stands after the ID: for `NOID` that it also stands for a patient without an ID.
+/// Gives what follows the ID: `NOID` also stands for a patient without an ID.
 fn or_none(id: &[u8]) -> &[u8] {
     if id == b"NOID".as_slice() {
         b" or none"
@@ -174,7 +170,6 @@ fn or_none(id: &[u8]) -> &[u8] {
     }
 }
 
-/// Gives the name of this number, `-` for an empty one, and nothing where there are fewer names.
 fn name_at(names: &[Key], at: usize) -> &[u8] {
     match names.get(at) {
         Some(name) if name.as_bytes().is_empty() => b"-",
@@ -183,18 +178,16 @@ fn name_at(names: &[Key], at: usize) -> &[u8] {
     }
 }
 
-/// Gives what stands before the name of this number, where there is one.
 fn mark_before(names: &[Key], at: usize) -> &[u8] {
     if at < names.len() { b", " } else { b"" }
 }
 
-/// Gives what stands after the tenth name where there are more.
 fn mark_behind(names: &[Key]) -> &[u8] {
     if names.len() > 10 { b", .." } else { b"" }
 }
 
-/// Prints which files have the two instances that conflict, if the plan is refused for two. The sources, or the
-/// folders of the file-sets, are these. Where the output fails, nothing more is printed.
+/// Prints which files have the two instances that conflict, if the plan is refused for two. `paths` are the sources, or
+/// the folders of the file-sets. Where the output fails, nothing more is printed.
 pub(crate) fn tell_conflict<T: ShownFile, O: Write>(
     fault: &PlanFault,
     conflict: &Option<ConflictingFiles<T>>,
@@ -210,14 +203,12 @@ pub(crate) fn tell_conflict<T: ShownFile, O: Write>(
     }
 }
 
-/// Prints that a file has this instance.
 fn tell_has<O: Write>(file: ShownPath<'_>, instance: &Uid, out: &mut O) -> fmt::Result {
     let inside = file.inside;
     let uid = UidText::of(instance);
     print_has(file.folder, file.joint, inside.as_str(), uid.as_str(), out)
 }
 
-/// Prints the line of a file that has an instance, with the parts of its path and the UID.
 fn print_has<O: Write>(
     folder: &str,
     joint: &str,
@@ -228,7 +219,6 @@ fn print_has<O: Write>(
     print_line(&["NOTE ", folder, joint, inside, ": has ", uid], out)
 }
 
-/// Says whether there is a note to tell.
 pub(crate) fn has_notes<T>(notes: &Notes<T>) -> bool
     ensures { IsTrue result ↔ HasNotes notes.now }
 {

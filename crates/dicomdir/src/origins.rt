@@ -1,4 +1,3 @@
-//! What the images of a file-set are copied from.
 ghost use Rattle.std.specs.Prelude.{◌≡◌, ◌<◌, ℕ, List, IfOk, IfSome, length, map, string_bytes, true};
 ghost use Rattle.dicomdir.specs.Claims.{IsClaimant};
 ghost use Rattle.dicomdir.specs.Made.{IsMemberPath, IsPathAt};
@@ -12,15 +11,13 @@ use dd_files::file_path;
 use dd_version::Version;
 use std::alloc::Global;
 
-/// Files that images are copied from.
+/// The files that images are copied from.
 pub(crate) trait Origins {
     ghost use Rattle.dd_version.specs.declared.parts.Parts.{Parts};
     ghost use Rattle.dicomdir.specs.declared.refusal.Subject.{Subject};
 
-    /// Says which of the files is meant.
     type Pick: Copy;
 
-    // There is such a file.
     ghost has: { Self → Self.Pick → Type 0 };
 
     // How many paths the command line gives.
@@ -41,23 +38,19 @@ pub(crate) trait Origins {
     // A refusal names this where the file is not what the plan says of it.
     ghost is_claimant: { Self → Self.Pick → Parts → Subject → Type 0 };
 
-    /// Makes the path of the file. Memory where an allocation is refused.
     fn path(&self, alloc: Global, pick: Self::Pick) -> Result<String, Memory>
         requires { has self.now pick }
         ensures { IfOk result (λ path. stands_at self.now pick (string_bytes path)) };
 
-    /// Gives the folder of the file-set that has the file, where one has it.
     fn set(&self, pick: Self::Pick) -> Option<&str>
         requires { has self.now pick }
         ensures { IfSome result (λ set. is_in self.now pick set.now) };
 
-    /// Says whether files of file-sets get hard links in place of copies.
     fn gives_links(&self) -> bool
         ensures { result ≡ true → gives_links self.now };
 
-    /// Finds what a refusal names where the file is not what the plan says of it: the file of the first record
-    /// that says what the plan says, or the picked file where no record does or a set can't be read again. Memory
-    /// where an allocation is refused.
+    /// Finds what a refusal names where the file is not what the plan says of it: the file of the first record that
+    /// says what the plan says, or the picked file where no record does or a set can't be read again.
     fn claimant(
         &self,
         alloc: Global,
@@ -68,7 +61,6 @@ pub(crate) trait Origins {
         ensures claimed { IfOk result (is_claimant self.now pick planned.now) }
         ensures among { IfOk result (IsAmong (paths self.now)) };
 
-    /// Says what a refusal names where the file can't be opened or read, or has changed.
     fn subject(&self, pick: Self::Pick) -> Subject
         requires { has self.now pick }
         ensures subject { is_subject self.now pick result }
@@ -78,7 +70,6 @@ pub(crate) trait Origins {
 /// Sources, each by its number.
 #[derive(Clone, Copy)]
 pub(crate) struct SourceFiles<'a> {
-    /// Their paths.
     pub(crate) paths: &'a [String],
 }
 
@@ -124,11 +115,8 @@ impl Origins for SourceFiles<'_> {
 /// Files of file-sets, each by the number of its set and its File ID.
 #[derive(Clone, Copy)]
 pub(crate) struct SetFiles<'s, 'a> {
-    /// The folders of the file-sets.
     pub(crate) folders: &'s [String],
-    /// The bytes of their directories.
     pub(crate) directories: &'s [&'a [u8]],
-    /// Whether images get hard links in place of copies.
     pub(crate) link: bool,
 }
 

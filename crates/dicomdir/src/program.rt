@@ -1,12 +1,12 @@
 //! The program's run.
 ghost use Rattle.std.specs.Prelude.{◌≡◌, ◌≤◌, ◌<◌, ◌⊎◌, IfErr, IfOk, length, true, false};
 ghost use Rattle.dd_line.specs.Line.{HasBadName, IsCheck, IsReading, LacksSources, OnlyReads};
-ghost use Rattle.dd_line.specs.Requests.{RequestsBadName, folder_of, is_dry, links, read_of, verb_of};
+ghost use Rattle.dd_line.specs.Requests.{folder_of, is_dry, links, read_of, verb_of};
 ghost use Rattle.dicomdir.specs.DryRun.{HasDryRun, HasLink, first_path};
 ghost use Rattle.dicomdir.specs.EmptyPaths.{HasEmptyPath, RequestsEmptyPath};
 ghost use Rattle.dicomdir.specs.Made.{DoneMakes, MakesSome};
 ghost use Rattle.dicomdir.specs.Refusal.{IsOfWork};
-ghost use Rattle.dicomdir.specs.Words.{IsStatusOf, IsTaken, MakesRequested, line_of};
+ghost use Rattle.dicomdir.specs.Words.{IsRequestStatus, IsStatusOf, IsTaken, MakesRequested, line_of};
 
 use crate::empty_paths::empty_path;
 use crate::index::run_index;
@@ -19,16 +19,13 @@ use crate::refusal::{Paths, Refusal, tell};
 use crate::source_paths::all_sources;
 use dd_elem::Write;
 use dd_files::{Files, Progress};
-use dd_line::{Request, Verb, read_request};
+use dd_line::{Request, read_request};
 use std::alloc::Global;
 use std::slice;
 
-/// A request, and the names that it spells.
 #[derive(Clone, Copy)]
 struct Work<'a> {
-    /// What the line asks for.
     request: &'a Request,
-    /// The names, read.
     names: &'a Names,
 }
 
@@ -37,7 +34,6 @@ struct Work<'a> {
 struct LinePaths<'a> {
     /// The folder that it writes to, if it does, and else empty.
     folder: &'a str,
-    /// The paths that it reads.
     sources: &'a [String],
 }
 
@@ -81,40 +77,31 @@ pub fn run<F: Files + Progress, O: Write, E: Write>(
     err: &mut E,
 ) -> u8
     ensures status { result ≤ 3 }
-
-    // Only `check` finds something.
     ensures findings { result ≡ 3 → IsCheck (line_of words.items) }
-
-    // A command line at fault leaves the files and the output as they were.
     ensures line { result ≡ 2 → (files.new ≡ files.old) × (out.new ≡ out.old) }
 
-    // It is at fault only where the program does not take the words, or where they give an ID or a UID of the
-    // wrong form, or no source. The work of such a line is never done.
+    // The work of a line with a bad name, or without sources, is never done.
     ensures words { result ≡ 2 → IsTaken words.items
         → HasBadName (line_of words.items) ⊎ LacksSources (line_of words.items) }
     ensures names { result ≡ 0 → IsTaken words.items → ¬ HasBadName (line_of words.items) }
     ensures sources { IsTaken words.items → LacksSources (line_of words.items)
         → (1 ≤ result) × (files.new ≡ files.old) × (out.new ≡ out.old) }
-
-    // With an empty path a line leaves the files and the output as they were, too, and its work is not done.
     ensures empty { IsTaken words.items → HasEmptyPath (line_of words.items)
         → (1 ≤ result) × (files.new ≡ files.old) × (out.new ≡ out.old) }
 
-    // Where the files tell what they hold, `check`, `list` and each command with `--dry-run` leave them as they were.
+    // Where the files say what they hold, `check`, `list` and each command with `--dry-run` leave them as they were.
     ensures reading { IsTaken words.items → IsReading (line_of words.items)
         → F.held files.new ≡ F.held files.old }
     ensures dry { IsTaken words.items → HasDryRun (line_of words.items)
         → F.held files.new ≡ F.held files.old }
 
-    // Where they tell that, each other command that is done has made some file-set in the first of its paths. That is
-    // all images of a plan, in the order of its records, and then its directory. Each image is a copy, a file of the
-    // version that is planned there. Only where the words set `--link` may it be a hard link to a file.
+    // Where they say that, some file-set in the first path: all images of a plan, in the order of its records, and then
+    // its directory. Each image is a copy, a file of the version that is planned there. Only with `--link` may it be a
+    // hard link to a file.
     ensures made { result ≡ 0 → IsTaken words.items
         → ¬ IsReading (line_of words.items) → ¬ HasDryRun (line_of words.items)
         → MakesSome (HasLink (line_of words.items)) (first_path (line_of words.items))
         (F.held files.old) (F.held files.new) }
-
-    // Where the work is done nothing goes to the error output.
     ensures done { result ≡ 0 → err.new ≡ err.old }
 {
     match read_request(alloc, words.as_slice()) {
@@ -123,7 +110,7 @@ pub fn run<F: Files + Progress, O: Write, E: Write>(
     }
 }
 
-/// Runs the command of a request, prints a refusal if there is one, and answers the status.
+/// Prints a refusal if there is one, and answers the status.
 fn run_request<F: Files + Progress, O: Write, E: Write>(
     alloc: Global,
     request: &Request,
@@ -131,11 +118,8 @@ fn run_request<F: Files + Progress, O: Write, E: Write>(
     out: &mut O,
     err: &mut E,
 ) -> u8
-    ensures status { result ≤ 3 }
-    ensures findings { result ≡ 3 → verb_of request.now ≡ Verb.Check }
+    ensures status { IsRequestStatus request.now result }
     ensures line { result ≡ 2 → (files.new ≡ files.old) × (out.new ≡ out.old) }
-    ensures bad { result ≡ 2 → RequestsBadName request.now }
-    ensures good { result ≡ 0 → ¬ RequestsBadName request.now }
     ensures empty { RequestsEmptyPath request.now
         → (1 ≤ result) × (files.new ≡ files.old) × (out.new ≡ out.old) }
     ensures done { result ≡ 0 → err.new ≡ err.old }
@@ -200,7 +184,6 @@ fn run_named<F: Files + Progress, O: Write, E: Write>(
     }
 }
 
-/// Says whether no progress is shown.
 fn is_quiet(request: &Request) -> bool {
     match request {
         Request::Index(index) => index.new_set.quiet,
@@ -233,7 +216,6 @@ fn tell_refusal<F: Files + Progress, E: Write>(
     tell(refusal, paths, err)
 }
 
-/// Prints that one of these paths is empty, and answers the status.
 fn tell_empty<E: Write>(refusal: &Refusal, paths: LinePaths<'_>, err: &mut E) -> u8
     requires { IsOfWork (length paths.sources.now) refusal.now }
     ensures { result ≡ 1 }
@@ -247,7 +229,6 @@ fn tell_empty<E: Write>(refusal: &Refusal, paths: LinePaths<'_>, err: &mut E) ->
     tell(refusal, paths, err)
 }
 
-/// Gives the paths that the line has itself.
 fn paths_of(request: &Request) -> LinePaths<'_>
     ensures folder { result.folder.now ≡ folder_of request.now }
     ensures sources { result.sources.now ≡ read_of request.now }
@@ -258,7 +239,7 @@ fn paths_of(request: &Request) -> LinePaths<'_>
     }
 }
 
-/// Gives the folder of the new file-set, empty where none is made.
+/// Gives an empty path where no file-set is made.
 fn folder_in(request: &Request) -> &str
     ensures { result.now ≡ folder_of request.now }
 {
@@ -270,7 +251,6 @@ fn folder_in(request: &Request) -> &str
     }
 }
 
-/// Gives the paths of the line that the command reads.
 fn sources_in(request: &Request) -> &[String]
     ensures { result.now ≡ read_of request.now }
 {
@@ -283,7 +263,7 @@ fn sources_in(request: &Request) -> &[String]
     }
 }
 
-/// Gives the path of the list of names that the line gives, empty where it gives none.
+/// Gives an empty path where the line names no list.
 fn list_of(request: &Request) -> &str {
     let sources = match request {
         Request::Index(index) => &index.sources,
@@ -308,14 +288,10 @@ fn run_verb<F: Files + Progress, O: Write>(
     ensures refusal { IfErr result (IsOfWork (length sources.now)) }
     ensures status { IfOk result (λ status. IsStatusOf (verb_of work.entry.request.now) status) }
 
-    // Where the files tell what they hold, a command that only reads leaves them as they were, and so does one that
-    // only plans.
     ensures kept { OnlyReads (verb_of work.entry.request.now)
         → F.held files.new ≡ F.held files.old }
     ensures dry { is_dry work.entry.request.now ≡ true → F.held files.new ≡ F.held files.old }
 
-    // A command that writes and is done has made a file-set in the folder, with hard links only where it is asked for
-    // them.
     ensures made { ¬ OnlyReads (verb_of work.entry.request.now)
         → is_dry work.entry.request.now ≡ false
         → DoneMakes result (links work.entry.request.now ≡ true)
@@ -324,16 +300,16 @@ fn run_verb<F: Files + Progress, O: Write>(
     let Work { request, names } = work;
     match request {
         Request::Index(index) => {
-            let making = Making::of(&index.new_set, names, false);
-            run_index(alloc, making, sources, files, out)
+            let making = Making::of(alloc, &index.new_set, names, false);
+            run_index(making, sources, files, out)
         }
         Request::Merge(merge) => {
-            let making = Making::of(&merge.new_set, names, merge.link);
-            run_merge(alloc, making, sources, files, out)
+            let making = Making::of(alloc, &merge.new_set, names, merge.link);
+            run_merge(making, sources, files, out)
         }
         Request::Withdraw(withdraw) => {
-            let making = Making::of(&withdraw.new_set, names, false);
-            run_withdraw(alloc, making, &withdraw.set, files, out)
+            let making = Making::of(alloc, &withdraw.new_set, names, false);
+            run_withdraw(making, &withdraw.set, files, out)
         }
         Request::Check(check) => {
             run_check(alloc, check.set.as_str(), comparison_of(check), files, out)

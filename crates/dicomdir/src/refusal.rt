@@ -17,28 +17,28 @@ use thiserror::Error;
 /// Why a run ended before its work was done.
 #[derive(Clone, Copy, Debug, PartialEq, Eq, Error)]
 pub enum ProgramFault {
-    /// The versions have no place in a directory.
+    /// The versions have no plan, for this reason.
     #[error(transparent)]
     Plan(PlanFault),
-    /// The command line gives a UID that has not the form of one.
+    /// The command line gives a UID of the wrong form.
     #[error(transparent)]
     Uid(BadUid),
-    /// The command line gives a File-set ID that has not the form of one.
+    /// The command line gives a File-set ID of the wrong form.
     #[error(transparent)]
     SetId(BadSetId),
-    /// The directory has more bytes than are read.
+    /// The directory or the list of names has more than 4,294,967,295 bytes.
     #[error("39 FileTooLong")]
     TooLong,
     /// The file-set has no directory that can be read.
     #[error(transparent)]
     Dir(DirFault),
-    /// The directory has a record that is not as those that are written here.
+    /// The directory was not written here: what names its withdrawn UIDs fails its check, or a record does.
     #[error(transparent)]
     Own(OwnFault),
     /// An allocation was refused.
     #[error("91 Memory")]
     Memory,
-    /// The file could not be opened for reading.
+    /// The file could not be opened for reading, or its path is empty.
     #[error("92 Absent")]
     Absent,
     /// A read of the file failed.
@@ -47,16 +47,16 @@ pub enum ProgramFault {
     /// The file is there already, or it could not be made.
     #[error("94 Create")]
     Create,
-    /// The folder could not be made.
+    /// The folder could not be made, or its path is empty.
     #[error("95 Folder")]
     Folder,
-    /// A write to the file failed, or its end, or it was not stored.
+    /// A write to the file failed, or its end, or a file or a folder was not stored.
     #[error("96 Unsent")]
     Unsent,
-    /// The file is not what it was when it was read before.
+    /// A source is not what it was when it was read first, or the file of a set is not what records say of it.
     #[error("97 Changed")]
     Changed,
-    /// A source was left out, and the command line has `--strict`.
+    /// A line SKIP or NOTE was printed, and the command line has `--strict`.
     #[error("98 Strict")]
     Strict,
     /// The name of this number in the list of names is empty or not UTF-8, or the list has none.
@@ -75,9 +75,8 @@ impl From<AllocError> for ProgramFault {
 /// What a fault concerns.
 #[derive(Clone, Copy)]
 pub(crate) enum Subject {
-    /// No file and no folder.
     General,
-    /// The path of this number: a source, or the folder of a file-set that is read.
+    /// The path with this index: a source, or the folder of a file-set that is read.
     Source(usize),
     /// The directory in that folder.
     SetDirectory(usize),
@@ -85,33 +84,26 @@ pub(crate) enum Subject {
     SetFile(usize, PathText),
     /// The folder of the file-set that is made.
     Folder,
-    /// The directory in that folder.
     Directory,
     /// The copy of the image with this File ID.
     Image(FileId),
     /// The folder of that copy.
     ImageFolder(FileId),
-    /// The list of names.
     List,
     /// What the files say was not stored.
     Unstored,
 }
 
-/// The paths that a refusal may concern.
 #[derive(Clone, Copy)]
 pub(crate) struct Paths<'a> {
-    /// The folder of the file-set that is made.
     pub(crate) folder: &'a str,
     /// The sources, or the folders of the file-sets that are read.
     pub(crate) sources: &'a [String],
-    /// The list of names.
     pub(crate) list: &'a str,
-    /// What the files say was not stored.
     pub(crate) unstored: &'a str,
 }
 
 impl Paths<'_> {
-    /// No paths.
     pub(crate) fn none() -> Paths<'static> {
         Paths {
             folder: "",
@@ -122,17 +114,13 @@ impl Paths<'_> {
     }
 }
 
-/// A fault, and what it concerns.
 #[derive(Clone, Copy)]
 pub(crate) struct Refusal {
-    /// What it concerns.
     pub(crate) subject: Subject,
-    /// The fault.
     pub(crate) fault: ProgramFault,
 }
 
 impl Refusal {
-    /// A fault that concerns no file.
     pub(crate) fn general(fault: ProgramFault) -> Refusal
         ensures { result ≡ record { subject = Subject.General; fault = fault } }
     {
@@ -142,14 +130,12 @@ impl Refusal {
         }
     }
 
-    /// A fault that concerns this.
     pub(crate) fn of(subject: Subject, fault: ProgramFault) -> Refusal
         ensures { result ≡ record { subject = subject; fault = fault } }
     {
         Refusal { subject, fault }
     }
 
-    /// An allocation was refused, which concerns no file.
     pub(crate) fn memory() -> Refusal
         ensures { result ≡ record { subject = Subject.General; fault = ProgramFault.Memory } }
     {
@@ -166,12 +152,11 @@ impl From<Memory> for Refusal {
     }
 }
 
-/// The words of a fault: none has as many bytes as there is room for.
+/// The words of a fault, which always fit.
 pub(crate) type Words = InlineText<256>;
 
-/// Tells a refusal in a line, with no memory, and answers the status that the run ends with: 2 where the
-/// command line is at fault, and else 1. The line names the path that the refusal concerns: one of these, or
-/// what stands in one of them. A failure of the writer changes nothing.
+/// Prints a refusal as one line, without allocating, and gives the exit status: 2 where the command line is at fault,
+/// else 1. A failure of the writer changes nothing.
 pub(crate) fn tell<W: Write>(refusal: &Refusal, paths: Paths<'_>, to: &mut W) -> u8
     requires { IsAmong (length paths.sources.now) refusal.now.subject }
     ensures line { result ≡ 2 ↔ IsBadLine refusal.now.fault }
@@ -208,12 +193,10 @@ pub(crate) fn tell<W: Write>(refusal: &Refusal, paths: Paths<'_>, to: &mut W) ->
     status_of(&refusal.fault)
 }
 
-/// Prints the line of a fault that concerns this path.
 fn print_fault<W: Write>(path: &str, words: &str, to: &mut W) {
     let _ = print_line(&["FAULT ", path, ": ", words], to);
 }
 
-/// Prints the line of a fault that concerns what has this name in the folder.
 fn print_inside<W: Write>(folder: &str, name: &str, words: &str, to: &mut W) {
     let _ = if is_joined_by_slash(folder) {
         print_line(&["FAULT ", folder, "/", name, ": ", words], to)
@@ -222,7 +205,6 @@ fn print_inside<W: Write>(folder: &str, name: &str, words: &str, to: &mut W) {
     };
 }
 
-/// The status that a run ends with by this fault.
 fn status_of(fault: &ProgramFault) -> u8
     ensures line { result ≡ 2 ↔ IsBadLine fault.now }
     ensures status { (result ≡ 1) ⊎ (result ≡ 2) }

@@ -1,4 +1,3 @@
-//! The directories of file-sets, read from their folders.
 ghost use Rattle.std.specs.Prelude.{◌≡◌, ◌<◌, ℕ, IfErr, IfOk, length, map};
 ghost use Rattle.dd_line.specs.Line.{words_of};
 ghost use Rattle.dicomdir.specs.Merges.{AreDirectories, HasDirectory};
@@ -9,7 +8,6 @@ use dd_dir::DirFault;
 use dd_files::{DIRECTORY, Files, Progress, ReadFault, SOURCE_LIMIT, Step, path_in, read_whole};
 use std::alloc::Global;
 
-/// Reads the directories of all these file-sets whole, in their order.
 pub(crate) fn read_directories<F: Files + Progress>(
     alloc: Global,
     folders: &[String],
@@ -34,8 +32,8 @@ pub(crate) fn read_directories<F: Files + Progress>(
     Ok(all)
 }
 
-/// Reads the directory of the file-set in this folder, which has this number, whole. Absent where it
-/// can't be opened, Unread where a read fails, TooLong where it has more than 4,294,967,295 bytes.
+/// Reads the whole directory of the file-set in this folder, which has this number. Absent where it can't be opened,
+/// Unread where a read fails, TooLong where it has more than 4,294,967,295 bytes.
 pub(crate) fn directory_bytes<F: Files>(
     alloc: Global,
     at: usize,
@@ -59,7 +57,7 @@ pub(crate) fn directory_bytes<F: Files>(
     }
 }
 
-/// What it comes to that the file-set of this number has no directory that can be read.
+/// Gives the refusal for the set with this number, whose directory can't be read.
 pub(crate) fn refusal_of(at: usize, fault: DirFault) -> Refusal
     ensures { (paths : ℕ) → at < paths → IsOfWork paths result }
 {

@@ -1,4 +1,4 @@
-//! What `merge` and `withdraw` say of whole file-sets, and of instances that are withdrawn, before they make anything.
+//! Prints what `merge` and `withdraw` say of whole file-sets and of withdrawn instances before they make anything.
 ghost use Rattle.std.specs.Prelude.{◌≡◌, ◌↔◌, ◌<◌, All, IsErr, IsOk, IsTrue, length};
 ghost use Rattle.dd_elem.specs.Device.{HasFailed};
 ghost use Rattle.dicomdir.specs.Noted.{HasSetNotes};
@@ -11,8 +11,7 @@ use dd_report::print_line;
 use itoa::Buffer;
 use std::fmt;
 
-/// Prints the file-sets of which records are not reached, and how many these are. It fails only where the output
-/// failed.
+/// Prints which file-sets have records that are not reached, and how many.
 pub(crate) fn tell_unreached<O: Write>(
     unreached: &[Unreached],
     folders: &[String],
@@ -34,8 +33,7 @@ pub(crate) fn tell_unreached<O: Write>(
     Ok(())
 }
 
-/// Prints each image whose instance a file-set in one of these folders withdraws, and which set that is. It fails
-/// only where the output failed.
+/// Prints each image whose instance a file-set in one of these folders withdraws, and which set that is.
 pub(crate) fn tell_withdrawn<O: Write>(
     withdrawn: &[WithdrawnImage<Pick<'_>>],
     folders: &[String],
@@ -54,7 +52,6 @@ pub(crate) fn tell_withdrawn<O: Write>(
     Ok(())
 }
 
-/// Prints the line of an image whose instance is withdrawn.
 fn print_withdrawn<O: Write>(
     file: ShownPath<'_>,
     by: &str,
@@ -78,7 +75,7 @@ fn print_withdrawn<O: Write>(
     print_line(&parts, out)
 }
 
-/// Prints the UIDs of a line that no record lists. It fails only where the output failed.
+/// Prints the UIDs of the command line that no record lists.
 pub(crate) fn tell_unlisted<O: Write>(unlisted: &[Uid], out: &mut O) -> fmt::Result
     ensures worked { IsOk result → O.failures out.new ≡ O.failures out.old }
     ensures failed { IsErr result → HasFailed (O.failures out.old) (O.failures out.new) }
@@ -90,7 +87,6 @@ pub(crate) fn tell_unlisted<O: Write>(unlisted: &[Uid], out: &mut O) -> fmt::Res
     Ok(())
 }
 
-/// Says whether there is a note of a file-set, of a withdrawn image, or of a UID that no record lists.
 pub(crate) fn has_set_notes(notes: &SetNotes<'_>) -> bool
     ensures { IsTrue result ↔ HasSetNotes notes.now }
 {

@@ -1,16 +1,15 @@
-//! The path of a file, as the lines of the output show it.
 ghost use Rattle.std.specs.Prelude.{◌<◌, ℕ, length};
 
 use crate::image_path::{IdPath, PathText};
 use dd_engine::Pick;
 use dd_files::is_joined_by_slash;
 
-/// The path of a source, or of a file of a file-set: a folder and the path in it.
+/// The path of a source, or of a file in a file-set.
 #[derive(Clone, Copy)]
 pub(crate) struct ShownPath<'a> {
     /// The source, or the folder of the file-set.
     pub(crate) folder: &'a str,
-    /// What stands between the folder and the path in it.
+    /// The separator, which may be empty.
     pub(crate) joint: &'a str,
     /// The path in the folder, empty for a source.
     pub(crate) inside: PathText,
@@ -21,7 +20,7 @@ pub(crate) trait ShownFile {
     // The number of the source, or of the file-set.
     ghost number: { Self → ℕ };
 
-    /// Gives its path, where the sources or the folders of the file-sets are these.
+    /// Gives its path. `paths` are the sources, or the folders of the file-sets.
     fn path_among<'a>(&self, paths: &'a [String]) -> ShownPath<'a>
         requires { number self.now < length paths.now };
 }

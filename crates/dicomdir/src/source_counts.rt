@@ -1,4 +1,3 @@
-//! What is counted of a source.
 ghost use Rattle.std.specs.Prelude.{◌≡◌, ◌↔◌, ◌-◌, IsTrue};
 ghost use Rattle.dd_elem.specs.Device.{counted, IsLive};
 ghost use Rattle.dd_engine.specs.Supply.{added};
@@ -6,23 +5,22 @@ ghost use Rattle.dicomdir.specs.FileSupply.{no_counts};
 
 use dd_elem::Counts;
 
-/// What is counted of a source. Each count goes up to `u64::MAX`.
+/// The counts of a source. Each goes up to `u64::MAX`.
 #[derive(Clone, Copy)]
 pub(crate) struct SourceCounts {
-    /// How often it was not opened.
+    /// How often it could not be opened.
     pub(crate) refusals: u64,
     /// How often its readers that were taken back were called.
     pub(crate) reads: u64,
-    /// How many of these reads failed.
+    /// How many of these calls failed.
     pub(crate) failures: u64,
     /// How many of its readers are lent.
     pub(crate) lent: u64,
-    /// How many bytes the reader that was taken back last had given.
+    /// How many bytes the last reader that was taken back had given.
     pub(crate) bytes: u64,
 }
 
 impl SourceCounts {
-    /// Those of a source that was not opened yet.
     pub(crate) fn new() -> SourceCounts
         ensures { result ≡ no_counts }
     {
@@ -35,7 +33,7 @@ impl SourceCounts {
         }
     }
 
-    /// Is each count below its last value?
+    /// Says whether each count is below its last value.
     pub(crate) fn is_live(&self) -> bool
         ensures { IsTrue result ↔ (IsLive self.now.refusals self.now.failures
             × IsLive self.now.reads self.now.lent) }
@@ -46,21 +44,18 @@ impl SourceCounts {
             && self.lent < u64::MAX
     }
 
-    /// Counts a refusal.
     pub(crate) fn refuse(&mut self)
         ensures { self.new ≡ record self.old { refusals = counted self.old.refusals } }
     {
         self.refusals = self.refusals.saturating_add(1);
     }
 
-    /// Counts a reader that is lent.
     pub(crate) fn lend(&mut self)
         ensures { self.new ≡ record self.old { lent = counted self.old.lent } }
     {
         self.lent = self.lent.saturating_add(1);
     }
 
-    /// Counts one reader less as lent, and takes over its reads, failures and bytes.
     pub(crate) fn take_back(&mut self, used: Counts, bytes: u64)
         ensures { self.new ≡ record self.old {
           reads = added self.old.reads used.calls;

@@ -1,4 +1,3 @@
-//! The paths that a command reads: those of its line, and after them those of its list of names.
 ghost use Rattle.std.specs.Prelude.{◌≡◌, ◌≤◌, ◌++◌, ℕ, None, IfErr, IfOk, IfSome, length};
 ghost use Rattle.dd_line.specs.Line.{words_of};
 ghost use Rattle.dd_line.specs.Requests.{read_of};
@@ -13,9 +12,9 @@ use dd_files::{Files, ReadFault, SOURCE_LIMIT, read_whole};
 use dd_line::{Request, Sources};
 use std::alloc::Global;
 
-/// Lists the paths that a request with a list of names reads: those of its line, and then the names. `None`
-/// where it has no list. Refused where the folder of the new file-set already has a directory. After that, refused
-/// where the list can't be opened or read, or has a bad name.
+/// Lists the paths that a request with a list of names reads: those of its line, and then the names. None if it has no
+/// list. Refused first where the folder of the new file-set already has a directory; then where the list can't be
+/// opened or read, or has a bad name.
 pub(crate) fn all_sources<F: Files>(
     alloc: Global,
     request: &Request,
@@ -39,7 +38,6 @@ pub(crate) fn all_sources<F: Files>(
     }
 }
 
-/// Lists these sources, and then the names of their list. `None` where they have no list.
 fn listed_sources<F: Files>(
     alloc: Global,
     sources: &Sources,
@@ -62,8 +60,8 @@ fn listed_sources<F: Files>(
     }
 }
 
-/// Reads a list of names whole. Absent where it can't be opened, Unread where a read fails, TooLong where it has
-/// more than 4,294,967,295 bytes.
+/// Reads a whole list of names. Absent where it can't be opened, Unread where a read fails, TooLong where it has more
+/// than 4,294,967,295 bytes.
 fn list_bytes<F: Files>(alloc: Global, path: &str, files: &mut F) -> Result<Vec<u8>, Refusal>
     ensures refusal { (paths : ℕ) → IfErr result (IsOfWork paths) }
     ensures kept { F.held files.new ≡ F.held files.old }
@@ -79,7 +77,6 @@ fn list_bytes<F: Files>(alloc: Global, path: &str, files: &mut F) -> Result<Vec<
     }
 }
 
-/// Lists the given paths, and after them the names of a list.
 fn with_listed(alloc: Global, given: &[String], list: &[u8]) -> Result<Vec<String>, Refusal>
     ensures refusal { (paths : ℕ) → IfErr result (IsOfWork paths) }
     ensures all { IfOk result (λ all. words_of all.items ≡ words_of given.now ++ parts list.now) }
@@ -99,7 +96,6 @@ fn with_listed(alloc: Global, given: &[String], list: &[u8]) -> Result<Vec<Strin
     }
 }
 
-/// Copies these paths.
 fn copies_of(alloc: Global, paths: &[String]) -> Result<Vec<String>, Memory>
     ensures same { IfOk result (λ copies. words_of copies.items ≡ words_of paths.now) }
     ensures count { IfOk result (λ copies. length copies.items ≡ length paths.now) }

@@ -8,13 +8,14 @@ pub loop-record-preserved : goal.loop-record-preserved
 loop-record-preserved g c =
     let within = c.loop-record-test.true in
     record {
-      has = c.in_ok-picks.ensures.has;
+      has = c.in_ok-copy_record.ensures.has cc;
       made = so_far_more
           (MayLink (g.O.Origins.gives_links c.args.set.now.origins.now)
           (g.O.Origins.stands_at c.args.set.now.origins.now))
           c.args.set.now.folder.now c.args.set.now.plan.now.versions c.records-record-items.result.now
           c.args.set.now.picks.now
-          c.loop-record.record-index c.record-item.result c.loop-record.picks.now c.in_ok-picks.picks.now _ _ _
-          (omega (arith, within)) (rw (← c.record-item.is) c.in_ok-picks.ensures.copied)
+          c.loop-record.record-index c.record-item.result c.loop-record.left.picks.now
+          c.copy_record.new.left.picks.now _ _ _
+          (omega (arith, within)) (rw (← c.record-item.is) (c.in_ok-copy_record.ensures.copied cc))
           c.loop-record.invariant.made;
     }

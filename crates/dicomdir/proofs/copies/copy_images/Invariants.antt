@@ -6,8 +6,8 @@ use Rattle.dicomdir.proofs.copies.copy_images.Given as goal
 
 abbrev pub invariant-loop-record : goal.invariant-loop-record
 invariant-loop-record g l = record {
-  has : All (g.O.Origins.has l.set.origins.now) l.picks;
+  has : All (g.O.Origins.has l.set.origins.now) l.left.picks.now;
   made : SoFar (MayLink (g.O.Origins.gives_links l.set.origins.now) (g.O.Origins.stands_at l.set.origins.now))
-      l.set.folder.now l.set.plan.now.versions l.record-items l.set.picks.now l.record-index l.picks
+      l.set.folder.now l.set.plan.now.versions l.record-items l.set.picks.now l.record-index l.left.picks.now
       (g.F.Files.held l.initial.files) (g.F.Files.held l.files);
 }

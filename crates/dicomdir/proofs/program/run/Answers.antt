@@ -18,16 +18,16 @@ use Rattle.dicomdir.proofs.program.run.Goals as goal
 pub returns-in-Ok-clause-findings : goal.returns-in-Ok-clause-findings
 returns-in-Ok-clause-findings g c = λ is.
     subst (λ words. IsCheck (line_of words)) c.as_slice.ensures.value
-    (requested_check c.in-Ok.request _ c.in-Ok.ensures.request (c.run_request.ensures.findings is))
+    (requested_check c.in-Ok.request _ c.in-Ok.ensures.request (c.run_request.ensures.status.findings is))
 
 pub returns-in-Ok-clause-words : goal.returns-in-Ok-clause-words
 returns-in-Ok-clause-words g c = λ is _.
     inl (subst (λ words. HasBadName (line_of words)) c.as_slice.ensures.value
-    (requested_bad c.in-Ok.request _ c.in-Ok.ensures.request (c.run_request.ensures.bad is)))
+    (requested_bad c.in-Ok.request _ c.in-Ok.ensures.request (c.run_request.ensures.status.bad is)))
 
 pub returns-in-Ok-clause-names : goal.returns-in-Ok-clause-names
 returns-in-Ok-clause-names g c = λ is _ bad.
-    c.run_request.ensures.good is (given_bad c.in-Ok.request _ c.in-Ok.ensures.request
+    c.run_request.ensures.status.good is (given_bad c.in-Ok.request _ c.in-Ok.ensures.request
     (subst (λ words. HasBadName (line_of words)) (sym c.as_slice.ensures.value) bad))
 
 pub returns-in-Ok-clause-sources : goal.returns-in-Ok-clause-sources

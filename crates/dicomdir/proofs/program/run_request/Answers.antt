@@ -1,5 +1,5 @@
 -- Where a command runs, no path is empty.
-use Rattle.std.proofs.Common.{ℕ, refl, subst}
+use Rattle.std.proofs.Common.{ℕ, arith, refl, rules, subst}
 use Rattle.dicomdir.specs.EmptyPaths.{IsEmptyAt}
 use Rattle.dicomdir.proofs.EmptyWords.{folder_seen, none_empty}
 use Rattle.dicomdir.proofs.program.run_request.Goals as goal
@@ -9,3 +9,11 @@ returns-clause-empty g c = λ has. absurd (none_empty c.args.request.now
     (folder_seen c.args.request.now c.new_set.result c.new_set.ensures (c.in-None.ensures.folders refl))
     (subst (λ paths. (at : ℕ) → ¬ IsEmptyAt paths at) c.paths_of-paths.ensures.sources
     (c.in-None.ensures.sources refl)) has)
+
+pub returns-in-Err-clause-status : goal.returns-in-Err-clause-status
+returns-in-Err-clause-status g c = record {
+  most = search (rules, arith);
+  findings = search (rules, arith);
+  bad = search (rules, arith);
+  good = search (rules, arith);
+}

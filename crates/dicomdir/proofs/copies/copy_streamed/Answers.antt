@@ -3,7 +3,7 @@ use Rattle.std.proofs.Common.{subst}
 use Rattle.dd_filing.specs.Filing.{IsFileAs}
 use Rattle.dd_filing.specs.declared.agreeing.Filed.{Filed}
 use Rattle.dicomdir.proofs.Publishing.{held_published}
-use Rattle.dicomdir.proofs.copies.copy_image.Goals as goal
+use Rattle.dicomdir.proofs.copies.copy_streamed.Goals as goal
 
 pub returns-in-Ok-clause-made : goal.returns-in-Ok-clause-made
 returns-in-Ok-clause-made g c = λ done.

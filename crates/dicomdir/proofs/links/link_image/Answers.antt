@@ -1,6 +1,6 @@
 -- The file of the pick has a hard link, and nothing else changed what the files hold.
 use Rattle.std.proofs.Common.{◌∙◌}
-use Rattle.dicomdir.proofs.copies.link_image.Goals as goal
+use Rattle.dicomdir.proofs.links.link_image.Goals as goal
 
 pub returns-clause-linked : goal.returns-clause-linked
 returns-clause-linked g c = λ done. record {
