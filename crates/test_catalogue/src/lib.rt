@@ -1,17 +1,7 @@
-//! Tests of the catalogue of image instances: what it takes, what it keeps, and what its joins come to.
+//! Tests of catalogues of images and of the plans that are laid out of them.
 #![tactic(auto)]
 
 #[cfg(test)]
-mod allocations;
+mod catalogue;
 #[cfg(test)]
-mod counting;
-#[cfg(test)]
-mod equality;
-#[cfg(test)]
-mod joining;
-#[cfg(test)]
-mod studies;
-#[cfg(test)]
-mod taking;
-#[cfg(test)]
-mod withdrawing;
+mod plans;

@@ -17,7 +17,6 @@ use dd_vectors::{
 use std::alloc::Global;
 use std::test::Fail;
 
-/// The calls that can want memory.
 #[derive(Clone, Copy)]
 enum Call {
     Assemble,
@@ -44,7 +43,6 @@ fn is_refused(alloc: Global, call: Call, chosen: u32) -> Result<bool, Fail> {
     }
 }
 
-/// Makes the call with each of its allocations refused in turn.
 fn refuse_each(alloc: Global, call: Call) -> Result<(), Fail> {
     for chosen in allocation_numbers() {
         if !is_refused(alloc, call, chosen)? {
@@ -54,7 +52,6 @@ fn refuse_each(alloc: Global, call: Call) -> Result<(), Fail> {
     Err("the call has more allocations than are refused".into())
 }
 
-/// Publishes the directory of V1.
 fn publish_refused(alloc: Global, chosen: u32) -> Result<bool, Fail> {
     let (label, limits) = (label_of("")?, limits_of("")?);
     let catalogue = first_catalogue(alloc)?;
@@ -96,7 +93,6 @@ fn allocations_of_assemble(rt: HostRuntime) -> Result<(), Fail> {
     refuse_each(rt.alloc(), Call::Assemble)
 }
 
-/// The UID of the file-set of V1.
 const UID: &[u8] = b"2.25.203980963844863891982135713436996079817";
 
 fn derived_uid_refused(alloc: Global, chosen: u32) -> Result<bool, Fail> {
@@ -118,8 +114,8 @@ fn allocations_of_derived_uid(rt: HostRuntime) -> Result<(), Fail> {
     refuse_each(rt.alloc(), Call::DerivedUid)
 }
 
-/// Writes the directory of V1, of 876 bytes, to a writer without room. An allocation that is refused is a write that
-/// fails: the writer holds a front of the directory then, and what is written again comes after it.
+/// A refused allocation is a write that fails: the writer holds a front of the directory then, and what is written
+/// again comes after it.
 fn write_directory_refused(alloc: Global, chosen: u32) -> Result<bool, Fail> {
     let (plan, bytes) = (first_plan(alloc)?, first_directory(alloc)?);
     let mut sink = Sink::new(alloc, None);
@@ -151,7 +147,6 @@ const FILES: &str = "4 \
 1.2.3.4.5 PT000001\\ST000001\\SE000001\\IM000001 1.2.3.4.6 PT000001\\ST000001\\SE000001\\IM000002 \
 1.2.3.5.1 PT000001\\ST000001\\SE000002\\IM000001 1.2.9.1.1 PT000002\\ST000001\\SE000001\\IM000001";
 
-/// Fails where the places do not name the files of the four images.
 fn require_files(alloc: Global, places: &[Place<'_>]) -> Result<(), Fail> {
     require(
         files(alloc, places)?.as_str() == FILES,
@@ -159,7 +154,6 @@ fn require_files(alloc: Global, places: &[Place<'_>]) -> Result<(), Fail> {
     )
 }
 
-/// Fails where the directory that was read does not list the four images.
 fn require_forest(alloc: Global, forest: &Forest<'_>) -> Result<(), Fail> {
     require(forest.unreached == 0, "all records are reached")?;
     require_files(alloc, &places_of(alloc, forest)?)
@@ -208,7 +202,6 @@ const IMAGES: &str = "4, \
 170 ' 1.2.3.5.1 PT000001\\ST000001\\SE000002\\IM000001, 170 ' 1.2.9.1.1 PT000002\\ST000001\\SE000001\\IM000001, \
 -1.2.3.4.7";
 
-/// Fails where the images are not the four, or another instance is withdrawn.
 fn require_images(alloc: Global, own: &Own<'_>) -> Result<(), Fail> {
     require(
         images(alloc, own)?.as_str() == IMAGES,
@@ -234,7 +227,6 @@ fn allocations_of_own_of(rt: HostRuntime) -> Result<(), Fail> {
     refuse_each(rt.alloc(), Call::OwnOf)
 }
 
-/// Fails where the catalogue does not hold the four images and the withdrawn instance.
 fn require_instances(alloc: Global, catalogue: &Catalogue) -> Result<(), Fail> {
     require(
         instances(alloc, catalogue)?.as_str()

@@ -1,4 +1,4 @@
-//! A directory that is cut short anywhere, and one in which an offset is anything.
+//! A directory cut short anywhere, and one with an offset of any value.
 
 use dd_dir::read_directory;
 use dd_vectors::{ask_all, first_directory, put_at};
@@ -23,9 +23,9 @@ const CUTS: &str = "\
 309 875 > 51 File 27 Set 1 Truncated
 876 876 > 0 unreached";
 
-/// The place of an offset in that directory, the least and the greatest that is put there, and what is said of each
-/// directory, where `itself` stands for the offset: that of the first root record and of the last one, of the next
-/// record of the patient, and of the first one below it. Records are at 320, 404, 530 and 622.
+/// A place in that directory, the least and the greatest offset that is put there, and what is said of each directory,
+/// where `itself` stands for the offset. The places have the offsets of the first root record, of the last one, of the
+/// next record after the patient, and of the first one below it. Records are at 320, 404, 530 and 622.
 const OFFSETS: &str = "\
 282 0 0 > 56 LastRoot
 282 1 319 > 54 Dangling itself
@@ -65,7 +65,6 @@ const OFFSETS: &str = "\
 358 623 876 > 54 Dangling itself
 358 4294967295 4294967295 > 54 Dangling itself";
 
-/// How many items of a directory no offset reaches, or why the bytes are none.
 fn said(alloc: Global, bytes: &[u8]) -> Result<String, Fail> {
     match read_directory(alloc, bytes) {
         Ok(forest) => {
@@ -76,12 +75,11 @@ fn said(alloc: Global, bytes: &[u8]) -> Result<String, Fail> {
     }
 }
 
-/// Reads the first `size` bytes alone, and gives what is said of them.
 fn said_of_front(alloc: Global, bytes: &[u8], size: usize) -> Result<String, Fail> {
     said(alloc, bytes.get(..size).ok_or("fewer bytes")?)
 }
 
-/// What is said of each front of the range, or of the first of which something else is said.
+/// Gives what is said of all fronts of the range, or of the first that differs.
 fn cut(alloc: Global, question: &str) -> Result<String, Fail> {
     let (first, last) = question.split_once(' ').ok_or("no last")?;
     let (first, last): (usize, usize) = (first.parse()?, last.parse()?);
@@ -101,7 +99,7 @@ fn directories_that_are_cut_short(rt: HostRuntime) -> Result<(), Fail> {
     ask_all(rt.alloc(), CUTS, cut)
 }
 
-/// What is said of the directory with this offset at the place, where the last word is `itself` if it is the offset.
+/// The last word is `itself` where it is the offset.
 fn said_of_offset(
     alloc: Global,
     bytes: &mut [u8],
@@ -117,7 +115,6 @@ fn said_of_offset(
     }
 }
 
-/// What is said of each offset of the range, or of the first of which something else is said.
 fn said_of_offsets(alloc: Global, place: usize, first: u32, last: u32) -> Result<String, Fail> {
     let mut bytes = first_directory(alloc)?;
     let common = said_of_offset(alloc, &mut bytes, place, first)?;

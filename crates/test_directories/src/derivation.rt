@@ -1,4 +1,4 @@
-//! UIDs of file-sets that follow from what they hold.
+//! UIDs of file-sets, derived from what they hold.
 
 use crate::publishing::limits_of;
 use crate::sending::first_catalogue;
@@ -24,8 +24,8 @@ v  876 > 2.25.203980963844863891982135713436996079817
  DISC1 326 > 2.25.14983272099609356540788096995623605856
 15   > 41 Conflict 1.2.3.4.5 1.2.8.4.1";
 
-/// The same questions; and the UID of the plan and how many bytes the directory has, or why there is no plan. A UID
-/// of 44 bytes takes 38 more than `2.25.0`.
+/// Such questions; and the UID of the plan and how many bytes the directory has, or why there is no plan. A UID of 44
+/// bytes takes 38 more than `2.25.0`.
 const LAID_OUT: &str = "\
 v   > 2.25.203980963844863891982135713436996079817 914
 1   > 2.25.245447624314332007178579807632227354409 914
@@ -37,7 +37,6 @@ v   > 2.25.203980963844863891982135713436996079817 914
    > 2.25.239637096442388064147279945434065034669 358
 15   > 41 Conflict 1.2.3.4.5 1.2.8.4.1";
 
-/// The catalogue with these letters, or V1's.
 fn catalogue(alloc: Global, letters: &str) -> Result<Catalogue, Fail> {
     if letters == "v" {
         first_catalogue(alloc)
@@ -46,7 +45,6 @@ fn catalogue(alloc: Global, letters: &str) -> Result<Catalogue, Fail> {
     }
 }
 
-/// The catalogue, the ID and the limits that the question names.
 fn asked(alloc: Global, question: &str) -> Result<(Catalogue, SetId, Limits), Fail> {
     let mut words = question.split(' ');
     let catalogue = catalogue(alloc, words.next().ok_or("no images")?)?;

@@ -1,5 +1,3 @@
-//! The elements of records, as they are read back.
-
 use crate::publishing::published;
 use dd_dir::{Forest, Tree, catalogue_of, read_directory};
 use dd_set::{Syntax, write_set};
@@ -46,7 +44,6 @@ aaaaaaaaaaaaaaaaaaaaaaaaaaaaaaaaaaaaaaaaaaaaaaaaaaaaaaaaaaaaaaaa 20001300 4953 0
 04001215 5549 1400 '1.2.840.10008.1.2.1~ 09001000 4c4f 0c00 'DD_FILESET_1 09000110 4f42 0000 20000000 \
 aaaaaaaaaaaaaaaaaaaaaaaaaaaaaaaaaaaaaaaaaaaaaaaaaaaaaaaaaaaaaaaa 20001300 4953 0200 '1_";
 
-/// The record at this offset, which is this one or stands below it.
 fn record_at<'f, 'a>(tree: &'f Tree<'a>, at: u32) -> Option<&'f Tree<'a>> {
     if tree.at == at {
         return Some(tree);
@@ -59,7 +56,6 @@ fn record_at<'f, 'a>(tree: &'f Tree<'a>, at: u32) -> Option<&'f Tree<'a>> {
     None
 }
 
-/// The record at this offset in a directory.
 fn record_in<'f, 'a>(forest: &'f Forest<'a>, at: u32) -> Option<&'f Tree<'a>> {
     for root in &forest.trees {
         if let Some(found) = record_at(root, at) {
@@ -69,7 +65,6 @@ fn record_in<'f, 'a>(forest: &'f Forest<'a>, at: u32) -> Option<&'f Tree<'a>> {
     None
 }
 
-/// Has the record at this place these elements, and no others?
 fn has(alloc: Global, forest: &Forest<'_>, place: &str, elements: &str) -> Result<bool, Fail> {
     let record = record_in(forest, place.parse()?).ok_or("no record")?;
     let mut sink = Sink::new(alloc, None);
@@ -77,7 +72,6 @@ fn has(alloc: Global, forest: &Forest<'_>, place: &str, elements: &str) -> Resul
     Ok(sink.bytes() == bytes_of(alloc, elements)?.as_slice())
 }
 
-/// Has the record of a case its elements in the directory of four images?
 fn has_elements(alloc: Global, case: &str) -> Result<bool, Fail> {
     let (place, elements) = case.split_once(" > ").ok_or("no elements")?;
     let bytes = published(alloc, "1234")?;
@@ -90,7 +84,7 @@ fn elements_of_records(rt: HostRuntime) -> Result<(), Fail> {
     claim_all(rt.alloc(), ELEMENTS, '\n', has_elements)
 }
 
-/// Is the catalogue of these images, in harmony, what their directory says of itself?
+/// Says whether the directory of these images gives their harmonised catalogue back.
 fn says_itself(alloc: Global, letters: &str) -> Result<bool, Fail> {
     let bytes = published(alloc, letters)?;
     let forest = read_directory(alloc, &bytes)?;

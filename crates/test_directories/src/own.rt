@@ -78,7 +78,6 @@ v3 674 ffff > 61 NoDigest 646
 one 348 0000 > 62 ForeignRecord 320
 one 402 2020 > 63 RecordKey 320 (0010,0020)";
 
-/// Puts the withdrawn instances after the text, with `-` before each.
 fn push_withdrawn(text: &mut String, withdrawn: &[Uid]) -> Result<(), AllocError> {
     for uid in withdrawn {
         write!(text, " -{uid}")?;
@@ -86,7 +85,6 @@ fn push_withdrawn(text: &mut String, withdrawn: &[Uid]) -> Result<(), AllocError
     Ok(())
 }
 
-/// How many versions a catalogue has, the instances that it keeps, and the instances that it withdraws.
 pub(crate) fn instances(alloc: Global, catalogue: &Catalogue) -> Result<String, AllocError> {
     let count = catalogue.len();
     let mut text = format!(in alloc; "{count}")?;
@@ -112,7 +110,6 @@ fn catalogues_of_directories(rt: HostRuntime) -> Result<(), Fail> {
     ask_all(rt.alloc(), CATALOGUES, catalogue)
 }
 
-/// How many images there are, and the instance and the File ID of each.
 pub(crate) fn files(alloc: Global, places: &[Place<'_>]) -> Result<String, Fail> {
     let count = places.len();
     let mut text = format!(in alloc; "{count}")?;
@@ -137,7 +134,6 @@ fn files_of_directories(rt: HostRuntime) -> Result<(), Fail> {
     ask_all(rt.alloc(), PLACES, places)
 }
 
-/// How many images there are, the version of each with its File ID, and the instances that are withdrawn.
 pub(crate) fn images(alloc: Global, own: &Own<'_>) -> Result<String, Fail> {
     let count = own.files.len();
     let mut text = format!(in alloc; "{count}")?;

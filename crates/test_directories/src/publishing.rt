@@ -1,5 +1,3 @@
-//! Directories of catalogues and of histories.
-
 use crate::sending::first_catalogue;
 use dd_catalogue::History;
 use dd_dir::{assemble, publish};
@@ -40,10 +38,9 @@ const LIMITS: &str = "\
 875 > 43 TooLarge
 0 > 43 TooLarge";
 
-/// Batches of images that come to the same four.
+/// Merges of batches that come to the same four images.
 const FOUR: &str = "212+43 43+212 4+3+2+1 1234+1234";
 
-/// The label with this ID.
 pub(crate) fn label_of(id: &str) -> Result<Label, Fail> {
     Ok(Label {
         id: SetId::new(id.as_bytes())?,
@@ -51,7 +48,7 @@ pub(crate) fn label_of(id: &str) -> Result<Label, Fail> {
     })
 }
 
-/// The limits of this many bytes, or the widest.
+/// The empty text stands for the widest limits.
 pub(crate) fn limits_of(bytes: &str) -> Result<Limits, Fail> {
     let bytes = if bytes.is_empty() {
         u32::MAX
@@ -61,14 +58,12 @@ pub(crate) fn limits_of(bytes: &str) -> Result<Limits, Fail> {
     Ok(Limits::new(bytes, FileId::MAX_RANK).ok_or("no limits")?)
 }
 
-/// The directory of the images with these letters and of the instances that are withdrawn, each after a `/`, under
-/// this File-set ID.
+/// Makes the directory of the images with these letters and of the withdrawn instances, each after a `/`.
 pub(crate) fn named(alloc: Global, id: &str, letters: &str) -> Result<Vec<u8>, Fail> {
     let catalogue = catalogue_of(alloc, letters)?;
     Ok(publish(alloc, &catalogue, &label_of(id)?, limits_of("")?)?)
 }
 
-/// The directory of these, without an ID.
 pub(crate) fn published(alloc: Global, letters: &str) -> Result<Vec<u8>, Fail> {
     named(alloc, "", letters)
 }
@@ -79,7 +74,6 @@ fn the_directory_of_nothing(rt: HostRuntime) -> Result<(), Fail> {
     Ok(())
 }
 
-/// The directory of V1.
 fn first_published(alloc: Global) -> Result<Vec<u8>, Fail> {
     let catalogue = first_catalogue(alloc)?;
     Ok(publish(alloc, &catalogue, &label_of("")?, limits_of("")?)?)
@@ -91,7 +85,6 @@ fn the_directory_of_one_image(rt: HostRuntime) -> Result<(), Fail> {
     Ok(())
 }
 
-/// The number of four bytes from this place on.
 fn number(bytes: &[u8], place: usize) -> Result<u32, Fail> {
     let rest = bytes.get(place..).ok_or("no number there")?;
     let four = rest.get(..4).ok_or("no number there")?;
@@ -124,7 +117,7 @@ fn lengths_and_links_of_records(rt: HostRuntime) -> Result<(), Fail> {
     ask_all(rt.alloc(), RECORDS, record)
 }
 
-/// Does the study of two images that tell different descriptions have the greater one?
+/// Two images have different descriptions of their study, which gets the greater one.
 fn has_greater_description(alloc: Global) -> Result<bool, Fail> {
     let bytes = published(alloc, "AC")?;
     Ok(bytes.get(498..508) == Some(bytes_of(alloc, "08003010 4c4f 0200 'B_")?.as_slice()))
@@ -152,7 +145,7 @@ fn directories_keep_to_their_limits(rt: HostRuntime) -> Result<(), Fail> {
     ask_all(rt.alloc(), LIMITS, limited)
 }
 
-/// The join of the batches with these letters.
+/// Merges the batches with these letters.
 pub(crate) fn history(alloc: Global, groups: &str) -> Result<History, Fail> {
     let mut parts = Vec::new(alloc);
     for letters in groups.split('+') {
@@ -161,7 +154,6 @@ pub(crate) fn history(alloc: Global, groups: &str) -> Result<History, Fail> {
     Ok(History::Merge(parts))
 }
 
-/// Do these batches have the directory of the four images?
 fn have_four(alloc: Global, groups: &str) -> Result<bool, Fail> {
     let history = history(alloc, groups)?;
     let assembled = assemble(alloc, &history, &label_of("")?, limits_of("")?)?;

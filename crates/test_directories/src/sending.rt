@@ -1,5 +1,3 @@
-//! Directories sent to a writer.
-
 use crate::publishing::{label_of, limits_of, published};
 use dd_catalogue::Catalogue;
 use dd_dir::write_directory;
@@ -9,8 +7,8 @@ use dd_vectors::{Sink, ask_all, first_directory, taken, v1_version};
 use std::alloc::Global;
 use std::test::Fail;
 
-/// After how many bytes a writer fails that gets the directory of V1, and what comes of it: how many bytes
-/// went or the refusal, and how many of its bytes the writer holds.
+/// After how many bytes a writer fails that gets the directory of V1; how many bytes went or the refusal, and how many
+/// of its bytes the writer holds.
 const SENT: &str = "\
 0 > 12 Write 0 [0]
 131 > 12 Write 131 [131]
@@ -21,7 +19,7 @@ const SENT: &str = "\
 876 > 876 [876]
 1000 > 876 [876]";
 
-/// The catalogue that took V1 alone.
+/// Makes the catalogue of V1 alone.
 pub(crate) fn first_catalogue(alloc: Global) -> Result<Catalogue, Fail> {
     let mut catalogue = Catalogue::new(alloc);
     if catalogue.take(v1_version(alloc)?).is_err() {
@@ -30,13 +28,11 @@ pub(crate) fn first_catalogue(alloc: Global) -> Result<Catalogue, Fail> {
     Ok(catalogue)
 }
 
-/// The plan of V1 alone.
 pub(crate) fn first_plan(alloc: Global) -> Result<Plan, Fail> {
     let catalogue = first_catalogue(alloc)?;
     Ok(lay_out(alloc, &catalogue, &label_of("")?, limits_of("")?)?)
 }
 
-/// How many bytes went, or the words of the refusal.
 fn sent(alloc: Global, sink: &mut Sink) -> Result<String, Fail> {
     match write_directory(&first_plan(alloc)?, sink) {
         Ok(size) => Ok(format!(in alloc; "{size}")?),
@@ -44,7 +40,6 @@ fn sent(alloc: Global, sink: &mut Sink) -> Result<String, Fail> {
     }
 }
 
-/// How many bytes the writer holds, where they are those of the directory.
 fn held(alloc: Global, sink: &Sink) -> Result<usize, Fail> {
     if first_directory(alloc)?.starts_with(sink.bytes()) {
         Ok(sink.bytes().len())
@@ -66,13 +61,12 @@ fn the_directory_of_v1(rt: HostRuntime) -> Result<(), Fail> {
     ask_all(rt.alloc(), SENT, directory)
 }
 
-/// After how many bytes at least and at most a writer fails that gets the directory of four images, and what comes
-/// of each such writer. `there` says that it fails exactly there, and then holds all the bytes before that place.
+/// After how many bytes at least and at most a writer fails that gets the directory of four images, and what comes of
+/// each such writer. `there` says that it fails exactly there, and then holds all the bytes before that place.
 const FOUR_SENT: &str = "\
 0 2031 > 12 Write there
 2032 2040 > 2032 bytes";
 
-/// Sends the directory of this plan to a writer that fails after `after` bytes, and says what comes of it.
 fn outcome(alloc: Global, plan: &Plan, bytes: &[u8], after: u64) -> Result<String, Fail> {
     let mut sink = Sink::new(alloc, Some(after));
     sink.reserve(bytes.len())?;
@@ -90,13 +84,12 @@ fn outcome(alloc: Global, plan: &Plan, bytes: &[u8], after: u64) -> Result<Strin
     }
 }
 
-/// The plan of the four images.
 fn plan_of_four(alloc: Global) -> Result<Plan, Fail> {
     let catalogue = taken(alloc, "1234")?;
     Ok(lay_out(alloc, &catalogue, &label_of("")?, limits_of("")?)?)
 }
 
-/// What comes of all these writers, or of the first of which something else comes.
+/// Gives what comes of all these writers, or of the first that differs.
 pub(crate) fn outcomes(
     alloc: Global,
     plan: &Plan,

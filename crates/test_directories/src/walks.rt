@@ -40,8 +40,8 @@ one 128 '4 > 51 File 21 NotPart10
 1234 336 43010000 358 41010000 > 54 Dangling 321
 v3 > (320 PATIENT(412 STUDY(546 SERIES(646 IMAGE inactive)(818 SR DOCUMENT)))) 0";
 
-/// So many records, each below the one before; and how many bytes their directory has, and how many levels there
-/// are, or why they are refused.
+/// How many records, each below the one before; how many bytes their directory has, and how many levels there are, or
+/// why they are refused.
 const DEEP: &str = "\
 1 > 372 bytes, 1
 2 > 424 bytes, 2
@@ -51,7 +51,6 @@ const DEEP: &str = "\
 34 > 2088 bytes, 58 TooDeep 1984
 100 > 5520 bytes, 58 TooDeep 1984";
 
-/// The directory of this name.
 fn directory(alloc: Global, name: &str) -> Result<Vec<u8>, Fail> {
     match name {
         "v1" => v1(alloc),
@@ -63,7 +62,7 @@ fn directory(alloc: Global, name: &str) -> Result<Vec<u8>, Fail> {
     }
 }
 
-/// The directory that a question names, with the changes that follow.
+/// Makes the directory that a question names, with the changes that follow.
 pub(crate) fn changed(alloc: Global, question: &str) -> Result<Vec<u8>, Fail> {
     let (name, changes) = question.split_once(' ').unwrap_or((question, ""));
     let mut bytes = directory(alloc, name)?;
@@ -71,7 +70,6 @@ pub(crate) fn changed(alloc: Global, question: &str) -> Result<Vec<u8>, Fail> {
     Ok(bytes)
 }
 
-/// Puts a record after the text, with those below it in its brackets.
 fn push_record(text: &mut String, tree: &Tree<'_>) -> Result<(), Fail> {
     let (at, kind) = (tree.at, str::from_utf8(tree.kind)?);
     let flag = if tree.in_use { "" } else { " inactive" };
@@ -83,7 +81,6 @@ fn push_record(text: &mut String, tree: &Tree<'_>) -> Result<(), Fail> {
     Ok(())
 }
 
-/// The File-set ID and the records of a walk, a space after each that is there.
 fn records(alloc: Global, forest: &Forest<'_>) -> Result<String, Fail> {
     let mut text = String::from_str(alloc, str::from_utf8(forest.id)?)?;
     if !forest.id.is_empty() {
@@ -114,7 +111,6 @@ fn walks_of_directories(rt: HostRuntime) -> Result<(), Fail> {
     ask_all(rt.alloc(), CHANGED, read)
 }
 
-/// How many levels a record and those below it have.
 fn levels(tree: &Tree<'_>) -> u32 {
     let mut most = 0;
     for below in &tree.below {
@@ -123,7 +119,6 @@ fn levels(tree: &Tree<'_>) -> u32 {
     most.saturating_add(1)
 }
 
-/// How many levels the records of a directory have, or why it is refused.
 fn levels_or_fault(alloc: Global, bytes: &[u8]) -> Result<String, Fail> {
     match read_directory(alloc, bytes) {
         Ok(forest) => {

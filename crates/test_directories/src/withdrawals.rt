@@ -10,8 +10,8 @@ use dd_vectors::{ask_all, bytes_of, catalogue_of, claim_all, images};
 use std::alloc::Global;
 use std::test::Fail;
 
-/// The images of a catalogue and the instances that are withdrawn, each after a `/`, and what stands after the
-/// directory of the images then.
+/// The images of a catalogue and the instances that are withdrawn, each after a `/`, and what follows the directory of
+/// the images then.
 const ENDS: &str = "\
 1/1.2.3.4.6 > 09001000 4c4f 0c00 'DD_FILESET_1 09000210 5543 0000 0a000000 '1.2.3.4.6_
 1/1.2.3.4.7/1.2.3.4.6 > 09001000 4c4f 0c00 'DD_FILESET_1 09000210 5543 0000 14000000 '1.2.3.4.6\\1.2.3.4.7_
@@ -33,7 +33,6 @@ const SENT: &str = "\
 0 917 > 12 Write there
 918 925 > 918 bytes";
 
-/// Does the directory end so, after the directory of the images?
 fn ends_so(alloc: Global, case: &str) -> Result<bool, Fail> {
     let (words, end) = case.split_once(" > ").ok_or("no end")?;
     let (letters, _) = words.split_once('/').ok_or("no instances")?;
@@ -74,7 +73,6 @@ fn their_names_stop_where_the_writer_fails(rt: HostRuntime) -> Result<(), Fail> 
     ask_all(rt.alloc(), SENT, sent)
 }
 
-/// The history in which an instance is withdrawn and another image is taken.
 fn history(alloc: Global) -> Result<History, Fail> {
     let mut uids = Vec::new(alloc);
     uids.push(Uid::new(b"1.2.3.4.6")?)?;

@@ -1,4 +1,4 @@
-//! Calls of the files of the system over a disc in memory, which a line of a case names, and what they come to.
+//! Calls of the files of the system over a disc in memory, as the lines of cases name them, and their outcomes.
 
 use crate::disc::{Call, Disc, DiscFiles};
 use crate::power_cut::Kind;
@@ -30,7 +30,7 @@ fn call_of(name: &str) -> Option<Call> {
     }
 }
 
-// How a call fails that this word prepares.
+// The error of a call that this word prepares.
 fn error_of(verb: &str) -> Option<ErrorKind> {
     match verb {
         "fail" => Some(ErrorKind::Other),
@@ -42,7 +42,7 @@ fn error_of(verb: &str) -> Option<ErrorKind> {
     }
 }
 
-// What the word puts at a path: what stands there, and its bytes.
+// What the word puts at a path: its kind and its bytes.
 fn put_by(verb: &str) -> Option<(Kind, &'static [u8])> {
     match verb {
         "file" => Some((Kind::File, b"old")),
@@ -55,7 +55,7 @@ fn put_by(verb: &str) -> Option<(Kind, &'static [u8])> {
     }
 }
 
-// Prepares the disc, where the step is about it.
+// Prepares the disc, if the step does that.
 fn prepare(disc: &mut Disc, verb: &str, what: &str) -> Result<bool, Fail> {
     if let Some((kind, bytes)) = put_by(verb) {
         let place = disc.put(what, kind)?;
@@ -76,7 +76,6 @@ fn prepare(disc: &mut Disc, verb: &str, what: &str) -> Result<bool, Fail> {
     Ok(true)
 }
 
-// The same of a disc that is shared.
 fn is_prepared(disc: &RefCell<Disc>, verb: &str, what: &str) -> Result<bool, Fail> {
     match disc.try_borrow_mut() {
         Ok(mut disc) => prepare(&mut disc, verb, what),
@@ -84,7 +83,6 @@ fn is_prepared(disc: &RefCell<Disc>, verb: &str, what: &str) -> Result<bool, Fai
     }
 }
 
-// Writes all the bytes.
 pub(crate) fn write_all(files: &mut HostFiles<'_, DiscFiles<'_>>, bytes: &[u8]) -> bool {
     let mut rest = bytes;
     for _ in bytes {
@@ -99,7 +97,6 @@ pub(crate) fn write_all(files: &mut HostFiles<'_, DiscFiles<'_>>, bytes: &[u8]) 
     false
 }
 
-// Makes a call.
 fn is_done(files: &mut HostFiles<'_, DiscFiles<'_>>, verb: &str, what: &str) -> bool {
     match verb {
         "create" => files.create(what).is_ok(),
@@ -117,7 +114,7 @@ fn is_done(files: &mut HostFiles<'_, DiscFiles<'_>>, verb: &str, what: &str) -> 
     }
 }
 
-// What a reader gives to its end, or none where it fails.
+// Reads to the end, or gives None where the reader fails.
 pub(crate) fn all_of<R: Read>(alloc: Global, reader: &mut R) -> Result<Option<Vec<u8>>, Fail> {
     let mut all = Vec::new(alloc);
     let mut piece = [0; 1_000];
@@ -131,7 +128,7 @@ pub(crate) fn all_of<R: Read>(alloc: Global, reader: &mut R) -> Result<Option<Ve
     Err("a reader with no end".into())
 }
 
-// The folder of a path with a mark between its folder and what stands below that, and the path.
+// Splits `folder: path`.
 fn named(what: &str) -> (&str, &str) {
     match what.split_once(": ") {
         Some(both) => both,
@@ -164,7 +161,7 @@ fn read(
     }
 }
 
-// Gives a file of a file-set a second name, and answers what that came to.
+// Makes a hard link to a file of a file-set, and gives the outcome.
 fn second(files: &mut HostFiles<'_, DiscFiles<'_>>, what: &str) -> &'static str {
     let (set, paths) = named(what);
     let (from, path) = paths.split_once(" at ").unwrap_or((paths, ""));
@@ -176,7 +173,7 @@ fn second(files: &mut HostFiles<'_, DiscFiles<'_>>, what: &str) -> &'static str 
     }
 }
 
-// Makes a call about progress, where it is one.
+// Makes a call about progress, if it is one.
 fn counts(files: &mut HostFiles<'_, DiscFiles<'_>>, verb: &str, what: &str) -> Result<bool, Fail> {
     match verb {
         "reading" | "copying" => {
@@ -195,7 +192,7 @@ fn counts(files: &mut HostFiles<'_, DiscFiles<'_>>, verb: &str, what: &str) -> R
     Ok(true)
 }
 
-// Makes a call or prepares the disc for one, and adds what that came to.
+// Makes a call or prepares the disc for one, and adds the outcome.
 fn tell(
     alloc: Global,
     disc: &RefCell<Disc>,
@@ -220,7 +217,6 @@ fn tell(
     Ok(said.push(sign)?)
 }
 
-// The same of all these calls, with a space between two.
 fn tell_all(
     alloc: Global,
     disc: &RefCell<Disc>,
@@ -237,7 +233,6 @@ fn tell_all(
     Ok(())
 }
 
-// What the calls came to.
 pub(crate) fn in_words(alloc: Global, disc: &RefCell<Disc>, calls: &str) -> Result<String, Fail> {
     let rt = DiscFiles(disc);
     let mut files = HostFiles::new(alloc, &rt);

@@ -1,5 +1,3 @@
-//! Power cuts during runs.
-
 use crate::calls::in_words;
 use crate::disc::Disc;
 use dd_vectors::claim_all;
@@ -7,8 +5,8 @@ use std::alloc::Global;
 use std::cell::RefCell;
 use std::test::Fail;
 
-// In each line the calls of a run, all of which work: with no image, with a folder that is there, with folders
-// above it that are made; with images in folders, before or after which others are stored.
+// In each line the calls of a run, all of which work: with no image, with a folder that is there, with folders above it
+// that are made; with images in folders, before or after which others are stored.
 const RUNS: &str = "\
 folder o, store, create o/DICOMDIR, write xyz, finish, store
 dir o, folder o, store, create o/DICOMDIR, write xyz, finish, store
@@ -23,7 +21,6 @@ folder o/p/s, create o/p/s/i, write abc, finish, folder o, create o/DICOMDIR, wr
 limit 1, folder o/p/s, create o/p/s/i, write abc, finish, batch, folder o/q/s, create o/q/s/i, write abc, finish, \
 batch, folder o, store, create o/DICOMDIR, write xyz, finish, store";
 
-// Did no state break, and does all last at the end?
 fn is_safe(alloc: Global, calls: &str) -> Result<bool, Fail> {
     let disc = RefCell::new(Disc::new(alloc)?);
     let said = in_words(alloc, &disc, calls)?;
@@ -36,7 +33,7 @@ fn a_power_cut_leaves_no_directory_without_its_images(rt: HostRuntime) -> Result
     claim_all(rt.alloc(), RUNS, '\n', is_safe)
 }
 
-// The runs with many images: files, or second names of one; how many images, and how many files can be open.
+// Runs with many images: new files, or hard links to one file; how many images, and how many files can be open.
 const BATCHES: &str = "\
 files 120 101
 files 99 100
@@ -46,12 +43,12 @@ names 120 101
 names 40 7
 names 5 1";
 
-// What stands there before a run, and what it makes of each image: a file, or a second name of one.
+// What is made before a run, and how each image is made: as a file, or as a hard link.
 const FILES: [&str; 3] = ["", "create", ", write abc, finish"];
 
 const NAMES: [&str; 3] = ["file d/A, ", "second d: d/A at", ""];
 
-// The calls of a run with `images` images, while `open` files can be open.
+// Gives the calls of a run with `images` images, while `open` files can be open.
 fn calls_of(alloc: Global, kind: [&str; 3], images: u32, open: u32) -> Result<String, Fail> {
     let [before, make, end] = kind;
     let mut calls = format!(in alloc; "{before}limit {open}, folder o/s")?;
@@ -63,7 +60,6 @@ fn calls_of(alloc: Global, kind: [&str; 3], images: u32, open: u32) -> Result<St
     Ok(calls)
 }
 
-// Is a run with many images safe?
 fn is_batched(alloc: Global, case: &str) -> Result<bool, Fail> {
     let (kind, numbers) = case.split_once(' ').ok_or("no kind")?;
     let (images, open) = numbers.split_once(' ').ok_or("no numbers")?;
@@ -77,7 +73,6 @@ fn many_images_are_stored_in_batches(rt: HostRuntime) -> Result<(), Fail> {
     claim_all(rt.alloc(), BATCHES, '\n', is_batched)
 }
 
-// Would a power cut have left a directory without its images, and does not all last at the end?
 fn is_lost(alloc: Global, calls: &str) -> Result<bool, Fail> {
     let disc = RefCell::new(Disc::new(alloc)?);
     in_words(alloc, &disc, calls)?;
@@ -91,7 +86,7 @@ fn a_loss_is_seen(rt: HostRuntime) -> Result<(), Fail> {
     claim_all(rt.alloc(), calls, '\n', is_lost)
 }
 
-// In each line a path, and the folder that its last name stands in.
+// In each line a path, and the folder of its last name.
 const FOLDERS: &str = "\
 a > .
 a/ > .
@@ -106,7 +101,7 @@ a//b// > a
 ../a > ..
 a/../b > a/..";
 
-// Is the name of a file that is made at the path stored in that folder, and in no other?
+// Says whether a new file at the path has its name stored in that folder, and in no other.
 fn is_named_there(alloc: Global, case: &str) -> Result<bool, Fail> {
     let (path, folder) = case.split_once(" > ").ok_or("no folder")?;
     let disc = RefCell::new(Disc::new(alloc)?);

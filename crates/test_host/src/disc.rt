@@ -1,4 +1,4 @@
-//! A disc in memory that stands in for the files of the system. One call of it can be made to fail.
+//! A disc in memory in place of the files of the system. One call of it can be made to fail.
 ghost use Rattle.std.specs.Io.{ReadsAtMost};
 
 use crate::disc_file::DiscFile;
@@ -9,35 +9,31 @@ use std::cell::RefCell;
 use std::fs::{Files, Metadata, OpenOptions};
 use std::io::{self, Empty, ErrorKind, Read};
 
-// The most bytes that a read gives or a write takes.
+// The most bytes of one read or write.
 pub(crate) const STEP: usize = 1000;
 
-/// What can fail.
 #[derive(Clone, Copy, PartialEq)]
 pub(crate) enum Call {
     Open,
     Create,
     Folder,
-    /// A second name that is given.
     Link,
     Read,
     Write,
     Store,
     Look,
-    /// A look at an open file.
     LookAtOpen,
-    /// A file that stays what it was when it is opened.
+    /// On failure, the opened file becomes a pipe.
     Stay,
-    /// A folder or a second name that is made by then.
+    /// Fails after the folder or the hard link was made.
     Made,
-    /// A write to the terminal.
     Show,
     Clock,
 }
 
-/// The disc: what stands there, in the order in which it was made, the next call that fails, which files and
-/// folders were to be made and which were stored, in this order, what was looked at, how many files are open and may
-/// be, after how many calls a power cut would have left a whole directory without its images, and the terminal.
+/// The disc: its entries in the order in which they were made, the next call that fails, what was to be made and what
+/// was stored, in order, what was looked at, how many files are open and may be, after how many calls a power cut would
+/// have left a whole directory without its images, and the terminal.
 pub(crate) struct Disc {
     alloc: Global,
     pub(crate) entries: Vec<Entry>,
@@ -70,7 +66,7 @@ impl Drop for Disc {
 }
 
 impl Disc {
-    /// A disc with the current folder, that takes any number of open files.
+    /// Makes a disc with the current folder. Any number of files can be open.
     pub(crate) fn new(alloc: Global) -> io::Result<Self> {
         let mut disc = Disc {
             alloc,
@@ -88,27 +84,25 @@ impl Disc {
         Ok(disc)
     }
 
-    /// No more files than these can be open from now on.
     pub(crate) fn open_at_most(&mut self, most: usize) {
         self.most_open = most;
     }
 
-    /// After how many calls would a power cut have left a whole directory without its images?
+    /// Says after how many calls a power cut would have left a whole directory without its images.
     pub(crate) fn broken(&self) -> usize {
         self.broken
     }
 
-    /// Does all last that is there?
+    /// Says whether all that is there is stored.
     pub(crate) fn lasts(&self) -> bool {
         all_last(&self.entries)
     }
 
-    /// What was made and stored, in order.
     pub(crate) fn log(&self) -> &str {
         self.log.as_str()
     }
 
-    /// What was looked at by its path, in order, but for links that were followed.
+    /// The paths that were looked at, in order, except links that were followed.
     pub(crate) fn looks(&self) -> &str {
         self.looks.as_str()
     }
@@ -123,14 +117,14 @@ impl Disc {
         Ok(())
     }
 
-    // Looks at what a power cut would leave now.
+    // Counts a state that a power cut would break.
     fn look(&mut self) {
         if may_break(&self.entries) {
             self.broken = self.broken.saturating_add(1);
         }
     }
 
-    // What stands at the place lasts, under each of its names, and the names in it.
+    // Stores the entry, under each of its names, and the names in it.
     fn keep(&mut self, node: usize, path: &str) {
         for entry in self.entries.iter_mut() {
             if entry.node == node {
@@ -157,13 +151,13 @@ impl Disc {
         Ok(())
     }
 
-    /// The next such call fails, and those after it do not.
+    /// Has the next such call fail, but none after it.
     pub(crate) fn fail(&mut self, call: Call, kind: ErrorKind) {
         self.failing = Some(call);
         self.kind = kind;
     }
 
-    // Adds an empty entry, and answers its place.
+    // Adds an empty entry, and gives its index.
     pub(crate) fn make(&mut self, path: &str, kind: Kind, is_named: bool) -> io::Result<usize> {
         let place = self.entries.len();
         self.entries.push(Entry {
@@ -178,7 +172,7 @@ impl Disc {
         Ok(place)
     }
 
-    /// Puts what is empty at a path, where it stands from before, and answers its place.
+    /// Adds an empty entry whose name is stored, and gives its index.
     pub(crate) fn put(&mut self, path: &str, kind: Kind) -> io::Result<usize> {
         self.make(path, kind, true)
     }
@@ -189,7 +183,6 @@ impl Disc {
         self.add(place, b"xyz")
     }
 
-    /// Puts the bytes after those at a place.
     pub(crate) fn add(&mut self, place: usize, bytes: &[u8]) -> io::Result<()> {
         match self.entries.get_mut(place) {
             Some(entry) => entry.bytes.extend_from_slice(bytes)?,
@@ -199,7 +192,6 @@ impl Disc {
         Ok(())
     }
 
-    /// The bytes at a path.
     pub(crate) fn bytes(&self, path: &str) -> Option<&[u8]> {
         let entry = self.entries.get(self.find(path)?)?;
         Some(entry.bytes.as_slice())
@@ -215,7 +207,6 @@ impl Disc {
         Some(self.entries.get(self.find(path)?)?.kind)
     }
 
-    /// What stands at the place.
     pub(crate) fn metadata(&self, place: usize) -> io::Result<Metadata> {
         let Some(entry) = self.entries.get(place) else {
             return Err(io::Error::from(ErrorKind::NotFound));
@@ -224,12 +215,11 @@ impl Disc {
             Kind::File => Metadata::of_file(entry.bytes.len() as u64),
             Kind::Silent => Metadata::of_file(0),
             Kind::Folder => Metadata::of_dir(),
-            // Of what is no file and no folder, this alone can be made.
+            // The only metadata of neither a file nor a folder that can be made.
             Kind::Pipe | Kind::Link => Metadata::of_symlink(0),
         })
     }
 
-    // What stands at the path.
     fn look_at(&mut self, path: &str) -> io::Result<Metadata> {
         self.pass(Call::Look)?;
         if !self.looks.is_empty() {
@@ -242,7 +232,7 @@ impl Disc {
         }
     }
 
-    // The file at the place becomes a pipe, where it is not to stay what it was.
+    // Makes the file a pipe, if `Stay` is to fail.
     fn swap(&mut self, place: usize) {
         if self.pass(Call::Stay).is_err() {
             if let Some(entry) = self.entries.get_mut(place) {
@@ -316,7 +306,6 @@ pub(crate) fn in_use() -> io::Error {
     io::Error::other("the disc is in use")
 }
 
-/// The files of a disc.
 #[derive(Clone, Copy)]
 pub(crate) struct DiscFiles<'a>(pub(crate) &'a RefCell<Disc>);
 

@@ -1,4 +1,3 @@
-//! Open files of the disc in memory.
 ghost use Rattle.std.specs.Io.{ReadsAtMost};
 
 use crate::disc::{Call, Disc, STEP, in_use};

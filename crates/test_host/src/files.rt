@@ -1,4 +1,4 @@
-//! What comes back of what was written, what each call came to, and in which order all is stored.
+//! Reads back what was written, and checks each outcome and the order in which all is stored.
 
 use crate::calls::{all_of, in_words, write_all};
 use crate::disc::{Disc, DiscFiles};
@@ -9,8 +9,8 @@ use std::alloc::Global;
 use std::cell::RefCell;
 use std::test::Fail;
 
-// In each line calls, then what they came to (+ done, - refused or failed, ! not read, or the bytes
-// that were read), then the bytes at `a` once the files are dropped.
+// In each line calls, then their outcomes (+ done, - refused or failed, ! not read, or the bytes that were read), then
+// the bytes at `a` once the files are dropped.
 const CASES: &str = "\
 create a, write xyz, finish, read a > + + + xyz > xyz
 file a, create a, write new, read a > . - - old > old
@@ -45,7 +45,7 @@ folder d/e, spoil store, store > + . + > none
 create a, write xyz, fail write, finish, finish > + + . - - >
 create a, fail write, fill, write xyz, fill, finish > + . - - - - >";
 
-// In each line calls, then what they came to, then what the disc made and stored, in this order.
+// In each line calls, then their outcomes, then what the disc made and stored, in order.
 const ORDERS: &str = "\
 create a, finish, create b, finish > + + + + > make a, make b
 create DICOMDIR, finish > + + > make DICOMDIR
@@ -115,7 +115,6 @@ fn sample(alloc: Global) -> Result<Vec<u8>, Fail> {
     Ok(bytes)
 }
 
-// Writes the bytes in pieces to a new file, and ends it.
 fn is_written(files: &mut HostFiles<'_, DiscFiles<'_>>, bytes: &[u8]) -> bool {
     if files.create("a").is_err() {
         return false;
@@ -128,7 +127,6 @@ fn is_written(files: &mut HostFiles<'_, DiscFiles<'_>>, bytes: &[u8]) -> bool {
     files.finish().is_ok()
 }
 
-// Does that file give these bytes?
 fn gives(
     alloc: Global,
     files: &mut HostFiles<'_, DiscFiles<'_>>,

@@ -1,6 +1,6 @@
-//! Tests of the files of the machine over a disc in memory: what comes back of what was written, what is
-//! stored and when, how files and folders are found, what a power cut leaves, what a terminal shows, and that
-//! each call that fails is reported.
+//! Tests of the files of the machine over a disc in memory: reading back what was written, what is stored and when, how
+//! files and folders are found, what a power cut leaves, what a terminal shows, and that each call that fails is
+//! reported.
 #![tactic(auto)]
 
 #[cfg(test)]

@@ -1,4 +1,4 @@
-//! Files of file-sets in the spellings of systems, their second names, links, and what was opened.
+//! Files of file-sets in the spellings of systems, their hard links, symbolic links, and what was opened.
 
 use crate::calls::in_words;
 use crate::disc::Disc;
@@ -7,8 +7,8 @@ use std::alloc::Global;
 use std::cell::RefCell;
 use std::test::Fail;
 
-// In each line calls, and then what they came to. A file or a folder below another one is named by that folder and
-// its path.
+// In each line calls, and then their outcomes. A file or a folder below another one is named by that folder and its
+// path.
 const CASES: &str = "\
 file d/DICOMDIR, find d: d/DICOMDIR > . old
 file d/dicomdir, find d: d/DICOMDIR > . old
@@ -51,7 +51,7 @@ dir d, link d/P, folder d/P/S, make d: d/P/S > . . + -
 dir d, link d/P, pause folder, make d: d/P > . . . -
 dir d, pause made, make d: d/P > . . +";
 
-// In each line calls, and then what they came to.
+// In each line calls, and then their outcomes.
 const SECONDS: &str = "\
 dir o, file d/A, second d: d/A at o/A, read o/A, read d/A > . . + old old
 dir o, file d/pt1/a, dir d/pt1, second d: d/PT1/A at o/A, read o/A > . . . + old

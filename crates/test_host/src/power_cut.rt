@@ -1,7 +1,6 @@
-//! What a disc holds after a power cut, where it promises what POSIX does and no more: the bytes of a file last
-//! once it was stored, and a name once its folder was. All else may be there or not.
+//! What a disc holds after a power cut, if it promises what POSIX does and no more: the bytes of a file last once it
+//! was stored, and a name once its folder was. All else may be there or not.
 
-/// What stands at a path.
 #[derive(Clone, Copy, PartialEq)]
 pub(crate) enum Kind {
     File,
@@ -9,7 +8,7 @@ pub(crate) enum Kind {
     Pipe,
     /// A link to a folder.
     Link,
-    /// A file that says that it has no bytes.
+    /// A file whose metadata says that it has no bytes.
     Silent,
 }
 
@@ -17,7 +16,7 @@ pub(crate) enum Kind {
 pub(crate) struct Entry {
     pub(crate) path: String,
     pub(crate) kind: Kind,
-    /// Where the first of its names stands.
+    /// The index of the entry of its first name.
     pub(crate) node: usize,
     pub(crate) bytes: Vec<u8>,
     /// How many bytes last, and whether the name does.
@@ -47,13 +46,12 @@ const WHOLE: usize = 3;
 enum State {
     /// What lasts alone.
     Least,
-    /// That, each directory, and the folders above it.
+    /// What lasts, each directory, and the folders above it.
     Worst,
     /// All.
     All,
 }
 
-/// The folder of a path of the disc.
 pub(crate) fn parent(path: &str) -> &str {
     match path.rsplit_once('/') {
         Some((folder, _)) => folder,
@@ -61,7 +59,6 @@ pub(crate) fn parent(path: &str) -> &str {
     }
 }
 
-/// Does the path stand below the folder?
 fn is_below(path: &str, folder: &str) -> bool {
     match path.strip_prefix(folder) {
         Some(rest) => rest.starts_with('/'),
@@ -76,13 +73,12 @@ fn is_directory(entry: &Entry) -> bool {
     }
 }
 
-/// Is it the other, or a folder above that?
+/// Says whether the entry is the other, or a folder above it.
 fn leads_to(entry: &Entry, other: &Entry) -> bool {
     let (path, end) = (entry.path.as_str(), other.path.as_str());
     path == end || is_below(end, path)
 }
 
-/// Is the name there in this state?
 fn is_there(entry: &Entry, entries: &[Entry], state: State) -> bool {
     match state {
         State::Least => entry.is_named,
@@ -100,7 +96,6 @@ fn leads_to_directory(entry: &Entry, entries: &[Entry]) -> bool {
     false
 }
 
-/// How many bytes the file has in this state.
 fn length(file: &Entry, state: State) -> usize {
     match state {
         State::Least => file.lasting,
@@ -109,7 +104,7 @@ fn length(file: &Entry, state: State) -> usize {
     }
 }
 
-/// Is the file there in this state with all its bytes, and is each folder above it?
+/// Says whether the file is there in this state with all its bytes, and each folder above it.
 fn is_whole(file: &Entry, entries: &[Entry], state: State) -> bool {
     for entry in entries {
         if leads_to(entry, file) && !is_there(entry, entries, state) {
@@ -119,7 +114,7 @@ fn is_whole(file: &Entry, entries: &[Entry], state: State) -> bool {
     length(file, state) == WHOLE
 }
 
-/// Is a directory whole in this state, while a file is not?
+/// Says whether a directory is whole in this state, while a file is not.
 fn is_broken(entries: &[Entry], state: State) -> bool {
     let mut has_directory = false;
     let mut has_loss = false;
@@ -133,7 +128,7 @@ fn is_broken(entries: &[Entry], state: State) -> bool {
     has_directory && has_loss
 }
 
-/// May a power cut now leave a whole directory without its images?
+/// Says whether a power cut now may leave a whole directory without its images.
 pub(crate) fn may_break(entries: &[Entry]) -> bool {
     entries.iter().any(is_directory)
         && (is_broken(entries, State::Least)
@@ -141,7 +136,6 @@ pub(crate) fn may_break(entries: &[Entry]) -> bool {
             || is_broken(entries, State::All))
 }
 
-/// Does all last that is there?
 pub(crate) fn all_last(entries: &[Entry]) -> bool {
     for entry in entries {
         if !entry.is_named || entry.lasting != entry.bytes.len() {

@@ -1,4 +1,3 @@
-//! The clock, the terminal and the standard input of a disc in memory.
 ghost use Rattle.std.specs.Io.{ReadsAtMost};
 
 use crate::disc::{Call, Disc, DiscFiles, in_use};
@@ -27,7 +26,6 @@ impl Drop for Screen {
 }
 
 impl Screen {
-    /// An empty terminal at the start of time.
     pub(crate) fn new(alloc: Global) -> Self {
         Screen {
             text: String::new(alloc),
@@ -36,13 +34,11 @@ impl Screen {
         }
     }
 
-    /// Lets this number of milliseconds pass.
     pub(crate) fn wait(&mut self, millis: u64) {
         self.time = self.time.saturating_add(millis);
     }
 }
 
-/// Writes to the terminal of a disc.
 pub(crate) struct Terminal<'a> {
     disc: &'a RefCell<Disc>,
 }

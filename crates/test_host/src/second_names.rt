@@ -1,11 +1,9 @@
-//! Second names of what stands on the disc in memory.
-
 use crate::disc::{Call, Disc};
 use crate::power_cut::Kind;
 use std::io::{self, ErrorKind};
 
 impl Disc {
-    /// Gives what stands at a path a second name, which a folder can't have, and a symbolic link can.
+    /// Makes a hard link. A folder can't have one, and a symbolic link can.
     pub(crate) fn link(&mut self, original: &str, name: &str) -> io::Result<()> {
         self.pass(Call::Link)?;
         let place = self.find(original).ok_or(ErrorKind::NotFound)?;

@@ -1,4 +1,5 @@
-//! Each allocation of a merge refused in turn: it lacks memory, nothing has changed, and made again it answers.
+//! Refuses each allocation of a merge in turn: the merge reports that, has changed nothing, and succeeds when made
+//! again.
 
 use crate::merges::directories::{directories, label, slices, widest};
 use crate::merges::picks::in_words;
@@ -9,7 +10,6 @@ use dicomdir::{Choice, MergeFault, Merged, Pick, first_saying, merge_engine, wit
 use std::alloc::Global;
 use std::test::Fail;
 
-/// The calls that can want memory.
 #[derive(Clone, Copy)]
 enum Call {
     Derived,
@@ -18,7 +18,7 @@ enum Call {
     Withdraw,
 }
 
-/// Makes the call with the chosen allocation refused, and answers whether one was.
+/// Says whether the chosen allocation of the call was refused.
 fn is_refused(alloc: Global, call: Call, chosen: u32) -> Result<bool, Fail> {
     match call {
         Call::Derived => merge_refused(alloc, None, chosen),
@@ -28,7 +28,6 @@ fn is_refused(alloc: Global, call: Call, chosen: u32) -> Result<bool, Fail> {
     }
 }
 
-/// Makes the call with each of its allocations refused in turn.
 fn refuse_each(alloc: Global, call: Call) -> Result<(), Fail> {
     for chosen in allocation_numbers() {
         if !is_refused(alloc, call, chosen)? {
@@ -46,7 +45,6 @@ const PICKED: &str = " \
 0 PT000001\\ST000001\\SE000001\\IM000001 \
 1 PT000001\\ST000001\\SE000001\\IM000001 1 PT000002\\ST000001\\SE000001\\IM000001";
 
-/// Fails where other files are picked.
 fn require_picked(alloc: Global, merged: &Merged<'_>, picked: &str) -> Result<(), Fail> {
     require(
         in_words(alloc, merged)?.as_str().ends_with(picked),
@@ -54,14 +52,12 @@ fn require_picked(alloc: Global, merged: &Merged<'_>, picked: &str) -> Result<()
     )
 }
 
-/// Fails where a merge of these sets does not pick these files.
 fn require_merged(alloc: Global, uid: Option<Uid>, sets: &[&[u8]]) -> Result<(), Fail> {
     let id = SetId::new(b"")?;
     let merged = merge_engine(alloc, sets, &Choice { id, uid }, widest()?)?;
     require_picked(alloc, &merged, PICKED)
 }
 
-/// Merges the sets under this UID, or a derived one.
 fn merge_refused(alloc: Global, uid: Option<Uid>, chosen: u32) -> Result<bool, Fail> {
     let sets = directories(alloc, SETS)?;
     let sets = slices(alloc, &sets)?;
@@ -86,18 +82,16 @@ fn allocations_of_merge_engine_with_a_derived_uid(rt: HostRuntime) -> Result<(),
     refuse_each(rt.alloc(), Call::Derived)
 }
 
-/// The size of the directory of one image of two, of which the other is withdrawn, and the File ID that the image
-/// had.
+/// The size of the directory of one image of two, of which the other is withdrawn, and the File ID that the image had.
 const LEFT: &str = "928 0 PT000001\\ST000001\\SE000001\\IM000002";
 
-/// Fails where the image that is left is not picked once these are withdrawn.
 fn require_left(alloc: Global, set: &[u8], uids: &[Uid]) -> Result<(), Fail> {
     let (id, uid) = (SetId::new(b"")?, Some(label()?.uid));
     let merged = withdraw_engine(alloc, set, uids, &Choice { id, uid }, widest()?)?;
     require_picked(alloc, &merged, LEFT)
 }
 
-/// Withdraws an image and an instance that is not there.
+/// Withdraws an image, and an instance that is not there.
 fn withdraw_refused(alloc: Global, chosen: u32) -> Result<bool, Fail> {
     let sets = directories(alloc, "12")?;
     let set = sets.first().ok_or("no directory")?;
@@ -118,7 +112,6 @@ fn allocations_of_withdraw_engine(rt: HostRuntime) -> Result<(), Fail> {
     refuse_each(rt.alloc(), Call::Withdraw)
 }
 
-/// Fails where it is no file of the third set.
 fn require_third(found: Option<Pick<'_>>) -> Result<(), Fail> {
     require(
         found.is_some_and(|pick| pick.set == 2),
@@ -126,7 +119,7 @@ fn require_third(found: Option<Pick<'_>>) -> Result<(), Fail> {
     )
 }
 
-/// Seeks the version of an image that the third of three sets lists.
+/// Searches for the version of an image that the third of three sets lists.
 fn first_refused(alloc: Global, chosen: u32) -> Result<bool, Fail> {
     let sets = directories(alloc, "empty 34 12")?;
     let sets = slices(alloc, &sets)?;

@@ -1,5 +1,3 @@
-//! Directories that are merged.
-
 use dd_dir::publish;
 use dd_elem::{FileId, SetId, Uid};
 use dd_layout::{Label, Limits};
@@ -7,12 +5,10 @@ use dd_vectors::{catalogue_of, first_directory, put_words, v2, v3};
 use std::alloc::{AllocError, Global};
 use std::test::Fail;
 
-/// The widest limits.
 pub(crate) fn widest() -> Result<Limits, Fail> {
     Ok(Limits::new(u32::MAX, FileId::MAX_RANK).ok_or("no limits")?)
 }
 
-/// The label without an ID.
 pub(crate) fn label() -> Result<Label, Fail> {
     Ok(Label {
         id: SetId::new(b"")?,
@@ -20,8 +16,8 @@ pub(crate) fn label() -> Result<Label, Fail> {
     })
 }
 
-/// The directory with this name: `first`, `empty`, `v3`, or the letters of images with the instances that are
-/// withdrawn, each after a `/`.
+/// Makes the directory with this name: `first`, `empty`, `v3`, or the letters of images, then `/` before each instance
+/// that is withdrawn.
 fn named(alloc: Global, name: &str) -> Result<Vec<u8>, Fail> {
     match name {
         "first" => first_directory(alloc),
@@ -31,8 +27,7 @@ fn named(alloc: Global, name: &str) -> Result<Vec<u8>, Fail> {
     }
 }
 
-/// The directory that a word names: its name, with `,` before each place and each word of bytes that are put
-/// there.
+/// Makes the directory of a word: its name, with `,` before each offset and each word of bytes that are put there.
 fn directory(alloc: Global, word: &str) -> Result<Vec<u8>, Fail> {
     let (name, changes) = word.split_once(',').unwrap_or((word, ""));
     let mut bytes = named(alloc, name)?;
@@ -40,7 +35,6 @@ fn directory(alloc: Global, word: &str) -> Result<Vec<u8>, Fail> {
     Ok(bytes)
 }
 
-/// The directories that these words name.
 pub(crate) fn directories(alloc: Global, words: &str) -> Result<Vec<Vec<u8>>, Fail> {
     let mut all = Vec::new(alloc);
     for word in words.split(' ') {
@@ -49,7 +43,6 @@ pub(crate) fn directories(alloc: Global, words: &str) -> Result<Vec<Vec<u8>>, Fa
     Ok(all)
 }
 
-/// The bytes of all directories.
 pub(crate) fn slices(alloc: Global, all: &[Vec<u8>]) -> Result<Vec<&[u8]>, AllocError> {
     let mut slices = Vec::new(alloc);
     for bytes in all {

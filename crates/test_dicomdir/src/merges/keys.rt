@@ -9,9 +9,9 @@ use dicomdir::{Choice, merge_engine};
 use std::alloc::Global;
 use std::test::Fail;
 
-/// Images of two catalogues; and each image in their join: the first byte of its digest, the description of its
-/// study, and its instance. Before the join nothing of one study replaces the rest; an image that is withdrawn gives
-/// its study nothing then.
+/// Images of two catalogues; and each image in their join: the first byte of its digest, the description of its study,
+/// and its instance. Study descriptions agree only after the join, so that an image that is withdrawn gives its study
+/// nothing.
 const CATALOGUES: &str = "\
 xy z > 2 'B 1.2.3.4.5, 1 'B 1.2.3.4.6
 z xy > 2 'B 1.2.3.4.5, 1 'B 1.2.3.4.6
@@ -19,8 +19,8 @@ z xy > 2 'B 1.2.3.4.5, 1 'B 1.2.3.4.6
 BD /1.2.3.4.5 > 170 'A 1.2.3.4.6
 /1.2.3.4.5 BD > 170 'A 1.2.3.4.6";
 
-/// Directories, and the same of each image of all. In a directory each study has one description, which stays where
-/// the image that gave it is withdrawn by another.
+/// Directories, and each image of their merge, likewise. In a directory each study has one description, which stays
+/// where the image that gave it is withdrawn by another.
 const DIRECTORIES: &str = "\
 xy z > 2 'Z 1.2.3.4.5, 1 'Z 1.2.3.4.6
 z xy > 2 'Z 1.2.3.4.5, 1 'Z 1.2.3.4.6
@@ -31,7 +31,6 @@ BD /1.2.3.4.5 > 170 'B 1.2.3.4.6
 /1.2.3.4.5 BD > 170 'B 1.2.3.4.6
 BD/1.2.3.4.5 1 > 170 'A 1.2.3.4.6";
 
-/// The versions of a plan, each in words.
 fn all_told(alloc: Global, versions: &[Version]) -> Result<String, Fail> {
     let mut text = String::new(alloc);
     for version in versions {
@@ -43,7 +42,6 @@ fn all_told(alloc: Global, versions: &[Version]) -> Result<String, Fail> {
     Ok(text)
 }
 
-/// The images of the join of two catalogues.
 fn joined(alloc: Global, one: &str, other: &str) -> Result<String, Fail> {
     let mut catalogue = catalogue_of(alloc, one)?;
     catalogue.merge(&catalogue_of(alloc, other)?)?;
@@ -61,7 +59,6 @@ fn catalogues_are_joined_before_studies_agree(rt: HostRuntime) -> Result<(), Fai
     ask_all(rt.alloc(), CATALOGUES, catalogues)
 }
 
-/// The images of a merge of these directories.
 fn merged(alloc: Global, sets: &[Vec<u8>]) -> Result<String, Fail> {
     let sets = slices(alloc, sets)?;
     let Label { id, uid } = label()?;
@@ -80,10 +77,9 @@ fn directories_are_merged_as_they_are_written(rt: HostRuntime) -> Result<(), Fai
     ask_all(rt.alloc(), DIRECTORIES, read_back)
 }
 
-/// Directories.
 const ALONE: &str = "empty first 1 12 1234 AC xy 1/1.2.3.4.6 /1.2.3.4.5/1.2.3.4.6";
 
-/// Does a merge of this directory alone write it again?
+/// Says whether a merge of this directory alone writes it again.
 fn is_written_again(alloc: Global, name: &str) -> Result<bool, Fail> {
     let sets = directories(alloc, name)?;
     let sets = slices(alloc, &sets)?;

@@ -1,5 +1,3 @@
-//! Tests of merges of directories.
-
 mod allocations;
 mod directories;
 mod keys;

@@ -7,8 +7,8 @@ use dicomdir::{Choice, MergeFault, Merged, first_saying, merge_engine};
 use std::alloc::Global;
 use std::test::Fail;
 
-/// The most bytes of a directory, the most records below one parent, and the directories; and the size of the
-/// directory of all, and for each image the number of its set and its File ID there, or why there is no directory.
+/// The most bytes of a directory, the most records below one parent, and the directories; and the size of the merged
+/// directory, and for each image the number of its set and its File ID there, or the fault.
 const PICKS: &str = "\
 876 1 first first > 876 0 PT000001\\ST000001\\SE000001\\IM000001
 876 1 empty first first > 876 1 PT000001\\ST000001\\SE000001\\IM000001
@@ -38,7 +38,6 @@ const PICKS: &str = "\
 0 0 1 1/1.2.3.4.6,402,2020,908,'. v3 > Own 1: 65 BadWithdrawal
 0 0 5 1 first,402,2020 > Own 2: 63 RecordKey 320 (0010,0020)";
 
-/// The size of a merge, and what is picked.
 pub(crate) fn in_words(alloc: Global, merged: &Merged<'_>) -> Result<String, Fail> {
     let size = merged.plan.size();
     let mut text = format!(in alloc; "{size}")?;
@@ -49,7 +48,6 @@ pub(crate) fn in_words(alloc: Global, merged: &Merged<'_>) -> Result<String, Fai
     Ok(text)
 }
 
-/// The refusal of a merge, with the number of the set.
 pub(crate) fn refused(alloc: Global, fault: MergeFault) -> Result<String, Fail> {
     Ok(match fault {
         MergeFault::Dir(at, fault) => format!(in alloc; "Dir {at}: {fault}")?,
@@ -59,7 +57,6 @@ pub(crate) fn refused(alloc: Global, fault: MergeFault) -> Result<String, Fail> 
     })
 }
 
-/// What comes of a merge of these directories.
 fn merged(alloc: Global, limits: Limits, sets: &[Vec<u8>]) -> Result<String, Fail> {
     let sets = slices(alloc, sets)?;
     let Label { id, uid } = label()?;
@@ -84,8 +81,8 @@ fn files_are_picked_or_sets_refused(rt: HostRuntime) -> Result<(), Fail> {
 }
 
 /// Directories that are merged, and after the bar others, which are searched for the first record that says of the
-/// first instance what the merge plans. The answer is the number of its set and its File ID there, `none`, or the
-/// fault of a directory.
+/// first instance what the merge plans: the number of its set and its File ID there, `none`, or the fault of a
+/// directory.
 const FIRSTS: &str = "\
 first | first first > 0 PT000001\\ST000001\\SE000001\\IM000001
 first first,402,'P9 | first first,402,'P9,686,'X > 1 XT000001\\ST000001\\SE000001\\IM000001
@@ -94,7 +91,6 @@ first | first,386,'ROE^JANE > 0 PT000001\\ST000001\\SE000001\\IM000001
 first | empty first,834,00 first,874,'2 first,754,'4 > none
 first | 12 first,336,40010000 > Dir 1: 55 Twice 320";
 
-/// Answers what the search finds in the directories after the bar.
 fn first(alloc: Global, question: &str) -> Result<String, Fail> {
     let (merged, sought) = question.split_once(" | ").ok_or("no others")?;
     let sets = directories(alloc, merged)?;

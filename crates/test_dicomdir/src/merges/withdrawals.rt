@@ -1,5 +1,3 @@
-//! Instances that are withdrawn from a directory.
-
 use crate::merges::directories::{directories, label};
 use crate::merges::picks::{in_words, refused};
 use dd_elem::Uid;
@@ -10,7 +8,7 @@ use std::alloc::Global;
 use std::test::Fail;
 
 /// The most bytes of a directory, the directory, and the instances that are withdrawn; and the size of the new
-/// directory, and for each of its images the File ID that it had, or why the withdrawal is refused.
+/// directory, and for each of its images the File ID that it had, or the fault.
 const WITHDRAWALS: &str = "\
 362 first 1.2.3.4.5 > 362
 361 first 1.2.3.4.5 > Plan: 43 TooLarge
@@ -26,7 +24,6 @@ const WITHDRAWALS: &str = "\
 362 1/1.2.3.4.6,908,'. 1.2.3.4.5 > Own 0: 65 BadWithdrawal
 362 first,294,41010000 1.2.3.4.5 > Dir 0: 56 LastRoot";
 
-/// The UIDs of these words.
 pub(crate) fn uids_of(alloc: Global, words: &str) -> Result<Vec<Uid>, Fail> {
     let mut uids = Vec::new(alloc);
     for word in words.split(' ') {
@@ -35,7 +32,6 @@ pub(crate) fn uids_of(alloc: Global, words: &str) -> Result<Vec<Uid>, Fail> {
     Ok(uids)
 }
 
-/// What comes of withdrawing these instances from a directory.
 fn withdrawn(alloc: Global, limits: Limits, set: &[u8], uids: &[Uid]) -> Result<String, Fail> {
     let Label { id, uid } = label()?;
     let uid = Some(uid);

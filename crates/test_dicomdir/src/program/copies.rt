@@ -8,8 +8,8 @@ use std::test::Fail;
 /// The SHA-256 of V1.
 pub(crate) const DIGEST: &str = "900e75e1c153f87b21e09f9db68aef627f2dd320eb3afb1f2574594e6c862a92";
 
-/// Copies of V1: how many bytes a read gives, after how many the reader and the writer fail, the limit, and
-/// what the copy says and how many bytes of V1 were sent.
+/// Copies of V1: the most bytes of a read, after how many the reader and the writer fail, the limit, and what the copy
+/// says and how many bytes of V1 were sent.
 const COPIES: &str = "\
 1000 - - 454 > digest 454
 1 - - 454 > digest 454
@@ -24,7 +24,7 @@ const COPIES: &str = "\
 /// The SHA-256 of 131,073 bytes of zero.
 const LONG_DIGEST: &str = "d281209cc72d47b090175b22621840d9eb8267d09cc05dc122bfaa759a82830f";
 
-/// Copies of these bytes, which are more than two reads take: the same.
+/// Copies of these bytes, which take more than two reads.
 const LONG_COPIES: &str = "\
 1000000 - - 131073 > digest 131073
 1000000 - - 131072 > 97 Changed 131072
@@ -52,7 +52,7 @@ pub(crate) fn digest_words(alloc: Global, digest: &[u8; 32], wanted: &str) -> Re
     Ok(String::from_str(alloc, words)?)
 }
 
-/// How many bytes were sent, which must be the first of the image.
+/// Counts the bytes that were sent, which must be the first of the image.
 pub(crate) fn sent_of(image: &[u8], sent: &[u8]) -> Result<usize, Fail> {
     if !image.starts_with(sent) {
         return Err("other bytes were sent".into());

@@ -1,9 +1,6 @@
-//! Digests as text.
-
 use dicomdir::digest_text;
 use std::test::Fail;
 
-/// The bytes 00 to 1f.
 const COUNTED: [u8; 32] = [
     0, 1, 2, 3, 4, 5, 6, 7, 8, 9, 10, 11, 12, 13, 14, 15, 16, 17, 18, 19, 20, 21, 22, 23, 24, 25,
     26, 27, 28, 29, 30, 31,

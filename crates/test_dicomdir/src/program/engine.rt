@@ -3,17 +3,17 @@ ghost use Rattle.std.specs.Prelude.{None, slice_index, slice_index_or};
 
 use dd_elem::{Counts, FileId, Read, SetId, Uid};
 use dd_layout::Limits;
-use dd_vectors::{ByteSource, ask_all, refuse_allocation, require, v1, v1_with, was_refused};
+use dd_vectors::{ByteSource, ask_all, ends_refused, refuse_allocation, require, v1, v1_with};
 use dicomdir::{Choice, EngineFault, Indexed, NotThere, Supply, index_engine};
 use std::alloc::Global;
 use std::io;
 use std::test::Fail;
 
-/// How V1 becomes a file of 458 bytes whose class is no image's.
+/// Makes V1 a file of 458 bytes whose class is no image's.
 const OTHER: &str = "0002,0000 UL 88000000; 0002,0002 UI '1.2.840.10008.5.1.4.1.1.88.11~";
 
-/// Indexes of V1 and such a file: the most bytes of a source, the sources that are skipped, the picks and the
-/// size of the directory.
+/// Indexes of V1 and such a file: the most bytes of a source, the sources that are skipped, the picks and the size of
+/// the directory.
 const INDEXES: &str = "\
 1000 > skip 1: 32 NotImage 1.2.840.10008.5.1.4.1.1.88.11, pick 0, 876 bytes
 458 > skip 1: 32 NotImage 1.2.840.10008.5.1.4.1.1.88.11, pick 0, 876 bytes
@@ -21,7 +21,6 @@ const INDEXES: &str = "\
 454 > skip 1: 39 FileTooLong, pick 0, 876 bytes
 453 > skip 0: 39 FileTooLong, skip 1: 39 FileTooLong, 320 bytes";
 
-/// A reader that says how many of its reads failed.
 #[derive(Drop)]
 struct Reader<'a> {
     bytes: ByteSource<'a>,
@@ -46,8 +45,8 @@ impl Read for Reader<'_> {
     }
 }
 
-/// Two sources; of each the refusals to open it and the failures of its readers, their reads, and how many of
-/// them are lent.
+/// Two sources; of each the openings that were refused, the reads that failed, all reads, and how many readers are
+/// lent.
 #[derive(Drop)]
 struct Pair<'a> {
     sources: [&'a [u8]; 2],
@@ -146,8 +145,9 @@ fn sources_are_skipped_or_picked(rt: HostRuntime) -> Result<(), Fail> {
     ask_all(rt.alloc(), INDEXES, indexed)
 }
 
-/// Indexes both with the chosen allocation refused, and answers whether one was. Where it was the index lacks memory,
-/// and made again it answers.
+/// Says whether the chosen allocation of an index of both was refused. The bytes of a source are hashed where no memory
+/// keeps them, so that the index may succeed although an allocation was refused. Where it reports a refusal, it is made
+/// again.
 pub(crate) fn index_refused(alloc: Global, chosen: u32) -> Result<bool, Fail> {
     let (image, other) = (v1(alloc)?, v1_with(alloc, OTHER)?);
     let (counts, none) = ([Counts::new(); 2], [0; 2]);
@@ -161,10 +161,11 @@ pub(crate) fn index_refused(alloc: Global, chosen: u32) -> Result<bool, Fail> {
     let limits = Limits::new(u32::MAX, FileId::MAX_RANK).ok_or("no limits")?;
     refuse_allocation(alloc, chosen)?;
     let answer = index_engine(alloc, &mut pair, &Choice { id, uid }, limits, 1000);
-    let refused = was_refused(alloc, matches!(answer, Err(EngineFault::Memory)))?;
+    let refused = ends_refused(alloc)?;
     let indexed = match answer {
         Ok(indexed) => indexed,
-        Err(_) => indexed_by(alloc, 1000)?,
+        Err(EngineFault::Memory) if refused => indexed_by(alloc, 1000)?,
+        Err(fault) => return Err(fault.into()),
     };
     require(
         in_words(alloc, &indexed)?.as_str()

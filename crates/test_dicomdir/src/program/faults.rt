@@ -1,4 +1,4 @@
-//! The words of the faults of the program, some of which no run shows here.
+//! The words of the faults of the program. No run here shows some of them.
 
 use dd_dir::{DirFault, OwnFault};
 use dd_elem::{BadSetId, BadUid};
@@ -6,7 +6,6 @@ use dd_layout::PlanFault;
 use dicomdir::{CopyFault, EngineFault, MergeFault, ProgramFault};
 use std::test::Fail;
 
-/// Faults of the program, in words.
 const PROGRAM: &str =
     "39 FileTooLong, 43 TooLarge, 56 LastRoot, 61 NoDigest 646, 65 BadWithdrawal, 71 BadUid, \
                        72 BadSetId, 91 Memory, 92 Absent, 93 Unread, 94 Create, 95 Folder, \
@@ -19,7 +18,6 @@ const MERGE: &str = "43 TooLarge, 56 LastRoot, 61 NoDigest 646, 65 BadWithdrawal
 
 const COPY: &str = "93 Unread, 96 Unsent, 97 Changed";
 
-/// The fault with these words.
 fn fault_of(words: &str) -> Option<ProgramFault> {
     match words {
         "39 FileTooLong" => Some(ProgramFault::TooLong),

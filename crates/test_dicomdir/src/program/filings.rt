@@ -11,9 +11,9 @@ use dicomdir::{Choice, Filed, file_image, merge_engine};
 use std::alloc::Global;
 use std::test::Fail;
 
-/// Images, V1 or a text: how many bytes a read gives, after how many the reader and the writer fail, the limit, and
-/// how the directory that plans the image differs from that of V1; what is said of the copy, and how many bytes
-/// were sent. The name of a patient is not compared.
+/// Images, V1 or a text: the most bytes of a read, after how many the reader and the writer fail, the limit, and how
+/// the directory that plans the image differs from V1's; the outcome, and how many bytes were sent. The name of a
+/// patient is not compared.
 const FILINGS: &str = "\
 v1 1000 - - 454 - > AsPlanned 454
 v1 1 - - 454 - > AsPlanned 454
@@ -28,7 +28,6 @@ v1 100 - - 453 - > 97 Changed 454
 v1 100 200 - 454 - > 93 Unread 200
 v1 100 - 150 454 - > 96 Unsent 150";
 
-/// The bytes of an image.
 fn image(alloc: Global, name: &str) -> Result<Vec<u8>, Fail> {
     match name {
         "v1" => v1(alloc),
@@ -36,7 +35,6 @@ fn image(alloc: Global, name: &str) -> Result<Vec<u8>, Fail> {
     }
 }
 
-/// The directory of V1 with other bytes.
 fn directory(alloc: Global, changes: &str) -> Result<Vec<u8>, Fail> {
     let mut bytes = first_directory(alloc)?;
     if changes != "-" {
@@ -45,7 +43,6 @@ fn directory(alloc: Global, changes: &str) -> Result<Vec<u8>, Fail> {
     Ok(bytes)
 }
 
-/// A label of no ID, whose UID is derived.
 fn choice() -> Result<Choice, Fail> {
     Ok(Choice {
         id: SetId::new(b"")?,
@@ -53,7 +50,6 @@ fn choice() -> Result<Choice, Fail> {
     })
 }
 
-/// The limits of one image.
 fn limits() -> Result<Limits, Fail> {
     Ok(Limits::new(u32::MAX, 1).ok_or("no limits")?)
 }
@@ -84,8 +80,8 @@ fn images_are_filed_or_refused(rt: HostRuntime) -> Result<(), Fail> {
     ask_all(rt.alloc(), FILINGS, filed)
 }
 
-/// Files V1 by a writer without room. An allocation that is refused is a write that fails, or lack of memory once V1
-/// was sent. What is filed again comes after it.
+/// Files V1 to a writer without room. A refused allocation is a write that fails, or a fault once V1 was sent. What is
+/// filed again comes after it.
 pub(crate) fn filing_refused(alloc: Global, chosen: u32) -> Result<bool, Fail> {
     let directory = first_directory(alloc)?;
     let sets = [directory.as_slice()];

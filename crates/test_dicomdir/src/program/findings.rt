@@ -1,5 +1,3 @@
-//! What is found of the files that records name.
-
 use dd_dir::Tree;
 use dd_set::{Syntax, parse};
 use dd_vectors::{ByteSource, ask_all, bytes_of, failing, v1};
@@ -7,8 +5,8 @@ use dicomdir::{Finding, finding_of};
 use std::alloc::Global;
 use std::test::Fail;
 
-/// The elements of records: a File ID, nothing in its place, and what is no File ID; and V1's digest after it, another
-/// one, one of another creator, and one that is too short.
+/// The elements of records: a File ID, a blank one, and two that are none; a File ID with V1's digest, with another
+/// one, with one of another creator, and with one that is too short; and none of these.
 const RECORDS: &str = "\
 named 04000015 4353 0400 'IM1_
 blank 04000015 4353 0400 '____
@@ -23,12 +21,12 @@ aaaaaaaaaaaaaaaaaaaaaaaaaaaaaaaaaaaaaaaaaaaaaaaaaaaaaaaaaaaaaaaa
 short 04000015 4353 0400 'IM1_ 09001000 4c4f 0c00 'DD_FILESET_1 09000110 4f42 0000 04000000 aaaaaaaa
 absent 20001300 4953 0200 '1_";
 
-/// The SHA-256 of V1, and the one that records another file's.
+/// The SHA-256 of V1, and the other that a record has.
 const DIGESTS: &str = "\
 900e75e1c153f87b21e09f9db68aef627f2dd320eb3afb1f2574594e6c862a92 \
 aaaaaaaaaaaaaaaaaaaaaaaaaaaaaaaaaaaaaaaaaaaaaaaaaaaaaaaaaaaaaaaa";
 
-/// Whether a record is in use, which it is, how many bytes a read of V1 gives or 0 where it can't be opened, after how
+/// Whether a record is in use, which it is, the most bytes of a read of V1, or 0 where it can't be opened, after how
 /// many it fails, how many it may have, and what is found.
 const FINDINGS: &str = "\
 true named 0 - 454 > Missing
@@ -55,7 +53,6 @@ false other 1000 - 454 > nothing
 true foreign 1000 - 454 > nothing
 true short 1000 - 454 > nothing";
 
-/// The elements of a record.
 fn record(alloc: Global, name: &str) -> Result<Vec<u8>, Fail> {
     for line in RECORDS.split('\n') {
         if let Some((found, elements)) = line.split_once(' ')

@@ -1,13 +1,13 @@
-//! What lines are taken, and the status and output of those that are not.
+//! Which command lines are taken, and the status and output of the others.
 
 use dd_vectors::{ask_all, words_of};
 use dicomdir::{Asked, LineFault, read_words};
 use std::alloc::Global;
 use std::test::Fail;
 
-/// Lines, and what they ask for: the command, the ID and the UID (`-` where none is given), the most bytes, the
-/// paths, the UIDs of images, if any, after `without`, the list of names after `from`, and each flag that is set
-/// after `with`. Or, where they are refused, the exit status and whether the text is for the error output.
+/// Lines, and what they ask for: the command, the ID and the UID (`-` where none is given), the most bytes, the paths,
+/// the UIDs of images after `without`, the list of names after `from`, and each flag that is set after `with`. Or,
+/// where they are refused, the exit status and whether the text is for the error output.
 const LINES: &str = "\
 dicomdir index set image.dcm > Index - - 4294967295 set image.dcm
 dicomdir index --id DISC1 --uid 2.25.1 --max-bytes 1000 set image.dcm > Index DISC1 2.25.1 1000 set image.dcm
@@ -190,7 +190,6 @@ fn push_flags(text: &mut String, asked: &Asked) -> Result<(), Fail> {
     push_flag(text, asked.link, " with link")
 }
 
-/// Appends the words of a flag that is set.
 fn push_flag(text: &mut String, is_set: bool, words: &str) -> Result<(), Fail> {
     if is_set {
         text.push_str(words)?;
@@ -206,7 +205,7 @@ fn refused(alloc: Global, fault: &LineFault) -> Result<String, Fail> {
     Ok(format!(in alloc; "{status} {is_mistake}")?)
 }
 
-/// What a line asks for, or how it is refused.
+/// Says what a line asks for, or how it is refused.
 pub(crate) fn said(alloc: Global, answer: &Result<Asked, LineFault>) -> Result<String, Fail> {
     match answer {
         Ok(asked) => in_words(alloc, asked),

@@ -1,4 +1,4 @@
-//! Tests of what the program `dicomdir` is made of: its command line, what it prints, and its engine.
+//! Tests of the parts of the program `dicomdir`: its command line, what it prints, and its engine.
 
 mod allocations;
 mod copies;

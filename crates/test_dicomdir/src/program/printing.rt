@@ -1,12 +1,10 @@
-//! What is printed to a device.
-
 use dd_vectors::{Sink, ask_all, push_lines};
 use dicomdir::{print_line, send_text};
 use std::alloc::{AllocError, Global};
 use std::test::Fail;
 
-/// After how many bytes a device fails to which a line in two parts and then `more` are printed, whether both were, and
-/// what it holds. `|` ends a line.
+/// A line in two parts and then `more` are printed to a device: after how many bytes it fails, whether both were
+/// printed, and what it holds. `|` ends a line.
 const PRINTED: &str = "\
 100 > true true [91 Memory|more|]
 15 > true true [91 Memory|more|]
@@ -29,9 +27,9 @@ fn lines_are_printed_as_far_as_they_go(rt: HostRuntime) -> Result<(), Fail> {
     ask_all(rt.alloc(), PRINTED, printed)
 }
 
-/// After how many bytes a device fails to which a line of 5,000, 5,000 and 9,000 characters is printed, whether it
-/// was, and how many of its bytes the device holds. Of the first and the second there is room for one to wait, and for
-/// the third there is no room.
+/// A line of 5,000, 5,000 and 9,000 characters is printed to a device: after how many bytes it fails, whether the line
+/// was printed, and how many of its bytes the device holds. The buffer has room for the first or the second, but not
+/// for both, nor for the third.
 const LONG: &str = "\
 20000 > true 19001
 19001 > true 19001
@@ -68,8 +66,8 @@ fn long_lines_are_printed_as_far_as_they_go(rt: HostRuntime) -> Result<(), Fail>
     ask_all(rt.alloc(), LONG, printed_long)
 }
 
-/// Parts of a line, between which a blank stands, and the line as it prints. `|` stands for a line feed. All other
-/// characters than those from U+0000 to U+001F and from U+007F to U+009F print as they are.
+/// Parts of a line, separated by a blank, and the line as it prints. `|` stands for a line feed. Characters from U+0000
+/// to U+001F and from U+007F to U+009F alone do not print as they are.
 const MASKED: &str = "\
 a b c > abc
 a|DONE b > a?DONEb

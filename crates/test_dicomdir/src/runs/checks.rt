@@ -32,6 +32,11 @@ index s a.dcm d.dcm --uid 2.25.0; d/DICOMDIR=s/DICOMDIR d/PT000001/ST000001/SE00
 - - dicomdir check d > 3 [MISSING PT000001\\ST000001\\SE000001\\IM000001|\
 DIFFERS PT000001\\ST000001\\SE000001\\IM000002 e1c339749fc4c0b910f737b0ec323ff2d686545cf4d85bf8318cdf7554bb1e82 \
 453361fd925712bb2f4ef496dfa3480f0d7a1e22fc15dc69e72aeb8086c135ce|] [] kept
+index s a.dcm d.dcm --uid 2.25.0; d/DICOMDIR=s/DICOMDIR d/PT000001/ST000001/SE000001/IM000001=note.txt: \
+- - dicomdir check d > 3 [DIFFERS PT000001\\ST000001\\SE000001\\IM000001 \
+900e75e1c153f87b21e09f9db68aef627f2dd320eb3afb1f2574594e6c862a92 \
+453361fd925712bb2f4ef496dfa3480f0d7a1e22fc15dc69e72aeb8086c135ce|\
+MISSING PT000001\\ST000001\\SE000001\\IM000002|] [] kept
 index s a.dcm d.dcm --uid 2.25.0; d/DICOMDIR=s/DICOMDIR,686,'p: - - dicomdir check d > \
 3 [BADID 622|MISSING PT000001\\ST000001\\SE000001\\IM000002|] [] kept
 d/DICOMDIR=v3,674,ffff: - - dicomdir check d > 3 [MISSING IMAGES\\IM1|MISSING IMAGES\\SR1|] [] kept
@@ -57,6 +62,49 @@ d/DICOMDIR=first: - 0 dicomdir check d > 3 [MISSING PT000001\\ST000001\\SE000001
 #[test]
 fn sets_are_checked(rt: HostRuntime) -> Result<(), Fail> {
     ask_all(rt.alloc(), CHECKS, ran)
+}
+
+/// File-sets of five images in one series, of which the second and the fifth are damaged: all others are as they were;
+/// the third is missing; the output fails in the first finding; or the records have another Patient ID. The findings
+/// stand in the order of the records.
+const FIVE: &str = "\
+g.dcm=a.dcm,208,'7,326,'7 h.dcm=a.dcm,208,'8,326,'8 i.dcm=a.dcm,208,'9,326,'9; \
+index d a.dcm d.dcm g.dcm h.dcm i.dcm; \
+d/PT000001/ST000001/SE000001/IM000002=note.txt d/PT000001/ST000001/SE000001/IM000005=note.txt: \
+- - dicomdir check d > 3 [\
+DIFFERS PT000001\\ST000001\\SE000001\\IM000002 e1c339749fc4c0b910f737b0ec323ff2d686545cf4d85bf8318cdf7554bb1e82 \
+453361fd925712bb2f4ef496dfa3480f0d7a1e22fc15dc69e72aeb8086c135ce|\
+DIFFERS PT000001\\ST000001\\SE000001\\IM000005 54e3719a4bddbaaed417222b3d8d2de44da424f0d52ee75deb9a9adfd5a3735d \
+453361fd925712bb2f4ef496dfa3480f0d7a1e22fc15dc69e72aeb8086c135ce|] [] kept
+g.dcm=a.dcm,208,'7,326,'7 h.dcm=a.dcm,208,'8,326,'8 i.dcm=a.dcm,208,'9,326,'9; \
+index s a.dcm d.dcm g.dcm h.dcm i.dcm; d/DICOMDIR=s/DICOMDIR d/PT000001/ST000001/SE000001/IM000001=a.dcm \
+d/PT000001/ST000001/SE000001/IM000002=note.txt d/PT000001/ST000001/SE000001/IM000004=h.dcm \
+d/PT000001/ST000001/SE000001/IM000005=note.txt: - - dicomdir check d > 3 [\
+DIFFERS PT000001\\ST000001\\SE000001\\IM000002 e1c339749fc4c0b910f737b0ec323ff2d686545cf4d85bf8318cdf7554bb1e82 \
+453361fd925712bb2f4ef496dfa3480f0d7a1e22fc15dc69e72aeb8086c135ce|\
+MISSING PT000001\\ST000001\\SE000001\\IM000003|\
+DIFFERS PT000001\\ST000001\\SE000001\\IM000005 54e3719a4bddbaaed417222b3d8d2de44da424f0d52ee75deb9a9adfd5a3735d \
+453361fd925712bb2f4ef496dfa3480f0d7a1e22fc15dc69e72aeb8086c135ce|] [] kept
+g.dcm=a.dcm,208,'7,326,'7 h.dcm=a.dcm,208,'8,326,'8 i.dcm=a.dcm,208,'9,326,'9; \
+index d a.dcm d.dcm g.dcm h.dcm i.dcm; \
+d/PT000001/ST000001/SE000001/IM000002=note.txt d/PT000001/ST000001/SE000001/IM000005=note.txt: \
+9 - dicomdir check d > 1 [DIFFERS P] [] kept
+g.dcm=a.dcm,208,'7,326,'7 h.dcm=a.dcm,208,'8,326,'8 i.dcm=a.dcm,208,'9,326,'9; \
+index s a.dcm d.dcm g.dcm h.dcm i.dcm --uid 2.25.0; d/DICOMDIR=s/DICOMDIR,402,'P9 \
+d/PT000001/ST000001/SE000001/IM000001=a.dcm d/PT000001/ST000001/SE000001/IM000002=note.txt \
+d/PT000001/ST000001/SE000001/IM000004=h.dcm d/PT000001/ST000001/SE000001/IM000005=note.txt: \
+- - dicomdir check --keys d > 3 [\
+MISLABELLED PT000001\\ST000001\\SE000001\\IM000001 (0010,0020)|\
+DIFFERS PT000001\\ST000001\\SE000001\\IM000002 e1c339749fc4c0b910f737b0ec323ff2d686545cf4d85bf8318cdf7554bb1e82 \
+453361fd925712bb2f4ef496dfa3480f0d7a1e22fc15dc69e72aeb8086c135ce|\
+MISSING PT000001\\ST000001\\SE000001\\IM000003|\
+MISLABELLED PT000001\\ST000001\\SE000001\\IM000004 (0010,0020)|\
+DIFFERS PT000001\\ST000001\\SE000001\\IM000005 54e3719a4bddbaaed417222b3d8d2de44da424f0d52ee75deb9a9adfd5a3735d \
+453361fd925712bb2f4ef496dfa3480f0d7a1e22fc15dc69e72aeb8086c135ce|] [] kept";
+
+#[test]
+fn findings_stand_in_the_order_of_the_records(rt: HostRuntime) -> Result<(), Fail> {
+    ask_all(rt.alloc(), FIVE, ran)
 }
 
 /// What `check --keys` finds in a file-set of another program whose image is a.dcm with other bytes at a place: every

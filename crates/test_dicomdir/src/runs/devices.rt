@@ -6,12 +6,11 @@ use dd_vectors::{ask_all, first_directory, v1};
 use std::alloc::Global;
 use std::test::Fail;
 
-/// An index of V1.
 const INDEX: &str = "index out a.dcm --uid 2.25.0";
 
-/// After how many bytes at least and at most writes fail in an index of V1, which has 454 bytes, and how each such run
-/// ends: the status, what both outputs hold, and what is there of the image and of the directory. A `front` has
-/// what was written of it.
+/// The range of bytes after which writes fail in an index of V1, which has 454 bytes, and how each such run ends: the
+/// status, what both outputs hold, and what is there of the image and of the directory. A `front` has what was written
+/// of it.
 const UNSENT: &str = "\
 0 453 > 1 [] [FAULT out/PT000001/ST000001/SE000001/IM000001: 96 Unsent|] front none
 454 1329 > 1 [] [FAULT out/DICOMDIR: 96 Unsent|] whole front
@@ -41,7 +40,7 @@ const REFUSED: &str = "\
 8: merge o2 d1 --uid 2.25.0 > 0 [DONE 1 instances, 876 bytes|] [] whole whole
 1: check d1 > 0 [OK 4 records|] [] whole whole";
 
-/// A file, at which opening of it the reader fails and after how many bytes at least and at most, the line, and how
+/// A file, which opening of it has the reader that fails, the range of bytes after which it does, the line, and how
 /// each such run ends, with what is in its folder then. A `front` has at most as many bytes as were read.
 const UNREAD: &str = "\
 a.dcm 1 0 454: index out a.dcm --uid 2.25.0 > 1 [] [FAULT a.dcm: 93 Unread|] none none
@@ -62,7 +61,7 @@ d1/PT000001/ST000001/SE000001/IM000001 1 455 455: check d1 > 0 [OK 4 records|] [
 d1/DICOMDIR 1 500 500: check d1 > 1 [] [FAULT d1/DICOMDIR: 93 Unread|] whole whole
 d1/DICOMDIR 1 500 500: list d1 > 1 [] [FAULT d1/DICOMDIR: 93 Unread|] whole whole";
 
-/// How many bytes a front has.
+/// How many bytes a front may have.
 #[derive(Clone, Copy)]
 pub(crate) struct Front {
     pub(crate) least: u64,
@@ -91,7 +90,6 @@ fn made_sample(alloc: Global) -> Result<Sample, Fail> {
     })
 }
 
-/// V1, and a file-set that has it.
 fn disc_of(alloc: Global, sample: &Sample) -> Result<MemFiles, Fail> {
     let mut files = MemFiles::new(alloc);
     files.put("a.dcm", &sample.image)?;
@@ -100,7 +98,6 @@ fn disc_of(alloc: Global, sample: &Sample) -> Result<MemFiles, Fail> {
     Ok(files)
 }
 
-/// What a file holds of these bytes.
 pub(crate) fn held(file: Option<&[u8]>, whole: &[u8], front: Front) -> &'static str {
     let Some(bytes) = file else {
         return "none";
@@ -115,7 +112,6 @@ pub(crate) fn held(file: Option<&[u8]>, whole: &[u8], front: Front) -> &'static 
     }
 }
 
-/// What a folder holds of the image and of the directory.
 fn left(
     alloc: Global,
     sample: &Sample,
@@ -129,7 +125,6 @@ fn left(
     Ok(format!(in alloc; "{image} {directory}")?)
 }
 
-/// Asks for a front of exactly `size` bytes.
 fn exactly(size: u64) -> Front {
     Front {
         least: size,
@@ -137,7 +132,6 @@ fn exactly(size: u64) -> Front {
     }
 }
 
-/// Runs an index of V1, and says how it ends where writes are to stop after `after` bytes.
 fn indexed(
     alloc: Global,
     sample: &Sample,
@@ -156,7 +150,7 @@ fn unsent_after(alloc: Global, sample: &Sample, after: u64) -> Result<String, Fa
     indexed(alloc, sample, &mut files, after)
 }
 
-/// How each run of the range ends, or the first that ends otherwise.
+/// Gives the end that all runs of the range have, or the first other one.
 fn unsent(alloc: Global, question: &str) -> Result<String, Fail> {
     let (first, last) = question.split_once(' ').ok_or("no last")?;
     let (first, last): (u64, u64) = (first.parse()?, last.parse()?);
@@ -192,7 +186,6 @@ fn each_call_is_refused(rt: HostRuntime) -> Result<(), Fail> {
     ask_all(rt.alloc(), REFUSED, refused)
 }
 
-/// The second word of a line.
 fn folder_of(line: &str) -> Result<&str, Fail> {
     let (_, words) = line.split_once(' ').ok_or("no folder")?;
     match words.split_once(' ') {
@@ -201,7 +194,7 @@ fn folder_of(line: &str) -> Result<&str, Fail> {
     }
 }
 
-/// Runs the line, and says how it ends where the reader of this path and opening fails after `after` bytes.
+/// Runs the line where the reader of this path and opening fails after `after` bytes.
 fn unread_after(
     alloc: Global,
     sample: &Sample,
@@ -220,7 +213,7 @@ fn unread_after(
     Ok(format!(in alloc; "{end} {left}")?)
 }
 
-/// How each run of the range ends, or the first that ends otherwise.
+/// Gives the end that all runs of the range have, or the first other one.
 fn unread_in(
     alloc: Global,
     reader: &str,

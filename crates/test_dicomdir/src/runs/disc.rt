@@ -5,10 +5,10 @@ use dd_vectors::{deep, first_directory, put_words, v1, v1_encapsulated, v1_with,
 use std::alloc::Global;
 use std::test::Fail;
 
-/// Images: the path of each, and how it differs from V1. The class of b.dcm is no image's. c.dcm and
-/// e.dcm are other versions of V1, and c.dcm has a greater digest than V1, e.dcm a smaller one. d.dcm is
-/// another instance. n.dcm has no Patient ID. o.dcm has neither that nor a name, and is a third instance. p.dcm is a
-/// fourth, whose name has a byte that does not print. The transfer syntax of x.dcm is not read.
+/// Images: the path of each, and how it differs from V1. The class of b.dcm is no image's. c.dcm and e.dcm are other
+/// versions of V1, c.dcm with a greater digest, e.dcm with a smaller one. d.dcm is another instance, o.dcm a third,
+/// p.dcm a fourth. n.dcm has no Patient ID, o.dcm neither that nor a name, and the name of p.dcm a byte that does not
+/// print. The transfer syntax of x.dcm is not read.
 const IMAGES: &str = "\
 a.dcm none
 b.dcm 0002,0000 UL 88000000; 0002,0002 UI '1.2.840.10008.5.1.4.1.1.88.11~
@@ -20,11 +20,10 @@ o.dcm 0002,0003 UI '1.2.3.4.7~; 0008,0018 UI '1.2.3.4.7~; 0010,0010 PN; 0010,002
 p.dcm 0002,0003 UI '1.2.3.4.8~; 0008,0018 UI '1.2.3.4.8~; 0010,0010 PN 444f455e4ad65247
 x.dcm 0002,0010 UI '1.2.840.10008.1.2.2~";
 
-/// The path of the first image in its file-set.
 pub(crate) const FIRST_IMAGE: &str = "out/PT000001/ST000001/SE000001/IM000001";
 
-/// Images, V1 with pixel data in fragments, which is f.dcm, a part of V1, a text, a folder that has a directory,
-/// and one that has an image.
+/// Makes a disc with images, V1 with pixel data in fragments, which is f.dcm, a part of V1, a text, a folder that has a
+/// directory, and one that has an image.
 pub(crate) fn disc(alloc: Global) -> Result<MemFiles, Fail> {
     let mut files = MemFiles::new(alloc);
     for line in IMAGES.split('\n') {
@@ -45,8 +44,9 @@ fn put_others(alloc: Global, files: &mut MemFiles) -> Result<(), Fail> {
     put_lists(files)
 }
 
-/// Lists of names: two whose names are there, the second without its last end; one whose second name is empty, one
-/// whose second name is no UTF-8, and one without a name; one that names a file that is not there, and two sets.
+/// Puts lists of names: two whose names are there, the second without its last zero byte; one whose second name is
+/// empty, one whose second name is not UTF-8, and one without a name; one that names a file that is not there, and two
+/// sets.
 fn put_lists(files: &mut MemFiles) -> Result<(), Fail> {
     files.put("two", b"a.dcm\0d.dcm\0")?;
     files.put("open", b"d.dcm\0a.dcm")?;
@@ -58,17 +58,16 @@ fn put_lists(files: &mut MemFiles) -> Result<(), Fail> {
     Ok(())
 }
 
-/// The disc with more files.
 pub(crate) fn disc_with(alloc: Global, words: &str) -> Result<MemFiles, Fail> {
     let mut files = disc(alloc)?;
     put_files(alloc, &mut files, words)?;
     Ok(files)
 }
 
-/// Puts more files: words `path=name`, where the name is that of a file that is there, or `first` for the
-/// directory that has V1 alone, `empty` for that of nothing, `v3` for that of another tool or `deep` for one of
-/// 33 levels, with `,` before each place and each word of bytes that are put there; and words `folder=set`,
-/// where the folder gets the directory that has V1 alone, and V1.
+/// Puts more files by words. `path=name` takes the bytes of a file that is there, or `first` for the directory that has
+/// V1 alone, `empty` for the directory of nothing, `v3` for another tool's or `deep` for one of 33 levels, with `,`
+/// before each offset and each word of bytes that are put there. `folder=set` puts the directory that has V1 alone, and
+/// V1.
 pub(crate) fn put_files(alloc: Global, files: &mut MemFiles, words: &str) -> Result<(), Fail> {
     for word in words.split(' ') {
         match word.split_once('=').ok_or("no name")? {
@@ -105,7 +104,7 @@ fn bytes_with_name(alloc: Global, files: &MemFiles, name: &str) -> Result<Vec<u8
     }
 }
 
-/// Do both hold the same files, each with its path and its bytes?
+/// Says whether both hold the same files, each with its path and its bytes.
 pub(crate) fn are_equal(alloc: Global, files: &MemFiles, others: &MemFiles) -> Result<bool, Fail> {
     let text = format!(in alloc; "{files:?}")?;
     let other = format!(in alloc; "{others:?}")?;

@@ -1,13 +1,10 @@
-//! Listings of directories.
-
 use crate::runs::scripts::ran;
 use dd_vectors::ask_all;
 use std::test::Fail;
 
-/// What is on the disc beside the rest, the line, its status, what both outputs hold, and whether some file has
-/// changed: directories of this tool and of another; values that do not print, or of which nothing is left;
-/// records of a study without its UID, of a patient whose ID holds items, and of a type that is nobody's; records
-/// that no offset reaches; refusals; and outputs that fail.
+/// Cases of `ran`: directories of this tool and of another; values that do not print, or of which nothing is left;
+/// records of a study without its UID, of a patient whose ID holds items, and of an unknown type; records that no
+/// offset reaches; refusals; and outputs that fail.
 const LISTS: &str = "\
 d/DICOMDIR=v3: - - dicomdir list d > 0 [320 PATIENT P1|  412 STUDY 1.2.3|    546 SERIES 1.2.3.4\
 |      646 IMAGE IMAGES\\IM1 inactive|      818 SR DOCUMENT IMAGES\\SR1|5 records, 0 unreached|] [] kept
@@ -50,8 +47,8 @@ fn records_are_listed(rt: HostRuntime) -> Result<(), Fail> {
     ask_all(rt.alloc(), LISTS, ran)
 }
 
-/// The same of long listings, whose first line names the file-set: values that are empty, absent, items or do not
-/// print, and records of other types.
+/// Cases of `ran`, of long listings, whose first line names the file-set: values that are empty, absent, items or do
+/// not print, and records of other types.
 const LONG_LISTS: &str = "\
 d/DICOMDIR=first: - - dicomdir list --long d > 0 [FILE-SET - 2.25.0|320 PATIENT P1 | DOE^JOHN\
 |  404 STUDY 1.2.3 | 20240115 | 101500 | -|    530 SERIES 1.2.3.4 | CT | 1\

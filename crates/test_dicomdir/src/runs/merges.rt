@@ -1,11 +1,8 @@
-//! File-sets that are merged.
-
 use crate::runs::scripts::{leave_the_same, ran};
 use dd_vectors::{ask_all, claim_all};
 use std::test::Fail;
 
-/// What is on the disc beside the rest, the line, its status, what both outputs hold, and whether some file is new
-/// or has changed. Every directory is read before one is parsed, and a set that is refused leaves all as it was.
+/// Cases of `ran`. Every directory is read before one is parsed, and a set that is refused leaves all as it was.
 const MERGES: &str = "\
 d1=set: - - dicomdir merge o d1 d1 --uid 2.25.0 > 0 [DONE 1 instances, 876 bytes|] [] changed
 d1=set: - - dicomdir merge o d1 --uid 2.25.0 --id DISC1 > 0 [DONE 1 instances, 882 bytes|] [] changed
@@ -108,9 +105,8 @@ fn merges_say_how_they_ended(rt: HostRuntime) -> Result<(), Fail> {
     ask_all(rt.alloc(), MERGES, ran)
 }
 
-/// What is on the disc beside the rest, the line, its status, what both outputs hold, and whether some file is new
-/// or has changed, where something is noted: names of two sets that share an image, records that are not reached,
-/// images that a set withdraws, and all of these in their order. A refusal of the plan is not noted.
+/// Cases of `ran` with notes: names of two sets that share an image, records that are not reached, images that a set
+/// withdraws, and all of these in their order. A refusal of the plan is not noted.
 const NOTED: &str = "\
 index d1 a.dcm; index d2 a.dcm p.dcm: - - dicomdir merge o d1 d2 --uid 2.25.0 > \
 0 [NOTE -: Patient ID P1 has 2 names: DOE^J?RG, DOE^JOHN|DONE 2 instances, 1130 bytes|] [] changed
@@ -157,8 +153,8 @@ fn merges_say_what_is_noted(rt: HostRuntime) -> Result<(), Fail> {
     ask_all(rt.alloc(), NOTED, ran)
 }
 
-/// Steps, a line, and a step that leaves the same files: sets in any order and number, and their sources; the
-/// first place of an image, by the File ID that the set has for it; and what stays after a refusal.
+/// Steps, a line, and a step that leaves the same files: sets in any order and number, and their sources; the first
+/// place of an image, by the File ID that the set has for it; and what stays after a refusal.
 const SAME: &str = "\
 d1=set: merge o d1 d1 --uid 2.25.0 > o=set
 index d1 a.dcm b.dcm --uid 2.25.0: merge o2 d1 d1 --uid 2.25.0 > o2=set

@@ -4,11 +4,11 @@ use crate::runs::disc::disc;
 use crate::runs::runs::end_of;
 use std::test::Fail;
 
-/// A line whose last word is one too many, with an escape, a control character of two bytes, a line feed and a
-/// letter of two bytes.
+/// A line whose last word is one too many, with an escape, a control character of two bytes, a line feed and a letter
+/// of two bytes.
 const MISTAKE: &str = "- - dicomdir list a \u{1b}[2J\u{9b}\nb\u{e9}";
 
-/// The end of its run, where each byte of the letter is a character of its own.
+/// The end of its run, with each byte of the letter as a character of its own.
 const MISTAKE_END: &str = "2 [] [error: unexpected argument '?[2J??b\u{c3}\u{a9}' found||\
 Usage: dicomdir list [OPTIONS] <SET>||For more information, try '--help'.|]";
 

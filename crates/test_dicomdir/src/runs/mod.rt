@@ -1,9 +1,8 @@
-//! Tests of runs of the program `dicomdir` over files in memory.
-
 mod allocations;
 mod checks;
 mod devices;
 mod disc;
+mod images;
 mod lists;
 mod merges;
 mod mistakes;

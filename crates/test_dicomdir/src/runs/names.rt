@@ -9,11 +9,11 @@ use std::test::Fail;
 /// A path with a line feed, an escape, a delete, a next line and a letter that is not ASCII.
 const PATH: &str = "a\nDONE\u{1b}[2J\u{7f}\u{85}\u{e9}";
 
-/// The path as lines show it, each byte of its letter as a character of its own.
+/// The path as lines show it, with each byte of its letter as a character of its own.
 const SHOWN: &str = "a?DONE?[2J??\u{c3}\u{a9}";
 
-/// Lines, where `*` stands for the path, the status, and what both outputs hold, where it stands for the path as it
-/// shows. There is a text at that path, and a folder whose path it begins has an empty directory.
+/// Lines, the status, and what both outputs hold; `*` stands for the path, and for the path as it shows. A text has
+/// that path, and a folder whose path begins with it has an empty directory.
 const LINES: &str = "\
 index out * --uid 2.25.0 > 0 [SKIP *: 31 File 21 NotPart10|DONE 0 instances, 320 bytes|] []
 index out * a.dcm * --uid 2.25.0 > \

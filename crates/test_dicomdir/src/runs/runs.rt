@@ -1,5 +1,3 @@
-//! Runs over files in memory, each with its status, what it prints, and what becomes of the files.
-
 use crate::runs::disc::{FIRST_IMAGE, are_equal, disc, disc_with};
 use dd_mem_files::MemFiles;
 use dd_vectors::{Sink, ask_all, claim_all, failing, push_lines, words_of};
@@ -7,9 +5,9 @@ use dicomdir::run;
 use std::alloc::Global;
 use std::test::Fail;
 
-/// Runs: after how many bytes the output and the error output fail, the line, the status, what both hold,
-/// and whether some file is new or has changed. `|` ends a line. A run that is refused changes no file; an
-/// error output that fails changes nothing else.
+/// Runs: after how many bytes the output and the error output fail, the line, the status, what both hold, and whether
+/// some file is new or has changed. `|` ends a line. A run that is refused changes no file; an error output that fails
+/// changes nothing else.
 const RUNS: &str = "\
 - - dicomdir index out a.dcm b.dcm --uid 2.25.0 > \
 0 [SKIP b.dcm: 32 NotImage 1.2.840.10008.5.1.4.1.1.88.11|DONE 1 instances, 876 bytes|] [] changed
@@ -164,8 +162,8 @@ const TEXTS: &str = "\
 0 - dicomdir --help > 1 to none
 9 - dicomdir --help > 1 to the output";
 
-/// Runs a line whose first two words say after how many bytes the output and the error output fail, and
-/// says the status and what both hold.
+/// Runs a line whose first two words say after how many bytes the output and the error output fail. Gives the status
+/// and what both hold.
 pub(crate) fn end_of(alloc: Global, line: &str, files: &mut MemFiles) -> Result<String, Fail> {
     let (output, line) = line.split_once(' ').ok_or("no output")?;
     let (errors, line) = line.split_once(' ').ok_or("no error output")?;
@@ -184,7 +182,7 @@ fn in_words(alloc: Global, status: u8, out: &Sink, err: &Sink) -> Result<String,
     Ok(text)
 }
 
-/// The end of a run, and whether all files are as they were.
+/// Says how a run ends, and whether all files are as they were.
 fn ended(alloc: Global, line: &str) -> Result<(String, bool), Fail> {
     let mut files = disc(alloc)?;
     let end = end_of(alloc, line, &mut files)?;
@@ -202,7 +200,6 @@ fn runs_say_how_they_ended(rt: HostRuntime) -> Result<(), Fail> {
     ask_all(rt.alloc(), RUNS, end)
 }
 
-/// Which of the outputs of an end are not empty.
 fn place_of(outputs: &str) -> &'static str {
     match (outputs.starts_with(']'), outputs.ends_with("[]")) {
         (true, true) => "none",
@@ -235,7 +232,6 @@ index out/ b.dcm a.dcm a.dcm --uid 2.25.0 > out/DICOMDIR=first out/PT000001/ST00
 index . e.dcm a.dcm --uid 2.25.0 > ./DICOMDIR=first ./PT000001/ST000001/SE000001/IM000001=a.dcm
 index out b.dcm --uid 2.25.0 > out/DICOMDIR=empty";
 
-/// The files after a run.
 fn files_after(alloc: Global, line: &str) -> Result<MemFiles, Fail> {
     let mut files = disc(alloc)?;
     let line = format!(in alloc; "- - dicomdir {line}")?;
@@ -254,7 +250,7 @@ fn a_run_adds_the_directory_and_its_images_alone(rt: HostRuntime) -> Result<(), 
     claim_all(rt.alloc(), FILES, '\n', makes)
 }
 
-/// Sources, and others of which the same files are made.
+/// Sources, and others from which the same files are made.
 const SAME: &str = "\
 a.dcm d.dcm > d.dcm a.dcm
 a.dcm d.dcm > d.dcm a.dcm d.dcm a.dcm a.dcm
@@ -301,21 +297,19 @@ fn the_greater_version_is_copied(rt: HostRuntime) -> Result<(), Fail> {
     claim_all(rt.alloc(), KEPT, '\n', is_kept)
 }
 
-/// Sources that change at their second opening to what another has, how a run over them ends, and which
-/// files are new then.
+/// Sources that change at their second opening to what another has, how a run over them ends, and which files are new
+/// then.
 const CHANGED: &str = "\
 a.dcm c.dcm > 1 [] [FAULT a.dcm: 97 Changed|] > out/PT000001/ST000001/SE000001/IM000001=c.dcm
 a.dcm note.txt > 1 [] [FAULT a.dcm: 97 Changed|] > out/PT000001/ST000001/SE000001/IM000001=note.txt
 a.dcm a.dcm > 0 [DONE 1 instances, 876 bytes|] [] > \
 out/PT000001/ST000001/SE000001/IM000001=a.dcm out/DICOMDIR=first";
 
-/// Runs over a source that changes, and says how that ends.
 fn end_by_change(alloc: Global, path: &str, files: &mut MemFiles) -> Result<String, Fail> {
     let line = format!(in alloc; "- - dicomdir index out {path} --uid 2.25.0")?;
     end_of(alloc, line.as_str(), files)
 }
 
-/// The disc, and a source on it that is to have what another has.
 fn changing(alloc: Global, path: &str, other: &str) -> Result<MemFiles, Fail> {
     let mut files = disc(alloc)?;
     let bytes = files.bytes(other).ok_or("no such file")?.to_vec(alloc)?;

@@ -1,4 +1,4 @@
-//! Runs over the disc as it is after steps: files that are put there, and runs that are done.
+//! Runs over the disc after steps, which put files there or are runs.
 
 use crate::runs::disc::{are_equal, disc, put_files};
 use crate::runs::runs::end_of;
@@ -6,7 +6,7 @@ use dd_mem_files::MemFiles;
 use std::alloc::Global;
 use std::test::Fail;
 
-/// The disc after steps, between which `; ` stands.
+/// Makes the disc after steps, separated by `; `.
 fn disc_after(alloc: Global, steps: &str) -> Result<MemFiles, Fail> {
     let mut files = disc(alloc)?;
     for step in steps.split("; ") {
@@ -15,10 +15,9 @@ fn disc_after(alloc: Global, steps: &str) -> Result<MemFiles, Fail> {
     Ok(files)
 }
 
-/// How the lines begin that steps run.
 const RUNS: [&str; 3] = ["index ", "merge ", "withdraw "];
 
-/// Runs a line, which must be done, has second names refused, has the first reader of a file fail, or puts files.
+/// Runs a line, which must succeed, has hard links refused, has the first reader of a file fail, or puts files.
 fn take_step(alloc: Global, step: &str, files: &mut MemFiles) -> Result<(), Fail> {
     if step == "no links" {
         files.refuse_links();
@@ -37,14 +36,13 @@ fn take_step(alloc: Global, step: &str, files: &mut MemFiles) -> Result<(), Fail
     Ok(())
 }
 
-/// Runs a line, and says how that ends.
 pub(crate) fn end_by(alloc: Global, line: &str, files: &mut MemFiles) -> Result<String, Fail> {
     let line = format!(in alloc; "- - dicomdir {line}")?;
     end_of(alloc, line.as_str(), files)
 }
 
-/// How the line of `steps: line` ends: the status, what both outputs hold, and whether some file is new or has
-/// changed.
+/// Runs the line of `steps: line`: what is on the disc beside the rest, the line, its status, what both outputs hold,
+/// and whether some file is new or has changed.
 pub(crate) fn ran(alloc: Global, question: &str) -> Result<String, Fail> {
     let (steps, line) = question.split_once(": ").ok_or("no steps")?;
     let mut files = disc_after(alloc, steps)?;
@@ -54,8 +52,8 @@ pub(crate) fn ran(alloc: Global, question: &str) -> Result<String, Fail> {
     Ok(format!(in alloc; "{end} {kept}")?)
 }
 
-/// After the steps of a case `steps: line > step`, does the line, however it ends, leave the files that the last
-/// step does?
+/// Says whether, after the steps of `steps: line > step`, the line leaves the files that the last step does, however it
+/// ends.
 pub(crate) fn leave_the_same(alloc: Global, case: &str) -> Result<bool, Fail> {
     let (question, step) = case.split_once(" > ").ok_or("no other step")?;
     let (steps, line) = question.split_once(": ").ok_or("no steps")?;

@@ -1,12 +1,9 @@
-//! Instances that are withdrawn.
-
 use crate::runs::scripts::{leave_the_same, ran};
 use dd_vectors::{ask_all, claim_all};
 use std::alloc::Global;
 use std::test::Fail;
 
-/// What is on the disc beside the rest, the line, its status, what both outputs hold, and whether some file is new
-/// or has changed: what is withdrawn is not listed, whether the file-set had it or not, and each UID is looked at
+/// Cases of `ran`: what is withdrawn is not listed, whether the file-set had it or not, and each UID is looked at
 /// before any file.
 const WITHDRAWALS: &str = "\
 d1=set: - - dicomdir withdraw o d1 1.2.3.4.5 --uid 2.25.0 > 0 [DONE 0 instances, 362 bytes|] [] changed
@@ -62,10 +59,9 @@ fn withdrawals_say_how_they_ended(rt: HostRuntime) -> Result<(), Fail> {
     ask_all(rt.alloc(), WITHDRAWALS, ran)
 }
 
-/// What is on the disc beside the rest, the line, its status, what both outputs hold, and whether some file is new
-/// or has changed, where a set lists what it withdraws: d3 withdraws 1.2.3.4.5 and lists it, and 1.2.3.4.6 stands in
-/// a record of d4 that is not reached. With `--strict` a line names each image that a set withdraws, but for those
-/// of the UIDs of the line.
+/// Cases of `ran` where a set lists what it withdraws: d3 withdraws 1.2.3.4.5 and lists it, and 1.2.3.4.6 stands in a
+/// record of d4 that is not reached. With `--strict` a line names each image that a set withdraws, except those of the
+/// UIDs of the line.
 const LISTED: &str = "\
 - - dicomdir merge o d3 --uid 2.25.0 > 0 [DONE 0 instances, 362 bytes|] [] changed
 - - dicomdir merge o d3 --strict > 1 [NOTE d3/PT000001/ST000001/SE000001/IM000001: withdrawn in d3: 1.2.3.4.5|] \
@@ -80,13 +76,11 @@ const LISTED: &str = "\
 1 [NOTE d4: 1 records are not reached|NOTE d4/PT000001/ST000001/SE000001/IM000001: withdrawn in d4: 1.2.3.4.5|\
 NOTE -: 1.2.3.4.6 is in no record|] [FAULT -: 98 Strict|] kept";
 
-/// The steps that make d3 and d4.
 const LISTING: &str = "\
 d1=set; index d2 a.dcm d.dcm --uid 2.25.0; withdraw d5 d1 1.2.3.4.6 --uid 2.25.0; \
 withdraw d6 d2 1.2.3.4.7 --uid 2.25.0; \
 d3/DICOMDIR=d5/DICOMDIR,916,'5 d4/DICOMDIR=d6/DICOMDIR,638,00000000,1170,'5";
 
-/// How a line ends over the disc with d3 and d4.
 fn ran_over_listed(alloc: Global, line: &str) -> Result<String, Fail> {
     let question = format!(in alloc; "{LISTING}: {line}")?;
     ran(alloc, question.as_str())
@@ -97,8 +91,8 @@ fn withdrawals_name_what_a_set_lists(rt: HostRuntime) -> Result<(), Fail> {
     ask_all(rt.alloc(), LISTED, ran_over_listed)
 }
 
-/// Steps, a line, and a step that leaves the same files: what one set withdraws no merge brings back, in any order
-/// and through any others, and neither does a set that lists it again.
+/// Steps, a line, and a step that leaves the same files: what one set withdraws no merge brings back, in any order and
+/// through any others, and neither does a set that lists it again.
 const SAME: &str = "\
 d1=set; withdraw o4 d1 1.2.3.4.5 --uid 2.25.0: merge o5 d1 o4 --uid 2.25.0 > o5/DICOMDIR=o4/DICOMDIR
 d1=set; withdraw o4 d1 1.2.3.4.5 --uid 2.25.0: merge o5 o4 d1 d1 --uid 2.25.0 > o5/DICOMDIR=o4/DICOMDIR

@@ -1,7 +1,7 @@
 //! Each allocation of each call refused in turn: the call lacks memory, nothing has changed, and made again it answers.
 
-use crate::joining::{batches, catalogues};
-use crate::studies::studies;
+use crate::catalogue::joining::{batches, catalogues};
+use crate::catalogue::studies::studies;
 use dd_catalogue::{Catalogue, History, Join, Refused, Took, Withdrew, build, gather};
 use dd_elem::{Memory, Uid};
 use dd_vectors::{

@@ -1,0 +1,9 @@
+//! Tests of the catalogue of image instances: what it takes, what it keeps, and what its joins come to.
+
+mod allocations;
+mod counting;
+mod equality;
+mod joining;
+mod studies;
+mod taking;
+mod withdrawing;

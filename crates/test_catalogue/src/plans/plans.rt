@@ -1,0 +1,41 @@
+//! Plans of catalogues.
+
+use dd_elem::{FileId, SetId, Uid};
+use dd_layout::{Label, Limits, Plan, PlanFault, lay_out};
+use dd_vectors::taken;
+use std::alloc::Global;
+use std::test::Fail;
+
+/// The label with this ID.
+pub(crate) fn label_of(id: &str) -> Result<Label, Fail> {
+    Ok(Label {
+        id: SetId::new(id.as_bytes())?,
+        uid: Uid::new(b"2.25.0")?,
+    })
+}
+
+/// What comes of laying out the catalogue of the images with these letters, under the label with this ID,
+/// within these limits.
+pub(crate) fn planned(
+    alloc: Global,
+    letters: &str,
+    id: &str,
+    limits: Limits,
+) -> Result<Result<Plan, PlanFault>, Fail> {
+    let catalogue = taken(alloc, letters)?;
+    Ok(lay_out(alloc, &catalogue, &label_of(id)?, limits))
+}
+
+/// The plan of the catalogue of the images with these letters, under the label without an ID.
+pub(crate) fn plan(alloc: Global, letters: &str) -> Result<Plan, Fail> {
+    let limits = Limits::new(u32::MAX, FileId::MAX_RANK).ok_or("no limits")?;
+    Ok(planned(alloc, letters, "", limits)??)
+}
+
+#[test]
+fn a_plan_keeps_its_label(rt: HostRuntime) -> Result<(), Fail> {
+    let limits = Limits::new(u32::MAX, FileId::MAX_RANK).ok_or("no limits")?;
+    let plan = planned(rt.alloc(), "1", "DISC1", limits)??;
+    assert!(rt; *plan.label() == label_of("DISC1")?);
+    Ok(())
+}

@@ -1,0 +1,281 @@
+//! Each allocation of each call refused in turn: the call lacks memory, nothing has changed, and made again it answers.
+
+use crate::sets::outlines::outline;
+use crate::sets::scanning::in_words;
+use crate::sets::spellings::{IMAGES, PATIENT_ID, PIXEL_DATA, nested, set_of, spelled};
+use dd_elem::{Read, Tag, Vr};
+use dd_scan::{Scan, ScanFault, scan, take_set};
+use dd_set::{DataSet, SetFault, Stream, Syntax, WriteFault, send, send_header, write_set};
+use dd_vectors::{
+    ByteSource, Sink, allocation_numbers, answered, question, refuse_allocation, require,
+    was_refused,
+};
+use std::alloc::Global;
+use std::test::Fail;
+
+#[derive(Clone, Copy)]
+enum Call {
+    ItemStarts,
+    Parse,
+    ParseFragments,
+    ParseNested,
+    Scan,
+    ScanFragments,
+    Send,
+    SendHeader,
+    TakeSet,
+    WriteSet,
+}
+
+/// Makes the call with the chosen allocation refused, and answers whether one was.
+fn is_refused(alloc: Global, call: Call, chosen: u32) -> Result<bool, Fail> {
+    match call {
+        Call::ItemStarts => item_starts_refused(alloc, chosen),
+        Call::Parse => parse_refused(alloc, ITEMS, chosen),
+        Call::ParseFragments => parse_refused(alloc, FRAGMENTS, chosen),
+        Call::ParseNested => parse_nested_refused(alloc, chosen),
+        Call::Scan => scan_refused(alloc, SCANNED, chosen),
+        Call::ScanFragments => scan_refused(alloc, SCANNED_FRAGMENTS, chosen),
+        Call::Send => send_refused(alloc, chosen),
+        Call::SendHeader => send_header_refused(alloc, chosen),
+        Call::TakeSet => take_set_refused(alloc, chosen),
+        Call::WriteSet => write_set_refused(alloc, chosen),
+    }
+}
+
+fn refuse_each(alloc: Global, call: Call) -> Result<(), Fail> {
+    for chosen in allocation_numbers() {
+        if !is_refused(alloc, call, chosen)? {
+            return Ok(());
+        }
+    }
+    Err("the call has more allocations than are refused".into())
+}
+
+const ITEMS: &str = "\
+explicit 08004011 5351 0000 12000000 feff00e0 0a000000 10002000 4c4f 0200 5031 > \
+(0008,1140) SQ Defined Defined [(0010,0020) LO 'P1]";
+
+const FRAGMENTS: &str = "\
+encapsulated e07f1000 4f42 0000 ffffffff feff00e0 00000000 feff00e0 04000000 ff4fff51 feffdde0 00000000 > \
+(7FE0,0010) OB Fragments [] [ff4fff51]";
+
+const SCANNED: &str = "explicit 10002000 4c4f 0200 5031 > (0010,0020); (0010,0020) 'P1 2";
+
+/// A Patient ID before pixel data in fragments.
+const SCANNED_FRAGMENTS: &str = "\
+encapsulated 10002000 4c4f 0200 5031 e07f1000 4f42 0000 ffffffff feff00e0 00000000 feffdde0 00000000 > \
+(0010,0020); (0010,0020) 'P1 2; (7FE0,0010) fragments";
+
+fn require_held(alloc: Global, case: &str, set: &DataSet<'_>) -> Result<(), Fail> {
+    let answer = outline(alloc, set)?;
+    require(
+        answered(alloc, case, &answer)?.as_str() == case,
+        "the set holds what the case says",
+    )
+}
+
+fn parse_refused(alloc: Global, case: &str, chosen: u32) -> Result<bool, Fail> {
+    let (syntax, bytes) = spelled(alloc, question(case))?;
+    refuse_allocation(alloc, chosen)?;
+    let answer = set_of(alloc, syntax, &bytes);
+    let refused = was_refused(alloc, matches!(&answer, Err(SetFault::Memory)))?;
+    match &answer {
+        Ok(set) => require_held(alloc, case, set)?,
+        Err(_) => require_held(alloc, case, &set_of(alloc, syntax, &bytes)?)?,
+    }
+    Ok(refused)
+}
+
+#[test]
+fn allocations_of_parse(rt: HostRuntime) -> Result<(), Fail> {
+    refuse_each(rt.alloc(), Call::Parse)
+}
+
+#[test]
+fn allocations_of_parse_of_fragments(rt: HostRuntime) -> Result<(), Fail> {
+    refuse_each(rt.alloc(), Call::ParseFragments)
+}
+
+fn require_size(set: &DataSet<'_>, bytes: &[u8]) -> Result<(), Fail> {
+    require(
+        set.size(Syntax::Explicit) == Some(bytes.len() as u64),
+        "the set has the size of its bytes",
+    )
+}
+
+fn parse_nested_refused(alloc: Global, chosen: u32) -> Result<bool, Fail> {
+    let bytes = nested(alloc, 32, &[])?;
+    refuse_allocation(alloc, chosen)?;
+    let answer = set_of(alloc, Syntax::Explicit, &bytes);
+    let refused = was_refused(alloc, matches!(&answer, Err(SetFault::Memory)))?;
+    match &answer {
+        Ok(set) => require_size(set, &bytes)?,
+        Err(_) => require_size(&set_of(alloc, Syntax::Explicit, &bytes)?, &bytes)?,
+    }
+    Ok(refused)
+}
+
+#[test]
+fn allocations_of_parse_of_nested_items(rt: HostRuntime) -> Result<(), Fail> {
+    refuse_each(rt.alloc(), Call::ParseNested)
+}
+
+fn item_starts_refused(alloc: Global, chosen: u32) -> Result<bool, Fail> {
+    let line = "explicit 08006000 4353 0200 4354 08004011 5351 0000 1a000000 feff00e0 00000000 \
+                feff00e0 0a000000 10002000 4c4f 0200 5031";
+    let (syntax, bytes) = spelled(alloc, line)?;
+    let set = set_of(alloc, syntax, &bytes)?;
+    refuse_allocation(alloc, chosen)?;
+    let answer = set.item_starts(alloc, syntax, IMAGES);
+    let refused = was_refused(alloc, answer.is_err())?;
+    let starts = match answer {
+        Ok(starts) => starts,
+        Err(_) => set.item_starts(alloc, syntax, IMAGES)?,
+    };
+    let starts = starts.ok_or("no items")?;
+    require(
+        starts.as_slice() == [22, 30].as_slice(),
+        "the items start there",
+    )?;
+    Ok(refused)
+}
+
+#[test]
+fn allocations_of_item_starts(rt: HostRuntime) -> Result<(), Fail> {
+    refuse_each(rt.alloc(), Call::ItemStarts)
+}
+
+const WANTED: [Tag; 3] = [PATIENT_ID, IMAGES, PIXEL_DATA];
+
+fn require_told(alloc: Global, case: &str, answer: Result<Scan, ScanFault>) -> Result<(), Fail> {
+    let answer = in_words(alloc, answer)?;
+    require(
+        answered(alloc, case, &answer)?.as_str() == case,
+        "the scan tells what the case says",
+    )
+}
+
+pub(crate) fn is_at_end(reader: &mut ByteSource<'_>) -> bool {
+    matches!(reader.read(&mut [0; 4]), Ok(0))
+}
+
+/// After a refused allocation the reader is at its end, too, and the second call has another.
+fn scan_refused(alloc: Global, case: &str, chosen: u32) -> Result<bool, Fail> {
+    let (syntax, bytes) = spelled(alloc, question(case))?;
+    let mut reader = ByteSource::new(&bytes, 7, None);
+    refuse_allocation(alloc, chosen)?;
+    let answer = scan(alloc, syntax, &mut reader, &WANTED, 4096);
+    let wants_memory = matches!(&answer, Err(ScanFault::Set(SetFault::Memory)));
+    let refused = was_refused(alloc, wants_memory)?;
+    require(is_at_end(&mut reader), "the reader is at its end")?;
+    let answer = if refused {
+        let mut again = ByteSource::new(&bytes, 7, None);
+        scan(alloc, syntax, &mut again, &WANTED, 4096)
+    } else {
+        answer
+    };
+    require_told(alloc, case, answer)?;
+    Ok(refused)
+}
+
+#[test]
+fn allocations_of_scan(rt: HostRuntime) -> Result<(), Fail> {
+    refuse_each(rt.alloc(), Call::Scan)
+}
+
+#[test]
+fn allocations_of_scan_before_fragments(rt: HostRuntime) -> Result<(), Fail> {
+    refuse_each(rt.alloc(), Call::ScanFragments)
+}
+
+fn taken(alloc: Global, syntax: Syntax, bytes: &[u8]) -> Result<Scan, SetFault> {
+    let mut reader = ByteSource::new(bytes, 7, None);
+    take_set(alloc, &mut Stream::new(&mut reader, 4096), syntax, &WANTED)
+}
+
+fn take_set_refused(alloc: Global, chosen: u32) -> Result<bool, Fail> {
+    let (syntax, bytes) = spelled(alloc, question(SCANNED))?;
+    refuse_allocation(alloc, chosen)?;
+    let answer = taken(alloc, syntax, &bytes);
+    let refused = was_refused(alloc, matches!(&answer, Err(SetFault::Memory)))?;
+    let scan = match answer {
+        Ok(scan) => scan,
+        Err(_) => taken(alloc, syntax, &bytes)?,
+    };
+    require_told(alloc, SCANNED, Ok(scan))?;
+    Ok(refused)
+}
+
+#[test]
+fn allocations_of_take_set(rt: HostRuntime) -> Result<(), Fail> {
+    refuse_each(rt.alloc(), Call::TakeSet)
+}
+
+/// A refused allocation is a write that fails: the writer holds a front of the set then, and what is written again
+/// comes after it.
+fn write_set_refused(alloc: Global, chosen: u32) -> Result<bool, Fail> {
+    let (syntax, bytes) = spelled(alloc, question(ITEMS))?;
+    let set = set_of(alloc, syntax, &bytes)?;
+    let mut sink = Sink::new(alloc, None);
+    refuse_allocation(alloc, chosen)?;
+    let answer = write_set(&set, syntax, &mut sink);
+    let refused = was_refused(alloc, answer.is_err())?;
+    if refused {
+        require(bytes.starts_with(sink.bytes()), "the writer holds a front")?;
+        require(
+            write_set(&set, syntax, &mut sink) == Ok(30),
+            "all bytes are written",
+        )?;
+    }
+    require(sink.bytes().ends_with(&bytes), "the writer holds the set")?;
+    Ok(refused)
+}
+
+#[test]
+fn allocations_of_write_set(rt: HostRuntime) -> Result<(), Fail> {
+    refuse_each(rt.alloc(), Call::WriteSet)
+}
+
+/// Where its allocation is refused, the writer holds nothing of the piece.
+fn send_refused(alloc: Global, chosen: u32) -> Result<bool, Fail> {
+    let mut sink = Sink::new(alloc, None);
+    refuse_allocation(alloc, chosen)?;
+    let answer = send(b"P1", &mut sink, 100);
+    let refused = was_refused(alloc, answer == Err(WriteFault::Write(100)))?;
+    if refused {
+        require(sink.bytes().is_empty(), "the writer holds nothing")?;
+        require(send(b"P1", &mut sink, 100) == Ok(102), "the piece is sent")?;
+    }
+    require(
+        sink.bytes() == b"P1".as_slice(),
+        "the writer holds the piece",
+    )?;
+    Ok(refused)
+}
+
+#[test]
+fn allocations_of_send(rt: HostRuntime) -> Result<(), Fail> {
+    refuse_each(rt.alloc(), Call::Send)
+}
+
+const HEADER: &[u8] = b"\x10\0\x20\0LO\x02\0";
+
+fn send_header_refused(alloc: Global, chosen: u32) -> Result<bool, Fail> {
+    let mut sink = Sink::new(alloc, None);
+    refuse_allocation(alloc, chosen)?;
+    let answer = send_header(PATIENT_ID, Vr::LO, 2, &mut sink, 100);
+    let refused = was_refused(alloc, answer == Err(WriteFault::Write(100)))?;
+    if refused {
+        require(sink.bytes().is_empty(), "the writer holds nothing")?;
+        let again = send_header(PATIENT_ID, Vr::LO, 2, &mut sink, 100);
+        require(again == Ok(108), "the header is sent")?;
+    }
+    require(sink.bytes() == HEADER, "the writer holds the header")?;
+    Ok(refused)
+}
+
+#[test]
+fn allocations_of_send_header(rt: HostRuntime) -> Result<(), Fail> {
+    refuse_each(rt.alloc(), Call::SendHeader)
+}

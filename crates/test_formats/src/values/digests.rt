@@ -1,0 +1,92 @@
+//! Digests of four messages at once: the examples of FIPS 180-4, and the digests of `sha2` at lengths round the edges
+//! of blocks.
+
+use dd_vectors::{ask_all, bytes_of, claim_all};
+use sha2::{Digest, Sha256};
+use sha256_lanes::digest4;
+use std::alloc::Global;
+use std::test::Fail;
+
+/// The messages of no bit, of 24, of 448 and of 896 bits, and their digests.
+const EXAMPLES: &str = "\
+' > e3b0c44298fc1c149afbf4c8996fb92427ae41e4649b934ca495991b7852b855
+'abc > ba7816bf8f01cfea414140de5dae2223b00361a396177a9cb410ff61f20015ad
+'abcdbcdecdefdefgefghfghighijhijkijkljklmklmnlmnomnopnopq > \
+248d6a61d20638b8e5c026930c3e6039a33ce45964ff2167f6ecedd419db06c1
+'abcdefghbcdefghicdefghijdefghijkefghijklfghijklmghijklmnhijklmnoijklmnopjklmnopqklmnopqrlmnopqrsmnopqrstnopqrstu > \
+cf5b16a778af8380036ce59e7b0492370b249b11e8f07a51afac45037afee9d1";
+
+/// Lengths of four messages. Each of nine edges stands in each place; in the last two lines one is so long that the
+/// messages are digested one by one.
+const LENGTHS: &str = "\
+55 56 63 64
+56 63 64 65
+63 64 65 119
+64 65 119 120
+65 119 120 127
+119 120 127 128
+120 127 128 55
+127 128 55 56
+128 55 56 63
+4096 0 1 64
+3 120 0 5000";
+
+/// The digest that all four places give of one message.
+fn digest_of(alloc: Global, question: &str) -> Result<String, Fail> {
+    let message = bytes_of(alloc, question)?;
+    let (a, b, c, d) = digest4(&message, &message, &message, &message);
+    if a[..] != b[..] || a[..] != c[..] || a[..] != d[..] {
+        return Err("the places differ".into());
+    }
+    Ok(hex::encode(alloc, a)?)
+}
+
+/// A message with this length, which is another one for each seed.
+fn message(alloc: Global, len: u32, seed: u8) -> Result<Vec<u8>, Fail> {
+    let mut bytes = Vec::new(alloc);
+    for place in 0..len {
+        bytes.push((place % 251) as u8 ^ seed)?;
+    }
+    Ok(bytes)
+}
+
+/// Are the digests of four messages with these lengths those of `sha2`?
+fn are_digests(alloc: Global, a: u32, b: u32, c: u32, d: u32) -> Result<bool, Fail> {
+    let a = message(alloc, a, 1)?;
+    let b = message(alloc, b, 2)?;
+    let c = message(alloc, c, 3)?;
+    let d = message(alloc, d, 4)?;
+    let found = digest4(&a, &b, &c, &d);
+    Ok(
+        found.0[..] == Sha256::digest(&a)[..]
+            && found.1[..] == Sha256::digest(&b)[..]
+            && found.2[..] == Sha256::digest(&c)[..]
+            && found.3[..] == Sha256::digest(&d)[..],
+    )
+}
+
+/// Are they, for the four lengths of this line?
+fn are_digests_of(alloc: Global, case: &str) -> Result<bool, Fail> {
+    let mut words = case.split(' ');
+    let mut next = || -> Result<u32, Fail> { Ok(words.next().ok_or("no length")?.parse()?) };
+    are_digests(alloc, next()?, next()?, next()?, next()?)
+}
+
+#[test]
+fn examples_of_the_standard(rt: HostRuntime) -> Result<(), Fail> {
+    ask_all(rt.alloc(), EXAMPLES, digest_of)
+}
+
+#[test]
+fn lengths_at_the_edges_of_blocks(rt: HostRuntime) -> Result<(), Fail> {
+    claim_all(rt.alloc(), LENGTHS, '\n', are_digests_of)
+}
+
+#[test]
+fn lengths_from_0_to_300(rt: HostRuntime) -> Result<(), Fail> {
+    for len in 0..=300u32 {
+        let (b, c, d) = ((len + 7) % 301, (len + 70) % 301, (len + 150) % 301);
+        assert!(rt; are_digests(rt.alloc(), len, b, c, d)?, "from {len}");
+    }
+    Ok(())
+}

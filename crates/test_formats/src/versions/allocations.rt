@@ -1,0 +1,167 @@
+//! Refuses each allocation of each call in turn: the call reports that, has changed nothing, and succeeds when made
+//! again.
+
+use crate::sets::allocations::is_at_end;
+use crate::versions::ingesting::text_of_version;
+use crate::versions::reading::file_of;
+use dd_keys::{KeyFault, Version, ingest, version_of};
+use dd_part10::FileFault;
+use dd_set::SetFault;
+use dd_vectors::{
+    ByteSource, allocation_numbers, answered, question, refuse_allocation, require, was_refused,
+};
+use std::alloc::Global;
+use std::test::Fail;
+
+#[derive(Clone, Copy)]
+enum Call {
+    CopyOfParts,
+    CopyOfVersion,
+    Ingest,
+    IngestEncapsulated,
+    VersionOf,
+    VersionOfEncapsulated,
+}
+
+/// Says whether the chosen allocation of the call was refused.
+fn is_refused(alloc: Global, call: Call, chosen: u32) -> Result<bool, Fail> {
+    match call {
+        Call::CopyOfParts => copy_of_parts_refused(alloc, chosen),
+        Call::CopyOfVersion => copy_of_version_refused(alloc, chosen),
+        Call::Ingest => ingest_refused(alloc, LONG_KEYS, chosen),
+        Call::IngestEncapsulated => ingest_refused(alloc, ENCAPSULATED, chosen),
+        Call::VersionOf => version_of_refused(alloc, LONG_KEYS, chosen),
+        Call::VersionOfEncapsulated => version_of_refused(alloc, ENCAPSULATED, chosen),
+    }
+}
+
+fn refuse_each(alloc: Global, call: Call) -> Result<(), Fail> {
+    for chosen in allocation_numbers() {
+        if !is_refused(alloc, call, chosen)? {
+            return Ok(());
+        }
+    }
+    Err("the call has more allocations than are refused".into())
+}
+
+/// V1 with four keys of more than 22 bytes, one of them with padding: the SHA-256 of the file of 542 bytes, and the
+/// keys.
+const LONG_KEYS: &str = "\
+0010,0010 PN 'A_NAME_THAT_WANTS_MEMORY; 0020,0010 SH 'A_STUDY_THAT_WANTS_MEMORY_; \
+0020,0011 IS 'A_SERIES_THAT_WANTS_MEMORY; 0020,0013 IS 'A_NUMBER_THAT_WANTS_MEMORY > \
+15cd85480b8790733aa12c28ea6dbbf0b0c311643585c0ec0c8b69b770d12d32 \
+'P1 'A_NAME_THAT_WANTS_MEMORY ' '1.2.3 '20240115 '101500 ' ' 'A_STUDY_THAT_WANTS_MEMORY ' \
+'1.2.3.4 'CT 'A_SERIES_THAT_WANTS_MEMORY 'A_NUMBER_THAT_WANTS_MEMORY \
+'1.2.840.10008.5.1.4.1.1.2 '1.2.840.10008.1.2.1 '1.2.3.4.5";
+
+/// V1 with pixel data in fragments, whose keys are short.
+const ENCAPSULATED: &str = "\
+v1 encapsulated > \
+756287360dde40dc344fec2c491cc6e36d76ca14ce56951a42db23f73c75c1fa \
+'P1 'DOE^JOHN ' '1.2.3 '20240115 '101500 ' ' '1 ' '1.2.3.4 'CT '1 '1 \
+'1.2.840.10008.5.1.4.1.1.2 '1.2.840.10008.1.2.4.90 '1.2.3.4.5";
+
+fn require_version(alloc: Global, case: &str, version: &Version) -> Result<(), Fail> {
+    let answer = text_of_version(alloc, version)?;
+    require(
+        answered(alloc, case, &answer)?.as_str() == case,
+        "the version is that of the case",
+    )
+}
+
+fn says_memory(fault: &KeyFault) -> bool {
+    matches!(
+        fault,
+        KeyFault::Memory
+            | KeyFault::File(FileFault::Meta(SetFault::Memory))
+            | KeyFault::File(FileFault::Set(SetFault::Memory))
+    )
+}
+
+fn version_of_refused(alloc: Global, case: &str, chosen: u32) -> Result<bool, Fail> {
+    let bytes = file_of(alloc, question(case))?;
+    refuse_allocation(alloc, chosen)?;
+    let answer = version_of(alloc, &bytes);
+    let wants_memory = matches!(&answer, Err(fault) if says_memory(fault));
+    let refused = was_refused(alloc, wants_memory)?;
+    let version = match answer {
+        Ok(version) => version,
+        Err(_) => version_of(alloc, &bytes)?,
+    };
+    require_version(alloc, case, &version)?;
+    Ok(refused)
+}
+
+#[test]
+fn allocations_of_version_of(rt: HostRuntime) -> Result<(), Fail> {
+    refuse_each(rt.alloc(), Call::VersionOf)
+}
+
+#[test]
+fn allocations_of_version_of_encapsulated(rt: HostRuntime) -> Result<(), Fail> {
+    refuse_each(rt.alloc(), Call::VersionOfEncapsulated)
+}
+
+/// Reads a version from a reader, which is at its end afterwards, also where an allocation was refused.
+fn ingest_refused(alloc: Global, case: &str, chosen: u32) -> Result<bool, Fail> {
+    let bytes = file_of(alloc, question(case))?;
+    let mut reader = ByteSource::new(&bytes, 7, None);
+    refuse_allocation(alloc, chosen)?;
+    let answer = ingest(alloc, &mut reader, 1000);
+    let wants_memory = matches!(&answer, Err(fault) if says_memory(fault));
+    let refused = was_refused(alloc, wants_memory)?;
+    require(is_at_end(&mut reader), "the reader is at its end")?;
+    let version = match answer {
+        Ok(version) => version,
+        Err(_) => ingest(alloc, &mut ByteSource::new(&bytes, 7, None), 1000)?,
+    };
+    require_version(alloc, case, &version)?;
+    Ok(refused)
+}
+
+#[test]
+fn allocations_of_ingest(rt: HostRuntime) -> Result<(), Fail> {
+    refuse_each(rt.alloc(), Call::Ingest)
+}
+
+#[test]
+fn allocations_of_ingest_encapsulated(rt: HostRuntime) -> Result<(), Fail> {
+    refuse_each(rt.alloc(), Call::IngestEncapsulated)
+}
+
+/// Copies a version, which shares its long keys.
+fn copy_of_version_refused(alloc: Global, chosen: u32) -> Result<bool, Fail> {
+    let version = version_of(alloc, &file_of(alloc, question(LONG_KEYS))?)?;
+    refuse_allocation(alloc, chosen)?;
+    let answer = version.copy();
+    let refused = was_refused(alloc, answer.is_err())?;
+    let copy = match answer {
+        Ok(copy) => copy,
+        Err(_) => version.copy()?,
+    };
+    require_version(alloc, LONG_KEYS, &copy)?;
+    Ok(refused)
+}
+
+#[test]
+fn no_allocations_of_copy_of_version(rt: HostRuntime) -> Result<(), Fail> {
+    refuse_each(rt.alloc(), Call::CopyOfVersion)
+}
+
+fn copy_of_parts_refused(alloc: Global, chosen: u32) -> Result<bool, Fail> {
+    let version = version_of(alloc, &file_of(alloc, question(LONG_KEYS))?)?;
+    refuse_allocation(alloc, chosen)?;
+    let answer = version.parts().copy();
+    let refused = was_refused(alloc, answer.is_err())?;
+    let copy = match answer {
+        Ok(copy) => copy,
+        Err(_) => version.parts().copy()?,
+    };
+    require(copy == *version.parts(), "the copy is equal")?;
+    Ok(refused)
+}
+
+#[test]
+fn no_allocations_of_copy_of_parts(rt: HostRuntime) -> Result<(), Fail> {
+    refuse_each(rt.alloc(), Call::CopyOfParts)
+}

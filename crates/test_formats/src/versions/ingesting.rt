@@ -1,0 +1,217 @@
+use crate::versions::reading::text_of_keys;
+use crate::versions::refusals::with_patient_id;
+use dd_elem::Ordered;
+use dd_keys::{KeyFault, Version, ingest, ingest_kept, version_of};
+use dd_slots::Slot;
+use dd_vectors::{ByteSource, ask_all, push_bytes, v1, v1_encapsulated, v1_with};
+use std::alloc::Global;
+use std::test::Fail;
+
+/// The most bytes of a read, after how many the reader fails, the limit, and the file: V1 of 454 bytes, whole or its
+/// front of the given length, V1 with pixel data in fragments, of 496 bytes, or V1 with other elements. A failure and
+/// one byte more than the limit come before every check, wherever it fails.
+const READ: &str = "\
+1 1000 454 whole > taken
+7 1000 454 whole > taken
+100 455 454 whole > taken
+4096 1000 454 whole > taken
+100000 1000 1000 whole > taken
+1 1000 453 whole > 39 FileTooLong
+100 1000 453 whole > 39 FileTooLong
+100 454 454 whole > 38 Read
+1 200 454 whole > 38 Read
+100 0 454 whole > 38 Read
+100 200 199 whole > 39 FileTooLong
+100 1000 0 whole > 39 FileTooLong
+1 1000 496 encapsulated > taken
+7 1000 496 encapsulated > taken
+4096 1000 496 encapsulated > taken
+7 1000 495 encapsulated > 39 FileTooLong
+7 495 496 encapsulated > 38 Read
+1 132 454 131 > 31 File 21 NotPart10
+1 131 454 131 > 38 Read
+7 1000 454 275 > 31 File 22 GroupLength
+4096 1000 454 453 > 31 File 27 Set 1 Truncated
+7 1000 453 453 > 31 File 27 Set 1 Truncated
+7 1000 452 453 > 39 FileTooLong
+7 1000 500 0010,0020 SQ > 36 KeyIsSequence (0010,0020)
+7 440 500 0010,0020 SQ > 38 Read
+7 300 500 0010,0020 SQ > 38 Read
+7 1000 440 0010,0020 SQ > 39 FileTooLong
+7 1000 500 0020,000D SQ > 36 KeyIsSequence (0020,000D)
+1 1000 500 0008,0016 absent > 33 MissingKey (0008,0016)
+4096 1000 500 0020,000D UI '1..2.3 > 34 BadKeyUid (0020,000D)
+100 1000 500 0008,0018 UI '1.2.3.4.6~ > 37 MetaMismatch (0008,0018)
+7 1000 500 0002,0000 UL 88000000; 0002,0002 UI '1.2.840.10008.5.1.4.1.1.88.11~ > \
+32 NotImage 1.2.840.10008.5.1.4.1.1.88.11
+7 450 500 0002,0000 UL 88000000; 0002,0002 UI '1.2.840.10008.5.1.4.1.1.88.11~ > 38 Read";
+
+/// V1 and after it (7FE0,0010) with 1,000,000 bytes of zero: the most bytes of a read, the limit, the SHA-256 and the
+/// keys.
+const LARGE: &str = "\
+1 1000466 > \
+efcd87e22343fd137453c1ffbda35b482032867d71027bbfdc706b672e5a5d5b \
+'P1 'DOE^JOHN ' '1.2.3 '20240115 '101500 ' ' '1 ' '1.2.3.4 'CT '1 '1 \
+'1.2.840.10008.5.1.4.1.1.2 '1.2.840.10008.1.2.1 '1.2.3.4.5
+7 1000466 > \
+efcd87e22343fd137453c1ffbda35b482032867d71027bbfdc706b672e5a5d5b \
+'P1 'DOE^JOHN ' '1.2.3 '20240115 '101500 ' ' '1 ' '1.2.3.4 'CT '1 '1 \
+'1.2.840.10008.5.1.4.1.1.2 '1.2.840.10008.1.2.1 '1.2.3.4.5
+4096 1000466 > \
+efcd87e22343fd137453c1ffbda35b482032867d71027bbfdc706b672e5a5d5b \
+'P1 'DOE^JOHN ' '1.2.3 '20240115 '101500 ' ' '1 ' '1.2.3.4 'CT '1 '1 \
+'1.2.840.10008.5.1.4.1.1.2 '1.2.840.10008.1.2.1 '1.2.3.4.5
+4096 1000465 > 39 FileTooLong";
+
+/// V1 with a Patient ID of this many letters and this padding: how many bytes are kept, or the refusal.
+const LONG: &str = "\
+1024 ____ > 1024 bytes
+1025 _ > 35 KeyTooLong (0010,0020)";
+
+fn file_of(alloc: Global, name: &str) -> Result<Vec<u8>, Fail> {
+    if name == "whole" {
+        return v1(alloc);
+    }
+    if name == "encapsulated" {
+        return v1_encapsulated(alloc);
+    }
+    let Ok(size) = name.parse() else {
+        return v1_with(alloc, name);
+    };
+    let mut bytes = v1(alloc)?;
+    bytes.truncate(size);
+    Ok(bytes)
+}
+
+/// Says `taken` where the version is that of the bytes, or the fault.
+fn outcome(alloc: Global, bytes: &[u8], answer: Result<Version, KeyFault>) -> Result<String, Fail> {
+    match answer {
+        Ok(version) => {
+            let is_same = version.compare(&version_of(alloc, bytes)?).is_eq();
+            let word = if is_same { "taken" } else { "another" };
+            Ok(String::from_str(alloc, word)?)
+        }
+        Err(fault) => Ok(format!(in alloc; "{fault}")?),
+    }
+}
+
+/// Reads a version by way of a slot that had other bytes, and gives it the digest of the slot.
+fn version_by_slot(
+    alloc: Global,
+    source: &mut ByteSource<'_>,
+    limit: u64,
+) -> Result<Version, KeyFault> {
+    let mut slot = Slot::new(alloc);
+    slot.take(b"another file");
+    let mut version = ingest_kept(alloc, source, &mut slot, limit)?;
+    version.set_digest(slot.digest());
+    Ok(version)
+}
+
+/// Reads the file with and without a slot, and expects one outcome.
+fn ingested(alloc: Global, question: &str) -> Result<String, Fail> {
+    let (piece, rest) = question.split_once(' ').ok_or("no piece")?;
+    let (fails, rest) = rest.split_once(' ').ok_or("no failure")?;
+    let (limit, name) = rest.split_once(' ').ok_or("no file")?;
+    let bytes = file_of(alloc, name)?;
+    let (piece, fails, limit) = (piece.parse()?, fails.parse()?, limit.parse()?);
+    let mut source = ByteSource::new(&bytes, piece, Some(fails));
+    let answer = outcome(alloc, &bytes, ingest(alloc, &mut source, limit))?;
+    let mut source = ByteSource::new(&bytes, piece, Some(fails));
+    let kept = outcome(alloc, &bytes, version_by_slot(alloc, &mut source, limit))?;
+    if kept.as_str() != answer.as_str() {
+        return Ok(format!(in alloc; "{answer}, but {kept} by a slot")?);
+    }
+    Ok(answer)
+}
+
+#[test]
+fn a_reader_gives_the_version_of_its_bytes(rt: HostRuntime) -> Result<(), Fail> {
+    ask_all(rt.alloc(), READ, ingested)
+}
+
+/// The most bytes of a read, and the range of bytes after which the reader of V1 fails: the outcome with each such
+/// reader, where the limit is the 454 bytes of V1.
+const UNREAD: &str = "\
+1 0 454 > 38 Read
+7 0 454 > 38 Read
+100 0 454 > 38 Read
+4096 0 454 > 38 Read
+1 455 460 > taken
+4096 455 460 > taken";
+
+fn failing_at(alloc: Global, bytes: &[u8], piece: u64, fails: u64) -> Result<String, Fail> {
+    let mut source = ByteSource::new(bytes, piece, Some(fails));
+    outcome(alloc, bytes, ingest(alloc, &mut source, 454))
+}
+
+/// Gives the outcome of each such reader of V1, or the first that differs.
+fn unread_in(alloc: Global, piece: u64, first: u64, last: u64) -> Result<String, Fail> {
+    let bytes = v1(alloc)?;
+    let common = failing_at(alloc, &bytes, piece, first)?;
+    for fails in first..=last {
+        let answer = failing_at(alloc, &bytes, piece, fails)?;
+        if answer.as_str() != common.as_str() {
+            return Ok(format!(in alloc; "{answer} at {fails}")?);
+        }
+    }
+    Ok(common)
+}
+
+fn unread(alloc: Global, question: &str) -> Result<String, Fail> {
+    let (piece, rest) = question.split_once(' ').ok_or("no failure")?;
+    let (first, last) = rest.split_once(' ').ok_or("no last")?;
+    unread_in(alloc, piece.parse()?, first.parse()?, last.parse()?)
+}
+
+#[test]
+fn a_reader_may_fail_at_every_byte(rt: HostRuntime) -> Result<(), Fail> {
+    ask_all(rt.alloc(), UNREAD, unread)
+}
+
+fn large_file(alloc: Global) -> Result<Vec<u8>, Fail> {
+    let mut bytes = v1(alloc)?;
+    push_bytes(alloc, &mut bytes, "e07f1000 4f57 0000 40420f00")?;
+    for _ in 0..1000 {
+        bytes.extend_from_slice(&[0; 1000])?;
+    }
+    Ok(bytes)
+}
+
+pub(crate) fn text_of_version(alloc: Global, version: &Version) -> Result<String, Fail> {
+    let digits = hex::encode(alloc, version.parts().digest)?;
+    let keys = text_of_keys(alloc, version.parts())?;
+    Ok(format!(in alloc; "{digits} {keys}")?)
+}
+
+fn large(alloc: Global, question: &str) -> Result<String, Fail> {
+    let (piece, limit) = question.split_once(' ').ok_or("no piece")?;
+    let bytes = large_file(alloc)?;
+    let mut source = ByteSource::new(&bytes, piece.parse()?, None);
+    match ingest(alloc, &mut source, limit.parse()?) {
+        Ok(version) => text_of_version(alloc, &version),
+        Err(fault) => Ok(format!(in alloc; "{fault}")?),
+    }
+}
+
+#[test]
+fn the_digest_covers_what_stands_behind_the_keys(rt: HostRuntime) -> Result<(), Fail> {
+    ask_all(rt.alloc(), LARGE, large)
+}
+
+fn long(alloc: Global, question: &str) -> Result<String, Fail> {
+    let bytes = with_patient_id(alloc, question)?;
+    let mut source = ByteSource::new(&bytes, 7, None);
+    match ingest(alloc, &mut source, 2000) {
+        Ok(version) => {
+            let kept = version.parts().patient.id.as_bytes().len();
+            Ok(format!(in alloc; "{kept} bytes")?)
+        }
+        Err(fault) => Ok(format!(in alloc; "{fault}")?),
+    }
+}
+
+#[test]
+fn keys_of_a_reader_have_1024_bytes(rt: HostRuntime) -> Result<(), Fail> {
+    ask_all(rt.alloc(), LONG, long)
+}
