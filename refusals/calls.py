@@ -142,6 +142,34 @@ def consequence(case, at, error, lasts):
     return of_reading(case, at, error, lasts)
 
 
+def is_for_copy(case, call, closed):
+    """Is this a look at a file that is copied, its opening or a read of it, after those for its version?"""
+    is_given = call.name in ("statx", "open", "fstat", "read") and call.path.split("/")[0] != "OUT"
+    if not is_given or call.path == NULL or call.path.endswith("/DICOMDIR"):
+        return False
+    # The sources of an index were read before, and closed.
+    return closed[call.path] > 0 if case.command.words.startswith("index") else True
+
+
+def turns(case):
+    """The place at which it shows that a call fails, by the place of the call, where both differ. A file that is read
+    ahead of its copy is refused in its turn, once the images before it are made."""
+    calls, found = case.right.calls, {}
+    images = [call.path for call in calls if call.name == "create" and call.path != DIRECTORY]
+    if not images or "--link" in case.command.words:
+        return found
+    closed, files = collections.Counter(), []
+    for at, call in enumerate(calls):
+        closed[call.path] += call.name == "close"
+        file = calls[next_opened(calls, at)] if call.name == "statx" and is_on_the_way(calls, at) else call
+        if is_for_copy(case, file, closed):
+            files.extend([] if file.path in files else [file.path])
+            before = images[:files.index(file.path)]
+            written = [place for place, made in enumerate(calls) if made.name == "write" and made.path in before[-1:]]
+            found[at] = max([at] + written)
+    return found
+
+
 def line_of(case, found):
     """The line on the error output. Where the output fails there is none, but for a fault 41, which is told behind its
     notes all the same."""
@@ -164,6 +192,8 @@ def is_as_failed(case, run, task):
     at, _, error, lasts = task
     calls = case.right.calls
     places = range(at, len(calls)) if lasts else [at]
+    shown = turns(case) if lasts else {}
+    places = sorted(places, key=lambda place: shown.get(place, place))
     findings = []
     for found in [consequence(case, place, error, lasts) for place in places if calls[place].name == calls[at].name]:
         if found is None or found in findings:
