@@ -22,7 +22,7 @@ help:
 	@echo '                  by default; where DESTDIR is given, to that folder in place of /'
 	@echo '  make uninstall  removes these files again, from the same PREFIX and DESTDIR'
 	@echo '  make deb        makes a Debian package of them, in packaging/out'
-	@echo '  make man        takes the tables of the man page from docs/FAULTS.md'
+	@echo '  make docs       makes what pages and man pages have of the sources and the help'
 	@echo
 	@echo 'packaging/test tries what is installed. ./dicomdir-build makes the program itself.'
 
@@ -61,8 +61,7 @@ check:
 deb:
 	packaging/deb
 
-man:
-	packaging/faults >docs/dicomdir.1.new || { rm docs/dicomdir.1.new; exit 1; }
-	mv docs/dicomdir.1.new docs/dicomdir.1
+docs:
+	docs/generate --write
 
-.PHONY: help check install uninstall deb man
+.PHONY: help check install uninstall deb docs
