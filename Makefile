@@ -22,7 +22,7 @@ help:
 	@echo '                  by default; where DESTDIR is given, to that folder in place of /'
 	@echo '  make uninstall  removes these files again, from the same PREFIX and DESTDIR'
 	@echo '  make deb        makes a Debian package of them, in packaging/out'
-	@echo '  make docs       makes what pages and man pages have of the sources and the help'
+	@echo '  make docs       makes what pages, man pages and completions have of the sources and the help'
 	@echo
 	@echo 'packaging/test tries what is installed. ./dicomdir-build makes the program itself.'
 

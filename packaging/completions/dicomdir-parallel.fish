@@ -1,5 +1,7 @@
-# Completion of dicomdir-parallel(1) for fish: that of dicomdir index, and options of its own.
+# Completion of dicomdir-parallel(1) for fish. docs/generate makes this file.
 
 complete -c dicomdir-parallel -w 'dicomdir index'
-complete -c dicomdir-parallel -s j -x -d 'How many parts are indexed at a time, on each host'
-complete -c dicomdir-parallel -l hosts -r -F -d 'Works on these hosts'
+complete -c dicomdir-parallel -s j -x \
+    -d 'How many parts are indexed at a time, on each host; by default as many as it has processors'
+complete -c dicomdir-parallel -l hosts -r -F \
+    -d 'Works on these hosts (parallel --sshloginfile FILE)'

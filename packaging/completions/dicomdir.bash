@@ -1,5 +1,26 @@
-# Completion of dicomdir(1), dicomdir-parallel(1) and dicomdir-slurm(1) for bash.
-# shellcheck shell=bash
+# Completion of dicomdir(1), dicomdir-parallel(1) and dicomdir-slurm(1) for bash. docs/generate makes its block of
+# options.
+# shellcheck shell=bash disable=SC2053 # _dicomdir_valued and _dicomdir_filed are patterns
+
+# BEGIN Options
+_dicomdir_commands='index merge withdraw check list help'
+_dicomdir_valued='@(--files0-from|--hosts|--id|--max-bytes|--uid|-j)'
+_dicomdir_filed='@(--files0-from|--hosts)'
+
+_dicomdir_options()
+{
+    case $1 in
+        '') echo '-h --help -V --version' ;;
+        index) echo '--id --uid --max-bytes --strict --dry-run --quiet --files0-from -h --help' ;;
+        merge) echo '--id --uid --max-bytes --strict --dry-run --quiet --files0-from --link -h --help' ;;
+        withdraw) echo '--id --uid --max-bytes --strict --dry-run --quiet -h --help' ;;
+        check) echo '--keys --strict --quiet -h --help' ;;
+        list) echo '--long -h --help' ;;
+        dicomdir-parallel) echo '-j --hosts' ;;
+        dicomdir-slurm) echo '-j --wait' ;;
+    esac
+}
+# END
 
 # Offers the paths that begin so: -d folders, -f files and folders. Each has the third word in front.
 _dicomdir_paths()
@@ -15,8 +36,7 @@ _dicomdir()
 
     # These take the words of index, and more options.
     case ${COMP_WORDS[0]##*/} in
-        dicomdir-parallel) command=index own='-j --hosts' ;;
-        dicomdir-slurm) command=index own='-j --wait' ;;
+        dicomdir-parallel | dicomdir-slurm) command=index own=$(_dicomdir_options "${COMP_WORDS[0]##*/}") ;;
     esac
 
     # Bash splits words at = and : too. Here they are whole.
@@ -35,7 +55,7 @@ _dicomdir()
             value=
         elif [[ ! $ended && $word == -- ]]; then
             ended=1
-        elif [[ ! $ended && $word == @(--id|--uid|--max-bytes|--files0-from|--hosts|-j) ]]; then
+        elif [[ ! $ended && $word == $_dicomdir_valued ]]; then
             value=$word
         elif [[ ! $ended && $word == -?* ]]; then
             :
@@ -47,31 +67,23 @@ _dicomdir()
     done
 
     local choice=''
+    if [[ $value == $_dicomdir_filed ]]; then _dicomdir_paths -f "$current"; fi
     case $value:$command:$paths in
-        --files0-from:* | --hosts:*) _dicomdir_paths -f "$current" ;;
         -*) ;;
-        ::* | :help:0) choice='index merge withdraw check list help' ;;
+        ::* | :help:0) choice=$_dicomdir_commands ;;
         :index:0 | :merge:* | :withdraw:[01] | :check:0 | :list:0) _dicomdir_paths -d "$current" ;;
         :index:*) _dicomdir_paths -f "$current" ;;
     esac
     if [[ ! $value && ! $ended && $current == -* ]]; then
-        local writing='--id --uid --max-bytes --strict --dry-run --quiet'
-        case $command:$current in
-            index:--files0-from=* | merge:--files0-from=*)
-                _dicomdir_paths -f "${current#*=}" --files0-from=
-                ;;
-            index:--hosts=*) _dicomdir_paths -f "${current#*=}" --hosts= ;;
-            index:*) choice="$own $writing --files0-from -h --help" ;;
-            merge:*) choice="$writing --files0-from --link -h --help" ;;
-            withdraw:*) choice="$writing -h --help" ;;
-            check:*) choice='--keys --strict --quiet -h --help' ;;
-            list:*) choice='--long -h --help' ;;
-            :*) choice='-h --help -V --version' ;;
-        esac
+        choice="$own $(_dicomdir_options "$command")"
+        if [[ $current == $_dicomdir_filed=* ]]; then
+            [[ " $choice " != *" ${current%%=*} "* ]] || _dicomdir_paths -f "${current#*=}" "${current%%=*}="
+            choice=''
+        fi
     fi
     [[ ! $choice ]] || mapfile -t COMPREPLY < <(compgen -W "$choice" -- "$current")
 
-    # Bash completes only what stands behind the last = or :.
+    # Bash completes only what follows the last = or :.
     word=${COMP_WORDS[COMP_CWORD]}
     [[ $word != [=:]* ]] || word=
     COMPREPLY=("${COMPREPLY[@]#"${current%"$word"}"}")

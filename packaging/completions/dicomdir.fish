@@ -1,30 +1,34 @@
-# Completion of dicomdir(1) for fish.
+# Completion of dicomdir(1) for fish. docs/generate makes this file.
 
 complete -c dicomdir -f
-complete -c dicomdir -s h -l help -d 'Print help'
-complete -c dicomdir -n __fish_use_subcommand -s V -l version -d 'Print version'
-
-set -l first '__fish_use_subcommand; or __fish_seen_subcommand_from help'
-complete -c dicomdir -n $first -a index \
+complete -c dicomdir -n '__fish_use_subcommand; or __fish_seen_subcommand_from help' -a index \
     -d 'Makes a file-set of image files: copies them, writes its DICOMDIR'
-complete -c dicomdir -n $first -a merge \
+complete -c dicomdir -n '__fish_use_subcommand; or __fish_seen_subcommand_from help' -a merge \
     -d 'Makes a file-set of others: copies their images, writes its DICOMDIR'
-complete -c dicomdir -n $first -a withdraw \
+complete -c dicomdir -n '__fish_use_subcommand; or __fish_seen_subcommand_from help' -a withdraw \
     -d 'Makes a file-set of one without some images, which no merge brings back'
-complete -c dicomdir -n $first -a check \
+complete -c dicomdir -n '__fish_use_subcommand; or __fish_seen_subcommand_from help' -a check \
     -d 'Checks that the files which a DICOMDIR names are there and unchanged'
-complete -c dicomdir -n $first -a list \
+complete -c dicomdir -n '__fish_use_subcommand; or __fish_seen_subcommand_from help' -a list \
     -d 'Lists the records of a DICOMDIR, those of other programs too'
-complete -c dicomdir -n __fish_use_subcommand -a help \
+complete -c dicomdir -n '__fish_use_subcommand' -a help \
     -d 'Print this message or the help of the given subcommand(s)'
-
-set -l writing '__fish_seen_subcommand_from index merge withdraw'
-complete -c dicomdir -n $writing -l id -x -d 'ID of the file-set, such as DISC1; by default empty'
-complete -c dicomdir -n $writing -l uid -x -d 'UID of the file-set; else made from its content'
-complete -c dicomdir -n $writing -l max-bytes -x -d 'Most bytes of DICOMDIR; by default 4294967295'
-complete -c dicomdir -n $writing -l strict -d 'Makes nothing where something would be left out'
-complete -c dicomdir -n $writing -l dry-run -d 'Makes nothing, and says what it would make'
-complete -c dicomdir -n '__fish_seen_subcommand_from index merge withdraw check' -l quiet -d 'Shows no progress'
+complete -c dicomdir -s h -l help \
+    -d 'Print help'
+complete -c dicomdir -n '__fish_use_subcommand' -s V -l version \
+    -d 'Print version'
+complete -c dicomdir -n '__fish_seen_subcommand_from index merge withdraw' -l id -x \
+    -d 'ID of the file-set, such as DISC1; by default empty'
+complete -c dicomdir -n '__fish_seen_subcommand_from index merge withdraw' -l uid -x \
+    -d 'UID of the file-set; else made from its content'
+complete -c dicomdir -n '__fish_seen_subcommand_from index merge withdraw' -l max-bytes -x \
+    -d 'Most bytes of DICOMDIR; by default 4294967295'
+complete -c dicomdir -n '__fish_seen_subcommand_from index merge withdraw' -l strict \
+    -d 'Makes nothing where something would be left out'
+complete -c dicomdir -n '__fish_seen_subcommand_from index merge withdraw' -l dry-run \
+    -d 'Makes nothing, and says what it would make'
+complete -c dicomdir -n '__fish_seen_subcommand_from index merge withdraw check' -l quiet \
+    -d 'Shows no progress'
 complete -c dicomdir -n '__fish_seen_subcommand_from index merge' -l files0-from -r -F \
     -d 'Reads names from FILE, or -, ended by zero bytes'
 complete -c dicomdir -n '__fish_seen_subcommand_from merge' -l link \
@@ -35,7 +39,8 @@ complete -c dicomdir -n '__fish_seen_subcommand_from check' -l strict \
     -d 'Also finds each file whose record has no digest to compare'
 complete -c dicomdir -n '__fish_seen_subcommand_from list' -l long \
     -d 'Also prints names, dates, times, modalities and numbers'
-
 complete -c dicomdir -n '__fish_seen_subcommand_from index' -F
-complete -c dicomdir -n '__fish_seen_subcommand_from merge withdraw check list' \
-    -a '(__fish_complete_directories)'
+complete -c dicomdir -n '__fish_seen_subcommand_from merge' -a '(__fish_complete_directories)'
+complete -c dicomdir -n '__fish_seen_subcommand_from withdraw' -a '(__fish_complete_directories)'
+complete -c dicomdir -n '__fish_seen_subcommand_from check' -a '(__fish_complete_directories)'
+complete -c dicomdir -n '__fish_seen_subcommand_from list' -a '(__fish_complete_directories)'
