@@ -41,8 +41,9 @@ install:
 	install -D -m 644 packaging/completions/dicomdir.fish $(share)/fish/vendor_completions.d/dicomdir.fish
 	install -m 644 $(scripts:%=packaging/completions/%.fish) $(share)/fish/vendor_completions.d
 	install -D -m 644 README.md $(ours)/README.md
-	install -d $(ours)/docs
+	install -d $(ours)/docs $(ours)/docs/images
 	install -m 644 docs/*.md $(ours)/docs
+	install -m 644 docs/images/*.svg $(ours)/docs/images
 
 # Folders that other programs may have too are left.
 uninstall:
@@ -51,8 +52,8 @@ uninstall:
 			$(share)/fish/vendor_completions.d/$$name.fish || exit 1; done
 	rm -f $(share)/zsh/site-functions/_dicomdir $(share)/dicomdir/functions $(share)/dicomdir/lines \
 		$(share)/dicomdir/slurm-job
-	rm -f $(ours)/README.md $(ours)/docs/*.md
-	for folder in $(ours)/docs $(ours) $(share)/dicomdir; do \
+	rm -f $(ours)/README.md $(ours)/docs/*.md $(ours)/docs/images/*.svg
+	for folder in $(ours)/docs/images $(ours)/docs $(ours) $(share)/dicomdir; do \
 		if [ -d "$$folder" ]; then rmdir --ignore-fail-on-non-empty "$$folder"; fi; done
 
 check:
