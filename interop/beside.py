@@ -130,6 +130,15 @@ class Beside:
         return wanted
 
 
+def skip(part, why):
+    """Names a part that is skipped, as interop/functions does."""
+    line = f"skipped: {part}, as {why}"
+    print(line)
+    if os.environ.get("INTEROP_SKIPS"):
+        with open(os.environ["INTEROP_SKIPS"], "a", encoding="utf-8") as skips:
+            print(line, file=skips)
+
+
 def short(one, other):
     """What is in one, and not in the other, of two trees; anything else as it is."""
     if not isinstance(one, dict):
