@@ -4,7 +4,7 @@
 
 # BEGIN Options
 _dicomdir_commands='index merge withdraw check list help'
-_dicomdir_valued='@(--files0-from|--hosts|--id|--max-bytes|--uid|-j)'
+_dicomdir_valued='@(--files0-from|--hosts|--id|--last-options|--max-bytes|--part-options|--uid|-j)'
 _dicomdir_filed='@(--files0-from|--hosts)'
 
 _dicomdir_options()
@@ -17,7 +17,7 @@ _dicomdir_options()
         check) echo '--keys --strict --quiet -h --help' ;;
         list) echo '--long -h --help' ;;
         dicomdir-parallel) echo '-j --hosts' ;;
-        dicomdir-slurm) echo '-j --wait' ;;
+        dicomdir-slurm) echo '-j --wait --part-options --last-options' ;;
     esac
 }
 # END
