@@ -62,7 +62,8 @@ def wait_for(is_there, seconds=120):
 class Run:
     """A run in a folder of its own, which waits in a phase, if one is named."""
 
-    def __init__(self, runs, name, phase=None, delay="0", out="OUT", terminal=False, hosts=False, skips=False):
+    def __init__(self, runs, name, phase=None, delay="0", out="OUT", terminal=False, hosts=False, skips=False, more=None,
+                 files=None, words=()):
         self.runs, self.name = runs, name
         self.room = runs.work / f"signal-{name}"
         self.inside, self.calls = self.room / "w", f"{self.room}.calls"
@@ -70,6 +71,8 @@ class Run:
         self.inside.mkdir()
         for at in range(16):
             (self.inside / f"{at:03}").write_bytes(image(f"1.2.3.{at + 1}", f"P{at % 3}"))
+        for file, data in (files or {}).items():
+            (self.inside / file).write_bytes(data)
         if skips:
             (self.inside / "007").write_bytes(b"This is no image.\n")
         waits = PHASES.get(phase) or "never"
@@ -80,9 +83,9 @@ class Run:
             (tools / tool).write_text(TOOL)
             (tools / tool).chmod(0o755)
         environment = runs.environment(self.room, PAUSE_AT=waits, DELAY=delay, TMPDIR=str(self.room / "tmp"),
-                                       PATH=f"{tools}:{os.environ['PATH']}")
+                                       PATH=f"{tools}:{os.environ['PATH']}", **(more or {}))
         (self.inside / "hosts").write_text(":\n")
-        words = [str(TOP / "dicomdir-parallel"), "-j2", out, *(f"{at:03}" for at in range(16))]
+        words = [str(TOP / "dicomdir-parallel"), "-j2", out, *(f"{at:03}" for at in range(16)), *words]
         words += ["--hosts", "hosts"] * hosts
         if phase == "reading":
             words += ["--files0-from", "-"]
@@ -204,6 +207,44 @@ def try_any_time(runs, seed, latest):
             runs.fault(f"{run.name}: it is not whole: {run.output + run.errors}")
 
 
+# Kills itself in the place of the program, the first time or always, as it indexes the second part.
+KILLED = """#!/bin/sh
+case $* in *--files0-from*/2.names*) [ ! "$ALWAYS" ] && ! mkdir "$CALLS.killed" 2>/dev/null || kill -s "$SIGNAL" $$ ;; esac
+exec "$REAL" "$@"
+"""
+
+
+def try_killed_part(runs, number, always, hosts=False):
+    """Has a part killed once, or each time. It is begun again once, and then its fault is that of the run."""
+    name = f"part-{number.name}-{'always' * always}{'-hosts' * hosts}"
+    program = runs.work / f"{name}.program"
+    program.write_text(KILLED)
+    program.chmod(0o755)
+    run = Run(runs, name, hosts=hosts, more={"DICOMDIR_PROGRAM": str(program), "ALWAYS": "1" * always,
+                                             "SIGNAL": str(int(number))})
+    status = run.end()
+    if always:
+        wanted = (1, b"", f"error: part 2 of 8 was killed twice, the second time by signal {int(number)}\n".encode())
+    else:
+        wanted = (0, run.output if run.output.startswith(b"DONE 16 instances, ") else b"DONE 16 instances, ..", b"")
+    if (status, run.output, run.errors) != wanted:
+        runs.fault(f"{run.name}: {status, run.output, run.errors}, and not {wanted}")
+    if (run.inside / "OUT").exists() == always:
+        runs.fault(f"{run.name}: OUT is there, or is not")
+    run.looks_clean()
+
+
+def try_again(runs, files, words, why, quiet=False):
+    """Has one process do all again: on a terminal a line says why, without --quiet."""
+    run = Run(runs, f"again-{why[:20]}{'-quiet' * quiet}", terminal=True, files=files, words=[*words, "--quiet"] if quiet else words)
+    got = run.read()
+    run.end()
+    line = f"dicomdir-parallel: one process does all again: {why}\r\n"
+    if got.count(line) != (not quiet) or (quiet and "dicomdir-parallel" in got):
+        runs.fault(f"{run.name}: the terminal got {got!r}")
+    run.looks_clean()
+
+
 def try_killed(runs, hosts):
     """Kills what runs the parts while they are indexed. One process does the work then."""
     run = Run(runs, f"killed{'-hosts' * hosts}", "indexing", hosts=hosts)
@@ -228,6 +269,17 @@ def try_progress(runs):
         runs.fault(f"{run.name}: the terminal got {got!r}")
 
 
+# Files, words and what is said.
+OTHER = {"015": image("1.2.3.1", "P0", more="2")}
+AGAIN = [
+    (OTHER, [], "two parts have other bytes of one instance"),
+    (OTHER, [], "two parts have other bytes of one instance", True),
+    ({"001": b"This is no image.\n"}, ["--strict"], "part 1 ended with status 1"),
+    ({"000": image("1.2.3.1", "P9", "A, B"), "001": image("1.2.3.2", "P9", "C")}, [],
+     "the names of a Patient ID can not be read without doubt"),
+    ({}, ["--max-bytes=900"], "the merge of the parts was refused, or killed")]
+
+
 def try_signals(runs):
     """Ends runs in each phase. Gives how many there were. A shell that began this one in the background had it ignore
     signals, and what is begun here would ignore them, too."""
@@ -244,6 +296,11 @@ def try_signals(runs):
         begun = [at_once.submit(what, runs, *words) for what, *words in tries]
         begun += [at_once.submit(try_killed, runs, hosts) for hosts in {False, runs.hosts}]
         begun += [at_once.submit(try_progress, runs)]
+        begun += [at_once.submit(try_killed_part, runs, number, always) for always in (False, True)
+                  for number in (signal.SIGKILL, signal.SIGTERM)]
+        begun += [at_once.submit(try_killed_part, runs, signal.SIGKILL, always, True) for always in (False, True)
+                  if runs.hosts]
+        begun += [at_once.submit(try_again, runs, *again) for again in AGAIN]
     for one in begun:
         one.result()
     return len(tries)
