@@ -53,6 +53,9 @@ NAMES = ("names paths sizes counts lines skips notes joined named all numbers on
          "set words job listed number list.000000 part.000000 said.000000 errors.000000 status sets plan merged").split()
 
 
+SCRIPTS = ["dicomdir-parallel", "-j2"], ["dicomdir-slurm", "-j2", "--wait"]
+
+
 def fill(folder, owner):
     """A folder with files that are named as those of a run."""
     os.mkdir(folder, 0o700)
@@ -100,6 +103,7 @@ def prepare(runs, name, mode):
     room.chmod(0o777)
     for at, name in enumerate(NUMBERS):
         (room / name).write_bytes(image(f"1.2.3.{at + 1}", f"P{at % 3}") if at != 5 else b"This is no image.\n")
+    (room / "hosts").write_text(":\n")
     place, precious = room / "place", room / "precious"
     place.mkdir()
     fill(precious, USER)
@@ -113,10 +117,11 @@ def prepare(runs, name, mode):
 
 def try_moment(runs, wanted, script, moment, kind):
     """Exchanges the folder at a moment. Says whether the run came there."""
-    name = f"{script[0]}-{moment}-{kind}"
+    name = f"{script[0]}{'-hosts' * ('hosts' in script)}-{moment}-{kind}"
     room, place, precious = prepare(runs, name, 0o3770)
     before = tree(precious), tree(place / "own")
     environment = {**os.environ, "ROOM": str(room), "MOMENT": moment, "REAL": runs.program, "TMPDIR": str(room),
+                   "HOME": str(room),
                    "PATH": f"{room}/tools:{os.environ['PATH']}", "DICOMDIR_PROGRAM": str(room / "tools" / "dicomdir")}
     words = [str(TOP / script[0]), *script[1:], "place/OUT", *NUMBERS]
     with subprocess.Popen(words, cwd=room, env=environment, user=USER, group=GROUP, extra_groups=[], umask=0o022,
@@ -166,6 +171,20 @@ def index(runs):
     return (*runs.run(words, room, dict(os.environ)), files_of(room / "place" / "OUT"))
 
 
+def try_group(runs, script):
+    """A folder to which the group of both users may write is refused, and nothing is made there."""
+    room, place, _ = prepare(runs, f"group-{script[0]}", 0o2770)
+    os.chown(place, USER, GROUP)
+    before = tree(place)
+    words = [str(TOP / script[0]), *script[1:], "place/OUT", *NUMBERS]
+    done = subprocess.run(words, cwd=room, user=USER, group=GROUP, extra_groups=[], capture_output=True, check=False,
+                          env={**os.environ, "DICOMDIR_PROGRAM": runs.program}, stdin=subprocess.DEVNULL)
+    if done.returncode != 1 or done.stdout or not done.stderr.startswith(f"error: others may write to {place}, ".encode()):
+        runs.fault(f"{script[0]}, a folder of mode 2770: {done}")
+    if tree(place) != before:
+        runs.fault(f"{script[0]}, a folder of mode 2770: something was made")
+
+
 def try_exchange(runs):
     """Exchanges the folders of both scripts. Gives how many runs came to the moment."""
     if os.geteuid() != 0 or subprocess.run([TOP / "dicomdir-parallel", "--help"], user=USER, group=GROUP, extra_groups=[],
@@ -174,7 +193,9 @@ def try_exchange(runs):
         return 0
     runs.work.chmod(0o711)
     wanted = index(runs)
-    scripts = ["dicomdir-parallel", "-j2"], ["dicomdir-slurm", "-j2", "--wait"]
+    for script in SCRIPTS:
+        try_group(runs, script)
+    scripts = [*SCRIPTS, *([*SCRIPTS[0], "--hosts", "hosts"] for _ in range(runs.hosts))]
     moments = [(script, f"{tool}.{call}") for script in scripts for tool in TOOLS for call in CALLS]
     tries = [(*moment, KINDS[at % len(KINDS)]) for at, moment in enumerate(moments)]
     with concurrent.futures.ThreadPoolExecutor(2 * (os.cpu_count() or 1)) as at_once:
