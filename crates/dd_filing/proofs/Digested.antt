@@ -1,12 +1,17 @@
--- A place whose digest is set.
-use Rattle.std.proofs.Common.{◌≡◌, ℕ, Bool, List, Option, None, Some, true, refl, sym, subst}
-use Rattle.std.specs.Prelude.{option_map}
+-- Digests are set in places.
+use Rattle.std.proofs.Common.{◌≡◌, ℕ, Bool, List, Option, None, Some, true, false, refl, ap, sym, ◌∙◌, subst}
 use Rattle.sha2.specs.Sha256.{sha256}
+use Rattle.sha2.specs.declared.Sha256.{Sha256}
 use Rattle.dd_slots.specs.Slots.{IsSlotOf}
 use Rattle.dd_slots.specs.declared.slot.Slot.{Slot}
 use Rattle.dd_version.specs.Copies.{with_digest}
 use Rattle.dd_version.specs.declared.parts.Parts.{Parts}
-use Rattle.dd_filing.specs.Ahead.{HasFile, IsPlace}
+use Rattle.dd_filing.specs.Ahead.{HasFile, IsDigested, IsPlace, found_with, known_by, known_of}
+use Rattle.dd_filing.specs.declared.places.Found.{Found}
+use Rattle.dd_filing.specs.declared.places.Found.TheVariants as found
+use Rattle.dd_filing.specs.declared.places.Place.{Place}
+
+-- ---- what was found
 
 -- the version that was read has the digest of the bytes in the slot
 file_digested : (slot : Slot) (version : Parts) (was : Bool) (digest : List ℕ) → HasFile slot version was
@@ -19,14 +24,40 @@ file_digested slot version was digest h is = record {
   set = λ _. is h.bytes h.kept;
 }
 
-place_of : (slot : Slot) (old : Option Parts) (was : Bool) (digest : List ℕ) → IsPlace slot old was
+place_of : (slot : Slot) (old : Found) (was : Bool) (digest : List ℕ) → IsPlace slot old was
     → ((bytes : List ℕ) → IsSlotOf slot bytes → digest ≡ sha256 bytes)
-    → IsPlace slot (option_map (λ version. with_digest version digest) old) true
-place_of slot None was digest h is = tt
-place_of slot (Some version) was digest h is = file_digested slot version was digest h is
+    → IsPlace slot (found_with old digest) true
+place_of slot (found.Version version) was digest h is = file_digested slot version was digest h is
+place_of slot found.Nothing was digest h is = tt
+place_of slot found.Absent was digest h is = tt
+place_of slot found.Unread was digest h is = tt
 
-pub place_digested : (slot : Slot) (old new : Option Parts) (was : Bool) (digest : List ℕ) → IsPlace slot old was
-    → ((bytes : List ℕ) → IsSlotOf slot bytes → digest ≡ sha256 bytes)
-    → new ≡ option_map (λ version. with_digest version digest) old → IsPlace slot new true
-place_digested slot old new was digest h is set =
-    subst (λ (version : Option Parts). IsPlace slot version true) (sym set) (place_of slot old was digest h is)
+pub place_digested : (old new : Place) (was : Bool) → IsDigested old new → IsPlace old.slot old.found was
+    → IsPlace new.slot new.found true
+place_digested old new was by h =
+    subst (λ (place : Place). IsPlace place.slot place.found true) (sym by.1.1)
+    (place_of old.slot old.found was by.0 h by.1.0)
+
+-- a place whose digest may be set is one whose digest may be open
+pub place_open : (slot : Slot) (one : Found) (was : Bool) → IsPlace slot one was → IsPlace slot one false
+place_open slot (found.Version version) was h =
+    record { bytes = h.bytes; kept = h.kept; is = h.is; set = λ e. absurd (cc) }
+place_open slot found.Nothing was h = tt
+place_open slot found.Absent was h = tt
+place_open slot found.Unread was h = tt
+
+-- ---- what is known of its file
+
+known_same : (one : Found) (hasher : Option Sha256) (kept digest : List ℕ)
+    → known_by (found_with one digest) hasher kept ≡ known_by one hasher kept
+known_same found.Nothing hasher kept digest = refl
+known_same found.Absent hasher kept digest = refl
+known_same found.Unread None kept digest = refl
+known_same found.Unread (Some hasher) kept digest = refl
+known_same (found.Version version) None kept digest = refl
+known_same (found.Version version) (Some hasher) kept digest = refl
+
+pub known_digested : (old new : Place) → IsDigested old new → known_of new ≡ known_of old
+known_digested old new by =
+    ap (λ (place : Place). known_of place) by.1.1
+    ∙ known_same old.found old.slot.hasher old.slot.kept.items by.0

@@ -1,5 +1,6 @@
 mod Comparing
 mod Copied
 mod Digested
+mod Knowing
 mod Passing
 mod Sending

@@ -1,17 +1,76 @@
--- Files that were read whole ahead of their copies, and what writing their bytes answers.
-use Rattle.std.specs.Prelude.{◌≡◌, ℕ, Bool, true, List, Option, None, Some, Result, Ok, Err}
+-- What is known of files ahead of their copies, and what writing a file that was read answers.
+use Rattle.std.specs.Prelude.{◌≡◌, ◌≤◌, ℕ, Bool, true, false, List, [], ◌∷◌, ◌++◌, take, get_or}
+use Rattle.std.specs.Prelude.{Option, None, Result, Ok, Err, ⊤, if◌then◌else◌}
 use Rattle.sha2.specs.Sha256.{sha256}
+use Rattle.sha2.specs.declared.Sha256.{Sha256}
 use Rattle.dd_elem.specs.declared.device.Write.{Ghosts as WriteOf}
 use Rattle.dd_keys.specs.Versions.{IsVersion}
 use Rattle.dd_slots.specs.Slots.{IsSlotOf}
 use Rattle.dd_slots.specs.declared.slot.Slot.{Slot}
 use Rattle.dd_stream.specs.Sends.{GoesTo, StopsIn}
+use Rattle.dd_stream.specs.Streams.{Ends}
+use Rattle.dd_stream.specs.declared.end.End.TheVariants.{Ended, Failed}
 use Rattle.dd_version.specs.Copies.{with_digest}
 use Rattle.dd_version.specs.declared.parts.Parts.{Parts}
 use Rattle.dd_filing.specs.Filing.{IsFileAs}
+use Rattle.dd_filing.specs.Taken.{Taken}
 use Rattle.dd_filing.specs.declared.agreeing.Filed.{Filed}
 use Rattle.dd_filing.specs.declared.copying.FilingFault.{FilingFault}
 use Rattle.dd_filing.specs.declared.copying.FilingFault.TheVariants.{Unread, Unsent}
+use Rattle.dd_filing.specs.declared.places.Ahead.{Ahead}
+use Rattle.dd_filing.specs.declared.places.Ahead.TheVariants as known
+use Rattle.dd_filing.specs.declared.places.Found.{Found}
+use Rattle.dd_filing.specs.declared.places.Found.TheVariants as found
+use Rattle.dd_filing.specs.declared.places.Place.{Place}
+use Rattle.dd_filing.specs.declared.places.Places.{Places}
+
+-- ---- one file
+
+-- what is known of a file once reading it gave these bytes
+abbrev pub IsReadAhead : Ahead → ℕ → List ℕ → Option (List ℕ) → ℕ → ℕ → Type 0
+IsReadAhead (known.File file) limit given left old new = (file.bytes ≡ given)
+    × Ends (if file.whole then Ended else Failed) limit given left old new
+IsReadAhead known.Absent limit given left old new = ⊥
+IsReadAhead known.Unknown limit given left old new = ⊤
+
+-- a file that is read ahead has less than 8 MiB
+abbrev pub ahead_limit : ℕ
+ahead_limit = 8388607
+
+-- what is known while digests are open: of files that were read whole nothing
+abbrev pub shown : Bool → Ahead → Ahead
+shown true file = file
+shown false (known.File file) = if file.whole then known.Unknown else known.File file
+shown false file = file
+
+-- the answer for a file, to a writer that was `old` and is `new`
+abbrev pub IsSentAhead : {W : Type 0} → WriteOf W → W → W → Parts → Result Filed FilingFault → Taken → Type 0
+IsSentAhead writer old new planned (Ok filed) file = (file.whole ≡ true)
+    × (IsFileAs planned filed file.bytes × GoesTo writer file.bytes old new)
+IsSentAhead writer old new planned (Err Unread) file = (file.whole ≡ false) × GoesTo writer file.bytes old new
+IsSentAhead writer old new planned (Err Unsent) file = (taken : ℕ) × StopsIn writer file.bytes 0 taken old new
+IsSentAhead writer old new planned (Err fault) file = ⊥
+
+-- ---- the next files
+
+-- what is known of them, how many of them are past, and whether all digests are set
+pub record NextFiles : Type 0 where
+  pub files : List Ahead
+  pub past : ℕ
+  pub digested : Bool
+
+abbrev pub no_files : NextFiles
+no_files = record { files = []; past = 0; digested = false }
+
+-- one more, of which this is known
+abbrev pub with_file : NextFiles → Ahead → NextFiles
+with_file all file = record { files = all.files ++ file ∷ []; past = all.past; digested = false }
+
+-- what is known of the first that is not past
+abbrev pub first_left : NextFiles → Ahead
+first_left all = shown all.digested (get_or all.files all.past known.Unknown)
+
+-- ---- places
 
 -- the slot has the bytes of a file of this version, whose digest may not be set yet
 pub record HasFile (slot : Slot) (version : Parts) (digested : Bool) : Type 0 where
@@ -20,14 +79,37 @@ pub record HasFile (slot : Slot) (version : Parts) (digested : Bool) : Type 0 wh
   pub is : IsVersion bytes (with_digest version (sha256 bytes))
   pub set : digested ≡ true → version.digest ≡ sha256 bytes
 
--- a place that is empty, or has a file of this version
-abbrev pub IsPlace : Slot → Option Parts → Bool → Type 0
-IsPlace slot None digested = Unit {0}
-IsPlace slot (Some version) digested = HasFile slot version digested
+-- a place without a version, or with a file of this one
+abbrev pub IsPlace : Slot → Found → Bool → Type 0
+IsPlace slot (found.Version version) digested = HasFile slot version digested
+IsPlace slot other digested = Unit {0}
 
--- the answer for a file of these bytes, to a writer that was `old` and is `new`
-abbrev pub IsSentAhead : {W : Type 0} → WriteOf W → W → W → Parts → Result Filed FilingFault → List ℕ → Type 0
-IsSentAhead writer old new planned (Ok filed) bytes = IsFileAs planned filed bytes × GoesTo writer bytes old new
-IsSentAhead writer old new planned (Err Unread) bytes = GoesTo writer bytes old new
-IsSentAhead writer old new planned (Err Unsent) bytes = (taken : ℕ) × StopsIn writer bytes 0 taken old new
-IsSentAhead writer old new planned (Err fault) bytes = ⊥
+-- what a place knows: bytes that were hashed as they came are not there
+abbrev pub known_by : Found → Option Sha256 → List ℕ → Ahead
+known_by found.Absent hasher kept = known.Absent
+known_by found.Unread None kept = known.File (record { bytes = kept; whole = false })
+known_by (found.Version version) None kept = known.File (record { bytes = kept; whole = true })
+known_by other hasher kept = known.Unknown
+
+abbrev pub known_of : Place → Ahead
+known_of place = known_by place.found place.slot.hasher place.slot.kept.items
+
+-- what is known of the files whose places are held
+abbrev pub files_of : Places → List Ahead
+files_of all = take all.held (known_of all.first ∷ known_of all.second ∷ known_of all.third ∷ known_of all.latest ∷ [])
+
+-- at most four are held, and each is a place
+abbrev pub ArePlaces : Places → Bool → Type 0
+ArePlaces all digested = (all.held ≤ 4) × (IsPlace all.first.slot all.first.found digested
+    × (IsPlace all.second.slot all.second.found digested × (IsPlace all.third.slot all.third.found digested
+    × IsPlace all.latest.slot all.latest.found digested)))
+
+-- a version that was found gets this digest
+abbrev pub found_with : Found → List ℕ → Found
+found_with (found.Version version) digest = found.Version (with_digest version digest)
+found_with other digest = other
+
+-- the version in a place gets the digest of the bytes in its slot
+abbrev pub IsDigested : Place → Place → Type 0
+IsDigested old new = (digest : List ℕ) × (((bytes : List ℕ) → IsSlotOf old.slot bytes → digest ≡ sha256 bytes)
+    × (new ≡ record { slot = old.slot; found = found_with old.found digest }))

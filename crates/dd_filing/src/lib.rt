@@ -5,8 +5,10 @@
 mod agreeing;
 mod copying;
 mod files_ahead;
+mod places;
 mod tee;
 
 pub use agreeing::{Filed, one_filed};
 pub use copying::{FilingFault, copy_version, file_image};
-pub use files_ahead::{Ahead, FILES_AHEAD, FileAhead, FilesAhead};
+pub use files_ahead::{FILES_AHEAD, FilesAhead};
+pub use places::{Ahead, FileAhead};

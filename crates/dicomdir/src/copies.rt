@@ -91,8 +91,8 @@ fn copy_record<F: Files + Progress, O: Origins>(
     }
 }
 
-/// Reads the next files ahead of their copies and digests them, where those that were are past and images get no hard
-/// links. What can't be opened or read is refused in its turn, after the images before it.
+/// Reads the next files ahead of their copies and digests them, once those before are past. Reads none where images get
+/// hard links. What can't be opened or read is refused in its turn, after the images before it.
 fn read_ahead<F: Files, O: Origins>(
     alloc: Global,
     origins: &O,

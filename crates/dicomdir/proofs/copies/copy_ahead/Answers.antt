@@ -9,16 +9,16 @@ pub returns-in-Ok-clause-made : goal.returns-in-Ok-clause-made
 returns-in-Ok-clause-made g c = λ done.
     let start = c.in_ok-start_copy.ensures.started cc in
     let sent = c.in-Ok.ensures in
-    let bytes = c.args.ahead.now in
+    let bytes = c.args.ahead.now.bytes in
     record {
       path = start.path;
       bytes = bytes;
       place = start.place;
       is = subst (λ (filed : Filed). IsFileAs c.args.image.now.planned.now filed bytes)
           (c.end_copy.ensures.planned done)
-          sent.0;
+          sent.1.0;
       made = held_published start.path bytes _ _ _ _ start.started
-          (g.met.F.Files.written_grows _ _ bytes sent.1.stays sent.1.holds) (c.end_copy.ensures.ended done);
+          (g.met.F.Files.written_grows _ _ bytes sent.1.1.stays sent.1.1.holds) (c.end_copy.ensures.ended done);
     }
 
 pub returns-in-Err-clause-refusal : goal.returns-in-Err-clause-refusal

@@ -1,0 +1,127 @@
+-- What is known of files, by their places.
+use Rattle.std.proofs.Common.{◌≡◌, ◌<◌, ◌≤◌, ℕ, zero, suc, Bool, true, false, List, [], ◌∷◌, ◌++◌, Option, None, Some}
+use Rattle.std.proofs.Common.{length, length-take-le, take, refl, ap, sym, ◌∙◌, arith}
+use Rattle.std.specs.Prelude.{IsNone}
+use Rattle.sha2.specs.Sha256.{sha256}
+use Rattle.sha2.specs.declared.Sha256.{Sha256}
+use Rattle.dd_slots.specs.Slots.{HasTaken, IsSlotOf}
+use Rattle.dd_stream.specs.Streams.{Ends}
+use Rattle.dd_stream.specs.declared.end.End.TheVariants.{Ended}
+use Rattle.dd_version.specs.declared.parts.Parts.{Parts}
+use Rattle.dd_filing.proofs.Digested.{known_digested, place_digested, place_open}
+use Rattle.dd_filing.specs.Ahead.{ArePlaces, IsDigested, IsPlace, IsReadAhead, files_of, found_with, known_by, known_of}
+use Rattle.dd_filing.specs.Ahead.{shown, with_file}
+use Rattle.dd_filing.specs.declared.places.Ahead.{Ahead}
+use Rattle.dd_filing.specs.declared.places.Ahead.TheVariants as known
+use Rattle.dd_filing.specs.declared.places.Found.{Found}
+use Rattle.dd_filing.specs.declared.places.Found.TheVariants.{Unread, Version}
+use Rattle.dd_filing.specs.declared.places.Place.{Place}
+use Rattle.dd_filing.specs.declared.places.Places.{Places}
+
+-- a file that was read whole
+pub read_whole : (hasher : Option Sha256) (version : Parts) (limit : ℕ) (kept given : List ℕ)
+    (left : Option (List ℕ)) (old new : ℕ) → HasTaken hasher kept given → Ends Ended limit given left old new
+    → IsReadAhead (known_by (Version version) hasher kept) limit given left old new
+read_whole None version limit kept given left old new taken end = (taken, end)
+read_whole (Some hasher) version limit kept given left old new taken end = tt
+
+-- bytes of a file whose reader failed
+unread_kept : (digested : Bool) (hasher : Option Sha256) (kept bytes : List ℕ) → IsNone hasher
+    → ((all : List ℕ) → HasTaken hasher kept all → bytes ≡ all)
+    → known.File (record { bytes = bytes; whole = false }) ≡ shown digested (known_by Unread hasher kept)
+unread_kept true None kept bytes none is =
+    ap (λ (all : List ℕ). known.File (record { bytes = all; whole = false })) (is kept refl)
+unread_kept false None kept bytes none is =
+    ap (λ (all : List ℕ). known.File (record { bytes = all; whole = false })) (is kept refl)
+unread_kept digested (Some hasher) kept bytes none is = absurd (cc)
+
+pub unread_ahead : (digested : Bool) (one : Found) (hasher : Option Sha256) (kept bytes : List ℕ) → one ≡ Unread
+    → IsNone hasher → ((all : List ℕ) → HasTaken hasher kept all → bytes ≡ all)
+    → known.File (record { bytes = bytes; whole = false }) ≡ shown digested (known_by one hasher kept)
+unread_ahead digested one hasher kept bytes unread none is =
+    unread_kept digested hasher kept bytes none is
+    ∙ ap (λ (one : Found). shown digested (known_by one hasher kept)) (sym unread)
+
+-- ---- the next file
+
+held_same : (held : ℕ) (first second third one other : Ahead) → held < 4
+    → take held (first ∷ second ∷ third ∷ one ∷ []) ≡ take held (first ∷ second ∷ third ∷ other ∷ [])
+held_same zero first second third one other h = refl
+held_same (suc zero) first second third one other h = refl
+held_same (suc (suc zero)) first second third one other h = refl
+held_same (suc (suc (suc zero))) first second third one other h = refl
+held_same (suc (suc (suc (suc held)))) first second third one other h = absurd (omega (arith, h))
+
+-- where there is room, the latest place is not held
+has_room : (all : Places) → all.held ≤ 4 → length (files_of all) < 4 → all.held < 4
+has_room all most room =
+    let many = length-take-le all.held
+    (known_of all.first ∷ known_of all.second ∷ known_of all.third ∷ known_of all.latest ∷ []) most in
+    omega (arith, many, room)
+
+-- the latest place is held as well, and this is known of its file
+pub next_file : (all new : Places) (latest : Place) (past : ℕ) (was : Bool) (one : Ahead) → all.held ≤ 4
+    → files_of new ≡ files_of (record all { latest = latest }) ++ known_of latest ∷ [] → known_of latest ≡ one
+    → length (files_of all) < 4
+    → record { files = files_of new; past = past; digested = false } ≡ with_file (record { files = files_of all; past = past; digested = was }) one
+next_file all new latest past was one most files is room =
+    ap (λ (files : List Ahead). record { files = files; past = past; digested = false })
+    (files ∙ ap (λ (one : Ahead). files_of (record all { latest = latest }) ++ one ∷ []) is
+    ∙ ap (λ (files : List Ahead). files ++ one ∷ [])
+    (held_same all.held (known_of all.first) (known_of all.second) (known_of all.third) (known_of latest)
+    (known_of all.latest) (has_room all most room)))
+
+-- a place more leaves the others places, whose digests may then be open
+pub places_open : (all : Places) (latest : Place) (was : Bool) → ArePlaces all was
+    → IsPlace latest.slot latest.found false → ArePlaces (record all { latest = latest }) false
+places_open all latest was h is = (
+  h.0,
+  (
+    place_open all.first.slot all.first.found was h.1.0,
+    (
+      place_open all.second.slot all.second.found was h.1.1.0,
+      (place_open all.third.slot all.third.found was h.1.1.1.0, is),
+    ),
+  ),
+)
+
+-- ---- digests
+
+-- what was found in the place has this digest
+pub is_digested : (old : Place) (one : Found) (digest : List ℕ)
+    → ((bytes : List ℕ) → IsSlotOf old.slot bytes → digest ≡ sha256 bytes)
+    → one ≡ found_with old.found digest → IsDigested old (record { slot = old.slot; found = one })
+is_digested old one digest right same =
+    (digest, (right, ap (λ (one : Found). record { slot = old.slot; found = one }) same))
+
+pub places_digested : (old new : Places) (was : Bool) → ArePlaces old was → new.held ≡ old.held
+    → IsDigested old.first new.first → IsDigested old.second new.second → IsDigested old.third new.third
+    → IsDigested old.latest new.latest → ArePlaces new true
+places_digested old new was h held first second third latest = (
+  omega (arith, held, h.0),
+  (
+    place_digested old.first new.first was first h.1.0,
+    (
+      place_digested old.second new.second was second h.1.1.0,
+      (
+        place_digested old.third new.third was third h.1.1.1.0,
+        place_digested old.latest new.latest was latest h.1.1.1.1,
+      ),
+    ),
+  ),
+)
+
+pub files_digested : (old new : Places) → new.held ≡ old.held → IsDigested old.first new.first
+    → IsDigested old.second new.second → IsDigested old.third new.third → IsDigested old.latest new.latest
+    → files_of new ≡ files_of old
+files_digested old new held first second third latest =
+    ap (λ (n : ℕ). take n (known_of new.first ∷ known_of new.second ∷ known_of new.third ∷ known_of new.latest ∷ []))
+    held
+    ∙ ap (λ (one : Ahead). take old.held (one ∷ known_of new.second ∷ known_of new.third ∷ known_of new.latest ∷ []))
+    (known_digested old.first new.first first)
+    ∙ ap (λ (one : Ahead). take old.held (known_of old.first ∷ one ∷ known_of new.third ∷ known_of new.latest ∷ []))
+    (known_digested old.second new.second second)
+    ∙ ap (λ (one : Ahead). take old.held (known_of old.first ∷ known_of old.second ∷ one ∷ known_of new.latest ∷ []))
+    (known_digested old.third new.third third)
+    ∙ ap (λ (one : Ahead). take old.held (known_of old.first ∷ known_of old.second ∷ known_of old.third ∷ one ∷ []))
+    (known_digested old.latest new.latest latest)

@@ -1,0 +1,240 @@
+//! Places for what is known of files before they are copied.
+
+ghost use Rattle.std.specs.Prelude.{◌≡◌, ◌<◌, ◌+◌, ◌++◌, ◌∷◌, [], Bool, false, get_or};
+ghost use Rattle.dd_stream.specs.Reads.{ReadsUpTo};
+ghost use Rattle.dd_filing.specs.Ahead.{ArePlaces, IsDigested, IsPlace, IsReadAhead, IsSentAhead, ahead_limit, files_of};
+ghost use Rattle.dd_filing.specs.Ahead.{found_with, known_of, shown};
+ghost use Rattle.dd_filing.specs.declared.places.Ahead.TheVariants as known;
+ghost use Rattle.dd_filing.specs.declared.places.Found.TheVariants.{Absent, Nothing};
+
+use crate::agreeing::Filed;
+use crate::copying::FilingFault;
+use dd_elem::{Read, Write};
+use dd_keys::{KeyFault, ingest_kept, one_version};
+use dd_slots::{Slot, digest_slots};
+use dd_stream::send;
+use dd_version::Version;
+use std::alloc::Global;
+use std::marker::Model;
+use std::mem;
+
+/// One byte less than a slot keeps, which then need not hash a longer file.
+const AHEAD_LIMIT: u64 = 8 * 1024 * 1024 - 1;
+
+/// Says what is known of a file before it is copied.
+#[derive(Drop)]
+pub enum Ahead<'a> {
+    /// Its bytes are known: all, or those before its reader failed.
+    File(FileAhead<'a>),
+    /// It could not be opened.
+    Absent,
+    /// Only a copy from its reader tells.
+    Unknown,
+}
+
+/// Holds the bytes of a file that was read ahead, and its version where the reader came to its end.
+#[derive(Drop)]
+pub struct FileAhead<'a> {
+    bytes: &'a [u8],
+    version: Option<&'a Version>,
+}
+
+impl<'a> Model for FileAhead<'a> {
+    ghost use Rattle.std.specs.Prelude.{IfSome, is_some};
+    ghost use Rattle.dd_keys.specs.Versions.{IsVersion};
+    ghost use Rattle.dd_filing.specs.Taken.{Taken};
+
+    ghost Value = { Taken };
+
+    ghost view = { λ file. record { bytes = file.bytes.now; whole = is_some file.version } };
+
+    ghost invariant = { λ file. IfSome file.version (λ version. IsVersion file.bytes.now version.now) };
+}
+
+impl FileAhead<'_> {
+    /// Writes the file, and says whether it is one of the planned version. Unsent where the writer fails, after a
+    /// first part; Unread where the reader of the file had failed.
+    pub fn copy_to<W: Write>(&self, writer: &mut W, planned: &Version) -> Result<Filed, FilingFault>
+        ensures { IsSentAhead W.Write writer.old writer.new planned.now result self.now }
+    {
+        one_version();
+        match send(self.bytes, writer, 0) {
+            Ok(_) => match self.version {
+                Some(version) => Ok(Filed::of(version.parts(), planned.parts())),
+                None => Err(FilingFault::Unread),
+            },
+            Err(_) => Err(FilingFault::Unsent),
+        }
+    }
+}
+
+/// What was found of a file.
+#[derive(Drop)]
+pub(crate) enum Found {
+    Nothing,
+    /// It could not be opened.
+    Absent,
+    /// Its reader failed.
+    Unread,
+    /// Its digest may be open.
+    Version(Version),
+}
+
+#[derive(Drop)]
+pub(crate) struct Place {
+    slot: Slot,
+    found: Found,
+}
+
+impl Place {
+    pub(crate) fn new(alloc: Global) -> Place
+        ensures { result.found ≡ Nothing }
+    {
+        Place {
+            slot: Slot::new(alloc),
+            found: Found::Nothing,
+        }
+    }
+
+    pub(crate) fn clear(&mut self)
+        ensures { self.new.found ≡ Nothing }
+    {
+        self.slot.clear();
+        self.found = Found::Nothing;
+    }
+
+    pub(crate) fn refuse(&mut self)
+        ensures { self.new.found ≡ Absent }
+    {
+        self.slot.clear();
+        self.found = Found::Absent;
+    }
+
+    /// Finds nothing where the file is too long or of no version, or an allocation is refused.
+    pub(crate) fn read<R: Read>(&mut self, alloc: Global, reader: &mut R)
+        ensures place { IsPlace self.new.slot self.new.found false }
+        ensures read { ReadsUpTo R.Read ahead_limit reader.old reader.new
+            (IsReadAhead (known_of self.new) ahead_limit) }
+    {
+        match ingest_kept(alloc, reader, &mut self.slot, AHEAD_LIMIT) {
+            Ok(version) => self.found = Found::Version(version),
+            Err(KeyFault::Read) => self.found = Found::Unread,
+            Err(_) => self.found = Found::Nothing,
+        }
+    }
+
+    pub(crate) fn ahead(&self, is_digested: bool) -> Ahead<'_>
+        requires { IsPlace self.now.slot self.now.found is_digested }
+        ensures { result ≡ shown is_digested (known_of self.now) }
+    {
+        match (&self.found, self.slot.bytes()) {
+            (Found::Absent, _) => Ahead::Absent,
+            (Found::Unread, Some(bytes)) => Ahead::File(FileAhead {
+                bytes,
+                version: None,
+            }),
+            (Found::Version(version), Some(bytes)) if is_digested => Ahead::File(FileAhead {
+                bytes,
+                version: Some(version),
+            }),
+            _ => Ahead::Unknown,
+        }
+    }
+}
+
+/// Holds up to four places.
+#[derive(Drop)]
+pub(crate) struct Places {
+    first: Place,
+    second: Place,
+    third: Place,
+    /// The place of the next file: the fourth once three are held.
+    pub(crate) latest: Place,
+    pub(crate) held: usize,
+}
+
+impl Places {
+    pub(crate) fn new(alloc: Global) -> Places
+        ensures none { result.held ≡ 0 }
+        ensures places { (digested : Bool) → ArePlaces result digested }
+    {
+        Places {
+            first: Place::new(alloc),
+            second: Place::new(alloc),
+            third: Place::new(alloc),
+            latest: Place::new(alloc),
+            held: 0,
+        }
+    }
+
+    /// Forgets all files, and keeps their memory.
+    pub(crate) fn clear(&mut self)
+        ensures none { self.new.held ≡ 0 }
+        ensures places { (digested : Bool) → ArePlaces self.new digested }
+    {
+        self.first.clear();
+        self.second.clear();
+        self.third.clear();
+        self.latest.clear();
+        self.held = 0;
+    }
+
+    /// Holds the latest place as well.
+    pub(crate) fn keep(&mut self)
+        requires { self.old.held < 4 }
+        ensures held { self.new.held ≡ self.old.held + 1 }
+        ensures files { files_of self.new ≡ files_of self.old ++ known_of self.old.latest ∷ [] }
+        ensures places { (digested : Bool) → ArePlaces self.old digested → ArePlaces self.new digested }
+    {
+        match self.held {
+            0 => mem::swap(&mut self.first, &mut self.latest),
+            1 => mem::swap(&mut self.second, &mut self.latest),
+            2 => mem::swap(&mut self.third, &mut self.latest),
+            _ => (),
+        }
+        self.held += 1;
+    }
+
+    /// Sets the digests of all versions, four side by side.
+    pub(crate) fn digest(&mut self)
+        ensures held { self.new.held ≡ self.old.held }
+        ensures first { IsDigested self.old.first self.new.first }
+        ensures second { IsDigested self.old.second self.new.second }
+        ensures third { IsDigested self.old.third self.new.third }
+        ensures latest { IsDigested self.old.latest self.new.latest }
+    {
+        let (first, second, third, fourth) = digest_slots(
+            &self.first.slot,
+            &self.second.slot,
+            &self.third.slot,
+            &self.latest.slot,
+        );
+        set_digest(&mut self.first.found, first);
+        set_digest(&mut self.second.found, second);
+        set_digest(&mut self.third.found, third);
+        set_digest(&mut self.latest.found, fourth);
+    }
+
+    pub(crate) fn ahead(&self, at: usize, is_digested: bool) -> Ahead<'_>
+        requires { ArePlaces self.now is_digested }
+        ensures { result ≡ shown is_digested (get_or (files_of self.now) at known.Unknown) }
+    {
+        if at >= self.held {
+            return Ahead::Unknown;
+        }
+        match at {
+            0 => self.first.ahead(is_digested),
+            1 => self.second.ahead(is_digested),
+            2 => self.third.ahead(is_digested),
+            _ => self.latest.ahead(is_digested),
+        }
+    }
+}
+
+fn set_digest(found: &mut Found, digest: [u8; 32])
+    ensures { found.new ≡ found_with found.old digest }
+{
+    if let Found::Version(version) = found {
+        version.set_digest(digest);
+    }
+}
