@@ -89,7 +89,7 @@ three_same old new h =
     ∙ ap (λ (one : PendingFile). old.first ∷ one ∷ new.third ∷ []) h.second
     ∙ ap (λ (one : PendingFile). old.first ∷ old.second ∷ one ∷ []) h.third
 
--- those that wait, while there is room
+-- fewer than four files wait
 pub pending_same : (old new : Batch) → old.used < 4 → KeepsPending old new → pending_files new ≡ pending_files old
 pending_same old new room h =
     let here : old.used ≤ length (three new) = omega (arith, room) in
@@ -327,8 +327,8 @@ differs_found expected digest differs finding is some =
 pub otherwise_found : (expected : Expected) (digest : List ℕ) (differs otherwise : Option Finding)
     → differs ≡ compared (Some expected.recorded) digest → differs ≡ None → expected.otherwise ≡ otherwise
     → otherwise ≡ by_recorded expected digest
-otherwise_found expected digest differs otherwise is none same =
-    sym same ∙ ap (λ (o : Option Finding). option_or o expected.otherwise) (sym none ∙ is)
+otherwise_found expected digest differs otherwise compares agrees same =
+    sym same ∙ ap (λ (o : Option Finding). option_or o expected.otherwise) (sym agrees ∙ compares)
 
 pub said_found : {E : Type 0} (r : Result Bool E) (text : List ℕ) → IfOk r (λ found. found ≡ true)
     → true ≡ not (is_empty text) → IfOk r (λ found. found ≡ not (is_empty text))

@@ -54,10 +54,10 @@ const FILE_INSTANCE: Tag = Tag {
     element: 0x0003,
 };
 
-/// The Patient ID that this program writes in a record where that of the file is empty.
+/// The Patient ID that this program writes in a record where the file has none or an empty one.
 const NO_ID: &[u8] = b"NOID";
 
-/// The values in the records above: for each element that of the nearest record that has it, else no bytes.
+/// The values in the records above: each element as the nearest record above has it, else no bytes.
 #[derive(Clone, Copy)]
 pub(crate) struct Inherited<'a> {
     pub patient_id: &'a [u8],

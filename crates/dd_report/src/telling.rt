@@ -1,4 +1,4 @@
-//! What is found of files, as it is printed.
+//! Prints what is found of files.
 ghost use Rattle.std.specs.Prelude.{◌≡◌, Some};
 ghost use Rattle.dd_dir.specs.ForestViews.{tree_view};
 ghost use Rattle.dd_report.specs.Batches.{Adds, IsReady, KeepsBytes, judged, report_of};
