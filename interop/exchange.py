@@ -78,6 +78,19 @@ def lay_snare(folder, precious):
     os.chmod(folder, 0o777)
 
 
+def find_program(runs):
+    """The program by a path that the user of the run may take."""
+    try:
+        subprocess.run([runs.program, "--version"], user=USER, group=GROUP, extra_groups=[], capture_output=True,
+                       check=True)
+        return runs.program
+    except (OSError, subprocess.CalledProcessError):
+        path = runs.work / "program"
+        shutil.copy(runs.program, path)
+        path.chmod(0o755)
+        return str(path)
+
+
 def exchange(place, kind, precious):
     """Puts something else in the place of the private folder, as the other user."""
     name = next((name for name in os.listdir(place) if name.startswith((".dicomdir-parallel.", "dicomdir-slurm."))), None)
@@ -115,12 +128,12 @@ def prepare(runs, name, mode):
     return room, place, precious
 
 
-def try_moment(runs, wanted, script, moment, kind):
+def try_moment(runs, program, wanted, script, moment, kind):
     """Exchanges the folder at a moment. Says whether the run came there."""
     name = f"{script[0]}{'-hosts' * ('hosts' in script)}-{moment}-{kind}"
     room, place, precious = prepare(runs, name, 0o3770)
     before = tree(precious), tree(place / "own")
-    environment = {**os.environ, "ROOM": str(room), "MOMENT": moment, "REAL": runs.program, "TMPDIR": str(room),
+    environment = {**os.environ, "ROOM": str(room), "MOMENT": moment, "REAL": program, "TMPDIR": str(room),
                    "HOME": str(room),
                    "PATH": f"{room}/tools:{os.environ['PATH']}", "DICOMDIR_PROGRAM": str(room / "tools" / "dicomdir")}
     words = [str(TOP / script[0]), *script[1:], "place/OUT", *NUMBERS]
@@ -171,14 +184,14 @@ def index(runs):
     return (*runs.run(words, room, dict(os.environ)), files_of(room / "place" / "OUT"))
 
 
-def try_group(runs, script):
+def try_group(runs, program, script):
     """A folder to which the group of both users may write is refused, and nothing is made there."""
     room, place, _ = prepare(runs, f"group-{script[0]}", 0o2770)
     os.chown(place, USER, GROUP)
     before = tree(place)
     words = [str(TOP / script[0]), *script[1:], "place/OUT", *NUMBERS]
     done = subprocess.run(words, cwd=room, user=USER, group=GROUP, extra_groups=[], capture_output=True, check=False,
-                          env={**os.environ, "DICOMDIR_PROGRAM": runs.program}, stdin=subprocess.DEVNULL)
+                          env={**os.environ, "DICOMDIR_PROGRAM": program}, stdin=subprocess.DEVNULL)
     if done.returncode != 1 or done.stdout or not done.stderr.startswith(f"error: others may write to {place}, ".encode()):
         runs.fault(f"{script[0]}, a folder of mode 2770: {done}")
     if tree(place) != before:
@@ -192,14 +205,14 @@ def try_exchange(runs):
         beside.skip("an exchange of private folders", "no other user can be taken here")
         return 0
     runs.work.chmod(0o711)
-    wanted = index(runs)
+    program, wanted = find_program(runs), index(runs)
     for script in SCRIPTS:
-        try_group(runs, script)
+        try_group(runs, program, script)
     scripts = [*SCRIPTS, *([*SCRIPTS[0], "--hosts", "hosts"] for _ in range(runs.hosts))]
     moments = [(script, f"{tool}.{call}") for script in scripts for tool in TOOLS for call in CALLS]
     tries = [(*moment, KINDS[at % len(KINDS)]) for at, moment in enumerate(moments)]
     with concurrent.futures.ThreadPoolExecutor(2 * (os.cpu_count() or 1)) as at_once:
-        came = sum(at_once.map(lambda one: try_moment(runs, wanted, *one), tries))
+        came = sum(at_once.map(lambda one: try_moment(runs, program, wanted, *one), tries))
     if came < len(tries) // 5:
         runs.fault(f"the folder was exchanged in {came} runs alone")
     return came
