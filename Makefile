@@ -22,6 +22,7 @@ help:
 	@echo '                  by default; where DESTDIR is given, to that folder in place of /'
 	@echo '  make uninstall  removes these files again, from the same PREFIX and DESTDIR'
 	@echo '  make deb        makes a Debian package of them, in packaging/out'
+	@echo '  make quick      runs tests without proof, and the commands of README.md (CONTRIBUTING.md)'
 	@echo '  make docs       makes what pages, man pages and completions have of the sources and the help'
 	@echo
 	@echo 'packaging/test tries what is installed. ./dicomdir-build makes the program itself.'
@@ -59,10 +60,13 @@ uninstall:
 check:
 	@packaging/check
 
+quick:
+	@packaging/quick $(CRATE)
+
 deb:
 	packaging/deb
 
 docs:
 	docs/generate --write
 
-.PHONY: help check install uninstall deb docs
+.PHONY: help check quick install uninstall deb docs
